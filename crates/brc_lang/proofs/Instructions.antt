@@ -6,16 +6,17 @@ use Rattle.std.specs.Str.{bytes_eq}
 use Rattle.brc_lang.specs.declared.module.Instr.{Instr}
 use Rattle.brc_lang.specs.declared.module.Instr.TheVariants.{Num, List as ListObject, NoneObject, Newref, Move}
 use Rattle.brc_lang.specs.declared.module.Instr.TheVariants.{Drop, Lock, Unlock, Borrow, Fetch, Set, Put, As}
-use Rattle.brc_lang.specs.declared.module.Instr.TheVariants.{Goto, Again, Ret, Fail}
+use Rattle.brc_lang.specs.declared.module.Instr.TheVariants.{Open, Connect, Read, Write, Goto, Again, Ret, Fail}
 use Rattle.brc_lang.specs.declared.fault.FaultCode.TheVariants.{UnknownWord}
 use Rattle.brc_lang.specs.Grammar.{instruction_words, instruction, IsInstruction}
-use Rattle.brc_lang.specs.Fault.{words, ◌>>=◌, fail_in, path_instruction_in, item_instruction_in, instruction_in}
-use Rattle.brc_lang.specs.Fault.{is_line_feed}
+use Rattle.brc_lang.specs.Fault.{words, ◌>>=◌, fail_in, path_instruction_in, host_instruction_in, item_instruction_in}
+use Rattle.brc_lang.specs.Fault.{instruction_in, is_line_feed}
 use Rattle.brc_lang.proofs.Words.{joined, some_word, ArePlain, spaced_words, spaced_plain}
 use Rattle.brc_lang.proofs.Spelling.{bind_ok, ok_is}
 use Rattle.brc_lang.proofs.Tests.{either_way, same_text}
 use Rattle.brc_lang.proofs.OperandForms.{both_same, Form, one_variable_form, one_target_form, two_variables_form}
-use Rattle.brc_lang.proofs.OperandForms.{num_form, list_form, item_form, store_form, as_form, again_form}
+use Rattle.brc_lang.proofs.OperandForms.{num_form, list_form, connect_form, item_form, read_form, store_form, as_form, again_form}
+use Rattle.brc_lang.proofs.HostForms.{open_form, pair_form}
 
 -- `fail` has no operand
 pub behind_fail : (operands : List ℕ) → Err UnknownWord ≡ fail_in (words operands)
@@ -60,14 +61,35 @@ path_words_spelled w ws i read =
     (λ same e. fail_spelled w ws i (same_text w (codes "fail") same) e)
     (λ never. absurd cc)))))
 
+host_words_spelled : (w : List ℕ) (ws : List (List ℕ)) (i : Instr) → host_instruction_in w ws ≡ Ok i
+    → Spelled (w ∷ ws) i
+host_words_spelled w ws i read =
+    either_way (bytes_eq w (codes "open")) _ _ (Ok i) read
+    (named open_form (codes "open") (λ v. Open v.0 v.1 v.2 v.3) (λ v. refl) (λ v fits. fits) w ws i)
+    (λ read1.
+    either_way (bytes_eq w (codes "connect")) _ _ (Ok i) read1
+    (named connect_form (codes "connect") (λ v. Connect v.0 v.1 v.2) (λ v. refl)
+    (λ v fits. (fits.0, omega (arith, fits.2), fits.3)) w ws i)
+    (λ read2.
+    either_way (bytes_eq w (codes "read")) _ _ (Ok i) read2
+    (named read_form (codes "read") (λ v. Read v.0 v.1 v.2 v.3) (λ v. refl)
+    (λ v fits. (fits.0, fits.1, omega (arith, fits.2), fits.3, fits.4)) w ws i)
+    (λ read3.
+    either_way (bytes_eq w (codes "write")) _ _ (Ok i) read3
+    (named pair_form (codes "write") (λ v. Write v.0 v.1 v.2) (λ v. refl) (λ v fits. fits) w ws i)
+    (λ read4.
+    path_words_spelled w ws i read4))))
+
 item_words_spelled : (w : List ℕ) (ws : List (List ℕ)) (i : Instr) → item_instruction_in w ws ≡ Ok i
     → Spelled (w ∷ ws) i
 item_words_spelled w ws i read =
     either_way (bytes_eq w (codes "borrow")) _ _ (Ok i) read
-    (named item_form (codes "borrow") (λ v. Borrow v.0 v.1 v.2 v.3) (λ v. refl) (λ v fits. fits) w ws i)
+    (named item_form (codes "borrow") (λ v. Borrow v.0 v.1 v.2 v.3) (λ v. refl)
+    (λ v fits. (fits.0, fits.1, omega (arith, fits.3), fits.4)) w ws i)
     (λ read1.
     either_way (bytes_eq w (codes "fetch")) _ _ (Ok i) read1
-    (named item_form (codes "fetch") (λ v. Fetch v.0 v.1 v.2 v.3) (λ v. refl) (λ v fits. fits) w ws i)
+    (named item_form (codes "fetch") (λ v. Fetch v.0 v.1 v.2 v.3) (λ v. refl)
+    (λ v fits. (fits.0, fits.1, omega (arith, fits.3), fits.4)) w ws i)
     (λ read2.
     either_way (bytes_eq w (codes "set")) _ _ (Ok i) read2
     (named store_form (codes "set") (λ v. Set v.0 v.1 v.2 v.3) (λ v. refl) (λ v fits. fits) w ws i)
@@ -75,7 +97,7 @@ item_words_spelled w ws i read =
     either_way (bytes_eq w (codes "put")) _ _ (Ok i) read3
     (named store_form (codes "put") (λ v. Put v.0 v.1 v.2 v.3) (λ v. refl) (λ v fits. fits) w ws i)
     (λ read4.
-    path_words_spelled w ws i read4))))
+    host_words_spelled w ws i read4))))
 
 words_spelled : (ws : List (List ℕ)) (i : Instr) → instruction_in ws ≡ Ok i → Spelled ws i
 words_spelled [] i read = absurd cc
@@ -127,10 +149,18 @@ words_again (Move to from) fits = rw (two_variables_form.again (to, from) fits) 
 words_again (Drop from) fits = rw (one_variable_form.again from fits) refl
 words_again (Lock object) fits = rw (one_variable_form.again object fits) refl
 words_again (Unlock object) fits = rw (one_variable_form.again object fits) refl
-words_again (Borrow to list index otherwise) fits = rw (item_form.again (to, list, index, otherwise) fits) refl
-words_again (Fetch to list index otherwise) fits = rw (item_form.again (to, list, index, otherwise) fits) refl
+words_again (Borrow to list index otherwise) fits =
+    rw (item_form.again (to, list, index, otherwise) (fits.0, fits.1, omega arith, omega (arith, fits.2), fits.3)) refl
+words_again (Fetch to list index otherwise) fits =
+    rw (item_form.again (to, list, index, otherwise) (fits.0, fits.1, omega arith, omega (arith, fits.2), fits.3)) refl
 words_again (Set list index from otherwise) fits = rw (store_form.again (list, index, from, otherwise) fits) refl
 words_again (Put list index from otherwise) fits = rw (store_form.again (list, index, from, otherwise) fits) refl
+words_again (Open to path mode otherwise) fits = rw (open_form.again (to, path, mode, otherwise) fits) refl
+words_again (Connect to peer otherwise) fits =
+    rw (connect_form.again (to, peer, otherwise) (fits.0, omega arith, omega (arith, fits.1), fits.2)) refl
+words_again (Read to file most otherwise) fits =
+    rw (read_form.again (to, file, most, otherwise) (fits.0, fits.1, omega (arith, fits.2), fits.3, fits.4)) refl
+words_again (Write file number otherwise) fits = rw (pair_form.again (file, number, otherwise) fits) refl
 words_again (As from kind otherwise) fits = rw (as_form.again (from, kind, otherwise) fits) refl
 words_again (Goto to) fits = rw (one_target_form.again to fits) refl
 words_again (Again to times) fits = rw (again_form.again (to, times) fits) refl
@@ -148,10 +178,24 @@ words_plain (Move to from) fits = ((refl, refl), two_variables_form.plain (to, f
 words_plain (Drop from) fits = ((refl, refl), one_variable_form.plain from fits)
 words_plain (Lock object) fits = ((refl, refl), one_variable_form.plain object fits)
 words_plain (Unlock object) fits = ((refl, refl), one_variable_form.plain object fits)
-words_plain (Borrow to list index otherwise) fits = ((refl, refl), item_form.plain (to, list, index, otherwise) fits)
-words_plain (Fetch to list index otherwise) fits = ((refl, refl), item_form.plain (to, list, index, otherwise) fits)
+words_plain (Borrow to list index otherwise) fits = (
+  (refl, refl),
+  item_form.plain (to, list, index, otherwise) (fits.0, fits.1, omega arith, omega (arith, fits.2), fits.3),
+)
+words_plain (Fetch to list index otherwise) fits = (
+  (refl, refl),
+  item_form.plain (to, list, index, otherwise) (fits.0, fits.1, omega arith, omega (arith, fits.2), fits.3),
+)
 words_plain (Set list index from otherwise) fits = ((refl, refl), store_form.plain (list, index, from, otherwise) fits)
 words_plain (Put list index from otherwise) fits = ((refl, refl), store_form.plain (list, index, from, otherwise) fits)
+words_plain (Open to path mode otherwise) fits = ((refl, refl), open_form.plain (to, path, mode, otherwise) fits)
+words_plain (Connect to peer otherwise) fits =
+    ((refl, refl), connect_form.plain (to, peer, otherwise) (fits.0, omega arith, omega (arith, fits.1), fits.2))
+words_plain (Read to file most otherwise) fits = (
+  (refl, refl),
+  read_form.plain (to, file, most, otherwise) (fits.0, fits.1, omega (arith, fits.2), fits.3, fits.4),
+)
+words_plain (Write file number otherwise) fits = ((refl, refl), pair_form.plain (file, number, otherwise) fits)
 words_plain (As from kind otherwise) fits = ((refl, refl), as_form.plain (from, kind, otherwise) fits)
 words_plain (Goto to) fits = ((refl, refl), one_target_form.plain to fits)
 words_plain (Again to times) fits = ((refl, refl), again_form.plain (to, times) fits)
@@ -179,6 +223,10 @@ instruction_not_end (Borrow to list index otherwise) = refl
 instruction_not_end (Fetch to list index otherwise) = refl
 instruction_not_end (Set list index from otherwise) = refl
 instruction_not_end (Put list index from otherwise) = refl
+instruction_not_end (Open to path mode otherwise) = refl
+instruction_not_end (Connect to peer otherwise) = refl
+instruction_not_end (Read to file most otherwise) = refl
+instruction_not_end (Write file number otherwise) = refl
 instruction_not_end (As from kind otherwise) = refl
 instruction_not_end (Goto to) = refl
 instruction_not_end (Again to times) = refl

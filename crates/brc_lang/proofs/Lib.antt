@@ -6,7 +6,9 @@ mod Tests
 mod Spelling
 mod RoundTrips
 mod KindWords
+mod ModeWords
 mod OperandForms
+mod HostForms
 mod Instructions
 mod TargetsFit
 mod Headings

@@ -11,9 +11,9 @@ use Rattle.brc_lang.specs.declared.fault.FaultCode.{FaultCode}
 use Rattle.brc_lang.specs.declared.fault.FaultCode.TheVariants.{UnknownWord}
 use Rattle.brc_lang.specs.Grammar.{variable, target, kind_name}
 use Rattle.brc_lang.specs.Fault.{number_in, variable_in, target_in, number_between, one_variable_in, two_variables_in}
-use Rattle.brc_lang.specs.Fault.{one_target_in, again_in, birth_in, item_in, store_in, kind_in, as_in}
+use Rattle.brc_lang.specs.Fault.{one_target_in, again_in, birth_in, taking_in, store_in, kind_in, as_in}
 use Rattle.brc_lang.specs.Limits.{variable_count, target_count, index_count, last_index, value_limit, cell_limit}
-use Rattle.brc_lang.specs.Limits.{turn_limit}
+use Rattle.brc_lang.specs.Limits.{last_peer, read_limit, turn_limit}
 use Rattle.brc_lang.specs.RoundTrips.{IsPlain}
 use Rattle.brc_lang.proofs.Tests.{either_way, same_text}
 use Rattle.brc_lang.proofs.Spelling.{bind_ok, ok_is, number_plain, between_spelled, between_again, variable_spelled}
@@ -25,7 +25,7 @@ pub both_same : (v w : List ℕ) (vs ws : List (List ℕ)) → v ≡ w → vs �
 both_same v w vs ws e f = cc
 
 -- the last two words of an instruction that has a fault exit
-else_spelled : (w d : List ℕ) (n : ℕ) → bytes_eq w (codes "else") ≡ true → d ≡ target n
+pub else_spelled : (w d : List ℕ) (n : ℕ) → bytes_eq w (codes "else") ≡ true → d ≡ target n
     → (w ∷ d ∷ []) ≡ codes "else" ∷ target n ∷ []
 else_spelled w d n same e =
     both_same w (codes "else") (d ∷ []) (target n ∷ []) (same_text w (codes "else") same)
@@ -202,65 +202,76 @@ num_form = birth_form 0 value_limit (omega arith)
 abbrev pub list_form : Form (ℕ × ℕ × ℕ)
 list_form = birth_form 1 cell_limit (omega arith)
 
--- ---- a variable, a list and an index, `else` and a target
+abbrev pub connect_form : Form (ℕ × ℕ × ℕ)
+connect_form = birth_form 0 last_peer (omega arith)
 
-abbrev pub item_words : ℕ × ℕ × ℕ × ℕ → List (List ℕ)
-item_words v = variable v.0 ∷ variable v.1 ∷ decimal v.2 ∷ codes "else" ∷ target v.3 ∷ []
+-- ---- a variable, an object, a number from low to high, `else` and a target
 
-abbrev pub AreItem : ℕ × ℕ × ℕ × ℕ → Type 0
-AreItem v = (v.0 < variable_count) × (v.1 < variable_count) × (v.2 < index_count) × (v.3 < target_count)
+abbrev pub taking_words : ℕ × ℕ × ℕ × ℕ → List (List ℕ)
+taking_words v = variable v.0 ∷ variable v.1 ∷ decimal v.2 ∷ codes "else" ∷ target v.3 ∷ []
 
-pub item_spelled : (ws : List (List ℕ)) (v : ℕ × ℕ × ℕ × ℕ) → item_in ws ≡ Ok v
-    → IsSpelled item_words AreItem ws v
-item_spelled [] v e = absurd cc
-item_spelled (a ∷ []) v e = absurd cc
-item_spelled (a ∷ b ∷ []) v e = absurd cc
-item_spelled (a ∷ b ∷ c ∷ []) v e = absurd cc
-item_spelled (a ∷ b ∷ c ∷ d ∷ []) v e = absurd cc
-item_spelled (a ∷ b ∷ c ∷ d ∷ f ∷ []) v e =
+abbrev pub AreTaking : ℕ → ℕ → ℕ × ℕ × ℕ × ℕ → Type 0
+AreTaking low high v =
+    (v.0 < variable_count) × (v.1 < variable_count) × (low ≤ v.2) × (v.2 ≤ high) × (v.3 < target_count)
+
+pub taking_spelled : (low high : ℕ) → high < 2 ^ 64 → (ws : List (List ℕ)) (v : ℕ × ℕ × ℕ × ℕ)
+    → taking_in low high ws ≡ Ok v → IsSpelled taking_words (AreTaking low high) ws v
+taking_spelled low high small [] v e = absurd cc
+taking_spelled low high small (a ∷ []) v e = absurd cc
+taking_spelled low high small (a ∷ b ∷ []) v e = absurd cc
+taking_spelled low high small (a ∷ b ∷ c ∷ []) v e = absurd cc
+taking_spelled low high small (a ∷ b ∷ c ∷ d ∷ []) v e = absurd cc
+taking_spelled low high small (a ∷ b ∷ c ∷ d ∷ f ∷ []) v e =
     either_way (bytes_eq d (codes "else")) _ (Err UnknownWord) (Ok v) e
     (λ same read.
     let to = bind_ok (variable_in a) _ v read in
-    let list = bind_ok (variable_in b) _ v to.2 in
-    let index = bind_ok (number_in last_index c) _ v list.2 in
-    let otherwise = bind_ok (target_in f) _ v index.2 in
+    let object = bind_ok (variable_in b) _ v to.2 in
+    let number = bind_ok (number_between low high c) _ v object.2 in
+    let otherwise = bind_ok (target_in f) _ v number.2 in
     let p = variable_spelled a to.0 to.1 in
-    let q = variable_spelled b list.0 list.1 in
-    let r = index_spelled c index.0 index.1 in
+    let q = variable_spelled b object.0 object.1 in
+    let r = between_spelled low high c number.0 small number.1 in
     let s = target_spelled f otherwise.0 otherwise.1 in
     let last = else_spelled d f otherwise.0 same s.0 in
-    let more : (c ∷ d ∷ f ∷ []) ≡ decimal index.0 ∷ codes "else" ∷ target otherwise.0 ∷ [] =
-    both_same c (decimal index.0) (d ∷ f ∷ []) _ r.0 last in
-    let most : (b ∷ c ∷ d ∷ f ∷ []) ≡ variable list.0 ∷ decimal index.0 ∷ codes "else" ∷ target otherwise.0 ∷ [] =
-    both_same b (variable list.0) (c ∷ d ∷ f ∷ []) _ q.0 more in
-    subst (IsSpelled item_words AreItem (a ∷ b ∷ c ∷ d ∷ f ∷ []))
-    (ok_is (to.0, list.0, index.0, otherwise.0) v otherwise.2)
-    (both_same a (variable to.0) (b ∷ c ∷ d ∷ f ∷ []) _ p.0 most, (p.1, q.1, r.1, s.1)))
+    let more : (c ∷ d ∷ f ∷ []) ≡ decimal number.0 ∷ codes "else" ∷ target otherwise.0 ∷ [] =
+    both_same c (decimal number.0) (d ∷ f ∷ []) _ r.0 last in
+    let most : (b ∷ c ∷ d ∷ f ∷ [])
+    ≡ variable object.0 ∷ decimal number.0 ∷ codes "else" ∷ target otherwise.0 ∷ [] =
+    both_same b (variable object.0) (c ∷ d ∷ f ∷ []) _ q.0 more in
+    subst (IsSpelled taking_words (AreTaking low high) (a ∷ b ∷ c ∷ d ∷ f ∷ []))
+    (ok_is (to.0, object.0, number.0, otherwise.0) v otherwise.2)
+    (both_same a (variable to.0) (b ∷ c ∷ d ∷ f ∷ []) _ p.0 most, (p.1, q.1, r.1, r.2, s.1)))
     (λ never. absurd cc)
-item_spelled (a ∷ b ∷ c ∷ d ∷ f ∷ g ∷ ws) v e = absurd cc
+taking_spelled low high small (a ∷ b ∷ c ∷ d ∷ f ∷ g ∷ ws) v e = absurd cc
 
-abbrev pub item_form : Form (ℕ × ℕ × ℕ × ℕ)
-item_form = record {
-  read = item_in;
-  spell = item_words;
-  Fits = AreItem;
-  spelled = item_spelled;
+abbrev pub taking_form : (low high : ℕ) → high < 2 ^ 64 → Form (ℕ × ℕ × ℕ × ℕ)
+taking_form low high small = record {
+  read = taking_in low high;
+  spell = taking_words;
+  Fits = AreTaking low high;
+  spelled = taking_spelled low high small;
   again =
       λ v fits. rw (
         variable_again v.0 fits.0,
         variable_again v.1 fits.1,
-        index_again v.2 fits.2,
-        target_again v.3 fits.3,
+        between_again low high v.2 fits.2 fits.3 small,
+        target_again v.3 fits.4,
       ) refl;
   plain =
       λ v fits. (
         variable_plain v.0 fits.0,
         (
           variable_plain v.1 fits.1,
-          (index_plain v.2 fits.2, ((refl, refl), (target_plain v.3 fits.3, tt))),
+          (number_plain v.2 (omega (arith, fits.3, small)), ((refl, refl), (target_plain v.3 fits.4, tt))),
         ),
       );
 }
+
+abbrev pub item_form : Form (ℕ × ℕ × ℕ × ℕ)
+item_form = taking_form 0 last_index (omega arith)
+
+abbrev pub read_form : Form (ℕ × ℕ × ℕ × ℕ)
+read_form = taking_form 1 read_limit (omega arith)
 
 -- ---- a list and an index, a variable, `else` and a target
 

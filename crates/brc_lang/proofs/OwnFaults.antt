@@ -12,13 +12,13 @@ use Rattle.brc_lang.specs.declared.fault.FaultCode.TheVariants.{FirstLine, Unkno
 use Rattle.brc_lang.specs.declared.fault.FaultCode.TheVariants.{OverLimit, CutOff, NoMemory}
 use Rattle.brc_lang.specs.Grammar.{is_name}
 use Rattle.brc_lang.specs.Fault.{words, is_numeral, number_in, variable_in, target_in, ◌>>=◌, one_variable_in}
-use Rattle.brc_lang.specs.Fault.{two_variables_in, one_target_in, number_between, birth_in, item_in, store_in, kind_in}
-use Rattle.brc_lang.specs.Fault.{as_in, fail_in, path_instruction_in, item_instruction_in, instruction_in}
-use Rattle.brc_lang.specs.Fault.{again_in, targets_fit}
+use Rattle.brc_lang.specs.Fault.{two_variables_in, one_target_in, number_between, birth_in, taking_in, store_in, kind_in}
+use Rattle.brc_lang.specs.Fault.{mode_in, open_in, pair_in, as_in, fail_in, path_instruction_in, host_instruction_in, item_instruction_in}
+use Rattle.brc_lang.specs.Fault.{instruction_in, again_in, targets_fit}
 use Rattle.brc_lang.specs.Fault.{Beginning, heading_fault_of, end_fault_of, next_instruction_fault_of, line_fault_of}
 use Rattle.brc_lang.specs.Fault.{is_whole, is_line_feed, fault_of, HasFault, IsOwn, IsOwnFault}
 use Rattle.brc_lang.specs.Limits.{function_limit, instruction_limit, last_variable, last_target, value_limit}
-use Rattle.brc_lang.specs.Limits.{cell_limit, last_index, turn_limit}
+use Rattle.brc_lang.specs.Limits.{cell_limit, last_index, last_path, last_peer, read_limit, turn_limit}
 use Rattle.brc_lang.proofs.Headings.{has_name}
 
 -- ---- results and options whose fault, if any, is the text's own
@@ -117,19 +117,19 @@ birth_own low high (a ∷ b ∷ c ∷ d ∷ []) =
     own_then (target_in d) _ (target_own d) (λ l. tt)))) own_word
 birth_own low high (a ∷ b ∷ c ∷ d ∷ x ∷ ws) = own_word
 
-item_own : (ws : List (List ℕ)) → IsOwn (item_in ws)
-item_own [] = own_word
-item_own (a ∷ []) = own_word
-item_own (a ∷ b ∷ []) = own_word
-item_own (a ∷ b ∷ c ∷ []) = own_word
-item_own (a ∷ b ∷ c ∷ d ∷ []) = own_word
-item_own (a ∷ b ∷ c ∷ d ∷ f ∷ []) =
+taking_own : (low high : ℕ) (ws : List (List ℕ)) → IsOwn (taking_in low high ws)
+taking_own low high [] = own_word
+taking_own low high (a ∷ []) = own_word
+taking_own low high (a ∷ b ∷ []) = own_word
+taking_own low high (a ∷ b ∷ c ∷ []) = own_word
+taking_own low high (a ∷ b ∷ c ∷ d ∷ []) = own_word
+taking_own low high (a ∷ b ∷ c ∷ d ∷ f ∷ []) =
     own_either (bytes_eq d (codes "else")) _ (Err UnknownWord)
     (own_then (variable_in a) _ (variable_own a) (λ to.
-    own_then (variable_in b) _ (variable_own b) (λ list.
-    own_then (number_in last_index c) _ (number_own last_index c) (λ k.
+    own_then (variable_in b) _ (variable_own b) (λ object.
+    own_then (number_between low high c) _ (between_own low high c) (λ k.
     own_then (target_in f) _ (target_own f) (λ l. tt))))) own_word
-item_own (a ∷ b ∷ c ∷ d ∷ f ∷ x ∷ ws) = own_word
+taking_own low high (a ∷ b ∷ c ∷ d ∷ f ∷ x ∷ ws) = own_word
 
 store_own : (ws : List (List ℕ)) → IsOwn (store_in ws)
 store_own [] = own_word
@@ -152,6 +152,40 @@ kind_own word =
     (own_either (bytes_eq word (codes "list")) _ _ tt
     (own_either (bytes_eq word (codes "file")) _ _ tt
     (own_either (bytes_eq word (codes "sock")) _ (Err UnknownWord) tt own_word))))
+
+mode_own : (word : List ℕ) → IsOwn (mode_in word)
+mode_own word =
+    own_either (bytes_eq word (codes "r")) _ _ tt
+    (own_either (bytes_eq word (codes "w")) _ _ tt
+    (own_either (bytes_eq word (codes "rw")) _ _ tt
+    (own_either (bytes_eq word (codes "wc")) _ _ tt
+    (own_either (bytes_eq word (codes "rwc")) _ (Err UnknownWord) tt own_word))))
+
+open_own : (ws : List (List ℕ)) → IsOwn (open_in ws)
+open_own [] = own_word
+open_own (a ∷ []) = own_word
+open_own (a ∷ b ∷ []) = own_word
+open_own (a ∷ b ∷ c ∷ []) = own_word
+open_own (a ∷ b ∷ c ∷ d ∷ []) = own_word
+open_own (a ∷ b ∷ c ∷ d ∷ f ∷ []) =
+    own_either (bytes_eq d (codes "else")) _ (Err UnknownWord)
+    (own_then (variable_in a) _ (variable_own a) (λ to.
+    own_then (number_in last_path b) _ (number_own last_path b) (λ path.
+    own_then (mode_in c) _ (mode_own c) (λ m.
+    own_then (target_in f) _ (target_own f) (λ l. tt))))) own_word
+open_own (a ∷ b ∷ c ∷ d ∷ f ∷ x ∷ ws) = own_word
+
+pair_own : (ws : List (List ℕ)) → IsOwn (pair_in ws)
+pair_own [] = own_word
+pair_own (a ∷ []) = own_word
+pair_own (a ∷ b ∷ []) = own_word
+pair_own (a ∷ b ∷ c ∷ []) = own_word
+pair_own (a ∷ b ∷ c ∷ d ∷ []) =
+    own_either (bytes_eq c (codes "else")) _ (Err UnknownWord)
+    (own_then (variable_in a) _ (variable_own a) (λ first.
+    own_then (variable_in b) _ (variable_own b) (λ second.
+    own_then (target_in d) _ (target_own d) (λ l. tt)))) own_word
+pair_own (a ∷ b ∷ c ∷ d ∷ x ∷ ws) = own_word
 
 as_own : (ws : List (List ℕ)) → IsOwn (as_in ws)
 as_own [] = own_word
@@ -177,13 +211,25 @@ path_instruction_own w ws =
     (own_either (bytes_eq w (codes "ret")) _ _ (own_then (one_variable_in ws) _ (one_variable_own ws) (λ v. tt))
     (own_either (bytes_eq w (codes "fail")) _ (Err UnknownWord) (fail_own ws) own_word))))
 
+host_instruction_own : (w : List ℕ) (ws : List (List ℕ)) → IsOwn (host_instruction_in w ws)
+host_instruction_own w ws =
+    own_either (bytes_eq w (codes "open")) _ _ (own_then (open_in ws) _ (open_own ws) (λ v. tt))
+    (own_either (bytes_eq w (codes "connect")) _ _
+    (own_then (birth_in 0 last_peer ws) _ (birth_own 0 last_peer ws) (λ v. tt))
+    (own_either (bytes_eq w (codes "read")) _ _
+    (own_then (taking_in 1 read_limit ws) _ (taking_own 1 read_limit ws) (λ v. tt))
+    (own_either (bytes_eq w (codes "write")) _ _ (own_then (pair_in ws) _ (pair_own ws) (λ v. tt))
+    (path_instruction_own w ws))))
+
 item_instruction_own : (w : List ℕ) (ws : List (List ℕ)) → IsOwn (item_instruction_in w ws)
 item_instruction_own w ws =
-    own_either (bytes_eq w (codes "borrow")) _ _ (own_then (item_in ws) _ (item_own ws) (λ v. tt))
-    (own_either (bytes_eq w (codes "fetch")) _ _ (own_then (item_in ws) _ (item_own ws) (λ v. tt))
+    own_either (bytes_eq w (codes "borrow")) _ _
+    (own_then (taking_in 0 last_index ws) _ (taking_own 0 last_index ws) (λ v. tt))
+    (own_either (bytes_eq w (codes "fetch")) _ _
+    (own_then (taking_in 0 last_index ws) _ (taking_own 0 last_index ws) (λ v. tt))
     (own_either (bytes_eq w (codes "set")) _ _ (own_then (store_in ws) _ (store_own ws) (λ v. tt))
     (own_either (bytes_eq w (codes "put")) _ _ (own_then (store_in ws) _ (store_own ws) (λ v. tt))
-    (path_instruction_own w ws))))
+    (host_instruction_own w ws))))
 
 instruction_own : (ws : List (List ℕ)) → IsOwn (instruction_in ws)
 instruction_own [] = own_word

@@ -1,4 +1,4 @@
--- The one spelling of a number, of an index, of a variable, of a target and of a name.
+-- The one spelling of a number, of an index, of a path, of a variable, of a target and of a name.
 use Rattle.std.proofs.Common.{◌≡◌, ℕ, zero, suc, ◌^◌, ◌<◌, ◌≤◌, Bool, true, false, cond, leb, eqb, not, ◌&&◌, ◌||◌}
 use Rattle.std.proofs.Common.{List, [], ◌∷◌, length, get_or, Result, Ok, Err, refl, sym, ap, ◌∙◌, arith, inl, inr}
 use Rattle.std.specs.List.{list_all, list_any}
@@ -17,7 +17,7 @@ use Rattle.brc_lang.specs.Grammar.{variable, target, is_name, is_letter, is_name
 use Rattle.brc_lang.specs.Fault.{is_numeral, number_in, number_between, variable_in, target_in, is_line_feed, ◌>>=◌}
 use Rattle.brc_lang.specs.RoundTrips.{is_space, IsPlain}
 use Rattle.brc_lang.specs.Limits.{variable_count, last_variable, target_count, last_target, index_count, last_index}
-use Rattle.brc_lang.specs.Limits.{name_rest_limit}
+use Rattle.brc_lang.specs.Limits.{path_count, last_path, name_rest_limit}
 use Rattle.brc_lang.proofs.Words.{lacks_from_all}
 
 -- ---- numbers
@@ -119,6 +119,14 @@ index_spelled word n e = let s = number_spelled last_index word n (omega arith) 
 pub index_again : (n : ℕ) → n < index_count → number_in last_index (decimal n) ≡ Ok n
 index_again n lt = number_again last_index n (omega arith) (omega arith)
 
+-- ---- the number of a path
+
+pub path_spelled : (word : List ℕ) (n : ℕ) → number_in last_path word ≡ Ok n → (word ≡ decimal n) × (n < path_count)
+path_spelled word n e = let s = number_spelled last_path word n (omega arith) e in (s.0, omega (arith, s.1))
+
+pub path_again : (n : ℕ) → n < path_count → number_in last_path (decimal n) ≡ Ok n
+path_again n lt = number_again last_path n (omega arith) (omega arith)
+
 -- ---- variables and targets: a mark, and a number
 
 marked_spelled : (mark high c : ℕ) (cs : List ℕ) (n : ℕ) → high < 2 ^ 64
@@ -175,6 +183,9 @@ target_plain n lt = number_plain n (omega arith)
 
 pub index_plain : (n : ℕ) → n < index_count → IsPlain (decimal n)
 index_plain n lt = number_plain n (omega arith)
+
+pub path_plain : (n : ℕ) → n < path_count → IsPlain (decimal n)
+path_plain n lt = number_plain n (omega arith)
 
 letter_from : (c : ℕ) → is_letter c ≡ true → 97 ≤ c
 letter_from c e = leb-true 97 c (and_parts (leb 97 c) (leb c 122) e).0

@@ -8,11 +8,12 @@ use Rattle.std.specs.Str.Parse.{digits_value}
 use Rattle.std.specs.Char.{is_ascii_digit}
 use Rattle.brc_lang.specs.declared.kind.Kind.{Kind}
 use Rattle.brc_lang.specs.declared.kind.Kind.TheVariants as kinds
+use Rattle.brc_lang.specs.declared.mode.Mode.{Mode}
 use Rattle.brc_lang.specs.declared.module.Function.{Function}
 use Rattle.brc_lang.specs.declared.module.Instr.{Instr}
 use Rattle.brc_lang.specs.declared.module.Instr.TheVariants.{Num, List as ListObject, NoneObject, Newref, Move}
 use Rattle.brc_lang.specs.declared.module.Instr.TheVariants.{Drop, Lock, Unlock, Borrow, Fetch, Set, Put, As}
-use Rattle.brc_lang.specs.declared.module.Instr.TheVariants.{Goto, Again, Ret, Fail}
+use Rattle.brc_lang.specs.declared.module.Instr.TheVariants.{Open, Connect, Read, Write, Goto, Again, Ret, Fail}
 use Rattle.brc_lang.specs.declared.fault.FaultCode.{FaultCode}
 use Rattle.brc_lang.specs.declared.fault.FaultCode.TheVariants.{FirstLine, UnknownWord, Number, Target, NameTwice}
 use Rattle.brc_lang.specs.declared.fault.FaultCode.TheVariants.{OverLimit, CutOff, NoMemory}
@@ -21,7 +22,8 @@ use Rattle.brc_lang.specs.declared.module.Module.{Module}
 use Rattle.brc_lang.specs.Grammar.{is_name, IsInstruction, jump, turn, IsFunction, AreNamedApart, heading}
 use Rattle.brc_lang.specs.Grammar.{instructions, functions, first_line}
 use Rattle.brc_lang.specs.Limits.{function_limit, instruction_limit, last_variable, last_target, value_limit}
-use Rattle.brc_lang.specs.Limits.{cell_limit, last_index, turn_limit}
+use Rattle.brc_lang.specs.Limits.{cell_limit, last_index, last_path, last_peer, read_limit, turn_limit}
+use Rattle.brc_lang.specs.Modes.{reads, writes, creates, mode_of}
 
 -- ---- one line
 
@@ -57,6 +59,16 @@ kind_in word =
     else if bytes_eq word (codes "list") then Ok kinds.List
     else if bytes_eq word (codes "file") then Ok kinds.File
     else if bytes_eq word (codes "sock") then Ok kinds.Sock
+    else Err UnknownWord
+
+-- the word of a mode
+abbrev pub mode_in : List ℕ → Result Mode FaultCode
+mode_in word =
+    if bytes_eq word (codes "r") then Ok (mode_of reads)
+    else if bytes_eq word (codes "w") then Ok (mode_of writes)
+    else if bytes_eq word (codes "rw") then Ok (mode_of (reads + writes))
+    else if bytes_eq word (codes "wc") then Ok (mode_of (writes + creates))
+    else if bytes_eq word (codes "rwc") then Ok (mode_of (reads + writes + creates))
     else Err UnknownWord
 
 infixl 10 ◌>>=◌
@@ -103,14 +115,15 @@ as_in (from ∷ kind ∷ word ∷ otherwise ∷ []) =
     else Err UnknownWord
 as_in _ = Err UnknownWord
 
--- an item and where it goes: a variable, a list and an index, `else` and a target; `else` is compared first
-abbrev pub item_in : List (List ℕ) → Result (ℕ × ℕ × ℕ × ℕ) FaultCode
-item_in (to ∷ list ∷ index ∷ word ∷ otherwise ∷ []) =
+-- what is taken from an object: a variable, the object, a number from low to high, `else` and a target; `else` is
+-- compared first
+abbrev pub taking_in : ℕ → ℕ → List (List ℕ) → Result (ℕ × ℕ × ℕ × ℕ) FaultCode
+taking_in low high (to ∷ object ∷ number ∷ word ∷ otherwise ∷ []) =
     if bytes_eq word (codes "else")
-    then (variable_in to >>= λ d. variable_in list >>= λ c. number_in last_index index >>= λ k.
+    then (variable_in to >>= λ d. variable_in object >>= λ c. number_between low high number >>= λ k.
     target_in otherwise >>= λ l. Ok (d, c, k, l))
     else Err UnknownWord
-item_in _ = Err UnknownWord
+taking_in low high _ = Err UnknownWord
 
 -- an item and what it becomes: a list and an index, a variable, `else` and a target; `else` is compared first
 abbrev pub store_in : List (List ℕ) → Result (ℕ × ℕ × ℕ × ℕ) FaultCode
@@ -120,6 +133,23 @@ store_in (list ∷ index ∷ from ∷ word ∷ otherwise ∷ []) =
     target_in otherwise >>= λ l. Ok (c, k, s, l))
     else Err UnknownWord
 store_in _ = Err UnknownWord
+
+-- a variable, a path, a mode, `else` and a target; `else` is compared first
+abbrev pub open_in : List (List ℕ) → Result (ℕ × ℕ × Mode × ℕ) FaultCode
+open_in (to ∷ path ∷ mode ∷ word ∷ otherwise ∷ []) =
+    if bytes_eq word (codes "else")
+    then (variable_in to >>= λ d. number_in last_path path >>= λ p. mode_in mode >>= λ m.
+    target_in otherwise >>= λ l. Ok (d, p, m, l))
+    else Err UnknownWord
+open_in _ = Err UnknownWord
+
+-- two variables, `else` and a target; `else` is compared first
+abbrev pub pair_in : List (List ℕ) → Result (ℕ × ℕ × ℕ) FaultCode
+pair_in (first ∷ second ∷ word ∷ otherwise ∷ []) =
+    if bytes_eq word (codes "else")
+    then (variable_in first >>= λ v. variable_in second >>= λ w. target_in otherwise >>= λ l. Ok (v, w, l))
+    else Err UnknownWord
+pair_in _ = Err UnknownWord
 
 abbrev pub fail_in : List (List ℕ) → Result Instr FaultCode
 fail_in [] = Ok Fail
@@ -138,14 +168,23 @@ path_instruction_in w ws =
     else if bytes_eq w (codes "fail") then fail_in ws
     else Err UnknownWord
 
+-- one that asks the host, or one of those above
+abbrev pub host_instruction_in : List ℕ → List (List ℕ) → Result Instr FaultCode
+host_instruction_in w ws =
+    if bytes_eq w (codes "open") then (open_in ws >>= λ b. Ok (Open b.0 b.1 b.2 b.3))
+    else if bytes_eq w (codes "connect") then (birth_in 0 last_peer ws >>= λ b. Ok (Connect b.0 b.1 b.2))
+    else if bytes_eq w (codes "read") then (taking_in 1 read_limit ws >>= λ b. Ok (Read b.0 b.1 b.2 b.3))
+    else if bytes_eq w (codes "write") then (pair_in ws >>= λ b. Ok (Write b.0 b.1 b.2))
+    else path_instruction_in w ws
+
 -- one that reads or stores an item of a list, or one of those above
 abbrev pub item_instruction_in : List ℕ → List (List ℕ) → Result Instr FaultCode
 item_instruction_in w ws =
-    if bytes_eq w (codes "borrow") then (item_in ws >>= λ b. Ok (Borrow b.0 b.1 b.2 b.3))
-    else if bytes_eq w (codes "fetch") then (item_in ws >>= λ b. Ok (Fetch b.0 b.1 b.2 b.3))
+    if bytes_eq w (codes "borrow") then (taking_in 0 last_index ws >>= λ b. Ok (Borrow b.0 b.1 b.2 b.3))
+    else if bytes_eq w (codes "fetch") then (taking_in 0 last_index ws >>= λ b. Ok (Fetch b.0 b.1 b.2 b.3))
     else if bytes_eq w (codes "set") then (store_in ws >>= λ b. Ok (Set b.0 b.1 b.2 b.3))
     else if bytes_eq w (codes "put") then (store_in ws >>= λ b. Ok (Put b.0 b.1 b.2 b.3))
-    else path_instruction_in w ws
+    else host_instruction_in w ws
 
 abbrev pub instruction_in : List (List ℕ) → Result Instr FaultCode
 instruction_in [] = Err UnknownWord

@@ -10,9 +10,10 @@ use Rattle.brc_lang.specs.declared.module.Function.{Function}
 use Rattle.brc_lang.specs.declared.module.Instr.{Instr}
 use Rattle.brc_lang.specs.declared.module.Instr.TheVariants.{Num, List as ListObject, NoneObject, Newref, Move}
 use Rattle.brc_lang.specs.declared.module.Instr.TheVariants.{Drop, Lock, Unlock, Borrow, Fetch, Set, Put, As}
-use Rattle.brc_lang.specs.declared.module.Instr.TheVariants.{Goto, Again, Ret, Fail}
+use Rattle.brc_lang.specs.declared.module.Instr.TheVariants.{Open, Connect, Read, Write, Goto, Again, Ret, Fail}
 use Rattle.brc_lang.specs.Limits.{function_limit, instruction_limit, variable_count, target_count, cell_limit}
-use Rattle.brc_lang.specs.Limits.{index_count, turn_limit, name_rest_limit}
+use Rattle.brc_lang.specs.Limits.{index_count, path_count, peer_count, read_limit, turn_limit, name_rest_limit}
+use Rattle.brc_lang.specs.Modes.{mode_name, IsMode}
 
 -- ---- spellings
 
@@ -60,6 +61,14 @@ instruction_words (Set list index from otherwise) =
     codes "set" ∷ variable list ∷ decimal index ∷ variable from ∷ codes "else" ∷ target otherwise ∷ []
 instruction_words (Put list index from otherwise) =
     codes "put" ∷ variable list ∷ decimal index ∷ variable from ∷ codes "else" ∷ target otherwise ∷ []
+instruction_words (Open to path mode otherwise) =
+    codes "open" ∷ variable to ∷ decimal path ∷ mode_name mode ∷ codes "else" ∷ target otherwise ∷ []
+instruction_words (Connect to peer otherwise) =
+    codes "connect" ∷ variable to ∷ decimal peer ∷ codes "else" ∷ target otherwise ∷ []
+instruction_words (Read to file most otherwise) =
+    codes "read" ∷ variable to ∷ variable file ∷ decimal most ∷ codes "else" ∷ target otherwise ∷ []
+instruction_words (Write file number otherwise) =
+    codes "write" ∷ variable file ∷ variable number ∷ codes "else" ∷ target otherwise ∷ []
 instruction_words (As from kind otherwise) =
     codes "as" ∷ variable from ∷ kind_name kind ∷ codes "else" ∷ target otherwise ∷ []
 instruction_words (Goto to) = codes "goto" ∷ target to ∷ []
@@ -121,6 +130,13 @@ IsInstruction (Set list index from otherwise) =
     (list < variable_count) × (index < index_count) × (from < variable_count) × (otherwise < target_count)
 IsInstruction (Put list index from otherwise) =
     (list < variable_count) × (index < index_count) × (from < variable_count) × (otherwise < target_count)
+IsInstruction (Open to path mode otherwise) =
+    (to < variable_count) × (path < path_count) × IsMode mode × (otherwise < target_count)
+IsInstruction (Connect to peer otherwise) = (to < variable_count) × (peer < peer_count) × (otherwise < target_count)
+IsInstruction (Read to file most otherwise) =
+    (to < variable_count) × (file < variable_count) × (0 < most) × (most ≤ read_limit) × (otherwise < target_count)
+IsInstruction (Write file number otherwise) =
+    (file < variable_count) × (number < variable_count) × (otherwise < target_count)
 IsInstruction (As from kind otherwise) =
     (from < variable_count) × (kind ≢ kinds.Any) × (otherwise < target_count)
 IsInstruction (Goto to) = to < target_count
@@ -142,6 +158,10 @@ jump (Borrow to list index otherwise) = Some otherwise
 jump (Fetch to list index otherwise) = Some otherwise
 jump (Set list index from otherwise) = Some otherwise
 jump (Put list index from otherwise) = Some otherwise
+jump (Open to path mode otherwise) = Some otherwise
+jump (Connect to peer otherwise) = Some otherwise
+jump (Read to file most otherwise) = Some otherwise
+jump (Write file number otherwise) = Some otherwise
 jump (As from kind otherwise) = Some otherwise
 jump (Goto to) = Some to
 jump (Again to times) = None

@@ -1,4 +1,5 @@
 pub mod Limits
+pub mod Modes
 pub mod Padding
 pub mod Grammar
 pub mod Fault

@@ -37,6 +37,23 @@ index_count = 256
 abbrev pub last_index : ℕ
 last_index = 255
 
+-- the paths and the peers that a run may be given, from 0
+abbrev pub path_count : ℕ
+path_count = 16
+
+abbrev pub last_path : ℕ
+last_path = 15
+
+abbrev pub peer_count : ℕ
+peer_count = 16
+
+abbrev pub last_peer : ℕ
+last_peer = 15
+
+-- the most bytes of one `read`
+abbrev pub read_limit : ℕ
+read_limit = 4096
+
 -- the most times that an instruction `again` goes back in one call
 abbrev pub turn_limit : ℕ
 turn_limit = 2 ^ 16 - 1

@@ -1,17 +1,27 @@
 //! The instruction of a line.
 
 ghost use Rattle.std.specs.Prelude.{◌≡◌, ◌∷◌, []};
-ghost use Rattle.brc_lang.specs.Fault.{words, instruction_in, item_instruction_in, path_instruction_in};
+ghost use Rattle.brc_lang.specs.Fault.{words, instruction_in, item_instruction_in, host_instruction_in};
+ghost use Rattle.brc_lang.specs.Fault.{path_instruction_in};
 
 use crate::fault::FaultCode;
 use crate::lexing::{is_word, split_word};
 use crate::module::Instr;
 use crate::operands::{
-    asked_kind, birth, item, loop_bounds, one_target, one_variable, store, two_variables,
+    asked_kind, birth, loop_bounds, one_target, one_variable, opening, pair, store, taking,
+    two_variables,
 };
 
 /// The most cells of a list.
 const MOST_CELLS: u32 = 8;
+
+/// The greatest index of an item.
+const LAST_INDEX: u32 = 255;
+
+const LAST_PEER: u32 = 15;
+
+/// The most bytes of one `read`.
+const MOST_BYTES: u32 = 4096;
 
 /// Reads the instruction of a line.
 ///
@@ -78,24 +88,24 @@ fn instruction_with(word: &[u8], operands: &[u8]) -> Result<Instr, FaultCode>
     }
 }
 
-/// Reads an instruction that reads or stores an item of a list, or one of `path_instruction`.
+/// Reads an instruction that reads or stores an item of a list, or one of `host_instruction`.
 fn item_instruction(word: &[u8], operands: &[u8]) -> Result<Instr, FaultCode>
     ensures { result ≡ item_instruction_in word.now (words operands.now) }
 {
     if is_word(word, b"borrow") {
-        let (to, list, index, otherwise) = item(operands)?;
+        let (to, list, index, otherwise) = taking(0, LAST_INDEX, operands)?;
         Ok(Instr::Borrow {
             to,
             list,
-            index,
+            index: index as u8,
             otherwise,
         })
     } else if is_word(word, b"fetch") {
-        let (to, list, index, otherwise) = item(operands)?;
+        let (to, list, index, otherwise) = taking(0, LAST_INDEX, operands)?;
         Ok(Instr::Fetch {
             to,
             list,
-            index,
+            index: index as u8,
             otherwise,
         })
     } else if is_word(word, b"set") {
@@ -112,6 +122,45 @@ fn item_instruction(word: &[u8], operands: &[u8]) -> Result<Instr, FaultCode>
             list,
             index,
             from,
+            otherwise,
+        })
+    } else {
+        host_instruction(word, operands)
+    }
+}
+
+/// Reads an instruction that asks the host, or one of `path_instruction`.
+fn host_instruction(word: &[u8], operands: &[u8]) -> Result<Instr, FaultCode>
+    ensures { result ≡ host_instruction_in word.now (words operands.now) }
+{
+    if is_word(word, b"open") {
+        let (to, path, mode, otherwise) = opening(operands)?;
+        Ok(Instr::Open {
+            to,
+            path,
+            mode,
+            otherwise,
+        })
+    } else if is_word(word, b"connect") {
+        let (to, peer, otherwise) = birth(0, LAST_PEER, operands)?;
+        Ok(Instr::Connect {
+            to,
+            peer: peer as u8,
+            otherwise,
+        })
+    } else if is_word(word, b"read") {
+        let (to, file, most, otherwise) = taking(1, MOST_BYTES, operands)?;
+        Ok(Instr::Read {
+            to,
+            file,
+            most: most as u16,
+            otherwise,
+        })
+    } else if is_word(word, b"write") {
+        let (file, number, otherwise) = pair(operands)?;
+        Ok(Instr::Write {
+            file,
+            number,
             otherwise,
         })
     } else {

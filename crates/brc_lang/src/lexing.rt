@@ -9,18 +9,23 @@ ghost use Rattle.brc_lang.specs.declared.fault.FaultCode.TheVariants.{Number};
 ghost use Rattle.std.specs.Str.{bytes_eq};
 ghost use Rattle.brc_lang.specs.Grammar.{is_name, is_name_byte};
 ghost use Rattle.brc_lang.specs.Fault.{words, number_in, number_between, variable_in, target_in, is_line_feed, kind_in};
-ghost use Rattle.brc_lang.specs.Limits.{last_index, turn_limit};
+ghost use Rattle.brc_lang.specs.Fault.{mode_in};
+ghost use Rattle.brc_lang.specs.Limits.{last_index, last_path, turn_limit};
 ghost use Rattle.brc_lang.specs.Progress.{IsFirstLineOf};
 
 use crate::fault::FaultCode;
 use crate::kind::Kind;
+use crate::mode::Mode;
 use crate::variable::Variable;
+use bitflags::Flags;
 
 const LAST_VARIABLE: u32 = 15;
 
 const LAST_TARGET: u32 = 255;
 
 const LAST_INDEX: u32 = 255;
+
+const LAST_PATH: u32 = 15;
 
 const MOST_TURNS: u32 = 65535;
 
@@ -203,6 +208,13 @@ pub(crate) fn index(word: &[u8]) -> Result<u8, FaultCode>
     Ok(number(LAST_INDEX, word)? as u8)
 }
 
+/// Reads the number of a path: a number below 16. Returns `Number` for another word.
+pub(crate) fn path(word: &[u8]) -> Result<u8, FaultCode>
+    ensures { result ≡ number_in last_path word.now }
+{
+    Ok(number(LAST_PATH, word)? as u8)
+}
+
 /// Reads how often `again` goes back: a number from 1 to 65535. Returns `Number` for another word.
 pub(crate) fn turns(word: &[u8]) -> Result<u16, FaultCode>
     ensures { result ≡ number_between 1 turn_limit word.now }
@@ -224,6 +236,25 @@ pub(crate) fn kind(word: &[u8]) -> Result<Kind, FaultCode>
         Ok(Kind::File)
     } else if is_word(word, b"sock") {
         Ok(Kind::Sock)
+    } else {
+        Err(FaultCode::UnknownWord)
+    }
+}
+
+/// Reads a mode: `r`, `w`, `rw`, `wc` or `rwc`. Returns `UnknownWord` for another word.
+pub(crate) fn mode(word: &[u8]) -> Result<Mode, FaultCode>
+    ensures { result ≡ mode_in word.now }
+{
+    if is_word(word, b"r") {
+        Ok(Mode::READ)
+    } else if is_word(word, b"w") {
+        Ok(Mode::WRITE)
+    } else if is_word(word, b"rw") {
+        Ok(Mode::READ.union(Mode::WRITE))
+    } else if is_word(word, b"wc") {
+        Ok(Mode::WRITE.union(Mode::CREATE))
+    } else if is_word(word, b"rwc") {
+        Ok(Mode::READ.union(Mode::WRITE).union(Mode::CREATE))
     } else {
         Err(FaultCode::UnknownWord)
     }

@@ -7,6 +7,7 @@ mod instruction;
 mod kind;
 mod laws;
 mod lexing;
+mod mode;
 mod module;
 mod name;
 mod operands;
@@ -25,6 +26,7 @@ pub use lexing::{
     four_words, is_name, is_word, number, number_between, one_word, split_line, split_word,
     three_words, two_words,
 };
+pub use mode::Mode;
 pub use module::{Function, Instr, Module};
 pub use name::Name;
 pub use output::{write_bytes, write_number, write_pieces};

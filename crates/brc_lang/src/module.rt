@@ -2,6 +2,7 @@ ghost use Rattle.std.specs.Prelude.{◌≡◌};
 ghost use Rattle.brc_lang.specs.Grammar.{jump, turn};
 
 use crate::kind::Kind;
+use crate::mode::Mode;
 use crate::name::Name;
 use crate::sequence::Sequence;
 use crate::variable::Variable;
@@ -98,6 +99,36 @@ pub enum Instr {
         from: Variable,
         otherwise: u8,
     },
+    /// `open vD P MODE else @L`: opens the path of the number P, 0 to 15, in a mode, `r`, `w`, `rw`, `wc` or `rwc`, and
+    /// owns the file in vD; goes on at L if the worker has no row left or the host refuses.
+    Open {
+        to: Variable,
+        path: u8,
+        mode: Mode,
+        otherwise: u8,
+    },
+    /// `connect vD P else @L`: connects to the peer of the number P, 0 to 15, and owns the socket in vD; goes on at L if
+    /// the worker has no row left or the host refuses.
+    Connect {
+        to: Variable,
+        peer: u8,
+        otherwise: u8,
+    },
+    /// `read vD vF N else @L`: reads at most N bytes, 1 to 4096, from the file or socket that vF names, and owns in vD a
+    /// new number, their count; goes on at L if the worker has no row left or the host fails.
+    Read {
+        to: Variable,
+        file: Variable,
+        most: u16,
+        otherwise: u8,
+    },
+    /// `write vF vN else @L`: writes the decimal digits of the number that vN names and a line feed to the file or
+    /// socket that vF names; goes on at L if the host fails.
+    Write {
+        file: Variable,
+        number: Variable,
+        otherwise: u8,
+    },
     /// `as vS KIND else @L`: goes on at L if the object that vS names isn't of the kind.
     As {
         from: Variable,
@@ -134,6 +165,10 @@ impl Instr {
             | Instr::Fetch { otherwise, .. }
             | Instr::Set { otherwise, .. }
             | Instr::Put { otherwise, .. }
+            | Instr::Open { otherwise, .. }
+            | Instr::Connect { otherwise, .. }
+            | Instr::Read { otherwise, .. }
+            | Instr::Write { otherwise, .. }
             | Instr::As { otherwise, .. } => Some(otherwise),
             Instr::Goto { target } => Some(target),
             _ => None,

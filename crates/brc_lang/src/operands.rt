@@ -1,18 +1,19 @@
 //! The words after the first one of an instruction.
 
 ghost use Rattle.std.specs.Prelude.{◌≡◌, ◌≤◌, IfOk};
-ghost use Rattle.brc_lang.specs.Fault.{words, one_variable_in, two_variables_in, one_target_in, birth_in, item_in};
-ghost use Rattle.brc_lang.specs.Fault.{store_in, as_in, again_in};
+ghost use Rattle.brc_lang.specs.Fault.{words, one_variable_in, two_variables_in, one_target_in, birth_in, taking_in};
+ghost use Rattle.brc_lang.specs.Fault.{store_in, open_in, pair_in, as_in, again_in};
 
 use crate::fault::FaultCode;
 use crate::kind::Kind;
 use crate::lexing::{
-    five_words, four_words, index, is_word, kind, number_between, one_word, target, turns,
-    two_words, variable,
+    five_words, four_words, index, is_word, kind, mode, number_between, one_word, path, target,
+    turns, two_words, variable,
 };
+use crate::mode::Mode;
 use crate::variable::Variable;
 
-/// Reads the operands of `num` or `list`: a variable, a number from `low` to `high`, `else` and a target.
+/// Reads the operands of `num`, `list` or `connect`: a variable, a number from `low` to `high`, `else` and a target.
 pub(crate) fn birth(low: u32, high: u32, operands: &[u8]) -> Result<(Variable, u32, u8), FaultCode>
     ensures read { result ≡ birth_in low high (words operands.now) }
     ensures in_range { IfOk result (λ b. b.1 ≤ high) }
@@ -29,21 +30,27 @@ pub(crate) fn birth(low: u32, high: u32, operands: &[u8]) -> Result<(Variable, u
     Ok((to, number, otherwise))
 }
 
-/// Reads the operands of `borrow` or `fetch`: a variable, a list, an index, `else` and a target.
-pub(crate) fn item(operands: &[u8]) -> Result<(Variable, Variable, u8, u8), FaultCode>
-    ensures { result ≡ item_in (words operands.now) }
+/// Reads the operands of `borrow`, `fetch` or `read`: a variable, an object, a number from `low` to `high`, `else` and a
+/// target.
+pub(crate) fn taking(
+    low: u32,
+    high: u32,
+    operands: &[u8],
+) -> Result<(Variable, Variable, u32, u8), FaultCode>
+    ensures read { result ≡ taking_in low high (words operands.now) }
+    ensures in_range { IfOk result (λ t. t.2 ≤ high) }
 {
-    let Some((to, list, place, word, otherwise)) = five_words(operands) else {
+    let Some((to, object, number, word, otherwise)) = five_words(operands) else {
         return Err(FaultCode::UnknownWord);
     };
     if !is_word(word, b"else") {
         return Err(FaultCode::UnknownWord);
     }
     let to = variable(to)?;
-    let list = variable(list)?;
-    let index = index(place)?;
+    let object = variable(object)?;
+    let number = number_between(low, high, number)?;
     let otherwise = target(otherwise)?;
-    Ok((to, list, index, otherwise))
+    Ok((to, object, number, otherwise))
 }
 
 /// Reads the operands of `set` or `put`: a list, an index, a variable, `else` and a target.
@@ -61,6 +68,39 @@ pub(crate) fn store(operands: &[u8]) -> Result<(Variable, u8, Variable, u8), Fau
     let from = variable(from)?;
     let otherwise = target(otherwise)?;
     Ok((list, index, from, otherwise))
+}
+
+/// Reads the operands of `open`: a variable, a path, a mode, `else` and a target.
+pub(crate) fn opening(operands: &[u8]) -> Result<(Variable, u8, Mode, u8), FaultCode>
+    ensures { result ≡ open_in (words operands.now) }
+{
+    let Some((to, place, asked, word, otherwise)) = five_words(operands) else {
+        return Err(FaultCode::UnknownWord);
+    };
+    if !is_word(word, b"else") {
+        return Err(FaultCode::UnknownWord);
+    }
+    let to = variable(to)?;
+    let path = path(place)?;
+    let mode = mode(asked)?;
+    let otherwise = target(otherwise)?;
+    Ok((to, path, mode, otherwise))
+}
+
+/// Reads the operands of `write`: two variables, `else` and a target.
+pub(crate) fn pair(operands: &[u8]) -> Result<(Variable, Variable, u8), FaultCode>
+    ensures { result ≡ pair_in (words operands.now) }
+{
+    let Some((first, second, word, otherwise)) = four_words(operands) else {
+        return Err(FaultCode::UnknownWord);
+    };
+    if !is_word(word, b"else") {
+        return Err(FaultCode::UnknownWord);
+    }
+    let first = variable(first)?;
+    let second = variable(second)?;
+    let otherwise = target(otherwise)?;
+    Ok((first, second, otherwise))
 }
 
 /// Reads the operands of `as`: a variable, a kind, `else` and a target.

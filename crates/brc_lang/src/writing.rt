@@ -1,13 +1,14 @@
 ghost use Rattle.std.specs.Prelude.{[], ◌∷◌, ◌++◌, OnOk, OnErr, codes, decimal};
 ghost use Rattle.std.specs.Io.KnownBytes.{Appends};
 ghost use Rattle.brc_lang.specs.Written.{AppendsBeginning};
-ghost use Rattle.brc_lang.specs.Grammar.{spaced, variable as variable_text, target as target_text, kind_name};
+ghost use Rattle.brc_lang.specs.Grammar.{spaced, variable as variable_text, target as target_text};
 ghost use Rattle.brc_lang.specs.Grammar.{instruction as instruction_text};
-ghost use Rattle.brc_lang.specs.declared.module.Instr.TheVariants.{Num, As, Again};
+ghost use Rattle.brc_lang.specs.declared.module.Instr.TheVariants.{Num, Open, As, Again};
 ghost use Rattle.brc_lang.specs.Grammar.{instructions as instructions_text, line as line_text, heading as heading_text};
 ghost use Rattle.brc_lang.specs.Grammar.{function as function_text, text as module_text};
 
 use crate::kind::Kind;
+use crate::mode::Mode;
 use crate::module::{Function, Instr, Module};
 use crate::output::{write_bytes, write_number};
 use crate::variable::Variable;
@@ -95,13 +96,13 @@ fn write_instruction<W: Write>(instr: Instr, writer: &mut W) -> io::Result<()>
             list,
             index,
             otherwise,
-        } => write_item(b"borrow ", to, list, index, otherwise, writer),
+        } => write_taking(b"borrow ", to, list, u32::from(index), otherwise, writer),
         Instr::Fetch {
             to,
             list,
             index,
             otherwise,
-        } => write_item(b"fetch ", to, list, index, otherwise, writer),
+        } => write_taking(b"fetch ", to, list, u32::from(index), otherwise, writer),
         Instr::Set {
             list,
             index,
@@ -114,6 +115,28 @@ fn write_instruction<W: Write>(instr: Instr, writer: &mut W) -> io::Result<()>
             from,
             otherwise,
         } => write_store(b"put ", list, index, from, otherwise, writer),
+        Instr::Open {
+            to,
+            path,
+            mode,
+            otherwise,
+        } => write_open(to, path, mode, otherwise, writer),
+        Instr::Connect {
+            to,
+            peer,
+            otherwise,
+        } => write_birth(b"connect ", to, u32::from(peer), otherwise, writer),
+        Instr::Read {
+            to,
+            file,
+            most,
+            otherwise,
+        } => write_taking(b"read ", to, file, u32::from(most), otherwise, writer),
+        Instr::Write {
+            file,
+            number,
+            otherwise,
+        } => write_pair(b"write ", file, number, otherwise, writer),
         Instr::As {
             from,
             kind,
@@ -144,24 +167,24 @@ fn write_birth<W: Write>(
     write_numeral(b" else @", u64::from(otherwise), writer)
 }
 
-/// Writes the bytes and then the variable, the list, the index, `else` and the target.
-fn write_item<W: Write>(
+/// Writes the bytes and then the variable, the object, the number, `else` and the target.
+fn write_taking<W: Write>(
     before: &[u8],
     to: Variable,
-    list: Variable,
-    index: u8,
+    object: Variable,
+    number: u32,
     otherwise: u8,
     writer: &mut W,
 ) -> io::Result<()>
     ensures whole { OnOk result (Appends (W.contents writer.old) (W.contents writer.new)
-        (before.now ++ spaced (variable_text to ∷ variable_text list ∷ decimal index ∷ codes "else"
+        (before.now ++ spaced (variable_text to ∷ variable_text object ∷ decimal number ∷ codes "else"
         ∷ target_text otherwise ∷ []))) }
     ensures begun { OnErr result (AppendsBeginning (W.contents writer.old) (W.contents writer.new)
-        (before.now ++ spaced (variable_text to ∷ variable_text list ∷ decimal index ∷ codes "else"
+        (before.now ++ spaced (variable_text to ∷ variable_text object ∷ decimal number ∷ codes "else"
         ∷ target_text otherwise ∷ []))) }
 {
-    write_operands(before, to, list, writer)?;
-    write_numeral(b" ", u64::from(index), writer)?;
+    write_operands(before, to, object, writer)?;
+    write_numeral(b" ", u64::from(number), writer)?;
     write_numeral(b" else @", u64::from(otherwise), writer)
 }
 
@@ -187,6 +210,41 @@ fn write_store<W: Write>(
     write_numeral(b" else @", u64::from(otherwise), writer)
 }
 
+fn write_open<W: Write>(
+    to: Variable,
+    path: u8,
+    mode: Mode,
+    otherwise: u8,
+    writer: &mut W,
+) -> io::Result<()>
+    ensures whole { OnOk result (Appends (W.contents writer.old) (W.contents writer.new)
+        (instruction_text (Open to path mode otherwise))) }
+    ensures begun { OnErr result (AppendsBeginning (W.contents writer.old) (W.contents writer.new)
+        (instruction_text (Open to path mode otherwise))) }
+{
+    write_operand(b"open ", to, writer)?;
+    write_numeral(b" ", u64::from(path), writer)?;
+    write_word(b" ", mode.name(), writer)?;
+    write_numeral(b" else @", u64::from(otherwise), writer)
+}
+
+/// Writes the bytes and then the two variables, `else` and the target.
+fn write_pair<W: Write>(
+    before: &[u8],
+    first: Variable,
+    second: Variable,
+    otherwise: u8,
+    writer: &mut W,
+) -> io::Result<()>
+    ensures whole { OnOk result (Appends (W.contents writer.old) (W.contents writer.new)
+        (before.now ++ spaced (variable_text first ∷ variable_text second ∷ codes "else" ∷ target_text otherwise ∷ []))) }
+    ensures begun { OnErr result (AppendsBeginning (W.contents writer.old) (W.contents writer.new)
+        (before.now ++ spaced (variable_text first ∷ variable_text second ∷ codes "else" ∷ target_text otherwise ∷ []))) }
+{
+    write_operands(before, first, second, writer)?;
+    write_numeral(b" else @", u64::from(otherwise), writer)
+}
+
 fn write_as<W: Write>(from: Variable, kind: Kind, otherwise: u8, writer: &mut W) -> io::Result<()>
     ensures whole { OnOk result (Appends (W.contents writer.old) (W.contents writer.new)
         (instruction_text (As from kind otherwise))) }
@@ -194,7 +252,7 @@ fn write_as<W: Write>(from: Variable, kind: Kind, otherwise: u8, writer: &mut W)
         (instruction_text (As from kind otherwise))) }
 {
     write_operand(b"as ", from, writer)?;
-    write_kind(b" ", kind, writer)?;
+    write_word(b" ", kind.name(), writer)?;
     write_numeral(b" else @", u64::from(otherwise), writer)
 }
 
@@ -208,15 +266,14 @@ fn write_again<W: Write>(target: u8, times: u16, writer: &mut W) -> io::Result<(
     write_numeral(b" ", u64::from(times), writer)
 }
 
-/// Writes the bytes and then the kind's word.
-fn write_kind<W: Write>(before: &[u8], kind: Kind, writer: &mut W) -> io::Result<()>
-    ensures whole { OnOk result (Appends (W.contents writer.old) (W.contents writer.new)
-        (before.now ++ kind_name kind)) }
+/// Writes the bytes and then the word.
+fn write_word<W: Write>(before: &[u8], word: &str, writer: &mut W) -> io::Result<()>
+    ensures whole { OnOk result (Appends (W.contents writer.old) (W.contents writer.new) (before.now ++ word.now)) }
     ensures begun { OnErr result (AppendsBeginning (W.contents writer.old) (W.contents writer.new)
-        (before.now ++ kind_name kind)) }
+        (before.now ++ word.now)) }
 {
     write_bytes(before, writer)?;
-    write_bytes(kind.name().as_bytes(), writer)
+    write_bytes(word.as_bytes(), writer)
 }
 
 /// Writes the bytes and then the two variables.

@@ -7,7 +7,7 @@
 -- the checker says), `Items`, `ItemsLeft` and `ItemsActions` (instruction by instruction, what is borrowed is in the
 -- locked list), `Begins` (what a thread takes up),
 -- `Lockable` and `Standing` (what it knows at an instruction), `TakingSilent`, `TakingBirths`, `TakingLocks`,
--- `TakingItems`, `TakingInside`, `TakingStores` and `Taking` (instruction by instruction), `Begun` and `TakenSits`,
+-- `TakingItems`, `TakingInside`, `TakingHost`, `TakingStores` and `Taking` (instruction by instruction), `Begun` and `TakenSits`,
 -- `Counting` (the counting machine below), `Actions`, which has the theorem, and `Fit` (an instruction has
 -- what it needs).
 
@@ -34,6 +34,7 @@ pub mod TakingBirths
 pub mod TakingLocks
 pub mod TakingItems
 pub mod TakingInside
+pub mod TakingHost
 pub mod TakingStores
 pub mod Taking
 pub mod Begun

@@ -2,10 +2,9 @@
 -- aside (`AsideAfter.aside_after`).
 --
 -- In order: `Alive` (every counted row is live), `Known` (what a duty knows stays, where a step leaves what it relies
--- on), `Others` (what other threads rely on), `Leaves`, `Kinds`, `Cells`,
--- `Items` (of the list that a thread has locked), `Births` (what a birth under way has stored) and `Lives` (a step leaves
--- it), `Locks` (who has locked a row), `Aside` (duties about other rows), `Beside` and `AsideAfter` (such duties keep
--- what they know).
+-- on), `Others` (what other threads rely on), `Leaves`, `Kinds`, `Cells`, `Items` (of the list that a thread has
+-- locked), `Births` (what a birth under way has stored) and `Lives` (a step leaves it), `Locks` (who has locked a row),
+-- `Aside` (duties about other rows), `Beside` and `AsideAfter` (such duties keep what they know).
 
 pub mod CellsHeld
 pub mod Alive

@@ -4,8 +4,8 @@
 -- weigh), `RowsAfterStep` and `RowsAfterElsewhere` (rows that the step isn't about), then duty by duty `RowsAfterOwn`
 -- to `RowsAfterBirths`. `Closing` and `ClosedAfter` are about the lives of rows, `UsesAfter` and `BlanksAfter` about
 -- used and unused rows, `KindsAfter` about kind words, `GatesAfter` about gates, and `CellsAfter` about cells.
--- `ResourcesAfter` is about the resources of files and sockets, over `Finalisers` and `SettlingWeights` (what the duties
--- that settle a row weigh) and `Lenders` (who has a resource lent).
+-- `ResourcesElsewhere` to `ResourcesAfter` are about the resources of files and sockets, over `Finalisers` and
+-- `SettlingWeights` (what the duties that settle a row weigh) and `Lenders` (who has a resource lent).
 
 pub mod RowSteps
 pub mod RowMerges
@@ -29,4 +29,7 @@ pub mod BlanksAfter
 pub mod Finalisers
 pub mod Lenders
 pub mod SettlingWeights
+pub mod ResourcesElsewhere
+pub mod ResourcesLent
+pub mod ResourcesSettled
 pub mod ResourcesAfter

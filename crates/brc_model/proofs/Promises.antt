@@ -3,8 +3,8 @@
 -- In order: `Agreeing`; `Safe`, over `Keeping/StepCases`; `Counting`, the laws of the counting machine; `StatesRise` to
 -- `ClosedOnce`; `Gates`, `Births`, `MarksWatched`, `KindWords` and `CellsUnderLock`; `RowLaws`, which extends these
 -- laws to every list of events; `KnownKinds` and `BorrowedItems`, what the checker says of kinds and of borrowed items;
--- then the laws of the world: `Worlds`, `AgendaMoves`, `Emptied`, `Leading`,
--- `Turns`, `Elsewhere`, `StepsMove`, `LocksWait`, `Trace`, `Faults`.
+-- then the laws of the world: `Worlds`, `AgendaMoves`, `Emptied`, `Leading`, `Turns`, `Elsewhere`, `StepsMove`,
+-- `LocksWait`, `Trace`, `CallsLeft`, `Bounded`, `Faults`.
 -- `Rules` proves that the named rules are the steps. `Worked` computes three schedules.
 
 pub mod Agreeing
@@ -17,6 +17,7 @@ pub mod ClosedOnce
 pub mod Gates
 pub mod Births
 pub mod MarksWatched
+pub mod ResourcesClose
 pub mod KindWords
 pub mod CellsUnderLock
 pub mod RowLaws
@@ -31,6 +32,8 @@ pub mod Elsewhere
 pub mod StepsMove
 pub mod LocksWait
 pub mod Trace
+pub mod CallsLeft
+pub mod Bounded
 pub mod Faults
 pub mod Rules
 pub mod Worked

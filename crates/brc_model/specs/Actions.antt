@@ -1,7 +1,7 @@
 -- Actions. At an event a thread of the step world does the first duty of its agenda, or what its code dispatches.
 use Rattle.std.specs.Prelude.{ℕ, zero, suc, ◌+◌, ◌*◌, Bool, true, false, ◌&&◌, ◌==◌, nat_lt, if◌then◌else◌, List, [], ◌∷◌, length, Option, None, Some, slice_get, slice_index_or, slice_set, replicate}
 use Rattle.brc_lang.specs.declared.module.Instr.{Instr}
-use Rattle.brc_lang.specs.declared.module.Instr.TheVariants.{Num, List as ListObject, NoneObject, Newref, Move as MoveReference, Drop, Lock, Unlock, Borrow, Fetch, Set, Put, Goto, Again, Ret, Fail, As}
+use Rattle.brc_lang.specs.declared.module.Instr.TheVariants.{Num, List as ListObject, NoneObject, Newref, Move as MoveReference, Drop, Lock, Unlock, Borrow, Fetch, Set, Put, Goto, Again, Ret, Fail, As, Open, Connect, Read, Write}
 use Rattle.brc_lang.specs.declared.module.Function.{Function}
 use Rattle.brc_word.specs.Words.{half, free_word}
 use Rattle.brc_model.specs.declared.thread.Choice.{Choice}
@@ -14,10 +14,10 @@ use Rattle.brc_model.specs.declared.actor.Counters.{Counters}
 use Rattle.brc_model.specs.declared.actor.Place.{Place}
 use Rattle.brc_model.specs.declared.actor.Place.TheVariants.{Idle, InCall, Inside, Exiting}
 use Rattle.brc_model.specs.declared.actor.Stage.{Stage}
-use Rattle.brc_model.specs.declared.actor.Stage.TheVariants.{InRange, OutOfRange, Found, Retained}
+use Rattle.brc_model.specs.declared.actor.Stage.TheVariants.{InRange, OutOfRange, Found, Retained, Loaded, Lent, Called, Granted}
 use Rattle.brc_model.specs.declared.duty.Holding.TheVariants.{ByVariable, AsCaller, InFlight}
 use Rattle.brc_model.specs.declared.duty.Duty.{Duty}
-use Rattle.brc_model.specs.declared.duty.Duty.TheVariants.{RetainLoad, ReleaseLoad, Settle, Leave, ClaimMark, BirthKind, KindLoad, LockGate, UnlockGate, CellLoad, CellSwap}
+use Rattle.brc_model.specs.declared.duty.Duty.TheVariants.{RetainLoad, ReleaseLoad, Settle, Leave, ClaimMark, BirthKind, KindLoad, LockGate, UnlockGate, CellLoad, CellSwap, LendSlot, ReturnSlot}
 use Rattle.brc_model.specs.AbstractState.{Move}
 use Rattle.brc_model.specs.Kinds.{same_kind, kind_of_word}
 use Rattle.brc_model.specs.Threads.{code_of, row_of, entry_variables}
@@ -88,6 +88,13 @@ again_place counters at variables to times =
     if nat_lt (turns_at counters at) times then InCall (turned counters at) to variables
     else InCall counters (at + 1) variables
 
+-- the kind words of a file and of a socket
+abbrev pub file_word : ℕ
+file_word = 4 * half
+
+abbrev pub sock_word : ℕ
+sock_word = 5 * half
+
 -- Returns what a thread does that makes an object of the kind word in the variable, if it has used `used` rows of its
 -- block. If its block is full, it empties the variable and goes on at `otherwise`.
 abbrev pub birth_action : Layout → ℕ → ℕ → Counters → ℕ → List (Option ℕ) → ℕ → ℕ → ℕ → Action
@@ -96,6 +103,31 @@ birth_action layout t used counters at variables to word otherwise =
     then Does (BirthKind (row_at layout t used) (ByVariable to) word) []
     (always (InCall counters (at + 1) (slice_set variables to (Some (row_at layout t used)))))
     else Silent [] (InCall counters otherwise (slice_set variables to None))
+
+-- Returns what a thread does that asks the host for a resource, to make an object of it in the variable. It asks only
+-- if its block has room for the object; otherwise, or if the host refuses, it empties the variable and goes on at
+-- `otherwise`.
+abbrev pub grant_action : Layout → ℕ → ℕ → Counters → ℕ → List (Option ℕ) → ℕ → ℕ → Action
+grant_action layout t used counters at variables to otherwise =
+    if has_room layout t used
+    then Calls (by_exit (Inside counters at variables Granted)
+    (InCall counters otherwise (slice_set variables to None)))
+    else Silent [] (InCall counters otherwise (slice_set variables to None))
+
+-- Returns what a thread does that makes the object for which it has room.
+abbrev pub granted_birth : Layout → ℕ → ℕ → Counters → ℕ → List (Option ℕ) → ℕ → ℕ → Action
+granted_birth layout t used counters at variables to word =
+    Does (BirthKind (row_at layout t used) (ByVariable to) word) []
+    (always (InCall counters (at + 1) (slice_set variables to (Some (row_at layout t used)))))
+
+-- Returns what a thread does that lends the resource of the file or socket in the variable to a call of the host, and
+-- what it does that puts the resource back.
+abbrev pub lend_action : Counters → ℕ → List (Option ℕ) → ℕ → Action
+lend_action counters at variables file =
+    with_row (row_of variables file) (λ row. Does (LendSlot row) [] (always (Inside counters at variables Lent)))
+
+abbrev pub return_action : List (Option ℕ) → ℕ → Place → Action
+return_action variables file place = with_row (row_of variables file) (λ row. Does (ReturnSlot row) [] (always place))
 
 -- The place that the list's kind word decides: whether the list has the cell.
 abbrev pub by_range : ℕ → Place → Place → ℕ → Place
@@ -151,6 +183,17 @@ dispatch_instruction layout t used before counters at variables (Some (Put list 
     with_row (row_of variables list)
     (λ row. Does (KindLoad row) []
     (by_range index (Inside counters at variables InRange) (InCall counters otherwise variables)))
+dispatch_instruction layout t used before counters at variables (Some (Open to path mode otherwise)) =
+    grant_action layout t used counters at variables to otherwise
+dispatch_instruction layout t used before counters at variables (Some (Connect to peer otherwise)) =
+    grant_action layout t used counters at variables to otherwise
+dispatch_instruction layout t used before counters at variables (Some (Read to file most otherwise)) =
+    if has_room layout t used
+    then lend_action counters at variables file
+    else Silent [] (InCall counters otherwise (slice_set variables to None))
+dispatch_instruction layout t used before counters at variables (Some (Write file number otherwise)) =
+    with_row (row_of variables number)
+    (λ row. Does (KindLoad row) [] (always (Inside counters at variables Loaded)))
 dispatch_instruction layout t used before counters at variables (Some (As from kind otherwise)) =
     with_row (row_of variables from)
     (λ row. Does (KindLoad row) []
@@ -164,39 +207,60 @@ dispatch_instruction layout t used before counters at variables (Some (Ret from)
     (λ row. Does (ReleaseLoad row (ByVariable from)) (Settle ∷ []) (always (Idle counters.left)))
 dispatch_instruction layout t used before counters at variables (Some Fail) = Silent [] (Idle counters.left)
 
--- Returns what a thread does inside an instruction that uses a cell, by how far it is. An item is borrowed as it is
--- found, or fetched with a reference of its own. A stored item's reference is the variable's (`set`), or a new one
--- (`put`); the item that stood in the cell is released. (Python/C API manual, List Objects.)
-abbrev pub dispatch_inside : Counters → ℕ → List (Option ℕ) → Stage → Option Instr → Action
-dispatch_inside counters at variables InRange (Some (Borrow to list index otherwise)) =
+-- Returns what a thread does inside an instruction that takes several steps, by how far it is. An item is borrowed as
+-- it is found, or fetched with a reference of its own. A stored item's reference is the variable's (`set`), or a new one
+-- (`put`); the item that stood in the cell is released. (Python/C API manual, List Objects.) What the host grants becomes
+-- an object. A resource is out of its slot while a call of the host uses it, and goes back however the call ends.
+abbrev pub dispatch_inside : Layout → ℕ → ℕ → Counters → ℕ → List (Option ℕ) → Stage → Option Instr → Action
+dispatch_inside layout t used counters at variables InRange (Some (Borrow to list index otherwise)) =
     with_row (row_of variables list)
     (λ row. Does (CellLoad row index) []
     (by_item (InCall counters otherwise (slice_set variables to None))
     (λ item. InCall counters (at + 1) (slice_set variables to (Some item)))))
-dispatch_inside counters at variables InRange (Some (Fetch to list index otherwise)) =
+dispatch_inside layout t used counters at variables InRange (Some (Fetch to list index otherwise)) =
     with_row (row_of variables list)
     (λ row. Does (CellLoad row index) []
     (by_item (InCall counters otherwise (slice_set variables to None))
     (λ item. Inside counters at variables (Found item))))
-dispatch_inside counters at variables (Found item) (Some (Fetch to list index otherwise)) =
+dispatch_inside layout t used counters at variables (Found item) (Some (Fetch to list index otherwise)) =
     Does (RetainLoad item (ByVariable to)) [] (always (InCall counters (at + 1) (slice_set variables to (Some item))))
-dispatch_inside counters at variables InRange (Some (Set list index from otherwise)) =
+dispatch_inside layout t used counters at variables InRange (Some (Set list index from otherwise)) =
     with_row (row_of variables list)
     (λ row. with_row (row_of variables from)
     (λ item. Does (CellSwap row index item (ByVariable from)) (Settle ∷ [])
     (always (InCall counters (at + 1) (slice_set variables from None)))))
-dispatch_inside counters at variables OutOfRange (Some (Set list index from otherwise)) =
+dispatch_inside layout t used counters at variables OutOfRange (Some (Set list index from otherwise)) =
     with_row (row_of variables from)
     (λ item. Does (ReleaseLoad item (ByVariable from)) (Settle ∷ [])
     (always (InCall counters otherwise (slice_set variables from None))))
-dispatch_inside counters at variables InRange (Some (Put list index from otherwise)) =
+dispatch_inside layout t used counters at variables InRange (Some (Put list index from otherwise)) =
     with_row (row_of variables from)
     (λ item. Does (RetainLoad item InFlight) [] (always (Inside counters at variables Retained)))
-dispatch_inside counters at variables Retained (Some (Put list index from otherwise)) =
+dispatch_inside layout t used counters at variables Retained (Some (Put list index from otherwise)) =
     with_row (row_of variables list)
     (λ row. with_row (row_of variables from)
     (λ item. Does (CellSwap row index item InFlight) (Settle ∷ []) (always (InCall counters (at + 1) variables))))
-dispatch_inside counters at variables stage i = Stuck
+dispatch_inside layout t used counters at variables Granted (Some (Open to path mode otherwise)) =
+    granted_birth layout t used counters at variables to file_word
+dispatch_inside layout t used counters at variables Granted (Some (Connect to peer otherwise)) =
+    granted_birth layout t used counters at variables to sock_word
+dispatch_inside layout t used counters at variables Lent (Some (Read to file most otherwise)) =
+    Calls (λ exit. Inside counters at variables (Called exit))
+dispatch_inside layout t used counters at variables (Called Success) (Some (Read to file most otherwise)) =
+    return_action variables file (Inside counters at variables Granted)
+dispatch_inside layout t used counters at variables (Called FaultExit) (Some (Read to file most otherwise)) =
+    return_action variables file (InCall counters otherwise (slice_set variables to None))
+dispatch_inside layout t used counters at variables Granted (Some (Read to file most otherwise)) =
+    granted_birth layout t used counters at variables to (number_word 0)
+dispatch_inside layout t used counters at variables Loaded (Some (Write file number otherwise)) =
+    lend_action counters at variables file
+dispatch_inside layout t used counters at variables Lent (Some (Write file number otherwise)) =
+    Calls (λ exit. Inside counters at variables (Called exit))
+dispatch_inside layout t used counters at variables (Called Success) (Some (Write file number otherwise)) =
+    return_action variables file (InCall counters (at + 1) variables)
+dispatch_inside layout t used counters at variables (Called FaultExit) (Some (Write file number otherwise)) =
+    return_action variables file (InCall counters otherwise variables)
+dispatch_inside layout t used counters at variables stage i = Stuck
 
 -- Returns what a thread with an empty agenda does. With no call left it gives up its reference to the root, settles,
 -- and leaves.
@@ -209,7 +273,7 @@ dispatch layout t used code (Idle (suc left)) =
 dispatch layout t used code (InCall counters at variables) =
     dispatch_instruction layout t used (InCall counters at variables) counters at variables (slice_get code at)
 dispatch layout t used code (Inside counters at variables stage) =
-    dispatch_inside counters at variables stage (slice_get code at)
+    dispatch_inside layout t used counters at variables stage (slice_get code at)
 
 -- Says whether the place is outside all calls.
 abbrev pub is_idle : Place → Bool

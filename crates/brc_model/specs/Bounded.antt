@@ -48,7 +48,7 @@ takes_step memory (Does d rest place) = not (finds_locked memory (Does d rest pl
 -- instruction's first step.
 abbrev pub begins : StepMachine → ℕ → StepActor → Choice → Bool
 begins m t a choice =
-    is_before_instruction a.place && (length a.actor.agenda == 0)
+    (length a.actor.agenda == 0) && is_before_instruction a.place
     && takes_step m.memory (action_of m.functions m.layout t a choice)
 
 -- Says whether the thread begins an instruction at an event of its own with the choice.
@@ -83,11 +83,17 @@ calls_after Exiting = None
 abbrev pub IsInOrAfter : ℕ → Place → Type 0
 IsInOrAfter left place = (calls_after place ≡ Some left) ⊎ (place ≡ Idle left)
 
--- Of each thread that is at the beginning of a call, or inside one: along any events, as long as it hasn't gone on to
--- its next call, it begins at most as many instructions as the limit of its code.
+-- In one call a thread begins at most as many instructions as the limit of its code: along any events from where the
+-- thread is at the beginning of a call or inside it, to where it is still in the call or has just ended it.
 abbrev pub CallsAreBounded : StepMachine → Type 0
 CallsAreBounded m =
     (events : List (ℕ × Choice)) (t left : ℕ) (a b : StepActor) → slice_get m.actors t ≡ Some a
     → calls_after a.place ≡ Some left → slice_get (machine_after m events).actors t ≡ Some b
     → IsInOrAfter left b.place
     → begun t m events ≤ instruction_limit (code_of (slice_get m.functions a.function))
+
+-- In all the calls that a thread has still to make, it begins at most as many times the limit.
+abbrev pub ThreadsAreBounded : StepMachine → Type 0
+ThreadsAreBounded m =
+    (events : List (ℕ × Choice)) (t left : ℕ) (a : StepActor) → slice_get m.actors t ≡ Some a → a.place ≡ Idle left
+    → begun t m events ≤ left * instruction_limit (code_of (slice_get m.functions a.function))

@@ -81,13 +81,15 @@ abbrev pub IsEmpty : (Address → ℕ) → ℕ → Type 0
 IsEmpty memory x = (j : ℕ) → memory (Cell x j) ≡ 0
 
 -- What a thread knows of a row whose cells it empties, and which it then closes, even while these duties are behind
--- another one: the thread may release what it found in a cell first.
+-- another one: the thread may release what it found in a cell first. Only lists have cells, so such a row has no
+-- resource.
 abbrev pub BehindFits : Machine → ℕ → Duty → Type 0
 BehindFits m t (SettleCell x i n) =
     (IsCounted m.layout x) × (m.life x ≡ Dying t) × (i < n) × IsDyingWord t (m.memory (Gate x))
-    × IsEmptyBut m.memory x i n
+    × IsEmptyBut m.memory x i n × (resources_of (m.memory (KindOf x)) ≡ 0)
 BehindFits m t (SettleEnd x) =
     (IsCounted m.layout x) × (m.life x ≡ Dying t) × IsDyingWord t (m.memory (Gate x)) × IsEmpty m.memory x
+    × (resources_of (m.memory (KindOf x)) ≡ 0)
 BehindFits m t d = Unit {0}
 
 -- What the duty knows when it comes next. `rest` are the duties behind it. A swap of a cell needs to know no more: the
@@ -122,9 +124,11 @@ HeadFits m t a (SettleKind x) rest = (IsCounted m.layout x) × (m.life x ≡ Dyi
 HeadFits m t a (SettleCell x i n) rest = BehindFits m t (SettleCell x i n)
 HeadFits m t a (TakeSlot x) rest =
     (IsCounted m.layout x) × (m.life x ≡ Dying t) × IsDyingWord t (m.memory (Gate x)) × IsEmpty m.memory x
+    × (resources_of (m.memory (KindOf x)) ≡ 1)
 HeadFits m t a (CloseResource x) rest =
     (IsCounted m.layout x) × (m.life x ≡ Dying t) × IsDyingWord t (m.memory (Gate x)) × IsEmpty m.memory x
-HeadFits m t a (SettleEnd x) rest = BehindFits m t (SettleEnd x)
+HeadFits m t a (SettleEnd x) rest =
+    (IsCounted m.layout x) × (m.life x ≡ Dying t) × IsDyingWord t (m.memory (Gate x)) × IsEmpty m.memory x
 HeadFits m t a (Leave i n) rest = Unit {0}
 HeadFits m t a (Scan i n) rest = 0 < n
 HeadFits m t a Finish rest = Unit {0}

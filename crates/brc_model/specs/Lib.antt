@@ -36,5 +36,6 @@ pub mod Counting
 pub mod CountingLaws
 pub mod Progress
 pub mod Watched
+pub mod ResourceLaws
 pub mod Trace
 pub mod Bounded

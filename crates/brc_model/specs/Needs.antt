@@ -1,16 +1,17 @@
 -- What an instruction needs of the world beside its variables: an object of a kind that can be locked, the lock of a
--- list before its items are used, and no lock at the end of a call. (Python/C API manual, Critical Section API.)
+-- list before its items are used, the lock of a file or socket before its resource is, a number to write, and no lock at
+-- the end of a call. (Python/C API manual, Critical Section API.)
 use Rattle.std.specs.Prelude.{ℕ, zero, suc, Bool, true, false, ◌&&◌, ◌==◌, not, List, [], ◌∷◌, Option, None, Some, is_some, slice_get}
 use Rattle.brc_lang.specs.declared.kind.Kind.{Kind}
 use Rattle.brc_lang.specs.declared.kind.Kind.TheVariants as kinds
 use Rattle.brc_lang.specs.declared.module.Instr.{Instr}
-use Rattle.brc_lang.specs.declared.module.Instr.TheVariants.{Lock, Unlock, Borrow, Fetch, Set, Put, Ret, Fail}
+use Rattle.brc_lang.specs.declared.module.Instr.TheVariants.{Lock, Unlock, Borrow, Fetch, Set, Put, Ret, Fail, Read, Write}
 use Rattle.brc_model.specs.declared.actor.Place.{Place}
 use Rattle.brc_model.specs.declared.actor.Place.TheVariants.{Idle, InCall, Inside, Exiting}
 use Rattle.brc_model.specs.declared.address.Address.{Address}
 use Rattle.brc_model.specs.declared.address.Address.TheVariants.{KindOf}
 use Rattle.brc_model.specs.Kinds.{kind_of_word}
-use Rattle.brc_model.specs.Slots.{is_one_of, lockable}
+use Rattle.brc_model.specs.Slots.{is_one_of, lockable, with_resource}
 use Rattle.brc_model.specs.Threads.{row_of, entry_variables}
 
 -- the kind of the row's object, by its kind word
@@ -28,6 +29,10 @@ abbrev pub has_locked_list : (Address → ℕ) → Option ℕ → Option ℕ →
 has_locked_list memory locked row =
     is_one_of (kind_at memory row) (kinds.List ∷ []) && has_locked locked row
 
+-- Says whether the row is a file's or a socket's, and the thread has locked it.
+abbrev pub has_locked_resource : (Address → ℕ) → Option ℕ → Option ℕ → Bool
+has_locked_resource memory locked row = is_one_of (kind_at memory row) with_resource && has_locked locked row
+
 -- Says whether the instruction has what it needs: `locked` is the row that the thread has locked.
 abbrev pub has_needs : (Address → ℕ) → Option ℕ → List (Option ℕ) → Instr → Bool
 has_needs memory locked variables (Lock object) =
@@ -41,6 +46,11 @@ has_needs memory locked variables (Set list index from otherwise) =
     has_locked_list memory locked (row_of variables list)
 has_needs memory locked variables (Put list index from otherwise) =
     has_locked_list memory locked (row_of variables list)
+has_needs memory locked variables (Read to file most otherwise) =
+    has_locked_resource memory locked (row_of variables file)
+has_needs memory locked variables (Write file number otherwise) =
+    has_locked_resource memory locked (row_of variables file)
+    && is_one_of (kind_at memory (row_of variables number)) (kinds.Num ∷ [])
 has_needs memory locked variables (Ret from) = not (is_some locked)
 has_needs memory locked variables Fail = not (is_some locked)
 has_needs memory locked variables _ = true

@@ -2,7 +2,7 @@
 -- the thread that has it lent to a call of the host, with the thread that is about to close it, or closed.
 use Rattle.std.specs.Prelude.{◌≡◌, ℕ, ◌+◌, ◌<◌, ◌==◌, List, sum_by}
 use Rattle.brc_model.specs.declared.duty.Duty.{Duty}
-use Rattle.brc_model.specs.declared.duty.Duty.TheVariants.{SettleCell, TakeSlot, CloseResource, SettleEnd}
+use Rattle.brc_model.specs.declared.duty.Duty.TheVariants.{CloseResource, SettleEnd}
 use Rattle.brc_model.specs.declared.address.Address.TheVariants.{KindOf, Slot, Resource}
 use Rattle.brc_model.specs.Slots.{names}
 use Rattle.brc_model.specs.Duties.{resources_of}
@@ -22,20 +22,10 @@ lenders x actors = sum_by (lends x) actors
 
 -- ---- weights of a duty at a dying row
 
--- 1 if the duty takes the resource out of its slot
-abbrev pub taking : ℕ → Duty → ℕ
-taking x (TakeSlot y) = one_if (y == x)
-taking x _ = 0
-
--- 1 if it lets the host close the resource
+-- 1 if the duty lets the host close the resource
 abbrev pub closing : ℕ → Duty → ℕ
 closing x (CloseResource y) = one_if (y == x)
 closing x _ = 0
-
--- 1 if it empties one of the row's cells
-abbrev pub emptying : ℕ → Duty → ℕ
-emptying x (SettleCell y i n) = one_if (y == x)
-emptying x _ = 0
 
 -- 1 if it closes the row
 abbrev pub ending : ℕ → Duty → ℕ
@@ -53,8 +43,6 @@ pub record Resources : Type 0 where
   pub closing : ℕ
   -- how often the host has been asked to close it
   pub closed : ℕ
-  pub taking : ℕ
-  pub emptying : ℕ
   pub ending : ℕ
 
 abbrev pub resources_at : Machine → ℕ → Resources
@@ -64,8 +52,6 @@ resources_at m x = record {
   lent = lenders x m.actors;
   closing = weight (closing x) m.actors;
   closed = m.memory (Resource x);
-  taking = weight (taking x) m.actors;
-  emptying = weight (emptying x) m.actors;
   ending = weight (ending x) m.actors;
 }
 
@@ -75,14 +61,11 @@ resources_at m x = record {
 abbrev pub IsPlaced : Resources → Type 0
 IsPlaced n = n.slot + n.lent + n.closing + n.closed ≡ n.all
 
--- A dying row's resource is closed once the thread is about to close the row, and not before. A row whose slot is about
--- to be emptied has a resource, and a row whose cells are being emptied has none.
+-- A dying row's resource is closed once the thread is about to close the row, and not before.
 pub record IsSettling (n : Resources) : Type 0 where
   pub placed : IsPlaced n
   pub unclosed : n.ending ≡ 0 → n.closed ≡ 0
   pub shut : 0 < n.ending → n.closed ≡ n.all
-  pub has_one : 0 < n.taking → n.all ≡ 1
-  pub has_none : 0 < n.emptying → n.all ≡ 0
 
 -- The resource of a row that isn't born, or lives, isn't closed, and that of a closed row is.
 abbrev pub ResourcesFit : Life → Resources → Type 0

@@ -6,7 +6,7 @@ use Rattle.std.specs.List.{list_any, slice_index_or}
 use Rattle.brc_lang.specs.declared.kind.Kind.{Kind}
 use Rattle.brc_lang.specs.declared.kind.Kind.TheVariants as kinds
 use Rattle.brc_lang.specs.declared.module.Instr.{Instr}
-use Rattle.brc_lang.specs.declared.module.Instr.TheVariants.{Num, List as ListObject, NoneObject, Newref, Move, Drop, Lock, Unlock, Borrow, Fetch, Set, Put, Goto, Again, Ret, Fail, As}
+use Rattle.brc_lang.specs.declared.module.Instr.TheVariants.{Num, List as ListObject, NoneObject, Newref, Move, Drop, Lock, Unlock, Borrow, Fetch, Set, Put, Goto, Again, Ret, Fail, As, Open, Connect, Read, Write}
 use Rattle.brc_model.specs.Kinds.{same_kind}
 use Rattle.brc_model.specs.declared.code.CheckCode.{CheckCode}
 use Rattle.brc_model.specs.declared.code.CheckCode.TheVariants.{EmptyUsed, WrongKind, NotOwned, StillOwns, LeftOwned, LeftLocked, SecondLock, NotLocked, LockedChanged}
@@ -47,6 +47,10 @@ is_one_of kind asked = list_any (same_kind kind) asked
 -- the kinds whose objects a thread may lock
 abbrev pub lockable : List Kind
 lockable = kinds.List ∷ kinds.File ∷ kinds.Sock ∷ []
+
+-- the kinds whose objects have a resource of the host
+abbrev pub with_resource : List Kind
+with_resource = kinds.File ∷ kinds.Sock ∷ []
 
 -- an object of the first kind may be of the second: it is, or its kind isn't known yet
 abbrev pub may_be : Kind → Kind → Bool
@@ -141,6 +145,12 @@ conditions_of (Set list index from otherwise) =
     Give from ∷ Use list ∷ IsOneOf list (kinds.List ∷ []) ∷ IsLocked list ∷ []
 conditions_of (Put list index from otherwise) =
     Use from ∷ Use list ∷ IsOneOf list (kinds.List ∷ []) ∷ IsLocked list ∷ []
+conditions_of (Open to path mode otherwise) = Into to ∷ []
+conditions_of (Connect to peer otherwise) = Into to ∷ []
+conditions_of (Read to file most otherwise) =
+    Into to ∷ Use file ∷ IsOneOf file with_resource ∷ IsLocked file ∷ []
+conditions_of (Write file number otherwise) =
+    Use file ∷ IsOneOf file with_resource ∷ IsLocked file ∷ Use number ∷ IsOneOf number (kinds.Num ∷ []) ∷ []
 conditions_of (As from kind otherwise) = Use from ∷ MayBe from kind ∷ []
 conditions_of (Goto to) = []
 conditions_of (Again to times) = []
@@ -182,6 +192,10 @@ after (Borrow to list index otherwise) Fault s = put s to Empty
 after (Fetch to list index otherwise) exit s = put s to (birth_slot kinds.Any exit)
 after (Set list index from otherwise) exit s = without_items (put s from Empty)
 after (Put list index from otherwise) exit s = without_items s
+after (Open to path mode otherwise) exit s = put s to (birth_slot kinds.File exit)
+after (Connect to peer otherwise) exit s = put s to (birth_slot kinds.Sock exit)
+after (Read to file most otherwise) exit s = put s to (birth_slot kinds.Num exit)
+after (Write file number otherwise) exit s = s
 after (As from kind otherwise) Success s = put s from (with_kind (slot_of s from) kind)
 after (As from kind otherwise) Fault s = s
 after (Goto to) exit s = s
@@ -209,6 +223,14 @@ target (Set list index from otherwise) Success at = Some (at + 1)
 target (Set list index from otherwise) Fault at = Some otherwise
 target (Put list index from otherwise) Success at = Some (at + 1)
 target (Put list index from otherwise) Fault at = Some otherwise
+target (Open to path mode otherwise) Success at = Some (at + 1)
+target (Open to path mode otherwise) Fault at = Some otherwise
+target (Connect to peer otherwise) Success at = Some (at + 1)
+target (Connect to peer otherwise) Fault at = Some otherwise
+target (Read to file most otherwise) Success at = Some (at + 1)
+target (Read to file most otherwise) Fault at = Some otherwise
+target (Write file number otherwise) Success at = Some (at + 1)
+target (Write file number otherwise) Fault at = Some otherwise
 target (As from kind otherwise) Success at = Some (at + 1)
 target (As from kind otherwise) Fault at = Some otherwise
 target (Goto to) exit at = Some to

@@ -7,6 +7,7 @@
 
 mod actor;
 mod address;
+mod call_laws;
 mod code;
 mod counting_laws;
 mod duty;
@@ -14,6 +15,7 @@ mod hand_laws;
 mod host_laws;
 mod laws;
 mod layout;
+mod resource_laws;
 mod row_laws;
 mod rule_laws;
 mod slot;
@@ -23,6 +25,7 @@ mod world_laws;
 
 pub use actor::{Counters, Place, Stage, Status};
 pub use address::Address;
+pub use call_laws::calls_are_bounded;
 pub use code::CheckCode;
 pub use counting_laws::{accounts_are_there, counts_agree, duties_are_kept, duties_are_within};
 pub use duty::{Duty, Holding, Reason};
@@ -30,6 +33,7 @@ pub use hand_laws::{hands_begin, references_are_handed_over, references_are_the_
 pub use host_laws::faults_are_counted;
 pub use laws::accepted_is_safe;
 pub use layout::Layout;
+pub use resource_laws::{lent_resources_are_used_alone, resources_close_once};
 pub use row_laws::{
     a_row_is_finalised_once, an_event_closes_one_row_anew, an_object_is_born_once,
     born_rows_are_listed, born_rows_are_there, born_rows_are_used, borrowed_items_stay,

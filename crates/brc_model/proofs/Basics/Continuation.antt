@@ -17,8 +17,8 @@ use Rattle.brc_model.specs.Accounts.{lacks}
 
 -- ---- one duty that follows another
 
--- Says whether a duty leaves the dying chain as it is. Retains, births, looks at a kind or a cell, locks, the duties that
--- lend or return a resource, and the duties of an exit do.
+-- Says whether a duty leaves the dying chain as it is. Retains, births, looks at a kind or a cell, locks, the duties
+-- that lend or return a resource, and the duties of an exit do.
 abbrev pub leaves_chain : Duty → Bool
 leaves_chain (RetainLoad x h) = true
 leaves_chain (RetainStore x h w) = true
@@ -89,7 +89,7 @@ cells_by (SettleCell x i n) found = n
 cells_by _ found = 0
 
 -- The duty d, whose step found this word, may be followed by e. Only few duties are followed by one that lets the row
--- die or empties a cell, and none by one that settles, claims, exits, begins a birth, locks, unlocks, or loads or swaps a
+-- die or empties a cell, and none by one that settles, claims, exits, begins a birth, locks, unlocks, loads or swaps a
 -- cell, or lends or returns a resource.
 abbrev pub Origin : Duty → ℕ → Duty → Type 0
 Origin d found (Die x) = MayDie d x

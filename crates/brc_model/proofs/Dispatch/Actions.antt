@@ -1,5 +1,6 @@
 -- Whatever a thread of accepted code does at an event fits it: it is never stuck, the moves of a silent step are its
 -- own, and a duty that it does is one that the invariant allows in its agenda.
+use Rattle.brc_model.proofs.Objects.ResourcesLent.{lending_finds}
 use Rattle.std.proofs.Common.{◌≡◌, ◌≢◌, ℕ, ◌<◌, ◌≤◌, true, List, [], ◌∷◌, Option, Some, refl, sym, ap, ◌∙◌, subst, arith}
 use Rattle.std.specs.Prelude.{◌==◌, slice_get, sum_by}
 use Rattle.std.proofs.lemmas.Option.{slice_get_within}
@@ -7,7 +8,7 @@ use Rattle.brc_lang.specs.declared.module.Module.{Module}
 use Rattle.brc_model.specs.AbstractState.{Move}
 use Rattle.brc_model.specs.Threads.{code_of}
 use Rattle.brc_model.specs.declared.duty.Duty.{Duty}
-use Rattle.brc_model.specs.declared.duty.Duty.TheVariants.{ClaimMark}
+use Rattle.brc_model.specs.declared.duty.Duty.TheVariants.{ClaimMark, LendSlot}
 use Rattle.brc_model.specs.declared.actor.Status.{Status}
 use Rattle.brc_model.specs.declared.actor.Status.TheVariants.{Running, Leaving, Gone}
 use Rattle.brc_model.specs.declared.actor.Place.{Place}
@@ -41,7 +42,7 @@ use Rattle.brc_model.specs.Invariant.{CoreInvariant, Invariant}
 use Rattle.brc_model.proofs.Dispatch.Coded.{PlaceSays, PlaceFits, in_flight, idle_unlocked, is_departing, stays_elsewhere, placed_by, says_bounded}
 use Rattle.brc_model.proofs.Dispatch.AtOnce.{at_once, plain_locked, plain_lent}
 use Rattle.brc_model.proofs.Dispatch.Rooms.{awaits_birth}
-use Rattle.brc_model.proofs.Dispatch.Lending.{lent_at, FollowsLent, dispatch_lent}
+use Rattle.brc_model.proofs.Dispatch.Lending.{lent_at, FollowsLent, dispatch_lent, FindsFull}
 use Rattle.brc_model.proofs.Keeping.SilentSteps.{SilentSits}
 use Rattle.brc_model.proofs.Dispatch.Begins.{scene_of, holds_plain, Backs, ByOwn, ByList, Starts, Gives, Takes, Bears, Asks, Locks, Unlocks, Loads, Swaps, Follows, Nothing, Settles, Leaves, SilentTaken, IsTaken, Lends, Returns}
 use Rattle.brc_model.proofs.Keeping.SilentMoves.{bag_after}
@@ -244,6 +245,16 @@ silent_fits p n m t a moves place whole found at taken lent =
       };
     }
 
+-- A duty that lends a resource finds it in its slot, as the invariant says.
+finds_full : (c : Accounts) (n : ℕ) (m : StepMachine) (t : ℕ) (a : StepActor) (d : Duty) (rest : List Duty)
+    → Doing c n (with_actor (counting m) t (sitting a.actor (d ∷ rest))) t (sitting a.actor (d ∷ rest)) d rest
+    → FindsFull d (found_by (counting m) t a.actor d)
+finds_full c n m t a (LendSlot x) rest doing =
+    lending_finds c n (with_actor (counting m) t (sitting a.actor (LendSlot x ∷ rest))) t
+    (sitting a.actor (LendSlot x ∷ rest)) x rest
+    (record { core = doing.kept.core; found = doing.found; agenda = doing.agenda })
+finds_full c n m t a _ rest doing = tt
+
 taken_fits : (p : Module) (n : ℕ) (m : StepMachine) (t : ℕ) (a : StepActor) (x : Action) → (whole : CodeInvariant p n m)
     → slice_get m.actors t ≡ Some a → AtRest whole.accounts n (counting m) t a.actor
     → IsTaken (code_of (slice_get p.functions a.function)) (scene_of (counting m) t a.actor) x
@@ -262,14 +273,15 @@ taken_fits p n m t a (Does d rest place) whole found at taken lent =
     let begun = taken word in
     let own = whole.coded t a found in
     let here = taken_sits p c n (counting m) t a word there d rest at own.alone begun in
+    let doing =
+    sits_down c n (counting m) t a.actor d rest here.account whole.kept at here.sits
+    (starts_settled (scene_of (counting m) t a.actor) a.actor.head there d rest begun.starts begun.follows) in
     record {
       account = here.account;
       says = here.says;
       departs = ap (λ (s : Status). exits s (d ∷ rest)) at.running ∙ here.departs;
-      lent = lent word;
-      doing =
-          sits_down c n (counting m) t a.actor d rest here.account whole.kept at here.sits
-          (starts_settled (scene_of (counting m) t a.actor) a.actor.head there d rest begun.starts begun.follows);
+      lent = lent word (finds_full (with_account c t here.account) n m t a d rest doing);
+      doing = doing;
       small = λ few _. (
         starts_small c n (counting m) t a.actor d rest at.core few at.found begun.starts,
         follows_small (row_count m.layout) m.layout t a.actor.used there rest begun.follows,

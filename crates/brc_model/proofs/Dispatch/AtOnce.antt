@@ -15,8 +15,8 @@ use Rattle.brc_model.proofs.Frame.Items.{drops_items}
 use Rattle.brc_model.proofs.Basics.Continuation.{Origin, Continuation, GoesOn, Frees, continues}
 use Rattle.brc_model.proofs.Objects.Weights.{sum_by-ready}
 
--- 1 if the duty locks or unlocks a list, swaps a cell, or lends or returns a resource, else 0: a thread does such a duty
--- as soon as an instruction dispatches it.
+-- 1 if the duty locks or unlocks a list, swaps a cell, or lends or returns a resource, else 0: a thread does such a
+-- duty as soon as an instruction dispatches it.
 abbrev pub at_once : Duty → ℕ
 at_once d = one_if (is_locking d) + swaps d + one_if (is_lending d)
 

@@ -138,8 +138,8 @@ pub data Backs (g : Scene) (row : ℕ) : Type 0 where
 
 -- The first duty gives up a reference of an object that has one; makes a reference to an object, loads an object's kind
 -- or locks an object that the thread may rely on; begins the birth of the next row; unlocks the list that the thread
--- has locked, or loads or swaps a cell of it; or lends the resource of the file or socket that the thread has locked, or
--- returns it.
+-- has locked, or loads or swaps a cell of it; or lends the resource of the file or socket that the thread has locked,
+-- or returns it.
 pub data Starts (g : Scene) : Duty → List Duty → Type 0 where
   Gives : (row : ℕ) (h : Holding) (rest : List Duty) → 0 < references_to row g.bag
       → Starts g (ReleaseLoad row h) rest

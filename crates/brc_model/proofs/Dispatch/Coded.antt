@@ -17,8 +17,8 @@ use Rattle.brc_model.specs.declared.duty.Duty.{Duty}
 use Rattle.brc_model.specs.declared.actor.Place.{Place}
 use Rattle.brc_model.specs.declared.actor.Place.TheVariants.{Idle, InCall, Inside, Exiting}
 use Rattle.brc_model.specs.declared.actor.Stage.{Stage}
-use Rattle.brc_model.specs.declared.actor.Stage.TheVariants.{InRange, OutOfRange, Found, Retained}
-use Rattle.brc_lang.specs.declared.module.Instr.TheVariants.{Borrow, Fetch, Set, Put}
+use Rattle.brc_model.specs.declared.actor.Stage.TheVariants.{InRange, OutOfRange, Found, Retained, Loaded, Lent, Called, Granted}
+use Rattle.brc_lang.specs.declared.module.Instr.TheVariants.{Borrow, Fetch, Set, Put, Open, Connect, Read, Write}
 use Rattle.brc_model.specs.Actions.{StepActor}
 use Rattle.brc_model.specs.References.{one_if}
 use Rattle.brc_model.specs.Accounts.{Account, HoldsNone, IsBounded, lacks_of, extra_of}
@@ -46,6 +46,14 @@ has_stage (Some (Set list index from otherwise)) InRange = true
 has_stage (Some (Set list index from otherwise)) OutOfRange = true
 has_stage (Some (Put list index from otherwise)) InRange = true
 has_stage (Some (Put list index from otherwise)) Retained = true
+has_stage (Some (Open to path mode otherwise)) Granted = true
+has_stage (Some (Connect to peer otherwise)) Granted = true
+has_stage (Some (Read to file most otherwise)) Lent = true
+has_stage (Some (Read to file most otherwise)) (Called exit) = true
+has_stage (Some (Read to file most otherwise)) Granted = true
+has_stage (Some (Write file number otherwise)) Loaded = true
+has_stage (Some (Write file number otherwise)) Lent = true
+has_stage (Some (Write file number otherwise)) (Called exit) = true
 has_stage i stage = false
 
 -- The row to which a thread so far inside the instruction has a reference in flight: `put` makes one for the cell.

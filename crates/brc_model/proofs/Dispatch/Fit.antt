@@ -5,7 +5,7 @@ use Rattle.std.specs.Prelude.{◌&&◌, not, is_some, slice_get}
 use Rattle.std.proofs.lemmas.Bool.{eq-eqb, not-false}
 use Rattle.brc_lang.specs.declared.module.Function.{Function}
 use Rattle.brc_lang.specs.declared.module.Instr.{Instr}
-use Rattle.brc_lang.specs.declared.module.Instr.TheVariants.{Lock, Unlock, Borrow, Fetch, Set, Put, Ret, Fail}
+use Rattle.brc_lang.specs.declared.module.Instr.TheVariants.{Lock, Unlock, Borrow, Fetch, Set, Put, Ret, Fail, Read, Write}
 use Rattle.brc_lang.specs.declared.kind.Kind.{Kind}
 use Rattle.brc_lang.specs.declared.kind.Kind.TheVariants as kinds
 use Rattle.brc_model.specs.Kinds.{kind_of_word}
@@ -18,11 +18,11 @@ use Rattle.brc_model.specs.declared.address.Address.TheVariants.{KindOf}
 use Rattle.brc_model.specs.declared.duty.Duty.{Duty}
 use Rattle.brc_model.specs.declared.thread.Choice.{Choice}
 use Rattle.brc_model.specs.declared.thread.Choice.TheVariants.{Ok, Fault, Claim}
-use Rattle.brc_model.specs.Slots.{slot_of, is_empty, kind_of, names, entry, is_one_of, lockable}
+use Rattle.brc_model.specs.Slots.{slot_of, is_empty, kind_of, names, entry, is_one_of, lockable, with_resource}
 use Rattle.brc_model.specs.Paths.{IsAcceptableCode}
 use Rattle.brc_model.specs.Threads.{code_of, row_of, entry_variables}
 use Rattle.brc_model.specs.KnownKinds.{IsTrueKind, HaveTrueKinds, KnowsKinds, kind_words}
-use Rattle.brc_model.specs.Needs.{kind_at, has_locked, has_locked_list, has_needs, lacks_needs, starts_unfit}
+use Rattle.brc_model.specs.Needs.{kind_at, has_locked, has_needs, lacks_needs, starts_unfit}
 use Rattle.brc_model.specs.Events.{begins_unfit, chooses_unfit}
 use Rattle.brc_model.specs.Accounts.{Account}
 use Rattle.brc_model.specs.Actions.{StepActor}
@@ -47,25 +47,36 @@ record Meets (memory : Address → ℕ) (locked : Option ℕ) (variables : List 
 no_lock : (locked : Option ℕ) → locked ≡ None → not (is_some locked) ≡ true
 no_lock locked none = ap (λ (o : Option ℕ). not (is_some o)) none
 
--- A list that the thread has locked: its kind word says that it is one.
-list_word_fits : (kind : Kind) (word : ℕ) → IsTrueKind kind word → is_one_of kind (kinds.List ∷ []) ≡ true
-    → is_one_of (kind_of_word word) (kinds.List ∷ []) ≡ true
-list_word_fits kind word (inl any) can =
-    absurd (let wrong : false ≡ true = sym (ap (λ (k : Kind). is_one_of k (kinds.List ∷ [])) any) ∙ can in cc)
-list_word_fits kind word (inr names) can = ap (λ (k : Kind). is_one_of k (kinds.List ∷ [])) names ∙ can
+-- An object's kind word says that it is of one of the kinds, if the checker knows it.
+kind_fits : (asked : List Kind) (kind : Kind) (word : ℕ) → is_one_of kinds.Any asked ≡ false → IsTrueKind kind word
+    → is_one_of kind asked ≡ true → is_one_of (kind_of_word word) asked ≡ true
+kind_fits asked kind word none (inl any) can =
+    absurd (let wrong : false ≡ true = sym none ∙ sym (ap (λ (k : Kind). is_one_of k asked) any) ∙ can in cc)
+kind_fits asked kind word none (inr names) can = ap (λ (k : Kind). is_one_of k asked) names ∙ can
 
-list_fit : (memory : Address → ℕ) (locked : Option ℕ) (variables : List (Option ℕ)) (s : State) (list : ℕ)
-    → is_empty (slot_of s list) ≡ false → is_one_of (kind_of (slot_of s list)) (kinds.List ∷ []) ≡ true
-    → names s.locked list ≡ true → ((v : ℕ) → IsGrounded (slot_of s v) (row_of variables v))
+-- The kind of the object that a variable names.
+named_fit : (memory : Address → ℕ) (variables : List (Option ℕ)) (s : State) (v : ℕ) (asked : List Kind)
+    → is_one_of kinds.Any asked ≡ false → is_empty (slot_of s v) ≡ false → is_one_of (kind_of (slot_of s v)) asked ≡ true
+    → IsGrounded (slot_of s v) (row_of variables v) → HaveTrueKinds (λ x. memory (KindOf x)) s variables
+    → is_one_of (kind_at memory (row_of variables v)) asked ≡ true
+named_fit memory variables s v asked none some can grounded kinds_known =
+    let row = named_row (slot_of s v) (row_of variables v) some grounded in
+    ap (λ (o : Option ℕ). is_one_of (kind_at memory o) asked) row.1
+    ∙ kind_fits asked (kind_of (slot_of s v)) (memory (KindOf row.0)) none (kinds_known v row.0 row.1) can
+
+-- The object of such a kind that the thread has locked.
+locked_fit : (memory : Address → ℕ) (locked : Option ℕ) (variables : List (Option ℕ)) (s : State) (v : ℕ)
+    (asked : List Kind) → is_one_of kinds.Any asked ≡ false
+    → is_empty (slot_of s v) ≡ false → is_one_of (kind_of (slot_of s v)) asked ≡ true
+    → names s.locked v ≡ true → ((v : ℕ) → IsGrounded (slot_of s v) (row_of variables v))
     → LocksAgree s variables locked → HaveTrueKinds (λ x. memory (KindOf x)) s variables
-    → has_locked_list memory locked (row_of variables list) ≡ true
-list_fit memory locked variables s list some can this grounded guards kinds_known =
-    let row = named_row (slot_of s list) (row_of variables list) some (grounded list) in
-    let word =
-    list_word_fits (kind_of (slot_of s list)) (memory (KindOf row.0)) (kinds_known list row.0 row.1) can in
-    let has = guards_row s variables list row.0 s.locked locked this row.1 guards in
-    ap (has_locked_list memory locked) row.1
-    ∙ ap (λ (b : Bool). b && has_locked locked (Some row.0)) word
+    → (is_one_of (kind_at memory (row_of variables v)) asked && has_locked locked (row_of variables v)) ≡ true
+locked_fit memory locked variables s v asked none some can this grounded guards kinds_known =
+    let row = named_row (slot_of s v) (row_of variables v) some (grounded v) in
+    let has = guards_row s variables v row.0 s.locked locked this row.1 guards in
+    ap (λ (b : Bool). b && has_locked locked (row_of variables v))
+    (named_fit memory variables s v asked none some can (grounded v) kinds_known)
+    ∙ ap (has_locked locked) row.1
     ∙ ap (λ (o : Option ℕ). has_locked o (Some row.0)) has ∙ eq-eqb row.0 row.0 refl
 
 instruction_fit : (memory : Address → ℕ) (locked : Option ℕ) (variables : List (Option ℕ)) (s : State) (i : Instr)
@@ -87,21 +98,33 @@ instruction_fit memory locked variables s (Unlock object) meets =
     ap (λ (o : Option ℕ). has_locked o (row_of variables object)) has
     ∙ ap (λ (o : Option ℕ). has_locked (Some row.0) o) row.1 ∙ eq-eqb row.0 row.0 refl
 instruction_fit memory locked variables s (Borrow to list index otherwise) meets =
-    list_fit memory locked variables s list (first_false _ _ meets.met.not_empty)
+    locked_fit memory locked variables s list (kinds.List ∷ []) refl (first_false _ _ meets.met.not_empty)
     (not-false _ (first_false _ _ meets.met.right_kind)) (not-false _ (first_false _ _ meets.met.has_lock))
     meets.grounded meets.guards meets.kinds
 instruction_fit memory locked variables s (Fetch to list index otherwise) meets =
-    list_fit memory locked variables s list (first_false _ _ meets.met.not_empty)
+    locked_fit memory locked variables s list (kinds.List ∷ []) refl (first_false _ _ meets.met.not_empty)
     (not-false _ (first_false _ _ meets.met.right_kind)) (not-false _ (first_false _ _ meets.met.has_lock))
     meets.grounded meets.guards meets.kinds
 instruction_fit memory locked variables s (Set list index from otherwise) meets =
-    list_fit memory locked variables s list (first_false _ _ (second_false _ _ meets.met.not_empty))
+    locked_fit memory locked variables s list (kinds.List ∷ []) refl (first_false _ _ (second_false _ _ meets.met.not_empty))
     (not-false _ (first_false _ _ meets.met.right_kind)) (not-false _ (first_false _ _ meets.met.has_lock))
     meets.grounded meets.guards meets.kinds
 instruction_fit memory locked variables s (Put list index from otherwise) meets =
-    list_fit memory locked variables s list (first_false _ _ (second_false _ _ meets.met.not_empty))
+    locked_fit memory locked variables s list (kinds.List ∷ []) refl (first_false _ _ (second_false _ _ meets.met.not_empty))
     (not-false _ (first_false _ _ meets.met.right_kind)) (not-false _ (first_false _ _ meets.met.has_lock))
     meets.grounded meets.guards meets.kinds
+instruction_fit memory locked variables s (Read to file most otherwise) meets =
+    locked_fit memory locked variables s file with_resource refl (first_false _ _ meets.met.not_empty)
+    (not-false _ (first_false _ _ meets.met.right_kind)) (not-false _ (first_false _ _ meets.met.has_lock))
+    meets.grounded meets.guards meets.kinds
+instruction_fit memory locked variables s (Write file number otherwise) meets =
+    ap (λ (b : Bool). b && is_one_of (kind_at memory (row_of variables number)) (kinds.Num ∷ []))
+    (locked_fit memory locked variables s file with_resource refl (first_false _ _ meets.met.not_empty)
+    (not-false _ (first_false _ _ meets.met.right_kind)) (not-false _ (first_false _ _ meets.met.has_lock))
+    meets.grounded meets.guards meets.kinds)
+    ∙ named_fit memory variables s number (kinds.Num ∷ []) refl
+    (first_false _ _ (second_false _ _ meets.met.not_empty))
+    (not-false _ (first_false _ _ (second_false _ _ meets.met.right_kind))) (meets.grounded number) meets.kinds
 instruction_fit memory locked variables s (Ret from) meets =
     no_lock locked (guards_none s variables s.locked locked (first_false _ _ meets.met.no_lock_left) meets.guards)
 instruction_fit memory locked variables s Fail meets =

@@ -94,9 +94,9 @@ dispatch_uses code memory locked layout t used (Inside counters at variables sta
     let knows = stands.knows in
     let here = uses_at code memory locked at variables says.0 stands.accepted stands.instructions says.1 says.2
     (knows.items says.1.exits says.0 says.1.arrived) in
-    subst (λ (o : Option Instr). LeavesItems code memory locked (dispatch_inside counters at variables stage o))
+    subst (λ (o : Option Instr). LeavesItems code memory locked (dispatch_inside layout t used counters at variables stage o))
     (sym here.1)
-    (inside_uses code memory locked counters at variables says.0 stage here.0
+    (inside_uses code memory locked counters at variables says.0 layout t used stage here.0
     (subst (StageKnows memory locked variables stage) here.1 knows.cell) here.2)
 
 -- A duty that isn't dispatched at once leaves the thread's lock and its items.

@@ -5,14 +5,14 @@ use Rattle.std.proofs.lemmas.Bool.{not-false}
 use Rattle.std.proofs.lemmas.List.{length-set}
 use Rattle.brc_lang.specs.declared.kind.Kind.TheVariants as kinds
 use Rattle.brc_lang.specs.declared.module.Instr.{Instr}
-use Rattle.brc_lang.specs.declared.module.Instr.TheVariants.{Num, List as ListObject, NoneObject, Newref, Move as MoveReference, Drop, As, Lock, Unlock, Borrow, Fetch, Set, Put, Goto, Again, Ret, Fail}
+use Rattle.brc_lang.specs.declared.module.Instr.TheVariants.{Num, List as ListObject, NoneObject, Newref, Move as MoveReference, Drop, As, Lock, Unlock, Borrow, Fetch, Set, Put, Goto, Again, Ret, Fail, Open, Connect, Read, Write}
 use Rattle.brc_lang.specs.Grammar.{IsInstruction}
 use Rattle.brc_word.specs.Words.{free_word}
 use Rattle.brc_model.specs.declared.actor.Place.{Place}
 use Rattle.brc_model.specs.declared.actor.Counters.{Counters}
 use Rattle.brc_model.specs.declared.actor.Place.TheVariants.{InCall, Inside}
 use Rattle.brc_model.specs.declared.actor.Stage.{Stage}
-use Rattle.brc_model.specs.declared.actor.Stage.TheVariants.{InRange, OutOfRange, Found, Retained}
+use Rattle.brc_model.specs.declared.actor.Stage.TheVariants.{InRange, OutOfRange, Found, Retained, Loaded, Lent, Called, Granted}
 use Rattle.brc_model.specs.declared.address.Address.{Address}
 use Rattle.brc_model.specs.declared.address.Address.TheVariants.{KindOf, Cell}
 use Rattle.brc_model.specs.declared.duty.Duty.{Duty}
@@ -30,12 +30,12 @@ use Rattle.brc_model.specs.Layout.{none_row, row_at}
 use Rattle.brc_model.specs.declared.layout.Layout.{Layout}
 use Rattle.brc_model.specs.Duties.{cells_of}
 use Rattle.brc_model.specs.Machine.{has_room, locked_by}
-use Rattle.brc_model.specs.Actions.{Action, Skip, Stuck, Silent, Calls, Does, with_row, by_range, by_item, number_word, list_word, birth_action, dispatch_instruction, dispatch_inside, turns_at, turned}
+use Rattle.brc_model.specs.Actions.{Action, Skip, Stuck, Silent, Calls, Does, with_row, by_range, by_item, number_word, list_word, birth_action, dispatch_instruction, dispatch_inside, turns_at, turned, grant_action, granted_birth, return_action, lend_action, file_word, sock_word}
 use Rattle.brc_model.specs.Items.{IsItem, borrows_item, HaveItems, HasCell, StageKnows, KnowsItems}
 use Rattle.brc_model.proofs.Basics.Lists.{some_is, either, first_false}
 use Rattle.brc_model.proofs.Dispatch.Grounded.{IsInside}
 use Rattle.brc_model.proofs.Dispatch.Guards.{LocksAgree, guards_none, guards_row}
-use Rattle.brc_model.proofs.Dispatch.Decided.{range_decides, item_decides}
+use Rattle.brc_model.proofs.Dispatch.Decided.{range_decides, item_decides, exit_decides}
 use Rattle.brc_model.proofs.Dispatch.Passing.{AreMet}
 use Rattle.brc_model.proofs.Dispatch.Items.{ItemsStay, all_stay, items_stay, cell_stays, knows_stay, items_put, needs_none, items_with_kind, BorrowsNone, none_borrowed, without_items_free, unlocked_items}
 use Rattle.brc_model.proofs.Frame.Items.{drops_items}
@@ -174,6 +174,41 @@ module _ (code : List Instr) (memory : Address → ℕ) (locked : Option ℕ) (c
       free)
       (goes_on_free memory otherwise i FaultExit to Empty None (all_stay memory locked) here else_at empty low refl)
 
+  -- A thread that asks the host for a resource awaits its birth, or leaves the variable empty.
+  grant_uses : (layout : Layout) (t used : ℕ) (i : Instr) (to otherwise : ℕ) → (here : Here i) → to < 16
+      → StageKnows memory locked variables Granted (Some i)
+      → target i FaultExit at ≡ Some otherwise → after i FaultExit s ≡ put s to Empty
+      → LeavesItems code memory locked (grant_action layout t used counters at variables to otherwise)
+  grant_uses layout t used i to otherwise here low knows else_at empty =
+      let refused : KnowsItems code memory locked (InCall counters otherwise (slice_set variables to None)) =
+      goes_on_free memory otherwise i FaultExit to Empty None (all_stay memory locked) here else_at empty low refl in
+      either (LeavesItems code memory locked) (has_room layout t used) _ _
+      (λ room. exit_decides (KnowsItems code memory locked) (Inside counters at variables Granted)
+      (InCall counters otherwise (slice_set variables to None))
+      (goes_inside memory Granted i (all_stay memory locked) here knows) refused) refused
+
+  -- The birth that it awaits leaves in the variable what borrows nothing.
+  granted_uses : (layout : Layout) (t used : ℕ) (i : Instr) (to word : ℕ) (slot : Slot) → (here : Here i) → to < 16
+      → borrows_item slot ≡ false → target i Success at ≡ Some (at + 1) → after i Success s ≡ put s to slot
+      → LeavesItems code memory locked (granted_birth layout t used counters at variables to word)
+  granted_uses layout t used i to word slot here low free next owned = λ new found done.
+      goes_on_free new (at + 1) i Success to slot (Some (row_at layout t used)) (done.keeps refl) here next owned low
+      free
+
+  -- A thread lends a resource inside an instruction.
+  lend_uses : (i : Instr) (file : ℕ) → Here i → ((new : Address → ℕ) → StageKnows new locked variables Lent (Some i))
+      → LeavesItems code memory locked (lend_action counters at variables file)
+  lend_uses i file here knows =
+      row_uses (row_of variables file) _ (λ row is new found done.
+      goes_inside new Lent i (done.keeps refl) here (knows new))
+
+  -- It puts the resource back, and knows what it knows at the place where it then is.
+  return_uses : (file : ℕ) (place : Place)
+      → ((new : Address → ℕ) → ItemsStay memory new locked → KnowsItems code new locked place)
+      → LeavesItems code memory locked (return_action variables file place)
+  return_uses file place knows =
+      row_uses (row_of variables file) _ (λ row is new found done. knows new (done.keeps refl))
+
   -- A look at the list's kind word leads into the instruction, if the list has the cell.
   range_uses : (i : Instr) (list index : ℕ) (stage : Stage) (outside : Place) → Here i
       → ((new : Address → ℕ) → HasCell new variables list index → StageKnows new locked variables stage (Some i))
@@ -263,6 +298,18 @@ module _ (code : List Instr) (memory : Address → ℕ) (locked : Option ℕ) (c
       (λ new stays.
       goes_on_without new locked otherwise variables (Put list index from otherwise) FaultExit here refl
       (without_items_free s))
+  instruction_uses layout t used before (Open to path mode otherwise) knew here =
+      grant_uses layout t used (Open to path mode otherwise) to otherwise here here.operands.0 tt refl refl
+  instruction_uses layout t used before (Connect to peer otherwise) knew here =
+      grant_uses layout t used (Connect to peer otherwise) to otherwise here here.operands.0 tt refl refl
+  instruction_uses layout t used before (Read to file most otherwise) knew here =
+      either (LeavesItems code memory locked) (has_room layout t used) _ _
+      (λ room. lend_uses (Read to file most otherwise) file here (λ new. tt))
+      (goes_on_free memory otherwise (Read to file most otherwise) FaultExit to Empty None (all_stay memory locked) here
+      refl refl here.operands.0 refl)
+  instruction_uses layout t used before (Write file number otherwise) knew here =
+      row_uses (row_of variables number) _ (λ row is new found done.
+      goes_inside new Loaded (Write file number otherwise) (done.keeps refl) here tt)
   instruction_uses layout t used before (As from kind otherwise) knew here =
       row_uses (row_of variables from) _ (λ row is new found done.
       let stays = done.keeps refl in
@@ -307,9 +354,9 @@ module _ (code : List Instr) (memory : Address → ℕ) (locked : Option ℕ) (c
         holds = stays.cells row index locks ∙ sym seen ∙ omega arith;
       })) found done.finds)
 
-  pub inside_uses : (stage : Stage) (i : Instr) → StageKnows memory locked variables stage (Some i) → Here i
-      → LeavesItems code memory locked (dispatch_inside counters at variables stage (Some i))
-  inside_uses InRange (Borrow to list index otherwise) knows here =
+  pub inside_uses : (layout : Layout) (t used : ℕ) (stage : Stage) (i : Instr) → StageKnows memory locked variables stage (Some i) → Here i
+      → LeavesItems code memory locked (dispatch_inside layout t used counters at variables stage (Some i))
+  inside_uses layout t used InRange (Borrow to list index otherwise) knows here =
       cell_uses (Borrow to list index otherwise) list index (InCall counters otherwise (slice_set variables to None))
       (λ item. InCall counters (at + 1) (slice_set variables to (Some item))) here
       (not-false (names s.locked list) (first_false _ _ here.met.has_lock))
@@ -319,7 +366,7 @@ module _ (code : List Instr) (memory : Address → ℕ) (locked : Option ℕ) (c
       (λ new item stays there.
       goes_on_put new (at + 1) (Borrow to list index otherwise) Success to (Locked kinds.Any) (Some item) stays here
       refl refl here.operands.0 (λ x borrows is. subst (IsItem new locked) (some_is item x is) there))
-  inside_uses InRange (Fetch to list index otherwise) knows here =
+  inside_uses layout t used InRange (Fetch to list index otherwise) knows here =
       cell_uses (Fetch to list index otherwise) list index (InCall counters otherwise (slice_set variables to None))
       (λ item. Inside counters at variables (Found item)) here
       (not-false (names s.locked list) (first_false _ _ here.met.has_lock))
@@ -327,26 +374,54 @@ module _ (code : List Instr) (memory : Address → ℕ) (locked : Option ℕ) (c
       goes_on_free new otherwise (Fetch to list index otherwise) FaultExit to Empty None stays here refl refl
       here.operands.0 refl)
       (λ new item stays there. goes_inside new (Found item) (Fetch to list index otherwise) stays here there)
-  inside_uses (Found item) (Fetch to list index otherwise) knows here = λ new found done.
+  inside_uses layout t used (Found item) (Fetch to list index otherwise) knows here = λ new found done.
       goes_on_free new (at + 1) (Fetch to list index otherwise) Success to (Owned kinds.Any) (Some item)
       (done.keeps refl) here refl refl here.operands.0 refl
-  inside_uses InRange (Set list index from otherwise) knows here =
+  inside_uses layout t used InRange (Set list index from otherwise) knows here =
       row_uses (row_of variables list) _ (λ row is.
       row_uses (row_of variables from) _ (λ item this new found done.
       goes_on_without new locked (at + 1) (slice_set variables from None) (Set list index from otherwise) Success here
       refl (without_items_free (put s from Empty))))
-  inside_uses OutOfRange (Set list index from otherwise) knows here =
+  inside_uses layout t used OutOfRange (Set list index from otherwise) knows here =
       row_uses (row_of variables from) _ (λ item this new found done.
       goes_on_without new locked otherwise (slice_set variables from None) (Set list index from otherwise) FaultExit
       here refl (without_items_free (put s from Empty)))
-  inside_uses InRange (Put list index from otherwise) knows here =
+  inside_uses layout t used InRange (Put list index from otherwise) knows here =
       row_uses (row_of variables from) _ (λ item this new found done.
       let stays = done.keeps refl in
       goes_inside new Retained (Put list index from otherwise) stays here
       (cell_stays memory new locked stays variables list index knows))
-  inside_uses Retained (Put list index from otherwise) knows here =
+  inside_uses layout t used Retained (Put list index from otherwise) knows here =
       row_uses (row_of variables list) _ (λ row is.
       row_uses (row_of variables from) _ (λ item this new found done.
       goes_on_without new locked (at + 1) variables (Put list index from otherwise) Success here refl
       (without_items_free s)))
-  inside_uses stage i knows here = tt
+  inside_uses layout t used Granted (Open to path mode otherwise) knows here =
+      granted_uses layout t used (Open to path mode otherwise) to file_word (Owned kinds.File) here here.operands.0 refl
+      refl refl
+  inside_uses layout t used Granted (Connect to peer otherwise) knows here =
+      granted_uses layout t used (Connect to peer otherwise) to sock_word (Owned kinds.Sock) here here.operands.0 refl
+      refl refl
+  inside_uses layout t used Lent (Read to file most otherwise) knows here = λ exit.
+      goes_inside memory (Called exit) (Read to file most otherwise) (all_stay memory locked) here tt
+  inside_uses layout t used (Called Success) (Read to file most otherwise) knows here =
+      return_uses file (Inside counters at variables Granted)
+      (λ new stays. goes_inside new Granted (Read to file most otherwise) stays here tt)
+  inside_uses layout t used (Called FaultExit) (Read to file most otherwise) knows here =
+      return_uses file (InCall counters otherwise (slice_set variables to None))
+      (λ new stays. goes_on_free new otherwise (Read to file most otherwise) FaultExit to Empty None stays here refl refl
+      here.operands.0 refl)
+  inside_uses layout t used Granted (Read to file most otherwise) knows here =
+      granted_uses layout t used (Read to file most otherwise) to (number_word 0) (Owned kinds.Num) here
+      here.operands.0 refl refl refl
+  inside_uses layout t used Loaded (Write file number otherwise) knows here =
+      lend_uses (Write file number otherwise) file here (λ new. tt)
+  inside_uses layout t used Lent (Write file number otherwise) knows here = λ exit.
+      goes_inside memory (Called exit) (Write file number otherwise) (all_stay memory locked) here tt
+  inside_uses layout t used (Called Success) (Write file number otherwise) knows here =
+      return_uses file (InCall counters (at + 1) variables)
+      (λ new stays. goes_on_same new (at + 1) (Write file number otherwise) Success stays here refl refl)
+  inside_uses layout t used (Called FaultExit) (Write file number otherwise) knows here =
+      return_uses file (InCall counters otherwise variables)
+      (λ new stays. goes_on_same new otherwise (Write file number otherwise) FaultExit stays here refl refl)
+  inside_uses layout t used stage i knows here = tt

@@ -6,7 +6,7 @@ use Rattle.brc_lang.specs.declared.kind.Kind.{Kind}
 use Rattle.brc_lang.specs.declared.kind.Kind.TheVariants as kinds
 use Rattle.brc_lang.specs.declared.module.Function.{Function}
 use Rattle.brc_lang.specs.declared.module.Instr.{Instr}
-use Rattle.brc_lang.specs.declared.module.Instr.TheVariants.{Num, List as ListObject, NoneObject, Newref, Move as MoveReference, Drop, As, Lock, Unlock, Borrow, Fetch, Set, Put, Goto, Again, Ret, Fail}
+use Rattle.brc_lang.specs.declared.module.Instr.TheVariants.{Num, List as ListObject, NoneObject, Newref, Move as MoveReference, Drop, As, Lock, Unlock, Borrow, Fetch, Set, Put, Goto, Again, Ret, Fail, Open, Connect, Read, Write}
 use Rattle.brc_lang.specs.Grammar.{IsInstruction}
 use Rattle.brc_word.specs.Words.{free_word, half, kind_part}
 use Rattle.brc_model.specs.declared.thread.Choice.{Choice}
@@ -17,7 +17,7 @@ use Rattle.brc_model.specs.declared.actor.Place.{Place}
 use Rattle.brc_model.specs.declared.actor.Counters.{Counters}
 use Rattle.brc_model.specs.declared.actor.Place.TheVariants.{Idle, InCall, Inside, Exiting}
 use Rattle.brc_model.specs.declared.actor.Stage.{Stage}
-use Rattle.brc_model.specs.declared.actor.Stage.TheVariants.{InRange, OutOfRange, Found, Retained}
+use Rattle.brc_model.specs.declared.actor.Stage.TheVariants.{InRange, OutOfRange, Found, Retained, Loaded, Lent, Called, Granted}
 use Rattle.brc_model.specs.declared.duty.Duty.{Duty}
 use Rattle.brc_model.specs.declared.duty.Duty.TheVariants.{KindLoad, BirthKind, CellLoad}
 use Rattle.brc_model.specs.declared.slot.Slot.{Slot}
@@ -32,11 +32,11 @@ use Rattle.brc_model.specs.Threads.{code_of, row_of, entry_variables}
 use Rattle.brc_model.specs.Layout.{none_row, row_at}
 use Rattle.brc_model.specs.declared.layout.Layout.{Layout}
 use Rattle.brc_model.specs.Machine.{has_room}
-use Rattle.brc_model.specs.Actions.{StepActor, Action, Skip, Stuck, Silent, Calls, Does, with_row, by_range, by_item, number_word, list_word, birth_action, dispatch_instruction, dispatch_inside, dispatch, may_claim, agenda_action, status_action, action_of, first_counters, turns_at, turned}
+use Rattle.brc_model.specs.Actions.{StepActor, Action, Skip, Stuck, Silent, Calls, Does, with_row, by_range, by_item, number_word, list_word, birth_action, dispatch_instruction, dispatch_inside, dispatch, may_claim, agenda_action, status_action, action_of, first_counters, turns_at, turned, file_word, sock_word, grant_action, granted_birth, return_action}
 use Rattle.brc_model.specs.KnownKinds.{IsTrueKind, HasTrueKind, HaveTrueKinds, KnowsKinds, AreNamed}
 use Rattle.brc_model.proofs.Basics.Lists.{some_is, either}
 use Rattle.brc_model.proofs.Dispatch.Grounded.{IsInside, AreInstructions, entry_in_call}
-use Rattle.brc_model.proofs.Dispatch.Decided.{range_decides, item_decides}
+use Rattle.brc_model.proofs.Dispatch.Decided.{range_decides, item_decides, exit_decides}
 use Rattle.brc_model.proofs.Dispatch.Passing.{passes_on}
 use Rattle.brc_model.specs.Accounts.{Account}
 use Rattle.brc_model.proofs.Dispatch.Coded.{PlaceSays}
@@ -140,6 +140,39 @@ birth_leaves code words layout t used counters at variables s i to word otherwis
     (goes_on_put code words counters at otherwise variables s i FaultExit to Empty None here else_at empty low
     (empty_true words None))
 
+-- A thread that asks the host for a resource awaits its birth, or leaves the variable empty.
+grant_leaves : (code : List Instr) (words : ℕ → ℕ) (layout : Layout) (t used : ℕ) (counters : Counters) (at : ℕ)
+    (variables : List (Option ℕ)) (s : State) (i : Instr) (to otherwise : ℕ) → (here : KnowsAt code words at variables s i)
+    → to < 16 → target i FaultExit at ≡ Some otherwise → after i FaultExit s ≡ put s to Empty
+    → Leaves code words (grant_action layout t used counters at variables to otherwise)
+grant_leaves code words layout t used counters at variables s i to otherwise here low else_at empty =
+    let refused : KnowsKinds code words (InCall counters otherwise (slice_set variables to None)) =
+    goes_on_put code words counters at otherwise variables s i FaultExit to Empty None here else_at empty low
+    (empty_true words None) in
+    either (Leaves code words) (has_room layout t used) _ _
+    (λ room. exit_decides (KnowsKinds code words) (Inside counters at variables Granted)
+    (InCall counters otherwise (slice_set variables to None)) (knows_here code words at variables s i here) refused)
+    refused
+
+-- The birth that it awaits leaves an object of the kind word's kind.
+granted_leaves : (code : List Instr) (words : ℕ → ℕ) (layout : Layout) (t used : ℕ) (counters : Counters) (at : ℕ)
+    (variables : List (Option ℕ)) (s : State) (i : Instr) (to word : ℕ) (kind : Kind)
+    → (here : KnowsAt code words at variables s i) → to < 16 → kind_of_word word ≡ kind
+    → target i Success at ≡ Some (at + 1) → after i Success s ≡ put s to (Owned kind)
+    → Leaves code words (granted_birth layout t used counters at variables to word)
+granted_leaves code words layout t used counters at variables s i to word kind here low names next owned =
+    λ found stored.
+    goes_on_put code words counters at (at + 1) variables s i Success to (Owned kind) (Some (row_at layout t used)) here
+    next owned low
+    (λ x is. inr (ap (λ (y : ℕ). kind_of_word (words y)) (sym (some_is (row_at layout t used) x is))
+    ∙ ap kind_of_word stored ∙ names))
+
+-- A thread that puts a resource back knows of the variables what it knows at the place where it then is.
+return_leaves : (code : List Instr) (words : ℕ → ℕ) (variables : List (Option ℕ)) (file : ℕ) (place : Place)
+    → KnowsKinds code words place → Leaves code words (return_action variables file place)
+return_leaves code words variables file place knows =
+    row_leaves code words (row_of variables file) _ (λ row is found seen. knows)
+
 -- the kind of a number's kind word
 number_kind : (value : ℕ) → value < half → kind_of_word (number_word value) ≡ kinds.Num
 number_kind value low =
@@ -225,6 +258,21 @@ instruction_leaves code words layout t used before counters at variables s (Put 
     (InCall counters otherwise variables) (knows_here code words at variables s (Put list index from otherwise) here)
     (goes_on code words counters at otherwise variables variables s (Put list index from otherwise) FaultExit here refl
     (true_without_items words s variables here.known))
+instruction_leaves code words layout t used before counters at variables s (Open to path mode otherwise) knew here =
+    grant_leaves code words layout t used counters at variables s (Open to path mode otherwise) to otherwise here
+    here.operands.0 refl refl
+instruction_leaves code words layout t used before counters at variables s (Connect to peer otherwise) knew here =
+    grant_leaves code words layout t used counters at variables s (Connect to peer otherwise) to otherwise here
+    here.operands.0 refl refl
+instruction_leaves code words layout t used before counters at variables s (Read to file most otherwise) knew here =
+    either (Leaves code words) (has_room layout t used) _ _
+    (λ room. row_leaves code words (row_of variables file) _ (λ row is found seen.
+    knows_here code words at variables s (Read to file most otherwise) here))
+    (goes_on_put code words counters at otherwise variables s (Read to file most otherwise) FaultExit to Empty None here
+    refl refl here.operands.0 (empty_true words None))
+instruction_leaves code words layout t used before counters at variables s (Write file number otherwise) knew here =
+    row_leaves code words (row_of variables number) _ (λ row is found seen.
+    knows_here code words at variables s (Write file number otherwise) here)
 instruction_leaves code words layout t used before counters at variables s (As from kind otherwise) knew here =
     row_leaves code words (row_of variables from) _ (λ row is found seen.
     either (λ (next : ℕ). KnowsKinds code words (InCall counters next variables))
@@ -268,11 +316,12 @@ set_leaves code words counters at next variables s list index from otherwise exi
 any_true : (words : ℕ → ℕ) (slot : Slot) (row : Option ℕ) → kind_of slot ≡ kinds.Any → HasTrueKind words slot row
 any_true words slot row any x is = inl any
 
-inside_leaves : (code : List Instr) (words : ℕ → ℕ) (counters : Counters) (at : ℕ) (variables : List (Option ℕ))
+inside_leaves : (code : List Instr) (words : ℕ → ℕ) (layout : Layout) (t used : ℕ) (counters : Counters) (at : ℕ)
+    (variables : List (Option ℕ))
     (stage : Stage)
     (s : State) (i : Instr) → KnowsAt code words at variables s i
-    → Leaves code words (dispatch_inside counters at variables stage (Some i))
-inside_leaves code words counters at variables InRange s (Borrow to list index otherwise) here =
+    → Leaves code words (dispatch_inside layout t used counters at variables stage (Some i))
+inside_leaves code words layout t used counters at variables InRange s (Borrow to list index otherwise) here =
     cell_leaves code words (row_of variables list) index (InCall counters otherwise (slice_set variables to None))
     (λ item. InCall counters (at + 1) (slice_set variables to (Some item)))
     (goes_on_put code words counters at otherwise variables s
@@ -282,32 +331,63 @@ inside_leaves code words counters at variables InRange s (Borrow to list index o
     goes_on_put code words counters at (at + 1) variables s (Borrow to list index otherwise) Success to
     (Locked kinds.Any)
     (Some item) here refl refl here.operands.0 (any_true words (Locked kinds.Any) (Some item) refl))
-inside_leaves code words counters at variables InRange s (Fetch to list index otherwise) here =
+inside_leaves code words layout t used counters at variables InRange s (Fetch to list index otherwise) here =
     cell_leaves code words (row_of variables list) index (InCall counters otherwise (slice_set variables to None))
     (λ item. Inside counters at variables (Found item))
     (goes_on_put code words counters at otherwise variables s
     (Fetch to list index otherwise) FaultExit to Empty None here
     refl refl here.operands.0 (empty_true words None))
     (λ item. knows_here code words at variables s (Fetch to list index otherwise) here)
-inside_leaves code words counters at variables (Found item) s (Fetch to list index otherwise) here = λ found seen.
+inside_leaves code words layout t used counters at variables (Found item) s (Fetch to list index otherwise) here = λ found seen.
     goes_on_put code words counters at (at + 1) variables s (Fetch to list index otherwise) Success to (Owned kinds.Any)
     (Some item) here refl refl here.operands.0 (any_true words (Owned kinds.Any) (Some item) refl)
-inside_leaves code words counters at variables InRange s (Set list index from otherwise) here =
+inside_leaves code words layout t used counters at variables InRange s (Set list index from otherwise) here =
     row_leaves code words (row_of variables list) _ (λ row is.
     row_leaves code words (row_of variables from) _ (λ item this found seen.
     set_leaves code words counters at (at + 1) variables s list index from otherwise Success here refl))
-inside_leaves code words counters at variables OutOfRange s (Set list index from otherwise) here =
+inside_leaves code words layout t used counters at variables OutOfRange s (Set list index from otherwise) here =
     row_leaves code words (row_of variables from) _ (λ item this found seen.
     set_leaves code words counters at otherwise variables s list index from otherwise FaultExit here refl)
-inside_leaves code words counters at variables InRange s (Put list index from otherwise) here =
+inside_leaves code words layout t used counters at variables InRange s (Put list index from otherwise) here =
     row_leaves code words (row_of variables from) _ (λ item is found seen.
     knows_here code words at variables s (Put list index from otherwise) here)
-inside_leaves code words counters at variables Retained s (Put list index from otherwise) here =
+inside_leaves code words layout t used counters at variables Retained s (Put list index from otherwise) here =
     row_leaves code words (row_of variables list) _ (λ row is.
     row_leaves code words (row_of variables from) _ (λ item this found seen.
     goes_on code words counters at (at + 1) variables variables s (Put list index from otherwise) Success here refl
     (true_without_items words s variables here.known)))
-inside_leaves code words counters at variables stage s i here = tt
+inside_leaves code words layout t used counters at variables Granted s (Open to path mode otherwise) here =
+    granted_leaves code words layout t used counters at variables s (Open to path mode otherwise) to file_word
+    kinds.File here here.operands.0 refl refl refl
+inside_leaves code words layout t used counters at variables Granted s (Connect to peer otherwise) here =
+    granted_leaves code words layout t used counters at variables s (Connect to peer otherwise) to sock_word
+    kinds.Sock here here.operands.0 refl refl refl
+inside_leaves code words layout t used counters at variables Lent s (Read to file most otherwise) here = λ exit.
+    knows_here code words at variables s (Read to file most otherwise) here
+inside_leaves code words layout t used counters at variables (Called Success) s (Read to file most otherwise) here =
+    return_leaves code words variables file (Inside counters at variables Granted)
+    (knows_here code words at variables s (Read to file most otherwise) here)
+inside_leaves code words layout t used counters at variables (Called FaultExit) s (Read to file most otherwise) here =
+    return_leaves code words variables file (InCall counters otherwise (slice_set variables to None))
+    (goes_on_put code words counters at otherwise variables s (Read to file most otherwise) FaultExit to Empty None here
+    refl refl here.operands.0 (empty_true words None))
+inside_leaves code words layout t used counters at variables Granted s (Read to file most otherwise) here =
+    granted_leaves code words layout t used counters at variables s (Read to file most otherwise) to (number_word 0)
+    kinds.Num here here.operands.0 refl refl refl
+inside_leaves code words layout t used counters at variables Loaded s (Write file number otherwise) here =
+    row_leaves code words (row_of variables file) _ (λ row is found seen.
+    knows_here code words at variables s (Write file number otherwise) here)
+inside_leaves code words layout t used counters at variables Lent s (Write file number otherwise) here = λ exit.
+    knows_here code words at variables s (Write file number otherwise) here
+inside_leaves code words layout t used counters at variables (Called Success) s (Write file number otherwise) here =
+    return_leaves code words variables file (InCall counters (at + 1) variables)
+    (goes_on code words counters at (at + 1) variables variables s (Write file number otherwise) Success here refl
+    here.known)
+inside_leaves code words layout t used counters at variables (Called FaultExit) s (Write file number otherwise) here =
+    return_leaves code words variables file (InCall counters otherwise variables)
+    (goes_on code words counters at otherwise variables variables s (Write file number otherwise) FaultExit here refl
+    here.known)
+inside_leaves code words layout t used counters at variables stage s i here = tt
 
 -- ---- what a thread does
 
@@ -367,8 +447,8 @@ dispatch_leaves code words layout t used (Inside counters at variables stage) st
     let says = stands.says in
     let here = knows_at code words at variables says.0 stands.accepted stands.instructions says.1 stands.named
     (stands.knows says.1.exits says.0 says.1.arrived) in
-    subst (λ (o : Option Instr). Leaves code words (dispatch_inside counters at variables stage o)) (sym here.1)
-    (inside_leaves code words counters at variables stage says.0 here.0 here.2)
+    subst (λ (o : Option Instr). Leaves code words (dispatch_inside layout t used counters at variables stage o)) (sym here.1)
+    (inside_leaves code words layout t used counters at variables stage says.0 here.0 here.2)
 
 agenda_leaves : (functions : List Function) (words : ℕ → ℕ) (layout : Layout) (t : ℕ) (a : StepActor)
     (agenda : List Duty) → StandsKnowing (code_of (slice_get functions a.function)) words a.place

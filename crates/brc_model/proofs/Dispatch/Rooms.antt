@@ -1,10 +1,11 @@
 -- Where a thread awaits a birth: the host has granted it a resource, and its block has room for the object that it is to
 -- make of it. The thread has nothing else to do meanwhile.
+use Rattle.brc_model.specs.declared.slot.Exit.TheVariants.{Success, Fault as FaultExit}
 use Rattle.std.proofs.Common.{◌≡◌, ℕ, zero, suc, ◌+◌, Bool, true, false, List, [], ◌∷◌, Option, None, Some, refl, sym, ap, ◌∙◌}
 use Rattle.std.specs.Prelude.{◌==◌, nat_lt, slice_get, slice_set}
 use Rattle.brc_lang.specs.declared.module.Function.{Function}
 use Rattle.brc_lang.specs.declared.module.Instr.{Instr}
-use Rattle.brc_lang.specs.declared.module.Instr.TheVariants.{Num, List as ListObject, NoneObject, Newref, Move as MoveReference, Drop, Lock, Unlock, Borrow, Fetch, Set, Put, Goto, Again, Ret, Fail, As}
+use Rattle.brc_lang.specs.declared.module.Instr.TheVariants.{Num, List as ListObject, NoneObject, Newref, Move as MoveReference, Drop, Lock, Unlock, Borrow, Fetch, Set, Put, Goto, Again, Ret, Fail, As, Open, Connect, Read, Write}
 use Rattle.brc_word.specs.Words.{free_word}
 use Rattle.brc_model.specs.declared.slot.Exit.{Exit}
 use Rattle.brc_model.specs.declared.thread.Choice.{Choice}
@@ -15,13 +16,13 @@ use Rattle.brc_model.specs.declared.actor.Place.{Place}
 use Rattle.brc_model.specs.declared.actor.Place.TheVariants.{Idle, InCall, Inside, Exiting}
 use Rattle.brc_model.specs.declared.actor.Counters.{Counters}
 use Rattle.brc_model.specs.declared.actor.Stage.{Stage}
-use Rattle.brc_model.specs.declared.actor.Stage.TheVariants.{InRange, OutOfRange, Found, Retained, Granted}
+use Rattle.brc_model.specs.declared.actor.Stage.TheVariants.{InRange, OutOfRange, Found, Retained, Granted, Loaded, Lent, Called}
 use Rattle.brc_model.specs.declared.duty.Duty.{Duty}
-use Rattle.brc_model.specs.declared.duty.Duty.TheVariants.{KindLoad, LockGate, CellLoad}
+use Rattle.brc_model.specs.declared.duty.Duty.TheVariants.{KindLoad, LockGate, CellLoad, LendSlot}
 use Rattle.brc_model.specs.declared.layout.Layout.{Layout}
 use Rattle.brc_model.specs.Machine.{Actor, is_lending, has_room}
 use Rattle.brc_model.specs.Threads.{code_of, row_of, entry_variables}
-use Rattle.brc_model.specs.Actions.{StepActor, Action, Skip, Stuck, Silent, Calls, Does, with_row, number_word, list_word, birth_action, first_counters, turns_at, turned, again_place, by_range, by_item, dispatch_instruction, dispatch_inside, dispatch, may_claim, agenda_action, status_action, action_of}
+use Rattle.brc_model.specs.Actions.{StepActor, Action, Skip, Stuck, Silent, Calls, Does, with_row, number_word, list_word, birth_action, first_counters, turns_at, turned, again_place, by_range, by_item, dispatch_instruction, dispatch_inside, dispatch, may_claim, agenda_action, status_action, action_of, lend_action, always}
 use Rattle.brc_model.specs.StepMachine.{StepMachine}
 use Rattle.brc_model.proofs.Basics.Lists.{either}
 use Rattle.brc_model.proofs.Dispatch.Decided.{range_decides, item_decides}
@@ -30,6 +31,8 @@ use Rattle.brc_model.proofs.Dispatch.Claims.{claimer}
 -- Says whether a thread so far inside the instruction awaits a birth.
 abbrev pub awaits_inside : Stage → Option Instr → Bool
 awaits_inside Granted i = true
+awaits_inside Lent (Some (Read to file most otherwise)) = true
+awaits_inside (Called exit) (Some (Read to file most otherwise)) = true
 awaits_inside stage i = false
 
 -- Says whether a thread at the place awaits a birth.
@@ -108,82 +111,113 @@ module _ (code : List Instr) (layout : Layout) (t used : ℕ) where
   Follows = FollowsRoom code (has_room layout t used)
 
   instruction_room : (before : Place) (counters : Counters) (at : ℕ) (variables : List (Option ℕ)) (i : Option Instr)
-      → AwaitsNone code before → Follows (dispatch_instruction layout t used before counters at variables i)
-  instruction_room before counters at variables None none = tt
-  instruction_room before counters at variables (Some (Num to value otherwise)) none =
+      → slice_get code at ≡ i → AwaitsNone code before → Follows (dispatch_instruction layout t used before counters at variables i)
+  instruction_room before counters at variables None is none = tt
+  instruction_room before counters at variables (Some (Num to value otherwise)) is none =
       birth_none code (has_room layout t used) layout t used counters at variables to (number_word value) otherwise
-  instruction_room before counters at variables (Some (ListObject to cells otherwise)) none =
+  instruction_room before counters at variables (Some (ListObject to cells otherwise)) is none =
       birth_none code (has_room layout t used) layout t used counters at variables to (list_word cells) otherwise
-  instruction_room before counters at variables (Some (NoneObject to)) none = λ e. absurd cc
-  instruction_room before counters at variables (Some (Newref to from)) none =
+  instruction_room before counters at variables (Some (NoneObject to)) is none = λ e. absurd cc
+  instruction_room before counters at variables (Some (Newref to from)) is none =
       row_room code (has_room layout t used) (row_of variables from) _ (λ row found e. absurd cc)
-  instruction_room before counters at variables (Some (MoveReference to from)) none =
+  instruction_room before counters at variables (Some (MoveReference to from)) is none =
       row_room code (has_room layout t used) (row_of variables from) _ (λ row e. absurd cc)
-  instruction_room before counters at variables (Some (Drop from)) none =
+  instruction_room before counters at variables (Some (Drop from)) is none =
       row_room code (has_room layout t used) (row_of variables from) _ (λ row found e. absurd cc)
-  instruction_room before counters at variables (Some (Lock object)) none =
+  instruction_room before counters at variables (Some (Lock object)) is none =
       row_room code (has_room layout t used) (row_of variables object) _ (λ row.
       does_none code (has_room layout t used) (LockGate row) [] _ (λ found.
       either (AwaitsNone code) (found == free_word) (InCall counters (at + 1) variables) before (λ free. refl) none))
-  instruction_room before counters at variables (Some (Unlock object)) none =
+  instruction_room before counters at variables (Some (Unlock object)) is none =
       row_room code (has_room layout t used) (row_of variables object) _ (λ row found e. absurd cc)
-  instruction_room before counters at variables (Some (Borrow to list index otherwise)) none =
+  instruction_room before counters at variables (Some (Borrow to list index otherwise)) is none =
       range_room code (has_room layout t used) (row_of variables list) index (Inside counters at variables InRange)
       (InCall counters otherwise (slice_set variables to None)) refl refl
-  instruction_room before counters at variables (Some (Fetch to list index otherwise)) none =
+  instruction_room before counters at variables (Some (Fetch to list index otherwise)) is none =
       range_room code (has_room layout t used) (row_of variables list) index (Inside counters at variables InRange)
       (InCall counters otherwise (slice_set variables to None)) refl refl
-  instruction_room before counters at variables (Some (Set list index from otherwise)) none =
+  instruction_room before counters at variables (Some (Set list index from otherwise)) is none =
       range_room code (has_room layout t used) (row_of variables list) index (Inside counters at variables InRange)
       (Inside counters at variables OutOfRange) refl refl
-  instruction_room before counters at variables (Some (Put list index from otherwise)) none =
+  instruction_room before counters at variables (Some (Put list index from otherwise)) is none =
       range_room code (has_room layout t used) (row_of variables list) index (Inside counters at variables InRange)
       (InCall counters otherwise variables) refl refl
-  instruction_room before counters at variables (Some (As from kind otherwise)) none =
+  instruction_room before counters at variables (Some (Open to path mode otherwise)) is none =
+      either Follows (has_room layout t used) _ _ (λ room exit awaits. room) (λ e. absurd cc)
+  instruction_room before counters at variables (Some (Connect to peer otherwise)) is none =
+      either Follows (has_room layout t used) _ _ (λ room exit awaits. room) (λ e. absurd cc)
+  instruction_room before counters at variables (Some (Read to file most otherwise)) is none =
+      either Follows (has_room layout t used) (lend_action counters at variables file)
+      (Silent [] (InCall counters otherwise (slice_set variables to None)))
+      (λ room.
+      row_room code (has_room layout t used) (row_of variables file) _ (λ row found awaits. (refl, refl, room)))
+      (λ e. absurd cc)
+  instruction_room before counters at variables (Some (Write file number otherwise)) is none =
+      row_room code (has_room layout t used) (row_of variables number) _ (λ row found e. absurd cc)
+  instruction_room before counters at variables (Some (As from kind otherwise)) is none =
       row_room code (has_room layout t used) (row_of variables from) _ (λ row found e. absurd cc)
-  instruction_room before counters at variables (Some (Goto to)) none = λ e. absurd cc
-  instruction_room before counters at variables (Some (Again to times)) none =
+  instruction_room before counters at variables (Some (Goto to)) is none = λ e. absurd cc
+  instruction_room before counters at variables (Some (Again to times)) is none =
       silent_none code (has_room layout t used) (again_place counters at variables to times)
       (either (AwaitsNone code) (nat_lt (turns_at counters at) times) (InCall (turned counters at) to variables)
       (InCall counters (at + 1) variables) (λ more. refl) refl)
-  instruction_room before counters at variables (Some (Ret from)) none =
+  instruction_room before counters at variables (Some (Ret from)) is none =
       row_room code (has_room layout t used) (row_of variables from) _ (λ row found e. absurd cc)
-  instruction_room before counters at variables (Some Fail) none = λ e. absurd cc
+  instruction_room before counters at variables (Some Fail) is none = λ e. absurd cc
 
   inside_room : (counters : Counters) (at : ℕ) (variables : List (Option ℕ)) (stage : Stage) (i : Option Instr)
-      → (awaits_inside stage i ≡ true → has_room layout t used ≡ true)
-      → Follows (dispatch_inside counters at variables stage i)
-  inside_room counters at variables InRange (Some (Borrow to list index otherwise)) has =
+      → slice_get code at ≡ i → (awaits_inside stage i ≡ true → has_room layout t used ≡ true)
+      → Follows (dispatch_inside layout t used counters at variables stage i)
+  inside_room counters at variables InRange (Some (Borrow to list index otherwise)) is has =
       cell_room code (has_room layout t used) (row_of variables list) index
       (InCall counters otherwise (slice_set variables to None))
       (λ item. InCall counters (at + 1) (slice_set variables to (Some item))) refl (λ item. refl)
-  inside_room counters at variables InRange (Some (Fetch to list index otherwise)) has =
+  inside_room counters at variables InRange (Some (Fetch to list index otherwise)) is has =
       cell_room code (has_room layout t used) (row_of variables list) index
       (InCall counters otherwise (slice_set variables to None))
       (λ item. Inside counters at variables (Found item)) refl (λ item. refl)
-  inside_room counters at variables (Found item) (Some (Fetch to list index otherwise)) has = λ found e. absurd cc
-  inside_room counters at variables InRange (Some (Set list index from otherwise)) has =
+  inside_room counters at variables (Found item) (Some (Fetch to list index otherwise)) is has = λ found e. absurd cc
+  inside_room counters at variables InRange (Some (Set list index from otherwise)) is has =
       row_room code (has_room layout t used) (row_of variables list) _ (λ row.
       row_room code (has_room layout t used) (row_of variables from) _ (λ item found e. absurd cc))
-  inside_room counters at variables OutOfRange (Some (Set list index from otherwise)) has =
+  inside_room counters at variables OutOfRange (Some (Set list index from otherwise)) is has =
       row_room code (has_room layout t used) (row_of variables from) _ (λ item found e. absurd cc)
-  inside_room counters at variables InRange (Some (Put list index from otherwise)) has =
+  inside_room counters at variables InRange (Some (Put list index from otherwise)) is has =
       row_room code (has_room layout t used) (row_of variables from) _ (λ item found e. absurd cc)
-  inside_room counters at variables Retained (Some (Put list index from otherwise)) has =
+  inside_room counters at variables Retained (Some (Put list index from otherwise)) is has =
       row_room code (has_room layout t used) (row_of variables list) _ (λ row.
       row_room code (has_room layout t used) (row_of variables from) _ (λ item found e. absurd cc))
-  inside_room counters at variables stage i has = tt
+  inside_room counters at variables Granted (Some (Open to path mode otherwise)) is has = λ found e. absurd cc
+  inside_room counters at variables Granted (Some (Connect to peer otherwise)) is has = λ found e. absurd cc
+  inside_room counters at variables Lent (Some (Read to file most otherwise)) is has = λ exit awaits. has refl
+  inside_room counters at variables (Called Success) (Some (Read to file most otherwise)) is has =
+      row_room code (has_room layout t used) (row_of variables file) _ (λ row found awaits. (refl, refl, has refl))
+  inside_room counters at variables (Called FaultExit) (Some (Read to file most otherwise)) is has =
+      row_room code (has_room layout t used) (row_of variables file) _ (λ row found e. absurd cc)
+  inside_room counters at variables Granted (Some (Read to file most otherwise)) is has = λ found e. absurd cc
+  inside_room counters at variables Loaded (Some (Write file number otherwise)) is has =
+      row_room code (has_room layout t used) (row_of variables file) _ (λ row.
+      does_none code (has_room layout t used) (LendSlot row) [] (always (Inside counters at variables Lent))
+      (λ found. ap (awaits_inside Lent) is))
+  inside_room counters at variables Lent (Some (Write file number otherwise)) is has = λ exit.
+      silent_none code (has_room layout t used) (Inside counters at variables (Called exit))
+      (ap (awaits_inside (Called exit)) is)
+  inside_room counters at variables (Called Success) (Some (Write file number otherwise)) is has =
+      row_room code (has_room layout t used) (row_of variables file) _ (λ row found e. absurd cc)
+  inside_room counters at variables (Called FaultExit) (Some (Write file number otherwise)) is has =
+      row_room code (has_room layout t used) (row_of variables file) _ (λ row found e. absurd cc)
+  inside_room counters at variables stage i is has = tt
 
   dispatch_room : (place : Place) → (awaits_birth code place ≡ true → has_room layout t used ≡ true)
       → Follows (dispatch layout t used code place)
   dispatch_room Exiting has = tt
   dispatch_room (Idle zero) has = λ found e. absurd cc
   dispatch_room (Idle (suc left)) has =
-      instruction_room (Idle (suc left)) (first_counters left) 0 entry_variables (slice_get code 0) refl
+      instruction_room (Idle (suc left)) (first_counters left) 0 entry_variables (slice_get code 0) refl refl
   dispatch_room (InCall counters at variables) has =
-      instruction_room (InCall counters at variables) counters at variables (slice_get code at) refl
+      instruction_room (InCall counters at variables) counters at variables (slice_get code at) refl refl
   dispatch_room (Inside counters at variables stage) has =
-      inside_room counters at variables stage (slice_get code at) has
+      inside_room counters at variables stage (slice_get code at) refl has
 
 module _ (functions : List Function) (layout : Layout) (t : ℕ) (a : StepActor)
     (has : awaits_birth (code_of (slice_get functions a.function)) a.place ≡ true → HasRoom layout t a.actor) where

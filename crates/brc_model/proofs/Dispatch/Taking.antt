@@ -4,7 +4,7 @@ use Rattle.std.specs.Prelude.{◌==◌, ◌&&◌, slice_get, slice_set}
 use Rattle.std.specs.List.{list_any}
 use Rattle.std.proofs.lemmas.List.{length-set}
 use Rattle.brc_lang.specs.declared.module.Instr.{Instr}
-use Rattle.brc_lang.specs.declared.module.Instr.TheVariants.{Num, List as ListObject, NoneObject, Newref, Move as MoveReference, Drop, Lock, Unlock, Borrow, Fetch, Set, Put, Goto, Again, Ret, Fail, As}
+use Rattle.brc_lang.specs.declared.module.Instr.TheVariants.{Num, List as ListObject, NoneObject, Newref, Move as MoveReference, Drop, Lock, Unlock, Borrow, Fetch, Set, Put, Goto, Again, Ret, Fail, As, Open, Connect, Read, Write}
 use Rattle.brc_lang.specs.declared.kind.Kind.{Kind}
 use Rattle.brc_model.specs.declared.slot.Slot.TheVariants.{Empty, Owned}
 use Rattle.brc_model.specs.declared.slot.State.{State}
@@ -34,6 +34,7 @@ use Rattle.brc_model.specs.Items.{HaveItems, KnowsItems, StageKnows}
 use Rattle.brc_model.proofs.Dispatch.TakingBirths.{num_taken, list_taken}
 use Rattle.brc_model.proofs.Dispatch.TakingLocks.{lock_taken, unlock_taken}
 use Rattle.brc_model.proofs.Dispatch.TakingItems.{borrow_taken, fetch_taken, set_taken, put_taken}
+use Rattle.brc_model.proofs.Dispatch.TakingHost.{open_taken, connect_taken, read_taken, write_taken}
 use Rattle.brc_model.proofs.Dispatch.TakingStores.{inside_taken}
 use Rattle.brc_model.proofs.Dispatch.Items.{entry_items}
 use Rattle.brc_model.proofs.Dispatch.Passing.{passes_on}
@@ -264,6 +265,14 @@ instruction_taken code g before counters at variables s (Set list index from oth
     set_taken code g before counters at variables s list index from otherwise here
 instruction_taken code g before counters at variables s (Put list index from otherwise) here =
     put_taken code g before counters at variables s list index from otherwise here
+instruction_taken code g before counters at variables s (Open to path mode otherwise) here =
+    open_taken code g counters at variables s before to path mode otherwise here
+instruction_taken code g before counters at variables s (Connect to peer otherwise) here =
+    connect_taken code g counters at variables s before to peer otherwise here
+instruction_taken code g before counters at variables s (Read to file most otherwise) here =
+    read_taken code g counters at variables s before to file most otherwise here
+instruction_taken code g before counters at variables s (Write file number otherwise) here =
+    write_taken code g counters at variables s before file number otherwise here
 instruction_taken code g before counters at variables s (As from kind otherwise) here =
     as_taken code g before counters at variables s from kind otherwise here
 instruction_taken code g before counters at variables s (Ret from) here =
@@ -329,7 +338,7 @@ inside_call_taken : (code : List Instr) (g : Scene) (counters : Counters) (at : 
     (stage : Stage) → IsAcceptableCode code → AreInstructions code
     → PlaceFits code g.bag g.thread [] g.locked (Inside counters at variables stage)
     → SeesKinds code g (Inside counters at variables stage)
-    → IsTaken code g (dispatch_inside counters at variables stage (slice_get code at))
+    → IsTaken code g (dispatch_inside g.layout g.thread g.used counters at variables stage (slice_get code at))
 inside_call_taken code g counters at variables stage accepted instructions fits sees =
     let s = fits.0 in
     let inside = fits.1 in
@@ -353,7 +362,7 @@ inside_call_taken code g counters at variables stage accepted instructions fits 
       met = on.met;
       leads = on.leads;
     } in
-    subst (λ (o : Option Instr). IsTaken code g (dispatch_inside counters at variables stage o)) (sym on.found)
+    subst (λ (o : Option Instr). IsTaken code g (dispatch_inside g.layout g.thread g.used counters at variables stage o)) (sym on.found)
     (inside_taken code g counters at variables s on.here stage here)
 
 -- The exit gives up the reference that the thread holds as the caller.

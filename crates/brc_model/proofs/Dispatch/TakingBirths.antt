@@ -37,7 +37,7 @@ use Rattle.brc_model.proofs.Dispatch.Begins.{Scene, StandsAt, Bears, Nothing, Ta
 use Rattle.brc_model.proofs.Dispatch.Standing.{keeps_all}
 
 -- A number has no cells.
-number_cells : (value : ℕ) → value < half → cells_of (number_word value) ≤ cell_limit
+pub number_cells : (value : ℕ) → value < half → cells_of (number_word value) ≤ cell_limit
 number_cells value low =
     let kind : (kind_part (number_word value) == 3) ≡ false =
     ne_eqb (kind_part (number_word value)) 3 (λ e. absurd (omega (arith, low, e))) in
@@ -46,7 +46,7 @@ number_cells value low =
     omega (arith, none)
 
 -- A number is an object of a counted kind.
-number_counts : (value : ℕ) → value < half → is_counted_kind (kind_of_word (number_word value)) ≡ true
+pub number_counts : (value : ℕ) → value < half → is_counted_kind (kind_of_word (number_word value)) ≡ true
 number_counts value low =
     let number : kind_part (number_word value) ≡ 2 = omega (arith, low) in
     ap (λ (k : ℕ). is_counted_kind (kind_numbered k)) number
@@ -69,7 +69,7 @@ list_counts cells few =
 
 -- A thread at an instruction that makes an object of the kind word in a variable that owns nothing: on success the
 -- variable owns an object of the kind, and where the thread has no row left the variable is empty.
-record BearsAt (code : List Instr) (g : Scene) (at : ℕ) (variables : List (Option ℕ)) (s : State)
+pub record BearsAt (code : List Instr) (g : Scene) (at : ℕ) (variables : List (Option ℕ)) (s : State)
     (to word otherwise : ℕ)
     (kind : Kind) : Type 0 where
   pub inside : IsInside code at variables s
@@ -85,7 +85,7 @@ record BearsAt (code : List Instr) (g : Scene) (at : ℕ) (variables : List (Opt
   pub owned_next : path_end code (inside.exits ++ Success ∷ []) ≡ At (at + 1) (put s to (Owned kind))
   pub empty_next : path_end code (inside.exits ++ Fault ∷ []) ≡ At otherwise (put s to Empty)
 
-born : (code : List Instr) (g : Scene) (counters : Counters) (at : ℕ) (variables : List (Option ℕ))
+pub born : (code : List Instr) (g : Scene) (counters : Counters) (at : ℕ) (variables : List (Option ℕ))
     (s : State) (to word otherwise : ℕ) (kind : Kind)
     → BearsAt code g at variables s to word otherwise kind → has_room g.layout g.thread g.used ≡ true
     → (found : ℕ)
@@ -120,33 +120,43 @@ born code g counters at variables s to word otherwise kind here room found =
       keeps = here.keeps;
     }
 
--- If the thread has no room for a row, it empties the variable and goes on at the fault exit.
-not_born : (code : List Instr) (g : Scene) (counters : Counters) (at : ℕ) (variables : List (Option ℕ)) (s : State)
-    (to word otherwise : ℕ) (kind : Kind)
-    → BearsAt code g at variables s to word otherwise kind
+-- A thread whose instruction makes no object empties the variable and goes on at the fault exit.
+pub refused : (code : List Instr) (g : Scene) (counters : Counters) (at : ℕ) (variables : List (Option ℕ)) (s : State)
+    (to otherwise : ℕ) → (inside : IsInside code at variables s) → Holds g.bag g.thread (of_variables s variables)
+    → LocksAgree s variables g.locked → names s.locked to ≡ false → to < variable_count
+    → is_owned (slot_of s to) ≡ false → path_end code (inside.exits ++ Fault ∷ []) ≡ At otherwise (put s to Empty)
     → SilentTaken code g [] (InCall counters otherwise (slice_set variables to None))
-not_born code g counters at variables s to word otherwise kind here =
-    let in_slots : to < length s.slots = omega (arith, here.variable, here.inside.slots) in
-    let in_rows : to < length variables = omega (arith, here.variable, here.inside.rows) in
+refused code g counters at variables s to otherwise inside holds guards unlocked low free arrived =
+    let in_slots : to < length s.slots = omega (arith, low, inside.slots) in
+    let in_rows : to < length variables = omega (arith, low, inside.rows) in
     let next : IsInside code otherwise (slice_set variables to None) (put s to Empty) = record {
-      exits = here.inside.exits ++ Fault ∷ [];
-      arrived = here.empty_next;
-      slots = length-set s.slots to Empty ∙ here.inside.slots;
-      rows = length-set variables to None ∙ here.inside.rows;
-      grounded = grounded-put s variables to Empty None in_slots in_rows tt here.inside.grounded;
+      exits = inside.exits ++ Fault ∷ [];
+      arrived = arrived;
+      slots = length-set s.slots to Empty ∙ inside.slots;
+      rows = length-set variables to None ∙ inside.rows;
+      grounded = grounded-put s variables to Empty None in_slots in_rows tt inside.grounded;
     } in
-    let holds : Holds g.bag g.thread (of_variables (put s to Empty) (slice_set variables to None)) =
-    record { each = cleared_held g.bag g.thread s variables to in_slots here.free here.holds } in
+    let cleared : Holds g.bag g.thread (of_variables (put s to Empty) (slice_set variables to None)) =
+    record { each = cleared_held g.bag g.thread s variables to in_slots free holds } in
     record {
       moves_fit = Stays;
       placed = (
         put s to Empty,
         next,
-        guards-put s variables to Empty None s.locked g.locked here.unlocked here.guards,
-        holds_at_none g.bag g.thread _ holds,
+        guards-put s variables to Empty None s.locked g.locked unlocked guards,
+        holds_at_none g.bag g.thread _ cleared,
       );
       stays = in_call_stays counters otherwise (slice_set variables to None);
     }
+
+-- If the thread has no room for a row, its instruction makes no object.
+not_born : (code : List Instr) (g : Scene) (counters : Counters) (at : ℕ) (variables : List (Option ℕ)) (s : State)
+    (to word otherwise : ℕ) (kind : Kind)
+    → BearsAt code g at variables s to word otherwise kind
+    → SilentTaken code g [] (InCall counters otherwise (slice_set variables to None))
+not_born code g counters at variables s to word otherwise kind here =
+    refused code g counters at variables s to otherwise here.inside here.holds here.guards here.unlocked here.variable
+    here.free here.empty_next
 
 birth_taken : (code : List Instr) (g : Scene) (counters : Counters) (at : ℕ)
     (variables : List (Option ℕ))

@@ -3,7 +3,7 @@ use Rattle.std.proofs.Common.{◌≡◌, ℕ, ◌+◌, ◌<◌, true, false, Lis
 use Rattle.std.specs.Prelude.{◌==◌, ◌&&◌, slice_set}
 use Rattle.std.proofs.lemmas.Bool.{eq-eqb, not-false}
 use Rattle.brc_lang.specs.declared.module.Instr.{Instr}
-use Rattle.brc_lang.specs.declared.module.Instr.TheVariants.{Borrow, Fetch, Set, Put}
+use Rattle.brc_lang.specs.declared.module.Instr.TheVariants.{Borrow, Fetch, Set, Put, Open, Connect, Read, Write}
 use Rattle.brc_model.specs.declared.slot.Slot.TheVariants.{Empty}
 use Rattle.brc_model.specs.declared.slot.State.{State}
 use Rattle.brc_model.specs.declared.slot.Exit.TheVariants.{Success, Fault}
@@ -13,7 +13,7 @@ use Rattle.brc_model.specs.declared.duty.Duty.TheVariants.{RetainLoad, ReleaseLo
 use Rattle.brc_model.specs.declared.actor.Counters.{Counters}
 use Rattle.brc_model.specs.declared.actor.Place.TheVariants.{InCall, Inside}
 use Rattle.brc_model.specs.declared.actor.Stage.{Stage}
-use Rattle.brc_model.specs.declared.actor.Stage.TheVariants.{InRange, OutOfRange, Found, Retained}
+use Rattle.brc_model.specs.declared.actor.Stage.TheVariants.{InRange, OutOfRange, Found, Retained, Loaded, Lent, Called, Granted}
 use Rattle.brc_model.specs.Slots.{slot_of, is_empty, is_owned, names, put, without_items}
 use Rattle.brc_model.specs.Threads.{row_of}
 use Rattle.brc_model.specs.AbstractState.{same_holding, references_to}
@@ -29,6 +29,7 @@ use Rattle.brc_model.proofs.Dispatch.Coded.{in_flight}
 use Rattle.brc_model.proofs.Dispatch.Begins.{Scene, StandsInside, Gives, Takes, Swaps, Nothing, Settles, Taken, IsTaken, taken_with_row, in_call_stays, inside_stays, emptied_held}
 use Rattle.brc_model.proofs.Dispatch.Standing.{given_referenced}
 use Rattle.brc_model.proofs.Dispatch.TakingItems.{inside_fits}
+use Rattle.brc_model.proofs.Dispatch.TakingHost.{open_granted, connect_granted, read_lent, read_returned, read_failed, read_granted, write_loaded, write_lent, write_returned, write_failed}
 use Rattle.brc_model.proofs.Dispatch.TakingInside.{holds_still, named_inside, lock_inside, all_kept, flight_kept, uses_locked, next_without, next_given, borrow_inside, fetch_inside, found_inside}
 
 module _ (code : List Instr) (g : Scene) (counters : Counters) (at : ℕ) (rows : List (Option ℕ)) (s : State) where
@@ -71,7 +72,7 @@ module _ (code : List Instr) (g : Scene) (counters : Counters) (at : ℕ) (rows 
 
   set_inside : (list index from otherwise : ℕ)
       → StandsInside code g at rows s InRange (Set list index from otherwise)
-      → IsTaken code g (dispatch_inside counters at rows InRange (Some (Set list index from otherwise)))
+      → IsTaken code g (dispatch_inside g.layout g.thread g.used counters at rows InRange (Some (Set list index from otherwise)))
   set_inside list index from otherwise here =
       let i = Set list index from otherwise in
       let free : names s.locked from ≡ false = first_false _ _ here.met.unlocked in
@@ -112,7 +113,7 @@ module _ (code : List Instr) (g : Scene) (counters : Counters) (at : ℕ) (rows 
   -- The list has no such cell: the reference is given up all the same.
   refused_inside : (list index from otherwise : ℕ)
       → StandsInside code g at rows s OutOfRange (Set list index from otherwise)
-      → IsTaken code g (dispatch_inside counters at rows OutOfRange (Some (Set list index from otherwise)))
+      → IsTaken code g (dispatch_inside g.layout g.thread g.used counters at rows OutOfRange (Some (Set list index from otherwise)))
   refused_inside list index from otherwise here =
       let i = Set list index from otherwise in
       let free : names s.locked from ≡ false = first_false _ _ here.met.unlocked in
@@ -150,7 +151,7 @@ module _ (code : List Instr) (g : Scene) (counters : Counters) (at : ℕ) (rows 
 
   put_inside : (list index from otherwise : ℕ)
       → StandsInside code g at rows s InRange (Put list index from otherwise)
-      → IsTaken code g (dispatch_inside counters at rows InRange (Some (Put list index from otherwise)))
+      → IsTaken code g (dispatch_inside g.layout g.thread g.used counters at rows InRange (Some (Put list index from otherwise)))
   put_inside list index from otherwise here =
       let i = Put list index from otherwise in
       let named = named_inside code g counters at rows s InRange i from here (first_false _ _ here.met.not_empty) in
@@ -181,7 +182,7 @@ module _ (code : List Instr) (g : Scene) (counters : Counters) (at : ℕ) (rows 
 
   retained_inside : (list index from otherwise : ℕ)
       → StandsInside code g at rows s Retained (Put list index from otherwise)
-      → IsTaken code g (dispatch_inside counters at rows Retained (Some (Put list index from otherwise)))
+      → IsTaken code g (dispatch_inside g.layout g.thread g.used counters at rows Retained (Some (Put list index from otherwise)))
   retained_inside list index from otherwise here =
       let i = Put list index from otherwise in
       let source = named_inside code g counters at rows s Retained i from here (first_false _ _ here.met.not_empty) in
@@ -221,7 +222,7 @@ module _ (code : List Instr) (g : Scene) (counters : Counters) (at : ℕ) (rows 
   -- ---- any stage of any instruction
 
   pub inside_taken : (i : Instr) (stage : Stage) → StandsInside code g at rows s stage i
-      → IsTaken code g (dispatch_inside counters at rows stage (Some i))
+      → IsTaken code g (dispatch_inside g.layout g.thread g.used counters at rows stage (Some i))
   inside_taken (Borrow to list index otherwise) InRange here =
       borrow_inside code g counters at rows s to list index otherwise here
   inside_taken (Fetch to list index otherwise) InRange here =
@@ -232,4 +233,23 @@ module _ (code : List Instr) (g : Scene) (counters : Counters) (at : ℕ) (rows 
   inside_taken (Set list index from otherwise) OutOfRange here = refused_inside list index from otherwise here
   inside_taken (Put list index from otherwise) InRange here = put_inside list index from otherwise here
   inside_taken (Put list index from otherwise) Retained here = retained_inside list index from otherwise here
+  inside_taken (Open to path mode otherwise) Granted here =
+      open_granted code g counters at rows s to path mode otherwise here
+  inside_taken (Connect to peer otherwise) Granted here =
+      connect_granted code g counters at rows s to peer otherwise here
+  inside_taken (Read to file most otherwise) Lent here = read_lent code g counters at rows s to file most otherwise here
+  inside_taken (Read to file most otherwise) (Called Success) here =
+      read_returned code g counters at rows s to file most otherwise here
+  inside_taken (Read to file most otherwise) (Called Fault) here =
+      read_failed code g counters at rows s to file most otherwise here
+  inside_taken (Read to file most otherwise) Granted here =
+      read_granted code g counters at rows s to file most otherwise here
+  inside_taken (Write file number otherwise) Loaded here =
+      write_loaded code g counters at rows s file number otherwise here
+  inside_taken (Write file number otherwise) Lent here =
+      write_lent code g counters at rows s file number otherwise here
+  inside_taken (Write file number otherwise) (Called Success) here =
+      write_returned code g counters at rows s file number otherwise here
+  inside_taken (Write file number otherwise) (Called Fault) here =
+      write_failed code g counters at rows s file number otherwise here
   inside_taken i stage here = absurd cc

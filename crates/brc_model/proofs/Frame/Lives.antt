@@ -19,7 +19,7 @@ use Rattle.brc_model.proofs.Basics.Continuation.{MayDie, Origin, Continuation, G
 use Rattle.brc_model.proofs.Frame.Alive.{Alive}
 use Rattle.brc_model.proofs.Basics.Blocks.{next_unborn}
 use Rattle.brc_model.proofs.Frame.Cells.{stays_empty}
-use Rattle.brc_model.proofs.Frame.Items.{lists_left}
+use Rattle.brc_model.proofs.Frame.Items.{word_stays, lists_left}
 use Rattle.brc_model.proofs.Frame.Kinds.{kind_stays}
 use Rattle.brc_model.proofs.Frame.Births.{births_left}
 use Rattle.brc_model.proofs.Frame.Others.{LeavesOthers}
@@ -169,5 +169,6 @@ leaves_others p n m t a d rest here = record {
   lives = λ u x ne. lives_left p n m t a d rest here u x ne;
   born = λ x was. born_left m.life t d (next_of m t a d) x was;
   stored = λ x some. kind_stays p n m t a d rest x here some;
+  words_born = λ x born. word_stays p n m t a d rest x here born;
   births = λ u x b ne found next. births_left p n m t u a b d rest x here ne found next;
 }

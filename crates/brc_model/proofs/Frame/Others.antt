@@ -49,6 +49,8 @@ pub record LeavesOthers (m new : Machine) (t : ℕ) : Type 0 where
   pub born : (x : ℕ) → m.life x ≢ Unborn → new.life x ≢ Unborn
   -- A kind word that is stored stays.
   pub stored : (x : ℕ) → m.memory (KindOf x) ≢ 0 → new.memory (KindOf x) ≡ m.memory (KindOf x)
+  -- So does that of a born row.
+  pub words_born : (x : ℕ) → m.life x ≢ Unborn → new.memory (KindOf x) ≡ m.memory (KindOf x)
   -- What another thread's birth has stored stays.
   pub births : (u x : ℕ) (b : Actor) → u ≢ t → slice_get m.actors u ≡ Some b → IsNext m u b x
       → (new.memory (KindOf x) ≡ m.memory (KindOf x)) × (new.memory (Slot x) ≡ m.memory (Slot x))
@@ -117,6 +119,12 @@ cells_kept m new t x i leaves some =
     let stored : m.memory (KindOf x) ≢ 0 = λ none. absurd (omega (arith, some, ap cells_of none)) in
     subst (λ (w : ℕ). i < cells_of w) (sym (leaves.stored x stored)) some
 
+-- A dying row has as many resources as before.
+resources_kept : (m new : Machine) (t u x : ℕ) → LeavesOthers m new t → m.life x ≡ Dying u
+    → resources_of (new.memory (KindOf x)) ≡ resources_of (m.memory (KindOf x))
+resources_kept m new t u x leaves dies =
+    ap resources_of (leaves.words_born x (λ unborn. let wrong : Dying u ≡ Unborn = sym dies ∙ unborn in cc))
+
 -- A duty behind the first knows what it knew.
 behind_fits_kept : (m new : Machine) (t u : ℕ) (d : Duty) → LeavesOthers m new t → u ≢ t → BehindFits m u d
     → BehindFits new u d
@@ -126,12 +134,14 @@ behind_fits_kept m new t u (SettleCell x i n) leaves ne fits = (
   fits.2,
   dying_word_kept m new t u x leaves ne fits.1 fits.3,
   λ j out. empty_kept m new t u x leaves ne fits.1 j (fits.4 j out),
+  resources_kept m new t u x leaves fits.1 ∙ fits.5,
 )
 behind_fits_kept m new t u (SettleEnd x) leaves ne fits = (
   counted_kept m new t x leaves fits.0,
   life_kept m new t u x leaves ne fits.1,
   dying_word_kept m new t u x leaves ne fits.1 fits.2,
   λ j. empty_kept m new t u x leaves ne fits.1 j (fits.3 j),
+  resources_kept m new t u x leaves fits.1 ∙ fits.4,
 )
 behind_fits_kept m new t u _ leaves ne fits = tt
 
@@ -155,6 +165,7 @@ head_kept m new t u b (TakeSlot x) rest leaves ne found fits = (
   life_kept m new t u x leaves ne fits.1,
   dying_word_kept m new t u x leaves ne fits.1 fits.2,
   λ j. empty_kept m new t u x leaves ne fits.1 j (fits.3 j),
+  resources_kept m new t u x leaves fits.1 ∙ fits.4,
 )
 head_kept m new t u b (CloseResource x) rest leaves ne found fits = (
   counted_kept m new t x leaves fits.0,
@@ -162,8 +173,12 @@ head_kept m new t u b (CloseResource x) rest leaves ne found fits = (
   dying_word_kept m new t u x leaves ne fits.1 fits.2,
   λ j. empty_kept m new t u x leaves ne fits.1 j (fits.3 j),
 )
-head_kept m new t u b (SettleEnd x) rest leaves ne found fits =
-    behind_fits_kept m new t u (SettleEnd x) leaves ne fits
+head_kept m new t u b (SettleEnd x) rest leaves ne found fits = (
+  counted_kept m new t x leaves fits.0,
+  life_kept m new t u x leaves ne fits.1,
+  dying_word_kept m new t u x leaves ne fits.1 fits.2,
+  λ j. empty_kept m new t u x leaves ne fits.1 j (fits.3 j),
+)
 head_kept m new t u b (Leave x k) rest leaves ne found fits = fits
 head_kept m new t u b (Scan x k) rest leaves ne found fits = fits
 head_kept m new t u b Finish rest leaves ne found fits = fits

@@ -85,6 +85,7 @@ leaves m t x = record {
   lives = λ u y ne. refl;
   born = λ y was. was;
   stored = λ y some. refl;
+  words_born = λ y born. refl;
   births = λ u y c ne found next. (refl, refl);
 }
 

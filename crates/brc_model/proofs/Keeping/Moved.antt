@@ -45,6 +45,7 @@ moves_leave m t moves own = record {
   lives = λ u y ne. refl;
   born = λ y was. was;
   stored = λ y some. refl;
+  words_born = λ y born. refl;
   births = λ u y c ne found next. (refl, refl);
 }
 

@@ -22,10 +22,10 @@ use Rattle.brc_model.proofs.Frame.Others.{LeavesOthers, each_fits}
 use Rattle.brc_model.proofs.Frame.Locks.{gate_fits_kept}
 use Rattle.brc_model.specs.Slots.{names}
 use Rattle.brc_model.specs.References.{one_if}
-use Rattle.brc_model.specs.Resources.{lends, taking, closing, emptying, ending, resources_at, ResourcesFit}
+use Rattle.brc_model.specs.Resources.{lends, closing, ending, resources_at, ResourcesFit}
 use Rattle.brc_model.proofs.Objects.Finalisers.{Finalises}
 use Rattle.brc_model.proofs.Objects.Lenders.{lenders-set}
-use Rattle.brc_model.proofs.Objects.SettlingWeights.{finalises, of_taking, of_closing, of_emptying, of_ending}
+use Rattle.brc_model.proofs.Objects.SettlingWeights.{finalises, of_closing, of_ending}
 use Rattle.brc_model.specs.Layout.{block_of, index_of}
 
 pub with_account_same : (p : Accounts) (t : ℕ) (account : Account) → account ≡ with_account p t account t
@@ -92,7 +92,7 @@ same_numbers m t a b account x found new =
       deciding = d i;
     }
 
--- The resources of a thread that settles and lends what it did are where they were.
+-- If a thread lends and finalises what it did, all resources are where they were.
 pub same_resources : (m : Machine) (t : ℕ) (a b : Actor) (x : ℕ) → slice_get m.actors t ≡ Some a → b.lent ≡ a.lent
     → ((f : Duty → ℕ) → Finalises x f → agenda_weight f b ≡ agenda_weight f a)
     → resources_at m x ≡ resources_at (with_actor m t b) x
@@ -103,19 +103,14 @@ same_resources m t a b x found lent same =
     omega (arith, lenders-set x m.actors t a b found, one) in
     let c =
     sym (same_weight (closing x) m.actors t a b found (same (closing x) (finalises x (closing x) (of_closing x)))) in
-    let g = sym (same_weight (taking x) m.actors t a b found (same (taking x) (finalises x (taking x) (of_taking x)))) in
-    let e =
-    sym (same_weight (emptying x) m.actors t a b found (same (emptying x) (finalises x (emptying x) (of_emptying x))))
-    in
-    let d = sym (same_weight (ending x) m.actors t a b found (same (ending x) (finalises x (ending x) (of_ending x)))) in
+    let d =
+    sym (same_weight (ending x) m.actors t a b found (same (ending x) (finalises x (ending x) (of_ending x)))) in
     λ i. record {
       all = old.all;
       slot = old.slot;
       lent = l i;
       closing = c i;
       closed = old.closed;
-      taking = g i;
-      emptying = e i;
       ending = d i;
     }
 
@@ -153,6 +148,7 @@ nothing_changes m t b = record {
   lives = λ u x ne. refl;
   born = λ x was. was;
   stored = λ x some. refl;
+  words_born = λ x born. refl;
   births = λ u x c ne found next. (refl, refl);
 }
 

@@ -152,6 +152,7 @@ leaves m t a moves silent = record {
   lives = λ u x ne. refl;
   born = λ x was. was;
   stored = λ x some. refl;
+  words_born = λ x born. refl;
   births = λ u x c ne found next. (refl, refl);
 }
 

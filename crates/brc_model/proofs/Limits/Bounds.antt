@@ -19,7 +19,8 @@ use Rattle.brc_model.specs.References.{reference_of}
 use Rattle.brc_model.proofs.Basics.Bag.{held-le-references_to}
 use Rattle.brc_model.proofs.Objects.RowSteps.{shared_range}
 use Rattle.brc_model.proofs.Frame.Alive.{Alive, alive_backed}
-use Rattle.brc_model.proofs.Objects.ResourcesAfter.{taking_finds, closing_finds, lending_finds, returning_finds}
+use Rattle.brc_model.proofs.Objects.ResourcesLent.{lending_finds, returning_finds}
+use Rattle.brc_model.proofs.Objects.ResourcesSettled.{taking_finds, closing_finds}
 use Rattle.brc_model.proofs.Frame.Cells.{stolen_held}
 use Rattle.brc_model.proofs.Frame.Leaves.{head_of, load_alive, exchange_alive, merge_load_alive, merge_alive}
 use Rattle.brc_model.proofs.Stepping.Retains.{counts_owner, count_above, weight_here}

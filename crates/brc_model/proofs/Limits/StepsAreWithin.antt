@@ -51,7 +51,7 @@ duty_there p n m t a (Look x) rest here alive small =
     omega (arith, block_within m.layout x here.core.some_rows, here.core.threads, here.core.workers)
 duty_there p n m t a Settle rest here alive small = omega (arith, head_small p n m t a here.core here.found)
 duty_there p n m t a (SettleCell x i c) rest here alive small =
-    let (pos, dies, more, gate, empty) = head_of p n m t a (SettleCell x i c) rest here in
+    let (pos, dies, more, gate, empty, none) = head_of p n m t a (SettleCell x i c) rest here in
     (small.row x (eq-eqb x x refl), omega (arith, more, small.cells))
 duty_there p n m t a (CellLoad x i) rest here alive small =
     (small.row x (eq-eqb x x refl), omega (arith, small.cells))

@@ -15,7 +15,7 @@ use Rattle.brc_model.specs.RowInvariant.{weight}
 use Rattle.brc_model.specs.Accounts.{Accounts}
 use Rattle.brc_model.specs.OpenWork.{is_finalising, is_piece}
 use Rattle.brc_model.specs.Invariant.{AtDuty}
-use Rattle.brc_model.specs.Resources.{taking, closing, emptying, ending}
+use Rattle.brc_model.specs.Resources.{closing, ending}
 use Rattle.brc_model.proofs.Basics.Bag.{one_if_low}
 use Rattle.brc_model.proofs.Basics.Continuation.{Continuation, Ends, Finishes, GoesOn, Frees, FreesOld, SettlesRow, Claims, ClaimsNone, Exits, Scans, ScansNone, Traits, continues}
 use Rattle.brc_model.proofs.Basics.Lists.{either}
@@ -64,21 +64,6 @@ finalises x f of d =
       | false ↦ λ e. omega (arith, of.others d e)
     ] refl
 
-taking_none : (x : ℕ) (d : Duty) → settles d x ≡ false → taking x d ≡ 0
-taking_none x (TakeSlot y) e = ap one_if e
-taking_none x _ e = refl
-
-taking_low : (x : ℕ) (d : Duty) → taking x d ≤ 1
-taking_low x (TakeSlot y) = one_if_low (y == x)
-taking_low x _ = omega arith
-
-pub of_taking : (x : ℕ) → IsOfSettling x (taking x)
-of_taking x = record {
-  others = taking_none x;
-  low = taking_low x;
-  light = record { settle = refl; scan = λ i n. refl };
-}
-
 closing_none : (x : ℕ) (d : Duty) → settles d x ≡ false → closing x d ≡ 0
 closing_none x (CloseResource y) e = ap one_if e
 closing_none x _ e = refl
@@ -91,21 +76,6 @@ pub of_closing : (x : ℕ) → IsOfSettling x (closing x)
 of_closing x = record {
   others = closing_none x;
   low = closing_low x;
-  light = record { settle = refl; scan = λ i n. refl };
-}
-
-emptying_none : (x : ℕ) (d : Duty) → settles d x ≡ false → emptying x d ≡ 0
-emptying_none x (SettleCell y i n) e = ap one_if e
-emptying_none x _ e = refl
-
-emptying_low : (x : ℕ) (d : Duty) → emptying x d ≤ 1
-emptying_low x (SettleCell y i n) = one_if_low (y == x)
-emptying_low x _ = omega arith
-
-pub of_emptying : (x : ℕ) → IsOfSettling x (emptying x)
-of_emptying x = record {
-  others = emptying_none x;
-  low = emptying_low x;
   light = record { settle = refl; scan = λ i n. refl };
 }
 

@@ -1,6 +1,5 @@
 -- Where each dispatch leads: to another place than the thread's, unless it waits for a lock.
 use Rattle.std.proofs.Common.{◌≡◌, ◌≢◌, ℕ, zero, suc, ◌+◌, ◌<◌, List, length, Option, ap, arith, get_or-set_same}
-use Rattle.std.proofs.lemmas.Option.{slice_get_within}
 use Rattle.brc_lang.specs.declared.module.Instr.{Instr}
 use Rattle.brc_word.specs.Words.{free_word}
 use Rattle.brc_model.specs.declared.duty.Duty.{Duty}
@@ -56,16 +55,16 @@ elsewhere_beyond : (code : List Instr) (place : Place) → FitsCode code → Cou
     → HoldsBeyond (λ next. next ≢ place) code place
 elsewhere_beyond code Exiting fits all = tt
 elsewhere_beyond code (Idle zero) fits all = λ e. cc
-elsewhere_beyond code (Idle (suc left)) fits all = record {
+elsewhere_beyond code (Idle (suc left)) fits all = λ low. record {
   on = λ next later ahead e. cc;
   back = λ to i is less e. cc;
   into = λ stage e. cc;
   ends = one_call_less left;
 }
-elsewhere_beyond code (InCall counters at variables) fits all = record {
+elsewhere_beyond code (InCall counters at variables) fits all = λ low. record {
   on = λ next later ahead. one_point_on counters at next variables later ahead;
   back = λ to i is less.
-      turned_apart counters at to variables (omega (arith, slice_get_within code at i is, fits.few, all));
+      turned_apart counters at to variables (omega (arith, low, fits.few, all));
   into = λ stage e. cc;
   ends = λ e. cc;
 }

@@ -1,8 +1,9 @@
 -- A thread with nothing left to do has an empty dying chain: a settling is behind each duty that can make a row die.
+use Rattle.brc_model.specs.declared.slot.Exit.TheVariants.{Success, Fault as FaultExit}
 use Rattle.std.proofs.Common.{◌≡◌, ℕ, zero, suc, Bool, true, false, cond, List, [], ◌∷◌, ◌++◌, Option, None, Some, refl, sym, ap, ◌∙◌, subst}
 use Rattle.std.specs.Prelude.{not, slice_get, slice_set}
 use Rattle.brc_lang.specs.declared.module.Instr.{Instr}
-use Rattle.brc_lang.specs.declared.module.Instr.TheVariants.{Num, List as ListObject, NoneObject, Newref, Move as MoveReference, Drop, Lock, Unlock, Borrow, Fetch, Set, Put, Goto, Again, Ret, Fail, As}
+use Rattle.brc_lang.specs.declared.module.Instr.TheVariants.{Num, List as ListObject, NoneObject, Newref, Move as MoveReference, Drop, Lock, Unlock, Borrow, Fetch, Set, Put, Goto, Again, Ret, Fail, As, Open, Connect, Read, Write}
 use Rattle.brc_lang.specs.declared.module.Module.{Module}
 use Rattle.brc_model.specs.declared.thread.Call.{Call}
 use Rattle.brc_model.specs.declared.thread.Choice.{Choice}
@@ -17,7 +18,7 @@ use Rattle.brc_model.specs.declared.actor.Place.{Place}
 use Rattle.brc_model.specs.declared.actor.Counters.{Counters}
 use Rattle.brc_model.specs.declared.actor.Place.TheVariants.{Idle, InCall, Inside, Exiting}
 use Rattle.brc_model.specs.declared.actor.Stage.{Stage}
-use Rattle.brc_model.specs.declared.actor.Stage.TheVariants.{InRange, OutOfRange, Found, Retained}
+use Rattle.brc_model.specs.declared.actor.Stage.TheVariants.{InRange, OutOfRange, Found, Retained, Loaded, Lent, Called, Granted}
 use Rattle.brc_model.specs.Machine.{Actor, Machine, is_running, actor_by, done_by, has_room}
 use Rattle.brc_model.specs.declared.slot.Exit.{Exit}
 use Rattle.brc_model.specs.Actions.{StepActor, Action, Skip, Stuck, Silent, Calls, Does, always, with_row, dispatch_instruction, dispatch_inside, dispatch, may_claim, agenda_action, status_action, exit_of, action_of, first_counters}
@@ -170,6 +171,15 @@ instruction_empties layout t used before counters at variables (Some (Set list i
     row_empties (row_of variables list) _ (λ row. refl)
 instruction_empties layout t used before counters at variables (Some (Put list index from otherwise)) =
     row_empties (row_of variables list) _ (λ row. refl)
+instruction_empties layout t used before counters at variables (Some (Open to path mode otherwise)) =
+    either (ActionEmpties 0) (has_room layout t used) _ _ (λ room. tt) tt
+instruction_empties layout t used before counters at variables (Some (Connect to peer otherwise)) =
+    either (ActionEmpties 0) (has_room layout t used) _ _ (λ room. tt) tt
+instruction_empties layout t used before counters at variables (Some (Read to file most otherwise)) =
+    either (ActionEmpties 0) (has_room layout t used) _ _
+    (λ room. row_empties (row_of variables file) _ (λ row. refl)) tt
+instruction_empties layout t used before counters at variables (Some (Write file number otherwise)) =
+    row_empties (row_of variables number) _ (λ row. refl)
 instruction_empties layout t used before counters at variables (Some (As from kind otherwise)) =
     row_empties (row_of variables from) _ (λ row. refl)
 instruction_empties layout t used before counters at variables (Some (Goto to)) = tt
@@ -178,22 +188,37 @@ instruction_empties layout t used before counters at variables (Some (Ret from))
     row_empties (row_of variables from) _ (λ row. refl)
 instruction_empties layout t used before counters at variables (Some Fail) = tt
 
-inside_empties : (counters : Counters) (at : ℕ) (variables : List (Option ℕ)) (stage : Stage) (i : Option Instr)
-    → ActionEmpties 0 (dispatch_inside counters at variables stage i)
-inside_empties counters at variables InRange (Some (Borrow to list index otherwise)) =
+inside_empties : (layout : Layout) (t used : ℕ) (counters : Counters) (at : ℕ) (variables : List (Option ℕ)) (stage : Stage) (i : Option Instr)
+    → ActionEmpties 0 (dispatch_inside layout t used counters at variables stage i)
+inside_empties layout t used counters at variables InRange (Some (Borrow to list index otherwise)) =
     row_empties (row_of variables list) _ (λ row. refl)
-inside_empties counters at variables InRange (Some (Fetch to list index otherwise)) =
+inside_empties layout t used counters at variables InRange (Some (Fetch to list index otherwise)) =
     row_empties (row_of variables list) _ (λ row. refl)
-inside_empties counters at variables (Found item) (Some (Fetch to list index otherwise)) = refl
-inside_empties counters at variables InRange (Some (Set list index from otherwise)) =
+inside_empties layout t used counters at variables (Found item) (Some (Fetch to list index otherwise)) = refl
+inside_empties layout t used counters at variables InRange (Some (Set list index from otherwise)) =
     row_empties (row_of variables list) _ (λ row. row_empties (row_of variables from) _ (λ item. refl))
-inside_empties counters at variables OutOfRange (Some (Set list index from otherwise)) =
+inside_empties layout t used counters at variables OutOfRange (Some (Set list index from otherwise)) =
     row_empties (row_of variables from) _ (λ item. refl)
-inside_empties counters at variables InRange (Some (Put list index from otherwise)) =
+inside_empties layout t used counters at variables InRange (Some (Put list index from otherwise)) =
     row_empties (row_of variables from) _ (λ item. refl)
-inside_empties counters at variables Retained (Some (Put list index from otherwise)) =
+inside_empties layout t used counters at variables Retained (Some (Put list index from otherwise)) =
     row_empties (row_of variables list) _ (λ row. row_empties (row_of variables from) _ (λ item. refl))
-inside_empties counters at variables stage i = tt
+inside_empties layout t used counters at variables Granted (Some (Open to path mode otherwise)) = refl
+inside_empties layout t used counters at variables Granted (Some (Connect to peer otherwise)) = refl
+inside_empties layout t used counters at variables Lent (Some (Read to file most otherwise)) = tt
+inside_empties layout t used counters at variables (Called Success) (Some (Read to file most otherwise)) =
+    row_empties (row_of variables file) _ (λ row. refl)
+inside_empties layout t used counters at variables (Called FaultExit) (Some (Read to file most otherwise)) =
+    row_empties (row_of variables file) _ (λ row. refl)
+inside_empties layout t used counters at variables Granted (Some (Read to file most otherwise)) = refl
+inside_empties layout t used counters at variables Loaded (Some (Write file number otherwise)) =
+    row_empties (row_of variables file) _ (λ row. refl)
+inside_empties layout t used counters at variables Lent (Some (Write file number otherwise)) = tt
+inside_empties layout t used counters at variables (Called Success) (Some (Write file number otherwise)) =
+    row_empties (row_of variables file) _ (λ row. refl)
+inside_empties layout t used counters at variables (Called FaultExit) (Some (Write file number otherwise)) =
+    row_empties (row_of variables file) _ (λ row. refl)
+inside_empties layout t used counters at variables stage i = tt
 
 dispatch_empties : (layout : Layout) (t used : ℕ) (code : List Instr) (place : Place)
     → ActionEmpties 0 (dispatch layout t used code place)
@@ -204,7 +229,7 @@ dispatch_empties layout t used code (Idle (suc left)) =
 dispatch_empties layout t used code (InCall counters at variables) =
     instruction_empties layout t used (InCall counters at variables) counters at variables (slice_get code at)
 dispatch_empties layout t used code (Inside counters at variables stage) =
-    inside_empties counters at variables stage (slice_get code at)
+    inside_empties layout t used counters at variables stage (slice_get code at)
 
 no_chain : (head : ℕ) → Empties head [] → head ≡ 0
 no_chain zero e = refl

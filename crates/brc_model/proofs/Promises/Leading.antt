@@ -1,10 +1,12 @@
 -- Where each dispatch leads. An instruction of a call leads on to a later point, into itself or to the end of the call;
 -- a lock that isn't got leaves the thread where it was. What holds of all these places holds after the action.
-use Rattle.std.proofs.Common.{◌≡◌, ◌≢◌, ℕ, zero, suc, ◌+◌, cond, Bool, false, List, [], Option, None, Some, refl, sym, ap, subst, arith, ◌<◌}
+use Rattle.brc_model.specs.declared.slot.Exit.TheVariants.{Success, Fault}
+use Rattle.std.proofs.Common.{◌≡◌, ◌≢◌, ℕ, zero, suc, ◌+◌, cond, Bool, false, List, [], Option, None, Some, refl, sym, ap, subst, arith, ◌<◌, length}
 use Rattle.std.specs.Prelude.{◌==◌, nat_lt, slice_get, slice_set}
 use Rattle.std.proofs.lemmas.Bool.{ltb-true}
+use Rattle.std.proofs.lemmas.Option.{slice_get_within}
 use Rattle.brc_lang.specs.declared.module.Instr.{Instr}
-use Rattle.brc_lang.specs.declared.module.Instr.TheVariants.{Num, List as ListObject, NoneObject, Newref, Move as MoveReference, Drop, Lock, Unlock, Borrow, Fetch, Set, Put, Goto, Again, Ret, Fail, As}
+use Rattle.brc_lang.specs.declared.module.Instr.TheVariants.{Num, List as ListObject, NoneObject, Newref, Move as MoveReference, Drop, Lock, Unlock, Borrow, Fetch, Set, Put, Goto, Again, Ret, Fail, As, Open, Connect, Read, Write}
 use Rattle.brc_lang.specs.Grammar.{LeadsForward}
 use Rattle.brc_word.specs.Words.{free_word}
 use Rattle.brc_model.specs.Kinds.{same_kind, kind_of_word}
@@ -15,12 +17,12 @@ use Rattle.brc_model.specs.declared.actor.Place.{Place}
 use Rattle.brc_model.specs.declared.actor.Counters.{Counters}
 use Rattle.brc_model.specs.declared.actor.Place.TheVariants.{Idle, InCall, Inside, Exiting}
 use Rattle.brc_model.specs.declared.actor.Stage.{Stage}
-use Rattle.brc_model.specs.declared.actor.Stage.TheVariants.{InRange, OutOfRange, Found, Retained}
+use Rattle.brc_model.specs.declared.actor.Stage.TheVariants.{InRange, OutOfRange, Found, Retained, Loaded, Lent, Called, Granted}
 use Rattle.brc_model.specs.declared.slot.Exit.{Exit}
 use Rattle.brc_model.specs.Machine.{has_room}
-use Rattle.brc_model.specs.Actions.{Action, Skip, Stuck, Silent, Calls, Does, with_row, by_range, by_item, birth_action, first_counters, turns_at, turned, dispatch_instruction, dispatch_inside, dispatch, number_word, list_word}
+use Rattle.brc_model.specs.Actions.{Action, Skip, Stuck, Silent, Calls, Does, with_row, by_range, by_item, birth_action, first_counters, turns_at, turned, dispatch_instruction, dispatch_inside, dispatch, number_word, list_word, grant_action, lend_action}
 use Rattle.brc_model.proofs.Basics.Lists.{either}
-use Rattle.brc_model.proofs.Dispatch.Decided.{range_decides, item_decides}
+use Rattle.brc_model.proofs.Dispatch.Decided.{range_decides, item_decides, exit_decides}
 use Rattle.brc_model.specs.Bounded.{times_of}
 use Rattle.brc_model.specs.declared.layout.Layout.{Layout}
 use Rattle.brc_model.specs.Layout.{none_row, row_at}
@@ -83,6 +85,15 @@ module _ (P : Place → Type 0) (place : Place) (code : List Instr) (forward : L
           (λ room found. holds.on (at + 1) (slice_set variables to (Some (row_at layout t used))) (omega arith))
           (holds.on otherwise (slice_set variables to None) ahead)
 
+      -- A thread that asks the host for a resource goes into the instruction, or on to the other point.
+      grant_leads : (to otherwise : ℕ) → at < otherwise
+          → LeadsTo P place (grant_action layout t used counters at variables to otherwise)
+      grant_leads to otherwise ahead =
+          let refused = holds.on otherwise (slice_set variables to None) ahead in
+          either (LeadsTo P place) (has_room layout t used) _ _
+          (λ room. exit_decides P (Inside counters at variables Granted)
+          (InCall counters otherwise (slice_set variables to None)) (holds.into Granted) refused) refused
+
       pub instruction_leads : (i : Option Instr) → slice_get code at ≡ i
           → LeadsTo P place (dispatch_instruction layout t used place counters at variables i)
       instruction_leads None is = tt
@@ -126,6 +137,18 @@ module _ (P : Place → Type 0) (place : Place) (code : List Instr) (forward : L
           range_leads P place (row_of variables list) index (Inside counters at variables InRange)
           (InCall counters otherwise variables) (holds.into InRange)
           (holds.on otherwise variables (forward at (Put list index from otherwise) otherwise is refl).0)
+      instruction_leads (Some (Open to path mode otherwise)) is =
+          grant_leads to otherwise (forward at (Open to path mode otherwise) otherwise is refl).0
+      instruction_leads (Some (Connect to peer otherwise)) is =
+          grant_leads to otherwise (forward at (Connect to peer otherwise) otherwise is refl).0
+      instruction_leads (Some (Read to file most otherwise)) is =
+          either (LeadsTo P place) (has_room layout t used) (lend_action counters at variables file)
+          (Silent [] (InCall counters otherwise (slice_set variables to None)))
+          (λ room. row_leads P place (row_of variables file) _ (λ row found. holds.into Lent))
+          (holds.on otherwise (slice_set variables to None)
+          (forward at (Read to file most otherwise) otherwise is refl).0)
+      instruction_leads (Some (Write file number otherwise)) is =
+          row_leads P place (row_of variables number) _ (λ row found. holds.into Loaded)
       instruction_leads (Some (As from kind otherwise)) is =
           row_leads P place (row_of variables from) _
           (λ row word. holds.on (cond (same_kind (kind_of_word word) kind) (at + 1) otherwise) variables
@@ -141,53 +164,84 @@ module _ (P : Place → Type 0) (place : Place) (code : List Instr) (forward : L
       instruction_leads (Some Fail) is = holds.ends
 
     -- Inside an instruction too, each step leads on: to a later point, or further in.
-    pub inside_leads : (stage : Stage) (i : Option Instr) → slice_get code at ≡ i
-        → HoldsWithin P counters at variables stage → LeadsTo P place (dispatch_inside counters at variables stage i)
-    inside_leads InRange (Some (Borrow to list index otherwise)) is holds =
+    pub inside_leads : (layout : Layout) (t used : ℕ) (stage : Stage) (i : Option Instr) → slice_get code at ≡ i
+        → HoldsWithin P counters at variables stage → LeadsTo P place (dispatch_inside layout t used counters at variables stage i)
+    inside_leads layout t used InRange (Some (Borrow to list index otherwise)) is holds =
         cell_leads P place (row_of variables list) index (InCall counters otherwise (slice_set variables to None))
         (λ item. InCall counters (at + 1) (slice_set variables to (Some item)))
         (holds.on otherwise (slice_set variables to None)
         (forward at (Borrow to list index otherwise) otherwise is refl).0)
         (λ item. holds.on (at + 1) (slice_set variables to (Some item)) (omega arith))
-    inside_leads InRange (Some (Fetch to list index otherwise)) is holds =
+    inside_leads layout t used InRange (Some (Fetch to list index otherwise)) is holds =
         cell_leads P place (row_of variables list) index (InCall counters otherwise (slice_set variables to None))
         (λ item. Inside counters at variables (Found item))
         (holds.on otherwise (slice_set variables to None)
         (forward at (Fetch to list index otherwise) otherwise is refl).0) (λ item. holds.into (Found item) (λ e. cc))
-    inside_leads (Found item) (Some (Fetch to list index otherwise)) is holds =
+    inside_leads layout t used (Found item) (Some (Fetch to list index otherwise)) is holds =
         λ found. holds.on (at + 1) (slice_set variables to (Some item)) (omega arith)
-    inside_leads InRange (Some (Set list index from otherwise)) is holds =
+    inside_leads layout t used InRange (Some (Set list index from otherwise)) is holds =
         row_leads P place (row_of variables list) _ (λ row. row_leads P place (row_of variables from) _
         (λ item found. holds.on (at + 1) (slice_set variables from None) (omega arith)))
-    inside_leads OutOfRange (Some (Set list index from otherwise)) is holds =
+    inside_leads layout t used OutOfRange (Some (Set list index from otherwise)) is holds =
         row_leads P place (row_of variables from) _
         (λ item found. holds.on otherwise (slice_set variables from None)
         (forward at (Set list index from otherwise) otherwise is refl).0)
-    inside_leads InRange (Some (Put list index from otherwise)) is holds =
+    inside_leads layout t used InRange (Some (Put list index from otherwise)) is holds =
         row_leads P place (row_of variables from) _ (λ item found. holds.into Retained (λ e. cc))
-    inside_leads Retained (Some (Put list index from otherwise)) is holds =
+    inside_leads layout t used Retained (Some (Put list index from otherwise)) is holds =
         row_leads P place (row_of variables list) _ (λ row. row_leads P place (row_of variables from) _
         (λ item found. holds.on (at + 1) variables (omega arith)))
-    inside_leads stage i is holds = tt
+    inside_leads layout t used Granted (Some (Open to path mode otherwise)) is holds =
+        λ found. holds.on (at + 1) (slice_set variables to (Some (row_at layout t used))) (omega arith)
+    inside_leads layout t used Granted (Some (Connect to peer otherwise)) is holds =
+        λ found. holds.on (at + 1) (slice_set variables to (Some (row_at layout t used))) (omega arith)
+    inside_leads layout t used Lent (Some (Read to file most otherwise)) is holds =
+        λ exit. holds.into (Called exit) (λ e. cc)
+    inside_leads layout t used (Called Success) (Some (Read to file most otherwise)) is holds =
+        row_leads P place (row_of variables file) _ (λ row found. holds.into Granted (λ e. cc))
+    inside_leads layout t used (Called Fault) (Some (Read to file most otherwise)) is holds =
+        row_leads P place (row_of variables file) _ (λ row found. holds.on otherwise (slice_set variables to None)
+        (forward at (Read to file most otherwise) otherwise is refl).0)
+    inside_leads layout t used Granted (Some (Read to file most otherwise)) is holds =
+        λ found. holds.on (at + 1) (slice_set variables to (Some (row_at layout t used))) (omega arith)
+    inside_leads layout t used Loaded (Some (Write file number otherwise)) is holds =
+        row_leads P place (row_of variables file) _ (λ row found. holds.into Lent (λ e. cc))
+    inside_leads layout t used Lent (Some (Write file number otherwise)) is holds =
+        λ exit. holds.into (Called exit) (λ e. cc)
+    inside_leads layout t used (Called Success) (Some (Write file number otherwise)) is holds =
+        row_leads P place (row_of variables file) _ (λ row found. holds.on (at + 1) variables (omega arith))
+    inside_leads layout t used (Called Fault) (Some (Write file number otherwise)) is holds =
+        row_leads P place (row_of variables file) _ (λ row found. holds.on otherwise variables
+        (forward at (Write file number otherwise) otherwise is refl).0)
+    inside_leads layout t used stage i is holds = tt
 
--- The property holds of each place to which the thread's dispatch can lead.
+-- The property holds of each place to which the thread's dispatch can lead. Past the last instruction it leads nowhere.
 abbrev pub HoldsBeyond : (Place → Type 0) → List Instr → Place → Type 0
 HoldsBeyond P code Exiting = Unit {0}
 HoldsBeyond P code (Idle zero) = P Exiting
-HoldsBeyond P code (Idle (suc left)) = HoldsAfter P code (first_counters left) 0 entry_variables
-HoldsBeyond P code (InCall counters at variables) = HoldsAfter P code counters at variables
+HoldsBeyond P code (Idle (suc left)) = 0 < length code → HoldsAfter P code (first_counters left) 0 entry_variables
+HoldsBeyond P code (InCall counters at variables) = at < length code → HoldsAfter P code counters at variables
 HoldsBeyond P code (Inside counters at variables stage) = HoldsWithin P counters at variables stage
+
+found_leads : (P : Place → Type 0) (place : Place) (code : List Instr) (counters : Counters) (at : ℕ)
+    (variables : List (Option ℕ)) (layout : Layout) (t used : ℕ) (o : Option Instr) → LeadsForward code
+    → (at < length code → HoldsAfter P code counters at variables) → slice_get code at ≡ o
+    → LeadsTo P place (dispatch_instruction layout t used place counters at variables o)
+found_leads P place code counters at variables layout t used None forward holds is = tt
+found_leads P place code counters at variables layout t used (Some i) forward holds is =
+    instruction_leads P place code forward counters at variables layout t used (holds (slice_get_within code at i is))
+    (Some i) is
 
 pub dispatch_leads : (P : Place → Type 0) (layout : Layout) (t used : ℕ) (code : List Instr) (place : Place)
     → LeadsForward code → HoldsBeyond P code place → LeadsTo P place (dispatch layout t used code place)
 dispatch_leads P layout t used code Exiting forward holds = tt
 dispatch_leads P layout t used code (Idle zero) forward holds = λ found. holds
 dispatch_leads P layout t used code (Idle (suc left)) forward holds =
-    instruction_leads P (Idle (suc left)) code forward (first_counters left) 0 entry_variables layout t used holds
-    (slice_get code 0) refl
+    found_leads P (Idle (suc left)) code (first_counters left) 0 entry_variables layout t used (slice_get code 0)
+    forward holds refl
 dispatch_leads P layout t used code (InCall counters at variables) forward holds =
-    instruction_leads P (InCall counters at variables) code forward counters at variables layout t used holds
-    (slice_get code at) refl
+    found_leads P (InCall counters at variables) code counters at variables layout t used (slice_get code at)
+    forward holds refl
 dispatch_leads P layout t used code (Inside counters at variables stage) forward holds =
-    inside_leads P (Inside counters at variables stage) code forward counters at variables stage (slice_get code at)
+    inside_leads P (Inside counters at variables stage) code forward counters at variables layout t used stage (slice_get code at)
     refl holds

@@ -1,11 +1,12 @@
 -- A thread that waits for a lock takes a step that changes nothing: it stores the gate's word as it found it, and is still
 -- at the instruction.
+use Rattle.brc_model.specs.declared.slot.Exit.TheVariants.{Success, Fault as FaultExit}
 use Rattle.std.proofs.Common.{◌≡◌, ℕ, zero, suc, ◌+◌, Bool, true, false, cond, List, [], ◌∷◌, Option, None, Some, refl, sym, ap, ◌∙◌, arith}
 use Rattle.std.specs.Prelude.{◌==◌, not, slice_get, slice_set, sum_by}
 use Rattle.std.proofs.Math.Path.{fun_ext}
 use Rattle.std.proofs.lemmas.List.Sums.{sum_by-cons}
 use Rattle.brc_lang.specs.declared.module.Instr.{Instr}
-use Rattle.brc_lang.specs.declared.module.Instr.TheVariants.{Num, List as ListObject, NoneObject, Newref, Move as MoveReference, Drop, Lock, Unlock, Borrow, Fetch, Set, Put, Goto, Again, Ret, Fail, As}
+use Rattle.brc_lang.specs.declared.module.Instr.TheVariants.{Num, List as ListObject, NoneObject, Newref, Move as MoveReference, Drop, Lock, Unlock, Borrow, Fetch, Set, Put, Goto, Again, Ret, Fail, As, Open, Connect, Read, Write}
 use Rattle.brc_lang.specs.declared.module.Module.{Module}
 use Rattle.brc_lang.specs.declared.module.Function.{Function}
 use Rattle.brc_word.specs.Words.{free_word, locked_word}
@@ -20,7 +21,7 @@ use Rattle.brc_model.specs.declared.actor.Place.{Place}
 use Rattle.brc_model.specs.declared.actor.Counters.{Counters}
 use Rattle.brc_model.specs.declared.actor.Place.TheVariants.{Idle, InCall, Inside, Exiting}
 use Rattle.brc_model.specs.declared.actor.Stage.{Stage}
-use Rattle.brc_model.specs.declared.actor.Stage.TheVariants.{InRange, OutOfRange, Found, Retained}
+use Rattle.brc_model.specs.declared.actor.Stage.TheVariants.{InRange, OutOfRange, Found, Retained, Loaded, Lent, Called, Granted}
 use Rattle.brc_model.specs.declared.layout.Layout.{Layout}
 use Rattle.brc_model.specs.Threads.{row_of, entry_variables, code_of}
 use Rattle.brc_model.specs.Duties.{ready}
@@ -82,6 +83,15 @@ instruction_waits layout t used place counters at variables (Some (Set list inde
     row_waits place (row_of variables list) _ (λ row. tt)
 instruction_waits layout t used place counters at variables (Some (Put list index from otherwise)) =
     row_waits place (row_of variables list) _ (λ row. tt)
+instruction_waits layout t used place counters at variables (Some (Open to path mode otherwise)) =
+    either (WaitsAt place) (has_room layout t used) _ _ (λ room. tt) tt
+instruction_waits layout t used place counters at variables (Some (Connect to peer otherwise)) =
+    either (WaitsAt place) (has_room layout t used) _ _ (λ room. tt) tt
+instruction_waits layout t used place counters at variables (Some (Read to file most otherwise)) =
+    either (WaitsAt place) (has_room layout t used) _ _
+    (λ room. row_waits place (row_of variables file) _ (λ row. tt)) tt
+instruction_waits layout t used place counters at variables (Some (Write file number otherwise)) =
+    row_waits place (row_of variables number) _ (λ row. tt)
 instruction_waits layout t used place counters at variables (Some (As from kind otherwise)) =
     row_waits place (row_of variables from) _ (λ row. tt)
 instruction_waits layout t used place counters at variables (Some (Goto to)) = tt
@@ -90,23 +100,39 @@ instruction_waits layout t used place counters at variables (Some (Ret from)) =
     row_waits place (row_of variables from) _ (λ row. tt)
 instruction_waits layout t used place counters at variables (Some Fail) = tt
 
-inside_waits : (place : Place) (counters : Counters) (at : ℕ) (variables : List (Option ℕ)) (stage : Stage)
+inside_waits : (place : Place) (layout : Layout) (t used : ℕ) (counters : Counters) (at : ℕ)
+    (variables : List (Option ℕ)) (stage : Stage)
     (i : Option Instr)
-    → WaitsAt place (dispatch_inside counters at variables stage i)
-inside_waits place counters at variables InRange (Some (Borrow to list index otherwise)) =
+    → WaitsAt place (dispatch_inside layout t used counters at variables stage i)
+inside_waits place layout t used counters at variables InRange (Some (Borrow to list index otherwise)) =
     row_waits place (row_of variables list) _ (λ row. tt)
-inside_waits place counters at variables InRange (Some (Fetch to list index otherwise)) =
+inside_waits place layout t used counters at variables InRange (Some (Fetch to list index otherwise)) =
     row_waits place (row_of variables list) _ (λ row. tt)
-inside_waits place counters at variables (Found item) (Some (Fetch to list index otherwise)) = tt
-inside_waits place counters at variables InRange (Some (Set list index from otherwise)) =
+inside_waits place layout t used counters at variables (Found item) (Some (Fetch to list index otherwise)) = tt
+inside_waits place layout t used counters at variables InRange (Some (Set list index from otherwise)) =
     row_waits place (row_of variables list) _ (λ row. row_waits place (row_of variables from) _ (λ item. tt))
-inside_waits place counters at variables OutOfRange (Some (Set list index from otherwise)) =
+inside_waits place layout t used counters at variables OutOfRange (Some (Set list index from otherwise)) =
     row_waits place (row_of variables from) _ (λ item. tt)
-inside_waits place counters at variables InRange (Some (Put list index from otherwise)) =
+inside_waits place layout t used counters at variables InRange (Some (Put list index from otherwise)) =
     row_waits place (row_of variables from) _ (λ item. tt)
-inside_waits place counters at variables Retained (Some (Put list index from otherwise)) =
+inside_waits place layout t used counters at variables Retained (Some (Put list index from otherwise)) =
     row_waits place (row_of variables list) _ (λ row. row_waits place (row_of variables from) _ (λ item. tt))
-inside_waits place counters at variables stage i = tt
+inside_waits place layout t used counters at variables Granted (Some (Open to path mode otherwise)) = tt
+inside_waits place layout t used counters at variables Granted (Some (Connect to peer otherwise)) = tt
+inside_waits place layout t used counters at variables Lent (Some (Read to file most otherwise)) = tt
+inside_waits place layout t used counters at variables (Called Success) (Some (Read to file most otherwise)) =
+    row_waits place (row_of variables file) _ (λ row. tt)
+inside_waits place layout t used counters at variables (Called FaultExit) (Some (Read to file most otherwise)) =
+    row_waits place (row_of variables file) _ (λ row. tt)
+inside_waits place layout t used counters at variables Granted (Some (Read to file most otherwise)) = tt
+inside_waits place layout t used counters at variables Loaded (Some (Write file number otherwise)) =
+    row_waits place (row_of variables file) _ (λ row. tt)
+inside_waits place layout t used counters at variables Lent (Some (Write file number otherwise)) = tt
+inside_waits place layout t used counters at variables (Called Success) (Some (Write file number otherwise)) =
+    row_waits place (row_of variables file) _ (λ row. tt)
+inside_waits place layout t used counters at variables (Called FaultExit) (Some (Write file number otherwise)) =
+    row_waits place (row_of variables file) _ (λ row. tt)
+inside_waits place layout t used counters at variables stage i = tt
 
 dispatch_waits : (layout : Layout) (t used : ℕ) (code : List Instr) (place : Place)
     → WaitsAt place (dispatch layout t used code place)
@@ -117,7 +143,7 @@ dispatch_waits layout t used code (Idle (suc left)) =
 dispatch_waits layout t used code (InCall counters at variables) =
     instruction_waits layout t used (InCall counters at variables) counters at variables (slice_get code at)
 dispatch_waits layout t used code (Inside counters at variables stage) =
-    inside_waits (Inside counters at variables stage) counters at variables stage (slice_get code at)
+    inside_waits (Inside counters at variables stage) layout t used counters at variables stage (slice_get code at)
 
 -- A thread waits with an empty agenda.
 abbrev WaitsIdly : StepActor → Action → Type 0

@@ -81,7 +81,8 @@ module _ (memory : Address → ℕ) (layout : Layout) (t : ℕ) (running : Bool)
   computed d found left next moves (rules.LockHeld x f held) =
       record { left_is = rw (other_test f free_word held) refl; next_is = refl; moves_are = refl }
   computed d found left next moves (rules.Unlocks x f) = record { left_is = refl; next_is = refl; moves_are = refl }
-  computed d found left next moves (rules.ResourceLent x f) = record { left_is = refl; next_is = refl; moves_are = refl }
+  computed d found left next moves (rules.ResourceLent x f) =
+      record { left_is = refl; next_is = refl; moves_are = refl }
   computed d found left next moves (rules.ResourceReturned x f) =
       record { left_is = refl; next_is = refl; moves_are = refl }
   computed d found left next moves (rules.CellRead x cell f) =

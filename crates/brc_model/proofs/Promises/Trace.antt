@@ -69,10 +69,10 @@ action_goes m t a choice (Does d rest place) found is =
 
 -- ---- an event of another thread
 
-record LeavesAt (m new : StepMachine) (t : ℕ) : Type 0 where
-  functions : new.functions ≡ m.functions
-  layout : new.layout ≡ m.layout
-  actor : slice_get new.actors t ≡ slice_get m.actors t
+pub record LeavesAt (m new : StepMachine) (t : ℕ) : Type 0 where
+  pub functions : new.functions ≡ m.functions
+  pub layout : new.layout ≡ m.layout
+  pub actor : slice_get new.actors t ≡ slice_get m.actors t
 
 leaves_all : (m : StepMachine) (t : ℕ) → LeavesAt m m t
 leaves_all m t = record { functions = refl; layout = refl; actor = refl }
@@ -100,7 +100,7 @@ after m t choice o = of_thread m (λ a. machine_by m t a (exit_of choice) (actio
 abbrev made : StepMachine → ℕ → Choice → Option StepActor → List WordEvent
 made m t choice o = of_thread [] (λ a. made_by m t a (action_of m.functions m.layout t a choice)) o
 
-thread_leaves : (m : StepMachine) (u t : ℕ) (choice : Choice) (o : Option StepActor) → t ≢ u
+pub thread_leaves : (m : StepMachine) (u t : ℕ) (choice : Choice) (o : Option StepActor) → t ≢ u
     → LeavesAt m (after m u choice o) t
 thread_leaves m u t choice None ne = leaves_all m t
 thread_leaves m u t choice (Some a) ne = action_leaves m u t a (exit_of choice) (action_of m.functions m.layout u a choice) ne

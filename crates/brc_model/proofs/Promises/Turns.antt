@@ -76,8 +76,8 @@ pub counts_beyond : (code : List Instr) (place : Place) → CountsTurns place �
 counts_beyond code Exiting all = tt
 counts_beyond code (Idle zero) all = tt
 counts_beyond code (Idle (suc left)) all =
-    counts_after code (first_counters left) 0 entry_variables (length-replicate {A = ℕ} 256 0)
-counts_beyond code (InCall counters at variables) all = counts_after code counters at variables all
+    λ low. counts_after code (first_counters left) 0 entry_variables (length-replicate {A = ℕ} 256 0)
+counts_beyond code (InCall counters at variables) all = λ low. counts_after code counters at variables all
 counts_beyond code (Inside counters at variables stage) all =
     record { on = λ next later ahead. all; into = λ further apart. all }
 

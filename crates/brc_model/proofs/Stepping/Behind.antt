@@ -5,9 +5,9 @@ use Rattle.std.specs.Prelude.{nat_lt}
 use Rattle.std.proofs.lemmas.Bool.{eq-eqb, eqb-false, ltb-true, ltb-false, false≢true}
 use Rattle.brc_model.specs.declared.duty.Duty.{Duty}
 use Rattle.brc_model.specs.declared.duty.Duty.TheVariants.{Die, Settle, SettleCell, SettleEnd, Scan, LockGate, UnlockGate}
-use Rattle.brc_model.specs.declared.address.Address.TheVariants.{Gate, Cell}
+use Rattle.brc_model.specs.declared.address.Address.TheVariants.{Gate, KindOf, Cell}
 use Rattle.brc_model.specs.declared.layout.Layout.{Layout}
-use Rattle.brc_model.specs.Duties.{address_of, new_word, new_head, ready, cells_from, release_found}
+use Rattle.brc_model.specs.Duties.{address_of, new_word, new_head, ready, resources_of, cells_from, release_found}
 use Rattle.brc_model.specs.Machine.{Actor, Life, Unborn, Live, Dying, Machine, is_running, ended_row, actor_by, done_by, written}
 use Rattle.brc_model.specs.Layout.{IsCounted}
 use Rattle.brc_model.specs.References.{one_if}
@@ -21,6 +21,7 @@ use Rattle.brc_model.proofs.Basics.Lists.{some_is, none_some}
 use Rattle.brc_model.proofs.Basics.Written.{written_apart, written_load, apart_gate}
 use Rattle.brc_model.proofs.Frame.Alive.{alive_backed}
 use Rattle.brc_model.proofs.Frame.Leaves.{head_of, living_clash}
+use Rattle.brc_model.proofs.Frame.Items.{word_stays}
 use Rattle.brc_model.proofs.Frame.Lives.{next_of}
 use Rattle.brc_model.proofs.Frame.Cells.{stays_empty, one_emptied, all_emptied}
 use Rattle.brc_model.proofs.Objects.Closing.{GoesOn as LifeGoesOn, BeginsToDie, IsClosed, IsBorn, life_step}
@@ -90,6 +91,13 @@ module _ (p : Accounts) (n : ℕ) (m : Machine) (t : ℕ) (a : Actor) (d : Duty)
         | IsBorn now unborn counted born none ↦ absurd (let wrong : Unborn ≡ Dying t = sym unborn ∙ dies in cc)
       ]
 
+  -- The row has as many resources as before.
+  resources_stay : (x : ℕ) → AtDuty p n m t a d rest → m.life x ≡ Dying t
+      → resources_of ((done_by m t a d rest).memory (KindOf x)) ≡ resources_of (m.memory (KindOf x))
+  resources_stay x here dies =
+      ap resources_of (word_stays p n m t a d rest x here
+      (λ unborn. let wrong : Dying t ≡ Unborn = sym dies ∙ unborn in cc))
+
   fits_still : (e : Duty) → AtDuty p n m t a d rest
       → ((x : ℕ) → is_finalising e x ≡ true → is_finalising d x ≡ false) → BehindFits m t e
       → BehindFits (done_by m t a d rest) t e
@@ -100,6 +108,7 @@ module _ (p : Accounts) (n : ℕ) (m : Machine) (t : ℕ) (a : Actor) (d : Duty)
         fits.2,
         subst (IsDyingWord t) (sym (gate_stays p n m t a d rest x here other fits.1)) fits.3,
         λ j out. stays_empty p n m t a d rest x j here (λ live. dying_unlive t (sym fits.1 ∙ live)) (fits.4 j out),
+        resources_stay x here fits.1 ∙ fits.5,
       )
   fits_still (SettleEnd x) here apart fits =
       let other = apart x (eq-eqb x x refl) in (
@@ -107,6 +116,7 @@ module _ (p : Accounts) (n : ℕ) (m : Machine) (t : ℕ) (a : Actor) (d : Duty)
         life_stays x here other fits.1,
         subst (IsDyingWord t) (sym (gate_stays p n m t a d rest x here other fits.1)) fits.2,
         λ j. stays_empty p n m t a d rest x j here (λ live. dying_unlive t (sym fits.1 ∙ live)) (fits.3 j),
+        resources_stay x here fits.1 ∙ fits.4,
       )
   fits_still _ here apart fits = tt
 
@@ -175,13 +185,14 @@ released_behind m t (suc y) next rest all = (tt, all)
 
 -- The next cell's duty knows what it needs, and so does the row's closing if no cell is left.
 pub cells_known : (m : Machine) (t x i k : ℕ) (rest : List Duty) → IsCounted m.layout x → m.life x ≡ Dying t
-    → IsDyingWord t (m.memory (Gate x)) → IsEmptyBut m.memory x i k → AllBehind m t rest
+    → IsDyingWord t (m.memory (Gate x)) → IsEmptyBut m.memory x i k → resources_of (m.memory (KindOf x)) ≡ 0
+    → AllBehind m t rest
     → AllBehind m t (cells_from x i k ++ rest)
-cells_known m t x i k rest counted dies gate empty all =
+cells_known m t x i k rest counted dies gate empty none all =
     elim (nat_lt i k) as (λ b. nat_lt i k ≡ b
     → AllBehind m t (cond b (SettleCell x i k ∷ []) (SettleEnd x ∷ []) ++ rest)) [
-      | true ↦ λ e. ((counted, dies, ltb-true i k e, gate, empty), all)
-      | false ↦ λ e. ((counted, dies, gate, all_emptied m.memory x i k (ltb-false i k e) empty), all)
+      | true ↦ λ e. ((counted, dies, ltb-true i k e, gate, empty, none), all)
+      | false ↦ λ e. ((counted, dies, gate, all_emptied m.memory x i k (ltb-false i k e) empty, none), all)
     ] refl
 
 -- A row whose cells the thread empties is still dying.
@@ -203,7 +214,7 @@ pub emptied_known : (p : Accounts) (n : ℕ) (m : Machine) (t : ℕ) (a : Actor)
 emptied_known p n m t a x i k rest here =
     let fits = head_of p n m t a (SettleCell x i k) rest here in
     cells_known (done_by m t a (SettleCell x i k) rest) t x (i + 1) k rest fits.0
-    (emptying_dies p n m t a x i k rest here) fits.3 (one_emptied m.memory x i k fits.4)
+    (emptying_dies p n m t a x i k rest here) fits.3 (one_emptied m.memory x i k fits.4) fits.5
     (still_behind p n m t a (SettleCell x i k) rest here)
 
 next_behind : (p : Accounts) (n : ℕ) (m : Machine) (t : ℕ) (a : Actor) (d : Duty) (rest : List Duty)

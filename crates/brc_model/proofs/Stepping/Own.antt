@@ -75,9 +75,9 @@ ready_is layout t used status zero (SettleCell x i n ∷ rest) later =
 ready_is layout t used status (suc head) (SettleCell x i n ∷ rest) later =
     ready_as (SettleCell x i n ∷ rest) later (λ k o. refl) (λ k o. refl) (λ m a h b. b.0)
 ready_is layout t used status zero (SettleEnd x ∷ rest) later =
-    ready_as (SettleEnd x ∷ rest) later (λ k o. refl) (λ k o. refl) (λ m a h b. b.0)
+    ready_as (SettleEnd x ∷ rest) later (λ k o. refl) (λ k o. refl) (λ m a h b. (b.0.0, b.0.1, b.0.2, b.0.3))
 ready_is layout t used status (suc head) (SettleEnd x ∷ rest) later =
-    ready_as (SettleEnd x ∷ rest) later (λ k o. refl) (λ k o. refl) (λ m a h b. b.0)
+    ready_as (SettleEnd x ∷ rest) later (λ k o. refl) (λ k o. refl) (λ m a h b. (b.0.0, b.0.1, b.0.2, b.0.3))
 ready_is layout t used status zero (Scan x zero ∷ rest) later =
     ready_past (Scan x zero) rest (ready zero rest) (λ y. refl) (ready_is layout t used status zero rest later.2)
 ready_is layout t used status (suc head) (Scan x zero ∷ rest) later =

@@ -8,7 +8,7 @@ use Rattle.brc_model.specs.declared.duty.Holding.TheVariants.{InFlight}
 use Rattle.brc_model.specs.declared.duty.Duty.{Duty}
 use Rattle.brc_model.specs.declared.duty.Duty.TheVariants.{ReleaseLoad, SettleKind, SettleCell, SettleEnd, TakeSlot, CloseResource}
 use Rattle.brc_model.specs.declared.address.Address.TheVariants.{Gate, KindOf, Cell, ThreadWord}
-use Rattle.brc_model.specs.Duties.{new_head, cells_of, cells_from, release_found, has_resource}
+use Rattle.brc_model.specs.Duties.{new_head, cells_of, cells_from, release_found, has_resource, resources_of}
 use Rattle.brc_model.specs.declared.actor.Status.{Status}
 use Rattle.brc_model.specs.declared.actor.Status.TheVariants.{Gone}
 use Rattle.brc_model.specs.Machine.{Actor, Dying, Machine, status_by, ended_row, actor_by, done_by, born_row, dies_next}
@@ -19,6 +19,7 @@ use Rattle.brc_word.specs.Words.{kind_part, argument_part}
 use Rattle.brc_model.specs.Accounts.{Accounts, extra_of, lacks_of, extra, lacks}
 use Rattle.brc_model.specs.OpenWork.{Later, Agenda, finalised, is_finalising}
 use Rattle.brc_model.specs.Knowledge.{IsDyingWord, IsEmptyBut, HeadFits}
+use Rattle.brc_model.proofs.Basics.Written.{written_load}
 use Rattle.brc_model.proofs.Frame.Leaves.{head_of}
 use Rattle.brc_model.proofs.Frame.Lives.{next_of}
 use Rattle.brc_model.proofs.Stepping.Own.{HeldStep}
@@ -138,15 +139,16 @@ keeps_close x =
 cells_step : (p : Accounts) (n : ℕ) (m : Machine) (t : ℕ) (a : Actor) (d : Duty) (x i k : ℕ) (rest : List Duty)
     → AtDuty p n m t a d rest → (a.status ≡ Gone → ⊥) → SettlingStep m t a d x rest → next_of m t a d ≡ cells_from x i k
     → IsEmptyBut (done_by m t a d rest).memory x i k
+    → resources_of ((done_by m t a d rest).memory (KindOf x)) ≡ 0
     → ThreadFits p (done_by m t a d rest) t (actor_by m.layout t a d rest (found_by m t a d))
-cells_step p n m t a d x i k rest here alive step next_is empty =
+cells_step p n m t a d x i k rest here alive step next_is empty no_resource =
     elim (nat_lt i k) as (λ b. nat_lt i k ≡ b
     → ThreadFits p (done_by m t a d rest) t (actor_by m.layout t a d rest (found_by m t a d))) [
       | true ↦ λ e.
           let next : next_of m t a d ≡ SettleCell x i k ∷ [] =
           next_is ∙ ap (λ (b : Bool). cond b (SettleCell x i k ∷ []) (SettleEnd x ∷ [])) e in
           settles_on p n m t a d (SettleCell x i k) x rest here alive step (keeps_cell x i k) next
-          (λ dies gate b. (step.above, dies, ltb-true i k e, gate, empty))
+          (λ dies gate b. (step.above, dies, ltb-true i k e, gate, empty, no_resource))
       | false ↦ λ e.
           let next : next_of m t a d ≡ SettleEnd x ∷ [] =
           next_is ∙ ap (λ (b : Bool). cond b (SettleCell x i k ∷ []) (SettleEnd x ∷ [])) e in
@@ -186,6 +188,8 @@ thread_after_settle_kind p n m t a x rest here alive =
       held = λ e more less. held_same m.abstract.references t (SettleKind x ∷ rest) (e ∷ rest) more less;
       later = agenda_here p n m t a (SettleKind x) rest here alive;
     } in
+    let same : resources_of ((done_by m t a (SettleKind x) rest).memory (KindOf x)) ≡ resources_of word =
+    ap resources_of (written_load m.memory (KindOf x) (KindOf x)) in
     elim (has_resource word) as (λ b. has_resource word ≡ b
     → ThreadFits p (done_by m t a (SettleKind x) rest) t (actor_by m.layout t a (SettleKind x) rest word)) [
       | true ↦
@@ -197,6 +201,7 @@ thread_after_settle_kind p n m t a x rest here alive =
             gate,
             λ j.
                 let few : cells_of word ≡ 0 = resource_cells word e in here.core.cells_end x j (omega (arith, few)),
+            same ∙ ap (λ (b : Bool). cond b 1 0) e,
           ))
       | false ↦
           λ e. cells_step p n m t a (SettleKind x) x 0 (cells_of word) rest here alive step
@@ -204,7 +209,7 @@ thread_after_settle_kind p n m t a x rest here alive =
           (λ j out. here.core.cells_end x j (elim out [
             | inl low ↦ absurd (omega (arith, low))
             | inr high ↦ high
-          ]))
+          ])) (same ∙ ap (λ (b : Bool). cond b 1 0) e)
     ] refl
 
 -- ---- the row's cells
@@ -286,7 +291,7 @@ thread_after_settle_cell p n m t a x i k rest here alive =
                 (SettleCell x i k ∷ rest) (e ∷ rest)) (sym is)
                 (held_same bag t (SettleCell x i k ∷ rest) (e ∷ rest) more less);
             later = later;
-          }) (ap (λ (l : List Duty). l ++ cells_from x (i + 1) k) empty) (one_emptied m.memory x i k fits.4)
+          }) (ap (λ (l : List Duty). l ++ cells_from x (i + 1) k) empty) (one_emptied m.memory x i k fits.4) fits.5
       | suc y ↦ λ is.
           let next = ReleaseLoad y InFlight ∷ cells_from x (i + 1) k in
           own_neutral p n m t a (SettleCell x i k) rest next (next ++ rest) here alive (record {

@@ -27,7 +27,7 @@ use Rattle.brc_model.proofs.Basics.Blocks.{next_counted, next_index, next_block,
 use Rattle.brc_model.proofs.Frame.Leaves.{head_of}
 use Rattle.brc_model.proofs.Stepping.Neutral.{found_by}
 use Rattle.brc_model.proofs.Objects.BlanksAfter.{blanks_here}
-use Rattle.brc_model.proofs.Objects.ResourcesAfter.{returning_finds}
+use Rattle.brc_model.proofs.Objects.ResourcesLent.{returning_finds}
 use Rattle.brc_model.specs.declared.layout.Layout.{Layout}
 use Rattle.brc_model.specs.Layout.{block_of, index_of}
 

@@ -19,17 +19,17 @@ returns-in_err-write_operand-clause-begun g c =
     ((codes " " ++ kind_name c.args.kind) ++ (codes " else @" ++ decimal c.args.otherwise)) refl
     c.in_err-write_operand.ensures.begun
 
-pub returns-in_err-write_kind-clause-begun : goal.returns-in_err-write_kind-clause-begun
-returns-in_err-write_kind-clause-begun g c =
+pub returns-in_err-write_word-clause-begun : goal.returns-in_err-write_word-clause-begun
+returns-in_err-write_word-clause-begun g c =
     stops_between _ _ _ _ _ (codes "as " ++ variable c.args.from) (codes " " ++ kind_name c.args.kind)
     (codes " else @" ++ decimal c.args.otherwise) (parts c.args.from c.args.kind c.args.otherwise)
-    c.in_ok-write_operand.ensures.whole c.in_err-write_kind.ensures.begun
+    c.in_ok-write_operand.ensures.whole (rw c.name.ensures at c.in_err-write_word.ensures.begun)
 
 pub returns-clause-begun : goal.returns-clause-begun
 returns-clause-begun g c =
     let front =
     Appends-trans _ _ _ (codes "as " ++ variable c.args.from) (codes " " ++ kind_name c.args.kind)
-    c.in_ok-write_operand.ensures.whole c.in_ok-write_kind.ensures.whole in
+    c.in_ok-write_operand.ensures.whole (rw c.name.ensures at c.in_ok-write_word.ensures.whole) in
     stops_late _ _ _ _ _ ((codes "as " ++ variable c.args.from) ++ (codes " " ++ kind_name c.args.kind))
     (codes " else @" ++ decimal c.args.otherwise) (parts c.args.from c.args.kind c.args.otherwise)
     front (rw c.from.ensures at c.write_numeral.ensures.begun)

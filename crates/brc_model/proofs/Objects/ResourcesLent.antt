@@ -1,0 +1,114 @@
+-- A row's resource is in one place after a step that lends or returns it.
+use Rattle.std.proofs.Common.{◌≡◌, ℕ, Bool, false, cond, List, Some, refl, sym, ap, subst, arith}
+use Rattle.std.specs.Prelude.{slice_get}
+use Rattle.std.proofs.lemmas.Bool.{eq-eqb}
+use Rattle.brc_model.specs.declared.duty.Duty.{Duty}
+use Rattle.brc_model.specs.declared.duty.Duty.TheVariants.{LendSlot, ReturnSlot}
+use Rattle.brc_model.specs.declared.address.Address.TheVariants.{KindOf, Slot}
+use Rattle.brc_model.specs.Duties.{resources_of}
+use Rattle.brc_model.specs.Machine.{Actor, Life, Live, Machine, actor_by, done_by}
+use Rattle.brc_model.specs.RowInvariant.{weight}
+use Rattle.brc_model.specs.Accounts.{Accounts}
+use Rattle.brc_model.specs.OpenWork.{dies_by}
+use Rattle.brc_model.specs.Invariant.{AtDuty, CoreInvariant}
+use Rattle.brc_model.specs.Resources.{closing, resources_at, ResourcesFit}
+use Rattle.brc_model.proofs.Basics.Written.{written_here}
+use Rattle.brc_model.proofs.Frame.Leaves.{head_of, locked_alive}
+use Rattle.brc_model.proofs.Stepping.Neutral.{found_by}
+use Rattle.brc_model.proofs.Objects.Finalisers.{unfinalised}
+use Rattle.brc_model.proofs.Objects.Lenders.{is_named, none_named, lenders-set, lends-le, locker_alone}
+use Rattle.brc_model.proofs.Objects.SettlingWeights.{settles, settles_row, finalises, of_closing, settling_kept}
+use Rattle.brc_model.proofs.Objects.ResourcesElsewhere.{resources_low}
+
+module _ (p : Accounts) (n : ℕ) (m : Machine) (t : ℕ) (a : Actor) where
+  -- ---- a lent resource
+
+  kept_weights : (d : Duty) (rest : List Duty) (x : ℕ) → AtDuty p n m t a d rest → settles_row d x ≡ false
+      → settles d x ≡ false → weight (closing x) (done_by m t a d rest).actors ≡ weight (closing x) m.actors
+  kept_weights d rest x here row not = settling_kept x (closing x) (of_closing x) p n m t a d rest here row not
+
+  -- A thread that is about to lend a resource finds it in its slot.
+  pub lending_finds : (x : ℕ) (rest : List Duty) → AtDuty p n m t a (LendSlot x) rest → m.memory (Slot x) ≡ 1
+  lending_finds x rest here =
+      let head = head_of p n m t a (LendSlot x) rest here in
+      let lives = (locked_alive p n m t a x here.core here.found head.1).life in
+      let fit : ResourcesFit Live (resources_at m x) =
+      subst (λ (l : Life). ResourcesFit l (resources_at m x)) lives (here.core.resources x) in
+      let none : (u : ℕ) → dies_by (m.life x) u ≡ false = λ u. ap (λ (l : Life). dies_by l u) lives in
+      let none_closing =
+      unfinalised p n m x (closing x) (finalises x (closing x) (of_closing x)) here.core none in
+      let not_lent = locker_alone p n m x t a here.core here.found head.1 head.2 in
+      let one : resources_of (m.memory (KindOf x)) ≡ 1 = ap (λ (b : Bool). cond b 1 0) head.3 in
+      omega (arith, fit.0, fit.1, none_closing, not_lent, one)
+
+  -- The slot of a resource that the thread has lent is empty.
+  pub lent_leaves_none : (x : ℕ) → CoreInvariant p n m → slice_get m.actors t ≡ Some a → a.lent ≡ Some x
+      → m.memory (Slot x) ≡ 0
+  lent_leaves_none x core found lent =
+      let locked = (core.each t a found).0.lent x lent in
+      let lives = (locked_alive p n m t a x core found locked).life in
+      let fit : ResourcesFit Live (resources_at m x) =
+      subst (λ (l : Life). ResourcesFit l (resources_at m x)) lives (core.resources x) in
+      omega (
+        arith,
+        fit.0,
+        is_named a.lent x lent,
+        lends-le x m.actors t a found,
+        resources_low (m.memory (KindOf x)),
+      )
+
+  -- A thread that returns a resource finds the slot empty.
+  pub returning_finds : (x : ℕ) (rest : List Duty) → AtDuty p n m t a (ReturnSlot x) rest → m.memory (Slot x) ≡ 0
+  returning_finds x rest here =
+      lent_leaves_none x here.core here.found (head_of p n m t a (ReturnSlot x) rest here)
+
+  pub after_lend : (x : ℕ) (rest : List Duty) → AtDuty p n m t a (LendSlot x) rest
+      → ResourcesFit ((done_by m t a (LendSlot x) rest).life x) (resources_at (done_by m t a (LendSlot x) rest) x)
+  after_lend x rest here =
+      let d : Duty = LendSlot x in
+      let new = resources_at (done_by m t a d rest) x in
+      let head = head_of p n m t a d rest here in
+      let lives = (locked_alive p n m t a x here.core here.found head.1).life in
+      let fit : ResourcesFit Live (resources_at m x) =
+      subst (λ (l : Life). ResourcesFit l (resources_at m x)) lives (here.core.resources x) in
+      let after = actor_by m.layout t a d rest (found_by m t a d) in
+      let is : after.lent ≡ Some x =
+      ap (λ (b : Bool). cond b (Some x) a.lent) (eq-eqb (m.memory (Slot x)) 1 (lending_finds x rest here)) in
+      subst (λ (l : Life). ResourcesFit l new) (sym lives) (
+        omega (
+          arith,
+          fit.0,
+          written_here m.memory (Slot x) 0,
+          lending_finds x rest here,
+          lenders-set x m.actors t a after here.found,
+          is_named after.lent x is,
+          none_named a.lent x head.2,
+          kept_weights d rest x here refl refl,
+        ),
+        fit.1,
+      )
+
+  pub after_return : (x : ℕ) (rest : List Duty) → AtDuty p n m t a (ReturnSlot x) rest
+      → ResourcesFit ((done_by m t a (ReturnSlot x) rest).life x) (resources_at (done_by m t a (ReturnSlot x) rest) x)
+  after_return x rest here =
+      let d : Duty = ReturnSlot x in
+      let new = resources_at (done_by m t a d rest) x in
+      let lent = head_of p n m t a d rest here in
+      let locked = (here.core.each t a here.found).0.lent x lent in
+      let lives = (locked_alive p n m t a x here.core here.found locked).life in
+      let fit : ResourcesFit Live (resources_at m x) =
+      subst (λ (l : Life). ResourcesFit l (resources_at m x)) lives (here.core.resources x) in
+      let after = actor_by m.layout t a d rest (found_by m t a d) in
+      subst (λ (l : Life). ResourcesFit l new) (sym lives) (
+        omega (
+          arith,
+          fit.0,
+          written_here m.memory (Slot x) 1,
+          returning_finds x rest here,
+          lenders-set x m.actors t a after here.found,
+          is_named a.lent x lent,
+          none_named after.lent x refl,
+          kept_weights d rest x here refl refl,
+        ),
+        fit.1,
+      )

@@ -1,0 +1,314 @@
+-- A thread begins a bounded number of instructions in one call, since each beginning lowers what it can still begin.
+use Rattle.std.proofs.Common.{◌≡◌, ◌≢◌, ℕ, zero, suc, ◌+◌, ◌*◌, ◌≤◌, Bool, true, false, cond, List, [], ◌∷◌, length, inl, inr, Option, Some, refl, sym, ap, ◌∙◌, subst, arith}
+use Rattle.std.specs.Prelude.{◌==◌, ◌&&◌, not, slice_get}
+use Rattle.std.proofs.lemmas.Bool.Decides.{eqb_tells}
+use Rattle.std.proofs.lemmas.Option.{slice_get_within}
+use Rattle.brc_lang.specs.declared.module.Instr.{Instr}
+use Rattle.brc_lang.specs.declared.module.Function.{Function}
+use Rattle.brc_lang.specs.declared.module.Module.{Module}
+use Rattle.brc_lang.specs.Grammar.{IsModule}
+use Rattle.brc_word.specs.Words.{free_word}
+use Rattle.brc_model.specs.declared.thread.Choice.{Choice}
+use Rattle.brc_model.specs.declared.thread.Choice.TheVariants.{Ok, Fault, Claim}
+use Rattle.brc_model.specs.declared.slot.Exit.{Exit}
+use Rattle.brc_model.specs.declared.address.Address.TheVariants.{Gate}
+use Rattle.brc_model.specs.declared.duty.Duty.{Duty}
+use Rattle.brc_model.specs.declared.duty.Duty.TheVariants.{LockGate, ClaimMark}
+use Rattle.brc_model.specs.declared.actor.Status.{Status}
+use Rattle.brc_model.specs.declared.actor.Status.TheVariants.{Running, Leaving, Gone}
+use Rattle.brc_model.specs.declared.actor.Place.{Place}
+use Rattle.brc_model.specs.declared.actor.Place.TheVariants.{Idle, InCall, Inside, Exiting}
+use Rattle.brc_model.specs.Duties.{address_of}
+use Rattle.brc_model.specs.References.{one_if}
+use Rattle.brc_model.specs.Threads.{code_of}
+use Rattle.brc_model.specs.Actions.{StepActor, Action, Skip, Stuck, Silent, Calls, Does, always, may_claim, dispatch, agenda_action, status_action, exit_of, action_of}
+use Rattle.brc_model.specs.StepMachine.{StepMachine, of_thread, at_place, step_actor, machine_by, next_machine, first_machine, machine_after}
+use Rattle.brc_model.specs.Progress.{Always}
+use Rattle.brc_model.specs.Bounded.{instruction_limit, is_before_instruction, takes_step, begins_by, begins_at, begun, calls_after, IsInOrAfter, CallsAreBounded, ThreadsAreBounded}
+use Rattle.brc_model.proofs.Basics.Lists.{either, some_is, none_some, slice_get-set_same}
+use Rattle.brc_model.proofs.Promises.Leading.{LeadsTo}
+use Rattle.brc_model.proofs.Promises.Turns.{CountsTurns, FitsCode, TurnsHold, code_here, first_turns, turns_next, turns_after}
+use Rattle.brc_model.proofs.Promises.Trace.{thread_leaves}
+use Rattle.brc_model.proofs.Promises.CallsLeft.{instructions_left, call_bounded, Lowers, dispatch_lowers}
+
+-- ---- a thread's action
+
+-- where the thread is after the action, whose host call ends by the exit
+abbrev next_place : StepMachine → ℕ → StepActor → Exit → Action → Place
+next_place m t a exit Skip = a.place
+next_place m t a exit Stuck = a.place
+next_place m t a exit (Silent moves place) = place
+next_place m t a exit (Calls place) = place exit
+next_place m t a exit (Does d rest place) = place (m.memory (address_of m.layout t a.actor.head d))
+
+-- The action lowers what the thread can begin, by one if it begins an instruction.
+abbrev ActionLowers : List Instr → StepMachine → ℕ → StepActor → Exit → Bool → Action → Type 0
+ActionLowers code m t a exit begins x =
+    one_if begins + instructions_left code (next_place m t a exit x) ≤ instructions_left code a.place
+
+one_if-true : (b : Bool) → one_if (b && true) ≡ one_if b
+one_if-true true = refl
+one_if-true false = refl
+
+one_if-false : (b : Bool) → one_if (b && false) ≡ 0
+one_if-false true = refl
+one_if-false false = refl
+
+-- What the dispatch does lowers it.
+taken_lowers : (code : List Instr) (m : StepMachine) (t : ℕ) (a : StepActor) (exit : Exit) (x : Action)
+    → LeadsTo (Lowers code a.place) a.place x
+    → ActionLowers code m t a exit (is_before_instruction a.place && takes_step m.memory x) x
+taken_lowers code m t a exit Skip leads = absurd leads
+taken_lowers code m t a exit Stuck leads = omega (arith, one_if-false (is_before_instruction a.place))
+taken_lowers code m t a exit (Silent moves place) leads =
+    omega (arith, leads, one_if-true (is_before_instruction a.place))
+taken_lowers code m t a exit (Calls place) leads =
+    omega (arith, leads exit, one_if-true (is_before_instruction a.place))
+taken_lowers code m t a exit (Does (LockGate x) rest place) leads =
+    let word = m.memory (Gate x) in
+    let step : Bool → ℕ = λ free. one_if (is_before_instruction a.place && not (not free)) in
+    elim (eqb_tells word free_word) [
+      | inl free ↦
+          omega (arith, (leads word).0 free.1, ap step free.0, one_if-true (is_before_instruction a.place))
+      | inr taken ↦
+          let stays : instructions_left code (place word) ≡ instructions_left code a.place =
+          ap (instructions_left code) ((leads word).1 taken.0) in
+          omega (arith, stays, ap step taken.0, one_if-false (is_before_instruction a.place))
+    ]
+taken_lowers code m t a exit (Does d rest place) leads =
+    omega (
+      arith,
+      leads (m.memory (address_of m.layout t a.actor.head d)),
+      one_if-true (is_before_instruction a.place),
+    )
+
+-- The thread begins an instruction by the action, if no duty comes first.
+abbrev begins_with : StepMachine → StepActor → List Duty → Action → Bool
+begins_with m a agenda x = (length agenda == 0) && is_before_instruction a.place && takes_step m.memory x
+
+-- A thread with a duty to do first begins nothing.
+first_done : (d : Duty) (rest : List Duty) (before steps : Bool)
+    → one_if ((length (d ∷ rest) == 0) && before && steps) ≡ 0
+first_done d rest before steps =
+    elim (eqb_tells (length (d ∷ rest)) 0) [
+      | inl none ↦ absurd (let wrong : length (d ∷ rest) ≡ 0 = none.1 in omega (arith, wrong))
+      | inr some ↦ ap (λ (empty : Bool). one_if (empty && before && steps)) some.0
+    ]
+
+agenda_lowers : (m : StepMachine) (t : ℕ) (a : StepActor) (exit : Exit) (agenda : List Duty)
+    → FitsCode (code_of (slice_get m.functions a.function)) → CountsTurns a.place
+    → ActionLowers (code_of (slice_get m.functions a.function)) m t a exit
+    (begins_with m a agenda (agenda_action m.functions m.layout t a agenda))
+    (agenda_action m.functions m.layout t a agenda)
+agenda_lowers m t a exit [] fits all =
+    let code = code_of (slice_get m.functions a.function) in
+    taken_lowers code m t a exit (dispatch m.layout t a.actor.used code a.place)
+    (dispatch_lowers m.layout t a.actor.used code a.place fits all)
+agenda_lowers m t a exit (d ∷ rest) fits all =
+    let code = code_of (slice_get m.functions a.function) in
+    let before = is_before_instruction a.place in
+    let steps = takes_step m.memory (Does d rest (always a.place)) in
+    let stays : one_if ((length (d ∷ rest) == 0) && before && steps) + instructions_left code a.place
+    ≤ instructions_left code a.place = omega (arith, first_done d rest before steps) in
+    stays
+
+none_begun : (some before : Bool) → one_if (some && before && false) ≡ 0
+none_begun true before = one_if-false before
+none_begun false before = refl
+
+status_lowers : (m : StepMachine) (t : ℕ) (a : StepActor) (exit : Exit) (status : Status)
+    → FitsCode (code_of (slice_get m.functions a.function)) → CountsTurns a.place
+    → ActionLowers (code_of (slice_get m.functions a.function)) m t a exit
+    (begins_with m a a.actor.agenda (status_action m.functions m.layout t a status))
+    (status_action m.functions m.layout t a status)
+status_lowers m t a exit Gone fits all =
+    omega (arith, none_begun (length a.actor.agenda == 0) (is_before_instruction a.place))
+status_lowers m t a exit Running fits all = agenda_lowers m t a exit a.actor.agenda fits all
+status_lowers m t a exit Leaving fits all = agenda_lowers m t a exit a.actor.agenda fits all
+
+action_lowers : (m : StepMachine) (t : ℕ) (a : StepActor) (choice : Choice)
+    → FitsCode (code_of (slice_get m.functions a.function)) → CountsTurns a.place
+    → ActionLowers (code_of (slice_get m.functions a.function)) m t a (exit_of choice) (begins_by m t a choice)
+    (action_of m.functions m.layout t a choice)
+action_lowers m t a Ok fits all = status_lowers m t a (exit_of Ok) a.actor.status fits all
+action_lowers m t a Fault fits all = status_lowers m t a (exit_of Fault) a.actor.status fits all
+action_lowers m t a (Claim row) fits all =
+    let code = code_of (slice_get m.functions a.function) in
+    either (ActionLowers code m t a (exit_of (Claim row)) false) (may_claim m.layout t a row)
+    (Does (ClaimMark row) [] (always a.place)) Skip (λ may. omega arith) (omega arith)
+
+-- ---- an event
+
+-- After the event the thread is there, with its function, and can begin less by what it has begun.
+record Goes (m new : StepMachine) (t : ℕ) (a : StepActor) (begins : Bool) : Type 0 where
+  functions : new.functions ≡ m.functions
+  after : StepActor
+  is_there : slice_get new.actors t ≡ Some after
+  function : after.function ≡ a.function
+  lowers : one_if begins + instructions_left (code_of (slice_get m.functions a.function)) after.place
+      ≤ instructions_left (code_of (slice_get m.functions a.function)) a.place
+
+action_goes : (m : StepMachine) (t : ℕ) (a : StepActor) (exit : Exit) (begins : Bool) (x : Action)
+    → slice_get m.actors t ≡ Some a
+    → ActionLowers (code_of (slice_get m.functions a.function)) m t a exit begins x
+    → Goes m (machine_by m t a exit x) t a begins
+action_goes m t a exit begins Skip found lowers =
+    record { functions = refl; after = a; is_there = found; function = refl; lowers = lowers }
+action_goes m t a exit begins Stuck found lowers =
+    record { functions = refl; after = a; is_there = found; function = refl; lowers = lowers }
+action_goes m t a exit begins (Silent moves place) found lowers = record {
+  functions = refl;
+  after = at_place a place;
+  is_there = slice_get-set_same m.actors t (at_place a place) (slice_get_within m.actors t a found);
+  function = refl;
+  lowers = lowers;
+}
+action_goes m t a exit begins (Calls place) found lowers = record {
+  functions = refl;
+  after = at_place a (place exit);
+  is_there = slice_get-set_same m.actors t (at_place a (place exit)) (slice_get_within m.actors t a found);
+  function = refl;
+  lowers = lowers;
+}
+action_goes m t a exit begins (Does d rest place) found lowers =
+    let word = m.memory (address_of m.layout t a.actor.head d) in
+    let after = step_actor m.layout t a d rest (place word) word in
+    record {
+      functions = refl;
+      after = after;
+      is_there = slice_get-set_same m.actors t after (slice_get_within m.actors t a found);
+      function = refl;
+      lowers = lowers;
+    }
+
+-- The machine after an event of the thread.
+abbrev after : StepMachine → ℕ → Choice → Option StepActor → StepMachine
+after m t choice o = of_thread m (λ a. machine_by m t a (exit_of choice) (action_of m.functions m.layout t a choice)) o
+
+abbrev begins : StepMachine → ℕ → Choice → Option StepActor → Bool
+begins m t choice o = of_thread false (λ a. begins_by m t a choice) o
+
+own_goes : (p : Module) (m : StepMachine) (event : ℕ × Choice) (t : ℕ) (a : StepActor) → IsModule p → TurnsHold p m
+    → slice_get m.actors t ≡ Some a → event.0 ≡ t
+    → Goes m (next_machine m event) t a (begins m t event.1 (slice_get m.actors t))
+own_goes p m event t a fits holds found same =
+    let own =
+    action_goes m t a (exit_of event.1) (begins_by m t a event.1) (action_of m.functions m.layout t a event.1) found
+    (action_lowers m t a event.1 (code_here p m a.function fits holds) (holds.counts t a found)) in
+    let at_slot : Goes m (after m t event.1 (slice_get m.actors t)) t a (begins m t event.1 (slice_get m.actors t)) =
+    subst (λ (o : Option StepActor). Goes m (after m t event.1 o) t a (begins m t event.1 o)) (sym found) own in
+    subst (λ (u : ℕ). Goes m (after m u event.1 (slice_get m.actors u)) t a
+    (begins m t event.1 (slice_get m.actors t))) (sym same) at_slot
+
+other_goes : (m : StepMachine) (event : ℕ × Choice) (t : ℕ) (a : StepActor) → slice_get m.actors t ≡ Some a
+    → t ≢ event.0 → Goes m (next_machine m event) t a false
+other_goes m event t a found ne =
+    let leaves = thread_leaves m event.0 t event.1 (slice_get m.actors event.0) ne in
+    record {
+      functions = leaves.functions;
+      after = a;
+      is_there = leaves.actor ∙ found;
+      function = refl;
+      lowers = omega arith;
+    }
+
+event_goes : (p : Module) (m : StepMachine) (event : ℕ × Choice) (t : ℕ) (a : StepActor) → IsModule p → TurnsHold p m
+    → slice_get m.actors t ≡ Some a → Goes m (next_machine m event) t a (begins_at t m event)
+event_goes p m event t a fits holds found =
+    let P : Bool → Type 0 = λ own.
+    Goes m (next_machine m event) t a (cond own (begins m t event.1 (slice_get m.actors t)) false) in
+    elim (eqb_tells event.0 t) [
+      | inl same ↦ subst P (sym same.0) (own_goes p m event t a fits holds found same.1)
+      | inr apart ↦ subst P (sym apart.0) (other_goes m event t a found (λ e. apart.1 (sym e)))
+    ]
+
+-- ---- a list of events
+
+-- After the events the thread is there, and can begin less by what it has begun.
+record Reaches (m new : StepMachine) (t : ℕ) (a : StepActor) (some : ℕ) : Type 0 where
+  after : StepActor
+  is_there : slice_get new.actors t ≡ Some after
+  lowers : some + instructions_left (code_of (slice_get m.functions a.function)) after.place
+      ≤ instructions_left (code_of (slice_get m.functions a.function)) a.place
+
+events_reach : (p : Module) (m : StepMachine) (events : List (ℕ × Choice)) (t : ℕ) (a : StepActor) → IsModule p
+    → TurnsHold p m → slice_get m.actors t ≡ Some a → Reaches m (machine_after m events) t a (begun t m events)
+events_reach p m [] t a fits holds found = record { after = a; is_there = found; lowers = omega arith }
+events_reach p m (event ∷ rest) t a fits holds found =
+    let next = next_machine m event in
+    let goes = event_goes p m event t a fits holds found in
+    let behind = events_reach p next rest t goes.after fits (turns_next p m event fits holds) goes.is_there in
+    let code : code_of (slice_get next.functions goes.after.function) ≡ code_of (slice_get m.functions a.function) =
+    ap (λ (n : ℕ). code_of (slice_get next.functions n)) goes.function
+    ∙ ap (λ (fs : List Function). code_of (slice_get fs a.function)) goes.functions in
+    let lowers =
+    subst (λ (c : List Instr). begun t next rest + instructions_left c behind.after.place
+    ≤ instructions_left c goes.after.place) code behind.lowers in
+    record {
+      after = behind.after;
+      is_there = behind.is_there;
+      lowers = omega (arith, goes.lowers, lowers);
+    }
+
+-- ---- the law
+
+same_calls : (code : List Instr) (n left : ℕ) → Some n ≡ Some left
+    → n * instruction_limit code ≡ left * instruction_limit code
+same_calls code n left is = ap (λ (k : ℕ). k * instruction_limit code) (some_is n left is)
+
+-- In a call a thread can begin what its later calls allow, and the limit once more.
+left_in_call : (code : List Instr) (place : Place) (left : ℕ) → calls_after place ≡ Some left
+    → instructions_left code place ≤ left * instruction_limit code + instruction_limit code
+left_in_call code (Idle zero) left is = absurd (none_some left is)
+left_in_call code (Idle (suc n)) left is =
+    omega (arith, same_calls code n left is)
+left_in_call code (InCall counters at variables) left is =
+    omega (arith, same_calls code counters.left left is, call_bounded code counters at)
+left_in_call code (Inside counters at variables stage) left is =
+    omega (arith, same_calls code counters.left left is, call_bounded code counters (at + 1))
+left_in_call code Exiting left is = absurd (none_some left is)
+
+-- As long as it hasn't gone on to the next call, it can still begin what its later calls allow.
+left_after_call : (code : List Instr) (place : Place) (left : ℕ) → IsInOrAfter left place
+    → left * instruction_limit code ≤ instructions_left code place
+left_after_call code place left (inr ended) =
+    let same : instructions_left code place ≡ left * instruction_limit code = ap (instructions_left code) ended in
+    omega (arith, same)
+left_after_call code (Idle zero) left (inl is) = absurd (none_some left is)
+left_after_call code (Idle (suc n)) left (inl is) =
+    omega (arith, same_calls code n left is)
+left_after_call code (InCall counters at variables) left (inl is) =
+    omega (arith, same_calls code counters.left left is)
+left_after_call code (Inside counters at variables stage) left (inl is) =
+    omega (arith, same_calls code counters.left left is)
+left_after_call code Exiting left (inl is) = absurd (none_some left is)
+
+call_is_bounded : (p : Module) (m : StepMachine) → IsModule p → TurnsHold p m → CallsAreBounded m
+call_is_bounded p m fits holds events t left a b found in_call ends still =
+    let code = code_of (slice_get m.functions a.function) in
+    let reach = events_reach p m events t a fits holds found in
+    let there : reach.after ≡ b = some_is reach.after b (sym reach.is_there ∙ ends) in
+    let same : instructions_left code reach.after.place ≡ instructions_left code b.place =
+    ap (λ (c : StepActor). instructions_left code c.place) there in
+    omega (
+      arith,
+      reach.lowers,
+      same,
+      left_in_call code a.place left in_call,
+      left_after_call code b.place left still,
+    )
+
+thread_is_bounded : (p : Module) (m : StepMachine) → IsModule p → TurnsHold p m → ThreadsAreBounded m
+thread_is_bounded p m fits holds events t left a found idle =
+    let code = code_of (slice_get m.functions a.function) in
+    let reach = events_reach p m events t a fits holds found in
+    let whole : instructions_left code a.place ≡ left * instruction_limit code = ap (instructions_left code) idle in
+    omega (arith, reach.lowers, whole)
+
+pub calls_bounded : (p : Module) → IsModule p → Always CallsAreBounded p
+calls_bounded p fits = λ rows calls events some most are_calls.
+    call_is_bounded p _ fits (turns_after p (first_machine p rows calls) events fits (first_turns p rows calls))
+
+pub threads_bounded : (p : Module) → IsModule p → Always ThreadsAreBounded p
+threads_bounded p fits = λ rows calls events some most are_calls.
+    thread_is_bounded p _ fits (turns_after p (first_machine p rows calls) events fits (first_turns p rows calls))
