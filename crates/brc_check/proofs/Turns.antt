@@ -69,6 +69,12 @@ leads code filling at s exit same =
     leads-place filling (follow code (At at s) exit)
     (λ k t e. let within = arrives-within code at k s t exit e in omega (arith, within, same))
 
+pub led-length : (code : List Instr) (filling once : Filling) (at : ℕ) (s : State) (exit : Exit)
+    → length filling.entries ≡ length code → once ≡ settled_at filling (follow code (At at s) exit)
+    → length once.entries ≡ length code
+led-length code filling once at s exit same is =
+    ap (λ (f : Filling). length f.entries) is ∙ (leads code filling at s exit same).same_length ∙ same
+
 stays-kept : (old new : List (Option State)) (p : PathEnd)
     → ((k : ℕ) (t : State) → entry_at old k ≡ Some t → entry_at new k ≡ Some t) → StaysOn old p → StaysOn new p
 stays-kept old new (At at s) kept on = kept at s on

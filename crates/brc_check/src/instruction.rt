@@ -6,7 +6,8 @@ ghost use Rattle.brc_model.specs.Slots.{lowest, after, target};
 use crate::refusing::{
     as_refusal, drop_refusal, fail_refusal, into_refusal, move_refusal, newref_refusal, ret_refusal,
 };
-use crate::refusing_items::{put_refusal, read_refusal, set_refusal};
+use crate::refusing_host::{read_refusal, write_refusal};
+use crate::refusing_items::{item_refusal, put_refusal, set_refusal};
 use crate::refusing_locks::{lock_refusal, unlock_refusal};
 use crate::slots::{forget_items, kind_of, put, slot, with_kind};
 use brc_lang::{Instr, Kind};
@@ -17,19 +18,23 @@ pub fn refusal(instr: Instr, state: &State) -> Option<CheckCode>
     ensures { result ≡ lowest instr state.now }
 {
     match instr {
-        Instr::Num { to, .. } | Instr::List { to, .. } | Instr::NoneObject { to } => {
-            into_refusal(state, to)
-        }
+        Instr::Num { to, .. }
+        | Instr::List { to, .. }
+        | Instr::NoneObject { to }
+        | Instr::Open { to, .. }
+        | Instr::Connect { to, .. } => into_refusal(state, to),
         Instr::Newref { to, from } => newref_refusal(state, to, from),
         Instr::Move { to, from } => move_refusal(state, to, from),
         Instr::Drop { from } => drop_refusal(state, from),
         Instr::Lock { object } => lock_refusal(state, object),
         Instr::Unlock { object } => unlock_refusal(state, object),
         Instr::Borrow { to, list, .. } | Instr::Fetch { to, list, .. } => {
-            read_refusal(state, to, list)
+            item_refusal(state, to, list)
         }
         Instr::Set { list, from, .. } => set_refusal(state, list, from),
         Instr::Put { list, from, .. } => put_refusal(state, list, from),
+        Instr::Read { to, file, .. } => read_refusal(state, to, file),
+        Instr::Write { file, number, .. } => write_refusal(state, file, number),
         Instr::As { from, kind, .. } => as_refusal(state, from, kind),
         Instr::Goto { .. } | Instr::Again { .. } => None,
         Instr::Ret { from } => ret_refusal(state, from),
@@ -53,8 +58,12 @@ pub fn apply(instr: Instr, exit: Exit, state: &mut State)
     ensures { state.new ≡ after instr exit state.old }
 {
     match instr {
-        Instr::Num { to, .. } => put(state, to, filled(Slot::Owned(Kind::Num), exit)),
+        Instr::Num { to, .. } | Instr::Read { to, .. } => {
+            put(state, to, filled(Slot::Owned(Kind::Num), exit));
+        }
         Instr::List { to, .. } => put(state, to, filled(Slot::Owned(Kind::List), exit)),
+        Instr::Open { to, .. } => put(state, to, filled(Slot::Owned(Kind::File), exit)),
+        Instr::Connect { to, .. } => put(state, to, filled(Slot::Owned(Kind::Sock), exit)),
         Instr::NoneObject { to } => put(state, to, Slot::Owned(Kind::None)),
         Instr::Newref { to, from } => {
             let kind = kind_of(slot(state, from));
@@ -85,7 +94,11 @@ pub fn apply(instr: Instr, exit: Exit, state: &mut State)
                 put(state, from, asked);
             }
         }
-        Instr::Goto { .. } | Instr::Again { .. } | Instr::Ret { .. } | Instr::Fail => (),
+        Instr::Write { .. }
+        | Instr::Goto { .. }
+        | Instr::Again { .. }
+        | Instr::Ret { .. }
+        | Instr::Fail => (),
     }
 }
 
@@ -101,6 +114,10 @@ pub fn target_of(instr: Instr, exit: Exit, at: usize) -> Option<usize>
         | Instr::Fetch { otherwise, .. }
         | Instr::Set { otherwise, .. }
         | Instr::Put { otherwise, .. }
+        | Instr::Open { otherwise, .. }
+        | Instr::Connect { otherwise, .. }
+        | Instr::Read { otherwise, .. }
+        | Instr::Write { otherwise, .. }
         | Instr::As { otherwise, .. } => Some(match exit {
             Exit::Success => at + 1,
             Exit::Fault => otherwise as usize,

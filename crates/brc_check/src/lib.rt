@@ -12,6 +12,7 @@ mod inferring;
 mod instruction;
 mod refused;
 mod refusing;
+mod refusing_host;
 mod refusing_items;
 mod refusing_locks;
 mod slots;

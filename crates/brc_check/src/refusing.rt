@@ -7,7 +7,7 @@ use crate::slots::{any_owned, is_locked, kind_of, may_be, put, slot};
 use brc_lang::{Instr, Kind, Variable};
 use brc_model::{CheckCode, Slot, State};
 
-/// Returns the lowest code that `none`, `num` or `list` reports in the state.
+/// Returns the lowest code that `none`, `num`, `list`, `open` or `connect` reports in the state.
 pub fn into_refusal(state: &State, to: Variable) -> Option<CheckCode>
     ensures { result ≡ lowest (Instr.NoneObject to) state.now }
 {

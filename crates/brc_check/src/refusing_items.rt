@@ -8,7 +8,7 @@ use brc_lang::{Instr, Variable};
 use brc_model::{CheckCode, Slot, State};
 
 /// Returns the lowest code that `borrow` or `fetch` reports in the state.
-pub fn read_refusal(state: &State, to: Variable, list: Variable) -> Option<CheckCode>
+pub fn item_refusal(state: &State, to: Variable, list: Variable) -> Option<CheckCode>
     ensures borrow { result ≡ lowest (Instr.Borrow to list 0 0) state.now }
     ensures fetch { result ≡ lowest (Instr.Fetch to list 0 0) state.now }
 {

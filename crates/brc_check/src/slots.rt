@@ -3,8 +3,8 @@
 ghost use Rattle.std.specs.Prelude.{◌≡◌, [], ◌∷◌, map};
 ghost use Rattle.std.specs.List.{list_any};
 ghost use Rattle.brc_lang.specs.declared.kind.Kind.TheVariants as kinds;
-ghost use Rattle.brc_model.specs.Slots.{slot_of, is_owned, kind_of, is_one_of, lockable, names, may_be, with_kind};
-ghost use Rattle.brc_model.specs.Slots.{put, without_item, without_items};
+ghost use Rattle.brc_model.specs.Slots.{slot_of, is_owned, kind_of, is_one_of, lockable, with_resource, names, may_be};
+ghost use Rattle.brc_model.specs.Slots.{with_kind, put, without_item, without_items};
 
 use brc_lang::{Kind, Variable};
 use brc_model::{Slot, State};
@@ -43,6 +43,20 @@ pub fn is_list(slot: Slot) -> bool
     ensures { result ≡ is_one_of (kind_of slot) (kinds.List ∷ []) }
 {
     kind_of(slot) == Kind::List
+}
+
+/// Returns whether the slot is known to name a number.
+pub fn is_num(slot: Slot) -> bool
+    ensures { result ≡ is_one_of (kind_of slot) (kinds.Num ∷ []) }
+{
+    kind_of(slot) == Kind::Num
+}
+
+/// Returns whether the slot is known to name a file or a socket, which has a resource of the host.
+pub fn has_resource(slot: Slot) -> bool
+    ensures { result ≡ is_one_of (kind_of slot) with_resource }
+{
+    matches!(kind_of(slot), Kind::File | Kind::Sock)
 }
 
 /// Returns whether objects of the kind can be locked.

@@ -4,6 +4,8 @@
 #[cfg(test)]
 mod functions;
 #[cfg(test)]
+mod host;
+#[cfg(test)]
 mod items;
 #[cfg(test)]
 mod locked_tables;

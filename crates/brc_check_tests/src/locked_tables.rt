@@ -1,4 +1,4 @@
-//! The tables of functions that lock a list and use its items.
+//! The tables of functions that lock a list and use its items, or a file or socket to read or write it.
 
 use crate::tables::{first_difference, is_refused_at};
 use brc_check::{Slot, State};
@@ -12,6 +12,10 @@ type Entry = (Slot, Slot, Option<u8>);
 const NUMBER: Slot = Slot::Owned(Kind::Num);
 
 const LIST: Slot = Slot::Owned(Kind::List);
+
+const FILE: Slot = Slot::Owned(Kind::File);
+
+const SOCKET: Slot = Slot::Owned(Kind::Sock);
 
 /// A fetched item, whose kind isn't known.
 const FETCHED: Slot = Slot::Owned(Kind::Any);
@@ -83,6 +87,34 @@ const TABLES: &[(&[u8], &[Entry])] = &[
             (Slot::Empty, Slot::Empty, None),
         ],
     ),
+    // A number that is read is owned.
+    (
+        b"open v1 0 r else @6\nlock v1\nread v2 v1 8 else @4\ndrop v2\nunlock v1\ndrop v1\nfail\n",
+        &[
+            (Slot::Empty, Slot::Empty, None),
+            (FILE, Slot::Empty, None),
+            (FILE, Slot::Empty, Some(1)),
+            (FILE, NUMBER, Some(1)),
+            (FILE, Slot::Empty, Some(1)),
+            (FILE, Slot::Empty, None),
+            (Slot::Empty, Slot::Empty, None),
+        ],
+    ),
+    // `write` changes no variable.
+    (
+        b"connect v1 0 else @7\nnum v2 5 else @6\nlock v1\nwrite v1 v2 else @4\nunlock v1\ndrop v2\n\
+          drop v1\nfail\n",
+        &[
+            (Slot::Empty, Slot::Empty, None),
+            (SOCKET, Slot::Empty, None),
+            (SOCKET, NUMBER, None),
+            (SOCKET, NUMBER, Some(1)),
+            (SOCKET, NUMBER, Some(1)),
+            (SOCKET, NUMBER, None),
+            (SOCKET, Slot::Empty, None),
+            (Slot::Empty, Slot::Empty, None),
+        ],
+    ),
 ];
 
 /// The slots of v1, and locked variables, that overwrite those of an entry.
@@ -95,6 +127,10 @@ const OVERWRITTEN: &[(Slot, Option<u8>)] = &[
     (BORROWED, Some(1)),
     (Slot::Locked(Kind::Num), Some(0)),
     (Slot::Caller(Kind::Any), Some(0)),
+    (FILE, None),
+    (FILE, Some(1)),
+    (SOCKET, None),
+    (SOCKET, Some(1)),
     (FETCHED, None),
     (FETCHED, Some(0)),
     (LIST, None),

@@ -1,5 +1,12 @@
+use Rattle.brc_model.specs.declared.slot.Exit.TheVariants.{Success}
+use Rattle.brc_check.proofs.Turns.{led-length}
 use Rattle.brc_check.proofs.Points.{first_reported, second_result}
 use Rattle.brc_check.proofs.inferring.lead_on.Goals as goal
+
+pub lead-requires-2-clause-same_length : goal.lead-requires-2-clause-same_length
+lead-requires-2-clause-same_length c =
+    led-length c.args.code.now c.args.filling.now c.lead.new.filling c.in-Some.at c.in-Some.state Success
+    c.requires.same_length c.in_ok-reported.ensures.filled
 
 pub returns-in-Some-2 : goal.returns-in-Some-2
 returns-in-Some-2 c =
