@@ -21,10 +21,12 @@ use Rattle.brc_world.specs.declared.did.Did.TheVariants as answers
 use Rattle.brc_world.specs.declared.dispatch.Start.{Start}
 use Rattle.brc_world.specs.declared.dispatch.Start.TheVariants as starts
 use Rattle.brc_world.specs.declared.thread.Thread.{Thread}
-use Rattle.brc_world.specs.Actors.{actor_of, found_by, memory_done, actor_done, memory_by, actor_by, faults_by, did_by, CanDo, CanAct, finds_mark, memory_claimed, actor_claimed, did_claim}
+use Rattle.brc_world.specs.Actors.{actor_of, counters_in, found_by, memory_done, actor_done, memory_by, actor_by, faults_by, did_by, CanDo, CanAct, finds_mark, memory_claimed, actor_claimed, did_claim}
+use Rattle.brc_world.specs.declared.host_call.HostCall.{HostCall}
+use Rattle.brc_world.specs.declared.host_call.HostCall.TheVariants as calls
 use Rattle.brc_world.specs.declared.question.Question.{Question}
 use Rattle.brc_world.specs.declared.question.Question.TheVariants as questions
-use Rattle.brc_world.specs.Questions.{FindsKind, FindsItem, IsAbout, IsAnswerable}
+use Rattle.brc_world.specs.Questions.{FindsKind, FindsItem, IsAbout, IsAnswerable, place_called}
 use Rattle.brc_world.specs.Starts.{start_by, first_start, unasking, place_after, answered, started}
 use Rattle.brc_model.specs.declared.layout.Layout.{Layout}
 use Rattle.brc_model.specs.declared.slot.Exit.{Exit}
@@ -34,6 +36,10 @@ use Rattle.brc_world.specs.declared.faults.Faults.{Faults}
 -- the counts of faults after a step that does the duty and ends by the exit
 abbrev pub duty_counted : Exit → Duty → Faults → Faults
 duty_counted exit d f = record { calls = f.calls; closes = if closes d then counted exit f.closes else f.closes }
+
+-- the counts of faults after a host call that ends by the exit
+abbrev pub call_counted : Exit → Faults → Faults
+call_counted exit f = record { calls = counted exit f.calls; closes = f.closes }
 
 -- the counts of faults after any other step
 abbrev pub uncounted : Faults → Faults
@@ -72,6 +78,7 @@ doing_is d e same = cc
 abbrev pub duty_of : Start → Option Duty
 duty_of starts.Stuck = None
 duty_of starts.Moved = None
+duty_of (starts.Calling call) = None
 duty_of (starts.Doing d) = Some d
 duty_of (starts.Asking d question) = Some d
 duty_of (starts.Locking row left next) = Some (LockGate row)
@@ -90,7 +97,7 @@ module _ (layout : Layout) (t : ℕ) (memory : Address → ℕ) (a : StepActor) 
   stuck_by Stuck steps e found =
       record { answer = refl; memory_is = refl; actor = refl; faults = λ f. refl }
   stuck_by (Silent moves place) steps e found = absurd cc
-  stuck_by (Calls place) steps e found = absurd steps
+  stuck_by (Calls place) steps e found = absurd cc
   stuck_by (Does (LockGate y) rest place) steps e found = absurd cc
   stuck_by (Does d rest place) steps e found = absurd cc
 
@@ -103,6 +110,17 @@ module _ (layout : Layout) (t : ℕ) (memory : Address → ℕ) (a : StepActor) 
   moved_by (Calls place) e found = absurd cc
   moved_by (Does (LockGate y) rest place) e found = absurd cc
   moved_by (Does d rest place) e found = absurd cc
+
+  called_by : (x : Action) → starts.Calling calls.Uses ≡ start_by x
+      → (found : ℕ)
+      → IsStep layout t memory a [] exit x answers.Moved memory (started a x exit found) (call_counted exit)
+  called_by Skip e found = absurd cc
+  called_by Stuck e found = absurd cc
+  called_by (Silent moves place) e found = absurd cc
+  called_by (Calls place) e found =
+      record { answer = refl; memory_is = refl; actor = refl; faults = λ f. refl }
+  called_by (Does (LockGate y) rest place) e found = absurd cc
+  called_by (Does d rest place) e found = absurd cc
 
   done_by : (agenda : List Duty) (c d : Duty) (rest : List Duty) (place : ℕ → Place) (did : Did)
       → c ≡ d → did ≡ did_by memory agenda (Does c rest place)
@@ -156,6 +174,13 @@ module _ (functions : List Function) (layout : Layout) (t : ℕ) (memory : Addre
   agenda_moved [] e found = moved_by layout t memory a exit (agenda_action functions layout t a []) e found
   agenda_moved (c ∷ rest) e found = absurd cc
 
+  agenda_called : (agenda : List Duty) → starts.Calling calls.Uses ≡ first_start functions layout t a agenda
+      → (found : ℕ)
+      → IsStep layout t memory a agenda exit (agenda_action functions layout t a agenda) answers.Moved memory
+      (started a (agenda_action functions layout t a agenda) exit found) (call_counted exit)
+  agenda_called [] e found = called_by layout t memory a exit (agenda_action functions layout t a []) e found
+  agenda_called (c ∷ rest) e found = absurd cc
+
   agenda_does : (agenda : List Duty) (d : Duty) → starts.Doing d ≡ first_start functions layout t a agenda
       → DoneBy layout t memory a agenda exit (agenda_action functions layout t a agenda) d answers.Moved
   agenda_does [] d e = does_by layout t memory a exit (agenda_action functions layout t a []) d e
@@ -176,6 +201,7 @@ module _ (functions : List Function) (layout : Layout) (t : ℕ) (memory : Addre
       (did_of start (found_by layout t memory a d))
   start_does agenda starts.Stuck d does e = absurd cc
   start_does agenda starts.Moved d does e = absurd cc
+  start_does agenda (starts.Calling call) d does e = absurd cc
   start_does agenda (starts.Doing c) d does e =
       let same : c ≡ d = cc in
       subst (λ (f : Duty). DoneBy layout t memory a agenda exit (agenda_action functions layout t a agenda) f
@@ -248,6 +274,19 @@ module _ (functions : List Function) (layout : Layout) (t : ℕ) (memory : Addre
       (subst (λ (c : StepActor). IsStep layout t memory a a.actor.agenda exit x answers.Moved memory c uncounted)
       (sym (begun.actor exit 0))
       (agenda_moved functions layout t memory a exit a.actor.agenda begun.starts 0))
+
+  -- A host call is the model's, after which its exit decides the thread's place.
+  pub called_step : (call : HostCall) → HasStarted functions layout t a b (starts.Calling call)
+      → StepsTo answers.Moved memory
+      (at_place (actor_of b) (place_called call exit (counters_in b.left b) b.at b.variables)) (call_counted exit)
+  called_step call begun =
+      let x = agenda_action functions layout t a a.actor.agenda in
+      of_status answers.Moved memory
+      (at_place (actor_of b) (place_called call exit (counters_in b.left b) b.at b.variables)) (call_counted exit)
+      begun.alive
+      (subst (λ (c : StepActor). IsStep layout t memory a a.actor.agenda exit x answers.Moved memory c
+      (call_counted exit)) (sym (begun.actor exit 0))
+      (agenda_called functions layout t memory a exit a.actor.agenda begun.starts 0))
 
   -- The thread that has started its step finds the same value in the duty's word as before.
   finds_same : (start : Start) (d : Duty) → HasStarted functions layout t a b start

@@ -1,9 +1,8 @@
--- The next action of a thread that isn't gone is never `Skip`: the thread takes a step, or is stuck. No instruction
--- calls the host yet.
+-- The next action of a thread that isn't gone is never `Skip`: the thread takes a step, or is stuck.
 use Rattle.std.proofs.Common.{ℕ, zero, suc, Bool, true, false, cond, List, [], ◌∷◌, Option, None, Some}
 use Rattle.std.specs.Prelude.{slice_get}
 use Rattle.brc_lang.specs.declared.module.Instr.{Instr}
-use Rattle.brc_lang.specs.declared.module.Instr.TheVariants.{Num, List as ListObject, NoneObject, Newref, Move as MoveReference, Drop, Lock, Unlock, Borrow, Fetch, Set, Put, Goto, Again, Ret, Fail, As}
+use Rattle.brc_lang.specs.declared.module.Instr.TheVariants.{Num, List as ListObject, NoneObject, Newref, Move as MoveReference, Drop, Lock, Unlock, Borrow, Fetch, Set, Put, Open, Connect, Read, Write, Goto, Again, Ret, Fail, As}
 use Rattle.brc_lang.specs.declared.module.Function.{Function}
 use Rattle.brc_model.specs.Threads.{code_of, row_of, entry_variables}
 use Rattle.brc_model.specs.declared.duty.Duty.{Duty}
@@ -11,15 +10,15 @@ use Rattle.brc_model.specs.declared.actor.Counters.{Counters}
 use Rattle.brc_model.specs.declared.actor.Place.{Place}
 use Rattle.brc_model.specs.declared.actor.Place.TheVariants.{Idle, InCall, Inside, Exiting}
 use Rattle.brc_model.specs.declared.actor.Stage.{Stage}
-use Rattle.brc_model.specs.declared.actor.Stage.TheVariants.{InRange, OutOfRange, Found, Retained}
+use Rattle.brc_model.specs.declared.actor.Stage.TheVariants.{InRange, OutOfRange, Found, Retained, Loaded, Lent, Called, Granted}
+use Rattle.brc_model.specs.declared.slot.Exit.TheVariants.{Success, Fault}
 use Rattle.brc_model.specs.Machine.{has_room}
 use Rattle.brc_model.specs.declared.layout.Layout.{Layout}
-use Rattle.brc_model.specs.Actions.{StepActor, Action, Skip, Calls, with_row, first_counters, dispatch_instruction, dispatch_inside, dispatch, agenda_action}
+use Rattle.brc_model.specs.Actions.{StepActor, Action, Skip, with_row, first_counters, dispatch_instruction, dispatch_inside, dispatch, agenda_action}
 
--- the action is neither `Skip` nor a host call
+-- the action isn't `Skip`
 abbrev pub TakesStep : Action → Type 0
 TakesStep Skip = ⊥
-TakesStep (Calls place) = ⊥
 TakesStep _ = Unit {0}
 
 row_steps : (o : Option ℕ) (work : ℕ → Action) → ((row : ℕ) → TakesStep (work row)) → TakesStep (with_row o work)
@@ -57,6 +56,14 @@ instruction_steps layout t used before counters at variables (Some (Set list ind
     row_steps (row_of variables list) _ (λ row. tt)
 instruction_steps layout t used before counters at variables (Some (Put list index from otherwise)) =
     row_steps (row_of variables list) _ (λ row. tt)
+instruction_steps layout t used before counters at variables (Some (Open to path mode otherwise)) =
+    either_steps (has_room layout t used) _ _ tt tt
+instruction_steps layout t used before counters at variables (Some (Connect to peer otherwise)) =
+    either_steps (has_room layout t used) _ _ tt tt
+instruction_steps layout t used before counters at variables (Some (Read to file most otherwise)) =
+    either_steps (has_room layout t used) _ _ (row_steps (row_of variables file) _ (λ row. tt)) tt
+instruction_steps layout t used before counters at variables (Some (Write file number otherwise)) =
+    row_steps (row_of variables number) _ (λ row. tt)
 instruction_steps layout t used before counters at variables (Some (As from kind otherwise)) =
     row_steps (row_of variables from) _ (λ row. tt)
 instruction_steps layout t used before counters at variables (Some (Goto to)) = tt
@@ -65,22 +72,37 @@ instruction_steps layout t used before counters at variables (Some (Ret from)) =
     row_steps (row_of variables from) _ (λ row. tt)
 instruction_steps layout t used before counters at variables (Some Fail) = tt
 
-inside_steps : (counters : Counters) (at : ℕ) (variables : List (Option ℕ)) (stage : Stage) (i : Option Instr)
-    → TakesStep (dispatch_inside counters at variables stage i)
-inside_steps counters at variables InRange (Some (Borrow to list index otherwise)) =
+inside_steps : (layout : Layout) (t used : ℕ) (counters : Counters) (at : ℕ) (variables : List (Option ℕ)) (stage : Stage) (i : Option Instr)
+    → TakesStep (dispatch_inside layout t used counters at variables stage i)
+inside_steps layout t used counters at variables InRange (Some (Borrow to list index otherwise)) =
     row_steps (row_of variables list) _ (λ row. tt)
-inside_steps counters at variables InRange (Some (Fetch to list index otherwise)) =
+inside_steps layout t used counters at variables InRange (Some (Fetch to list index otherwise)) =
     row_steps (row_of variables list) _ (λ row. tt)
-inside_steps counters at variables InRange (Some (Set list index from otherwise)) =
+inside_steps layout t used counters at variables InRange (Some (Set list index from otherwise)) =
     row_steps (row_of variables list) _ (λ row. row_steps (row_of variables from) _ (λ item. tt))
-inside_steps counters at variables InRange (Some (Put list index from otherwise)) =
+inside_steps layout t used counters at variables InRange (Some (Put list index from otherwise)) =
     row_steps (row_of variables from) _ (λ item. tt)
-inside_steps counters at variables OutOfRange (Some (Set list index from otherwise)) =
+inside_steps layout t used counters at variables OutOfRange (Some (Set list index from otherwise)) =
     row_steps (row_of variables from) _ (λ item. tt)
-inside_steps counters at variables Retained (Some (Put list index from otherwise)) =
+inside_steps layout t used counters at variables Retained (Some (Put list index from otherwise)) =
     row_steps (row_of variables list) _ (λ row. row_steps (row_of variables from) _ (λ item. tt))
-inside_steps counters at variables (Found item) (Some (Fetch to list index otherwise)) = tt
-inside_steps counters at variables stage i = tt
+inside_steps layout t used counters at variables (Found item) (Some (Fetch to list index otherwise)) = tt
+inside_steps layout t used counters at variables Granted (Some (Open to path mode otherwise)) = tt
+inside_steps layout t used counters at variables Granted (Some (Connect to peer otherwise)) = tt
+inside_steps layout t used counters at variables Lent (Some (Read to file most otherwise)) = tt
+inside_steps layout t used counters at variables (Called Success) (Some (Read to file most otherwise)) =
+    row_steps (row_of variables file) _ (λ row. tt)
+inside_steps layout t used counters at variables (Called Fault) (Some (Read to file most otherwise)) =
+    row_steps (row_of variables file) _ (λ row. tt)
+inside_steps layout t used counters at variables Granted (Some (Read to file most otherwise)) = tt
+inside_steps layout t used counters at variables Loaded (Some (Write file number otherwise)) =
+    row_steps (row_of variables file) _ (λ row. tt)
+inside_steps layout t used counters at variables Lent (Some (Write file number otherwise)) = tt
+inside_steps layout t used counters at variables (Called Success) (Some (Write file number otherwise)) =
+    row_steps (row_of variables file) _ (λ row. tt)
+inside_steps layout t used counters at variables (Called Fault) (Some (Write file number otherwise)) =
+    row_steps (row_of variables file) _ (λ row. tt)
+inside_steps layout t used counters at variables stage i = tt
 
 dispatch_steps : (layout : Layout) (t used : ℕ) (code : List Instr) (place : Place)
     → TakesStep (dispatch layout t used code place)
@@ -91,7 +113,7 @@ dispatch_steps layout t used code (Idle (suc left)) =
 dispatch_steps layout t used code (InCall counters at variables) =
     instruction_steps layout t used (InCall counters at variables) counters at variables (slice_get code at)
 dispatch_steps layout t used code (Inside counters at variables stage) =
-    inside_steps counters at variables stage (slice_get code at)
+    inside_steps layout t used counters at variables stage (slice_get code at)
 
 -- Neither an agenda's first duty nor a dispatch is `Skip`.
 pub agenda_steps : (functions : List Function) (layout : Layout) (t : ℕ) (a : StepActor) (agenda : List Duty)

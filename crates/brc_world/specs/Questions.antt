@@ -1,14 +1,17 @@
--- What a step asks of the word that its duty finds, and the place where the thread goes on by the answer.
+-- What a step asks of the word that its duty finds or of the host, and the place where the thread goes on by the answer.
 use Rattle.std.specs.Prelude.{ℕ, zero, suc, ◌≤◌, if◌then◌else◌, List, Option, None, Some, slice_set}
 use Rattle.brc_model.specs.declared.actor.Counters.{Counters}
 use Rattle.brc_model.specs.declared.actor.Place.{Place}
 use Rattle.brc_model.specs.declared.actor.Place.TheVariants.{InCall, Inside}
-use Rattle.brc_model.specs.declared.actor.Stage.TheVariants.{InRange, OutOfRange, Found}
+use Rattle.brc_model.specs.declared.actor.Stage.TheVariants.{InRange, OutOfRange, Found, Called, Granted}
 use Rattle.brc_model.specs.declared.duty.Duty.{Duty}
 use Rattle.brc_model.specs.declared.duty.Duty.TheVariants.{KindLoad, CellLoad}
-use Rattle.brc_model.specs.Actions.{by_range, by_item}
+use Rattle.brc_model.specs.declared.slot.Exit.{Exit}
+use Rattle.brc_model.specs.Actions.{by_exit, by_range, by_item}
 use Rattle.brc_model.specs.Kinds.{same_kind, kind_of_word}
 use Rattle.brc_model.specs.Limits.{total_limit}
+use Rattle.brc_world.specs.declared.host_call.HostCall.{HostCall}
+use Rattle.brc_world.specs.declared.host_call.HostCall.TheVariants as calls
 use Rattle.brc_world.specs.declared.question.Question.{Question}
 use Rattle.brc_world.specs.declared.question.Question.TheVariants as questions
 use Rattle.brc_world.specs.declared.question.Outside.{Outside}
@@ -61,3 +64,9 @@ place_answered (questions.Borrow to otherwise) found counters at variables =
 place_answered (questions.Fetch to otherwise) found counters at variables =
     by_item (InCall counters otherwise (slice_set variables to None))
     (λ item. Inside counters at variables (Found item)) found
+
+-- Returns the place of a thread whose host call has ended by the exit, in a call of a function with these counters.
+abbrev pub place_called : HostCall → Exit → Counters → ℕ → List (Option ℕ) → Place
+place_called (calls.Asks to otherwise) exit counters at variables =
+    by_exit (Inside counters at variables Granted) (InCall counters otherwise (slice_set variables to None)) exit
+place_called calls.Uses exit counters at variables = Inside counters at variables (Called exit)

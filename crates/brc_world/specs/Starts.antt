@@ -21,7 +21,8 @@ use Rattle.brc_world.specs.declared.dispatch.Start.{Start}
 use Rattle.brc_world.specs.declared.dispatch.Start.TheVariants as starts
 use Rattle.brc_world.specs.declared.thread.Thread.{Thread}
 use Rattle.brc_world.specs.Actors.{counters_in, place_of, actor_of, with_agenda}
-use Rattle.brc_world.specs.Questions.{IsAbout, place_answered}
+use Rattle.brc_world.specs.declared.host_call.HostCall.TheVariants as calls
+use Rattle.brc_world.specs.Questions.{IsAbout, place_answered, place_called}
 
 -- ---- the actions of a thread
 
@@ -44,8 +45,8 @@ uses_cell (Put list index from otherwise) = true
 uses_cell _ = false
 
 -- the thread's action inside the instruction `i`, by how far the thread is in it
-abbrev pub action_inside : Stage → Option Instr → Thread → Action
-action_inside stage i a = dispatch_inside (counters_in a.left a) a.at a.variables stage i
+abbrev pub action_inside : Layout → ℕ → Stage → Option Instr → Thread → Action
+action_inside layout t stage i a = dispatch_inside layout t a.used (counters_in a.left a) a.at a.variables stage i
 
 -- ---- starts
 
@@ -63,13 +64,13 @@ point_at (InCall counters at variables) = at
 point_at (Inside counters at variables stage) = at
 point_at Exiting = 0
 
--- Returns the start of a step with the action, but for what it asks of the word found. A lock that is free leads to the
+-- Returns the start of a step with the action, but for what it asks of the host or of the word found. A lock that is free leads to the
 -- place in a call that the action names.
 abbrev pub start_by : Action → Start
 start_by Skip = starts.Stuck
 start_by Stuck = starts.Stuck
 start_by (Silent moves place) = starts.Moved
-start_by (Calls place) = starts.Stuck
+start_by (Calls place) = starts.Calling calls.Uses
 start_by (Does (LockGate x) rest place) = starts.Locking x (left_at (place free_word)) (point_at (place free_word))
 start_by (Does d rest place) = starts.Doing d
 
@@ -79,9 +80,10 @@ first_start functions layout t a [] =
     start_by (dispatch layout t a.actor.used (code_of (slice_get functions a.function)) a.place)
 first_start functions layout t a (d ∷ rest) = starts.Doing d
 
--- the start without what it asks of the word found
+-- the start without what it asks of the host or of the word found
 abbrev pub unasking : Start → Start
 unasking (starts.Asking d question) = starts.Doing d
+unasking (starts.Calling call) = starts.Calling calls.Uses
 unasking start = start
 
 -- the duty of the start finds the word that its question is about
@@ -101,6 +103,7 @@ place_after (starts.Asking d question) exit found a =
     place_answered question found (counters_in a.left a) a.at a.variables
 place_after (starts.Locking row left next) exit found a =
     let_in (counters_in left a) next a.variables found (place_of a.mode (counters_in a.left a) a.at a.variables)
+place_after (starts.Calling call) exit found a = place_called call exit (counters_in a.left a) a.at a.variables
 place_after _ exit found a = place_of a.mode (counters_in a.left a) a.at a.variables
 
 -- the thread once the exit of its host call, or the word found, has answered what its step's start asks

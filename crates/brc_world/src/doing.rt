@@ -19,6 +19,7 @@ use crate::agenda::{pass_over, push};
 use crate::did::Did;
 use crate::dispatch::{Start, first_duty};
 use crate::faults::Faults;
+use crate::host_call::end_call;
 use crate::memory::Memory;
 use crate::no_memory::NoMemory;
 use crate::question::answer;
@@ -119,8 +120,8 @@ fn is_running(status: Status) -> bool
     matches!(status, Status::Running)
 }
 
-/// Takes the thread's next step, and returns what it did. If the step is a close, it ends by the exit. Returns
-/// `NoMemory`, with nothing changed, if memory is refused.
+/// Takes the thread's next step, and returns what it did. If the step is a host call or a close, it ends by the exit.
+/// Returns `NoMemory`, with nothing changed, if memory is refused.
 #[inline(always)]
 pub fn act(
     functions: &[Function],
@@ -160,6 +161,11 @@ pub fn act(
     match first_duty(functions, layout, number, thread) {
         Start::Stuck => Ok(Did::Same),
         Start::Moved => Ok(Did::Moved),
+        Start::Calling(call) => {
+            faults.count_call(exit);
+            end_call(thread, call, exit);
+            Ok(Did::Moved)
+        }
         Start::Doing(duty) => {
             do_duty(memory, layout, number, thread, &duty);
             faults.count_duty(&duty, exit);

@@ -15,6 +15,14 @@ pub struct Faults {
 }
 
 impl Faults {
+    /// Counts how a host call ended.
+    #[inline(always)]
+    pub fn count_call(&mut self, exit: Exit)
+        ensures { self.new ≡ record self.old { calls = counted exit self.old.calls } }
+    {
+        self.calls = counted(exit, self.calls);
+    }
+
     /// Counts how the step that did the duty ended: only a close may fault. The resource is closed all the same, and
     /// the host isn't asked again (`close_again`). (POSIX, `close`: a descriptor is no longer valid after an error.)
     #[inline(always)]

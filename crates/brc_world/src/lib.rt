@@ -9,6 +9,7 @@ mod dispatch;
 mod doing;
 mod faults;
 mod first;
+mod host_call;
 mod laws;
 mod memory;
 mod no_memory;

@@ -1,6 +1,7 @@
 //! A thread of the step world.
 
 ghost use Rattle.std.specs.Prelude.{◌≡◌, ◌≤◌, slice_index_or, slice_set, vec_capacity};
+ghost use Rattle.brc_model.specs.Limits.{total_limit};
 ghost use Rattle.brc_model.specs.Threads.{row_of};
 
 use brc_lang::Variable;
@@ -24,7 +25,7 @@ pub enum Mode {
     Idle,
     /// Before an instruction of a call.
     InCall,
-    /// Inside an instruction that uses a cell of a list, after its first step.
+    /// Inside an instruction that takes several steps, after its first step.
     Inside(Stage),
     /// Its exit has begun.
     Exiting,
@@ -57,6 +58,7 @@ pub struct Thread {
     /// The row of the object whose resource it has lent.
     pub lent: Option<u32>,
     ghost has_room: { 8 ≤ vec_capacity agenda },
+    ghost few_rows: { used ≤ total_limit },
 }
 
 impl Thread {

@@ -1,6 +1,6 @@
 -- The step starts with the thread's action, which the thread can do.
 use Rattle.std.proofs.Common.{ℕ, List, Option, refl, ap, ◌∙◌}
-use Rattle.brc_world.proofs.Acting.{HasStarted, stuck_step, moved_step, duty_step, can_do, answerable, asking_uncounted, entering}
+use Rattle.brc_world.proofs.Acting.{HasStarted, stuck_step, moved_step, called_step, duty_step, can_do, answerable, asking_uncounted, entering}
 use Rattle.brc_world.specs.declared.dispatch.Start.TheVariants.{Doing, Asking, Locking}
 use Rattle.brc_model.specs.declared.duty.Duty.TheVariants.{LockGate}
 use Rattle.brc_model.specs.Actions.{StepActor}
@@ -220,6 +220,29 @@ returns-in-Stuck c =
       words = step.memory_is;
       actor = step.actor;
       faults = step.faults c.args.faults.now;
+      same_words = tt;
+      same_actor = tt;
+      same_faults = tt;
+      refused = tt;
+      as_many_rows = refl;
+      as_many_threads = refl;
+    }
+
+pub returns-in-Calling : goal.returns-in-Calling
+returns-in-Calling c =
+    let step =
+    called_step c.args.functions.now c.args.layout c.args.number (word_in c.args.memory.now)
+    (actor_of c.args.thread.now) c.args.exit c.first_duty.new.thread c.in-Calling.call
+    (record {
+      alive = c.in_default.not-Gone;
+      starts = rw c.in_ok-reserve.ensures.items at c.in-Calling.ensures.starts;
+      actor = λ exit found. rw c.in_ok-reserve.ensures.items at (c.in-Calling.ensures.actor exit found);
+    }) in
+    record {
+      did = step.answer;
+      words = step.memory_is;
+      actor = c.end_call.ensures ∙ step.actor;
+      faults = c.count_call.ensures ∙ step.faults c.args.faults.now;
       same_words = tt;
       same_actor = tt;
       same_faults = tt;
