@@ -2,14 +2,14 @@
 --
 -- In order: `Holds`, `Passing` and `Grounded` (what a thread's variables hold at a point that a path reaches), `AtOnce`
 -- (no agenda locks, unlocks, swaps a cell, or lends or returns a resource), `Guards` (what the state says is locked),
--- `Lending` (what the place says is lent), `Claims` and `Rooms` (where a birth is awaited, there is room), `Coded` (a thread's lock and account are those of its place), `Decided` (the
--- place that a word found decides), `Kinds` and `KindsLeft` (instruction by instruction, variables have the kinds that
--- the checker says), `Items`, `ItemsLeft` and `ItemsActions` (instruction by instruction, what is borrowed is in the
--- locked list), `Begins` (what a thread takes up),
--- `Lockable` and `Standing` (what it knows at an instruction), `TakingSilent`, `TakingBirths`, `TakingLocks`,
--- `TakingItems`, `TakingInside`, `TakingHost`, `TakingStores` and `Taking` (instruction by instruction), `Begun` and `TakenSits`,
--- `Counting` (the counting machine below), `Actions`, which has the theorem, and `Fit` (an instruction has
--- what it needs).
+-- `Lending` (what the place says is lent), `Claims` and `Rooms` (where a birth is awaited, there is room), `Coded` (a
+-- thread's lock and account are those of its place), `Decided` (the place that a word found or an exit decides),
+-- `Kinds`, `KindsLeft` and `KindsActions` (instruction by instruction, variables have the kinds that the checker says),
+-- `Items`, `ItemsUsed`, `ItemsLeft` and `ItemsActions` (instruction by instruction, what is borrowed is in the locked
+-- list), `Begins` (what a thread takes up), `Lockable` and `Standing` (what it knows at an instruction),
+-- `TakingSilent`, `TakingBirths`, `TakingLocks`, `TakingKinds`, `TakingItems`, `TakingInside`, `TakingHost`,
+-- `TakingStores` and `Taking` (instruction by instruction), `Begun` and `TakenSits`, `Counting` (the counting machine
+-- below), `Actions`, which has the theorem, and `Fit` (an instruction has what it needs).
 
 pub mod Holds
 pub mod Passing
@@ -23,7 +23,9 @@ pub mod Coded
 pub mod Decided
 pub mod Kinds
 pub mod KindsLeft
+pub mod KindsActions
 pub mod Items
+pub mod ItemsUsed
 pub mod ItemsLeft
 pub mod ItemsActions
 pub mod Begins
@@ -32,6 +34,7 @@ pub mod Standing
 pub mod TakingSilent
 pub mod TakingBirths
 pub mod TakingLocks
+pub mod TakingKinds
 pub mod TakingItems
 pub mod TakingInside
 pub mod TakingHost

@@ -9,9 +9,8 @@
 -- these knows code. `Callers` and `FirstCounts` show the invariant of a machine in which some threads hold the root,
 -- `FirstHands` and `FirstMachine` that the first machines are such. `CodeInvariant` adds the second layer, about
 -- accepted code, `StepCases` splits an event by its action, `KindsHold` shows over it that variables keep their kinds
--- `ItemsHold` that borrowed items stay in the locked list
--- and `RoomsHold` that a thread that awaits a birth has room for it, and `CodeEvents` carries both layers through every list
--- of events.
+-- `ItemsHold` that borrowed items stay in the locked list and `RoomsHold` that a thread that awaits a birth has room
+-- for it, and `CodeEvents` carries both layers through every list of events.
 
 pub mod NotBad
 pub mod KeepsDuty

@@ -4,7 +4,7 @@
 -- `ClosedOnce`; `Gates`, `Births`, `MarksWatched`, `KindWords` and `CellsUnderLock`; `RowLaws`, which extends these
 -- laws to every list of events; `KnownKinds` and `BorrowedItems`, what the checker says of kinds and of borrowed items;
 -- then the laws of the world: `Worlds`, `AgendaMoves`, `Emptied`, `Leading`, `Turns`, `Elsewhere`, `StepsMove`,
--- `LocksWait`, `Trace`, `CallsLeft`, `Bounded`, `Faults`.
+-- `LocksWait`, `Trace`, `CallsLeft`, `Bounded`, `Faults`, `HostCalls`.
 -- `Rules` proves that the named rules are the steps. `Worked` computes three schedules.
 
 pub mod Agreeing
@@ -35,5 +35,6 @@ pub mod Trace
 pub mod CallsLeft
 pub mod Bounded
 pub mod Faults
+pub mod HostCalls
 pub mod Rules
 pub mod Worked

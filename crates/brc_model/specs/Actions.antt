@@ -208,9 +208,10 @@ dispatch_instruction layout t used before counters at variables (Some (Ret from)
 dispatch_instruction layout t used before counters at variables (Some Fail) = Silent [] (Idle counters.left)
 
 -- Returns what a thread does inside an instruction that takes several steps, by how far it is. An item is borrowed as
--- it is found, or fetched with a reference of its own. A stored item's reference is the variable's (`set`), or a new one
--- (`put`); the item that stood in the cell is released. (Python/C API manual, List Objects.) What the host grants becomes
--- an object. A resource is out of its slot while a call of the host uses it, and goes back however the call ends.
+-- it is found, or fetched with a reference of its own. A stored item's reference is the variable's (`set`), or a new
+-- one (`put`); the item that stood in the cell is released. (Python/C API manual, List Objects.) What the host grants
+-- becomes an object. A resource is out of its slot while a call of the host uses it, and goes back however the call
+-- ends.
 abbrev pub dispatch_inside : Layout → ℕ → ℕ → Counters → ℕ → List (Option ℕ) → Stage → Option Instr → Action
 dispatch_inside layout t used counters at variables InRange (Some (Borrow to list index otherwise)) =
     with_row (row_of variables list)

@@ -28,6 +28,7 @@ pub mod Needs
 pub mod Events
 pub mod Safety
 pub mod Faults
+pub mod HostCalls
 pub mod World
 pub mod Within
 pub mod Ranges

@@ -26,7 +26,7 @@ pub record Actor : Type 0 where
   pub head : ℕ
   -- the number of rows of its block that it has used
   pub used : ℕ
-  -- the row of the list that it has locked
+  -- the row of the object that it has locked
   pub locked : Option ℕ
   -- the row of the file or socket whose resource it has lent to a call of the host
   pub lent : Option ℕ

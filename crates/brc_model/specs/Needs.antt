@@ -1,6 +1,6 @@
 -- What an instruction needs of the world beside its variables: an object of a kind that can be locked, the lock of a
--- list before its items are used, the lock of a file or socket before its resource is, a number to write, and no lock at
--- the end of a call. (Python/C API manual, Critical Section API.)
+-- list before its items are used, the lock of a file or socket before its resource is, a number to write, and no lock
+-- at the end of a call. (Python/C API manual, Critical Section API.)
 use Rattle.std.specs.Prelude.{ℕ, zero, suc, Bool, true, false, ◌&&◌, ◌==◌, not, List, [], ◌∷◌, Option, None, Some, is_some, slice_get}
 use Rattle.brc_lang.specs.declared.kind.Kind.{Kind}
 use Rattle.brc_lang.specs.declared.kind.Kind.TheVariants as kinds

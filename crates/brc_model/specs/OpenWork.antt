@@ -153,8 +153,9 @@ abbrev pub about_of : ℕ → List Duty → Bool
 about_of x [] = false
 about_of x (d ∷ rest) = is_about x d
 
--- Says whether a duty may be put aside: a retain, a release, a queueing or a merge may. A thread settles, claims, exits,
--- gives birth, asks for a kind, locks, unlocks, loads or swaps a cell, and lends or returns a resource in one go.
+-- Says whether a duty may be put aside: a retain, a release, a queueing or a merge may. A thread settles, claims,
+-- exits, gives birth, asks for a kind, locks, unlocks, loads or swaps a cell, and lends or returns a resource in one
+-- go.
 abbrev pub may_wait : Duty → Bool
 may_wait (RetainLoad x h) = true
 may_wait (RetainStore x h w) = true

@@ -1,5 +1,6 @@
 -- Worlds. A world is what the threads of a machine see and change: the words, the threads themselves, and the counts of
--- faults. A step looks at nothing else. The abstract state and the lives of the rows are beside it, for what is promised.
+-- faults. A step looks at nothing else. The abstract state and the lives of the rows are beside it, for what is
+-- promised.
 use Rattle.std.specs.Prelude.{◌≡◌, ℕ, ◌<◌, ◌≤◌, ◌==◌, Bool, false, not, List, []}
 use Rattle.brc_lang.specs.declared.module.Function.{Function}
 use Rattle.brc_lang.specs.declared.module.Module.{Module}

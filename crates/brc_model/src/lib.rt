@@ -30,7 +30,7 @@ pub use code::CheckCode;
 pub use counting_laws::{accounts_are_there, counts_agree, duties_are_kept, duties_are_within};
 pub use duty::{Duty, Holding, Reason};
 pub use hand_laws::{hands_begin, references_are_handed_over, references_are_the_threads};
-pub use host_laws::faults_are_counted;
+pub use host_laws::{calls_use_what_is_lent, faults_are_counted};
 pub use laws::accepted_is_safe;
 pub use layout::Layout;
 pub use resource_laws::{lent_resources_are_used_alone, resources_close_once};

@@ -301,7 +301,8 @@ sees_kinds p n m t a whole found = record {
       whole.functions (whole.items t a found);
   counted = λ x can. lockable_counted m.layout (kind_words m) x whole.kinds.named whole.mortal can;
   lent = (whole.coded t a found).lent;
-  room = λ awaits. (whole.rooms t a found (ap (λ (f : List Function). awaits_birth (code_of (slice_get f a.function)) a.place)
+  room = λ awaits. (whole.rooms t a found
+      (ap (λ (f : List Function). awaits_birth (code_of (slice_get f a.function)) a.place)
       whole.functions ∙ awaits)).room;
 }
 

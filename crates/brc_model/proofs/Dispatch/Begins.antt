@@ -90,8 +90,8 @@ abbrev pub CountsLockable : Scene → Type 0
 CountsLockable g = (x : ℕ) → is_one_of (kind_of_word (words_of g x)) lockable ≡ true → IsCounted g.layout x
 
 -- A thread at an instruction whose conditions are met: some path reaches the point and goes on from it, and what the
--- path's state says of references, of the lock, of kinds and of items is true. The thread got to the instruction at the place
--- `before`.
+-- path's state says of references, of the lock, of kinds and of items is true. The thread got to the instruction at the
+-- place `before`.
 pub record StandsAt (code : List Instr) (g : Scene) (before : Place) (at : ℕ) (rows : List (Option ℕ)) (s : State)
     (i : Instr) : Type 0 where
   pub found : slice_get code at ≡ Some i

@@ -1,5 +1,5 @@
--- The word that a duty finds, or the exit of a host call, may decide where the thread goes on: what holds of each place that it can be holds of the
--- one that it is.
+-- The word that a duty finds, or the exit of a host call, may decide where the thread goes on: what holds of each place
+-- that it can be holds of the one that it is.
 use Rattle.brc_model.specs.declared.slot.Exit.TheVariants.{Success, Fault}
 use Rattle.brc_model.specs.declared.slot.Exit.{Exit}
 use Rattle.std.proofs.Common.{ℕ, zero, suc, ◌<◌}

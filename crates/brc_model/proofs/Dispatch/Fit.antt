@@ -56,7 +56,8 @@ kind_fits asked kind word none (inr names) can = ap (λ (k : Kind). is_one_of k 
 
 -- The kind of the object that a variable names.
 named_fit : (memory : Address → ℕ) (variables : List (Option ℕ)) (s : State) (v : ℕ) (asked : List Kind)
-    → is_one_of kinds.Any asked ≡ false → is_empty (slot_of s v) ≡ false → is_one_of (kind_of (slot_of s v)) asked ≡ true
+    → is_one_of kinds.Any asked ≡ false → is_empty (slot_of s v) ≡ false
+    → is_one_of (kind_of (slot_of s v)) asked ≡ true
     → IsGrounded (slot_of s v) (row_of variables v) → HaveTrueKinds (λ x. memory (KindOf x)) s variables
     → is_one_of (kind_at memory (row_of variables v)) asked ≡ true
 named_fit memory variables s v asked none some can grounded kinds_known =
@@ -106,11 +107,13 @@ instruction_fit memory locked variables s (Fetch to list index otherwise) meets 
     (not-false _ (first_false _ _ meets.met.right_kind)) (not-false _ (first_false _ _ meets.met.has_lock))
     meets.grounded meets.guards meets.kinds
 instruction_fit memory locked variables s (Set list index from otherwise) meets =
-    locked_fit memory locked variables s list (kinds.List ∷ []) refl (first_false _ _ (second_false _ _ meets.met.not_empty))
+    locked_fit memory locked variables s list (kinds.List ∷ []) refl
+    (first_false _ _ (second_false _ _ meets.met.not_empty))
     (not-false _ (first_false _ _ meets.met.right_kind)) (not-false _ (first_false _ _ meets.met.has_lock))
     meets.grounded meets.guards meets.kinds
 instruction_fit memory locked variables s (Put list index from otherwise) meets =
-    locked_fit memory locked variables s list (kinds.List ∷ []) refl (first_false _ _ (second_false _ _ meets.met.not_empty))
+    locked_fit memory locked variables s list (kinds.List ∷ []) refl
+    (first_false _ _ (second_false _ _ meets.met.not_empty))
     (not-false _ (first_false _ _ meets.met.right_kind)) (not-false _ (first_false _ _ meets.met.has_lock))
     meets.grounded meets.guards meets.kinds
 instruction_fit memory locked variables s (Read to file most otherwise) meets =

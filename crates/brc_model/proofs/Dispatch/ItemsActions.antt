@@ -29,7 +29,8 @@ use Rattle.brc_model.proofs.Dispatch.Passing.{passes_on}
 use Rattle.brc_model.proofs.Dispatch.AtOnce.{at_once, plain_locked, plain_keeps}
 use Rattle.brc_model.proofs.Dispatch.Coded.{PlaceSays}
 use Rattle.brc_model.proofs.Dispatch.Items.{knows_stay, entry_items}
-use Rattle.brc_model.proofs.Dispatch.ItemsLeft.{LeavesItems, UsesAt, instruction_uses, inside_uses}
+use Rattle.brc_model.proofs.Dispatch.ItemsUsed.{LeavesItems, UsesAt}
+use Rattle.brc_model.proofs.Dispatch.ItemsLeft.{instruction_uses, inside_uses}
 
 -- The thread's place before its step, and what it knows of items there.
 pub record StandsUsing (code : List Instr) (memory : Address → ℕ) (locked : Option ℕ) (place : Place) : Type 0 where
@@ -94,7 +95,8 @@ dispatch_uses code memory locked layout t used (Inside counters at variables sta
     let knows = stands.knows in
     let here = uses_at code memory locked at variables says.0 stands.accepted stands.instructions says.1 says.2
     (knows.items says.1.exits says.0 says.1.arrived) in
-    subst (λ (o : Option Instr). LeavesItems code memory locked (dispatch_inside layout t used counters at variables stage o))
+    subst (λ (o : Option Instr). LeavesItems code memory locked
+    (dispatch_inside layout t used counters at variables stage o))
     (sym here.1)
     (inside_uses code memory locked counters at variables says.0 layout t used stage here.0
     (subst (StageKnows memory locked variables stage) here.1 knows.cell) here.2)

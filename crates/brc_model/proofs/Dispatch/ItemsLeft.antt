@@ -1,12 +1,11 @@
 -- What each instruction leaves in the variables: wherever one borrows, an item of the list that the thread has locked.
 use Rattle.std.proofs.Common.{◌≡◌, ℕ, ◌+◌, ◌<◌, true, false, cond, List, [], ◌∷◌, ◌++◌, Option, None, Some, refl, sym, ap, ◌∙◌, subst, arith}
-use Rattle.std.specs.Prelude.{◌==◌, nat_lt, slice_get, slice_set}
+use Rattle.std.specs.Prelude.{◌==◌, nat_lt, slice_set}
 use Rattle.std.proofs.lemmas.Bool.{not-false}
 use Rattle.std.proofs.lemmas.List.{length-set}
 use Rattle.brc_lang.specs.declared.kind.Kind.TheVariants as kinds
 use Rattle.brc_lang.specs.declared.module.Instr.{Instr}
 use Rattle.brc_lang.specs.declared.module.Instr.TheVariants.{Num, List as ListObject, NoneObject, Newref, Move as MoveReference, Drop, As, Lock, Unlock, Borrow, Fetch, Set, Put, Goto, Again, Ret, Fail, Open, Connect, Read, Write}
-use Rattle.brc_lang.specs.Grammar.{IsInstruction}
 use Rattle.brc_word.specs.Words.{free_word}
 use Rattle.brc_model.specs.declared.actor.Place.{Place}
 use Rattle.brc_model.specs.declared.actor.Counters.{Counters}
@@ -15,7 +14,6 @@ use Rattle.brc_model.specs.declared.actor.Stage.{Stage}
 use Rattle.brc_model.specs.declared.actor.Stage.TheVariants.{InRange, OutOfRange, Found, Retained, Loaded, Lent, Called, Granted}
 use Rattle.brc_model.specs.declared.address.Address.{Address}
 use Rattle.brc_model.specs.declared.address.Address.TheVariants.{KindOf, Cell}
-use Rattle.brc_model.specs.declared.duty.Duty.{Duty}
 use Rattle.brc_model.specs.declared.duty.Duty.TheVariants.{KindLoad, CellLoad}
 use Rattle.brc_model.specs.declared.slot.Slot.{Slot}
 use Rattle.brc_model.specs.declared.slot.Slot.TheVariants.{Empty, Owned, Locked}
@@ -24,56 +22,18 @@ use Rattle.brc_model.specs.declared.slot.Exit.{Exit}
 use Rattle.brc_model.specs.declared.slot.Exit.TheVariants.{Success, Fault as FaultExit}
 use Rattle.brc_model.specs.Kinds.{kind_of_word, same_kind}
 use Rattle.brc_model.specs.Slots.{slot_of, kind_of, names, put, after, target}
-use Rattle.brc_model.specs.Paths.{At, path_end, IsAcceptableCode}
 use Rattle.brc_model.specs.Threads.{row_of}
 use Rattle.brc_model.specs.Layout.{none_row, row_at}
 use Rattle.brc_model.specs.declared.layout.Layout.{Layout}
 use Rattle.brc_model.specs.Duties.{cells_of}
-use Rattle.brc_model.specs.Machine.{has_room, locked_by}
-use Rattle.brc_model.specs.Actions.{Action, Skip, Stuck, Silent, Calls, Does, with_row, by_range, by_item, number_word, list_word, birth_action, dispatch_instruction, dispatch_inside, turns_at, turned, grant_action, granted_birth, return_action, lend_action, file_word, sock_word}
+use Rattle.brc_model.specs.Machine.{has_room}
+use Rattle.brc_model.specs.Actions.{Action, Does, with_row, by_range, by_item, number_word, list_word, birth_action, dispatch_instruction, dispatch_inside, turns_at, turned, grant_action, granted_birth, return_action, lend_action, file_word, sock_word}
 use Rattle.brc_model.specs.Items.{IsItem, borrows_item, HaveItems, HasCell, StageKnows, KnowsItems}
 use Rattle.brc_model.proofs.Basics.Lists.{some_is, either, first_false}
-use Rattle.brc_model.proofs.Dispatch.Grounded.{IsInside}
 use Rattle.brc_model.proofs.Dispatch.Guards.{LocksAgree, guards_none, guards_row}
 use Rattle.brc_model.proofs.Dispatch.Decided.{range_decides, item_decides, exit_decides}
-use Rattle.brc_model.proofs.Dispatch.Passing.{AreMet}
 use Rattle.brc_model.proofs.Dispatch.Items.{ItemsStay, all_stay, items_stay, cell_stays, knows_stay, items_put, needs_none, items_with_kind, BorrowsNone, none_borrowed, without_items_free, unlocked_items}
-use Rattle.brc_model.proofs.Frame.Items.{drops_items}
-
--- What a duty that loads a kind word or a cell finds.
-abbrev pub FindsWord : (Address → ℕ) → Duty → ℕ → Type 0
-FindsWord memory (KindLoad y) found = found ≡ memory (KindOf y)
-FindsWord memory (CellLoad y i) found = found ≡ memory (Cell y i)
-FindsWord memory d found = Unit {0}
-
--- The words after the duty's step, which found this word, for a thread that has locked the row.
-pub record IsAfter (memory new : Address → ℕ) (locked : Option ℕ) (d : Duty) (found : ℕ) : Type 0 where
-  pub finds : FindsWord memory d found
-  pub keeps : drops_items d ≡ false → ItemsStay memory new locked
-
--- What the thread knows of items at the place that its step leads to.
-abbrev pub LeavesItems : List Instr → (Address → ℕ) → Option ℕ → Action → Type 0
-LeavesItems code memory locked Skip = Unit {0}
-LeavesItems code memory locked Stuck = Unit {0}
-LeavesItems code memory locked (Silent moves place) = KnowsItems code memory locked place
-LeavesItems code memory locked (Calls place) = (exit : Exit) → KnowsItems code memory locked (place exit)
-LeavesItems code memory locked (Does d rest place) =
-    (new : Address → ℕ) (found : ℕ) → IsAfter memory new locked d found
-    → KnowsItems code new (locked_by locked d found) (place found)
-
--- A thread at an instruction of accepted code, in the state in which a path reaches it. It has locked what the state
--- says is locked, and a variable that borrows names an item.
-pub record UsesAt (code : List Instr) (memory : Address → ℕ) (locked : Option ℕ) (at : ℕ) (variables : List (Option ℕ))
-    (s : State) (i : Instr) : Type 0 where
-  pub accepted : IsAcceptableCode code
-  pub inside : IsInside code at variables s
-  pub found : slice_get code at ≡ Some i
-  pub leads : (exit : Exit) (next : ℕ) → target i exit at ≡ Some next
-      → path_end code (inside.exits ++ exit ∷ []) ≡ At next (after i exit s)
-  pub operands : IsInstruction i
-  pub met : AreMet i s
-  pub guards : LocksAgree s variables locked
-  pub items : HaveItems memory locked s variables
+use Rattle.brc_model.proofs.Dispatch.ItemsUsed.{LeavesItems, UsesAt}
 
 module _ (code : List Instr) (memory : Address → ℕ) (locked : Option ℕ) (counters : Counters) (at : ℕ)
     (variables : List (Option ℕ))
@@ -354,7 +314,8 @@ module _ (code : List Instr) (memory : Address → ℕ) (locked : Option ℕ) (c
         holds = stays.cells row index locks ∙ sym seen ∙ omega arith;
       })) found done.finds)
 
-  pub inside_uses : (layout : Layout) (t used : ℕ) (stage : Stage) (i : Instr) → StageKnows memory locked variables stage (Some i) → Here i
+  pub inside_uses : (layout : Layout) (t used : ℕ) (stage : Stage) (i : Instr)
+      → StageKnows memory locked variables stage (Some i) → Here i
       → LeavesItems code memory locked (dispatch_inside layout t used counters at variables stage (Some i))
   inside_uses layout t used InRange (Borrow to list index otherwise) knows here =
       cell_uses (Borrow to list index otherwise) list index (InCall counters otherwise (slice_set variables to None))
@@ -409,7 +370,8 @@ module _ (code : List Instr) (memory : Address → ℕ) (locked : Option ℕ) (c
       (λ new stays. goes_inside new Granted (Read to file most otherwise) stays here tt)
   inside_uses layout t used (Called FaultExit) (Read to file most otherwise) knows here =
       return_uses file (InCall counters otherwise (slice_set variables to None))
-      (λ new stays. goes_on_free new otherwise (Read to file most otherwise) FaultExit to Empty None stays here refl refl
+      (λ new stays. goes_on_free new otherwise (Read to file most otherwise) FaultExit to Empty None stays here refl
+      refl
       here.operands.0 refl)
   inside_uses layout t used Granted (Read to file most otherwise) knows here =
       granted_uses layout t used (Read to file most otherwise) to (number_word 0) (Owned kinds.Num) here

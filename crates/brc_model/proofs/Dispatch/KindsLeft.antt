@@ -1,21 +1,16 @@
 -- What each instruction leaves in the variables: objects of the kinds that the checker says.
-use Rattle.std.proofs.Common.{◌≡◌, ℕ, zero, suc, ◌+◌, ◌<◌, ◌≤◌, List, [], ◌∷◌, ◌++◌, inl, inr, Option, None, Some, refl, sym, ap, ◌∙◌, subst, arith}
-use Rattle.std.specs.Prelude.{◌==◌, nat_lt, slice_get, slice_set}
+use Rattle.std.proofs.Common.{◌≡◌, ℕ, ◌+◌, ◌<◌, ◌≤◌, List, [], ◌∷◌, ◌++◌, inl, inr, Option, None, Some, refl, sym, ap, ◌∙◌, subst, arith}
+use Rattle.std.specs.Prelude.{◌==◌, nat_lt, slice_set}
 use Rattle.std.proofs.lemmas.List.{length-set}
 use Rattle.brc_lang.specs.declared.kind.Kind.{Kind}
 use Rattle.brc_lang.specs.declared.kind.Kind.TheVariants as kinds
-use Rattle.brc_lang.specs.declared.module.Function.{Function}
 use Rattle.brc_lang.specs.declared.module.Instr.{Instr}
 use Rattle.brc_lang.specs.declared.module.Instr.TheVariants.{Num, List as ListObject, NoneObject, Newref, Move as MoveReference, Drop, As, Lock, Unlock, Borrow, Fetch, Set, Put, Goto, Again, Ret, Fail, Open, Connect, Read, Write}
 use Rattle.brc_lang.specs.Grammar.{IsInstruction}
 use Rattle.brc_word.specs.Words.{free_word, half, kind_part}
-use Rattle.brc_model.specs.declared.thread.Choice.{Choice}
-use Rattle.brc_model.specs.declared.thread.Choice.TheVariants.{Ok, Fault, Claim}
-use Rattle.brc_model.specs.declared.actor.Status.{Status}
-use Rattle.brc_model.specs.declared.actor.Status.TheVariants.{Running, Leaving, Gone}
 use Rattle.brc_model.specs.declared.actor.Place.{Place}
 use Rattle.brc_model.specs.declared.actor.Counters.{Counters}
-use Rattle.brc_model.specs.declared.actor.Place.TheVariants.{Idle, InCall, Inside, Exiting}
+use Rattle.brc_model.specs.declared.actor.Place.TheVariants.{InCall, Inside}
 use Rattle.brc_model.specs.declared.actor.Stage.{Stage}
 use Rattle.brc_model.specs.declared.actor.Stage.TheVariants.{InRange, OutOfRange, Found, Retained, Loaded, Lent, Called, Granted}
 use Rattle.brc_model.specs.declared.duty.Duty.{Duty}
@@ -26,21 +21,18 @@ use Rattle.brc_model.specs.declared.slot.State.{State}
 use Rattle.brc_model.specs.declared.slot.Exit.{Exit}
 use Rattle.brc_model.specs.declared.slot.Exit.TheVariants.{Success, Fault as FaultExit}
 use Rattle.brc_model.specs.Kinds.{kind_numbered, kind_of_word, same_kind}
-use Rattle.brc_model.specs.Slots.{slot_of, kind_of, put, after, target, entry}
+use Rattle.brc_model.specs.Slots.{slot_of, kind_of, put, after, target}
 use Rattle.brc_model.specs.Paths.{At, path_end, IsAcceptableCode}
-use Rattle.brc_model.specs.Threads.{code_of, row_of, entry_variables}
+use Rattle.brc_model.specs.Threads.{row_of}
 use Rattle.brc_model.specs.Layout.{none_row, row_at}
 use Rattle.brc_model.specs.declared.layout.Layout.{Layout}
 use Rattle.brc_model.specs.Machine.{has_room}
-use Rattle.brc_model.specs.Actions.{StepActor, Action, Skip, Stuck, Silent, Calls, Does, with_row, by_range, by_item, number_word, list_word, birth_action, dispatch_instruction, dispatch_inside, dispatch, may_claim, agenda_action, status_action, action_of, first_counters, turns_at, turned, file_word, sock_word, grant_action, granted_birth, return_action}
+use Rattle.brc_model.specs.Actions.{Action, Skip, Stuck, Silent, Calls, Does, with_row, by_range, by_item, number_word, list_word, birth_action, dispatch_instruction, dispatch_inside, turns_at, turned, file_word, sock_word, grant_action, granted_birth, return_action}
 use Rattle.brc_model.specs.KnownKinds.{IsTrueKind, HasTrueKind, HaveTrueKinds, KnowsKinds, AreNamed}
 use Rattle.brc_model.proofs.Basics.Lists.{some_is, either}
-use Rattle.brc_model.proofs.Dispatch.Grounded.{IsInside, AreInstructions, entry_in_call}
+use Rattle.brc_model.proofs.Dispatch.Grounded.{IsInside}
 use Rattle.brc_model.proofs.Dispatch.Decided.{range_decides, item_decides, exit_decides}
-use Rattle.brc_model.proofs.Dispatch.Passing.{passes_on}
-use Rattle.brc_model.specs.Accounts.{Account}
-use Rattle.brc_model.proofs.Dispatch.Coded.{PlaceSays}
-use Rattle.brc_model.proofs.Dispatch.Kinds.{true_put, empty_true, same_kind_is, true_with_kind, entry_true, true_without_items}
+use Rattle.brc_model.proofs.Dispatch.Kinds.{true_put, empty_true, same_kind_is, true_with_kind, true_without_items}
 
 -- ---- what an instruction leaves
 
@@ -65,15 +57,15 @@ row_leaves code words (Some x) work leaves = leaves x refl
 
 -- A thread at an instruction of accepted code, in the state in which a path reaches it, whose variables have the kinds
 -- of their slots.
-record KnowsAt (code : List Instr) (words : ℕ → ℕ) (at : ℕ) (variables : List (Option ℕ)) (s : State) (i : Instr)
+pub record KnowsAt (code : List Instr) (words : ℕ → ℕ) (at : ℕ) (variables : List (Option ℕ)) (s : State) (i : Instr)
     : Type 0 where
-  accepted : IsAcceptableCode code
-  inside : IsInside code at variables s
-  leads : (exit : Exit) (next : ℕ) → target i exit at ≡ Some next
+  pub accepted : IsAcceptableCode code
+  pub inside : IsInside code at variables s
+  pub leads : (exit : Exit) (next : ℕ) → target i exit at ≡ Some next
       → path_end code (inside.exits ++ exit ∷ []) ≡ At next (after i exit s)
-  operands : IsInstruction i
-  named : AreNamed words
-  known : HaveTrueKinds words s variables
+  pub operands : IsInstruction i
+  pub named : AreNamed words
+  pub known : HaveTrueKinds words s variables
 
 -- Where the paths to the next point agree, what holds of the state after the exit holds of theirs.
 goes_on : (code : List Instr) (words : ℕ → ℕ) (counters : Counters) (at next : ℕ) (variables rows : List (Option ℕ))
@@ -142,7 +134,8 @@ birth_leaves code words layout t used counters at variables s i to word otherwis
 
 -- A thread that asks the host for a resource awaits its birth, or leaves the variable empty.
 grant_leaves : (code : List Instr) (words : ℕ → ℕ) (layout : Layout) (t used : ℕ) (counters : Counters) (at : ℕ)
-    (variables : List (Option ℕ)) (s : State) (i : Instr) (to otherwise : ℕ) → (here : KnowsAt code words at variables s i)
+    (variables : List (Option ℕ)) (s : State) (i : Instr) (to otherwise : ℕ)
+    → (here : KnowsAt code words at variables s i)
     → to < 16 → target i FaultExit at ≡ Some otherwise → after i FaultExit s ≡ put s to Empty
     → Leaves code words (grant_action layout t used counters at variables to otherwise)
 grant_leaves code words layout t used counters at variables s i to otherwise here low else_at empty =
@@ -186,7 +179,7 @@ list_kind cells few =
     ap kind_numbered number
 
 -- A thread that doesn't get its lock stays at `before`, where it knew the kinds.
-instruction_leaves : (code : List Instr) (words : ℕ → ℕ) (layout : Layout) (t used : ℕ) (before : Place)
+pub instruction_leaves : (code : List Instr) (words : ℕ → ℕ) (layout : Layout) (t used : ℕ) (before : Place)
     (counters : Counters) (at : ℕ)
     (variables : List (Option ℕ)) (s : State) (i : Instr) → KnowsKinds code words before
     → KnowsAt code words at variables s i
@@ -316,7 +309,7 @@ set_leaves code words counters at next variables s list index from otherwise exi
 any_true : (words : ℕ → ℕ) (slot : Slot) (row : Option ℕ) → kind_of slot ≡ kinds.Any → HasTrueKind words slot row
 any_true words slot row any x is = inl any
 
-inside_leaves : (code : List Instr) (words : ℕ → ℕ) (layout : Layout) (t used : ℕ) (counters : Counters) (at : ℕ)
+pub inside_leaves : (code : List Instr) (words : ℕ → ℕ) (layout : Layout) (t used : ℕ) (counters : Counters) (at : ℕ)
     (variables : List (Option ℕ))
     (stage : Stage)
     (s : State) (i : Instr) → KnowsAt code words at variables s i
@@ -338,7 +331,8 @@ inside_leaves code words layout t used counters at variables InRange s (Fetch to
     (Fetch to list index otherwise) FaultExit to Empty None here
     refl refl here.operands.0 (empty_true words None))
     (λ item. knows_here code words at variables s (Fetch to list index otherwise) here)
-inside_leaves code words layout t used counters at variables (Found item) s (Fetch to list index otherwise) here = λ found seen.
+inside_leaves code words layout t used counters at variables (Found item) s (Fetch to list index otherwise) here =
+    λ found seen.
     goes_on_put code words counters at (at + 1) variables s (Fetch to list index otherwise) Success to (Owned kinds.Any)
     (Some item) here refl refl here.operands.0 (any_true words (Owned kinds.Any) (Some item) refl)
 inside_leaves code words layout t used counters at variables InRange s (Set list index from otherwise) here =
@@ -388,90 +382,3 @@ inside_leaves code words layout t used counters at variables (Called FaultExit) 
     (goes_on code words counters at otherwise variables variables s (Write file number otherwise) FaultExit here refl
     here.known)
 inside_leaves code words layout t used counters at variables stage s i here = tt
-
--- ---- what a thread does
-
--- The thread's place before its step, by the words after it.
-pub record StandsKnowing (code : List Instr) (words : ℕ → ℕ) (place : Place) : Type 0 where
-  pub accepted : IsAcceptableCode code
-  pub instructions : AreInstructions code
-  pub locked : Option ℕ
-  pub account : Account
-  pub says : PlaceSays code place locked account
-  pub named : AreNamed words
-  pub knows : KnowsKinds code words place
-
--- The thread is at the instruction that its point has, in the state in which a path reaches it.
-knows_at : (code : List Instr) (words : ℕ → ℕ) (at : ℕ) (variables : List (Option ℕ)) (s : State)
-    → IsAcceptableCode code → AreInstructions code → IsInside code at variables s → AreNamed words
-    → HaveTrueKinds words s variables
-    → (i : Instr) × (slice_get code at ≡ Some i) × KnowsAt code words at variables s i
-knows_at code words at variables s accepted instructions inside named known =
-    let on = passes_on code inside.exits at s accepted inside.arrived in (
-      on.here,
-      on.found,
-      record {
-        accepted = accepted;
-        inside = inside;
-        leads = on.leads;
-        operands = instructions.each at on.here on.found;
-        named = named;
-        known = known;
-      },
-    )
-
-in_call_leaves : (code : List Instr) (words : ℕ → ℕ) (layout : Layout) (t used : ℕ) (before : Place)
-    (counters : Counters) (at : ℕ)
-    (variables : List (Option ℕ)) (s : State) → KnowsKinds code words before
-    → IsAcceptableCode code → AreInstructions code → IsInside code at variables s → AreNamed words
-    → HaveTrueKinds words s variables
-    → Leaves code words (dispatch_instruction layout t used before counters at variables (slice_get code at))
-in_call_leaves code words layout t used before counters at variables s knew accepted instructions inside named known =
-    let here = knows_at code words at variables s accepted instructions inside named known in
-    subst (λ (o : Option Instr). Leaves code words (dispatch_instruction layout t used before counters at variables o))
-    (sym here.1) (instruction_leaves code words layout t used before counters at variables s here.0 knew here.2)
-
-dispatch_leaves : (code : List Instr) (words : ℕ → ℕ) (layout : Layout) (t used : ℕ) (place : Place)
-    → StandsKnowing code words place → Leaves code words (dispatch layout t used code place)
-dispatch_leaves code words layout t used Exiting stands = tt
-dispatch_leaves code words layout t used (Idle zero) stands = λ found stored. tt
-dispatch_leaves code words layout t used (Idle (suc left)) stands =
-    in_call_leaves code words layout t used (Idle (suc left))
-    (first_counters left) 0 entry_variables entry tt stands.accepted
-    stands.instructions (entry_in_call code) stands.named (entry_true words stands.named)
-dispatch_leaves code words layout t used (InCall counters at variables) stands =
-    let says = stands.says in
-    in_call_leaves code words layout t used (InCall counters at variables) counters at variables says.0 stands.knows
-    stands.accepted stands.instructions says.1 stands.named (stands.knows says.1.exits says.0 says.1.arrived)
-dispatch_leaves code words layout t used (Inside counters at variables stage) stands =
-    let says = stands.says in
-    let here = knows_at code words at variables says.0 stands.accepted stands.instructions says.1 stands.named
-    (stands.knows says.1.exits says.0 says.1.arrived) in
-    subst (λ (o : Option Instr). Leaves code words (dispatch_inside layout t used counters at variables stage o)) (sym here.1)
-    (inside_leaves code words layout t used counters at variables stage says.0 here.0 here.2)
-
-agenda_leaves : (functions : List Function) (words : ℕ → ℕ) (layout : Layout) (t : ℕ) (a : StepActor)
-    (agenda : List Duty) → StandsKnowing (code_of (slice_get functions a.function)) words a.place
-    → Leaves (code_of (slice_get functions a.function)) words (agenda_action functions layout t a agenda)
-agenda_leaves functions words layout t a [] stands =
-    dispatch_leaves (code_of (slice_get functions a.function)) words layout t a.actor.used a.place stands
-agenda_leaves functions words layout t a (d ∷ rest) stands = λ found stored. stands.knows
-
-status_leaves : (functions : List Function) (words : ℕ → ℕ) (layout : Layout) (t : ℕ) (a : StepActor)
-    (status : Status) → StandsKnowing (code_of (slice_get functions a.function)) words a.place
-    → Leaves (code_of (slice_get functions a.function)) words (status_action functions layout t a status)
-status_leaves functions words layout t a Gone stands = tt
-status_leaves functions words layout t a Running stands =
-    agenda_leaves functions words layout t a a.actor.agenda stands
-status_leaves functions words layout t a Leaving stands =
-    agenda_leaves functions words layout t a a.actor.agenda stands
-
-pub action_leaves : (functions : List Function) (words : ℕ → ℕ) (layout : Layout) (t : ℕ) (a : StepActor)
-    (choice : Choice) → StandsKnowing (code_of (slice_get functions a.function)) words a.place
-    → Leaves (code_of (slice_get functions a.function)) words (action_of functions layout t a choice)
-action_leaves functions words layout t a Ok stands = status_leaves functions words layout t a a.actor.status stands
-action_leaves functions words layout t a Fault stands =
-    status_leaves functions words layout t a a.actor.status stands
-action_leaves functions words layout t a (Claim row) stands =
-    either (Leaves (code_of (slice_get functions a.function)) words) (may_claim layout t a row) _ Skip
-    (λ may found stored. stands.knows) tt

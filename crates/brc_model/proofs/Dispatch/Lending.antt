@@ -70,7 +70,8 @@ this_lent : (code : List Instr) (lent : Option ℕ) (o : Option ℕ) (work : ℕ
 this_lent code lent None work each = tt
 this_lent code lent (Some row) work each = each row refl
 
-birth_lent : (code : List Instr) (lent : Option ℕ) (layout : Layout) (t used : ℕ) (counters : Counters) (at : ℕ) (variables : List (Option ℕ))
+birth_lent : (code : List Instr) (lent : Option ℕ) (layout : Layout) (t used : ℕ) (counters : Counters) (at : ℕ)
+    (variables : List (Option ℕ))
     (to word otherwise : ℕ) → lent ≡ None
     → FollowsLent code lent (birth_action layout t used counters at variables to word otherwise)
 birth_lent code lent layout t used counters at variables to word otherwise none =
@@ -86,7 +87,8 @@ range_lent : (code : List Instr) (lent : Option ℕ) (list : Option ℕ) (index 
     → FollowsLent code lent (with_row list (λ row. Does (KindLoad row) [] (by_range index inside outside)))
 range_lent code lent list index inside outside has past =
     row_lent code lent list _ (λ row found full.
-    either (λ (place : Place). lent ≡ lent_at code place) (nat_lt index (cells_of found)) inside outside (λ is. has) past)
+    either (λ (place : Place). lent ≡ lent_at code place) (nat_lt index (cells_of found)) inside outside (λ is. has)
+    past)
 
 item_lent : (code : List Instr) (lent : Option ℕ) (empty : Place) (holds : ℕ → Place) (word : ℕ)
     → lent ≡ lent_at code empty → ((item : ℕ) → lent ≡ lent_at code (holds item))
@@ -127,7 +129,8 @@ instruction_lent : (code : List Instr) (layout : Layout) (t used : ℕ) (before 
 instruction_lent code layout t used before counters at variables None lent is none back = tt
 instruction_lent code layout t used before counters at variables (Some (Num to value otherwise)) lent is none back =
     birth_lent code lent layout t used counters at variables to (number_word value) otherwise none
-instruction_lent code layout t used before counters at variables (Some (ListObject to cells otherwise)) lent is none back =
+instruction_lent code layout t used before counters at variables (Some (ListObject to cells otherwise)) lent is none
+    back =
     birth_lent code lent layout t used counters at variables to (list_word cells) otherwise none
 instruction_lent code layout t used before counters at variables (Some (NoneObject to)) lent is none back = none
 instruction_lent code layout t used before counters at variables (Some (Newref to from)) lent is none back =
@@ -138,23 +141,29 @@ instruction_lent code layout t used before counters at variables (Some (Drop fro
     row_lent code lent (row_of variables from) _ (λ row found full. none)
 instruction_lent code layout t used before counters at variables (Some (Lock object)) lent is none back =
     row_lent code lent (row_of variables object) _ (λ row found full.
-    either (λ (place : Place). lent ≡ lent_at code place) (found == free_word) (InCall counters (at + 1) variables) before
+    either (λ (place : Place). lent ≡ lent_at code place) (found == free_word) (InCall counters (at + 1) variables)
+    before
     (λ free. none) back)
 instruction_lent code layout t used before counters at variables (Some (Unlock object)) lent is none back =
     row_lent code lent (row_of variables object) _ (λ row found full. none)
-instruction_lent code layout t used before counters at variables (Some (Borrow to list index otherwise)) lent is none back =
+instruction_lent code layout t used before counters at variables (Some (Borrow to list index otherwise)) lent is none
+    back =
     range_lent code lent (row_of variables list) index (Inside counters at variables InRange)
     (InCall counters otherwise (slice_set variables to None)) none none
-instruction_lent code layout t used before counters at variables (Some (Fetch to list index otherwise)) lent is none back =
+instruction_lent code layout t used before counters at variables (Some (Fetch to list index otherwise)) lent is none
+    back =
     range_lent code lent (row_of variables list) index (Inside counters at variables InRange)
     (InCall counters otherwise (slice_set variables to None)) none none
-instruction_lent code layout t used before counters at variables (Some (Set list index from otherwise)) lent is none back =
+instruction_lent code layout t used before counters at variables (Some (Set list index from otherwise)) lent is none
+    back =
     range_lent code lent (row_of variables list) index (Inside counters at variables InRange)
     (Inside counters at variables OutOfRange) none none
-instruction_lent code layout t used before counters at variables (Some (Put list index from otherwise)) lent is none back =
+instruction_lent code layout t used before counters at variables (Some (Put list index from otherwise)) lent is none
+    back =
     range_lent code lent (row_of variables list) index (Inside counters at variables InRange)
     (InCall counters otherwise variables) none none
-instruction_lent code layout t used before counters at variables (Some (Open to path mode otherwise)) lent is none back =
+instruction_lent code layout t used before counters at variables (Some (Open to path mode otherwise)) lent is none
+    back =
     grant_lent code lent layout t used counters at variables to otherwise none
 instruction_lent code layout t used before counters at variables (Some (Connect to peer otherwise)) lent is none back =
     grant_lent code lent layout t used counters at variables to otherwise none
@@ -188,7 +197,8 @@ inside_lent code layout t used counters at variables InRange (Some (Borrow to li
 inside_lent code layout t used counters at variables InRange (Some (Fetch to list index otherwise)) lent is says =
     cell_lent code lent (row_of variables list) index (InCall counters otherwise (slice_set variables to None))
     (λ item. Inside counters at variables (Found item)) says (λ item. says)
-inside_lent code layout t used counters at variables (Found item) (Some (Fetch to list index otherwise)) lent is says = λ found full. says
+inside_lent code layout t used counters at variables (Found item) (Some (Fetch to list index otherwise)) lent is says =
+    λ found full. says
 inside_lent code layout t used counters at variables InRange (Some (Set list index from otherwise)) lent is says =
     row_lent code lent (row_of variables list) _ (λ row.
     row_lent code lent (row_of variables from) _ (λ item found full. says))
@@ -229,8 +239,10 @@ pub dispatch_lent : (code : List Instr) (layout : Layout) (t used : ℕ) (place 
 dispatch_lent code layout t used Exiting lent says = tt
 dispatch_lent code layout t used (Idle zero) lent says = λ found full. says
 dispatch_lent code layout t used (Idle (suc left)) lent says =
-    instruction_lent code layout t used (Idle (suc left)) (first_counters left) 0 entry_variables (slice_get code 0) lent refl says says
+    instruction_lent code layout t used (Idle (suc left)) (first_counters left) 0 entry_variables (slice_get code 0)
+    lent refl says says
 dispatch_lent code layout t used (InCall counters at variables) lent says =
-    instruction_lent code layout t used (InCall counters at variables) counters at variables (slice_get code at) lent refl says says
+    instruction_lent code layout t used (InCall counters at variables) counters at variables (slice_get code at) lent
+    refl says says
 dispatch_lent code layout t used (Inside counters at variables stage) lent says =
     inside_lent code layout t used counters at variables stage (slice_get code at) lent refl says

@@ -1,5 +1,5 @@
--- Where a thread awaits a birth: the host has granted it a resource, and its block has room for the object that it is to
--- make of it. The thread has nothing else to do meanwhile.
+-- Where a thread awaits a birth: the host has granted it a resource, and its block has room for the object that it is
+-- to make of it. The thread has nothing else to do meanwhile.
 use Rattle.brc_model.specs.declared.slot.Exit.TheVariants.{Success, Fault as FaultExit}
 use Rattle.std.proofs.Common.{◌≡◌, ℕ, zero, suc, ◌+◌, Bool, true, false, List, [], ◌∷◌, Option, None, Some, refl, sym, ap, ◌∙◌}
 use Rattle.std.specs.Prelude.{◌==◌, nat_lt, slice_get, slice_set}
@@ -111,7 +111,8 @@ module _ (code : List Instr) (layout : Layout) (t used : ℕ) where
   Follows = FollowsRoom code (has_room layout t used)
 
   instruction_room : (before : Place) (counters : Counters) (at : ℕ) (variables : List (Option ℕ)) (i : Option Instr)
-      → slice_get code at ≡ i → AwaitsNone code before → Follows (dispatch_instruction layout t used before counters at variables i)
+      → slice_get code at ≡ i → AwaitsNone code before
+      → Follows (dispatch_instruction layout t used before counters at variables i)
   instruction_room before counters at variables None is none = tt
   instruction_room before counters at variables (Some (Num to value otherwise)) is none =
       birth_none code (has_room layout t used) layout t used counters at variables to (number_word value) otherwise

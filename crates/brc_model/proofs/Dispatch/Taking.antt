@@ -1,22 +1,20 @@
 -- What a thread of accepted code takes up at each instruction meets its condition.
-use Rattle.std.proofs.Common.{◌≡◌, ◌≢◌, ℕ, zero, suc, ◌+◌, ◌<◌, false, List, [], ◌∷◌, ◌++◌, length, Option, None, Some, refl, sym, ap, ◌∙◌, subst, arith, cond, true}
+use Rattle.std.proofs.Common.{◌≡◌, ◌≢◌, ℕ, zero, suc, ◌+◌, ◌<◌, false, List, [], ◌∷◌, ◌++◌, length, Option, None, Some, refl, sym, ap, ◌∙◌, subst, arith, true}
 use Rattle.std.specs.Prelude.{◌==◌, ◌&&◌, slice_get, slice_set}
 use Rattle.std.specs.List.{list_any}
 use Rattle.std.proofs.lemmas.List.{length-set}
 use Rattle.brc_lang.specs.declared.module.Instr.{Instr}
 use Rattle.brc_lang.specs.declared.module.Instr.TheVariants.{Num, List as ListObject, NoneObject, Newref, Move as MoveReference, Drop, Lock, Unlock, Borrow, Fetch, Set, Put, Goto, Again, Ret, Fail, As, Open, Connect, Read, Write}
-use Rattle.brc_lang.specs.declared.kind.Kind.{Kind}
 use Rattle.brc_model.specs.declared.slot.Slot.TheVariants.{Empty, Owned}
 use Rattle.brc_model.specs.declared.slot.State.{State}
-use Rattle.brc_model.specs.declared.slot.Exit.TheVariants.{Success, Fault}
-use Rattle.brc_model.specs.Slots.{slot_of, is_empty, is_owned, kind_of, put, entry, with_kind, names}
+use Rattle.brc_model.specs.declared.slot.Exit.TheVariants.{Success}
+use Rattle.brc_model.specs.Slots.{slot_of, is_empty, is_owned, kind_of, put, entry, names}
 use Rattle.brc_model.specs.Paths.{IsAcceptableCode}
 use Rattle.brc_model.specs.declared.duty.Holding.{Holding}
 use Rattle.brc_model.specs.declared.duty.Holding.TheVariants.{ByVariable, AsCaller, InFlight}
 use Rattle.brc_model.specs.AbstractState.{Reference, same_holding}
 use Rattle.brc_model.specs.Threads.{row_of, entry_variables}
-use Rattle.brc_model.specs.declared.duty.Duty.TheVariants.{RetainLoad, ReleaseLoad, Settle, Leave, KindLoad}
-use Rattle.brc_model.specs.Kinds.{kind_of_word, same_kind}
+use Rattle.brc_model.specs.declared.duty.Duty.TheVariants.{RetainLoad, ReleaseLoad, Settle, Leave}
 use Rattle.brc_model.specs.declared.actor.Place.{Place}
 use Rattle.brc_model.specs.declared.actor.Counters.{Counters}
 use Rattle.brc_model.specs.declared.actor.Place.TheVariants.{Idle, InCall, Inside, Exiting}
@@ -24,10 +22,10 @@ use Rattle.brc_model.specs.declared.actor.Stage.{Stage}
 use Rattle.brc_model.specs.Actions.{Does, always, first_counters, dispatch_instruction, dispatch, dispatch_inside}
 use Rattle.brc_model.proofs.Basics.Bag.{held-le-references_to}
 use Rattle.brc_model.specs.References.{held, one_if, reference_of}
-use Rattle.brc_model.proofs.Basics.Lists.{either, first_false, none_some}
+use Rattle.brc_model.proofs.Basics.Lists.{first_false, none_some}
 use Rattle.brc_model.proofs.Dispatch.Holds.{the_root, of_variables, Holds, holds-ended, holds-entered, of_inside}
-use Rattle.brc_model.proofs.Dispatch.Grounded.{IsInside, AreInstructions, owned_slot, owned_row, grounded-put, grounded-with_kind, says-with_kind, entry_in_call}
-use Rattle.brc_model.proofs.Dispatch.Guards.{LocksAgree, HeldBeside, guards-put, guards-with_kind, guards_none}
+use Rattle.brc_model.proofs.Dispatch.Grounded.{IsInside, AreInstructions, owned_slot, owned_row, grounded-put, entry_in_call}
+use Rattle.brc_model.proofs.Dispatch.Guards.{LocksAgree, guards-put, guards_none}
 use Rattle.brc_model.proofs.Dispatch.Standing.{named_at, given_referenced, keeps_all, keeps_given}
 use Rattle.brc_model.specs.KnownKinds.{HaveTrueKinds, KnowsKinds}
 use Rattle.brc_model.specs.Items.{HaveItems, KnowsItems, StageKnows}
@@ -35,6 +33,7 @@ use Rattle.brc_model.proofs.Dispatch.TakingBirths.{num_taken, list_taken}
 use Rattle.brc_model.proofs.Dispatch.TakingLocks.{lock_taken, unlock_taken}
 use Rattle.brc_model.proofs.Dispatch.TakingItems.{borrow_taken, fetch_taken, set_taken, put_taken}
 use Rattle.brc_model.proofs.Dispatch.TakingHost.{open_taken, connect_taken, read_taken, write_taken}
+use Rattle.brc_model.proofs.Dispatch.TakingKinds.{as_taken}
 use Rattle.brc_model.proofs.Dispatch.TakingStores.{inside_taken}
 use Rattle.brc_model.proofs.Dispatch.Items.{entry_items}
 use Rattle.brc_model.proofs.Dispatch.Passing.{passes_on}
@@ -44,7 +43,7 @@ use Rattle.brc_model.proofs.Dispatch.Coded.{once_each, PlaceFits, has_stage, in_
 use Rattle.brc_model.proofs.Dispatch.Lending.{lent_to, lent_at}
 use Rattle.brc_model.proofs.Dispatch.Rooms.{awaits_inside, awaits_birth}
 use Rattle.brc_model.specs.Machine.{has_room}
-use Rattle.brc_model.proofs.Dispatch.Begins.{Scene, words_of, CountsLockable, Backs, StandsAt, holds_plain, holds_at_none, Gives, Takes, Asks, Nothing, Settles, Leaves, Taken, IsTaken, taken_with_row, idle_stays, in_call_stays, newref_held, emptied_held, ended_says, SilentTaken, StandsInside}
+use Rattle.brc_model.proofs.Dispatch.Begins.{Scene, words_of, CountsLockable, StandsAt, holds_plain, holds_at_none, Gives, Takes, Nothing, Settles, Leaves, Taken, IsTaken, taken_with_row, idle_stays, in_call_stays, newref_held, emptied_held, ended_says, SilentTaken, StandsInside}
 use Rattle.brc_model.proofs.Keeping.SilentMoves.{Stays}
 use Rattle.brc_model.proofs.Dispatch.TakingSilent.{none_taken, move_taken, goto_taken, again_taken}
 use Rattle.brc_model.specs.Layout.{root_row}
@@ -169,70 +168,6 @@ ret_taken code g before counters at variables s from here =
     } in
     taken_with_row code g row.0 (row_of variables from)
     (λ r. Does (ReleaseLoad r (ByVariable from)) (Settle ∷ []) (always (Idle counters.left))) row.1 taken
-
--- ---- a look at a kind
-
--- The thread holds what it held, wherever it goes on after it has loaded the kind.
-asks_taken : (code : List Instr) (g : Scene) (counters : Counters) (next found : ℕ)
-    (variables : List (Option ℕ)) (s : State) (row : ℕ)
-    → IsInside code next variables s → LocksAgree s variables g.locked → Holds g.bag g.thread (of_variables s variables)
-    → Backs g row
-    → ((x : ℕ) → g.locked ≡ Some x → HeldBeside g.bag g.thread x (KindLoad row))
-    → Taken code g found (InCall counters next variables) (KindLoad row) []
-asks_taken code g counters next found variables s row inside guards holds backs keeps =
-    let held_now : HoldsAlone g.bag g.thread (once_each (of_variables s variables)) (KindLoad row ∷ []) =
-    record { each = λ k object. omega (arith, holds.each k object) } in
-    record {
-      placed = (s, inside, guards, held_now);
-      starts = Asks row backs;
-      follows = Nothing (in_call_stays counters next variables);
-      keeps = keeps;
-    }
-
-as_taken : (code : List Instr) (g : Scene) (before : Place) (counters : Counters) (at : ℕ)
-    (variables : List (Option ℕ)) (s : State) (from : ℕ) (kind : Kind) (otherwise : ℕ)
-    → StandsAt code g before at variables s (As from kind otherwise)
-    → IsTaken code g
-    (dispatch_instruction g.layout g.thread g.used before counters at variables (Some (As from kind otherwise)))
-as_taken code g before counters at variables s from kind otherwise here =
-    let some : is_empty (slot_of s from) ≡ false = first_false _ _ here.met.not_empty in
-    let live = named_at code g before at variables s (As from kind otherwise) from here some in
-    let in_slots : from < length s.slots = omega (arith, here.variables.0, here.inside.slots) in
-    let narrowed = put s from (with_kind (slot_of s from) kind) in
-    let next : IsInside code (at + 1) variables narrowed = record {
-      exits = here.inside.exits ++ Success ∷ [];
-      arrived = here.leads Success (at + 1) refl;
-      slots = length-set s.slots from (with_kind (slot_of s from) kind) ∙ here.inside.slots;
-      rows = here.inside.rows;
-      grounded = grounded-with_kind s variables from kind in_slots here.inside.grounded;
-    } in
-    let holds : Holds g.bag g.thread (of_variables narrowed variables) = record {
-      each = λ h object.
-          here.holds.each h object ∙ ap one_if (says-with_kind s variables from kind h object in_slots);
-    } in
-    let aside : IsInside code otherwise variables s = record {
-      exits = here.inside.exits ++ Fault ∷ [];
-      arrived = here.leads Fault otherwise refl;
-      slots = here.inside.slots;
-      rows = here.inside.rows;
-      grounded = here.inside.grounded;
-    } in
-    let keeps =
-    keeps_all code g before at variables s (As from kind otherwise) (KindLoad live.object) here (λ k object. refl) in
-    let taken : (found : ℕ) → Taken code g found
-    (InCall counters (cond (same_kind (kind_of_word found) kind) (at + 1) otherwise) variables)
-    (KindLoad live.object) [] =
-    λ found. either (λ (next : ℕ). Taken code g found (InCall counters next variables) (KindLoad live.object) [])
-    (same_kind (kind_of_word found) kind) _ _
-    (λ same.
-    asks_taken code g counters (at + 1) found variables narrowed live.object next
-    (guards-with_kind s variables from kind s.locked g.locked in_slots here.guards) holds live.backs keeps)
-    (asks_taken code g counters otherwise found variables s live.object aside here.guards here.holds live.backs keeps)
-    in
-    taken_with_row code g live.object (row_of variables from)
-    (λ row. Does (KindLoad row) []
-    (λ found. InCall counters (cond (same_kind (kind_of_word found) kind) (at + 1) otherwise) variables))
-    live.is_row taken
 
 -- ---- each instruction
 
@@ -362,7 +297,8 @@ inside_call_taken code g counters at variables stage accepted instructions fits 
       met = on.met;
       leads = on.leads;
     } in
-    subst (λ (o : Option Instr). IsTaken code g (dispatch_inside g.layout g.thread g.used counters at variables stage o)) (sym on.found)
+    subst (λ (o : Option Instr). IsTaken code g
+    (dispatch_inside g.layout g.thread g.used counters at variables stage o)) (sym on.found)
     (inside_taken code g counters at variables s on.here stage here)
 
 -- The exit gives up the reference that the thread holds as the caller.
@@ -402,5 +338,6 @@ dispatch_taken code g (Inside counters at variables stage) accepted instructions
 dispatch_taken code g (InCall counters at variables) accepted instructions stays fits sees =
     in_call_taken code g (InCall counters at variables) counters at variables fits.0 accepted instructions fits.1 fits.2
     (holds_plain g.bag g.thread (of_variables fits.0 variables) fits.3)
-    (sees.knows fits.1.exits fits.0 fits.1.arrived) (sees.items fits.1.exits fits.0 fits.1.arrived) sees.counted sees.lent fits
+    (sees.knows fits.1.exits fits.0 fits.1.arrived) (sees.items fits.1.exits fits.0 fits.1.arrived) sees.counted
+    sees.lent fits
     stays

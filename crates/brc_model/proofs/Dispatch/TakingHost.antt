@@ -260,7 +260,8 @@ module _ (code : List Instr) (g : Scene) (counters : Counters) (at : ℕ) (rows 
       (resource_word (kind_of (slot_of s file)) (words_of g row) (here.kinds file row named.is_row)
       (not-false _ (first_false _ _ here.met.right_kind))) refl refl
       (keeps_all code g before at rows s i (LendSlot row) here (λ k object. refl)))
-      (at_other i to otherwise rests (first_false _ _ here.met.unlocked) here.variables.0 (first_false _ _ here.met.free)
+      (at_other i to otherwise rests (first_false _ _ here.met.unlocked) here.variables.0
+      (first_false _ _ here.met.free)
       (here.leads Fault otherwise refl))
 
   pub read_lent : (to file most otherwise : ℕ) → StandsInside code g at rows s Lent (Read to file most otherwise)

@@ -170,7 +170,8 @@ module _ (code : List Instr) (g : Scene) (counters : Counters) (at : ℕ) (rows 
 
   pub borrow_inside : (to list index otherwise : ℕ)
       → StandsInside code g at rows s InRange (Borrow to list index otherwise)
-      → IsTaken code g (dispatch_inside g.layout g.thread g.used counters at rows InRange (Some (Borrow to list index otherwise)))
+      → IsTaken code g (dispatch_inside g.layout g.thread g.used counters at rows InRange
+      (Some (Borrow to list index otherwise)))
   borrow_inside to list index otherwise here =
       let i = Borrow to list index otherwise in
       let free : is_owned (slot_of s to) ≡ false = first_false _ _ here.met.free in
@@ -207,7 +208,8 @@ module _ (code : List Instr) (g : Scene) (counters : Counters) (at : ℕ) (rows 
 
   pub fetch_inside : (to list index otherwise : ℕ)
       → StandsInside code g at rows s InRange (Fetch to list index otherwise)
-      → IsTaken code g (dispatch_inside g.layout g.thread g.used counters at rows InRange (Some (Fetch to list index otherwise)))
+      → IsTaken code g (dispatch_inside g.layout g.thread g.used counters at rows InRange
+      (Some (Fetch to list index otherwise)))
   fetch_inside to list index otherwise here =
       let i = Fetch to list index otherwise in
       let free : is_owned (slot_of s to) ≡ false = first_false _ _ here.met.free in
@@ -238,7 +240,8 @@ module _ (code : List Instr) (g : Scene) (counters : Counters) (at : ℕ) (rows 
   -- The item is in the cell, so the thread may make a reference to it.
   pub found_inside : (to list index otherwise item : ℕ)
       → StandsInside code g at rows s (Found item) (Fetch to list index otherwise)
-      → IsTaken code g (dispatch_inside g.layout g.thread g.used counters at rows (Found item) (Some (Fetch to list index otherwise)))
+      → IsTaken code g (dispatch_inside g.layout g.thread g.used counters at rows (Found item)
+      (Some (Fetch to list index otherwise)))
   found_inside to list index otherwise item here =
       let i = Fetch to list index otherwise in
       let slot : Slot = Owned kinds.Any in

@@ -1,4 +1,5 @@
--- What a thread inside `set` or `put` takes up meets its condition, and so whatever a thread inside an instruction does.
+-- What a thread inside `set` or `put` takes up meets its condition, and so whatever a thread inside an instruction
+-- does.
 use Rattle.std.proofs.Common.{◌≡◌, ℕ, ◌+◌, ◌<◌, true, false, List, [], ◌∷◌, length, Option, None, Some, refl, ap, ◌∙◌, subst, arith}
 use Rattle.std.specs.Prelude.{◌==◌, ◌&&◌, slice_set}
 use Rattle.std.proofs.lemmas.Bool.{eq-eqb, not-false}
@@ -72,7 +73,8 @@ module _ (code : List Instr) (g : Scene) (counters : Counters) (at : ℕ) (rows 
 
   set_inside : (list index from otherwise : ℕ)
       → StandsInside code g at rows s InRange (Set list index from otherwise)
-      → IsTaken code g (dispatch_inside g.layout g.thread g.used counters at rows InRange (Some (Set list index from otherwise)))
+      → IsTaken code g (dispatch_inside g.layout g.thread g.used counters at rows InRange
+      (Some (Set list index from otherwise)))
   set_inside list index from otherwise here =
       let i = Set list index from otherwise in
       let free : names s.locked from ≡ false = first_false _ _ here.met.unlocked in
@@ -113,7 +115,8 @@ module _ (code : List Instr) (g : Scene) (counters : Counters) (at : ℕ) (rows 
   -- The list has no such cell: the reference is given up all the same.
   refused_inside : (list index from otherwise : ℕ)
       → StandsInside code g at rows s OutOfRange (Set list index from otherwise)
-      → IsTaken code g (dispatch_inside g.layout g.thread g.used counters at rows OutOfRange (Some (Set list index from otherwise)))
+      → IsTaken code g (dispatch_inside g.layout g.thread g.used counters at rows OutOfRange
+      (Some (Set list index from otherwise)))
   refused_inside list index from otherwise here =
       let i = Set list index from otherwise in
       let free : names s.locked from ≡ false = first_false _ _ here.met.unlocked in
@@ -151,7 +154,8 @@ module _ (code : List Instr) (g : Scene) (counters : Counters) (at : ℕ) (rows 
 
   put_inside : (list index from otherwise : ℕ)
       → StandsInside code g at rows s InRange (Put list index from otherwise)
-      → IsTaken code g (dispatch_inside g.layout g.thread g.used counters at rows InRange (Some (Put list index from otherwise)))
+      → IsTaken code g (dispatch_inside g.layout g.thread g.used counters at rows InRange
+      (Some (Put list index from otherwise)))
   put_inside list index from otherwise here =
       let i = Put list index from otherwise in
       let named = named_inside code g counters at rows s InRange i from here (first_false _ _ here.met.not_empty) in
@@ -182,7 +186,8 @@ module _ (code : List Instr) (g : Scene) (counters : Counters) (at : ℕ) (rows 
 
   retained_inside : (list index from otherwise : ℕ)
       → StandsInside code g at rows s Retained (Put list index from otherwise)
-      → IsTaken code g (dispatch_inside g.layout g.thread g.used counters at rows Retained (Some (Put list index from otherwise)))
+      → IsTaken code g (dispatch_inside g.layout g.thread g.used counters at rows Retained
+      (Some (Put list index from otherwise)))
   retained_inside list index from otherwise here =
       let i = Put list index from otherwise in
       let source = named_inside code g counters at rows s Retained i from here (first_false _ _ here.met.not_empty) in

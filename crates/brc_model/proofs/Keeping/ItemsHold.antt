@@ -29,7 +29,7 @@ use Rattle.brc_model.proofs.Dispatch.Grounded.{AreInstructions}
 use Rattle.brc_model.proofs.Dispatch.Coded.{PlaceSays}
 use Rattle.brc_model.proofs.Dispatch.Counting.{its_found}
 use Rattle.brc_model.proofs.Dispatch.Items.{ItemsStay, knows_stay}
-use Rattle.brc_model.proofs.Dispatch.ItemsLeft.{FindsWord, IsAfter, LeavesItems}
+use Rattle.brc_model.proofs.Dispatch.ItemsUsed.{FindsWord, IsAfter, LeavesItems}
 use Rattle.brc_model.proofs.Dispatch.ItemsActions.{StandsUsing, action_uses}
 use Rattle.brc_model.proofs.Dispatch.Actions.{ActionFits, action_fits}
 use Rattle.brc_model.proofs.Keeping.Sits.{sitting}

@@ -24,7 +24,8 @@ use Rattle.brc_model.proofs.Basics.Written.{written_here, written_load}
 use Rattle.brc_model.proofs.Stepping.Neutral.{found_by}
 use Rattle.brc_model.proofs.Frame.Kinds.{StoredStay, stored_at_duty}
 use Rattle.brc_model.proofs.Dispatch.Kinds.{knows_still, named_stay}
-use Rattle.brc_model.proofs.Dispatch.KindsLeft.{SeesKind, Leaves, StandsKnowing, action_leaves}
+use Rattle.brc_model.proofs.Dispatch.KindsLeft.{SeesKind, Leaves}
+use Rattle.brc_model.proofs.Dispatch.KindsActions.{StandsKnowing, action_leaves}
 use Rattle.brc_model.proofs.Keeping.StepCases.{ShowsSteps, at_duty, thread_shows}
 use Rattle.brc_model.specs.Machine.{Machine}
 

@@ -51,13 +51,15 @@ action_ranges p n m t a exit (Does d rest place) whole ranges found fits =
     let core = whole.kept.core in
     subst (Ranges n) (counting_done m t a exit d rest place)
     (duty_ranges whole.accounts n (counting m) t a.actor a.actor d rest core ranges there
-    (head_small whole.accounts n (counting m) t a.actor core there) (fits.small ranges.kinds (ranges.each t a.actor there))
+    (head_small whole.accounts n (counting m) t a.actor core there)
+    (fits.small ranges.kinds (ranges.each t a.actor there))
     (ranges.aside t a.actor there))
 
 thread_ranges : (p : Module) (n : ℕ) (m : StepMachine) (t : ℕ) (choice : Choice) (o : Option StepActor)
     → CodeInvariant p n m
     → Ranges n (counting m) → slice_get m.actors t ≡ o
-    → Ranges n (counting (of_thread m (λ a. machine_by m t a (exit_of choice) (action_of m.functions m.layout t a choice)) o))
+    → Ranges n (counting (of_thread m
+    (λ a. machine_by m t a (exit_of choice) (action_of m.functions m.layout t a choice)) o))
 thread_ranges p n m t choice None whole ranges found = ranges
 thread_ranges p n m t choice (Some a) whole ranges found =
     action_ranges p n m t a (exit_of choice) (action_of m.functions m.layout t a choice) whole ranges found

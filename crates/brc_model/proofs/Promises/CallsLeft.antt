@@ -1,6 +1,6 @@
 -- How many instructions a thread can still begin: a number that each beginning lowers and that no step raises. It
--- counts the calls still to make, the turns that instructions `again` have left, and the points from the thread's own to
--- the end of its code.
+-- counts the calls still to make, the turns that instructions `again` have left, and the points from the thread's own
+-- to the end of its code.
 use Rattle.std.proofs.Common.{◌≡◌, ◌≢◌, ℕ, zero, suc, ◌+◌, ◌-◌, ◌*◌, ◌<◌, ◌≤◌, List, [], ◌∷◌, length, Option, Some, refl, ap, subst, arith, get_or-set_other}
 use Rattle.std.specs.Prelude.{slice_get, sum_by}
 use Rattle.std.proofs.lemmas.List.{length-replicate}

@@ -188,7 +188,8 @@ instruction_empties layout t used before counters at variables (Some (Ret from))
     row_empties (row_of variables from) _ (λ row. refl)
 instruction_empties layout t used before counters at variables (Some Fail) = tt
 
-inside_empties : (layout : Layout) (t used : ℕ) (counters : Counters) (at : ℕ) (variables : List (Option ℕ)) (stage : Stage) (i : Option Instr)
+inside_empties : (layout : Layout) (t used : ℕ) (counters : Counters) (at : ℕ) (variables : List (Option ℕ))
+    (stage : Stage) (i : Option Instr)
     → ActionEmpties 0 (dispatch_inside layout t used counters at variables stage i)
 inside_empties layout t used counters at variables InRange (Some (Borrow to list index otherwise)) =
     row_empties (row_of variables list) _ (λ row. refl)
@@ -277,7 +278,8 @@ action_emptied m t a exit (Does d rest place) are found e =
 
 thread_emptied : (m : StepMachine) (t : ℕ) (choice : Choice) (o : Option StepActor) → AreEmptied (counting m)
     → slice_get m.actors t ≡ o
-    → AreEmptied (counting (of_thread m (λ a. machine_by m t a (exit_of choice) (action_of m.functions m.layout t a choice)) o))
+    → AreEmptied (counting
+    (of_thread m (λ a. machine_by m t a (exit_of choice) (action_of m.functions m.layout t a choice)) o))
 thread_emptied m t choice None are found = are
 thread_emptied m t choice (Some a) are found =
     action_emptied m t a (exit_of choice) (action_of m.functions m.layout t a choice) are found

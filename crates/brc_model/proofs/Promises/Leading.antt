@@ -114,7 +114,8 @@ module _ (P : Place → Type 0) (place : Place) (code : List Instr) (forward : L
           (λ row found. holds.on (at + 1) (slice_set variables from None) (omega arith))
       instruction_leads (Some (Lock object)) is =
           row_leads P place (row_of variables object) _ (λ row word. (
-            λ free. subst P (sym (ap (λ (w : ℕ). cond (w == free_word) (InCall counters (at + 1) variables) place) free))
+            λ free. subst P (sym (ap (λ (w : ℕ). cond (w == free_word) (InCall counters (at + 1) variables) place)
+                free))
                 (holds.on (at + 1) variables (omega arith)),
             λ taken. ap (λ (b : Bool). cond b (InCall counters (at + 1) variables) place) taken,
           ))
@@ -165,7 +166,8 @@ module _ (P : Place → Type 0) (place : Place) (code : List Instr) (forward : L
 
     -- Inside an instruction too, each step leads on: to a later point, or further in.
     pub inside_leads : (layout : Layout) (t used : ℕ) (stage : Stage) (i : Option Instr) → slice_get code at ≡ i
-        → HoldsWithin P counters at variables stage → LeadsTo P place (dispatch_inside layout t used counters at variables stage i)
+        → HoldsWithin P counters at variables stage
+        → LeadsTo P place (dispatch_inside layout t used counters at variables stage i)
     inside_leads layout t used InRange (Some (Borrow to list index otherwise)) is holds =
         cell_leads P place (row_of variables list) index (InCall counters otherwise (slice_set variables to None))
         (λ item. InCall counters (at + 1) (slice_set variables to (Some item)))
@@ -243,5 +245,6 @@ dispatch_leads P layout t used code (InCall counters at variables) forward holds
     found_leads P (InCall counters at variables) code counters at variables layout t used (slice_get code at)
     forward holds refl
 dispatch_leads P layout t used code (Inside counters at variables stage) forward holds =
-    inside_leads P (Inside counters at variables stage) code forward counters at variables layout t used stage (slice_get code at)
+    inside_leads P (Inside counters at variables stage) code forward counters at variables layout t used stage
+    (slice_get code at)
     refl holds

@@ -1,5 +1,5 @@
--- A thread that waits for a lock takes a step that changes nothing: it stores the gate's word as it found it, and is still
--- at the instruction.
+-- A thread that waits for a lock takes a step that changes nothing: it stores the gate's word as it found it, and is
+-- still at the instruction.
 use Rattle.brc_model.specs.declared.slot.Exit.TheVariants.{Success, Fault as FaultExit}
 use Rattle.std.proofs.Common.{◌≡◌, ℕ, zero, suc, ◌+◌, Bool, true, false, cond, List, [], ◌∷◌, Option, None, Some, refl, sym, ap, ◌∙◌, arith}
 use Rattle.std.specs.Prelude.{◌==◌, not, slice_get, slice_set, sum_by}
@@ -176,7 +176,8 @@ not_true true e = absurd cc
 not_true false e = refl
 
 -- The step of a thread that finds the gate taken changes nothing.
-tried_stays : (w : World) (t : ℕ) (a : StepActor) (exit : Exit) (x : Action) → slice_get w.actors t ≡ Some a → WaitsIdly a x
+tried_stays : (w : World) (t : ℕ) (a : StepActor) (exit : Exit) (x : Action) → slice_get w.actors t ≡ Some a
+    → WaitsIdly a x
     → finds_locked w.memory x ≡ true → world_of (machine_by (machine_of w) t a exit x) ≡ w
 tried_stays w t a exit (Does (LockGate y) rest place) found waits locked =
     let word = w.memory (Gate y) in

@@ -86,7 +86,8 @@ module _ (p : Accounts) (n : ℕ) (m : Machine) (x : ℕ) (core : CoreInvariant 
       let it = some_weighs (ending x) m.actors weighs in
       let fits = core.each it.who it.which it.found in
       let aside =
-      waiting_weight x (ending x) m it.who it.which it.which.aside (finalises x (ending x) (of_ending x)) fits.2.waits in
+      waiting_weight x (ending x) m it.who it.which it.which.aside (finalises x (ending x) (of_ending x)) fits.2.waits
+      in
       closes_next m it.who x it.which it.which.agenda it.found refl fits.0.behind (omega (arith, it.some, aside)) one
 
   -- A row that isn't dying has no such duty.

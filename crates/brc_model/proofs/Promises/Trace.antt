@@ -103,7 +103,8 @@ made m t choice o = of_thread [] (λ a. made_by m t a (action_of m.functions m.l
 pub thread_leaves : (m : StepMachine) (u t : ℕ) (choice : Choice) (o : Option StepActor) → t ≢ u
     → LeavesAt m (after m u choice o) t
 thread_leaves m u t choice None ne = leaves_all m t
-thread_leaves m u t choice (Some a) ne = action_leaves m u t a (exit_of choice) (action_of m.functions m.layout u a choice) ne
+thread_leaves m u t choice (Some a) ne = action_leaves m u t a (exit_of choice)
+    (action_of m.functions m.layout u a choice) ne
 
 -- ---- any event
 

@@ -30,7 +30,8 @@ action_alike m t a exit (Does d rest place) = refl
 
 thread_alike : (m : StepMachine) (t : ℕ) (choice : Choice) (o : Option StepActor)
     → world_of (of_thread m (λ a. machine_by m t a (exit_of choice) (action_of m.functions m.layout t a choice)) o)
-    ≡ world_of (of_thread (bared m) (λ a. machine_by (bared m) t a (exit_of choice) (action_of m.functions m.layout t a choice)) o)
+    ≡ world_of (of_thread (bared m)
+    (λ a. machine_by (bared m) t a (exit_of choice) (action_of m.functions m.layout t a choice)) o)
 thread_alike m t choice None = refl
 thread_alike m t choice (Some a) = action_alike m t a (exit_of choice) (action_of m.functions m.layout t a choice)
 
