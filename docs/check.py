@@ -12,7 +12,7 @@ from pathlib import Path
 ROOT = Path(__file__).resolve().parents[1]
 PAGES = [ROOT / "README.md", ROOT / "examples" / "README.md", *sorted((ROOT / "docs").glob("*.md"))]
 MODEL = ROOT / "crates" / "brc_model"
-EFFECTS = ROOT / "crates" / "brc_world" / "src" / "effect"
+EFFECTS = ROOT / "crates" / "brc_effect" / "src" / "effect"
 # Names of other projects.
 FOREIGN = re.compile(r"Py|_Py|ob_|tp_|write_all$|keep_two$")
 
@@ -89,7 +89,7 @@ def rule_faults():
         done_by |= set(re.findall(r"`(\w+)`", code))
         for body in re.findall(r"`(\w+)`", wrong):
             if not any((ROOT / "crates" / crate / "must-fail" / f"{body}.edit").exists()
-                       for crate in ("brc_world", "brc_word")):
+                       for crate in ("brc_effect", "brc_world", "brc_word")):
                 yield f"no wrong body `{body}`"
     yield from (f"rule `{name}` isn't in the table" for name in sorted(rules - named))
     yield from (f"`{name}` is no rule" for name in sorted(named - rules))

@@ -10,7 +10,7 @@ use Rattle.std.proofs.lemmas.Option.{slice_get-get_or}
 use Rattle.brc_lang.specs.declared.module.Module.{Module}
 use Rattle.brc_model.specs.declared.thread.Call.{Call}
 use Rattle.brc_model.specs.declared.thread.Choice.{Choice}
-use Rattle.brc_model.specs.declared.thread.Choice.TheVariants.{Ok as Succeed}
+use Rattle.brc_model.specs.declared.thread.Choice.TheVariants.{Fault}
 use Rattle.brc_model.specs.Actions.{StepActor}
 use Rattle.brc_model.specs.StepMachine.{main_actor}
 use Rattle.brc_model.specs.Safety.{has_gone}
@@ -28,11 +28,11 @@ leads_on u v w first more before after =
     after ∙ ap (λ (x : World). world_after x more) before
     ∙ sym (fold-append (λ (x : World) (event : ℕ × Choice). step x event.0 event.1) u first more)
 
-pub turn_more : (k : ℕ) (u v w : World) → v ≡ world_after u (turn k) → w ≡ step v (k + 1) Succeed
+pub turn_more : (k : ℕ) (u v w : World) → v ≡ world_after u (turn k) → w ≡ step v (k + 1) Fault
     → w ≡ world_after u (turn (k + 1))
 turn_more k u v w before after =
-    leads_on u v w (turn k) ((k + 1, Succeed) ∷ []) before after
-    ∙ ap (world_after u) (sym (map-range_with_len_more (λ t. (t, Succeed)) 1 k (k + 1) (omega arith)))
+    leads_on u v w (turn k) ((k + 1, Fault) ∷ []) before after
+    ∙ ap (world_after u) (sym (map-range_with_len_more (λ t. (t, Fault)) 1 k (k + 1) (omega arith)))
 
 repeat_more : {A : Type 0} (n : ℕ) (xs : List A) → repeat n xs ++ xs ≡ repeat (suc n) xs
 repeat_more zero xs = sym (append-nil xs)
@@ -47,11 +47,11 @@ replicate_more : {A : Type 0} (n : ℕ) (x : A) → replicate n x ++ x ∷ [] �
 replicate_more zero x = refl
 replicate_more (suc n) x = ap (λ l. x ∷ l) (replicate_more n x)
 
-pub main_more : (n : ℕ) (u v w : World) → v ≡ world_after u (steps_of_main n) → w ≡ step v 0 Succeed
+pub main_more : (n : ℕ) (u v w : World) → v ≡ world_after u (steps_of_main n) → w ≡ step v 0 Fault
     → w ≡ world_after u (steps_of_main (suc n))
 main_more n u v w before after =
-    leads_on u v w (steps_of_main n) ((0, Succeed) ∷ []) before after
-    ∙ ap (world_after u) (replicate_more n (0, Succeed))
+    leads_on u v w (steps_of_main n) ((0, Fault) ∷ []) before after
+    ∙ ap (world_after u) (replicate_more n (0, Fault))
 
 -- a run's tally, from where its two parts lead
 pub tally_of_run : {E : Type 0} (m : Module) (rows workers : ℕ) (call : Call) (first mid last : World)

@@ -1,10 +1,10 @@
--- The tally of workers that are stepped in turn.
+-- The tally of workers that are stepped in turn. Each call of the host faults.
 use Rattle.std.specs.Prelude.{◌≡◌, ℕ, List, ◌++◌, map, replicate, true}
 use Rattle.std.specs.List.{list_all, range_with_len, repeat}
 use Rattle.brc_lang.specs.declared.module.Module.{Module}
 use Rattle.brc_model.specs.declared.thread.Call.{Call}
 use Rattle.brc_model.specs.declared.thread.Choice.{Choice}
-use Rattle.brc_model.specs.declared.thread.Choice.TheVariants.{Ok}
+use Rattle.brc_model.specs.declared.thread.Choice.TheVariants.{Fault}
 use Rattle.brc_model.specs.Actions.{StepActor}
 use Rattle.brc_model.specs.Safety.{has_gone}
 use Rattle.brc_model.specs.World.{World, first_world}
@@ -14,13 +14,13 @@ use Rattle.brc_world.specs.Tallies.{tally_of}
 
 -- one step of each worker: 1, 2, .. in turn
 abbrev pub turn : ℕ → List (ℕ × Choice)
-turn workers = map (λ t. (t, Ok)) (range_with_len 1 workers)
+turn workers = map (λ t. (t, Fault)) (range_with_len 1 workers)
 
 abbrev pub turns : ℕ → ℕ → List (ℕ × Choice)
 turns rounds workers = repeat rounds (turn workers)
 
 abbrev pub steps_of_main : ℕ → List (ℕ × Choice)
-steps_of_main n = replicate n (0, Ok)
+steps_of_main n = replicate n (0, Fault)
 
 -- every thread is gone
 abbrev pub AreGone : World → Type 0

@@ -15,8 +15,9 @@ use std::sync::Wait;
 
 /// Runs 1 to 32 workers, each with 1 to 1024 rows, that each make the call, and returns the tally.
 ///
-/// The workers make one step each in turn until all are gone; then main steps. The function returns only when every
-/// thread is gone, or memory is refused.
+/// The workers make one step each in turn until all are gone; then main steps. No path and no peer has been given to
+/// the program, so each call of the host faults. The function returns only when every thread is gone, or memory is
+/// refused.
 pub fn run<R: Wait>(
     rt: &R,
     alloc: Global,
@@ -62,7 +63,7 @@ fn step_workers(workers: usize, world: &mut World) -> Result<bool, NoMemory>
 {
     let mut all_gone = true;
     for worker in 0..workers {
-        all_gone &= world.step(worker + 1, Choice::Ok)? == Did::Gone;
+        all_gone &= world.step(worker + 1, Choice::Fault)? == Did::Gone;
     }
     Ok(all_gone)
 }
@@ -77,7 +78,7 @@ fn finish_main<R: Wait>(rt: &R, world: &mut World) -> Result<(), NoMemory>
         if are_gone(world) {
             return Ok(());
         }
-        world.step(0, Choice::Ok)?;
+        world.step(0, Choice::Fault)?;
     }
     unreachable!()
 }

@@ -9,9 +9,9 @@ use Rattle.brc_model.specs.declared.actor.Status.TheVariants.{Running, Leaving, 
 use Rattle.brc_model.specs.declared.address.Address.{Address}
 use Rattle.brc_model.specs.declared.address.Address.TheVariants.{Gate}
 use Rattle.brc_model.specs.declared.duty.Duty.{Duty}
-use Rattle.brc_model.specs.declared.duty.Duty.TheVariants.{ClaimMark, LockGate, CellLoad}
+use Rattle.brc_model.specs.declared.duty.Duty.TheVariants.{ClaimMark, LockGate, KindLoad, CellLoad}
 use Rattle.brc_model.specs.Duties.{address_of}
-use Rattle.brc_model.specs.Actions.{StepActor, Action, Skip, Stuck, Silent, Does, always, agenda_action, status_action}
+use Rattle.brc_model.specs.Actions.{StepActor, Action, Skip, Stuck, Silent, Calls, Does, always, agenda_action, status_action}
 use Rattle.brc_model.specs.Limits.{total_limit}
 use Rattle.brc_model.specs.StepMachine.{at_place}
 use Rattle.brc_model.specs.Within.{Suits}
@@ -21,71 +21,47 @@ use Rattle.brc_world.specs.declared.did.Did.TheVariants as answers
 use Rattle.brc_world.specs.declared.dispatch.Start.{Start}
 use Rattle.brc_world.specs.declared.dispatch.Start.TheVariants as starts
 use Rattle.brc_world.specs.declared.thread.Thread.{Thread}
-use Rattle.brc_world.specs.Actors.{actor_of, found_by, memory_done, actor_done, memory_by, actor_by, did_by, CanDo, CanAct, finds_mark, memory_claimed, actor_claimed, did_claim}
+use Rattle.brc_world.specs.Actors.{actor_of, counters_in, found_by, memory_done, actor_done, memory_by, actor_by, faults_by, did_by, CanDo, CanAct, finds_mark, memory_claimed, actor_claimed, did_claim}
+use Rattle.brc_world.specs.declared.host_call.HostCall.{HostCall}
+use Rattle.brc_world.specs.declared.host_call.HostCall.TheVariants as calls
 use Rattle.brc_world.specs.declared.question.Question.{Question}
 use Rattle.brc_world.specs.declared.question.Question.TheVariants as questions
-use Rattle.brc_world.specs.Questions.{FindsItem, IsAbout, IsAnswerable}
+use Rattle.brc_world.specs.Questions.{FindsKind, FindsItem, IsAbout, IsAnswerable, place_called}
 use Rattle.brc_world.specs.Starts.{start_by, first_start, unasking, place_after, answered, started}
 use Rattle.brc_model.specs.declared.layout.Layout.{Layout}
+use Rattle.brc_model.specs.declared.slot.Exit.{Exit}
+use Rattle.brc_model.specs.StepMachine.{counted, closes}
+use Rattle.brc_world.specs.declared.faults.Faults.{Faults}
 
--- the answer, the words and the thread are those after the action of thread a, which has this agenda
-pub record IsStep (layout : Layout) (t : ℕ) (memory : Address → ℕ) (a : StepActor) (agenda : List Duty) (x : Action)
-    (did : Did) (words : Address → ℕ) (b : StepActor) : Type 0 where
+-- the counts of faults after a step that does the duty and ends by the exit
+abbrev pub duty_counted : Exit → Duty → Faults → Faults
+duty_counted exit d f = record { calls = f.calls; closes = if closes d then counted exit f.closes else f.closes }
+
+-- the counts of faults after a host call that ends by the exit
+abbrev pub call_counted : Exit → Faults → Faults
+call_counted exit f = record { calls = counted exit f.calls; closes = f.closes }
+
+-- the counts of faults after any other step
+abbrev pub uncounted : Faults → Faults
+uncounted f = f
+
+-- what there is after the action of thread a, which has this agenda, if the action ends by the exit: the answer, the
+-- words, the thread, and how the counts of faults change
+pub record IsStep (layout : Layout) (t : ℕ) (memory : Address → ℕ) (a : StepActor) (agenda : List Duty) (exit : Exit)
+    (x : Action) (did : Did) (words : Address → ℕ) (b : StepActor) (change : Faults → Faults) : Type 0 where
   pub answer : did ≡ did_by memory agenda x
   pub memory_is : words ≡ memory_by layout t memory a x
-  pub actor : b ≡ actor_by layout t memory a x
-
--- ---- the starts of a step that dispatches, by its action
-
-stuck_by : (layout : Layout) (t : ℕ) (memory : Address → ℕ) (a : StepActor) (x : Action)
-    → TakesStep x → starts.Stuck ≡ start_by x
-    → (found : ℕ) → IsStep layout t memory a [] x answers.Same memory (started a x found)
-stuck_by layout t memory a Skip steps e found = absurd steps
-stuck_by layout t memory a Stuck steps e found = record { answer = refl; memory_is = refl; actor = refl }
-stuck_by layout t memory a (Silent moves place) steps e found = absurd cc
-stuck_by layout t memory a (Does (LockGate y) rest place) steps e found = absurd cc
-stuck_by layout t memory a (Does d rest place) steps e found = absurd cc
-
-moved_by : (layout : Layout) (t : ℕ) (memory : Address → ℕ) (a : StepActor) (x : Action) → starts.Moved ≡ start_by x
-    → (found : ℕ) → IsStep layout t memory a [] x answers.Moved memory (started a x found)
-moved_by layout t memory a Skip e found = absurd cc
-moved_by layout t memory a Stuck e found = absurd cc
-moved_by layout t memory a (Silent moves place) e found = record { answer = refl; memory_is = refl; actor = refl }
-moved_by layout t memory a (Does (LockGate y) rest place) e found = absurd cc
-moved_by layout t memory a (Does d rest place) e found = absurd cc
+  pub actor : b ≡ actor_by layout t memory a exit x
+  pub faults : (f : Faults) → change f ≡ faults_by exit x f
 
 -- The action begins with the duty: this is its step, and the thread can do it.
-record DoneBy (layout : Layout) (t : ℕ) (memory : Address → ℕ) (a : StepActor) (agenda : List Duty) (x : Action)
-    (d : Duty) (did : Did) : Type 0 where
-  step : IsStep layout t memory a agenda x did
-      (memory_done layout t memory (started a x (found_by layout t memory a d)) d)
-      (actor_done layout t memory (started a x (found_by layout t memory a d)) d)
+record DoneBy (layout : Layout) (t : ℕ) (memory : Address → ℕ) (a : StepActor) (agenda : List Duty) (exit : Exit)
+    (x : Action) (d : Duty) (did : Did) : Type 0 where
+  step : IsStep layout t memory a agenda exit x did
+      (memory_done layout t memory (started a x exit (found_by layout t memory a d)) d)
+      (actor_done layout t memory (started a x exit (found_by layout t memory a d)) d) (duty_counted exit d)
   can : (n threads found : ℕ) → CanAct layout t n threads memory a x
-      → CanDo layout t n threads memory (started a x found) d
-
-done_by : (layout : Layout) (t : ℕ) (memory : Address → ℕ) (a : StepActor) (agenda : List Duty) (c d : Duty)
-    (rest : List Duty) (place : ℕ → Place) (did : Did)
-    → c ≡ d → did ≡ did_by memory agenda (Does c rest place)
-    → DoneBy layout t memory a agenda (Does c rest place) d did
-done_by layout t memory a agenda c d rest place did same answer =
-    subst (λ (e : Duty). DoneBy layout t memory a agenda (Does c rest place) e did) same
-    (record {
-      step = record { answer = answer; memory_is = refl; actor = refl };
-      can = λ n threads found can. record { there = can.there; suits = can.suits; uses = can.uses };
-    })
-
-doing_is : (d e : Duty) → starts.Doing d ≡ starts.Doing e → e ≡ d
-doing_is d e same = cc
-
--- A duty that isn't a lock waits for nothing.
-does_by : (layout : Layout) (t : ℕ) (memory : Address → ℕ) (a : StepActor) (x : Action) (d : Duty)
-    → starts.Doing d ≡ start_by x → DoneBy layout t memory a [] x d answers.Moved
-does_by layout t memory a Skip d e = absurd cc
-does_by layout t memory a Stuck d e = absurd cc
-does_by layout t memory a (Silent moves place) d e = absurd cc
-does_by layout t memory a (Does (LockGate y) rest place) d e = absurd cc
-does_by layout t memory a (Does c rest place) d e =
-    done_by layout t memory a [] c d rest place answers.Moved (doing_is d c e) refl
+      → CanDo layout t n threads memory (started a x exit found) d
 
 -- the answer of a lock that finds this gate
 abbrev pub entering : ℕ → Did
@@ -95,26 +71,14 @@ enters : (b : Bool) → cond b answers.Moved answers.Same ≡ cond (not b) answe
 enters true = refl
 enters false = refl
 
-locks_by : (layout : Layout) (t : ℕ) (memory : Address → ℕ) (a : StepActor) (x : Action) (row left next : ℕ)
-    → starts.Locking row left next ≡ start_by x
-    → DoneBy layout t memory a [] x (LockGate row) (entering (memory (Gate row)))
-locks_by layout t memory a Skip row left next e = absurd cc
-locks_by layout t memory a Stuck row left next e = absurd cc
-locks_by layout t memory a (Silent moves place) row left next e = absurd cc
-locks_by layout t memory a (Does (LockGate y) rest place) row left next e =
-    let same : y ≡ row = cc in
-    subst (λ (z : ℕ). DoneBy layout t memory a [] (Does (LockGate y) rest place) (LockGate z)
-    (entering (memory (Gate z)))) same
-    (done_by layout t memory a [] (LockGate y) (LockGate y) rest place (entering (memory (Gate y))) refl
-    (enters (memory (Gate y) == free_word)))
-locks_by layout t memory a (Does c rest place) row left next e = absurd cc
-
--- ---- the starts of a step, by its agenda
+doing_is : (d e : Duty) → starts.Doing d ≡ starts.Doing e → e ≡ d
+doing_is d e same = cc
 
 -- the duty that the start does
 abbrev pub duty_of : Start → Option Duty
 duty_of starts.Stuck = None
 duty_of starts.Moved = None
+duty_of (starts.Calling call) = None
 duty_of (starts.Doing d) = Some d
 duty_of (starts.Asking d question) = Some d
 duty_of (starts.Locking row left next) = Some (LockGate row)
@@ -124,58 +88,132 @@ abbrev pub did_of : Start → ℕ → Did
 did_of (starts.Locking row left next) found = entering found
 did_of _ found = answers.Moved
 
-agenda_stuck : (functions : List Function) (layout : Layout) (t : ℕ) (memory : Address → ℕ) (a : StepActor)
-    (agenda : List Duty) → starts.Stuck ≡ first_start functions layout t a agenda → (found : ℕ)
-    → IsStep layout t memory a agenda (agenda_action functions layout t a agenda) answers.Same memory
-    (started a (agenda_action functions layout t a agenda) found)
-agenda_stuck functions layout t memory a [] e found =
-    stuck_by layout t memory a (agenda_action functions layout t a []) (agenda_steps functions layout t a []) e found
-agenda_stuck functions layout t memory a (c ∷ rest) e found = absurd cc
+module _ (layout : Layout) (t : ℕ) (memory : Address → ℕ) (a : StepActor) (exit : Exit) where
+  -- ---- the starts of a step that dispatches, by its action
 
-agenda_moved : (functions : List Function) (layout : Layout) (t : ℕ) (memory : Address → ℕ) (a : StepActor)
-    (agenda : List Duty) → starts.Moved ≡ first_start functions layout t a agenda → (found : ℕ)
-    → IsStep layout t memory a agenda (agenda_action functions layout t a agenda) answers.Moved memory
-    (started a (agenda_action functions layout t a agenda) found)
-agenda_moved functions layout t memory a [] e found =
-    moved_by layout t memory a (agenda_action functions layout t a []) e found
-agenda_moved functions layout t memory a (c ∷ rest) e found = absurd cc
+  stuck_by : (x : Action) → TakesStep x → starts.Stuck ≡ start_by x
+      → (found : ℕ) → IsStep layout t memory a [] exit x answers.Same memory (started a x exit found) uncounted
+  stuck_by Skip steps e found = absurd steps
+  stuck_by Stuck steps e found =
+      record { answer = refl; memory_is = refl; actor = refl; faults = λ f. refl }
+  stuck_by (Silent moves place) steps e found = absurd cc
+  stuck_by (Calls place) steps e found = absurd cc
+  stuck_by (Does (LockGate y) rest place) steps e found = absurd cc
+  stuck_by (Does d rest place) steps e found = absurd cc
 
-agenda_does : (functions : List Function) (layout : Layout) (t : ℕ) (memory : Address → ℕ) (a : StepActor)
-    (agenda : List Duty) (d : Duty) → starts.Doing d ≡ first_start functions layout t a agenda
-    → DoneBy layout t memory a agenda (agenda_action functions layout t a agenda) d answers.Moved
-agenda_does functions layout t memory a [] d e =
-    does_by layout t memory a (agenda_action functions layout t a []) d e
-agenda_does functions layout t memory a (c ∷ rest) d e =
-    done_by layout t memory a (c ∷ rest) c d rest (always a.place) answers.Moved (doing_is d c e) refl
+  moved_by : (x : Action) → starts.Moved ≡ start_by x
+      → (found : ℕ) → IsStep layout t memory a [] exit x answers.Moved memory (started a x exit found) uncounted
+  moved_by Skip e found = absurd cc
+  moved_by Stuck e found = absurd cc
+  moved_by (Silent moves place) e found =
+      record { answer = refl; memory_is = refl; actor = refl; faults = λ f. refl }
+  moved_by (Calls place) e found = absurd cc
+  moved_by (Does (LockGate y) rest place) e found = absurd cc
+  moved_by (Does d rest place) e found = absurd cc
 
-agenda_locks : (functions : List Function) (layout : Layout) (t : ℕ) (memory : Address → ℕ) (a : StepActor)
-    (agenda : List Duty) (row left next : ℕ)
-    → starts.Locking row left next ≡ first_start functions layout t a agenda
-    → DoneBy layout t memory a agenda (agenda_action functions layout t a agenda) (LockGate row)
-    (entering (memory (Gate row)))
-agenda_locks functions layout t memory a [] row left next e =
-    locks_by layout t memory a (agenda_action functions layout t a []) row left next e
-agenda_locks functions layout t memory a (c ∷ rest) row left next e = absurd cc
+  called_by : (x : Action) → starts.Calling calls.Uses ≡ start_by x
+      → (found : ℕ)
+      → IsStep layout t memory a [] exit x answers.Moved memory (started a x exit found) (call_counted exit)
+  called_by Skip e found = absurd cc
+  called_by Stuck e found = absurd cc
+  called_by (Silent moves place) e found = absurd cc
+  called_by (Calls place) e found =
+      record { answer = refl; memory_is = refl; actor = refl; faults = λ f. refl }
+  called_by (Does (LockGate y) rest place) e found = absurd cc
+  called_by (Does d rest place) e found = absurd cc
 
-start_does : (functions : List Function) (layout : Layout) (t : ℕ) (memory : Address → ℕ) (a : StepActor)
-    (agenda : List Duty) (start : Start) (d : Duty)
-    → duty_of start ≡ Some d → unasking start ≡ first_start functions layout t a agenda
-    → DoneBy layout t memory a agenda (agenda_action functions layout t a agenda) d
-    (did_of start (found_by layout t memory a d))
-start_does functions layout t memory a agenda starts.Stuck d does e = absurd cc
-start_does functions layout t memory a agenda starts.Moved d does e = absurd cc
-start_does functions layout t memory a agenda (starts.Doing c) d does e =
-    let same : c ≡ d = cc in
-    subst (λ (f : Duty). DoneBy layout t memory a agenda (agenda_action functions layout t a agenda) f answers.Moved)
-    same (agenda_does functions layout t memory a agenda c e)
-start_does functions layout t memory a agenda (starts.Asking c question) d does e =
-    let same : c ≡ d = cc in
-    subst (λ (f : Duty). DoneBy layout t memory a agenda (agenda_action functions layout t a agenda) f answers.Moved)
-    same (agenda_does functions layout t memory a agenda c e)
-start_does functions layout t memory a agenda (starts.Locking row left next) d does e =
-    let same : LockGate row ≡ d = cc in
-    subst (λ (f : Duty). DoneBy layout t memory a agenda (agenda_action functions layout t a agenda) f
-    (entering (found_by layout t memory a f))) same (agenda_locks functions layout t memory a agenda row left next e)
+  done_by : (agenda : List Duty) (c d : Duty) (rest : List Duty) (place : ℕ → Place) (did : Did)
+      → c ≡ d → did ≡ did_by memory agenda (Does c rest place)
+      → DoneBy layout t memory a agenda exit (Does c rest place) d did
+  done_by agenda c d rest place did same answer =
+      subst (λ (e : Duty). DoneBy layout t memory a agenda exit (Does c rest place) e did) same
+      (record {
+        step = record { answer = answer; memory_is = refl; actor = refl; faults = λ f. refl };
+        can = λ n threads found can. record { there = can.there; suits = can.suits; uses = can.uses };
+      })
+
+  -- A duty that isn't a lock waits for nothing.
+  does_by : (x : Action) (d : Duty)
+      → starts.Doing d ≡ start_by x → DoneBy layout t memory a [] exit x d answers.Moved
+  does_by Skip d e = absurd cc
+  does_by Stuck d e = absurd cc
+  does_by (Silent moves place) d e = absurd cc
+  does_by (Calls place) d e = absurd cc
+  does_by (Does (LockGate y) rest place) d e = absurd cc
+  does_by (Does c rest place) d e = done_by [] c d rest place answers.Moved (doing_is d c e) refl
+
+  locks_by : (x : Action) (row left next : ℕ) → starts.Locking row left next ≡ start_by x
+      → DoneBy layout t memory a [] exit x (LockGate row) (entering (memory (Gate row)))
+  locks_by Skip row left next e = absurd cc
+  locks_by Stuck row left next e = absurd cc
+  locks_by (Silent moves place) row left next e = absurd cc
+  locks_by (Calls place) row left next e = absurd cc
+  locks_by (Does (LockGate y) rest place) row left next e =
+      let same : y ≡ row = cc in
+      subst (λ (z : ℕ). DoneBy layout t memory a [] exit (Does (LockGate y) rest place) (LockGate z)
+      (entering (memory (Gate z)))) same
+      (done_by [] (LockGate y) (LockGate y) rest place (entering (memory (Gate y))) refl
+      (enters (memory (Gate y) == free_word)))
+  locks_by (Does c rest place) row left next e = absurd cc
+
+module _ (functions : List Function) (layout : Layout) (t : ℕ) (memory : Address → ℕ) (a : StepActor)
+    (exit : Exit) where
+  -- ---- the starts of a step, by its agenda
+
+  agenda_stuck : (agenda : List Duty) → starts.Stuck ≡ first_start functions layout t a agenda → (found : ℕ)
+      → IsStep layout t memory a agenda exit (agenda_action functions layout t a agenda) answers.Same memory
+      (started a (agenda_action functions layout t a agenda) exit found) uncounted
+  agenda_stuck [] e found =
+      stuck_by layout t memory a exit (agenda_action functions layout t a []) (agenda_steps functions layout t a []) e
+      found
+  agenda_stuck (c ∷ rest) e found = absurd cc
+
+  agenda_moved : (agenda : List Duty) → starts.Moved ≡ first_start functions layout t a agenda → (found : ℕ)
+      → IsStep layout t memory a agenda exit (agenda_action functions layout t a agenda) answers.Moved memory
+      (started a (agenda_action functions layout t a agenda) exit found) uncounted
+  agenda_moved [] e found = moved_by layout t memory a exit (agenda_action functions layout t a []) e found
+  agenda_moved (c ∷ rest) e found = absurd cc
+
+  agenda_called : (agenda : List Duty) → starts.Calling calls.Uses ≡ first_start functions layout t a agenda
+      → (found : ℕ)
+      → IsStep layout t memory a agenda exit (agenda_action functions layout t a agenda) answers.Moved memory
+      (started a (agenda_action functions layout t a agenda) exit found) (call_counted exit)
+  agenda_called [] e found = called_by layout t memory a exit (agenda_action functions layout t a []) e found
+  agenda_called (c ∷ rest) e found = absurd cc
+
+  agenda_does : (agenda : List Duty) (d : Duty) → starts.Doing d ≡ first_start functions layout t a agenda
+      → DoneBy layout t memory a agenda exit (agenda_action functions layout t a agenda) d answers.Moved
+  agenda_does [] d e = does_by layout t memory a exit (agenda_action functions layout t a []) d e
+  agenda_does (c ∷ rest) d e =
+      done_by layout t memory a exit (c ∷ rest) c d rest (always a.place) answers.Moved (doing_is d c e) refl
+
+  agenda_locks : (agenda : List Duty) (row left next : ℕ)
+      → starts.Locking row left next ≡ first_start functions layout t a agenda
+      → DoneBy layout t memory a agenda exit (agenda_action functions layout t a agenda) (LockGate row)
+      (entering (memory (Gate row)))
+  agenda_locks [] row left next e =
+      locks_by layout t memory a exit (agenda_action functions layout t a []) row left next e
+  agenda_locks (c ∷ rest) row left next e = absurd cc
+
+  start_does : (agenda : List Duty) (start : Start) (d : Duty)
+      → duty_of start ≡ Some d → unasking start ≡ first_start functions layout t a agenda
+      → DoneBy layout t memory a agenda exit (agenda_action functions layout t a agenda) d
+      (did_of start (found_by layout t memory a d))
+  start_does agenda starts.Stuck d does e = absurd cc
+  start_does agenda starts.Moved d does e = absurd cc
+  start_does agenda (starts.Calling call) d does e = absurd cc
+  start_does agenda (starts.Doing c) d does e =
+      let same : c ≡ d = cc in
+      subst (λ (f : Duty). DoneBy layout t memory a agenda exit (agenda_action functions layout t a agenda) f
+      answers.Moved) same (agenda_does agenda c e)
+  start_does agenda (starts.Asking c question) d does e =
+      let same : c ≡ d = cc in
+      subst (λ (f : Duty). DoneBy layout t memory a agenda exit (agenda_action functions layout t a agenda) f
+      answers.Moved) same (agenda_does agenda c e)
+  start_does agenda (starts.Locking row left next) d does e =
+      let same : LockGate row ≡ d = cc in
+      subst (λ (f : Duty). DoneBy layout t memory a agenda exit (agenda_action functions layout t a agenda) f
+      (entering (found_by layout t memory a f))) same (agenda_locks agenda row left next e)
 
 -- ---- a thread that isn't gone
 
@@ -190,93 +228,127 @@ pub record HasStarted (functions : List Function) (layout : Layout) (t : ℕ) (a
     (start : Start) : Type 0 where
   pub alive : a.actor.status ≢ Gone
   pub starts : unasking start ≡ first_start functions layout t a a.actor.agenda
-  pub actor : (found : ℕ) → answered start found b ≡ started a (agenda_action functions layout t a a.actor.agenda) found
+  pub actor : (exit : Exit) (found : ℕ)
+      → answered start exit found b ≡ started a (agenda_action functions layout t a a.actor.agenda) exit found
 
-abbrev StepsTo : List Function → Layout → ℕ → (Address → ℕ) → StepActor → Did → (Address → ℕ) → StepActor → Type 0
-StepsTo functions layout t memory a did words b =
-    IsStep layout t memory a a.actor.agenda (status_action functions layout t a a.actor.status) did words b
+started_head : (a : StepActor) (x : Action) (exit : Exit) (found : ℕ)
+    → (started a x exit found).actor.head ≡ a.actor.head
+started_head a Skip exit found = refl
+started_head a Stuck exit found = refl
+started_head a (Silent moves place) exit found = refl
+started_head a (Calls place) exit found = refl
+started_head a (Does d rest place) exit found = refl
 
-of_status : (functions : List Function) (layout : Layout) (t : ℕ) (memory : Address → ℕ) (a : StepActor) (did : Did)
-    (words : Address → ℕ) (b : StepActor)
-    → a.actor.status ≢ Gone
-    → IsStep layout t memory a a.actor.agenda (agenda_action functions layout t a a.actor.agenda) did words b
-    → StepsTo functions layout t memory a did words b
-of_status functions layout t memory a did words b alive step =
-    subst (λ (x : Action). IsStep layout t memory a a.actor.agenda x did words b)
-    (alive_action functions layout t a a.actor.status alive) step
+module _ (functions : List Function) (layout : Layout) (t : ℕ) (memory : Address → ℕ) (a : StepActor)
+    (exit : Exit) (b : Thread) where
+  abbrev StepsTo : Did → (Address → ℕ) → StepActor → (Faults → Faults) → Type 0
+  StepsTo did words after change =
+      IsStep layout t memory a a.actor.agenda exit (status_action functions layout t a a.actor.status) did words after
+      change
 
--- A step that is stuck changes nothing, as the model's does.
-pub stuck_step : (functions : List Function) (layout : Layout) (t : ℕ) (memory : Address → ℕ) (a : StepActor)
-    (b : Thread)
-    → HasStarted functions layout t a b starts.Stuck
-    → StepsTo functions layout t memory a answers.Same memory (actor_of b)
-stuck_step functions layout t memory a b begun =
-    let x = agenda_action functions layout t a a.actor.agenda in
-    of_status functions layout t memory a answers.Same memory (actor_of b) begun.alive
-    (subst (IsStep layout t memory a a.actor.agenda x answers.Same memory) (sym (begun.actor 0))
-    (agenda_stuck functions layout t memory a a.actor.agenda begun.starts 0))
+  of_status : (did : Did) (words : Address → ℕ) (after : StepActor) (change : Faults → Faults)
+      → a.actor.status ≢ Gone
+      → IsStep layout t memory a a.actor.agenda exit (agenda_action functions layout t a a.actor.agenda) did words
+      after change
+      → StepsTo did words after change
+  of_status did words after change alive step =
+      subst (λ (x : Action). IsStep layout t memory a a.actor.agenda exit x did words after change)
+      (alive_action functions layout t a a.actor.status alive) step
 
--- A step on no word is the model's silent step.
-pub moved_step : (functions : List Function) (layout : Layout) (t : ℕ) (memory : Address → ℕ) (a : StepActor)
-    (b : Thread)
-    → HasStarted functions layout t a b starts.Moved
-    → StepsTo functions layout t memory a answers.Moved memory (actor_of b)
-moved_step functions layout t memory a b begun =
-    let x = agenda_action functions layout t a a.actor.agenda in
-    of_status functions layout t memory a answers.Moved memory (actor_of b) begun.alive
-    (subst (IsStep layout t memory a a.actor.agenda x answers.Moved memory) (sym (begun.actor 0))
-    (agenda_moved functions layout t memory a a.actor.agenda begun.starts 0))
+  -- A step that is stuck changes nothing, as the model's does.
+  pub stuck_step : HasStarted functions layout t a b starts.Stuck
+      → StepsTo answers.Same memory (actor_of b) uncounted
+  stuck_step begun =
+      let x = agenda_action functions layout t a a.actor.agenda in
+      of_status answers.Same memory (actor_of b) uncounted begun.alive
+      (subst (λ (c : StepActor). IsStep layout t memory a a.actor.agenda exit x answers.Same memory c uncounted)
+      (sym (begun.actor exit 0))
+      (agenda_stuck functions layout t memory a exit a.actor.agenda begun.starts 0))
 
-started_head : (a : StepActor) (x : Action) (found : ℕ) → (started a x found).actor.head ≡ a.actor.head
-started_head a Skip found = refl
-started_head a Stuck found = refl
-started_head a (Silent moves place) found = refl
-started_head a (Does d rest place) found = refl
+  -- A step on no word is the model's silent step.
+  pub moved_step : HasStarted functions layout t a b starts.Moved
+      → StepsTo answers.Moved memory (actor_of b) uncounted
+  moved_step begun =
+      let x = agenda_action functions layout t a a.actor.agenda in
+      of_status answers.Moved memory (actor_of b) uncounted begun.alive
+      (subst (λ (c : StepActor). IsStep layout t memory a a.actor.agenda exit x answers.Moved memory c uncounted)
+      (sym (begun.actor exit 0))
+      (agenda_moved functions layout t memory a exit a.actor.agenda begun.starts 0))
 
--- The thread that has started its step finds the same value in the duty's word as before.
-finds_same : (functions : List Function) (layout : Layout) (t : ℕ) (memory : Address → ℕ) (a : StepActor) (b : Thread)
-    (start : Start) (d : Duty)
-    → HasStarted functions layout t a b start
-    → found_by layout t memory a d ≡ found_by layout t memory (actor_of b) d
-finds_same functions layout t memory a b start d begun =
-    let x = agenda_action functions layout t a a.actor.agenda in
-    let heads : a.actor.head ≡ b.head =
-    sym (started_head a x 0) ∙ sym (ap (λ (c : StepActor). c.actor.head) (begun.actor 0)) in
-    ap (λ (head : ℕ). memory (address_of layout t head d)) heads
+  -- A host call is the model's, after which its exit decides the thread's place.
+  pub called_step : (call : HostCall) → HasStarted functions layout t a b (starts.Calling call)
+      → StepsTo answers.Moved memory
+      (at_place (actor_of b) (place_called call exit (counters_in b.left b) b.at b.variables)) (call_counted exit)
+  called_step call begun =
+      let x = agenda_action functions layout t a a.actor.agenda in
+      of_status answers.Moved memory
+      (at_place (actor_of b) (place_called call exit (counters_in b.left b) b.at b.variables)) (call_counted exit)
+      begun.alive
+      (subst (λ (c : StepActor). IsStep layout t memory a a.actor.agenda exit x answers.Moved memory c
+      (call_counted exit)) (sym (begun.actor exit 0))
+      (agenda_called functions layout t memory a exit a.actor.agenda begun.starts 0))
 
--- A step that does a duty is the model's step of that duty, after which the word found decides the thread's place.
-pub duty_step : (functions : List Function) (layout : Layout) (t : ℕ) (memory : Address → ℕ) (a : StepActor)
-    (b : Thread) (start : Start) (d : Duty)
-    → HasStarted functions layout t a b start → duty_of start ≡ Some d
-    → StepsTo functions layout t memory a (did_of start (found_by layout t memory (actor_of b) d))
-    (memory_done layout t memory (actor_of b) d)
-    (at_place (actor_done layout t memory (actor_of b) d)
-    (place_after start (found_by layout t memory (actor_of b) d) b))
-duty_step functions layout t memory a b start d begun does =
-    let x = agenda_action functions layout t a a.actor.agenda in
-    let found = found_by layout t memory (actor_of b) d in
-    let done = λ (word : ℕ) (c : StepActor).
-    IsStep layout t memory a a.actor.agenda x (did_of start word) (memory_done layout t memory c d)
-    (actor_done layout t memory c d) in
-    of_status functions layout t memory a (did_of start found) (memory_done layout t memory (actor_of b) d)
-    (at_place (actor_done layout t memory (actor_of b) d) (place_after start found b)) begun.alive
-    (subst (done found) (sym (begun.actor found))
-    (subst (λ (word : ℕ). done word (started a x word)) (finds_same functions layout t memory a b start d begun)
-    (start_does functions layout t memory a a.actor.agenda start d does begun.starts).step))
+  -- The thread that has started its step finds the same value in the duty's word as before.
+  finds_same : (start : Start) (d : Duty) → HasStarted functions layout t a b start
+      → found_by layout t memory a d ≡ found_by layout t memory (actor_of b) d
+  finds_same start d begun =
+      let x = agenda_action functions layout t a a.actor.agenda in
+      let heads : a.actor.head ≡ b.head =
+      sym (started_head a x exit 0) ∙ sym (ap (λ (c : StepActor). c.actor.head) (begun.actor exit 0)) in
+      ap (λ (head : ℕ). memory (address_of layout t head d)) heads
 
--- The thread can do the duty that its step has started with.
-pub can_do : (functions : List Function) (layout : Layout) (t n threads : ℕ) (memory : Address → ℕ) (a : StepActor)
-    (b : Thread) (start : Start) (d : Duty)
-    → HasStarted functions layout t a b start → duty_of start ≡ Some d
-    → CanAct layout t n threads memory a (status_action functions layout t a a.actor.status)
-    → CanDo layout t n threads memory (actor_of b) d
-can_do functions layout t n threads memory a b start d begun does can =
-    let done = start_does functions layout t memory a a.actor.agenda start d does begun.starts in
-    let does : CanDo layout t n threads memory (answered start 0 b) d =
-    subst (λ (c : StepActor). CanDo layout t n threads memory c d) (sym (begun.actor 0))
-    (done.can n threads 0 (subst (CanAct layout t n threads memory a)
-    (sym (alive_action functions layout t a a.actor.status begun.alive)) can)) in
-    record { there = does.there; suits = does.suits; uses = does.uses }
+  -- A step that does a duty is the model's step of that duty, after which the word found decides the thread's place.
+  pub duty_step : (start : Start) (d : Duty)
+      → HasStarted functions layout t a b start → duty_of start ≡ Some d
+      → StepsTo (did_of start (found_by layout t memory (actor_of b) d)) (memory_done layout t memory (actor_of b) d)
+      (at_place (actor_done layout t memory (actor_of b) d)
+      (place_after start exit (found_by layout t memory (actor_of b) d) b)) (duty_counted exit d)
+  duty_step start d begun does =
+      let x = agenda_action functions layout t a a.actor.agenda in
+      let found = found_by layout t memory (actor_of b) d in
+      let done = λ (word : ℕ) (c : StepActor).
+      IsStep layout t memory a a.actor.agenda exit x (did_of start word) (memory_done layout t memory c d)
+      (actor_done layout t memory c d) (duty_counted exit d) in
+      of_status (did_of start found) (memory_done layout t memory (actor_of b) d)
+      (at_place (actor_done layout t memory (actor_of b) d) (place_after start exit found b)) (duty_counted exit d)
+      begun.alive
+      (subst (done found) (sym (begun.actor exit found))
+      (subst (λ (word : ℕ). done word (started a x exit word)) (finds_same start d begun)
+      (start_does functions layout t memory a exit a.actor.agenda start d does begun.starts).step))
+
+  -- The thread can do the duty that its step has started with.
+  pub can_do : (n threads : ℕ) (start : Start) (d : Duty)
+      → HasStarted functions layout t a b start → duty_of start ≡ Some d
+      → CanAct layout t n threads memory a (status_action functions layout t a a.actor.status)
+      → CanDo layout t n threads memory (actor_of b) d
+  can_do n threads start d begun does can =
+      let done = start_does functions layout t memory a exit a.actor.agenda start d does begun.starts in
+      let able : CanDo layout t n threads memory (answered start exit 0 b) d =
+      subst (λ (c : StepActor). CanDo layout t n threads memory c d) (sym (begun.actor exit 0))
+      (done.can n threads 0 (subst (CanAct layout t n threads memory a)
+      (sym (alive_action functions layout t a a.actor.status begun.alive)) can)) in
+      record { there = able.there; suits = able.suits; uses = able.uses }
+
+-- ---- questions
+
+-- The duty of a question is no close, so its step changes no count of faults.
+closes_nothing : (d : Duty) → FindsKind d → closes d ≡ false
+closes_nothing (KindLoad row) finds = refl
+closes_nothing _ finds = absurd finds
+
+loads_cell : (d : Duty) → FindsItem d → closes d ≡ false
+loads_cell (CellLoad row cell) finds = refl
+loads_cell _ finds = absurd finds
+
+pub asking_closes : (question : Question) (d : Duty) → IsAbout question d → closes d ≡ false
+asking_closes (questions.Kind kind otherwise) d about = closes_nothing d about
+asking_closes (questions.Range index outside) d about = closes_nothing d about
+asking_closes (questions.Borrow to otherwise) d about = loads_cell d about
+asking_closes (questions.Fetch to otherwise) d about = loads_cell d about
+
+pub asking_uncounted : (exit : Exit) (question : Question) (d : Duty) (f : Faults) → IsAbout question d
+    → f ≡ duty_counted exit d f
+asking_uncounted exit question d f about = rw (asking_closes question d about) refl
 
 item_found : (d : Duty) (t n found : ℕ) (running : Bool) → n ≤ total_limit → FindsItem d → Suits t running n d found
     → found ≤ total_limit

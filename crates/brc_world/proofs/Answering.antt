@@ -7,14 +7,16 @@ use Rattle.brc_model.specs.declared.actor.Status.{Status}
 use Rattle.brc_model.specs.declared.actor.Status.TheVariants.{Running, Leaving, Gone}
 use Rattle.brc_model.specs.declared.address.Address.{Address}
 use Rattle.brc_model.specs.declared.duty.Duty.{Duty}
-use Rattle.brc_model.specs.declared.thread.Choice.TheVariants.{Ok, Claim}
+use Rattle.brc_model.specs.declared.slot.Exit.{Exit}
+use Rattle.brc_model.specs.declared.thread.Choice.TheVariants.{Claim}
 use Rattle.brc_model.specs.Safety.{has_gone}
-use Rattle.brc_model.specs.Actions.{StepActor, Action, Skip, Stuck, Silent, Does, status_action}
+use Rattle.brc_model.specs.Actions.{StepActor, Action, Skip, Stuck, Silent, Calls, Does, status_action}
 use Rattle.brc_model.specs.World.{World, step}
 use Rattle.brc_world.specs.declared.did.Did.TheVariants as answers
-use Rattle.brc_world.specs.Actors.{memory_by, actor_by, waits, did_by, finds_mark, did_claim}
+use Rattle.brc_world.specs.Actors.{memory_by, actor_by, faults_by, waits, did_by, finds_mark, did_claim}
 use Rattle.brc_world.specs.Answers.{is_gone, is_gone_at, IsAnswer}
-use Rattle.brc_world.proofs.Stepping.{with_words, unchanged}
+use Rattle.brc_world.specs.Worlds.{choice_of}
+use Rattle.brc_world.proofs.Stepping.{faults_of, with_words, unchanged}
 
 gone_is : (w : World) (t : ℕ) (a : StepActor) (s : Status) → slice_get w.actors t ≡ Some a → a.actor.status ≡ s
     → is_gone_at w t ≡ has_gone s
@@ -32,42 +34,55 @@ silent_goes_on : (memory : Address → ℕ) (agenda : List Duty) (moves : List M
 silent_goes_on memory [] moves place = refl
 silent_goes_on memory (d ∷ rest) moves place = refl
 
--- The answer of a step is Same if the thread waits for a lock.
-waiting_answers : (w : World) (t : ℕ) (waiting : Bool) → is_gone_at w t ≡ false
-    → (waiting ≡ false → step w t Ok ≢ w) → (waiting ≡ true → step w t Ok ≡ w)
-    → IsAnswer w t (step w t Ok) (if waiting then answers.Same else answers.Moved)
-waiting_answers w t true here moves stays = (here, stays refl)
-waiting_answers w t false here moves stays = (here, moves refl)
+calls_go_on : (memory : Address → ℕ) (agenda : List Duty) (place : Exit → Place)
+    → waits memory agenda (Calls place) ≡ false
+calls_go_on memory [] place = refl
+calls_go_on memory (d ∷ rest) place = refl
 
-action_answers : (w : World) (t : ℕ) (a : StepActor) (x : Action) → slice_get w.actors t ≡ Some a
-    → is_gone_at w t ≡ false → (waits w.memory a.actor.agenda x ≡ false → step w t Ok ≢ w)
-    → (waits w.memory a.actor.agenda x ≡ true → step w t Ok ≡ w)
-    → step w t Ok ≡ with_words w t (memory_by w.layout t w.memory a x) (actor_by w.layout t w.memory a x)
-    → IsAnswer w t (step w t Ok) (did_by w.memory a.actor.agenda x)
-action_answers w t a Skip found here moves stays is =
-    absurd (moves (skip_goes_on w.memory a.actor.agenda) (is ∙ unchanged w t a found))
-action_answers w t a Stuck found here moves stays is = (here, is ∙ unchanged w t a found)
-action_answers w t a (Silent refs place) found here moves stays is =
-    (here, moves (silent_goes_on w.memory a.actor.agenda refs place))
-action_answers w t a (Does d rest place) found here moves stays is =
-    waiting_answers w t (waits w.memory a.actor.agenda (Does d rest place)) here moves stays
+module _ (w : World) (t : ℕ) (exit : Exit) where
+  abbrev next : World
+  next = step w t (choice_of exit)
 
--- The answer of a thread's next step says whether the step changed the world.
-pub going_answers : (w : World) (t : ℕ) (a : StepActor) (s : Status) → slice_get w.actors t ≡ Some a
-    → a.actor.status ≡ s
-    → (s ≢ Gone → waits w.memory a.actor.agenda (status_action w.functions w.layout t a s) ≡ false
-    → step w t Ok ≢ w)
-    → (waits w.memory a.actor.agenda (status_action w.functions w.layout t a s) ≡ true → step w t Ok ≡ w)
-    → step w t Ok ≡ with_words w t (memory_by w.layout t w.memory a (status_action w.functions w.layout t a s))
-    (actor_by w.layout t w.memory a (status_action w.functions w.layout t a s))
-    → IsAnswer w t (step w t Ok) (did_by w.memory a.actor.agenda (status_action w.functions w.layout t a s))
-going_answers w t a Gone found at moves stays is = gone_is w t a Gone found at
-going_answers w t a Running found at moves stays is =
-    action_answers w t a (status_action w.functions w.layout t a Running) found (gone_is w t a Running found at)
-    (moves (λ e. cc)) stays is
-going_answers w t a Leaving found at moves stays is =
-    action_answers w t a (status_action w.functions w.layout t a Leaving) found (gone_is w t a Leaving found at)
-    (moves (λ e. cc)) stays is
+  -- The answer of a step is Same if the thread waits for a lock.
+  waiting_answers : (waiting : Bool) → is_gone_at w t ≡ false
+      → (waiting ≡ false → next ≢ w) → (waiting ≡ true → next ≡ w)
+      → IsAnswer w t next (if waiting then answers.Same else answers.Moved)
+  waiting_answers true here moves stays = (here, stays refl)
+  waiting_answers false here moves stays = (here, moves refl)
+
+  action_answers : (a : StepActor) (x : Action) → slice_get w.actors t ≡ Some a
+      → is_gone_at w t ≡ false → (waits w.memory a.actor.agenda x ≡ false → next ≢ w)
+      → (waits w.memory a.actor.agenda x ≡ true → next ≡ w)
+      → next ≡ with_words w t (memory_by w.layout t w.memory a x) (actor_by w.layout t w.memory a exit x)
+      (faults_by exit x (faults_of w))
+      → IsAnswer w t next (did_by w.memory a.actor.agenda x)
+  action_answers a Skip found here moves stays is =
+      absurd (moves (skip_goes_on w.memory a.actor.agenda) (is ∙ unchanged w t a found))
+  action_answers a Stuck found here moves stays is = (here, is ∙ unchanged w t a found)
+  action_answers a (Silent refs place) found here moves stays is =
+      (here, moves (silent_goes_on w.memory a.actor.agenda refs place))
+  action_answers a (Calls place) found here moves stays is =
+      (here, moves (calls_go_on w.memory a.actor.agenda place))
+  action_answers a (Does d rest place) found here moves stays is =
+      waiting_answers (waits w.memory a.actor.agenda (Does d rest place)) here moves stays
+
+  -- The answer of a thread's next step says whether the step changed the world.
+  pub going_answers : (a : StepActor) (s : Status) → slice_get w.actors t ≡ Some a
+      → a.actor.status ≡ s
+      → (s ≢ Gone → waits w.memory a.actor.agenda (status_action w.functions w.layout t a s) ≡ false
+      → next ≢ w)
+      → (waits w.memory a.actor.agenda (status_action w.functions w.layout t a s) ≡ true → next ≡ w)
+      → next ≡ with_words w t (memory_by w.layout t w.memory a (status_action w.functions w.layout t a s))
+      (actor_by w.layout t w.memory a exit (status_action w.functions w.layout t a s))
+      (faults_by exit (status_action w.functions w.layout t a s) (faults_of w))
+      → IsAnswer w t next (did_by w.memory a.actor.agenda (status_action w.functions w.layout t a s))
+  going_answers a Gone found at moves stays is = gone_is w t a Gone found at
+  going_answers a Running found at moves stays is =
+      action_answers a (status_action w.functions w.layout t a Running) found (gone_is w t a Running found at)
+      (moves (λ e. cc)) stays is
+  going_answers a Leaving found at moves stays is =
+      action_answers a (status_action w.functions w.layout t a Leaving) found (gone_is w t a Leaving found at)
+      (moves (λ e. cc)) stays is
 
 -- ---- claims
 

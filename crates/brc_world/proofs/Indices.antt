@@ -9,7 +9,7 @@ use Rattle.brc_model.specs.declared.duty.Duty.TheVariants.{Scan}
 use Rattle.brc_model.specs.Limits.{total_limit}
 use Rattle.brc_model.specs.Duties.{address_of}
 use Rattle.brc_model.specs.Within.{IsThere}
-use Rattle.brc_world.specs.Effects.{IsIndexed}
+use Rattle.brc_effect.specs.Effects.{IsIndexed}
 use Rattle.brc_model.specs.Layout.{front_rows, worker_rows, is_worker_row, block_of, row_at, IsCounted}
 
 -- Each row is in main's block or in a worker's.

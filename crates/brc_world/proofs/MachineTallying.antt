@@ -343,7 +343,7 @@ tally_same m facts = λ i. record {
   created = created m facts i;
   closed = closed m facts i;
   alive = alive m facts i;
-  host_faults = 0;
-  close_faults = 0;
+  host_faults = m.host_faults;
+  close_faults = m.close_faults;
   left = left m facts i;
 }

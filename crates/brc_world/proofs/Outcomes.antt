@@ -15,6 +15,7 @@ use Rattle.brc_model.specs.World.{World, first_world, step, IsReachable}
 use Rattle.brc_model.specs.Actions.{StepActor}
 use Rattle.brc_model.specs.StepMachine.{first_memory, main_actor, worker_actor}
 use Rattle.brc_world.specs.declared.did.Did.{Did}
+use Rattle.brc_world.specs.declared.faults.Faults.{Faults}
 use Rattle.brc_world.specs.declared.no_memory.NoMemory.{NoMemory}
 use Rattle.brc_world.specs.declared.thread.Thread.{Thread}
 use Rattle.brc_world.specs.Answers.{IsAnswer}
@@ -25,62 +26,70 @@ use Rattle.brc_world.proofs.Stepping.{with_words}
 use Rattle.brc_model.specs.declared.layout.Layout.{Layout}
 use Rattle.brc_model.specs.Layout.{row_count}
 
-abbrev pub contents : List Function → Layout → Columns → List Thread → Contents
-contents functions layout words threads =
-    record { functions = functions; layout = layout; words = words; actors = map actor_of threads }
+abbrev pub contents : List Function → Layout → Columns → List Thread → Faults → Contents
+contents functions layout words threads faults =
+    record { functions = functions; layout = layout; words = words; actors = map actor_of threads; faults = faults }
 
--- the contract of one step: the words and the thread after it, or the same ones if memory was refused
-pub record Turned (old new : Columns) (a b : StepActor) (r : Result Did NoMemory) (memory : Address → ℕ)
-    (next : StepActor) :
+-- the contract of one step: the words, the thread and the counts of faults after it, or the same ones if memory was
+-- refused
+pub record Turned (old new : Columns) (a b : StepActor) (f g : Faults) (r : Result Did NoMemory) (memory : Address → ℕ)
+    (next : StepActor) (faults : Faults) :
     Type 0 where
   pub words : OnOk r (word_in new ≡ memory)
   pub actor : OnOk r (b ≡ next)
+  pub faults_are : OnOk r (g ≡ faults)
   pub same_words : OnErr r (new ≡ old)
   pub same_actor : OnErr r (b ≡ a)
+  pub same_faults : OnErr r (g ≡ f)
   pub rows : length new.local ≡ length old.local
   pub threads : length new.thread ≡ length old.thread
 
 -- ---- the model's view
 
 seen_as : (functions : List Function) (layout : Layout) (old new : Columns) (threads : List Thread) (t : ℕ)
-    (after : Thread)
-    (memory : Address → ℕ) (next : StepActor)
-    → word_in new ≡ memory → actor_of after ≡ next
-    → seen (contents functions layout new (slice_set threads t after))
-    ≡ with_words (seen (contents functions layout old threads)) t memory next
-seen_as functions layout old new threads t after memory next words actor =
-    rw (map-set actor_of threads t after, words, actor) refl
+    (after : Thread) (f g : Faults)
+    (memory : Address → ℕ) (next : StepActor) (faults : Faults)
+    → word_in new ≡ memory → actor_of after ≡ next → g ≡ faults
+    → seen (contents functions layout new (slice_set threads t after) g)
+    ≡ with_words (seen (contents functions layout old threads f)) t memory next faults
+seen_as functions layout old new threads t after f g memory next faults words actor counts =
+    rw (map-set actor_of threads t after, words, actor, counts) refl
 
 made : (functions : List Function) (layout : Layout) (old new : Columns) (threads : List Thread) (t : ℕ)
     (choice : Choice)
-    (a : StepActor) (after : Thread) (r : Result Did NoMemory) (memory : Address → ℕ) (next : StepActor)
-    → Turned old new a (actor_of after) r memory next
-    → step (seen (contents functions layout old threads)) t choice
-    ≡ with_words (seen (contents functions layout old threads)) t memory next
-    → OnOk r (seen (contents functions layout new (slice_set threads t after))
-    ≡ step (seen (contents functions layout old threads)) t choice)
-made functions layout old new threads t choice a after (Ok did) memory next turned is =
-    seen_as functions layout old new threads t after memory next turned.words turned.actor ∙ sym is
-made functions layout old new threads t choice a after (Err e) memory next turned is = tt
+    (a : StepActor) (after : Thread) (f g : Faults) (r : Result Did NoMemory) (memory : Address → ℕ) (next : StepActor)
+    (faults : Faults)
+    → Turned old new a (actor_of after) f g r memory next faults
+    → step (seen (contents functions layout old threads f)) t choice
+    ≡ with_words (seen (contents functions layout old threads f)) t memory next faults
+    → OnOk r (seen (contents functions layout new (slice_set threads t after) g)
+    ≡ step (seen (contents functions layout old threads f)) t choice)
+made functions layout old new threads t choice a after f g (Ok did) memory next faults turned is =
+    seen_as functions layout old new threads t after f g memory next faults turned.words turned.actor turned.faults_are
+    ∙ sym is
+made functions layout old new threads t choice a after f g (Err e) memory next faults turned is = tt
 
 stays : (functions : List Function) (layout : Layout) (old new : Columns) (threads : List Thread) (t : ℕ)
-    (before after : Thread) (r : Result Did NoMemory) (memory : Address → ℕ) (next : StepActor)
-    → Turned old new (actor_of before) (actor_of after) r memory next → before ≡ slice_index_or threads t before
-    → OnErr r (contents functions layout new (slice_set threads t after) ≡ contents functions layout old threads)
-stays functions layout old new threads t before after (Ok did) memory next turned at = tt
-stays functions layout old new threads t before after (Err e) memory next turned at =
+    (before after : Thread) (f g : Faults) (r : Result Did NoMemory) (memory : Address → ℕ) (next : StepActor)
+    (faults : Faults)
+    → Turned old new (actor_of before) (actor_of after) f g r memory next faults
+    → before ≡ slice_index_or threads t before
+    → OnErr r (contents functions layout new (slice_set threads t after) g ≡ contents functions layout old threads f)
+stays functions layout old new threads t before after f g (Ok did) memory next faults turned at = tt
+stays functions layout old new threads t before after f g (Err e) memory next faults turned at =
     let same : map actor_of (slice_set threads t after) ≡ map actor_of threads =
     map-set_same actor_of threads t after before (turned.same_actor ∙ ap actor_of at) in
-    rw (turned.same_words, same) refl
+    rw (turned.same_words, same, turned.same_faults) refl
 
 -- ---- the world's invariant
 
 sized : (p : Module) (layout : Layout) (old new : Columns) (threads : List Thread) (t : ℕ) (after : Thread)
-    → IsWorld p (contents p.functions layout old threads) → length new.local ≡ length old.local
+    (f g : Faults)
+    → IsWorld p (contents p.functions layout old threads f) → length new.local ≡ length old.local
     → length new.thread ≡ length old.thread
-    → IsReachable p (seen (contents p.functions layout new (slice_set threads t after)))
-    → IsWorld p (contents p.functions layout new (slice_set threads t after))
-sized p layout old new threads t after world same_rows same_threads reachable =
+    → IsReachable p (seen (contents p.functions layout new (slice_set threads t after) g))
+    → IsWorld p (contents p.functions layout new (slice_set threads t after) g)
+sized p layout old new threads t after f g world same_rows same_threads reachable =
     let many : length (map actor_of (slice_set threads t after)) ≡ length (map actor_of threads) =
     length-map _ actor_of ∙ length-set threads t after ∙ sym (length-map threads actor_of) in
     record {
@@ -90,53 +99,60 @@ sized p layout old new threads t after world same_rows same_threads reachable =
     }
 
 goes : (p : Module) (layout : Layout) (old new : Columns) (threads : List Thread) (t : ℕ) (choice : Choice)
-    (before after : Thread) (r : Result Did NoMemory) (memory : Address → ℕ) (next : StepActor)
-    → Turned old new (actor_of before) (actor_of after) r memory next → before ≡ slice_index_or threads t before
-    → step (seen (contents p.functions layout old threads)) t choice
-    ≡ with_words (seen (contents p.functions layout old threads)) t memory next
-    → IsWorld p (contents p.functions layout old threads)
-    → IsReachable p (step (seen (contents p.functions layout old threads)) t choice)
-    → IsWorld p (contents p.functions layout new (slice_set threads t after))
-goes p layout old new threads t choice before after (Ok did) memory next turned at is world leads =
-    let now : seen (contents p.functions layout new (slice_set threads t after))
-    ≡ step (seen (contents p.functions layout old threads)) t choice =
-    made p.functions layout old new threads t choice (actor_of before) after (Ok did) memory next turned is in
-    sized p layout old new threads t after world turned.rows turned.threads (subst (IsReachable p) (sym now) leads)
-goes p layout old new threads t choice before after (Err e) memory next turned at is world leads =
-    let same : contents p.functions layout new (slice_set threads t after) ≡ contents p.functions layout old threads =
-    stays p.functions layout old new threads t before after (Err e) memory next turned at in
+    (before after : Thread) (f g : Faults) (r : Result Did NoMemory) (memory : Address → ℕ) (next : StepActor)
+    (faults : Faults)
+    → Turned old new (actor_of before) (actor_of after) f g r memory next faults
+    → before ≡ slice_index_or threads t before
+    → step (seen (contents p.functions layout old threads f)) t choice
+    ≡ with_words (seen (contents p.functions layout old threads f)) t memory next faults
+    → IsWorld p (contents p.functions layout old threads f)
+    → IsReachable p (step (seen (contents p.functions layout old threads f)) t choice)
+    → IsWorld p (contents p.functions layout new (slice_set threads t after) g)
+goes p layout old new threads t choice before after f g (Ok did) memory next faults turned at is world leads =
+    let now : seen (contents p.functions layout new (slice_set threads t after) g)
+    ≡ step (seen (contents p.functions layout old threads f)) t choice =
+    made p.functions layout old new threads t choice (actor_of before) after f g (Ok did) memory next faults turned is
+    in
+    sized p layout old new threads t after f g world turned.rows turned.threads
+    (subst (IsReachable p) (sym now) leads)
+goes p layout old new threads t choice before after f g (Err e) memory next faults turned at is world leads =
+    let same : contents p.functions layout new (slice_set threads t after) g
+    ≡ contents p.functions layout old threads f =
+    stays p.functions layout old new threads t before after f g (Err e) memory next faults turned at in
     subst (IsWorld p) (sym same) world
 
 -- the world after the step: it keeps its invariant, and it is the model's next world, or the same if memory was refused
 pub record Outcome (p : Module) (layout : Layout) (old new : Columns) (threads : List Thread) (t : ℕ) (choice : Choice)
-    (after : Thread) (r : Result Did NoMemory) : Type 0 where
-  pub world : IsWorld p (contents p.functions layout new (slice_set threads t after))
-  pub made : OnOk r (seen (contents p.functions layout new (slice_set threads t after))
-      ≡ step (seen (contents p.functions layout old threads)) t choice)
-  pub stays : OnErr r (contents p.functions layout new (slice_set threads t after)
-      ≡ contents p.functions layout old threads)
+    (after : Thread) (f g : Faults) (r : Result Did NoMemory) : Type 0 where
+  pub world : IsWorld p (contents p.functions layout new (slice_set threads t after) g)
+  pub made : OnOk r (seen (contents p.functions layout new (slice_set threads t after) g)
+      ≡ step (seen (contents p.functions layout old threads f)) t choice)
+  pub stays : OnErr r (contents p.functions layout new (slice_set threads t after) g
+      ≡ contents p.functions layout old threads f)
 
 pub outcome : (p : Module) (layout : Layout) (old new : Columns) (threads : List Thread) (t : ℕ) (choice : Choice)
-    (before after : Thread) (r : Result Did NoMemory) (memory : Address → ℕ) (next : StepActor)
-    → Turned old new (actor_of before) (actor_of after) r memory next → before ≡ slice_index_or threads t before
-    → step (seen (contents p.functions layout old threads)) t choice
-    ≡ with_words (seen (contents p.functions layout old threads)) t memory next
-    → IsWorld p (contents p.functions layout old threads)
-    → IsReachable p (step (seen (contents p.functions layout old threads)) t choice)
-    → Outcome p layout old new threads t choice after r
-outcome p layout old new threads t choice before after r memory next turned at is world leads = record {
-  world = goes p layout old new threads t choice before after r memory next turned at is world leads;
-  made = made p.functions layout old new threads t choice (actor_of before) after r memory next turned is;
-  stays = stays p.functions layout old new threads t before after r memory next turned at;
+    (before after : Thread) (f g : Faults) (r : Result Did NoMemory) (memory : Address → ℕ) (next : StepActor)
+    (faults : Faults)
+    → Turned old new (actor_of before) (actor_of after) f g r memory next faults
+    → before ≡ slice_index_or threads t before
+    → step (seen (contents p.functions layout old threads f)) t choice
+    ≡ with_words (seen (contents p.functions layout old threads f)) t memory next faults
+    → IsWorld p (contents p.functions layout old threads f)
+    → IsReachable p (step (seen (contents p.functions layout old threads f)) t choice)
+    → Outcome p layout old new threads t choice after f g r
+outcome p layout old new threads t choice before after f g r memory next faults turned at is world leads = record {
+  world = goes p layout old new threads t choice before after f g r memory next faults turned at is world leads;
+  made = made p.functions layout old new threads t choice (actor_of before) after f g r memory next faults turned is;
+  stays = stays p.functions layout old new threads t before after f g r memory next faults turned at;
 }
 
 -- ---- the thread that steps
 
 pub thread_at : (functions : List Function) (layout : Layout) (words : Columns) (threads : List Thread) (t : ℕ)
-    (before : Thread)
+    (faults : Faults) (before : Thread)
     → before ≡ slice_index_or threads t before → t < length (map actor_of threads)
-    → slice_get (seen (contents functions layout words threads)).actors t ≡ Some (actor_of before)
-thread_at functions layout words threads t before at lt =
+    → slice_get (seen (contents functions layout words threads faults)).actors t ≡ Some (actor_of before)
+thread_at functions layout words threads t faults before at lt =
     let within : t < length threads = subst (λ (n : ℕ). t < n) (length-map threads actor_of) lt in
     let found : slice_get threads t ≡ Some before = slice_get-get_or threads t before within ∙ ap Some (sym at) in
     rw (slice_get-map actor_of threads t, found) refl
@@ -151,6 +167,15 @@ answered old new stepped t (Err e) did is same answer = tt
 
 -- ---- refusals
 
+-- What holds anyway holds if memory was granted, and if it was refused.
+pub on_ok : {P : Type 0} (r : Result Did NoMemory) → P → OnOk r P
+on_ok (Ok did) p = p
+on_ok (Err e) p = tt
+
+pub on_err : {P : Type 0} (r : Result Did NoMemory) → P → OnErr r P
+on_err (Ok did) p = tt
+on_err (Err e) p = p
+
 -- What follows from the clause on a refusal holds of the refusal too.
 pub refusal : {P Q : Type 0} (r : Result Did NoMemory) → (P → Q) → IfErr r (λ _. P) → IfErr r (λ _. Q)
 refusal (Ok did) says given = tt
@@ -158,11 +183,14 @@ refusal (Err e) says given = says given
 
 -- ---- the first world
 
+abbrev pub no_faults : Faults
+no_faults = record { calls = 0; closes = 0 }
+
 pub first_seen : (p m : Module) (rows : ℕ) (layout : Layout) (calls : List Call) (words : Columns)
     (threads : List Thread)
     → p ≡ m → layout ≡ first_layout rows calls → word_in words ≡ first_memory layout.workers
     → map actor_of threads ≡ main_actor ∷ map worker_actor calls
-    → seen (contents p.functions layout words threads) ≡ first_world m rows calls
+    → seen (contents p.functions layout words threads no_faults) ≡ first_world m rows calls
 first_seen p m rows layout calls words threads same so word actors =
     rw (same, word, actors, so) refl
 
@@ -170,7 +198,7 @@ pub first_is : (p m : Module) (rows : ℕ) (layout : Layout) (calls : List Call)
     → p ≡ m → layout ≡ first_layout rows calls → word_in words ≡ first_memory layout.workers
     → map actor_of threads ≡ main_actor ∷ map worker_actor calls
     → length words.local ≡ row_count layout → length words.thread ≡ 1 + layout.workers
-    → IsReachable m (first_world m rows calls) → IsWorld p (contents p.functions layout words threads)
+    → IsReachable m (first_world m rows calls) → IsWorld p (contents p.functions layout words threads no_faults)
 first_is p m rows layout calls words threads same so word actors same_rows same_threads reachable =
     let now = first_seen p m rows layout calls words threads same so word actors in
     let workers : layout.workers ≡ length calls = ap (λ (l : Layout). l.workers) so in
@@ -178,7 +206,7 @@ first_is p m rows layout calls words threads same so word actors same_rows same_
     ap (λ (l : List StepActor). length l) actors ∙ omega (arith, length-map calls worker_actor, workers) in
     record {
       reachable =
-          subst (λ (x : Module). IsReachable x (seen (contents p.functions layout words threads))) (sym same)
+          subst (λ (x : Module). IsReachable x (seen (contents p.functions layout words threads no_faults))) (sym same)
           (subst (IsReachable m) (sym now) reachable);
       rows = same_rows;
       threads = same_threads ∙ sym count;

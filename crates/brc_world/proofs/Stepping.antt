@@ -14,17 +14,31 @@ use Rattle.brc_model.specs.declared.duty.Duty.TheVariants.{ClaimMark}
 use Rattle.brc_model.specs.declared.thread.Choice.{Choice}
 use Rattle.brc_model.specs.declared.thread.Choice.TheVariants.{Ok, Claim, Fault}
 use Rattle.brc_model.specs.World.{IsReachable, World, world_of, machine_of, step}
-use Rattle.brc_model.specs.Actions.{StepActor, Action, Skip, Stuck, Silent, Does, always, may_claim, status_action, action_of}
+use Rattle.brc_model.specs.declared.slot.Exit.{Exit}
+use Rattle.brc_model.specs.declared.slot.Exit.TheVariants as exits
+use Rattle.brc_model.specs.Actions.{StepActor, Action, Skip, Stuck, Silent, Calls, Does, always, may_claim, status_action, exit_of, action_of}
 use Rattle.brc_model.specs.StepMachine.{of_thread, machine_by}
 use Rattle.brc_model.specs.Within.{IsWithin, StepsWithin}
-use Rattle.brc_world.specs.Actors.{memory_by, actor_by, finds_mark, memory_claimed, actor_claimed, CanDo, CanAct, CanClaim}
+use Rattle.brc_world.specs.declared.faults.Faults.{Faults}
+use Rattle.brc_world.specs.Worlds.{choice_of}
+use Rattle.brc_world.specs.Actors.{memory_by, actor_by, faults_by, finds_mark, memory_claimed, actor_claimed, CanDo, CanAct, CanClaim}
 use Rattle.brc_model.specs.declared.layout.Layout.{Layout}
 use Rattle.brc_model.specs.Layout.{row_count}
 
--- the world with other words, and with thread t replaced
-abbrev pub with_words : World → ℕ → (Address → ℕ) → StepActor → World
-with_words w t memory a =
-    record { functions = w.functions; layout = w.layout; memory = memory; actors = slice_set w.actors t a }
+-- the counts of faults of the world
+abbrev pub faults_of : World → Faults
+faults_of w = record { calls = w.host_faults; closes = w.close_faults }
+
+-- the world with other words and other counts of faults, and with thread t replaced
+abbrev pub with_words : World → ℕ → (Address → ℕ) → StepActor → Faults → World
+with_words w t memory a faults = record {
+  functions = w.functions;
+  layout = w.layout;
+  memory = memory;
+  actors = slice_set w.actors t a;
+  host_faults = faults.calls;
+  close_faults = faults.closes;
+}
 
 -- Storing the thread that is there already changes no thread.
 set_same : (actors : List StepActor) (t : ℕ) (a : StepActor) → slice_get actors t ≡ Some a
@@ -33,10 +47,16 @@ set_same actors t a found =
     ap (slice_set actors t) (sym (get_or_from_slice_get actors t a a found)) ∙ set-get_or actors t a
 
 -- A world with its own words and its own thread is unchanged.
-pub unchanged : (w : World) (t : ℕ) (a : StepActor) → slice_get w.actors t ≡ Some a → with_words w t w.memory a ≡ w
+pub unchanged : (w : World) (t : ℕ) (a : StepActor) → slice_get w.actors t ≡ Some a → with_words w t w.memory a (faults_of w) ≡ w
 unchanged w t a found =
-    ap (λ (actors : List StepActor). let v : World =
-    record { functions = w.functions; layout = w.layout; memory = w.memory; actors = actors } in v)
+    ap (λ (actors : List StepActor). let v : World = record {
+      functions = w.functions;
+      layout = w.layout;
+      memory = w.memory;
+      actors = actors;
+      host_faults = w.host_faults;
+      close_faults = w.close_faults;
+    } in v)
     (set_same w.actors t a found)
 
 -- ---- the next step of a thread
@@ -45,29 +65,41 @@ unchanged w t a found =
 abbrev pub after : World → ℕ → Choice → Option StepActor → World
 after w t choice o =
     world_of (of_thread (machine_of w)
-    (λ a. machine_by (machine_of w) t a (action_of w.functions w.layout t a choice)) o)
+    (λ a. machine_by (machine_of w) t a (exit_of choice) (action_of w.functions w.layout t a choice)) o)
 
--- The world after an action has the words and the thread that `memory_by` and `actor_by` give.
-action_as : (w : World) (t : ℕ) (a : StepActor) (x : Action) → slice_get w.actors t ≡ Some a
-    → world_of (machine_by (machine_of w) t a x)
-    ≡ with_words w t (memory_by w.layout t w.memory a x) (actor_by w.layout t w.memory a x)
-action_as w t a Skip found = sym (unchanged w t a found)
-action_as w t a Stuck found = sym (unchanged w t a found)
-action_as w t a (Silent moves place) found = refl
-action_as w t a (Does d rest place) found = refl
+-- The world after an action has the words, the thread and the counts of faults that `memory_by`, `actor_by` and
+-- `faults_by` give.
+action_as : (w : World) (t : ℕ) (a : StepActor) (exit : Exit) (x : Action) → slice_get w.actors t ≡ Some a
+    → world_of (machine_by (machine_of w) t a exit x)
+    ≡ with_words w t (memory_by w.layout t w.memory a x) (actor_by w.layout t w.memory a exit x)
+    (faults_by exit x (faults_of w))
+action_as w t a exit Skip found = sym (unchanged w t a found)
+action_as w t a exit Stuck found = sym (unchanged w t a found)
+action_as w t a exit (Silent moves place) found = refl
+action_as w t a exit (Calls place) found = refl
+action_as w t a exit (Does d rest place) found = refl
 
--- The world after the thread's next step has the words and the thread of the thread's action.
-pub going_on : (w : World) (t : ℕ) (a : StepActor) → slice_get w.actors t ≡ Some a
-    → step w t Ok ≡ with_words w t
-    (memory_by w.layout t w.memory a (status_action w.functions w.layout t a a.actor.status))
-    (actor_by w.layout t w.memory a (status_action w.functions w.layout t a a.actor.status))
-going_on w t a found =
-    ap (after w t Ok) found ∙ action_as w t a (status_action w.functions w.layout t a a.actor.status) found
+-- the world after the thread's action, which ends by the exit
+abbrev pub gone_on : World → ℕ → StepActor → Exit → World
+gone_on w t a exit =
+    let x = status_action w.functions w.layout t a a.actor.status in
+    with_words w t (memory_by w.layout t w.memory a x) (actor_by w.layout t w.memory a exit x)
+    (faults_by exit x (faults_of w))
 
--- No step is a host call, so the choices `Fault` and `Ok` lead to the same world.
-pub fault_goes_on : (w : World) (t : ℕ) → step w t Fault ≡ step w t Ok
-fault_goes_on w t =
-    elim (slice_get w.actors t) as (λ o. after w t Fault o ≡ after w t Ok o) [ None ↦ refl | Some a ↦ refl ]
+-- The world after the thread's next step has the words, the thread and the counts of faults of the thread's action.
+pub going_on : (w : World) (t : ℕ) (a : StepActor) (exit : Exit) → slice_get w.actors t ≡ Some a
+    → step w t (choice_of exit) ≡ gone_on w t a exit
+going_on w t a exits.Success found =
+    ap (after w t Ok) found
+    ∙ action_as w t a exits.Success (status_action w.functions w.layout t a a.actor.status) found
+going_on w t a exits.Fault found =
+    ap (after w t Fault) found
+    ∙ action_as w t a exits.Fault (status_action w.functions w.layout t a a.actor.status) found
+
+-- What holds of both exits holds of the exit.
+pub at_exit : (P : Choice → Type 0) (exit : Exit) → P Ok × P Fault → P (choice_of exit)
+at_exit P exits.Success both = both.0
+at_exit P exits.Fault both = both.1
 
 -- ---- claims
 
@@ -75,7 +107,7 @@ fault_goes_on w t =
 pub misses_as : (w : World) (t : ℕ) (a : StepActor) (row : ℕ) → slice_get w.actors t ≡ Some a
     → finds_mark w.layout t w.memory a row ≡ false → step w t (Claim row) ≡ w
     → step w t (Claim row) ≡ with_words w t (memory_claimed w.layout t w.memory a row)
-    (actor_claimed w.layout t w.memory a row)
+    (actor_claimed w.layout t w.memory a row) (faults_of w)
 misses_as w t a row found none same = rw none (same ∙ sym (unchanged w t a found))
 
 -- A thread that may claim has an empty agenda.
@@ -89,7 +121,7 @@ claims_at_rest layout t a row may =
 pub finds_as : (w : World) (t : ℕ) (a : StepActor) (row : ℕ) → slice_get w.actors t ≡ Some a
     → may_claim w.layout t a row ≡ true → finds_mark w.layout t w.memory a row ≡ true
     → step w t (Claim row) ≡ with_words w t (memory_claimed w.layout t w.memory a row)
-    (actor_claimed w.layout t w.memory a row)
+    (actor_claimed w.layout t w.memory a row) (faults_of w)
 finds_as w t a row found may marked =
     let rests = claims_at_rest w.layout t a row may in
     let set : not (w.memory (Mark row) == 0) ≡ true = (and_parts _ _ marked).1 in
@@ -125,7 +157,7 @@ pub claim_is : (p : Module) (w : World) (t : ℕ) (a : StepActor) (row : ℕ) �
     → (may_claim w.layout t a row ≡ true → w.memory (Mark row) ≡ 0 → step w t (Claim row) ≡ w)
     → (may_claim w.layout t a row ≡ false → step w t (Claim row) ≡ w)
     → step w t (Claim row) ≡ with_words w t (memory_claimed w.layout t w.memory a row)
-    (actor_claimed w.layout t w.memory a row)
+    (actor_claimed w.layout t w.memory a row) (faults_of w)
 claim_is p w t a row reachable found unmarked unplaced =
     elim (cases_Bool (finds_mark w.layout t w.memory a row)) [
       | inl marked ↦
@@ -148,6 +180,7 @@ can_act : (w : World) (t : ℕ) (a : StepActor) (x : Action)
 can_act w t a Skip within = tt
 can_act w t a Stuck within = tt
 can_act w t a (Silent moves place) within = tt
+can_act w t a (Calls place) within = tt
 can_act w t a (Does d rest place) within = able w t a d (within d rest place refl)
 
 -- The thread can take its next step, if its steps are within all bounds.

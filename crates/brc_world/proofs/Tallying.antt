@@ -83,22 +83,22 @@ count_over p g xs = sym (sum_over (λ y. cond (p y) 1 0) g xs)
 -- ---- the tally
 
 -- The tally that the code puts together is the tally of the world.
-pub tally_as : (w : World) (all running created closed alive : ℕ) (left : List Left) (born : List ℕ)
+pub tally_as : (w : World) (all running created closed alive calls closes : ℕ) (left : List Left) (born : List ℕ)
     → all ≡ length w.actors → running ≡ count_by still_runs w.actors → born ≡ rows_born w → created ≡ length born
     → left ≡ map (left_in w) (filter (λ row. not (is_closed_row w row)) born) → closed ≡ created - length left
-    → alive ≡ length left
+    → alive ≡ length left → calls ≡ w.host_faults → closes ≡ w.close_faults
     → ◌≡◌ {A = Tally} (record {
       threads = all - 1;
       running = running;
       created = created;
       closed = closed;
-      alive =
-          alive;
-      host_faults = 0;
-      close_faults = 0;
+      alive = alive;
+      host_faults = calls;
+      close_faults = closes;
       left = left;
     }) (tally_of w)
-tally_as w all running created closed alive left born all_is running_is born_is created_is left_is closed_is alive_is =
+tally_as w all running created closed alive calls closes left born all_is running_is born_is created_is left_is
+    closed_is alive_is calls_is closes_is =
     let left_now : left ≡ map (left_in w) (rows_left w) = rw born_is at left_is in
     let alive_now : alive ≡ length (rows_left w) =
     alive_is ∙ ap (λ (l : List Left). length l) left_now ∙ length-map (rows_left w) (left_in w) in
@@ -106,4 +106,4 @@ tally_as w all running created closed alive left born all_is running_is born_is 
     let left_many : length left ≡ length (rows_left w) = sym alive_is ∙ alive_now in
     let closed_now : closed ≡ length (rows_closed w) =
     closed_is ∙ (rw (created_now, left_many) (passed (is_closed_row w) (rows_born w))) in
-    rw (all_is, running_is, created_now, closed_now, alive_now, left_now) refl
+    rw (all_is, running_is, created_now, closed_now, alive_now, left_now, calls_is, closes_is) refl

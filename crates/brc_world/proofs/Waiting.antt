@@ -8,12 +8,13 @@ use Rattle.brc_model.specs.declared.address.Address.{Address}
 use Rattle.brc_model.specs.declared.duty.Duty.{Duty}
 use Rattle.brc_model.specs.declared.duty.Duty.TheVariants.{Settle, Scan, LockGate}
 use Rattle.brc_model.specs.declared.layout.Layout.{Layout}
-use Rattle.brc_model.specs.declared.thread.Choice.TheVariants.{Ok}
+use Rattle.brc_model.specs.declared.slot.Exit.{Exit}
 use Rattle.brc_model.specs.Actions.{StepActor, Action, Does, always, agenda_action, status_action}
 use Rattle.brc_model.specs.Duties.{ready}
 use Rattle.brc_model.specs.World.{World, step, finds_locked, waits_for_lock}
 use Rattle.brc_world.specs.Actors.{actor_by, waits}
 use Rattle.brc_world.proofs.Acting.{alive_action}
+use Rattle.brc_world.specs.Worlds.{choice_of}
 use Rattle.brc_world.proofs.Stepping.{going_on}
 
 -- Skipping duties makes an agenda no longer.
@@ -27,21 +28,23 @@ ready_length zero (_ ∷ rest) = omega arith
 ready_length (suc head) (_ ∷ rest) = omega arith
 
 -- A thread whose agenda begins with a lock is another one after the lock's step: its agenda is shorter.
-lock_leaves : (layout : Layout) (t : ℕ) (memory : Address → ℕ) (a : StepActor) (d : Duty) (rest : List Duty)
+lock_leaves : (layout : Layout) (t : ℕ) (memory : Address → ℕ) (a : StepActor) (exit : Exit) (d : Duty)
+    (rest : List Duty)
     → a.actor.agenda ≡ d ∷ rest → finds_locked memory (Does d rest (always a.place)) ≡ true
-    → actor_by layout t memory a (Does d rest (always a.place)) ≢ a
-lock_leaves layout t memory a (LockGate x) rest at locked e =
+    → actor_by layout t memory a exit (Does d rest (always a.place)) ≢ a
+lock_leaves layout t memory a exit (LockGate x) rest at locked e =
     let shorter : ready a.actor.head rest ≡ LockGate x ∷ rest = ap (λ (b : StepActor). b.actor.agenda) e ∙ at in
     omega (arith, ready_length a.actor.head rest, ap length shorter)
-lock_leaves layout t memory a d rest at locked e = absurd cc
+lock_leaves layout t memory a exit d rest at locked e = absurd cc
 
 -- If the world is the same after a step, so is the thread.
-same_thread : (w : World) (t : ℕ) (a : StepActor) → slice_get w.actors t ≡ Some a → step w t Ok ≡ w
-    → actor_by w.layout t w.memory a (status_action w.functions w.layout t a a.actor.status) ≡ a
-same_thread w t a found same =
-    let b = actor_by w.layout t w.memory a (status_action w.functions w.layout t a a.actor.status) in
+same_thread : (w : World) (t : ℕ) (a : StepActor) (exit : Exit) → slice_get w.actors t ≡ Some a
+    → step w t (choice_of exit) ≡ w
+    → actor_by w.layout t w.memory a exit (status_action w.functions w.layout t a a.actor.status) ≡ a
+same_thread w t a exit found same =
+    let b = actor_by w.layout t w.memory a exit (status_action w.functions w.layout t a a.actor.status) in
     sym (get_or-set_same w.actors t b a (slice_get_within w.actors t a found))
-    ∙ ap (λ (v : World). get_or v.actors t a) (sym (going_on w t a found) ∙ same)
+    ∙ ap (λ (v : World). get_or v.actors t a) (sym (going_on w t a exit found) ∙ same)
     ∙ get_or_from_slice_get w.actors t a a found
 
 -- ---- which steps change the world
@@ -53,23 +56,25 @@ waits_locked memory [] x waiting = waiting
 waits_locked memory (d ∷ rest) x waiting = absurd cc
 
 -- the next step of a thread with this agenda changes the world, though it would lock a locked object
-lock_in_agenda : (w : World) (t : ℕ) (a : StepActor) (agenda : List Duty) → slice_get w.actors t ≡ Some a
+lock_in_agenda : (w : World) (t : ℕ) (a : StepActor) (exit : Exit) (agenda : List Duty)
+    → slice_get w.actors t ≡ Some a
     → a.actor.status ≢ Gone → a.actor.agenda ≡ agenda → waits_for_lock w t a ≡ true
-    → waits w.memory agenda (status_action w.functions w.layout t a a.actor.status) ≡ false → step w t Ok ≢ w
-lock_in_agenda w t a [] found alive at locked quiet same = let wrong : true ≡ false = sym locked ∙ quiet in absurd cc
-lock_in_agenda w t a (d ∷ rest) found alive at locked quiet same =
+    → waits w.memory agenda (status_action w.functions w.layout t a a.actor.status) ≡ false
+    → step w t (choice_of exit) ≢ w
+lock_in_agenda w t a exit [] found alive at locked quiet same = let wrong : true ≡ false = sym locked ∙ quiet in absurd cc
+lock_in_agenda w t a exit (d ∷ rest) found alive at locked quiet same =
     let is : status_action w.functions w.layout t a a.actor.status ≡ Does d rest (always a.place) =
     sym (alive_action w.functions w.layout t a a.actor.status alive) ∙ ap (agenda_action w.functions w.layout t a) at in
-    lock_leaves w.layout t w.memory a d rest at (ap (finds_locked w.memory) (sym is) ∙ locked)
-    (ap (actor_by w.layout t w.memory a) (sym is) ∙ same_thread w t a found same)
+    lock_leaves w.layout t w.memory a exit d rest at (ap (finds_locked w.memory) (sym is) ∙ locked)
+    (ap (actor_by w.layout t w.memory a exit) (sym is) ∙ same_thread w t a exit found same)
 
 -- A thread that isn't gone and doesn't wait changes the world.
-pub moves_unless_waiting : (w : World) (t : ℕ) (a : StepActor) → slice_get w.actors t ≡ Some a
-    → (waits_for_lock w t a ≡ false → step w t Ok ≢ w) → a.actor.status ≢ Gone
+pub moves_unless_waiting : (w : World) (t : ℕ) (a : StepActor) (exit : Exit) → slice_get w.actors t ≡ Some a
+    → (waits_for_lock w t a ≡ false → step w t (choice_of exit) ≢ w) → a.actor.status ≢ Gone
     → waits w.memory a.actor.agenda (status_action w.functions w.layout t a a.actor.status) ≡ false
-    → step w t Ok ≢ w
-moves_unless_waiting w t a found moves alive quiet =
+    → step w t (choice_of exit) ≢ w
+moves_unless_waiting w t a exit found moves alive quiet =
     elim (cases_Bool (waits_for_lock w t a)) [
-      | inl locked ↦ lock_in_agenda w t a a.actor.agenda found alive refl locked quiet
+      | inl locked ↦ lock_in_agenda w t a exit a.actor.agenda found alive refl locked quiet
       | inr free ↦ moves free
     ]

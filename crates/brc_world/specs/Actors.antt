@@ -1,38 +1,45 @@
 -- The model's view of a thread, and what a step changes in the words and in its thread, by the thread's action.
-use Rattle.std.specs.Prelude.{◌≡◌, ℕ, ◌≤◌, Bool, true, false, ◌==◌, ◌&&◌, not, if◌then◌else◌, List, [], ◌∷◌, reverse, Option, None}
+use Rattle.std.specs.Prelude.{◌≡◌, ℕ, ◌≤◌, Bool, true, false, ◌==◌, ◌&&◌, not, if◌then◌else◌, List, [], ◌∷◌, reverse, Option}
 use Rattle.brc_model.specs.declared.actor.Status.{Status}
 use Rattle.brc_model.specs.declared.actor.Status.TheVariants.{Running, Leaving, Gone}
 use Rattle.brc_model.specs.declared.address.Address.{Address}
 use Rattle.brc_model.specs.declared.address.Address.TheVariants.{Mark}
 use Rattle.brc_model.specs.declared.duty.Duty.{Duty}
 use Rattle.brc_model.specs.declared.duty.Duty.TheVariants.{Settle, Scan, ClaimMark}
+use Rattle.brc_model.specs.declared.actor.Counters.{Counters}
 use Rattle.brc_model.specs.declared.actor.Place.{Place}
 use Rattle.brc_model.specs.declared.actor.Place.TheVariants.{Idle, InCall, Inside, Exiting}
 use Rattle.brc_model.specs.Duties.{address_of, new_word}
 use Rattle.brc_model.specs.Within.{IsThere, Suits}
 use Rattle.brc_model.specs.Machine as model
-use Rattle.brc_model.specs.Actions.{StepActor, Action, Skip, Stuck, Silent, Does, may_claim}
-use Rattle.brc_model.specs.StepMachine.{at_place, step_actor}
+use Rattle.brc_model.specs.declared.slot.Exit.{Exit}
+use Rattle.brc_model.specs.Actions.{StepActor, Action, Skip, Stuck, Silent, Calls, Does, may_claim}
+use Rattle.brc_model.specs.StepMachine.{at_place, step_actor, counted, closes}
 use Rattle.brc_model.specs.World.{finds_locked}
 use Rattle.brc_world.specs.declared.did.Did.{Did}
 use Rattle.brc_world.specs.declared.did.Did.TheVariants as answers
+use Rattle.brc_world.specs.declared.faults.Faults.{Faults}
 use Rattle.brc_world.specs.declared.thread.Mode.{Mode}
 use Rattle.brc_world.specs.declared.thread.Mode.TheVariants as modes
 use Rattle.brc_world.specs.declared.thread.Thread.{Thread}
 use Rattle.brc_model.specs.declared.layout.Layout.{Layout}
 
--- the model's place of a thread; only a call has an instruction and variables
-abbrev pub place_of : Mode → ℕ → ℕ → List (Option ℕ) → Place
-place_of modes.Idle left at variables = Idle left
-place_of modes.InCall left at variables = InCall left at variables
-place_of (modes.Inside stage) left at variables = Inside left at variables stage
-place_of modes.Exiting left at variables = Exiting
+-- the counters of a call of the thread after which `left` calls remain
+abbrev pub counters_in : ℕ → Thread → Counters
+counters_in left t = record { left = left; turns = t.turns }
+
+-- the model's place of a thread; only a call has an instruction, variables, and counts of its instructions `again`
+abbrev pub place_of : Mode → Counters → ℕ → List (Option ℕ) → Place
+place_of modes.Idle counters at variables = Idle counters.left
+place_of modes.InCall counters at variables = InCall counters at variables
+place_of (modes.Inside stage) counters at variables = Inside counters at variables stage
+place_of modes.Exiting counters at variables = Exiting
 
 -- the model's thread; the first duty of its agenda is the last one of the code's vector
 abbrev pub actor_of : Thread → StepActor
 actor_of t = record {
   function = t.function;
-  place = place_of t.mode t.left t.at t.variables;
+  place = place_of t.mode (counters_in t.left t) t.at t.variables;
   actor = record {
     status = t.status;
     agenda = reverse t.agenda.items;
@@ -40,7 +47,7 @@ actor_of t = record {
     head = t.head;
     used = t.used;
     locked = t.locked;
-    lent = None;
+    lent = t.lent;
   };
 }
 
@@ -86,15 +93,24 @@ abbrev pub memory_by : Layout → ℕ → (Address → ℕ) → StepActor → Ac
 memory_by layout t memory a Skip = memory
 memory_by layout t memory a Stuck = memory
 memory_by layout t memory a (Silent moves place) = memory
+memory_by layout t memory a (Calls place) = memory
 memory_by layout t memory a (Does d rest place) = memory_done layout t memory a d
 
--- Returns the thread after its action.
-abbrev pub actor_by : Layout → ℕ → (Address → ℕ) → StepActor → Action → StepActor
-actor_by layout t memory a Skip = a
-actor_by layout t memory a Stuck = a
-actor_by layout t memory a (Silent moves place) = at_place a place
-actor_by layout t memory a (Does d rest place) =
+-- Returns the thread after its action, which ends by the exit.
+abbrev pub actor_by : Layout → ℕ → (Address → ℕ) → StepActor → Exit → Action → StepActor
+actor_by layout t memory a exit Skip = a
+actor_by layout t memory a exit Stuck = a
+actor_by layout t memory a exit (Silent moves place) = at_place a place
+actor_by layout t memory a exit (Calls place) = at_place a (place exit)
+actor_by layout t memory a exit (Does d rest place) =
     actor_done layout t memory (with_agenda (at_place a (place (found_by layout t memory a d))) rest) d
+
+-- Returns the counts of faults after an action that ends by the exit: a host call or a close may have faulted.
+abbrev pub faults_by : Exit → Action → Faults → Faults
+faults_by exit (Calls place) faults = record { calls = counted exit faults.calls; closes = faults.closes }
+faults_by exit (Does d rest place) faults =
+    record { calls = faults.calls; closes = if closes d then counted exit faults.closes else faults.closes }
+faults_by exit _ faults = faults
 
 -- Says whether the thread with this agenda waits for a lock: it begins with an instruction whose object another thread
 -- has locked. An agenda never has a lock in it.
@@ -107,6 +123,7 @@ abbrev pub did_by : (Address → ℕ) → List Duty → Action → Did
 did_by memory agenda Skip = answers.Gone
 did_by memory agenda Stuck = answers.Same
 did_by memory agenda (Silent moves place) = answers.Moved
+did_by memory agenda (Calls place) = answers.Moved
 did_by memory agenda (Does d rest place) =
     if waits memory agenda (Does d rest place) then answers.Same else answers.Moved
 
@@ -122,6 +139,7 @@ abbrev pub CanAct : Layout → ℕ → ℕ → ℕ → (Address → ℕ) → Ste
 CanAct layout t n threads memory a Skip = Unit {0}
 CanAct layout t n threads memory a Stuck = Unit {0}
 CanAct layout t n threads memory a (Silent moves place) = Unit {0}
+CanAct layout t n threads memory a (Calls place) = Unit {0}
 CanAct layout t n threads memory a (Does d rest place) = CanDo layout t n threads memory a d
 
 -- ---- a claim

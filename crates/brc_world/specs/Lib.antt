@@ -2,7 +2,6 @@ pub mod Storage
 pub mod Actors
 pub mod Questions
 pub mod Starts
-pub mod Effects
 pub mod Worlds
 pub mod Answers
 pub mod Tallies

@@ -39,7 +39,7 @@ objects_left m = filter (is_left m.abstract) (range_with_len 1 (row_count m.layo
 abbrev pub left_object : AbstractState → ℕ → Left
 left_object p row = record { row = row; kind = p.kinds row }
 
--- the tally of the machine; no step is a host call yet, so nothing faults
+-- the tally of the machine
 abbrev pub machine_tally : StepMachine → Tally
 machine_tally m = record {
   threads = length m.actors - 1;
@@ -47,8 +47,8 @@ machine_tally m = record {
   created = length m.abstract.born;
   closed = length m.abstract.closed;
   alive = length m.abstract.born - length m.abstract.closed;
-  host_faults = 0;
-  close_faults = 0;
+  host_faults = m.host_faults;
+  close_faults = m.close_faults;
   left = map (left_object m.abstract) (objects_left m);
 }
 

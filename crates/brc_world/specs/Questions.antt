@@ -1,13 +1,17 @@
--- What a step asks of the word that its duty finds, and the place where the thread goes on by the answer.
+-- What a step asks of the word that its duty finds or of the host, and the place where the thread goes on by the answer.
 use Rattle.std.specs.Prelude.{ℕ, zero, suc, ◌≤◌, if◌then◌else◌, List, Option, None, Some, slice_set}
+use Rattle.brc_model.specs.declared.actor.Counters.{Counters}
 use Rattle.brc_model.specs.declared.actor.Place.{Place}
 use Rattle.brc_model.specs.declared.actor.Place.TheVariants.{InCall, Inside}
-use Rattle.brc_model.specs.declared.actor.Stage.TheVariants.{InRange, OutOfRange, Found}
+use Rattle.brc_model.specs.declared.actor.Stage.TheVariants.{InRange, OutOfRange, Found, Called, Granted}
 use Rattle.brc_model.specs.declared.duty.Duty.{Duty}
-use Rattle.brc_model.specs.declared.duty.Duty.TheVariants.{CellLoad}
-use Rattle.brc_model.specs.Actions.{by_range, by_item}
+use Rattle.brc_model.specs.declared.duty.Duty.TheVariants.{KindLoad, CellLoad}
+use Rattle.brc_model.specs.declared.slot.Exit.{Exit}
+use Rattle.brc_model.specs.Actions.{by_exit, by_range, by_item}
 use Rattle.brc_model.specs.Kinds.{same_kind, kind_of_word}
 use Rattle.brc_model.specs.Limits.{total_limit}
+use Rattle.brc_world.specs.declared.host_call.HostCall.{HostCall}
+use Rattle.brc_world.specs.declared.host_call.HostCall.TheVariants as calls
 use Rattle.brc_world.specs.declared.question.Question.{Question}
 use Rattle.brc_world.specs.declared.question.Question.TheVariants as questions
 use Rattle.brc_world.specs.declared.question.Outside.{Outside}
@@ -18,10 +22,15 @@ abbrev pub FindsItem : Duty → Type 0
 FindsItem (CellLoad row cell) = Unit {0}
 FindsItem _ = ⊥
 
+-- the duty finds a kind word
+abbrev pub FindsKind : Duty → Type 0
+FindsKind (KindLoad row) = Unit {0}
+FindsKind _ = ⊥
+
 -- the duty finds the word that the question is about
 abbrev pub IsAbout : Question → Duty → Type 0
-IsAbout (questions.Kind kind otherwise) d = Unit {0}
-IsAbout (questions.Range index outside) d = Unit {0}
+IsAbout (questions.Kind kind otherwise) d = FindsKind d
+IsAbout (questions.Range index outside) d = FindsKind d
 IsAbout (questions.Borrow to otherwise) d = FindsItem d
 IsAbout (questions.Fetch to otherwise) d = FindsItem d
 
@@ -38,19 +47,26 @@ IsAnswerable (questions.Borrow to otherwise) found = found ≤ total_limit
 IsAnswerable (questions.Fetch to otherwise) found = found ≤ total_limit
 
 -- the place of a thread whose list has no cell with the index
-abbrev pub outside_of : Outside → ℕ → ℕ → List (Option ℕ) → Place
-outside_of (Empties to otherwise) left at variables = InCall left otherwise (slice_set variables to None)
-outside_of Releases left at variables = Inside left at variables OutOfRange
-outside_of (GoesOn otherwise) left at variables = InCall left otherwise variables
+abbrev pub outside_of : Outside → Counters → ℕ → List (Option ℕ) → Place
+outside_of (Empties to otherwise) counters at variables = InCall counters otherwise (slice_set variables to None)
+outside_of Releases counters at variables = Inside counters at variables OutOfRange
+outside_of (GoesOn otherwise) counters at variables = InCall counters otherwise variables
 
--- Returns the place to which the word found leads a thread of a call after which `left` calls remain.
-abbrev pub place_answered : Question → ℕ → ℕ → ℕ → List (Option ℕ) → Place
-place_answered (questions.Kind kind otherwise) found left at variables =
-    InCall left (if same_kind (kind_of_word found) kind then at else otherwise) variables
-place_answered (questions.Range index outside) found left at variables =
-    by_range index (Inside left at variables InRange) (outside_of outside left at variables) found
-place_answered (questions.Borrow to otherwise) found left at variables =
-    by_item (InCall left otherwise (slice_set variables to None))
-    (λ item. InCall left at (slice_set variables to (Some item))) found
-place_answered (questions.Fetch to otherwise) found left at variables =
-    by_item (InCall left otherwise (slice_set variables to None)) (λ item. Inside left at variables (Found item)) found
+-- Returns the place to which the word found leads a thread of a call with these counters.
+abbrev pub place_answered : Question → ℕ → Counters → ℕ → List (Option ℕ) → Place
+place_answered (questions.Kind kind otherwise) found counters at variables =
+    InCall counters (if same_kind (kind_of_word found) kind then at else otherwise) variables
+place_answered (questions.Range index outside) found counters at variables =
+    by_range index (Inside counters at variables InRange) (outside_of outside counters at variables) found
+place_answered (questions.Borrow to otherwise) found counters at variables =
+    by_item (InCall counters otherwise (slice_set variables to None))
+    (λ item. InCall counters at (slice_set variables to (Some item))) found
+place_answered (questions.Fetch to otherwise) found counters at variables =
+    by_item (InCall counters otherwise (slice_set variables to None))
+    (λ item. Inside counters at variables (Found item)) found
+
+-- Returns the place of a thread whose host call has ended by the exit, in a call of a function with these counters.
+abbrev pub place_called : HostCall → Exit → Counters → ℕ → List (Option ℕ) → Place
+place_called (calls.Asks to otherwise) exit counters at variables =
+    by_exit (Inside counters at variables Granted) (InCall counters otherwise (slice_set variables to None)) exit
+place_called calls.Uses exit counters at variables = Inside counters at variables (Called exit)

@@ -4,6 +4,7 @@ use Rattle.brc_lang.specs.declared.module.Function.{Function}
 use Rattle.brc_lang.specs.declared.module.Instr.{Instr}
 use Rattle.brc_lang.specs.declared.module.Instr.TheVariants.{Borrow, Fetch, Set, Put}
 use Rattle.brc_word.specs.Words.{free_word}
+use Rattle.brc_model.specs.declared.actor.Counters.{Counters}
 use Rattle.brc_model.specs.declared.actor.Place.{Place}
 use Rattle.brc_model.specs.declared.actor.Stage.{Stage}
 use Rattle.brc_model.specs.declared.actor.Place.TheVariants.{Idle, InCall, Inside, Exiting}
@@ -11,15 +12,17 @@ use Rattle.brc_model.specs.declared.duty.Duty.{Duty}
 use Rattle.brc_model.specs.declared.duty.Duty.TheVariants.{ReleaseLoad, Settle, Leave, LockGate}
 use Rattle.brc_model.specs.declared.duty.Holding.TheVariants.{AsCaller}
 use Rattle.brc_model.specs.declared.layout.Layout.{Layout}
-use Rattle.brc_model.specs.Actions.{StepActor, Action, Skip, Stuck, Silent, Does, always, dispatch_instruction, dispatch_inside, dispatch}
+use Rattle.brc_model.specs.declared.slot.Exit.{Exit}
+use Rattle.brc_model.specs.Actions.{StepActor, Action, Skip, Stuck, Silent, Calls, Does, always, dispatch_instruction, dispatch_inside, dispatch}
 use Rattle.brc_model.specs.Layout.{root_row}
 use Rattle.brc_model.specs.StepMachine.{at_place}
 use Rattle.brc_model.specs.Threads.{code_of}
 use Rattle.brc_world.specs.declared.dispatch.Start.{Start}
 use Rattle.brc_world.specs.declared.dispatch.Start.TheVariants as starts
 use Rattle.brc_world.specs.declared.thread.Thread.{Thread}
-use Rattle.brc_world.specs.Actors.{place_of, actor_of, with_agenda}
-use Rattle.brc_world.specs.Questions.{IsAbout, place_answered}
+use Rattle.brc_world.specs.Actors.{counters_in, place_of, actor_of, with_agenda}
+use Rattle.brc_world.specs.declared.host_call.HostCall.TheVariants as calls
+use Rattle.brc_world.specs.Questions.{IsAbout, place_answered, place_called}
 
 -- ---- the actions of a thread
 
@@ -30,7 +33,8 @@ exit_action used = Does (ReleaseLoad root_row AsCaller) (Settle ∷ Leave 0 used
 -- the thread's action at the instruction `i`, which is the one with its number, in a call after which `left` calls remain
 abbrev pub action_at : Layout → ℕ → ℕ → Option Instr → Thread → Action
 action_at layout t left i a =
-    dispatch_instruction layout t a.used (place_of a.mode a.left a.at a.variables) left a.at a.variables i
+    dispatch_instruction layout t a.used (place_of a.mode (counters_in a.left a) a.at a.variables) (counters_in left a)
+    a.at a.variables i
 
 -- Says whether the instruction uses a cell of the list that the thread has locked.
 abbrev pub uses_cell : Instr → Bool
@@ -41,31 +45,32 @@ uses_cell (Put list index from otherwise) = true
 uses_cell _ = false
 
 -- the thread's action inside the instruction `i`, by how far the thread is in it
-abbrev pub action_inside : Stage → Option Instr → Thread → Action
-action_inside stage i a = dispatch_inside a.left a.at a.variables stage i
+abbrev pub action_inside : Layout → ℕ → Stage → Option Instr → Thread → Action
+action_inside layout t stage i a = dispatch_inside layout t a.used (counters_in a.left a) a.at a.variables stage i
 
 -- ---- starts
 
 -- the number of calls after the place's own
 abbrev pub left_at : Place → ℕ
 left_at (Idle left) = left
-left_at (InCall left at variables) = left
-left_at (Inside left at variables stage) = left
+left_at (InCall counters at variables) = counters.left
+left_at (Inside counters at variables stage) = counters.left
 left_at Exiting = 0
 
 -- the number of the place's instruction, if it is in a call
 abbrev pub point_at : Place → ℕ
 point_at (Idle left) = 0
-point_at (InCall left at variables) = at
-point_at (Inside left at variables stage) = at
+point_at (InCall counters at variables) = at
+point_at (Inside counters at variables stage) = at
 point_at Exiting = 0
 
--- Returns the start of a step with the action, but for what it asks of the word found. A lock that is free leads to the
+-- Returns the start of a step with the action, but for what it asks of the host or of the word found. A lock that is free leads to the
 -- place in a call that the action names.
 abbrev pub start_by : Action → Start
 start_by Skip = starts.Stuck
 start_by Stuck = starts.Stuck
 start_by (Silent moves place) = starts.Moved
+start_by (Calls place) = starts.Calling calls.Uses
 start_by (Does (LockGate x) rest place) = starts.Locking x (left_at (place free_word)) (point_at (place free_word))
 start_by (Does d rest place) = starts.Doing d
 
@@ -75,9 +80,10 @@ first_start functions layout t a [] =
     start_by (dispatch layout t a.actor.used (code_of (slice_get functions a.function)) a.place)
 first_start functions layout t a (d ∷ rest) = starts.Doing d
 
--- the start without what it asks of the word found
+-- the start without what it asks of the host or of the word found
 abbrev pub unasking : Start → Start
 unasking (starts.Asking d question) = starts.Doing d
+unasking (starts.Calling call) = starts.Calling calls.Uses
 unasking start = start
 
 -- the duty of the start finds the word that its question is about
@@ -87,28 +93,31 @@ AsksWell start = Unit {0}
 
 -- ---- the thread afterwards
 
--- the instruction `next` of a call after which `left` calls remain if the gate found was free, and else the place
-abbrev pub let_in : ℕ → ℕ → List (Option ℕ) → ℕ → Place → Place
-let_in left next variables found place = if found == free_word then InCall left next variables else place
+-- the instruction `next` of a call with these counters if the gate found was free, and else the place
+abbrev pub let_in : Counters → ℕ → List (Option ℕ) → ℕ → Place → Place
+let_in counters next variables found place = if found == free_word then InCall counters next variables else place
 
--- the place of the thread once the word found has answered what its step's start asks
-abbrev pub place_after : Start → ℕ → Thread → Place
-place_after (starts.Asking d question) found a = place_answered question found a.left a.at a.variables
-place_after (starts.Locking row left next) found a =
-    let_in left next a.variables found (place_of a.mode a.left a.at a.variables)
-place_after _ found a = place_of a.mode a.left a.at a.variables
+-- the place of the thread once the exit of its host call, or the word found, has answered what its step's start asks
+abbrev pub place_after : Start → Exit → ℕ → Thread → Place
+place_after (starts.Asking d question) exit found a =
+    place_answered question found (counters_in a.left a) a.at a.variables
+place_after (starts.Locking row left next) exit found a =
+    let_in (counters_in left a) next a.variables found (place_of a.mode (counters_in a.left a) a.at a.variables)
+place_after (starts.Calling call) exit found a = place_called call exit (counters_in a.left a) a.at a.variables
+place_after _ exit found a = place_of a.mode (counters_in a.left a) a.at a.variables
 
--- the thread once the word found has answered what its step's start asks
-abbrev pub answered : Start → ℕ → Thread → StepActor
-answered start found a = at_place (actor_of a) (place_after start found a)
+-- the thread once the exit of its host call, or the word found, has answered what its step's start asks
+abbrev pub answered : Start → Exit → ℕ → Thread → StepActor
+answered start exit found a = at_place (actor_of a) (place_after start exit found a)
 
 -- Returns the thread once its step has started: the duty that it does is no longer in its agenda, and the thread is at
--- the place that the word found decides.
-abbrev pub started : StepActor → Action → ℕ → StepActor
-started a Skip found = a
-started a Stuck found = a
-started a (Silent moves place) found = at_place a place
-started a (Does d rest place) found = with_agenda (at_place a (place found)) rest
+-- the place that the exit or the word found decides.
+abbrev pub started : StepActor → Action → Exit → ℕ → StepActor
+started a Skip exit found = a
+started a Stuck exit found = a
+started a (Silent moves place) exit found = at_place a place
+started a (Calls place) exit found = at_place a (place exit)
+started a (Does d rest place) exit found = with_agenda (at_place a (place found)) rest
 
 -- ---- a dispatch
 
@@ -122,5 +131,5 @@ pub record CanBegin (a : Thread) : Type 0 where
 pub record Begins (old : Thread) (x : Action) (start : Start) (new : Thread) : Type 0 where
   pub starts : unasking start ≡ start_by x
   pub question : AsksWell start
-  pub actor : (found : ℕ) → answered start found new ≡ started (actor_of old) x found
+  pub actor : (exit : Exit) (found : ℕ) → answered start exit found new ≡ started (actor_of old) x exit found
   pub room : vec_len new.agenda + 4 ≤ vec_capacity new.agenda

@@ -50,7 +50,7 @@ left_in w row = record { row = row; kind = kind_numbered (kind_part (w.memory (K
 
 -- ---- the report
 
--- the tally of the world; no step is a host call yet, so nothing faults
+-- the tally of the world
 abbrev pub tally_of : World → Tally
 tally_of w = record {
   threads = length w.actors - 1;
@@ -58,7 +58,7 @@ tally_of w = record {
   created = length (rows_born w);
   closed = length (rows_closed w);
   alive = length (rows_left w);
-  host_faults = 0;
-  close_faults = 0;
+  host_faults = w.host_faults;
+  close_faults = w.close_faults;
   left = map (left_in w) (rows_left w);
 }

@@ -3,8 +3,13 @@ use Rattle.std.specs.Prelude.{◌≡◌, List, length}
 use Rattle.brc_lang.specs.declared.module.Function.{Function}
 use Rattle.brc_lang.specs.declared.module.Module.{Module}
 use Rattle.brc_model.specs.declared.layout.Layout.{Layout}
+use Rattle.brc_model.specs.declared.slot.Exit.{Exit}
+use Rattle.brc_model.specs.declared.slot.Exit.TheVariants as exits
+use Rattle.brc_model.specs.declared.thread.Choice.{Choice}
+use Rattle.brc_model.specs.declared.thread.Choice.TheVariants as choices
 use Rattle.brc_model.specs.World.{World, IsReachable}
 use Rattle.brc_model.specs.Actions.{StepActor}
+use Rattle.brc_world.specs.declared.faults.Faults.{Faults}
 use Rattle.brc_world.specs.Storage.{Columns, word_in}
 use Rattle.brc_model.specs.Layout.{row_count}
 
@@ -14,13 +19,26 @@ pub record Contents : Type 0 where
   pub words : Columns
   -- by the thread's number: main is 0, the workers 1, 2, ..
   pub actors : List StepActor
+  pub faults : Faults
 
 -- the model's world of these contents
 abbrev pub seen : Contents → World
-seen c = record { functions = c.functions; layout = c.layout; memory = word_in c.words; actors = c.actors }
+seen c = record {
+  functions = c.functions;
+  layout = c.layout;
+  memory = word_in c.words;
+  actors = c.actors;
+  host_faults = c.faults.calls;
+  close_faults = c.faults.closes;
+}
 
 -- the contents of a reachable world, in which each row and each thread has its words
 pub record IsWorld (p : Module) (c : Contents) : Type 0 where
   pub reachable : IsReachable p (seen c)
   pub rows : length c.words.local ≡ row_count c.layout
   pub threads : length c.words.thread ≡ length c.actors
+
+-- the choice by which the thread's next step ends by the exit
+abbrev pub choice_of : Exit → Choice
+choice_of exits.Success = choices.Ok
+choice_of exits.Fault = choices.Fault

@@ -2,9 +2,9 @@
 
 ghost use Rattle.std.specs.Prelude.{◌≡◌, ◌<◌};
 ghost use Rattle.brc_model.specs.Duties.{address_of};
-ghost use Rattle.brc_world.specs.Effects.{IsIndexed};
+ghost use Rattle.brc_effect.specs.Effects.{IsIndexed};
 
-use crate::rows::{block_of, row_at};
+use brc_effect::rows::{block_of, row_at};
 use brc_model::{Address, Duty, Layout};
 
 /// Returns the address of the word that the thread's duty accesses. `head` is the head of the thread's dying chain: 0
@@ -41,7 +41,10 @@ pub fn address_of(layout: Layout, thread: u8, head: u32, duty: Duty) -> Address
         Duty::SettleCell { row, cell, .. } | Duty::CellSwap { row, cell, .. } => {
             Address::Cell { row, cell }
         }
-        Duty::TakeSlot { row } | Duty::BirthSlot { row, .. } => Address::Slot { row },
+        Duty::TakeSlot { row }
+        | Duty::BirthSlot { row, .. }
+        | Duty::LendSlot { row }
+        | Duty::ReturnSlot { row } => Address::Slot { row },
         Duty::CloseResource { row } => Address::Resource { row },
         Duty::SetMark { row } | Duty::TakeMark { row } | Duty::ClaimMark { row } => Address::Mark {
             row,

@@ -3,9 +3,9 @@
 ghost use Rattle.std.specs.Prelude.{◌≡◌, ◌+◌, ◌≤◌, ◌++◌, ◌∷◌, reverse, vec_len, vec_capacity};
 ghost use Rattle.brc_model.specs.Duties.{ready};
 ghost use Rattle.brc_world.specs.Actors.{is_idle};
-ghost use Rattle.brc_world.specs.Effects.{duties_of};
+ghost use Rattle.brc_effect.specs.Effects.{duties_of};
 
-use crate::effect::Next;
+use brc_effect::Next;
 use brc_model::{Duty, Holding};
 
 /// Adds the duties to the agenda, to be done before those that are in it already.

@@ -2,29 +2,37 @@
 
 ghost use Rattle.std.specs.Prelude.{◌≡◌, ℕ, ◌+◌, ◌≤◌, slice_get, Some};
 ghost use Rattle.std.specs.Prelude.{[], reverse, vec_len, vec_capacity};
+ghost use Rattle.brc_model.specs.declared.slot.Exit.{Exit};
 ghost use Rattle.brc_model.specs.Threads.{code_of, entry_variables};
 ghost use Rattle.brc_model.specs.Actions.{agenda_action, dispatch};
 ghost use Rattle.brc_world.specs.Actors.{actor_of};
 ghost use Rattle.brc_world.specs.Starts.{first_start, exit_action, action_at, action_inside, unasking, answered, started, AsksWell, CanBegin, Begins};
 
 use crate::dispatch::birth::birth;
-use crate::dispatch::items::{ask_for_cell, go_on_inside};
+use crate::dispatch::files::{ask_host, read, write};
+use crate::dispatch::inside::go_on_inside;
+use crate::dispatch::items::ask_for_cell;
 use crate::dispatch::kinds::ask_kind;
 use crate::dispatch::locks::{lock, unlock};
 use crate::dispatch::references::{give_up, hand_on, name_again, name_none, return_object};
+use crate::dispatch::ways::{again, go};
+use crate::host_call::HostCall;
 use crate::question::Question;
-use crate::rows::ROOT;
-use crate::states::{LIST, NUM};
 use crate::thread::{Mode, Thread, Variables};
+use brc_effect::rows::ROOT;
+use brc_effect::states::{LIST, NUM};
 use brc_lang::{Function, Instr};
 use brc_model::{Duty, Holding, Layout, Stage};
 use brc_word::kind_word;
 
 mod birth;
+mod files;
+mod inside;
 mod items;
 mod kinds;
 mod locks;
 mod references;
+mod ways;
 
 /// The start of a thread's step.
 #[derive(Clone, Copy, Debug)]
@@ -33,6 +41,8 @@ pub enum Start {
     Stuck,
     /// The step is done already: it accesses no word, and changes the thread alone.
     Moved,
+    /// The step is this host call. Its exit decides where the thread goes on.
+    Calling(HostCall),
     /// The thread does this duty, which is no longer in its agenda, and is already at the place where it then is.
     Doing(Duty),
     /// The thread does this duty. The word found answers the question, and so decides where the thread goes on.
@@ -49,8 +59,8 @@ pub fn first_duty(functions: &[Function], layout: Layout, number: u8, thread: &m
     requires room { vec_len thread.old.agenda + 8 ≤ vec_capacity thread.old.agenda }
     ensures starts { unasking result ≡ first_start functions.now layout number (actor_of thread.old)
         (reverse thread.old.agenda.items) }
-    ensures actor { (found : ℕ) → answered result found thread.new ≡ started (actor_of thread.old)
-        (agenda_action functions.now layout number (actor_of thread.old) (reverse thread.old.agenda.items)) found }
+    ensures actor { (exit : Exit) (found : ℕ) → answered result exit found thread.new ≡ started (actor_of thread.old)
+        (agenda_action functions.now layout number (actor_of thread.old) (reverse thread.old.agenda.items)) exit found }
     ensures question { AsksWell result }
     ensures room { vec_len thread.new.agenda + 4 ≤ vec_capacity thread.new.agenda }
 {
@@ -61,7 +71,8 @@ pub fn first_duty(functions: &[Function], layout: Layout, number: u8, thread: &m
 }
 
 /// Dispatches the next instruction or the exit, once the agenda is empty. The dispatch of a call's first instruction
-/// also begins the call. That is no step of its own, because an idle thread's variables are no part of the world.
+/// also begins the call. That is no step of its own, because an idle thread's variables and counts are no part of the
+/// world.
 #[inline(always)]
 fn dispatch(functions: &[Function], layout: Layout, number: u8, thread: &mut Thread) -> Start
     requires empty { thread.old.agenda.items ≡ [] }
@@ -75,13 +86,14 @@ fn dispatch(functions: &[Function], layout: Layout, number: u8, thread: &mut Thr
             let left = thread.left;
             next_instruction(functions, layout, number, thread, left)
         }
-        Mode::Inside(stage) => this_instruction(functions, thread, stage),
+        Mode::Inside(stage) => this_instruction(functions, layout, number, thread, stage),
         Mode::Idle => {
             if thread.left == 0 {
                 return exit(thread);
             }
             thread.at = 0;
             thread.variables = entry_variables();
+            thread.turns = [0; 256];
             let left = thread.left - 1;
             next_instruction(functions, layout, number, thread, left)
         }
@@ -129,14 +141,20 @@ fn next_instruction(
 
 /// Goes on inside the instruction `thread.at`, by how far the thread is in it.
 #[inline(always)]
-fn this_instruction(functions: &[Function], thread: &mut Thread, stage: Stage) -> Start
+fn this_instruction(
+    functions: &[Function],
+    layout: Layout,
+    number: u8,
+    thread: &mut Thread,
+    stage: Stage,
+) -> Start
     requires empty { thread.old.agenda.items ≡ [] }
     requires room { 8 ≤ vec_capacity thread.old.agenda }
-    ensures { Begins thread.old (action_inside stage
+    ensures { Begins thread.old (action_inside layout number stage
         (slice_get (code_of (slice_get functions.now thread.old.function)) thread.old.at) thread.old) result thread.new }
 {
     match code_of(functions, thread.function).get(thread.at) {
-        Some(instr) => go_on_inside(*instr, stage, thread),
+        Some(instr) => go_on_inside(*instr, stage, layout, number, thread),
         None => Start::Stuck,
     }
 }
@@ -192,15 +210,24 @@ fn begin(instr: Instr, layout: Layout, number: u8, thread: &mut Thread, left: u3
         Instr::Borrow { .. } | Instr::Fetch { .. } | Instr::Set { .. } | Instr::Put { .. } => {
             ask_for_cell(instr, thread, left)
         }
+        Instr::Open { to, otherwise, .. } => ask_host(to, otherwise, layout, number, thread, left),
+        Instr::Connect { to, otherwise, .. } => {
+            ask_host(to, otherwise, layout, number, thread, left)
+        }
+        Instr::Read {
+            to,
+            file,
+            otherwise,
+            ..
+        } => read(to, file, otherwise, layout, number, thread, left),
+        Instr::Write { number: value, .. } => write(value, thread, left),
         Instr::As {
             from,
             kind,
             otherwise,
         } => ask_kind(from, kind, otherwise, thread, left),
-        Instr::Goto { target } => {
-            thread.go_to(left, usize::from(target));
-            Start::Moved
-        }
+        Instr::Goto { target } => go(target, thread, left),
+        Instr::Again { target, times } => again(target, times, thread, left),
         Instr::Ret { from } => return_object(from, thread, left),
         Instr::Fail => {
             thread.rest(left);

@@ -11,22 +11,24 @@ ghost use Rattle.brc_model.specs.Limits.{worker_limit, total_limit};
 ghost use Rattle.brc_model.specs.StepMachine.{at_place};
 ghost use Rattle.brc_model.specs.Within.{IsThere, Suits};
 ghost use Rattle.brc_world.specs.Storage.{word_in, IsStored};
-ghost use Rattle.brc_world.specs.Actors.{actor_of, found_by, actor_done, memory_by, actor_by, waits, did_by, CanAct, finds_mark, memory_claimed, actor_claimed, did_claim, CanClaim};
+ghost use Rattle.brc_world.specs.Actors.{actor_of, counters_in, found_by, actor_done, memory_by, actor_by, faults_by, waits, did_by, CanAct, finds_mark, memory_claimed, actor_claimed, did_claim, CanClaim};
 ghost use Rattle.brc_world.specs.Starts.{let_in};
 
 use crate::address::address_of;
 use crate::agenda::{pass_over, push};
 use crate::did::Did;
 use crate::dispatch::{Start, first_duty};
-use crate::effect::Doer;
+use crate::faults::Faults;
+use crate::host_call::end_call;
 use crate::memory::Memory;
 use crate::no_memory::NoMemory;
 use crate::question::answer;
-use crate::rows::{block_of, index_of};
-use crate::states::FREE;
 use crate::thread::{Mode, ROOM, Thread};
+use brc_effect::Doer;
+use brc_effect::rows::{block_of, index_of};
+use brc_effect::states::FREE;
 use brc_lang::Function;
-use brc_model::{Address, Duty, Layout, Status};
+use brc_model::{Address, Duty, Exit, Layout, Status};
 
 /// Does the thread's duty, which is no longer in its agenda, on the duty's word. Returns the value that it found there.
 #[inline(always)]
@@ -54,6 +56,7 @@ pub fn do_duty(
     ensures calls { thread.new.left ≡ thread.old.left }
     ensures point { thread.new.at ≡ thread.old.at }
     ensures variables { thread.new.variables ≡ thread.old.variables }
+    ensures turns { thread.new.turns ≡ thread.old.turns }
 {
     let all = memory.rows() as u32;
     let address = address_of(layout, number, thread.head, *duty);
@@ -65,6 +68,7 @@ pub fn do_duty(
     thread.status = effect.status;
     thread.used = effect.used;
     thread.locked = effect.locked;
+    thread.lent = effect.lent;
     memory.store(address, effect.word);
     pass_over(&mut thread.agenda, effect.head);
     found
@@ -74,7 +78,7 @@ pub fn do_duty(
 /// Otherwise the thread stays where it is, and its step has changed nothing. Returns what the step did.
 fn enter(thread: &mut Thread, left: u32, next: usize, found: u64) -> Did
     ensures actor { actor_of thread.new ≡ at_place (actor_of thread.old)
-        (let_in left next thread.old.variables found (actor_of thread.old).place) }
+        (let_in (counters_in left thread.old) next thread.old.variables found (actor_of thread.old).place) }
     ensures did { result ≡ (if found == free_word then Did.Moved else Did.Same) }
 {
     if found != FREE {
@@ -94,6 +98,7 @@ fn doer(layout: Layout, thread: &Thread, number: u8, rows: u32) -> Doer
       head = thread.now.head;
       used = thread.now.used;
       locked = thread.now.locked;
+      lent = thread.now.lent;
       rows = rows;
     } }
 {
@@ -104,6 +109,7 @@ fn doer(layout: Layout, thread: &Thread, number: u8, rows: u32) -> Doer
         head: thread.head,
         used: thread.used,
         locked: thread.locked,
+        lent: thread.lent,
         rows,
     }
 }
@@ -114,8 +120,8 @@ fn is_running(status: Status) -> bool
     matches!(status, Status::Running)
 }
 
-/// Takes the thread's next step, and returns what it did. Returns `NoMemory`, with nothing changed, if memory is
-/// refused.
+/// Takes the thread's next step, and returns what it did. If the step is a host call or a close, it ends by the exit.
+/// Returns `NoMemory`, with nothing changed, if memory is refused.
 #[inline(always)]
 pub fn act(
     functions: &[Function],
@@ -123,6 +129,8 @@ pub fn act(
     layout: Layout,
     number: u8,
     thread: &mut Thread,
+    faults: &mut Faults,
+    exit: Exit,
 ) -> Result<Did, NoMemory>
     requires some_rows { 0 < layout.rows }
     requires small { length memory.old.local ≤ total_limit }
@@ -134,12 +142,15 @@ pub fn act(
     ensures words { OnOk result (word_in memory.new ≡ memory_by layout number (word_in memory.old) (actor_of thread.old)
         (status_action functions.now layout number (actor_of thread.old) thread.old.status)) }
     ensures actor { OnOk result (actor_of thread.new ≡ actor_by layout number (word_in memory.old) (actor_of thread.old)
-        (status_action functions.now layout number (actor_of thread.old) thread.old.status)) }
+        exit (status_action functions.now layout number (actor_of thread.old) thread.old.status)) }
+    ensures faults { OnOk result (faults.new ≡ faults_by exit
+        (status_action functions.now layout number (actor_of thread.old) thread.old.status) faults.old) }
     ensures refused { IfErr result (λ _. (thread.old.status ≢ Gone)
         × (waits (word_in memory.old) (reverse thread.old.agenda.items)
         (status_action functions.now layout number (actor_of thread.old) thread.old.status) ≡ false)) }
     ensures same_words { OnErr result (memory.new ≡ memory.old) }
     ensures same_actor { OnErr result (actor_of thread.new ≡ actor_of thread.old) }
+    ensures same_faults { OnErr result (faults.new ≡ faults.old) }
     ensures as_many_rows { length memory.new.local ≡ length memory.old.local }
     ensures as_many_threads { length memory.new.thread ≡ length memory.old.thread }
 {
@@ -150,8 +161,14 @@ pub fn act(
     match first_duty(functions, layout, number, thread) {
         Start::Stuck => Ok(Did::Same),
         Start::Moved => Ok(Did::Moved),
+        Start::Calling(call) => {
+            faults.count_call(exit);
+            end_call(thread, call, exit);
+            Ok(Did::Moved)
+        }
         Start::Doing(duty) => {
             do_duty(memory, layout, number, thread, &duty);
+            faults.count_duty(&duty, exit);
             Ok(Did::Moved)
         }
         Start::Asking { duty, question } => {

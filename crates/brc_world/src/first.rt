@@ -3,8 +3,8 @@ ghost use Rattle.brc_model.specs.StepMachine.{main_actor, worker_actor};
 ghost use Rattle.brc_world.specs.Actors.{actor_of};
 
 use crate::no_memory::NoMemory;
-use crate::rows::FRONT_ROWS;
 use crate::thread::{Mode, ROOM, Thread};
+use brc_effect::rows::FRONT_ROWS;
 use brc_model::{Call, Status};
 use std::alloc::Global;
 
@@ -20,11 +20,13 @@ pub fn first_threads(alloc: Global, calls: &[Call]) -> Result<Vec<Thread>, NoMem
         left: 0,
         at: 0,
         variables: [None; 16],
+        turns: [0; 256],
         status: Status::Running,
         agenda: Vec::with_capacity(alloc, ROOM)?,
         head: 0,
         used: FRONT_ROWS,
         locked: None,
+        lent: None,
     })?;
     for call in calls {
         threads.push(Thread {
@@ -33,11 +35,13 @@ pub fn first_threads(alloc: Global, calls: &[Call]) -> Result<Vec<Thread>, NoMem
             left: call.times,
             at: 0,
             variables: [None; 16],
+            turns: [0; 256],
             status: Status::Running,
             agenda: Vec::with_capacity(alloc, ROOM)?,
             head: 0,
             used: 0,
             locked: None,
+            lent: None,
         })?;
     }
     Ok(threads)

@@ -8,8 +8,8 @@ ghost use Rattle.brc_world.specs.Storage.{word_in, IsStored};
 ghost use Rattle.brc_model.specs.Layout.{row_count};
 
 use crate::no_memory::NoMemory;
-use crate::rows::row_count;
-use crate::states::{FREE, LIST, NONE, RUNNING};
+use brc_effect::rows::row_count;
+use brc_effect::states::{FREE, LIST, NONE, RUNNING};
 use brc_model::{Address, Layout};
 use brc_word::{Phase, Shared, kind_word, local_word, pack};
 use std::alloc::Global;

@@ -1,6 +1,7 @@
 //! A thread of the step world.
 
-ghost use Rattle.std.specs.Prelude.{◌≡◌, ◌≤◌, slice_set, vec_capacity};
+ghost use Rattle.std.specs.Prelude.{◌≡◌, ◌≤◌, slice_index_or, slice_set, vec_capacity};
+ghost use Rattle.brc_model.specs.Limits.{total_limit};
 ghost use Rattle.brc_model.specs.Threads.{row_of};
 
 use brc_lang::Variable;
@@ -9,6 +10,9 @@ use std::fmt;
 
 /// The row that each variable names, or `None` for an empty variable.
 pub type Variables = [Option<u32>; Variable::COUNT];
+
+/// How often each instruction `again` of the function, by its point, has gone back in the call.
+pub type Turns = [u16; 256];
 
 /// The room for duties that each thread's agenda has from the start: four when a step starts, and four when its duty is
 /// done. So a step that begins an instruction is never refused memory.
@@ -21,7 +25,7 @@ pub enum Mode {
     Idle,
     /// Before an instruction of a call.
     InCall,
-    /// Inside an instruction that uses a cell of a list, after its first step.
+    /// Inside an instruction that takes several steps, after its first step.
     Inside(Stage),
     /// Its exit has begun.
     Exiting,
@@ -39,6 +43,9 @@ pub struct Thread {
     pub at: usize,
     /// In a call, the rows that its variables name.
     pub variables: Variables,
+    /// In a call, how often each instruction `again` has gone back. It is reset with the call, and with nothing else
+    /// (`turns_kept_between_calls`, `turns_reset_inside`).
+    pub turns: Turns,
     pub status: Status,
     /// The duties to do. The last is done next: a step takes it from the end, and adds there the duties that follow it.
     pub agenda: Vec<Duty>,
@@ -48,7 +55,10 @@ pub struct Thread {
     pub used: u32,
     /// The row of the object that it has locked.
     pub locked: Option<u32>,
+    /// The row of the object whose resource it has lent.
+    pub lent: Option<u32>,
     ghost has_room: { 8 ≤ vec_capacity agenda },
+    ghost few_rows: { used ≤ total_limit },
 }
 
 impl Thread {
@@ -64,6 +74,25 @@ impl Thread {
         ensures { self.new ≡ record self.old { variables = slice_set self.old.variables variable row } }
     {
         self.variables[usize::from(variable.number())] = row;
+    }
+
+    /// Returns how often the instruction `again` that the thread is at has gone back in the call.
+    pub fn turns_here(&self) -> u16
+        ensures { result ≡ slice_index_or self.now.turns self.now.at 0 }
+    {
+        match self.turns.get(self.at) {
+            Some(turns) => *turns,
+            None => 0,
+        }
+    }
+
+    /// Says that the instruction `again` that the thread is at has gone back `turns` times in the call.
+    pub fn set_turns_here(&mut self, turns: u16)
+        ensures { self.new ≡ record self.old { turns = slice_set self.old.turns self.old.at turns } }
+    {
+        if self.at < self.turns.len() {
+            self.turns[self.at] = turns;
+        }
     }
 
     /// Puts the thread at the instruction `at` of a call after which `left` calls remain.
@@ -84,8 +113,8 @@ impl Thread {
     }
 }
 
-/// Writes the fields that are part of the world. An instruction and variables are part of it only while the thread is
-/// in a call.
+/// Writes the fields that are part of the world. An instruction, variables and counts of the instructions `again` are
+/// part of it only while the thread is in a call. Of the counts it writes those that aren't 0, each behind its point.
 impl fmt::Debug for Thread {
     fn fmt<W: fmt::Write>(&self, f: &mut fmt::Formatter<W>) -> fmt::Result {
         let Thread {
@@ -97,14 +126,23 @@ impl fmt::Debug for Thread {
             head,
             used,
             locked,
+            lent,
             ..
         } = self;
         write!(
             f,
-            "{function} {mode:?} {left} {status:?} {agenda:?} {head} {used} {locked:?}"
+            "{function} {mode:?} {left} {status:?} {agenda:?} {head} {used} {locked:?} {lent:?}"
         )?;
         match mode {
-            Mode::InCall | Mode::Inside(_) => write!(f, " {} {:?}", self.at, self.variables),
+            Mode::InCall | Mode::Inside(_) => {
+                write!(f, " {} {:?}", self.at, self.variables)?;
+                for (at, turns) in self.turns.iter().enumerate() {
+                    if *turns != 0 {
+                        write!(f, " {at}:{turns}")?;
+                    }
+                }
+                Ok(())
+            }
             Mode::Idle | Mode::Exiting => Ok(()),
         }
     }

@@ -1,10 +1,10 @@
 ghost use Rattle.std.specs.Prelude.{◌≡◌, ◌≢◌, ◌<◌, ◌≤◌, not, length, map, filter, slice_get, IfOk, IfErr, OnOk, OnErr};
 ghost use Rattle.std.specs.List.{All};
-ghost use Rattle.brc_model.specs.declared.thread.Choice.TheVariants.{Ok as goes_on, Claim as claims};
+ghost use Rattle.brc_model.specs.declared.thread.Choice.TheVariants.{Claim as claims};
 ghost use Rattle.brc_model.specs.Safety.{AreCalls};
 ghost use Rattle.brc_model.specs.Limits.{row_limit};
 ghost use Rattle.brc_model.specs.World.{first_world, step};
-ghost use Rattle.brc_world.specs.Worlds.{seen};
+ghost use Rattle.brc_world.specs.Worlds.{seen, choice_of};
 ghost use Rattle.brc_world.specs.Tallies.{used_of, is_born, is_closed_row, rows_born, left_in, tally_of};
 ghost use Rattle.brc_world.specs.MachineTallies.{IsMachineTally};
 ghost use Rattle.brc_world.specs.Answers.{is_gone_at, IsAnswer};
@@ -12,17 +12,18 @@ ghost use Rattle.brc_model.specs.Layout.{row_count};
 
 use crate::did::Did;
 use crate::doing::{act, claim};
+use crate::faults::Faults;
 use crate::first::first_threads;
 use crate::laws::tallies_follow_machines;
 use crate::memory::{CELLS, Memory, first_memory};
 use crate::no_memory::NoMemory;
-use crate::rows::{block_of, index_of, is_immortal_row};
 use crate::tally::{kind_numbered, running_in};
 use crate::thread::Thread;
 use brc_check::Checked;
+use brc_effect::rows::{block_of, index_of, is_immortal_row};
 use brc_lang::{Module, Sequence};
 use brc_model::{
-    Address, Call, Choice, Layout, Status, steps_are_within, steps_move, worlds_are_small,
+    Address, Call, Choice, Exit, Layout, Status, steps_are_within, steps_move, worlds_are_small,
     worlds_lead_on,
 };
 use brc_report::{Left, Tally};
@@ -38,6 +39,7 @@ pub struct World<'a> {
     memory: Memory,
     /// By thread number: main is 0, the workers are 1, 2, ..
     threads: Vec<Thread>,
+    faults: Faults,
 }
 
 impl<'a> Model for World<'a> {
@@ -52,6 +54,7 @@ impl<'a> Model for World<'a> {
       layout = w.layout;
       words = w.memory;
       actors = map actor_of w.threads.items;
+      faults = w.faults;
     } };
 
     ghost invariant = { λ w. IsWorld w.accepted.now
@@ -60,6 +63,7 @@ impl<'a> Model for World<'a> {
           layout = w.layout;
           words = w.memory;
           actors = map actor_of w.threads.items;
+          faults = w.faults;
         }) };
 }
 
@@ -91,6 +95,10 @@ impl<'a> World<'a> {
             layout,
             memory: first_memory(alloc, layout)?,
             threads: first_threads(alloc, calls)?,
+            faults: Faults {
+                calls: 0,
+                closes: 0,
+            },
         })
     }
 
@@ -127,8 +135,8 @@ impl<'a> World<'a> {
             created: born.len() as u64,
             closed: born.len().saturating_sub(left.len()) as u64,
             alive: left.len() as u64,
-            host_faults: 0,
-            close_faults: 0,
+            host_faults: self.faults.calls,
+            close_faults: self.faults.closes,
             left,
         })
     }
@@ -201,8 +209,8 @@ impl<'a> World<'a> {
     }
 
     /// Takes one step of the thread, which accesses one word at most, and returns what the step did. Returns
-    /// `NoMemory`, with nothing changed, if memory is refused; a step that changes nothing is never refused. No step is
-    /// a host call yet, so the choices `Ok` and `Fault` mean the same.
+    /// `NoMemory`, with nothing changed, if memory is refused; a step that changes nothing is never refused. The choice
+    /// `Fault` means what `Ok` means, unless the step is a host call or a close.
     #[inline]
     pub fn step(&mut self, thread: usize, choice: Choice) -> Result<Did, NoMemory>
         requires { thread < length self.old.actors }
@@ -213,18 +221,19 @@ impl<'a> World<'a> {
         ensures as_many { length self.new.actors ≡ length self.old.actors }
     {
         match choice {
-            Choice::Ok | Choice::Fault => self.go_on(thread),
+            Choice::Ok => self.go_on(thread, Exit::Success),
+            Choice::Fault => self.go_on(thread, Exit::Fault),
             Choice::Claim { row } => self.look_for(thread, row),
         }
     }
 
     #[inline(always)]
-    fn go_on(&mut self, thread: usize) -> Result<Did, NoMemory>
+    fn go_on(&mut self, thread: usize, exit: Exit) -> Result<Did, NoMemory>
         requires { thread < length self.old.actors }
-        ensures made { OnOk result (seen self.new ≡ step (seen self.old) thread goes_on) }
+        ensures made { OnOk result (seen self.new ≡ step (seen self.old) thread (choice_of exit)) }
         ensures answer { IfOk result (IsAnswer (seen self.old) thread (seen self.new)) }
         ensures unchanged { OnErr result (self.new ≡ self.old) }
-        ensures refused { IfErr result (λ _. step (seen self.old) thread goes_on ≢ seen self.old) }
+        ensures refused { IfErr result (λ _. step (seen self.old) thread (choice_of exit) ≢ seen self.old) }
         ensures as_many { length self.new.actors ≡ length self.old.actors }
     {
         worlds_are_small();
@@ -237,6 +246,8 @@ impl<'a> World<'a> {
             self.layout,
             thread as u8,
             &mut self.threads[thread],
+            &mut self.faults,
+            exit,
         )
     }
 

@@ -1,6 +1,6 @@
--- Births, looks at a kind and a cell, locks, swaps of cells and deallocations, computed by the definitions that the
--- code's contracts cite. The instructions make numbers and lists alone, so no run of a module shows files and sockets.
--- The object is in row 7, and thread 3, which has used four rows, makes and deallocates it.
+-- Births, looks at a kind and a cell, locks, swaps of cells, lent resources and deallocations, computed by the
+-- definitions that the code's contracts cite. The object is in row 7, and thread 3, which has used four rows, makes and
+-- deallocates it.
 use Rattle.std.proofs.Common.{◌≡◌, ℕ, List, [], ◌∷◌, true, map, refl, None, Some}
 use Rattle.brc_model.specs.declared.duty.Duty.{Duty}
 use Rattle.brc_model.specs.declared.duty.Duty.TheVariants.{
@@ -17,13 +17,15 @@ use Rattle.brc_model.specs.declared.duty.Duty.TheVariants.{
   UnlockGate,
   CellLoad,
   CellSwap,
+  LendSlot,
+  ReturnSlot,
   ReleaseLoad,
 }
 use Rattle.brc_model.specs.declared.duty.Holding.TheVariants.{InFlight, ByVariable}
 use Rattle.brc_model.specs.declared.address.Address.TheVariants.{KindOf, Cell, Slot, Local, Resource, Gate}
 use Rattle.brc_model.specs.declared.layout.Layout.{Layout}
 use Rattle.brc_model.specs.Duties.{address_of, new_word, continuation}
-use Rattle.brc_model.specs.Machine.{used_by, locked_by}
+use Rattle.brc_model.specs.Machine.{used_by, locked_by, lent_by}
 
 -- four workers of four rows
 four : Layout
@@ -81,11 +83,25 @@ deaths-go_on : map (λ (d : Duty). continuation four 3 true 0 d 1) (TakeSlot 7 �
     ≡ (CloseResource 7 ∷ []) ∷ (SettleEnd 7 ∷ []) ∷ []
 deaths-go_on = refl
 
-deaths-leave : map (λ (d : Duty). new_word 3 0 d 1) (TakeSlot 7 ∷ CloseResource 7 ∷ []) ≡ 0 ∷ 0 ∷ []
+-- the slot is empty, and the resource has been closed once
+deaths-leave : new_word 3 0 (TakeSlot 7) 1 ∷ new_word 3 0 (CloseResource 7) 0 ∷ [] ≡ 0 ∷ 1 ∷ []
 deaths-leave = refl
 
 deaths-are_at : map (λ (d : Duty). address_of four 3 0 d) (TakeSlot 7 ∷ CloseResource 7 ∷ []) ≡ Slot 7 ∷ Resource 7 ∷ []
 deaths-are_at = refl
+
+-- A resource is taken out of its slot, and put back: the thread has it lent in between.
+lends-leave : new_word 3 0 (LendSlot 7) 1 ∷ new_word 3 0 (ReturnSlot 7) 0 ∷ [] ≡ 0 ∷ 1 ∷ []
+lends-leave = refl
+
+lends-are_at : map (λ (d : Duty). address_of four 3 0 d) (LendSlot 7 ∷ ReturnSlot 7 ∷ []) ≡ Slot 7 ∷ Slot 7 ∷ []
+lends-are_at = refl
+
+lends-lead_to : map (λ (d : Duty). continuation four 3 true 0 d 1) (LendSlot 7 ∷ ReturnSlot 7 ∷ []) ≡ [] ∷ [] ∷ []
+lends-lead_to = refl
+
+lends-lend : lent_by None (LendSlot 7) 1 ∷ lent_by (Some 7) (ReturnSlot 7) 0 ∷ [] ≡ Some 7 ∷ None ∷ []
+lends-lend = refl
 
 -- A look at the kind leaves the word as it is, and nothing follows.
 kinds-are_at : address_of four 3 0 (KindLoad 7) ≡ KindOf 7

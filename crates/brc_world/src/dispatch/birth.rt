@@ -4,11 +4,12 @@ ghost use Rattle.std.specs.Prelude.{◌≡◌, if◌then◌else◌, None, Some};
 ghost use Rattle.brc_model.specs.Actions.{birth_action};
 ghost use Rattle.brc_model.specs.Layout.{row_at};
 ghost use Rattle.brc_model.specs.Machine.{has_room};
+ghost use Rattle.brc_world.specs.Actors.{counters_in};
 ghost use Rattle.brc_world.specs.Starts.{CanBegin, Begins};
 
 use crate::dispatch::Start;
-use crate::rows::{block_size, row_at};
 use crate::thread::Thread;
+use brc_effect::rows::{block_size, row_at};
 use brc_lang::Variable;
 use brc_model::{Duty, Holding, Layout};
 
@@ -25,8 +26,8 @@ pub(super) fn birth(
     left: u32,
 ) -> Start
     requires { CanBegin thread.old }
-    ensures { Begins thread.old (birth_action layout number thread.old.used left thread.old.at thread.old.variables
-        to word otherwise) result thread.new }
+    ensures { Begins thread.old (birth_action layout number thread.old.used (counters_in left thread.old)
+        thread.old.at thread.old.variables to word otherwise) result thread.new }
 {
     let next = thread.at + 1;
     match next_row(layout, number, thread.used) {

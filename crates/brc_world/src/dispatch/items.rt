@@ -10,7 +10,7 @@ ghost use Rattle.brc_model.specs.declared.layout.Layout.{Layout};
 ghost use Rattle.brc_model.specs.Actions.{Does, with_row};
 ghost use Rattle.brc_model.specs.Threads.{row_of};
 ghost use Rattle.brc_world.specs.declared.question.Question.TheVariants as questions;
-ghost use Rattle.brc_world.specs.Actors.{actor_of, with_agenda};
+ghost use Rattle.brc_world.specs.Actors.{actor_of, counters_in, with_agenda};
 ghost use Rattle.brc_world.specs.Questions.{place_answered};
 ghost use Rattle.brc_world.specs.Starts.{uses_cell, action_at, action_inside, CanBegin, Begins};
 
@@ -71,7 +71,8 @@ pub(super) fn ask_for_cell(instr: Instr, thread: &mut Thread, left: u32) -> Star
 fn ask_range(list: Variable, index: u8, outside: Outside, thread: &mut Thread, left: u32) -> Start
     requires { CanBegin thread.old }
     ensures { Begins thread.old (with_row (row_of thread.old.variables list) (λ row. Does (KindLoad row) []
-        (λ found. place_answered (questions.Range index outside) found left thread.old.at thread.old.variables)))
+        (λ found. place_answered (questions.Range index outside) found (counters_in left thread.old) thread.old.at
+        thread.old.variables)))
         result thread.new }
 {
     match thread.row_of(list) {
@@ -86,49 +87,12 @@ fn ask_range(list: Variable, index: u8, outside: Outside, thread: &mut Thread, l
     }
 }
 
-/// Goes on inside the instruction, by how far the thread is in it.
-#[inline(always)]
-pub(super) fn go_on_inside(instr: Instr, stage: Stage, thread: &mut Thread) -> Start
-    requires { CanBegin thread.old }
-    ensures { Begins thread.old (action_inside stage (Some instr) thread.old) result thread.new }
-{
-    match stage {
-        Stage::InRange => use_cell(instr, thread),
-        Stage::OutOfRange => match instr {
-            Instr::Set {
-                list,
-                index,
-                from,
-                otherwise,
-            } => give_up(list, index, from, otherwise, thread),
-            _ => Start::Stuck,
-        },
-        Stage::Found { row } => match instr {
-            Instr::Fetch {
-                to,
-                list,
-                index,
-                otherwise,
-            } => retain_found(row, to, thread),
-            _ => Start::Stuck,
-        },
-        Stage::Retained => match instr {
-            Instr::Put {
-                list,
-                index,
-                from,
-                otherwise,
-            } => put(list, index, from, thread),
-            _ => Start::Stuck,
-        },
-    }
-}
-
 /// Goes on with an instruction whose list has the cell.
 #[inline(always)]
-fn use_cell(instr: Instr, thread: &mut Thread) -> Start
+pub(super) fn use_cell(instr: Instr, thread: &mut Thread) -> Start
     requires { CanBegin thread.old }
-    ensures { Begins thread.old (action_inside stages.InRange (Some instr) thread.old) result thread.new }
+    ensures { (layout : Layout) (t : ℕ) → Begins thread.old (action_inside layout t stages.InRange (Some instr)
+        thread.old) result thread.new }
 {
     match instr {
         Instr::Borrow {
@@ -163,8 +127,8 @@ fn use_cell(instr: Instr, thread: &mut Thread) -> Start
 /// thread makes none.)
 fn borrow(to: Variable, list: Variable, index: u8, otherwise: u8, thread: &mut Thread) -> Start
     requires { CanBegin thread.old }
-    ensures { Begins thread.old (action_inside stages.InRange (Some (instructions.Borrow to list index otherwise))
-        thread.old) result thread.new }
+    ensures { (layout : Layout) (t : ℕ) → Begins thread.old (action_inside layout t stages.InRange
+        (Some (instructions.Borrow to list index otherwise)) thread.old) result thread.new }
 {
     let next = thread.at + 1;
     match thread.row_of(list) {
@@ -179,8 +143,8 @@ fn borrow(to: Variable, list: Variable, index: u8, otherwise: u8, thread: &mut T
 /// Goes on with `fetch`: the load of the cell.
 fn fetch(to: Variable, list: Variable, index: u8, otherwise: u8, thread: &mut Thread) -> Start
     requires { CanBegin thread.old }
-    ensures { Begins thread.old (action_inside stages.InRange (Some (instructions.Fetch to list index otherwise))
-        thread.old) result thread.new }
+    ensures { (layout : Layout) (t : ℕ) → Begins thread.old (action_inside layout t stages.InRange
+        (Some (instructions.Fetch to list index otherwise)) thread.old) result thread.new }
 {
     match thread.row_of(list) {
         Some(row) => load_cell(row, index, Question::Fetch { to, otherwise }),
@@ -188,7 +152,7 @@ fn fetch(to: Variable, list: Variable, index: u8, otherwise: u8, thread: &mut Th
     }
 }
 
-/// Begins the load of the cell (`item_of_another_cell`).
+/// Begins the load of the cell.
 fn load_cell(row: u32, index: u8, question: Question) -> Start
     ensures { result ≡ Start.Asking (CellLoad row index) question }
 {
@@ -203,27 +167,33 @@ fn load_cell(row: u32, index: u8, question: Question) -> Start
 
 /// Ends `fetch`: the retain of the item that the thread found. (C API manual, `PyList_GetItemRef`: the caller owns the
 /// reference.) The list is locked until then, so the item lives (`fetch_without_retain`).
-fn retain_found(item: u32, to: Variable, thread: &mut Thread) -> Start
+#[inline(always)]
+pub(super) fn retain_found(instr: Instr, item: u32, thread: &mut Thread) -> Start
     requires { CanBegin thread.old }
-    ensures { (list index otherwise : ℕ) → Begins thread.old (action_inside (stages.Found item)
-        (Some (instructions.Fetch to list index otherwise)) thread.old) result thread.new }
+    ensures { (layout : Layout) (t : ℕ) → Begins thread.old (action_inside layout t (stages.Found item) (Some instr)
+        thread.old) result thread.new }
 {
     let next = thread.at + 1;
     let left = thread.left;
-    thread.set(to, Some(item));
-    thread.go_to(left, next);
-    Start::Doing(Duty::RetainLoad {
-        row: item,
-        holding: Holding::ByVariable(to),
-    })
+    match instr {
+        Instr::Fetch { to, .. } => {
+            thread.set(to, Some(item));
+            thread.go_to(left, next);
+            Start::Doing(Duty::RetainLoad {
+                row: item,
+                holding: Holding::ByVariable(to),
+            })
+        }
+        _ => Start::Stuck,
+    }
 }
 
 /// Ends `set`: the list takes the variable's reference over, and what the cell held is released. (C API manual,
 /// `PyList_SetItem`.)
 fn set(list: Variable, index: u8, from: Variable, otherwise: u8, thread: &mut Thread) -> Start
     requires { CanBegin thread.old }
-    ensures { Begins thread.old (action_inside stages.InRange (Some (instructions.Set list index from otherwise))
-        thread.old) result thread.new }
+    ensures { (layout : Layout) (t : ℕ) → Begins thread.old (action_inside layout t stages.InRange
+        (Some (instructions.Set list index from otherwise)) thread.old) result thread.new }
 {
     let next = thread.at + 1;
     let left = thread.left;
@@ -239,19 +209,27 @@ fn set(list: Variable, index: u8, from: Variable, otherwise: u8, thread: &mut Th
 
 /// Ends `set` if the list has no such cell: the variable's reference is released. (C API manual, `PyList_SetItem`: the
 /// reference is stolen on an error too.)
-fn give_up(list: Variable, index: u8, from: Variable, otherwise: u8, thread: &mut Thread) -> Start
+#[inline(always)]
+pub(super) fn give_up_item(instr: Instr, thread: &mut Thread) -> Start
     requires { CanBegin thread.old }
-    ensures { Begins thread.old (action_inside stages.OutOfRange (Some (instructions.Set list index from otherwise))
+    ensures { (layout : Layout) (t : ℕ) → Begins thread.old (action_inside layout t stages.OutOfRange (Some instr)
         thread.old) result thread.new }
 {
     let left = thread.left;
-    match thread.row_of(from) {
-        Some(item) => {
-            thread.set(from, None);
-            thread.go_to(left, usize::from(otherwise));
-            release(item, from, thread)
-        }
-        None => Start::Stuck,
+    match instr {
+        Instr::Set {
+            from,
+            otherwise,
+            ..
+        } => match thread.row_of(from) {
+            Some(item) => {
+                thread.set(from, None);
+                thread.go_to(left, usize::from(otherwise));
+                release(item, from, thread)
+            }
+            None => Start::Stuck,
+        },
+        _ => Start::Stuck,
     }
 }
 
@@ -259,8 +237,8 @@ fn give_up(list: Variable, index: u8, from: Variable, otherwise: u8, thread: &mu
 /// its own (`put_without_retain`).
 fn retain_to_put(from: Variable, thread: &mut Thread) -> Start
     requires { CanBegin thread.old }
-    ensures { (list index otherwise : ℕ) → Begins thread.old (action_inside stages.InRange
-        (Some (instructions.Put list index from otherwise)) thread.old) result thread.new }
+    ensures { (layout : Layout) (t list index otherwise : ℕ) → Begins thread.old (action_inside layout t
+        stages.InRange (Some (instructions.Put list index from otherwise)) thread.old) result thread.new }
 {
     match thread.row_of(from) {
         Some(item) => {
@@ -275,18 +253,27 @@ fn retain_to_put(from: Variable, thread: &mut Thread) -> Start
 }
 
 /// Ends `put`: the list takes the new reference over, and what the cell held is released.
-fn put(list: Variable, index: u8, from: Variable, thread: &mut Thread) -> Start
+#[inline(always)]
+pub(super) fn put_retained(instr: Instr, thread: &mut Thread) -> Start
     requires { CanBegin thread.old }
-    ensures { (otherwise : ℕ) → Begins thread.old (action_inside stages.Retained
-        (Some (instructions.Put list index from otherwise)) thread.old) result thread.new }
+    ensures { (layout : Layout) (t : ℕ) → Begins thread.old (action_inside layout t stages.Retained (Some instr)
+        thread.old) result thread.new }
 {
     let next = thread.at + 1;
     let left = thread.left;
-    match (thread.row_of(list), thread.row_of(from)) {
-        (Some(row), Some(item)) => {
-            thread.go_to(left, next);
-            swap(row, index, item, Holding::InFlight, thread)
-        }
+    match instr {
+        Instr::Put {
+            list,
+            index,
+            from,
+            ..
+        } => match (thread.row_of(list), thread.row_of(from)) {
+            (Some(row), Some(item)) => {
+                thread.go_to(left, next);
+                swap(row, index, item, Holding::InFlight, thread)
+            }
+            _ => Start::Stuck,
+        },
         _ => Start::Stuck,
     }
 }

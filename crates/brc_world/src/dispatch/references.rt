@@ -9,8 +9,8 @@ ghost use Rattle.brc_world.specs.Actors.{actor_of, with_agenda};
 ghost use Rattle.brc_world.specs.Starts.{action_at, CanBegin, Begins};
 
 use crate::dispatch::Start;
-use crate::rows::NONE_ROW;
 use crate::thread::Thread;
+use brc_effect::rows::NONE_ROW;
 use brc_lang::Variable;
 use brc_model::{Duty, Holding};
 

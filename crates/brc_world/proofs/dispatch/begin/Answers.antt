@@ -23,5 +23,18 @@ returns-in-Unlock c = rw c.in-Unlock.is (c.unlock.ensures c.args.layout c.args.n
 pub returns-in-As : goal.returns-in-As
 returns-in-As c = rw c.in-As.is (c.ask_kind.ensures c.args.layout c.args.number)
 
+pub returns-in-Goto : goal.returns-in-Goto
+returns-in-Goto c = rw c.in-Goto.is (c.go.ensures c.args.layout c.args.number)
+
+pub returns-in-Again : goal.returns-in-Again
+returns-in-Again c = rw c.in-Again.is (c.again.ensures c.args.layout c.args.number)
+
+pub returns-in-Read : goal.returns-in-Read
+returns-in-Read c = rw c.in-Read.is (c.read.ensures c.in-Read.most)
+
+pub returns-in-Write : goal.returns-in-Write
+returns-in-Write c =
+    rw c.in-Write.is (c.write.ensures c.args.layout c.args.number c.in-Write.file c.in-Write.otherwise)
+
 pub returns-in-Ret : goal.returns-in-Ret
 returns-in-Ret c = rw c.in-Ret.is (c.return_object.ensures c.args.layout c.args.number)

@@ -4,8 +4,8 @@ use Rattle.std.specs.Prelude.{None, slice_get}
 use Rattle.brc_model.specs.declared.actor.Place.TheVariants.{Idle}
 use Rattle.brc_model.specs.Threads.{code_of}
 use Rattle.brc_model.specs.Actions as model
-use Rattle.brc_model.specs.Actions.{StepActor}
-use Rattle.brc_world.specs.Actors.{place_of}
+use Rattle.brc_model.specs.Actions.{StepActor, first_counters}
+use Rattle.brc_world.specs.Actors.{counters_in, place_of}
 use Rattle.brc_world.specs.Starts.{start_by, started}
 use Rattle.brc_world.proofs.Calling.{idle_begins}
 use Rattle.brc_world.proofs.dispatch.dispatch.Goals as goal
@@ -14,11 +14,12 @@ use Rattle.brc_world.proofs.dispatch.dispatch.Goals.{After-next_instruction-in-I
 -- The model's thread dispatches that instruction too.
 begins : (c : After-next_instruction-in-Idle)
     → model.dispatch_instruction c.args.layout c.args.number c.args.thread.now.used (Idle c.args.thread.now.left)
-    (c.args.thread.now.left - 1) 0 c.entry_variables-thread.result
+    (first_counters (c.args.thread.now.left - 1)) 0 c.entry_variables-thread.result
     (slice_get (code_of (slice_get c.args.functions.now c.args.thread.now.function)) 0)
     ≡ model.dispatch c.args.layout c.args.number c.args.thread.now.used
     (code_of (slice_get c.args.functions.now c.args.thread.now.function))
-    (place_of c.args.thread.now.mode c.args.thread.now.left c.args.thread.now.at c.args.thread.now.variables)
+    (place_of c.args.thread.now.mode (counters_in c.args.thread.now.left c.args.thread.now) c.args.thread.now.at
+    c.args.thread.now.variables)
 begins c =
     let code = code_of (slice_get c.args.functions.now c.args.thread.now.function) in
     rw (c.entry_variables-thread.ensures, c.in-Idle.is)
@@ -37,7 +38,7 @@ idle c = record {
     head = c.args.thread.now.head;
     used = c.args.thread.now.used;
     locked = c.args.thread.now.locked;
-    lent = None;
+    lent = c.args.thread.now.lent;
   };
 }
 
@@ -47,9 +48,9 @@ returns-else-thread-eq0 c =
     record {
       starts = (rw c.in-Idle.is at next.starts) ∙ ap start_by (begins c);
       question = next.question;
-      actor = λ found.
-          (rw c.in-Idle.is at (next.actor found))
-          ∙ (rw c.in-Idle.is (ap (λ x. started (idle c) x found) (rw c.in-Idle.is at (begins c))));
+      actor = λ exit found.
+          (rw c.in-Idle.is at (next.actor exit found))
+          ∙ (rw c.in-Idle.is (ap (λ x. started (idle c) x exit found) (rw c.in-Idle.is at (begins c))));
       room = next.room;
     }
 
@@ -60,6 +61,6 @@ returns-then-thread-eq0 c =
     record {
       starts = rw (c.in-Idle.is, c.if-thread-eq0.true) exit.starts;
       question = exit.question;
-      actor = λ found. rw (c.in-Idle.is, c.if-thread-eq0.true) (exit.actor found);
+      actor = λ by found. rw (c.in-Idle.is, c.if-thread-eq0.true) (exit.actor by found);
       room = exit.room;
     }

@@ -1,6 +1,6 @@
 -- The step starts with the thread's action, which the thread can do.
 use Rattle.std.proofs.Common.{ℕ, List, Option, refl, ap, ◌∙◌}
-use Rattle.brc_world.proofs.Acting.{HasStarted, stuck_step, moved_step, duty_step, can_do, answerable, entering}
+use Rattle.brc_world.proofs.Acting.{HasStarted, stuck_step, moved_step, called_step, duty_step, can_do, answerable, asking_uncounted, entering}
 use Rattle.brc_world.specs.declared.dispatch.Start.TheVariants.{Doing, Asking, Locking}
 use Rattle.brc_model.specs.declared.duty.Duty.TheVariants.{LockGate}
 use Rattle.brc_model.specs.Actions.{StepActor}
@@ -19,9 +19,11 @@ do_duty-requires c =
     c.first_duty.new.thread (Doing c.in-Doing.duty) = record {
       alive = c.in_default.not-Gone;
       starts = rw c.in_ok-reserve.ensures.items at c.in-Doing.ensures.starts;
-      actor = λ found. rw c.in_ok-reserve.ensures.items at (c.in-Doing.ensures.actor found);
+      actor = λ exit found. rw c.in_ok-reserve.ensures.items at (c.in-Doing.ensures.actor exit found);
     } in
-    let can = can_do _ _ _ _ _ (word_in c.args.memory.now) _ _ _ _ has refl c.requires.can in
+    let can =
+    can_do c.args.functions.now c.args.layout c.args.number (word_in c.args.memory.now) _ c.args.exit _ _ _ _ _ has refl
+    c.requires.can in
     record {
       some_rows = c.requires.some_rows;
       small = c.requires.small;
@@ -38,16 +40,19 @@ returns-in-Doing c =
     c.first_duty.new.thread (Doing c.in-Doing.duty) = record {
       alive = c.in_default.not-Gone;
       starts = rw c.in_ok-reserve.ensures.items at c.in-Doing.ensures.starts;
-      actor = λ found. rw c.in_ok-reserve.ensures.items at (c.in-Doing.ensures.actor found);
+      actor = λ exit found. rw c.in_ok-reserve.ensures.items at (c.in-Doing.ensures.actor exit found);
     } in
     let step =
-    duty_step c.args.functions.now c.args.layout c.args.number (word_in c.args.memory.now) _ _ _ _ has refl in
+    duty_step c.args.functions.now c.args.layout c.args.number (word_in c.args.memory.now) _ c.args.exit _ _ _ has refl
+    in
     record {
       did = step.answer;
       words = c.do_duty.ensures.word.words ∙ step.memory_is;
       actor = c.do_duty.ensures.actor ∙ step.actor;
+      faults = c.count_duty.ensures ∙ step.faults c.args.faults.now;
       same_words = tt;
       same_actor = tt;
+      same_faults = tt;
       refused = tt;
       as_many_rows = c.do_duty.ensures.word.rows;
       as_many_threads = c.do_duty.ensures.word.threads;
@@ -61,9 +66,11 @@ do_duty-found-requires c =
     c.first_duty.new.thread (Asking c.in-Asking.duty c.in-Asking.question) = record {
       alive = c.in_default.not-Gone;
       starts = rw c.in_ok-reserve.ensures.items at c.in-Asking.ensures.starts;
-      actor = λ found. rw c.in_ok-reserve.ensures.items at (c.in-Asking.ensures.actor found);
+      actor = λ exit found. rw c.in_ok-reserve.ensures.items at (c.in-Asking.ensures.actor exit found);
     } in
-    let can = can_do _ _ _ _ _ (word_in c.args.memory.now) _ _ _ _ has refl c.requires.can in
+    let can =
+    can_do c.args.functions.now c.args.layout c.args.number (word_in c.args.memory.now) _ c.args.exit _ _ _ _ _ has refl
+    c.requires.can in
     record {
       some_rows = c.requires.some_rows;
       small = c.requires.small;
@@ -80,9 +87,11 @@ answer-requires c =
     c.first_duty.new.thread (Asking c.in-Asking.duty c.in-Asking.question) = record {
       alive = c.in_default.not-Gone;
       starts = rw c.in_ok-reserve.ensures.items at c.in-Asking.ensures.starts;
-      actor = λ found. rw c.in_ok-reserve.ensures.items at (c.in-Asking.ensures.actor found);
+      actor = λ exit found. rw c.in_ok-reserve.ensures.items at (c.in-Asking.ensures.actor exit found);
     } in
-    let can = can_do _ _ _ _ _ (word_in c.args.memory.now) _ _ _ _ has refl c.requires.can in
+    let can =
+    can_do c.args.functions.now c.args.layout c.args.number (word_in c.args.memory.now) _ c.args.exit _ _ _ _ _ has refl
+    c.requires.can in
     rw c.do_duty-found.ensures.found
     (answerable c.in-Asking.question c.in-Asking.duty _ _ _ _ c.requires.small c.in-Asking.ensures.question can.suits)
 
@@ -92,30 +101,41 @@ returns-in-Asking c =
     c.first_duty.new.thread (Asking c.in-Asking.duty c.in-Asking.question) = record {
       alive = c.in_default.not-Gone;
       starts = rw c.in_ok-reserve.ensures.items at c.in-Asking.ensures.starts;
-      actor = λ found. rw c.in_ok-reserve.ensures.items at (c.in-Asking.ensures.actor found);
+      actor = λ exit found. rw c.in_ok-reserve.ensures.items at (c.in-Asking.ensures.actor exit found);
     } in
     let step =
-    duty_step c.args.functions.now c.args.layout c.args.number (word_in c.args.memory.now) _ _ _ _ has refl in
+    duty_step c.args.functions.now c.args.layout c.args.number (word_in c.args.memory.now) _ c.args.exit _ _ _ has refl
+    in
     let duty = c.do_duty-found.ensures in
     let before = c.first_duty.new.thread in
     let after = c.do_duty-found.new.thread in
-    let goes_on = λ (found left at : ℕ) (variables : List (Option ℕ)) (a : StepActor).
-    at_place a (place_answered c.in-Asking.question found left at variables) in
+    let goes_on = λ (found left : ℕ) (turns : List ℕ) (at : ℕ) (variables : List (Option ℕ)) (a : StepActor).
+    at_place a
+    (place_answered c.in-Asking.question found (record { left = left; turns = turns }) at variables) in
     let done =
     actor_done c.args.layout c.args.number (word_in c.args.memory.now) (actor_of before) c.in-Asking.duty in
     record {
       did = step.answer;
       words = duty.word.words ∙ step.memory_is;
       actor = c.answer.ensures
-          ∙ ap (goes_on c.do_duty-found.result after.left after.at after.variables) duty.actor
-          ∙ ap (λ (left : ℕ). goes_on c.do_duty-found.result left after.at after.variables done) duty.calls
-          ∙ ap (λ (at : ℕ). goes_on c.do_duty-found.result before.left at after.variables done) duty.point
-          ∙ ap (λ (variables : List (Option ℕ)). goes_on c.do_duty-found.result before.left before.at variables done)
-          duty.variables
-          ∙ ap (λ (found : ℕ). goes_on found before.left before.at before.variables done) duty.found
+          ∙ ap (goes_on c.do_duty-found.result after.left after.turns after.at after.variables) duty.actor
+          ∙ ap (λ (left : ℕ). goes_on c.do_duty-found.result left after.turns after.at after.variables done)
+          duty.calls
+          ∙ ap (λ (turns : List ℕ). goes_on c.do_duty-found.result before.left turns after.at after.variables done)
+          duty.turns
+          ∙ ap (λ (at : ℕ). goes_on c.do_duty-found.result before.left before.turns at after.variables done)
+          duty.point
+          ∙ ap (λ (variables : List (Option ℕ)).
+          goes_on c.do_duty-found.result before.left before.turns before.at variables done) duty.variables
+          ∙ ap (λ (found : ℕ). goes_on found before.left before.turns before.at before.variables done) duty.found
           ∙ step.actor;
+      faults =
+          asking_uncounted c.args.exit c.in-Asking.question c.in-Asking.duty c.args.faults.now
+          c.in-Asking.ensures.question
+          ∙ step.faults c.args.faults.now;
       same_words = tt;
       same_actor = tt;
+      same_faults = tt;
       refused = tt;
       as_many_rows = duty.word.rows;
       as_many_threads = duty.word.threads;
@@ -129,9 +149,11 @@ do_duty-found-requires-in-Locking c =
     c.first_duty.new.thread (Locking c.in-Locking.row c.in-Locking.left c.in-Locking.next) = record {
       alive = c.in_default.not-Gone;
       starts = rw c.in_ok-reserve.ensures.items at c.in-Locking.ensures.starts;
-      actor = λ found. rw c.in_ok-reserve.ensures.items at (c.in-Locking.ensures.actor found);
+      actor = λ exit found. rw c.in_ok-reserve.ensures.items at (c.in-Locking.ensures.actor exit found);
     } in
-    let can = can_do _ _ _ _ _ (word_in c.args.memory.now) _ _ _ _ has refl c.requires.can in
+    let can =
+    can_do c.args.functions.now c.args.layout c.args.number (word_in c.args.memory.now) _ c.args.exit _ _ _ _ _ has refl
+    c.requires.can in
     record {
       some_rows = c.requires.some_rows;
       small = c.requires.small;
@@ -148,14 +170,17 @@ returns-in-Locking c =
     c.first_duty.new.thread (Locking c.in-Locking.row c.in-Locking.left c.in-Locking.next) = record {
       alive = c.in_default.not-Gone;
       starts = rw c.in_ok-reserve.ensures.items at c.in-Locking.ensures.starts;
-      actor = λ found. rw c.in_ok-reserve.ensures.items at (c.in-Locking.ensures.actor found);
+      actor = λ exit found. rw c.in_ok-reserve.ensures.items at (c.in-Locking.ensures.actor exit found);
     } in
     let step =
-    duty_step c.args.functions.now c.args.layout c.args.number (word_in c.args.memory.now) _ _ _ _ has refl in
+    duty_step c.args.functions.now c.args.layout c.args.number (word_in c.args.memory.now) _ c.args.exit _ _ _ has refl
+    in
     let duty = c.do_duty-found-in-Locking.ensures in
-    let enters = λ (variables : List (Option ℕ)) (found : ℕ) (a : StepActor).
-    at_place a (let_in c.in-Locking.left c.in-Locking.next variables found a.place) in
-    let now = c.first_duty.new.thread.variables in
+    let enters = λ (turns : List ℕ) (variables : List (Option ℕ)) (found : ℕ) (a : StepActor).
+    at_place a
+    (let_in (record { left = c.in-Locking.left; turns = turns }) c.in-Locking.next variables found a.place) in
+    let before = c.first_duty.new.thread in
+    let after = c.do_duty-found-in-Locking.new.thread in
     let found = c.do_duty-found-in-Locking.result in
     let done =
     actor_done c.args.layout c.args.number (word_in c.args.memory.now) (actor_of c.first_duty.new.thread)
@@ -164,13 +189,15 @@ returns-in-Locking c =
       did = c.enter.ensures.did ∙ ap entering duty.found ∙ step.answer;
       words = duty.word.words ∙ step.memory_is;
       actor = c.enter.ensures.actor
-          ∙ ap (λ (variables : List (Option ℕ)). enters variables found (actor_of c.do_duty-found-in-Locking.new.thread))
-          duty.variables
-          ∙ ap (enters now found) duty.actor
-          ∙ ap (λ (word : ℕ). enters now word done) duty.found
+          ∙ ap (λ (turns : List ℕ). enters turns after.variables found (actor_of after)) duty.turns
+          ∙ ap (λ (variables : List (Option ℕ)). enters before.turns variables found (actor_of after)) duty.variables
+          ∙ ap (enters before.turns before.variables found) duty.actor
+          ∙ ap (λ (word : ℕ). enters before.turns before.variables word done) duty.found
           ∙ step.actor;
+      faults = step.faults c.args.faults.now;
       same_words = tt;
       same_actor = tt;
+      same_faults = tt;
       refused = tt;
       as_many_rows = duty.word.rows;
       as_many_threads = duty.word.threads;
@@ -182,18 +209,43 @@ pub returns-in-Stuck : goal.returns-in-Stuck
 returns-in-Stuck c =
     let step =
     stuck_step c.args.functions.now c.args.layout c.args.number (word_in c.args.memory.now)
-    (actor_of c.args.thread.now) c.first_duty.new.thread
+    (actor_of c.args.thread.now) c.args.exit c.first_duty.new.thread
     (record {
       alive = c.in_default.not-Gone;
       starts = rw c.in_ok-reserve.ensures.items at c.in-Stuck.ensures.starts;
-      actor = λ found. rw c.in_ok-reserve.ensures.items at (c.in-Stuck.ensures.actor found);
+      actor = λ exit found. rw c.in_ok-reserve.ensures.items at (c.in-Stuck.ensures.actor exit found);
     }) in
     record {
       did = step.answer;
       words = step.memory_is;
       actor = step.actor;
+      faults = step.faults c.args.faults.now;
       same_words = tt;
       same_actor = tt;
+      same_faults = tt;
+      refused = tt;
+      as_many_rows = refl;
+      as_many_threads = refl;
+    }
+
+pub returns-in-Calling : goal.returns-in-Calling
+returns-in-Calling c =
+    let step =
+    called_step c.args.functions.now c.args.layout c.args.number (word_in c.args.memory.now)
+    (actor_of c.args.thread.now) c.args.exit c.first_duty.new.thread c.in-Calling.call
+    (record {
+      alive = c.in_default.not-Gone;
+      starts = rw c.in_ok-reserve.ensures.items at c.in-Calling.ensures.starts;
+      actor = λ exit found. rw c.in_ok-reserve.ensures.items at (c.in-Calling.ensures.actor exit found);
+    }) in
+    record {
+      did = step.answer;
+      words = step.memory_is;
+      actor = c.end_call.ensures ∙ step.actor;
+      faults = c.count_call.ensures ∙ step.faults c.args.faults.now;
+      same_words = tt;
+      same_actor = tt;
+      same_faults = tt;
       refused = tt;
       as_many_rows = refl;
       as_many_threads = refl;
@@ -203,18 +255,20 @@ pub returns-in-Moved : goal.returns-in-Moved
 returns-in-Moved c =
     let step =
     moved_step c.args.functions.now c.args.layout c.args.number (word_in c.args.memory.now)
-    (actor_of c.args.thread.now) c.first_duty.new.thread
+    (actor_of c.args.thread.now) c.args.exit c.first_duty.new.thread
     (record {
       alive = c.in_default.not-Gone;
       starts = rw c.in_ok-reserve.ensures.items at c.in-Moved.ensures.starts;
-      actor = λ found. rw c.in_ok-reserve.ensures.items at (c.in-Moved.ensures.actor found);
+      actor = λ exit found. rw c.in_ok-reserve.ensures.items at (c.in-Moved.ensures.actor exit found);
     }) in
     record {
       did = step.answer;
       words = step.memory_is;
       actor = step.actor;
+      faults = step.faults c.args.faults.now;
       same_words = tt;
       same_actor = tt;
+      same_faults = tt;
       refused = tt;
       as_many_rows = refl;
       as_many_threads = refl;

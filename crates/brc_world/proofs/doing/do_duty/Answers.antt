@@ -23,6 +23,7 @@ returns-clause-actor c =
       effect.status,
       effect.used,
       effect.locked,
+      effect.lent,
       c.doer-by.ensures,
       c.load-found.ensures,
       c.address_of-address.ensures,

@@ -1,13 +1,13 @@
-use Rattle.std.proofs.Common.{refl, sym, arith}
-use Rattle.brc_model.specs.declared.thread.Choice.TheVariants.{Ok}
+use Rattle.std.proofs.Common.{◌≡◌, ◌≢◌, refl, sym, arith}
 use Rattle.brc_model.specs.Actions.{status_action}
-use Rattle.brc_world.specs.Actors.{actor_of, memory_by, actor_by}
+use Rattle.brc_world.specs.Actors.{actor_of, memory_by, actor_by, faults_by}
 use Rattle.brc_world.specs.Storage.{word_in}
-use Rattle.brc_world.specs.Worlds.{seen}
+use Rattle.brc_world.specs.Worlds.{seen, choice_of}
 use Rattle.brc_world.proofs.Outcomes.{contents, Turned, Outcome, outcome, answered, refusal, thread_at}
 use Rattle.brc_world.proofs.Answering.{going_answers}
 use Rattle.brc_world.proofs.Waiting.{waits_locked, moves_unless_waiting}
-use Rattle.brc_world.proofs.Stepping.{going_on, can_go_on}
+use Rattle.brc_model.specs.World.{step}
+use Rattle.brc_world.proofs.Stepping.{going_on, at_exit, can_go_on}
 use Rattle.brc_world.proofs.world.World.go_on.Goals as goal
 
 pub overflow_cast-thread : goal.overflow_cast-thread
@@ -35,14 +35,16 @@ act-requires-clause-can c =
     let within = rw (sym c.self.view_is) at c.requires in
     let here =
     thread_at c.self.inside.accepted.now.functions c.self.inside.layout c.self.inside.memory
-    c.self.inside.threads.items c.args.thread c.index_mut.result.now c.index_mut.ensures.value within in
+    c.self.inside.threads.items c.args.thread c.self.inside.faults c.index_mut.result.now c.index_mut.ensures.value
+    within in
     let steps = c.steps_are_within.ensures _ _ c.args.thread _ c.self.invariant.reachable here in
     rw (c.as_slice.ensures, c.self.invariant.rows, c.self.invariant.threads) (can_go_on _ _ _ steps)
 
 -- The world after the step is the model's next world or, if memory was refused, the same world.
 outcome_of : (c : goal.After-self-1)
     → Outcome c.self.inside.accepted.now c.self.inside.layout c.self.inside.memory c.act.new.memory
-    c.self.inside.threads.items c.args.thread Ok c.act.new.thread c.act.result
+    c.self.inside.threads.items c.args.thread (choice_of c.args.exit) c.act.new.thread c.self.inside.faults
+    c.act.new.faults c.act.result
 outcome_of c =
     let p = c.self.inside.accepted.now in
     let layout = c.self.inside.layout in
@@ -51,24 +53,29 @@ outcome_of c =
     let t = c.args.thread in
     let before = c.index_mut.result.now in
     let after = c.act.new.thread in
-    let w = seen (contents p.functions layout words threads) in
+    let f = c.self.inside.faults in
+    let w = seen (contents p.functions layout words threads f) in
     let action = status_action p.functions layout t (actor_of before) before.status in
     let memory = memory_by layout t (word_in words) (actor_of before) action in
-    let next = actor_by layout t (word_in words) (actor_of before) action in
-    let turned : Turned words c.act.new.memory (actor_of before) (actor_of after) c.act.result memory next = record {
+    let next = actor_by layout t (word_in words) (actor_of before) c.args.exit action in
+    let faults = faults_by c.args.exit action f in
+    let turned : Turned words c.act.new.memory (actor_of before) (actor_of after) f c.act.new.faults c.act.result memory
+    next faults = record {
       words = rw c.as_slice.ensures at c.act.ensures.words;
       actor = rw c.as_slice.ensures at c.act.ensures.actor;
+      faults_are = rw c.as_slice.ensures at c.act.ensures.faults;
       same_words = c.act.ensures.same_words;
       same_actor = c.act.ensures.same_actor;
+      same_faults = c.act.ensures.same_faults;
       rows = c.act.ensures.as_many_rows;
       threads = c.act.ensures.as_many_threads;
     } in
     let within = rw (sym c.self.view_is) at c.requires in
-    let here = thread_at p.functions layout words threads t before c.index_mut.ensures.value within in
-    let is = going_on w t (actor_of before) here in
-    outcome p layout words c.act.new.memory threads t Ok before after c.act.result memory next turned
-    c.index_mut.ensures.value is c.self.invariant
-    (c.worlds_lead_on.ensures.step p w t Ok c.self.invariant.reachable)
+    let here = thread_at p.functions layout words threads t f before c.index_mut.ensures.value within in
+    let is = going_on w t (actor_of before) c.args.exit here in
+    outcome p layout words c.act.new.memory threads t (choice_of c.args.exit) before after f c.act.new.faults
+    c.act.result memory next faults turned c.index_mut.ensures.value is c.self.invariant
+    (c.worlds_lead_on.ensures.step p w t (choice_of c.args.exit) c.self.invariant.reachable)
 
 pub invariant_of-self : goal.invariant_of-self
 invariant_of-self c = (outcome_of c).world
@@ -84,36 +91,41 @@ returns-clause-answer c =
     let p = c.self.inside.accepted.now in
     let threads = c.self.inside.threads.items in
     let t = c.args.thread in
+    let exit = c.args.exit in
     let before = c.index_mut.result.now in
-    let w = seen (contents p.functions c.self.inside.layout c.self.inside.memory threads) in
+    let w = seen (contents p.functions c.self.inside.layout c.self.inside.memory threads c.self.inside.faults) in
     let within = rw (sym c.self.view_is) at c.requires in
     let here =
-    thread_at p.functions c.self.inside.layout c.self.inside.memory threads t before c.index_mut.ensures.value within
-    in
+    thread_at p.functions c.self.inside.layout c.self.inside.memory threads t c.self.inside.faults before
+    c.index_mut.ensures.value within in
     rw (sym c.self.view_is) (answered w _ _ t c.act.result _ (outcome_of c).made
     (rw c.as_slice.ensures at c.act.ensures.did)
-    (going_answers w t (actor_of before) before.status here refl
-    (λ alive quiet. moves_unless_waiting w t (actor_of before) here
-    (λ free. (c.steps_move.ensures.goes_on p w t (actor_of before) c.self.invariant.reachable here alive free).0)
+    (going_answers w t exit (actor_of before) before.status here refl
+    (λ alive quiet. moves_unless_waiting w t (actor_of before) exit here
+    (λ free. at_exit (λ choice. step w t choice ≢ w) exit
+    (c.steps_move.ensures.goes_on p w t (actor_of before) c.self.invariant.reachable here alive free))
     alive quiet)
-    (λ waiting. (c.steps_move.ensures.waits p w t (actor_of before) c.self.invariant.reachable here
+    (λ waiting. at_exit (λ choice. step w t choice ≡ w) exit
+    (c.steps_move.ensures.waits p w t (actor_of before) c.self.invariant.reachable here
     (waits_locked w.memory (actor_of before).actor.agenda
-    (status_action w.functions w.layout t (actor_of before) before.status) waiting)).0)
-    (going_on w t (actor_of before) here)))
+    (status_action w.functions w.layout t (actor_of before) before.status) waiting)))
+    (going_on w t (actor_of before) exit here)))
 
 pub returns-clause-refused : goal.returns-clause-refused
 returns-clause-refused c =
     let p = c.self.inside.accepted.now in
     let threads = c.self.inside.threads.items in
     let t = c.args.thread in
+    let exit = c.args.exit in
     let before = c.index_mut.result.now in
-    let w = seen (contents p.functions c.self.inside.layout c.self.inside.memory threads) in
+    let w = seen (contents p.functions c.self.inside.layout c.self.inside.memory threads c.self.inside.faults) in
     let within = rw (sym c.self.view_is) at c.requires in
     let here =
-    thread_at p.functions c.self.inside.layout c.self.inside.memory threads t before c.index_mut.ensures.value within
-    in
+    thread_at p.functions c.self.inside.layout c.self.inside.memory threads t c.self.inside.faults before
+    c.index_mut.ensures.value within in
     rw (sym c.self.view_is) (refusal c.act.result
-    (λ refused. moves_unless_waiting w t (actor_of before) here
-    (λ free. (c.steps_move.ensures.goes_on p w t (actor_of before) c.self.invariant.reachable here refused.0 free).0)
+    (λ refused. moves_unless_waiting w t (actor_of before) exit here
+    (λ free. at_exit (λ choice. step w t choice ≢ w) exit
+    (c.steps_move.ensures.goes_on p w t (actor_of before) c.self.invariant.reachable here refused.0 free))
     refused.0 refused.1)
     (rw c.as_slice.ensures at c.act.ensures.refused))

@@ -11,7 +11,7 @@ pub overflow_cast-block : goal.overflow_cast-block
 overflow_cast-block c =
     let w =
     seen (contents c.self.inside.accepted.now.functions c.self.inside.layout c.self.inside.memory
-    c.self.inside.threads.items) in
+    c.self.inside.threads.items c.self.inside.faults) in
     let few = c.worlds_are_small.ensures.few_threads _ w c.self.invariant.reachable in
     let many = c.worlds_are_small.ensures.workers _ w c.self.invariant.reachable in
     let some = c.worlds_are_small.ensures.some_rows _ w c.self.invariant.reachable in

@@ -3,7 +3,7 @@ use Rattle.brc_model.specs.declared.thread.Choice.TheVariants.{Claim}
 use Rattle.brc_world.specs.Actors.{actor_of, memory_claimed, actor_claimed}
 use Rattle.brc_world.specs.Storage.{word_in}
 use Rattle.brc_world.specs.Worlds.{seen}
-use Rattle.brc_world.proofs.Outcomes.{contents, Turned, Outcome, outcome, answered, refusal, thread_at}
+use Rattle.brc_world.proofs.Outcomes.{contents, Turned, Outcome, outcome, on_ok, on_err, answered, refusal, thread_at}
 use Rattle.brc_world.proofs.Answering.{claim_answers}
 use Rattle.brc_world.proofs.Stepping.{can_claim, claim_is, claim_moves, claim_stays}
 use Rattle.brc_world.proofs.world.World.look_for.Goals as goal
@@ -33,14 +33,16 @@ claim-requires-clause-can c =
     let within = rw (sym c.self.view_is) at c.requires in
     let here =
     thread_at c.self.inside.accepted.now.functions c.self.inside.layout c.self.inside.memory
-    c.self.inside.threads.items c.args.thread c.index_mut.result.now c.index_mut.ensures.value within in
+    c.self.inside.threads.items c.args.thread c.self.inside.faults c.index_mut.result.now c.index_mut.ensures.value
+    within in
     let steps = c.steps_are_within.ensures _ _ c.args.thread _ c.self.invariant.reachable here in
     rw (c.self.invariant.rows, c.self.invariant.threads) (can_claim _ _ _ c.args.row steps)
 
 -- The world after the claim is the model's next world or, if memory was refused, the same world.
 outcome_of : (c : goal.After-self-1)
     → Outcome c.self.inside.accepted.now c.self.inside.layout c.self.inside.memory c.claim.new.memory
-    c.self.inside.threads.items c.args.thread (Claim c.args.row) c.claim.new.thread c.claim.result
+    c.self.inside.threads.items c.args.thread (Claim c.args.row) c.claim.new.thread c.self.inside.faults
+    c.self.inside.faults c.claim.result
 outcome_of c =
     let p = c.self.inside.accepted.now in
     let layout = c.self.inside.layout in
@@ -49,26 +51,29 @@ outcome_of c =
     let t = c.args.thread in
     let before = c.index_mut.result.now in
     let after = c.claim.new.thread in
-    let w = seen (contents p.functions layout words threads) in
+    let f = c.self.inside.faults in
+    let w = seen (contents p.functions layout words threads f) in
     let memory = memory_claimed layout t (word_in words) (actor_of before) c.args.row in
     let next = actor_claimed layout t (word_in words) (actor_of before) c.args.row in
-    let turned : Turned words c.claim.new.memory (actor_of before) (actor_of after) c.claim.result memory next =
+    let turned : Turned words c.claim.new.memory (actor_of before) (actor_of after) f f c.claim.result memory next f =
     record {
       words = c.claim.ensures.words;
       actor = c.claim.ensures.actor;
+      faults_are = on_ok c.claim.result refl;
       same_words = c.claim.ensures.same_words;
       same_actor = c.claim.ensures.same_actor;
+      same_faults = on_err c.claim.result refl;
       rows = c.claim.ensures.as_many_rows;
       threads = c.claim.ensures.as_many_threads;
     } in
     let within = rw (sym c.self.view_is) at c.requires in
-    let here = thread_at p.functions layout words threads t before c.index_mut.ensures.value within in
+    let here = thread_at p.functions layout words threads t f before c.index_mut.ensures.value within in
     let is =
     claim_is p w t (actor_of before) c.args.row c.self.invariant.reachable here
     (c.steps_move.ensures.misses p w t (actor_of before) c.args.row c.self.invariant.reachable here)
     (c.steps_move.ensures.stays w t (actor_of before) c.args.row here) in
     outcome p layout words c.claim.new.memory threads t
-    (Claim c.args.row) before after c.claim.result memory next turned
+    (Claim c.args.row) before after f f c.claim.result memory next f turned
     c.index_mut.ensures.value is c.self.invariant
     (c.worlds_lead_on.ensures.step p w t (Claim c.args.row) c.self.invariant.reachable)
 
@@ -87,11 +92,11 @@ returns-clause-answer c =
     let threads = c.self.inside.threads.items in
     let t = c.args.thread in
     let before = c.index_mut.result.now in
-    let w = seen (contents p.functions c.self.inside.layout c.self.inside.memory threads) in
+    let w = seen (contents p.functions c.self.inside.layout c.self.inside.memory threads c.self.inside.faults) in
     let within = rw (sym c.self.view_is) at c.requires in
     let here =
-    thread_at p.functions c.self.inside.layout c.self.inside.memory threads t before c.index_mut.ensures.value within
-    in
+    thread_at p.functions c.self.inside.layout c.self.inside.memory threads t c.self.inside.faults before
+    c.index_mut.ensures.value within in
     rw (sym c.self.view_is) (answered w _ _ t c.claim.result _ (outcome_of c).made c.claim.ensures.did
     (claim_answers w t (actor_of before) c.args.row before.status here refl
     (λ found. claim_moves w t (actor_of before) c.args.row found
@@ -106,11 +111,11 @@ returns-clause-refused c =
     let threads = c.self.inside.threads.items in
     let t = c.args.thread in
     let before = c.index_mut.result.now in
-    let w = seen (contents p.functions c.self.inside.layout c.self.inside.memory threads) in
+    let w = seen (contents p.functions c.self.inside.layout c.self.inside.memory threads c.self.inside.faults) in
     let within = rw (sym c.self.view_is) at c.requires in
     let here =
-    thread_at p.functions c.self.inside.layout c.self.inside.memory threads t before c.index_mut.ensures.value within
-    in
+    thread_at p.functions c.self.inside.layout c.self.inside.memory threads t c.self.inside.faults before
+    c.index_mut.ensures.value within in
     rw (sym c.self.view_is) (refusal c.claim.result
     (λ found. claim_moves w t (actor_of before) c.args.row found
     (λ may marked. c.steps_move.ensures.claims w t (actor_of before) c.args.row here may marked))

@@ -17,7 +17,7 @@ overflow_sub-result c =
 pub returns-clause-counted : goal.returns-clause-counted
 returns-clause-counted c =
     tally_as (seen c.args.self.now) c.len.result c.running_in.result c.len-2.result c.saturating_sub.result
-    c.len-5.result c.in_ok-left.left c.in_ok-born.born.items
+    c.len-5.result c.self.inside.faults.calls c.self.inside.faults.closes c.in_ok-left.left c.in_ok-born.born.items
     (rw (sym c.self.view_is) (grind (arith, common_steps)))
     (rw (sym c.self.view_is) (c.running_in.ensures
     ∙ (rw c.deref-2.ensures.value (count_over still_runs actor_of c.self.inside.threads.items))))
@@ -26,6 +26,8 @@ returns-clause-counted c =
     (rw c.deref.ensures.value at c.in_ok-left.ensures)
     (rw (c.saturating_sub.ensures, c.len-3.ensures, c.len-4.ensures, c.len-2.ensures) refl)
     c.len-5.ensures
+    (rw (sym c.self.view_is) refl)
+    (rw (sym c.self.view_is) refl)
 
 pub returns-clause-machine : goal.returns-clause-machine
 returns-clause-machine c = λ p m of is.

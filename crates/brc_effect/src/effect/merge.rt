@@ -5,7 +5,7 @@ ghost use Rattle.brc_word.specs.Words.{biased_part, bias};
 ghost use Rattle.brc_model.specs.declared.duty.Duty.TheVariants as duties;
 ghost use Rattle.brc_model.specs.Duties.{once_merged};
 ghost use Rattle.brc_model.specs.Within.{IsShared};
-ghost use Rattle.brc_world.specs.Effects.{duties_of, IsEffect};
+ghost use Rattle.brc_effect.specs.Effects.{duties_of, IsEffect};
 
 use super::{Doer, Effect, Next};
 use brc_model::{Duty, Reason};

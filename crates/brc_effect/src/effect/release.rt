@@ -7,7 +7,7 @@ ghost use Rattle.brc_model.specs.declared.duty.Holding.{Holding};
 ghost use Rattle.brc_model.specs.declared.duty.Reason.TheVariants as reasons;
 ghost use Rattle.brc_model.specs.Machine.{is_running};
 ghost use Rattle.brc_model.specs.Within.{IsShared};
-ghost use Rattle.brc_world.specs.Effects.{IsEffect};
+ghost use Rattle.brc_effect.specs.Effects.{IsEffect};
 
 use super::{Doer, Effect, Next};
 use crate::states::{RUNNING, SET};

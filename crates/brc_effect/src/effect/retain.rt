@@ -5,7 +5,7 @@ ghost use Rattle.brc_word.specs.Words.{most_local, local_part, biased_part, bias
 ghost use Rattle.brc_model.specs.declared.duty.Duty.TheVariants as duties;
 ghost use Rattle.brc_model.specs.declared.duty.Holding.{Holding};
 ghost use Rattle.brc_model.specs.Within.{IsShared};
-ghost use Rattle.brc_world.specs.Effects.{IsEffect};
+ghost use Rattle.brc_effect.specs.Effects.{IsEffect};
 
 use super::{Doer, Effect, Next};
 use brc_model::{Duty, Holding};

@@ -1,6 +1,6 @@
 -- Some effects don't depend on the found word, or on each field of their duty. Their contracts hold for every value of
 -- these.
-use Rattle.brc_world.proofs.effect.Doer.effect.Goals as goal
+use Rattle.brc_effect.proofs.effect.Doer.effect.Goals as goal
 
 pub returns-in-RetainStore : goal.returns-in-RetainStore
 returns-in-RetainStore c = rw c.in-RetainStore.is (c.retain_store.ensures _ _ _)
@@ -22,9 +22,6 @@ returns-in-Die c = rw c.in-Die.is (c.die.ensures _)
 
 pub returns-in-TakeSlot : goal.returns-in-TakeSlot
 returns-in-TakeSlot c = rw c.in-TakeSlot.is (c.take_slot.ensures _)
-
-pub returns-in-CloseResource : goal.returns-in-CloseResource
-returns-in-CloseResource c = rw c.in-CloseResource.is (c.close_resource.ensures _)
 
 pub returns-in-SettleEnd : goal.returns-in-SettleEnd
 returns-in-SettleEnd c = rw c.in-SettleEnd.is (c.settle_end.ensures _ _)
@@ -52,6 +49,9 @@ returns-in-UnlockGate c = rw c.in-UnlockGate.is (c.unlock_gate.ensures _ _)
 
 pub returns-in-CellLoad : goal.returns-in-CellLoad
 returns-in-CellLoad c = rw c.in-CellLoad.is (c.cell_load.ensures _ _)
+
+pub returns-in-ReturnSlot : goal.returns-in-ReturnSlot
+returns-in-ReturnSlot c = rw c.in-ReturnSlot.is (c.return_slot.ensures _ _)
 
 pub returns-in-CellSwap : goal.returns-in-CellSwap
 returns-in-CellSwap c = rw c.in-CellSwap.is (c.cell_swap.ensures _ _ _)

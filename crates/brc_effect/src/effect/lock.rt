@@ -3,7 +3,7 @@
 ghost use Rattle.std.specs.Prelude.{ℕ, ◌≤◌};
 ghost use Rattle.brc_model.specs.declared.duty.Duty.TheVariants as duties;
 ghost use Rattle.brc_model.specs.Limits.{worker_limit};
-ghost use Rattle.brc_world.specs.Effects.{IsEffect};
+ghost use Rattle.brc_effect.specs.Effects.{IsEffect};
 
 use super::{Doer, Effect, Next};
 use crate::states::FREE;

@@ -4,7 +4,7 @@ ghost use Rattle.std.specs.Prelude.{ℕ, ◌≤◌, ◌<◌, ◌≡◌, ◌∷�
 ghost use Rattle.brc_model.specs.declared.duty.Duty.TheVariants as duties;
 ghost use Rattle.brc_model.specs.Duties.{cells_from};
 ghost use Rattle.brc_model.specs.Limits.{worker_limit, cell_limit};
-ghost use Rattle.brc_world.specs.Effects.{IsEffect};
+ghost use Rattle.brc_effect.specs.Effects.{IsEffect};
 
 use super::{Doer, Effect, Next};
 use crate::states::{FILE, LIST, SOCK};
@@ -81,12 +81,14 @@ impl Doer {
         self.leaves(0, Next::One(Duty::CloseResource { row }))
     }
 
-    /// Lets the host close the resource. Rule `ResourceClosed`.
+    /// Lets the host close the resource, and counts that (`close_uncounted`). The resource is closed from then on, even
+    /// if the host reports a fault, so the thread goes on to close the object. Rule `ResourceClosed`.
     #[inline(always)]
-    pub(super) fn close_resource(self, row: u32) -> Effect
-        ensures { (found : ℕ) → IsEffect self (duties.CloseResource row) found result }
+    pub(super) fn close_resource(self, row: u32, found: u64) -> Effect
+        requires open { found ≡ 0 }
+        ensures { IsEffect self (duties.CloseResource row) found result }
     {
-        self.leaves(0, Next::One(Duty::SettleEnd { row }))
+        self.leaves(found + 1, Next::One(Duty::SettleEnd { row }))
     }
 
     /// Stores in the gate that the object is closed (`settle_end_left_dying`). No duty follows, so it is closed once.

@@ -4,7 +4,7 @@ ghost use Rattle.std.specs.Prelude.{◌≡◌, ◌≤◌, ◌<◌, ◌^◌};
 ghost use Rattle.brc_model.specs.Machine.{is_running, used_by};
 ghost use Rattle.brc_model.specs.Limits.{worker_limit};
 ghost use Rattle.brc_model.specs.Within.{Suits};
-ghost use Rattle.brc_world.specs.Effects.{IsIndexed, IsNumbered, IsEffect};
+ghost use Rattle.brc_effect.specs.Effects.{IsIndexed, IsNumbered, IsEffect};
 
 use brc_model::{Duty, Layout, Status};
 
@@ -13,6 +13,7 @@ mod cell;
 mod dying;
 mod exit;
 mod kind;
+mod lend;
 mod lock;
 mod merge;
 mod release;
@@ -42,8 +43,10 @@ pub struct Effect {
     pub status: Status,
     /// The number of rows of its block that the thread has used.
     pub used: u32,
-    /// The row of the list that the thread has locked.
+    /// The row of the object that the thread has locked.
     pub locked: Option<u32>,
+    /// The row of the object whose resource the thread has lent.
+    pub lent: Option<u32>,
 }
 
 /// The thread that does a duty: the parts of it that the duty's effect depends on.
@@ -56,8 +59,10 @@ pub struct Doer {
     pub head: u32,
     /// The number of rows of its block that it has used.
     pub used: u32,
-    /// The row of the list that it has locked.
+    /// The row of the object that it has locked.
     pub locked: Option<u32>,
+    /// The row of the object whose resource it has lent.
+    pub lent: Option<u32>,
     /// The number of rows of all threads together.
     pub rows: u32,
 }
@@ -105,7 +110,7 @@ impl Doer {
             Duty::SettleKind { row } => self.settle_kind(row, found),
             Duty::SettleCell { row, cell, cells } => self.settle_cell(row, cell, cells, found),
             Duty::TakeSlot { row } => self.take_slot(row),
-            Duty::CloseResource { row } => self.close_resource(row),
+            Duty::CloseResource { row } => self.close_resource(row, found),
             Duty::SettleEnd { .. } => self.settle_end(),
             Duty::Leave { index, rows } => self.leave(index, rows),
             Duty::Scan { index, rows } => self.scan(index, rows, found),
@@ -119,10 +124,12 @@ impl Doer {
             Duty::UnlockGate { .. } => self.unlock_gate(),
             Duty::CellLoad { .. } => self.cell_load(found),
             Duty::CellSwap { item, .. } => self.cell_swap(item, found),
+            Duty::LendSlot { row } => self.lend_slot(row, found),
+            Duty::ReturnSlot { .. } => self.return_slot(),
         }
     }
 
-    /// Returns an effect that keeps the thread's head, status, number of used rows and lock.
+    /// Returns an effect that keeps the thread's head, status, number of used rows, lock and lent resource.
     #[inline(always)]
     fn leaves(self, word: u64, next: Next) -> Effect
         ensures { result ≡ record {
@@ -132,6 +139,7 @@ impl Doer {
           status = self.status;
           used = self.used;
           locked = self.locked;
+          lent = self.lent;
         } }
     {
         Effect {
@@ -141,6 +149,7 @@ impl Doer {
             status: self.status,
             used: self.used,
             locked: self.locked,
+            lent: self.lent,
         }
     }
 

@@ -5,11 +5,11 @@ use Rattle.brc_model.specs.declared.duty.Duty.TheVariants.{ReleaseLoad, Die, Sca
 use Rattle.brc_model.specs.declared.duty.Holding.TheVariants.{InFlight}
 use Rattle.brc_model.specs.Limits.{cell_limit}
 use Rattle.brc_model.specs.Duties.{new_word, continuation, new_head}
-use Rattle.brc_model.specs.Machine.{is_running, status_by, used_by, locked_by}
-use Rattle.brc_world.specs.declared.effect.Doer.{Doer}
-use Rattle.brc_world.specs.declared.effect.Effect.{Effect}
-use Rattle.brc_world.specs.declared.effect.Next.{Next}
-use Rattle.brc_world.specs.declared.effect.Next.TheVariants.{Nothing, One, Two, Release, Three}
+use Rattle.brc_model.specs.Machine.{is_running, status_by, used_by, locked_by, lent_by}
+use Rattle.brc_effect.specs.declared.effect.Doer.{Doer}
+use Rattle.brc_effect.specs.declared.effect.Effect.{Effect}
+use Rattle.brc_effect.specs.declared.effect.Next.{Next}
+use Rattle.brc_effect.specs.declared.effect.Next.TheVariants.{Nothing, One, Two, Release, Three}
 
 -- the duties, in the order in which the thread does them
 abbrev pub duties_of : Next → List Duty
@@ -41,3 +41,4 @@ pub record IsEffect (by : Doer) (d : Duty) (found : ℕ) (e : Effect) : Type 0 w
   pub status : e.status ≡ status_by by.status d
   pub used : e.used ≡ used_by by.used d
   pub locked : e.locked ≡ locked_by by.locked d found
+  pub lent : e.lent ≡ lent_by by.lent d found

@@ -1,0 +1,37 @@
+//! The resource of a file or a socket that the thread has locked: a call of the host needs it for itself.
+
+ghost use Rattle.std.specs.Prelude.{ℕ};
+ghost use Rattle.brc_model.specs.declared.duty.Duty.TheVariants as duties;
+ghost use Rattle.brc_effect.specs.Effects.{IsEffect};
+
+use super::{Doer, Effect, Next};
+use crate::states::FULL;
+
+impl Doer {
+    /// Takes the resource out of its slot for a call of the host: the thread has it lent until the call has ended. While
+    /// the slot is empty, no other thread finds the resource there. The thread has locked the object, and remembers
+    /// what it has lent (`lent_resource_forgotten`), because it has to put it back. Rule `ResourceLent`.
+    #[inline(always)]
+    pub(super) fn lend_slot(self, row: u32, found: u64) -> Effect
+        ensures { IsEffect self (duties.LendSlot row) found result }
+    {
+        let lent = if found == FULL { Some(row) } else { self.lent };
+        Effect {
+            lent,
+            ..self.leaves(0, Next::Nothing)
+        }
+    }
+
+    /// Puts the resource back into its slot, whether the call of the host succeeded or faulted: otherwise nobody could
+    /// close it when the object dies (`lent_slot_left_empty`). A plain store is enough, because the slot stays empty
+    /// while the resource is lent. Rule `ResourceReturned`.
+    #[inline(always)]
+    pub(super) fn return_slot(self) -> Effect
+        ensures { (row : ℕ) (found : ℕ) → IsEffect self (duties.ReturnSlot row) found result }
+    {
+        Effect {
+            lent: None,
+            ..self.leaves(FULL, Next::Nothing)
+        }
+    }
+}

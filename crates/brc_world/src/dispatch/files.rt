@@ -1,0 +1,226 @@
+//! The dispatch of `open`, `connect`, `read` and `write`, which call the host.
+
+ghost use Rattle.std.specs.Prelude.{◌≡◌, ℕ, None, Some, [], slice_set};
+ghost use Rattle.brc_lang.specs.declared.module.Instr.TheVariants as instructions;
+ghost use Rattle.brc_model.specs.declared.actor.Place.TheVariants.{InCall};
+ghost use Rattle.brc_model.specs.declared.actor.Stage.TheVariants as stages;
+ghost use Rattle.brc_model.specs.declared.layout.Layout.{Layout};
+ghost use Rattle.brc_model.specs.Actions.{Silent, grant_action, granted_birth, lend_action};
+ghost use Rattle.brc_model.specs.Machine.{has_room};
+ghost use Rattle.brc_world.specs.Actors.{counters_in};
+ghost use Rattle.brc_world.specs.Starts.{action_at, action_inside, CanBegin, Begins};
+
+use crate::dispatch::Start;
+use crate::host_call::HostCall;
+use crate::thread::{Mode, Thread};
+use brc_effect::rows::{block_size, row_at};
+use brc_effect::states::{FILE, NUM, SOCK};
+use brc_lang::{Instr, Variable};
+use brc_model::{Duty, Exit, Holding, Layout, Stage};
+use brc_word::kind_word;
+
+/// Begins `open` and `connect`: the host call for the resource. The thread asks the host only if it has a row left for
+/// the object (`open_without_room`): otherwise the resource would be open, and nobody could close it.
+#[inline(always)]
+pub(super) fn ask_host(
+    to: Variable,
+    otherwise: u8,
+    layout: Layout,
+    number: u8,
+    thread: &mut Thread,
+    left: u32,
+) -> Start
+    requires { CanBegin thread.old }
+    ensures { Begins thread.old (grant_action layout number thread.old.used (counters_in left thread.old)
+        thread.old.at thread.old.variables to otherwise) result thread.new }
+{
+    if !has_room(layout, number, thread.used) {
+        return miss(to, otherwise, thread, left);
+    }
+    thread.left = left;
+    Start::Calling(HostCall::Asks { to, otherwise })
+}
+
+/// Begins `read`: the thread takes the resource out of its slot, if it has a row left for the number that it reads.
+#[inline(always)]
+pub(super) fn read(
+    to: Variable,
+    file: Variable,
+    otherwise: u8,
+    layout: Layout,
+    number: u8,
+    thread: &mut Thread,
+    left: u32,
+) -> Start
+    requires { CanBegin thread.old }
+    ensures { (most : ℕ) → Begins thread.old (action_at layout number left
+        (Some (instructions.Read to file most otherwise)) thread.old) result thread.new }
+{
+    if has_room(layout, number, thread.used) {
+        lend(file, thread, left)
+    } else {
+        miss(to, otherwise, thread, left)
+    }
+}
+
+/// Ends an instruction for whose object the thread has no row left: the variable is empty.
+#[inline(always)]
+fn miss(to: Variable, otherwise: u8, thread: &mut Thread, left: u32) -> Start
+    requires { CanBegin thread.old }
+    ensures { Begins thread.old (Silent [] (InCall (counters_in left thread.old) otherwise
+        (slice_set thread.old.variables to None))) result thread.new }
+{
+    thread.set(to, None);
+    thread.go_to(left, usize::from(otherwise));
+    Start::Moved
+}
+
+/// Begins `write`: the load of the number's kind word, which has its value.
+#[inline(always)]
+pub(super) fn write(number: Variable, thread: &mut Thread, left: u32) -> Start
+    requires { CanBegin thread.old }
+    ensures { (layout : Layout) (t file otherwise : ℕ) → Begins thread.old (action_at layout t left
+        (Some (instructions.Write file number otherwise)) thread.old) result thread.new }
+{
+    match thread.row_of(number) {
+        Some(row) => {
+            thread.left = left;
+            thread.mode = Mode::Inside(Stage::Loaded);
+            Start::Doing(Duty::KindLoad { row })
+        }
+        None => Start::Stuck,
+    }
+}
+
+/// Begins the lending of the file's resource to a host call.
+#[inline(always)]
+fn lend(file: Variable, thread: &mut Thread, left: u32) -> Start
+    requires { CanBegin thread.old }
+    ensures { Begins thread.old (lend_action (counters_in left thread.old) thread.old.at thread.old.variables file)
+        result thread.new }
+{
+    match thread.row_of(file) {
+        Some(row) => {
+            thread.left = left;
+            thread.mode = Mode::Inside(Stage::Lent);
+            Start::Doing(Duty::LendSlot { row })
+        }
+        None => Start::Stuck,
+    }
+}
+
+/// Goes on with `write` once the number is loaded.
+#[inline(always)]
+pub(super) fn lend_to_write(instr: Instr, thread: &mut Thread) -> Start
+    requires { CanBegin thread.old }
+    ensures { (layout : Layout) (t : ℕ) → Begins thread.old (action_inside layout t stages.Loaded (Some instr)
+        thread.old) result thread.new }
+{
+    let left = thread.left;
+    match instr {
+        Instr::Write { file, .. } => lend(file, thread, left),
+        _ => Start::Stuck,
+    }
+}
+
+/// Goes on with `read` or `write` once the resource is lent: the host call, with nobody else at the resource.
+#[inline(always)]
+pub(super) fn use_lent(instr: Instr, thread: &mut Thread) -> Start
+    requires { CanBegin thread.old }
+    ensures { (layout : Layout) (t : ℕ) → Begins thread.old (action_inside layout t stages.Lent (Some instr)
+        thread.old) result thread.new }
+{
+    match instr {
+        Instr::Read { .. } | Instr::Write { .. } => Start::Calling(HostCall::Uses),
+        _ => Start::Stuck,
+    }
+}
+
+/// Goes on with `read` or `write` once the host has answered: the thread puts the resource back, on each exit
+/// (`write_keeps_the_resource`).
+#[inline(always)]
+pub(super) fn put_back(instr: Instr, exit: Exit, thread: &mut Thread) -> Start
+    requires { CanBegin thread.old }
+    ensures { (layout : Layout) (t : ℕ) → Begins thread.old (action_inside layout t (stages.Called exit) (Some instr)
+        thread.old) result thread.new }
+{
+    let next = thread.at + 1;
+    let left = thread.left;
+    match instr {
+        Instr::Read {
+            to,
+            file,
+            otherwise,
+            ..
+        } => match thread.row_of(file) {
+            Some(row) => {
+                match exit {
+                    Exit::Success => thread.mode = Mode::Inside(Stage::Granted),
+                    Exit::Fault => {
+                        thread.set(to, None);
+                        thread.go_to(left, usize::from(otherwise));
+                    }
+                }
+                Start::Doing(Duty::ReturnSlot { row })
+            }
+            None => Start::Stuck,
+        },
+        Instr::Write {
+            file,
+            otherwise,
+            ..
+        } => match thread.row_of(file) {
+            Some(row) => {
+                match exit {
+                    Exit::Success => thread.go_to(left, next),
+                    Exit::Fault => thread.go_to(left, usize::from(otherwise)),
+                }
+                Start::Doing(Duty::ReturnSlot { row })
+            }
+            None => Start::Stuck,
+        },
+        _ => Start::Stuck,
+    }
+}
+
+/// Goes on once the host has granted what was asked: the birth of the file, the socket or the number that was read
+/// (`read_without_birth`).
+#[inline(always)]
+pub(super) fn make_granted(instr: Instr, layout: Layout, number: u8, thread: &mut Thread) -> Start
+    requires { CanBegin thread.old }
+    ensures { Begins thread.old (action_inside layout number stages.Granted (Some instr) thread.old) result
+        thread.new }
+{
+    match instr {
+        Instr::Open { to, .. } => give_birth(to, kind_word(FILE, 0), layout, number, thread),
+        Instr::Connect { to, .. } => give_birth(to, kind_word(SOCK, 0), layout, number, thread),
+        Instr::Read { to, .. } => give_birth(to, kind_word(NUM, 0), layout, number, thread),
+        _ => Start::Stuck,
+    }
+}
+
+/// Begins the birth of an object of the kind word in the variable. The thread has a row left for it: it has seen that
+/// before it called the host.
+fn give_birth(to: Variable, word: u64, layout: Layout, number: u8, thread: &mut Thread) -> Start
+    requires { CanBegin thread.old }
+    ensures { Begins thread.old (granted_birth layout number thread.old.used
+        (counters_in thread.old.left thread.old) thread.old.at thread.old.variables to word) result thread.new }
+{
+    let next = thread.at + 1;
+    let left = thread.left;
+    let row = row_at(layout, number, thread.used);
+    thread.set(to, Some(row));
+    thread.go_to(left, next);
+    Start::Doing(Duty::BirthKind {
+        row,
+        holding: Holding::ByVariable(to),
+        word,
+    })
+}
+
+/// Returns whether the thread has a row left for a birth.
+fn has_room(layout: Layout, number: u8, used: u32) -> bool
+    ensures { result ≡ has_room layout number used }
+{
+    used < block_size(layout, number)
+}

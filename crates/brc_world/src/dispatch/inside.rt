@@ -1,0 +1,35 @@
+//! The dispatch inside an instruction that takes several steps, by how far the thread is in it.
+
+ghost use Rattle.std.specs.Prelude.{Some};
+ghost use Rattle.brc_world.specs.Starts.{action_inside, CanBegin, Begins};
+
+use crate::dispatch::Start;
+use crate::dispatch::files::{lend_to_write, make_granted, put_back, use_lent};
+use crate::dispatch::items::{give_up_item, put_retained, retain_found, use_cell};
+use crate::thread::Thread;
+use brc_lang::Instr;
+use brc_model::{Layout, Stage};
+
+/// Goes on inside the instruction.
+#[inline(always)]
+pub(super) fn go_on_inside(
+    instr: Instr,
+    stage: Stage,
+    layout: Layout,
+    number: u8,
+    thread: &mut Thread,
+) -> Start
+    requires { CanBegin thread.old }
+    ensures { Begins thread.old (action_inside layout number stage (Some instr) thread.old) result thread.new }
+{
+    match stage {
+        Stage::InRange => use_cell(instr, thread),
+        Stage::OutOfRange => give_up_item(instr, thread),
+        Stage::Found { row } => retain_found(instr, row, thread),
+        Stage::Retained => put_retained(instr, thread),
+        Stage::Loaded => lend_to_write(instr, thread),
+        Stage::Lent => use_lent(instr, thread),
+        Stage::Called { exit } => put_back(instr, exit, thread),
+        Stage::Granted => make_granted(instr, layout, number, thread),
+    }
+}
