@@ -23,8 +23,8 @@ times_of _ = 0
 
 -- the most instructions that a thread begins in one call of the code: all of them at first, and all of them once more
 -- for each time that an instruction `again` goes back
-abbrev pub instruction_limit : List Instr → ℕ
-instruction_limit code = length code * (1 + sum_by times_of code)
+abbrev pub call_limit : List Instr → ℕ
+call_limit code = length code * (1 + sum_by times_of code)
 
 -- ---- what a thread begins
 
@@ -90,10 +90,10 @@ CallsAreBounded m =
     (events : List (ℕ × Choice)) (t left : ℕ) (a b : StepActor) → slice_get m.actors t ≡ Some a
     → calls_after a.place ≡ Some left → slice_get (machine_after m events).actors t ≡ Some b
     → IsInOrAfter left b.place
-    → begun t m events ≤ instruction_limit (code_of (slice_get m.functions a.function))
+    → begun t m events ≤ call_limit (code_of (slice_get m.functions a.function))
 
 -- In all the calls that a thread has still to make, it begins at most as many times the limit.
 abbrev pub ThreadsAreBounded : StepMachine → Type 0
 ThreadsAreBounded m =
     (events : List (ℕ × Choice)) (t left : ℕ) (a : StepActor) → slice_get m.actors t ≡ Some a → a.place ≡ Idle left
-    → begun t m events ≤ left * instruction_limit (code_of (slice_get m.functions a.function))
+    → begun t m events ≤ left * call_limit (code_of (slice_get m.functions a.function))

@@ -5,7 +5,7 @@ ghost use Rattle.brc_lang.specs.Grammar.{IsModule};
 ghost use Rattle.brc_model.specs.Progress.{Always};
 ghost use Rattle.brc_model.specs.Bounded.{CallsAreBounded, ThreadsAreBounded};
 
-/// States that a thread begins at most `instruction_limit` instructions of a function's code in one call, whatever the
+/// States that a thread begins at most `call_limit` instructions of a function's code in one call, whatever the
 /// other threads do, and at most as many times that as it makes calls. A step that waits for a lock begins none.
 pub fn calls_are_bounded()
     ensures call { (m : Module) → IsModule m → Always CallsAreBounded m }

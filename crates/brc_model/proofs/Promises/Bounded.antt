@@ -24,7 +24,7 @@ use Rattle.brc_model.specs.Threads.{code_of}
 use Rattle.brc_model.specs.Actions.{StepActor, Action, Skip, Stuck, Silent, Calls, Does, always, may_claim, dispatch, agenda_action, status_action, exit_of, action_of}
 use Rattle.brc_model.specs.StepMachine.{StepMachine, of_thread, at_place, step_actor, machine_by, next_machine, first_machine, machine_after}
 use Rattle.brc_model.specs.Progress.{Always}
-use Rattle.brc_model.specs.Bounded.{instruction_limit, is_before_instruction, takes_step, begins_by, begins_at, begun, calls_after, IsInOrAfter, CallsAreBounded, ThreadsAreBounded}
+use Rattle.brc_model.specs.Bounded.{call_limit, is_before_instruction, takes_step, begins_by, begins_at, begun, calls_after, IsInOrAfter, CallsAreBounded, ThreadsAreBounded}
 use Rattle.brc_model.proofs.Basics.Lists.{either, some_is, none_some, slice_get-set_same}
 use Rattle.brc_model.proofs.Promises.Leading.{LeadsTo}
 use Rattle.brc_model.proofs.Promises.Turns.{CountsTurns, FitsCode, TurnsHold, code_here, first_turns, turns_next, turns_after}
@@ -253,12 +253,12 @@ events_reach p m (event ∷ rest) t a fits holds found =
 -- ---- the law
 
 same_calls : (code : List Instr) (n left : ℕ) → Some n ≡ Some left
-    → n * instruction_limit code ≡ left * instruction_limit code
-same_calls code n left is = ap (λ (k : ℕ). k * instruction_limit code) (some_is n left is)
+    → n * call_limit code ≡ left * call_limit code
+same_calls code n left is = ap (λ (k : ℕ). k * call_limit code) (some_is n left is)
 
 -- In a call a thread can begin what its later calls allow, and the limit once more.
 left_in_call : (code : List Instr) (place : Place) (left : ℕ) → calls_after place ≡ Some left
-    → instructions_left code place ≤ left * instruction_limit code + instruction_limit code
+    → instructions_left code place ≤ left * call_limit code + call_limit code
 left_in_call code (Idle zero) left is = absurd (none_some left is)
 left_in_call code (Idle (suc n)) left is =
     omega (arith, same_calls code n left is)
@@ -270,9 +270,9 @@ left_in_call code Exiting left is = absurd (none_some left is)
 
 -- As long as it hasn't gone on to the next call, it can still begin what its later calls allow.
 left_after_call : (code : List Instr) (place : Place) (left : ℕ) → IsInOrAfter left place
-    → left * instruction_limit code ≤ instructions_left code place
+    → left * call_limit code ≤ instructions_left code place
 left_after_call code place left (inr ended) =
-    let same : instructions_left code place ≡ left * instruction_limit code = ap (instructions_left code) ended in
+    let same : instructions_left code place ≡ left * call_limit code = ap (instructions_left code) ended in
     omega (arith, same)
 left_after_call code (Idle zero) left (inl is) = absurd (none_some left is)
 left_after_call code (Idle (suc n)) left (inl is) =
@@ -302,7 +302,7 @@ thread_is_bounded : (p : Module) (m : StepMachine) → IsModule p → TurnsHold 
 thread_is_bounded p m fits holds events t left a found idle =
     let code = code_of (slice_get m.functions a.function) in
     let reach = events_reach p m events t a fits holds found in
-    let whole : instructions_left code a.place ≡ left * instruction_limit code = ap (instructions_left code) idle in
+    let whole : instructions_left code a.place ≡ left * call_limit code = ap (instructions_left code) idle in
     omega (arith, reach.lowers, whole)
 
 pub calls_bounded : (p : Module) → IsModule p → Always CallsAreBounded p

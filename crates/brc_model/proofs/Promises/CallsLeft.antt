@@ -14,7 +14,7 @@ use Rattle.brc_model.specs.declared.layout.Layout.{Layout}
 use Rattle.brc_model.specs.References.{one_if}
 use Rattle.brc_model.specs.Threads.{entry_variables}
 use Rattle.brc_model.specs.Actions.{first_counters, turns_at, turned, dispatch}
-use Rattle.brc_model.specs.Bounded.{times_of, instruction_limit, is_before_instruction}
+use Rattle.brc_model.specs.Bounded.{times_of, call_limit, is_before_instruction}
 use Rattle.brc_model.proofs.Basics.Lists.{some_is, none_some}
 use Rattle.brc_model.proofs.Promises.Leading.{LeadsTo, HoldsAfter, HoldsBeyond, dispatch_leads}
 use Rattle.brc_model.proofs.Promises.Turns.{CountsTurns, FitsCode}
@@ -77,15 +77,15 @@ call_left code counters at = turns_left counters 0 code * length code + (length 
 
 -- the instructions that a thread at the place can still begin in all its calls
 abbrev pub instructions_left : List Instr → Place → ℕ
-instructions_left code (Idle left) = left * instruction_limit code
+instructions_left code (Idle left) = left * call_limit code
 instructions_left code (InCall counters at variables) =
-    counters.left * instruction_limit code + call_left code counters at
+    counters.left * call_limit code + call_left code counters at
 instructions_left code (Inside counters at variables stage) =
-    counters.left * instruction_limit code + call_left code counters (at + 1)
+    counters.left * call_limit code + call_left code counters (at + 1)
 instructions_left code Exiting = 0
 
 pub call_bounded : (code : List Instr) (counters : Counters) (at : ℕ)
-    → call_left code counters at ≤ instruction_limit code
+    → call_left code counters at ≤ call_limit code
 call_bounded code counters at =
     let turns : turns_left counters 0 code * length code ≤ sum_by times_of code * length code =
     mul-le (turns_left counters 0 code) (length code) (sum_by times_of code) (length code)
@@ -123,7 +123,7 @@ Lowers code place next =
 -- An instruction at the point leads to where the thread can begin less than it could.
 lowers_after : (code : List Instr) (counters : Counters) (at : ℕ) (variables : List (Option ℕ)) (most : ℕ)
     → at < length code → at < length counters.turns
-    → counters.left * instruction_limit code + call_left code counters at ≤ most
+    → counters.left * call_limit code + call_left code counters at ≤ most
     → HoldsAfter (λ next. 1 + instructions_left code next ≤ most) code counters at variables
 lowers_after code counters at variables most low counted bound = record {
   on = λ next later ahead. omega (arith, bound, point_passed code counters at next low ahead);
@@ -137,7 +137,7 @@ lowers_beyond : (code : List Instr) (place : Place) → FitsCode code → Counts
 lowers_beyond code Exiting fits all = tt
 lowers_beyond code (Idle zero) fits all = omega arith
 lowers_beyond code (Idle (suc left)) fits all = λ low.
-    lowers_after code (first_counters left) 0 entry_variables (suc left * instruction_limit code) low
+    lowers_after code (first_counters left) 0 entry_variables (suc left * call_limit code) low
     (omega (arith, length-replicate {A = ℕ} 256 0))
     (omega (arith, call_bounded code (first_counters left) 0))
 lowers_beyond code (InCall counters at variables) fits all = λ low.
