@@ -14,6 +14,8 @@ mod limits;
 #[cfg(test)]
 mod locks;
 #[cfg(test)]
+mod loops;
+#[cfg(test)]
 mod paths;
 #[cfg(test)]
 mod steps;
