@@ -8,6 +8,8 @@ mod command_lines;
 #[cfg(test)]
 mod commands;
 #[cfg(test)]
+mod host;
+#[cfg(test)]
 mod items;
 #[cfg(test)]
 mod limits;
