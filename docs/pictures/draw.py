@@ -477,6 +477,7 @@ WAY = {
     "brc_arguments": ("knows from the command line what is asked for", "crates/brc_arguments/src/command.rt"),
     "brc_command": ("has the text read, checked, run and reported", "crates/brc_command/src/carrying.rt"),
     "brc_world": ("dispatches it: a release of v1's row, step by step", "crates/brc_world/src/dispatch.rt"),
+    "brc_effect": ("says of each step what it stores and what follows", "crates/brc_effect/src/effect/release.rt"),
     "brc_check": ("asks that v1 owns a reference, and leaves it empty", "crates/brc_check/src/instruction.rt"),
     "brc_heap": ("not on the way: a real thread's release", "crates/brc_heap/src/release.rt"),
     "brc_table": ("not on the way: one step of a real thread", "crates/brc_table/src/steps.rt"),

@@ -8,11 +8,15 @@ mod command_lines;
 #[cfg(test)]
 mod commands;
 #[cfg(test)]
+mod host;
+#[cfg(test)]
 mod items;
 #[cfg(test)]
 mod limits;
 #[cfg(test)]
 mod locks;
+#[cfg(test)]
+mod loops;
 #[cfg(test)]
 mod paths;
 #[cfg(test)]

@@ -15,7 +15,11 @@ pub const STEP: &[&str] = &["brc", "step", "m.brc", "s.txt"];
 pub type Case<'t> = (&'t [u8], &'t [&'t str], &'t [u8], &'t [u8], u8);
 
 // The bytes on standard output and on standard error, and the status.
-fn acts<R: Wait + AllocGlobal>(rt: &R, words: &[&str], load: Shelf<'_>) -> (Vec<u8>, Vec<u8>, u8) {
+pub fn acts<R: Wait + AllocGlobal>(
+    rt: &R,
+    words: &[&str],
+    load: Shelf<'_>,
+) -> (Vec<u8>, Vec<u8>, u8) {
     let mut out: Vec<u8> = Vec::new(rt.alloc());
     let mut err: Vec<u8> = Vec::new(rt.alloc());
     let mut load = load;

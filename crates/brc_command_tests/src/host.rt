@@ -1,0 +1,144 @@
+//! Worked examples of host calls: which of them fail, and what is counted and closed.
+
+use crate::commands::both;
+use crate::worked::{CHECK, RUN, STEP, assert_acts, assert_cases};
+
+const OPENS: &[u8] = b"module 1\nfunc f\nopen v1 0 r else @2\ndrop v1\nfail\nend\n";
+
+const CONNECTS: &[u8] = b"module 1\nfunc f\nconnect v1 0 else @2\ndrop v1\nfail\nend\n";
+
+// Reads from a file, and writes to a socket how much it read. Paths that own the same join.
+const COPY: &[u8] =
+    b"module 1\nfunc copy\nopen v1 0 r else @13\nconnect v2 0 else @12\nlock v1\nread v3 v1 4 else @10\n\
+      unlock v1\nlock v2\nwrite v2 v3 else @7\nunlock v2\ndrop v3\ngoto @11\nunlock v1\ndrop v2\ndrop v1\n\
+      fail\nend\n";
+
+// Opening the file is a host call and three steps of its birth. Whatever fails afterwards is its close, by which it
+// counts as closed all the same. `brc run` reaches no peer.
+#[test]
+fn host_faults(rt: HostRuntime) {
+    let not_opened: &[u8] =
+        b"threads 1\nrunning 0\ncreated 1\nclosed 1\nalive 0\nhost faults 1\nclose faults 0\n";
+    let open: &[u8] =
+        b"threads 1\nrunning 2\ncreated 2\nclosed 0\nalive 2\nhost faults 0\nclose faults 0\nleft 1 list\nleft 2 file\n";
+    let connected: &[u8] =
+        b"threads 1\nrunning 2\ncreated 2\nclosed 0\nalive 2\nhost faults 0\nclose faults 0\nleft 1 list\nleft 2 sock\n";
+    let closed: &[u8] =
+        b"threads 1\nrunning 0\ncreated 2\nclosed 2\nalive 0\nhost faults 0\nclose faults 0\n";
+    let not_closed: &[u8] =
+        b"threads 1\nrunning 0\ncreated 2\nclosed 2\nalive 0\nhost faults 0\nclose faults 1\n";
+    let cases: [(&'static [u8], &'static [u8], &[u8]); 6] = [
+        (
+            OPENS,
+            b"schedule 1\nworkers 1\nrows 4\ncall 1 f 1\nstep 1 fault 1000\nstep 0 ok 1000\n",
+            not_opened,
+        ),
+        (
+            OPENS,
+            b"schedule 1\nworkers 1\nrows 4\ncall 1 f 1\nstep 1 ok 4\n",
+            open,
+        ),
+        (
+            CONNECTS,
+            b"schedule 1\nworkers 1\nrows 4\ncall 1 f 1\nstep 1 ok 1\nstep 1 fault 3\n",
+            connected,
+        ),
+        (
+            OPENS,
+            b"schedule 1\nworkers 1\nrows 4\ncall 1 f 1\nstep 1 ok 1000\nstep 0 ok 1000\n",
+            closed,
+        ),
+        (
+            OPENS,
+            b"schedule 1\nworkers 1\nrows 4\ncall 1 f 1\nstep 1 ok 4\nstep 1 fault 1000\nstep 0 ok 1000\n",
+            not_closed,
+        ),
+        // with one row, the second call has no room and doesn't call the host
+        (
+            OPENS,
+            b"schedule 1\nworkers 1\nrows 1\ncall 1 f 2\nstep 1 ok 4\nstep 1 fault 1000\nstep 0 ok 1000\n",
+            not_closed,
+        ),
+    ];
+    for (module, schedule, report) in cases {
+        assert_acts(&rt, STEP, both(module, schedule), (report, b"", 0));
+    }
+    assert_cases(&rt, &[(CONNECTS, RUN, not_opened, b"", 0)]);
+}
+
+// The worker's steps, if every host call succeeds. The file: 1 is the host call, 2 to 4 its birth. The socket: 5 is the
+// host call, 6 to 8 its birth. 9 locks the file. The read: 10 takes the resource out, 11 is the host call, 12 puts it
+// back, 13 and 14 are the birth of the number. 15 and 16 unlock the file and lock the socket. The write: 17 loads the
+// number's value, 18 takes the resource out, 19 is the host call, 20 puts it back. 21 unlocks the socket. The drop of
+// the number takes 7 steps, 22 to 28, and `goto` is 29. The drop of the socket: a load and a store of the local word, a
+// load of the shared word, gate, gate read, kind, and with 36 the resource is taken out; 37 is its close, and 38 closes
+// the object. The drop of the file is the same, and its close is 46.
+#[test]
+fn each_host_call_fails_in_turn(rt: HostRuntime) {
+    let none_fails: &[u8] =
+        b"threads 1\nrunning 0\ncreated 4\nclosed 4\nalive 0\nhost faults 0\nclose faults 0\n";
+    let open_fails: &[u8] =
+        b"threads 1\nrunning 0\ncreated 1\nclosed 1\nalive 0\nhost faults 1\nclose faults 0\n";
+    let connect_fails: &[u8] =
+        b"threads 1\nrunning 0\ncreated 2\nclosed 2\nalive 0\nhost faults 1\nclose faults 0\n";
+    let read_fails: &[u8] =
+        b"threads 1\nrunning 0\ncreated 3\nclosed 3\nalive 0\nhost faults 1\nclose faults 0\n";
+    let write_fails: &[u8] =
+        b"threads 1\nrunning 0\ncreated 4\nclosed 4\nalive 0\nhost faults 1\nclose faults 0\n";
+    let close_fails: &[u8] =
+        b"threads 1\nrunning 0\ncreated 4\nclosed 4\nalive 0\nhost faults 0\nclose faults 1\n";
+    let closes_fail: &[u8] =
+        b"threads 1\nrunning 0\ncreated 4\nclosed 4\nalive 0\nhost faults 0\nclose faults 2\n";
+    let cases: [(&'static [u8], &[u8]); 9] = [
+        (
+            b"schedule 1\nworkers 1\nrows 4\ncall 1 copy 1\nstep 1 ok 1000\nstep 0 ok 1000\n",
+            none_fails,
+        ),
+        (
+            b"schedule 1\nworkers 1\nrows 4\ncall 1 copy 1\nstep 1 fault 1\nstep 1 ok 1000\nstep 0 ok 1000\n",
+            open_fails,
+        ),
+        (
+            b"schedule 1\nworkers 1\nrows 4\ncall 1 copy 1\nstep 1 ok 4\nstep 1 fault 1\nstep 1 ok 1000\n\
+              step 0 ok 1000\n",
+            connect_fails,
+        ),
+        (
+            b"schedule 1\nworkers 1\nrows 4\ncall 1 copy 1\nstep 1 ok 10\nstep 1 fault 1\nstep 1 ok 1000\n\
+              step 0 ok 1000\n",
+            read_fails,
+        ),
+        (
+            b"schedule 1\nworkers 1\nrows 4\ncall 1 copy 1\nstep 1 ok 18\nstep 1 fault 1\nstep 1 ok 1000\n\
+              step 0 ok 1000\n",
+            write_fails,
+        ),
+        (
+            b"schedule 1\nworkers 1\nrows 4\ncall 1 copy 1\nstep 1 ok 36\nstep 1 fault 1\nstep 1 ok 1000\n\
+              step 0 ok 1000\n",
+            close_fails,
+        ),
+        (
+            b"schedule 1\nworkers 1\nrows 4\ncall 1 copy 1\nstep 1 ok 45\nstep 1 fault 1\nstep 1 ok 1000\n\
+              step 0 ok 1000\n",
+            close_fails,
+        ),
+        (
+            b"schedule 1\nworkers 1\nrows 4\ncall 1 copy 1\nstep 1 ok 36\nstep 1 fault 1\nstep 1 ok 8\n\
+              step 1 fault 1\nstep 1 ok 1000\nstep 0 ok 1000\n",
+            closes_fail,
+        ),
+        // every step but the host calls by `fault`
+        (
+            b"schedule 1\nworkers 1\nrows 4\ncall 1 copy 1\nstep 1 ok 1\nstep 1 fault 3\nstep 1 ok 1\n\
+              step 1 fault 5\nstep 1 ok 1\nstep 1 fault 7\nstep 1 ok 1\nstep 1 fault 17\nstep 1 ok 1\n\
+              step 1 fault 8\nstep 1 ok 1\nstep 1 fault 1000\nstep 0 fault 1000\n",
+            none_fails,
+        ),
+    ];
+    let accepted = b"accepted 1 functions 14 instructions\n";
+    assert_cases(&rt, &[(COPY, CHECK, accepted, b"", 0)]);
+    for (schedule, report) in cases {
+        assert_acts(&rt, STEP, both(COPY, schedule), (report, b"", 0));
+    }
+}
