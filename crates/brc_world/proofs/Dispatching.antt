@@ -29,7 +29,8 @@ either_steps : (b : Bool) (one two : Action) → TakesStep one → TakesStep two
 either_steps true one two first second = first
 either_steps false one two first second = second
 
-instruction_steps : (layout : Layout) (t used : ℕ) (before : Place) (counters : Counters) (at : ℕ) (variables : List (Option ℕ))
+instruction_steps : (layout : Layout) (t used : ℕ) (before : Place) (counters : Counters) (at : ℕ)
+    (variables : List (Option ℕ))
     (i : Option Instr)
     → TakesStep (dispatch_instruction layout t used before counters at variables i)
 instruction_steps layout t used before counters at variables None = tt
@@ -72,7 +73,8 @@ instruction_steps layout t used before counters at variables (Some (Ret from)) =
     row_steps (row_of variables from) _ (λ row. tt)
 instruction_steps layout t used before counters at variables (Some Fail) = tt
 
-inside_steps : (layout : Layout) (t used : ℕ) (counters : Counters) (at : ℕ) (variables : List (Option ℕ)) (stage : Stage) (i : Option Instr)
+inside_steps : (layout : Layout) (t used : ℕ) (counters : Counters) (at : ℕ) (variables : List (Option ℕ))
+    (stage : Stage) (i : Option Instr)
     → TakesStep (dispatch_inside layout t used counters at variables stage i)
 inside_steps layout t used counters at variables InRange (Some (Borrow to list index otherwise)) =
     row_steps (row_of variables list) _ (λ row. tt)

@@ -47,7 +47,8 @@ set_same actors t a found =
     ap (slice_set actors t) (sym (get_or_from_slice_get actors t a a found)) ∙ set-get_or actors t a
 
 -- A world with its own words and its own thread is unchanged.
-pub unchanged : (w : World) (t : ℕ) (a : StepActor) → slice_get w.actors t ≡ Some a → with_words w t w.memory a (faults_of w) ≡ w
+pub unchanged : (w : World) (t : ℕ) (a : StepActor) → slice_get w.actors t ≡ Some a
+    → with_words w t w.memory a (faults_of w) ≡ w
 unchanged w t a found =
     ap (λ (actors : List StepActor). let v : World = record {
       functions = w.functions;

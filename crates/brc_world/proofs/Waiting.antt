@@ -61,7 +61,8 @@ lock_in_agenda : (w : World) (t : ℕ) (a : StepActor) (exit : Exit) (agenda : L
     → a.actor.status ≢ Gone → a.actor.agenda ≡ agenda → waits_for_lock w t a ≡ true
     → waits w.memory agenda (status_action w.functions w.layout t a a.actor.status) ≡ false
     → step w t (choice_of exit) ≢ w
-lock_in_agenda w t a exit [] found alive at locked quiet same = let wrong : true ≡ false = sym locked ∙ quiet in absurd cc
+lock_in_agenda w t a exit [] found alive at locked quiet same =
+    let wrong : true ≡ false = sym locked ∙ quiet in absurd cc
 lock_in_agenda w t a exit (d ∷ rest) found alive at locked quiet same =
     let is : status_action w.functions w.layout t a a.actor.status ≡ Does d rest (always a.place) =
     sym (alive_action w.functions w.layout t a a.actor.status alive) ∙ ap (agenda_action w.functions w.layout t a) at in

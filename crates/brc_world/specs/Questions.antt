@@ -1,4 +1,5 @@
--- What a step asks of the word that its duty finds or of the host, and the place where the thread goes on by the answer.
+-- What a step asks of the word that its duty finds or of the host, and the place where the thread goes on by the
+-- answer.
 use Rattle.std.specs.Prelude.{ℕ, zero, suc, ◌≤◌, if◌then◌else◌, List, Option, None, Some, slice_set}
 use Rattle.brc_model.specs.declared.actor.Counters.{Counters}
 use Rattle.brc_model.specs.declared.actor.Place.{Place}

@@ -30,7 +30,8 @@ use Rattle.brc_world.specs.Questions.{IsAbout, place_answered, place_called}
 abbrev pub exit_action : ℕ → Action
 exit_action used = Does (ReleaseLoad root_row AsCaller) (Settle ∷ Leave 0 used ∷ []) (always Exiting)
 
--- the thread's action at the instruction `i`, which is the one with its number, in a call after which `left` calls remain
+-- the thread's action at the instruction `i`, which is the one with its number, in a call after which `left` calls
+-- remain
 abbrev pub action_at : Layout → ℕ → ℕ → Option Instr → Thread → Action
 action_at layout t left i a =
     dispatch_instruction layout t a.used (place_of a.mode (counters_in a.left a) a.at a.variables) (counters_in left a)
@@ -64,8 +65,8 @@ point_at (InCall counters at variables) = at
 point_at (Inside counters at variables stage) = at
 point_at Exiting = 0
 
--- Returns the start of a step with the action, but for what it asks of the host or of the word found. A lock that is free leads to the
--- place in a call that the action names.
+-- Returns the start of a step with the action, but for what it asks of the host or of the word found. A lock that is
+-- free leads to the place in a call that the action names.
 abbrev pub start_by : Action → Start
 start_by Skip = starts.Stuck
 start_by Stuck = starts.Stuck
