@@ -24,7 +24,8 @@ impl Faults {
     }
 
     /// Counts how the step that did the duty ended: only a close may fault. The resource is closed all the same, and
-    /// the host isn't asked again (`close_again`). (POSIX, `close`: a descriptor is no longer valid after an error.)
+    /// the host isn't asked again (`close_again`). (Linux, close(2): after an error the descriptor is closed all
+    /// the same.)
     #[inline(always)]
     pub fn count_duty(&mut self, duty: &Duty, exit: Exit)
         ensures { self.new ≡ record self.old {
