@@ -2,6 +2,7 @@ ghost use Rattle.std.specs.Prelude.{◌≡◌, ◌≢◌, ◌<◌, ◌≤◌, no
 ghost use Rattle.std.specs.List.{All};
 ghost use Rattle.brc_model.specs.declared.thread.Choice.TheVariants.{Claim as claims};
 ghost use Rattle.brc_model.specs.Safety.{AreCalls};
+ghost use Rattle.brc_model.specs.Actions.{exit_of};
 ghost use Rattle.brc_model.specs.Limits.{row_limit};
 ghost use Rattle.brc_model.specs.World.{first_world, step};
 ghost use Rattle.brc_world.specs.Worlds.{seen, choice_of};
@@ -221,8 +222,7 @@ impl<'a> World<'a> {
         ensures as_many { length self.new.actors ≡ length self.old.actors }
     {
         match choice {
-            Choice::Ok => self.go_on(thread, Exit::Success),
-            Choice::Fault => self.go_on(thread, Exit::Fault),
+            Choice::Ok | Choice::Fault => self.go_on(thread, exit_of(choice)),
             Choice::Claim { row } => self.look_for(thread, row),
         }
     }
@@ -270,5 +270,16 @@ impl<'a> World<'a> {
             &mut self.threads[thread],
             row,
         )
+    }
+}
+
+/// Returns the exit by which the choice ends a host call or a close.
+#[inline(always)]
+fn exit_of(choice: Choice) -> Exit
+    ensures { result ≡ exit_of choice }
+{
+    match choice {
+        Choice::Ok | Choice::Claim { .. } => Exit::Success,
+        Choice::Fault => Exit::Fault,
     }
 }
