@@ -1,14 +1,14 @@
 #!/usr/bin/env python3
-"""Runs the examples of docs/LANGUAGE.md and docs/FROM_C.md and the modules of examples/README.md, and compares what
-is printed.
+"""Runs the examples of docs/LANGUAGE.md, FROM_C.md, READ_A_REFUSAL.md and READ_A_TRACE.md and the modules of
+examples/README.md, and compares what is printed.
 
     python3 docs/language.py          takes the program at crates/brc/out/brc
     python3 docs/language.py --try    takes `rt try`, which needs no proof, but some minutes
 
 A block marked `module` or `schedule` is the file f.brc or f.schedule of the blocks `console` below it. If the mark goes
 on with a name, it is the file of this name, and has to be the same as the one in examples/from_c. A console block is
-one command, on a line that begins with `$`, and what it prints. The exit status has to be the one that LANGUAGE.md's
-table gives to such a line.
+one command, on a line that begins with `$`, and what it prints: standard output, then standard error. The exit status
+has to be the one that LANGUAGE.md's table gives to such a line; an explanation has the line at its end.
 
 A row of a table in examples/README.md names a module and what `brc check` prints of it. Each module has a row, and each
 file of examples/from_c a block in FROM_C.md.
@@ -21,7 +21,9 @@ import tempfile
 from pathlib import Path
 
 ROOT = Path(__file__).resolve().parents[1]
-PAGES = [ROOT / "docs" / "LANGUAGE.md", ROOT / "docs" / "FROM_C.md"]
+DOCS = ROOT / "docs"
+FROM_C_PAGE = DOCS / "FROM_C.md"
+PAGES = [DOCS / "LANGUAGE.md", FROM_C_PAGE, DOCS / "READ_A_REFUSAL.md", DOCS / "READ_A_TRACE.md"]
 EXAMPLES = ROOT / "examples"
 FROM_C = EXAMPLES / "from_c"
 PROGRAM = ROOT / "crates" / "brc" / "out" / "brc"
@@ -32,7 +34,8 @@ class Example:
     def __init__(self, place, command, files, wanted):
         self.place, self.files, self.wanted = place, files, wanted
         self.words = shlex.split(command)
-        self.status = next((s for start, s in STATUSES.items() if wanted.startswith(start)), 0)
+        line = wanted.splitlines()[-1] if self.words[0] == "explain" else wanted
+        self.status = next((s for start, s in STATUSES.items() if line.startswith(start)), 0)
 
 
 def page_examples(page):
@@ -73,7 +76,7 @@ def examples():
         found += more
         faults += [f"{page.name}: {name} differs from examples/from_c" for name, text in named.items()
                    if not (FROM_C / name).exists() or (FROM_C / name).read_text() != text]
-    faults += [f"{PAGES[1].name}: {path.name} has no block" for path in sorted(FROM_C.iterdir())
+    faults += [f"{FROM_C_PAGE.name}: {path.name} has no block" for path in sorted(FROM_C.iterdir())
                if path.name not in named]
     more, named = table_examples()
     modules = [str(path.relative_to(EXAMPLES)) for path in sorted(EXAMPLES.rglob("*.brc"))]
@@ -100,7 +103,7 @@ def run_try(found):
     """The same by `rt try`, which builds once for all examples of one command: the module is the case, and the rest of
     the command line its further arguments. A command without a module is run on its own."""
     alone = [example for example in found if not set(example.words) & set(example.files)]
-    for command in ("check", "run", "step"):
+    for command in ("check", "run", "step", "explain"):
         cases = [example for example in found if example.words[0] == command and example not in alone]
         with tempfile.TemporaryDirectory() as folder:
             (Path(folder) / "cases").mkdir()
@@ -112,7 +115,7 @@ def run_try(found):
                 if command == "step":
                     schedule = Path(folder) / f"schedule{number}"
                     schedule.write_text(example.files[more[0]])
-                    more = [schedule.name]
+                    more = [schedule.name, *more[1:]]
                     data += ["--data", f"{schedule.name}={schedule}"]
                 if more:
                     case.with_suffix(".args").write_text("\n".join(more) + "\n")
