@@ -1,0 +1,31 @@
+-- What a host counts: its faults, what it has opened, and its closes.
+use Rattle.std.specs.Prelude.{ℕ, ◌+◌, ◌-◌, ◌^◌, min, Ok, Err, Result}
+use Rattle.brc_host.specs.declared.counts.HostCounts.{HostCounts}
+
+-- the greatest count, at which counting stops
+abbrev pub count_limit : ℕ
+count_limit = 2 ^ 64 - 1
+
+-- the count after so many more, up to the greatest
+abbrev pub raised : ℕ → ℕ → ℕ
+raised more count = count + min more (count_limit - count)
+
+-- the counts of a host that hasn't been called
+abbrev pub no_counts : HostCounts
+no_counts = record { failures = 0; opened = 0; closed = 0 }
+
+-- the counts after a call that opens a file or connects to a peer
+abbrev pub after_opening : {R E : Type 0} → Result R E → HostCounts → HostCounts
+after_opening (Ok resource) before = record before { opened = raised 1 before.opened }
+after_opening (Err fault) before = record before { failures = raised 1 before.failures }
+
+-- the counts after a call that reads or writes
+abbrev pub after_use : {R E : Type 0} → Result R E → HostCounts → HostCounts
+after_use (Ok answer) before = before
+after_use (Err fault) before = record before { failures = raised 1 before.failures }
+
+-- the counts after a close
+abbrev pub after_close : {R E : Type 0} → Result R E → HostCounts → HostCounts
+after_close (Ok answer) before = record before { closed = raised 1 before.closed }
+after_close (Err fault) before =
+    record before { failures = raised 1 before.failures; closed = raised 1 before.closed }

@@ -1,0 +1,2 @@
+pub mod FakeHost
+pub mod HostCounts

@@ -1,0 +1,5 @@
+//! Tests of the hosts.
+#![tactic(auto)]
+
+#[cfg(test)]
+mod fake_host;
