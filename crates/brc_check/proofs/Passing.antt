@@ -1,5 +1,6 @@
 -- What one exit of a visit shows, case by case, and the functions of a module one by one.
-use Rattle.std.proofs.Common.{◌≡◌, ℕ, ◌+◌, ◌<◌, ◌≤◌, true, false, List, length, Option, refl, sym, ap, ◌∙◌, subst, inl, inr, arith}
+use Rattle.std.proofs.Common.{◌≡◌, ℕ, ◌+◌, ◌<◌, ◌≤◌, true, false, List, length}
+use Rattle.std.proofs.Common.{Option, refl, sym, ap, ◌∙◌, subst, inl, inr, arith}
 use Rattle.std.specs.Prelude.{None, Some, slice_get, MatchOption, IsTrue}
 use Rattle.std.specs.List.{slice_index_or}
 use Rattle.std.proofs.lemmas.Bool.{cases_lt}
@@ -16,7 +17,8 @@ use Rattle.brc_check.specs.declared.visits.Visit.{Visit}
 use Rattle.brc_check.specs.declared.visits.Visits.{Visits}
 use Rattle.brc_check.specs.PathTo.{PathsDiffer}
 use Rattle.brc_check.specs.Refusal.{IsReported, IsRefusedFor}
-use Rattle.brc_check.specs.Searching.{IsVisited, IsUnrivalled, IsRival, AreFirsts, AreLinked, IsPassed, IsSearchedTo, HasPassed}
+use Rattle.brc_check.specs.Searching.{IsVisited, IsUnrivalled, IsRival, AreFirsts}
+use Rattle.brc_check.specs.Searching.{AreLinked, IsPassed, IsSearchedTo, HasPassed}
 use Rattle.brc_check.proofs.Steps.{arrives-within}
 use Rattle.brc_check.proofs.Searches.{passed-none}
 

@@ -95,7 +95,8 @@ pub true_unless_reported : (code : List Instr) (entries : List (Option State)) (
     → MatchOption r (IsInferred code entries) (λ m. IsReported code m.at m.code) → IsAcceptableCode code
     → AreTrue code entries
 true_unless_reported code entries None inferred accepted = inferred.truth
-true_unless_reported code entries (Some m) reported accepted = absurd (never_reported code m.at m.code accepted reported)
+true_unless_reported code entries (Some m) reported accepted =
+    absurd (never_reported code m.at m.code accepted reported)
 
 -- ---- looked at
 

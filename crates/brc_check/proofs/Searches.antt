@@ -1,7 +1,8 @@
 -- The search for a path to a refusal, turn by turn.
 use Rattle.std.proofs.Common.{◌≡◌, ◌≢◌, ℕ, zero, suc, ◌+◌, ◌-◌, ◌<◌, ◌≤◌, cond, List, [], ◌∷◌, ◌++◌, length, fold}
 use Rattle.std.proofs.Common.{Option, refl, sym, ap, ◌∙◌, subst, inl, inr, arith}
-use Rattle.std.specs.Prelude.{None, Some, ◌⊎◌, replicate, is_none, slice_get, slice_set, MatchOption, Result, Ok, Err, IfOk}
+use Rattle.std.specs.Prelude.{None, Some, ◌⊎◌, replicate, is_none, slice_get}
+use Rattle.std.specs.Prelude.{slice_set, MatchOption, Result, Ok, Err, IfOk}
 use Rattle.std.specs.declared.alloc.AllocError.{AllocError}
 use Rattle.std.specs.List.{slice_index_or}
 use Rattle.std.proofs.lemmas.Bool.{cases_lt, cases_eq}
@@ -20,7 +21,8 @@ use Rattle.brc_check.specs.declared.visits.Visit.{Visit}
 use Rattle.brc_check.specs.declared.visits.Visits.{Visits}
 use Rattle.brc_check.specs.PathTo.{LeadsTo}
 use Rattle.brc_check.specs.Refusal.{IsReported}
-use Rattle.brc_check.specs.Searching.{first_visit, first_visits, added, IsVisit, IsVisited, AreFirsts, IsUnrivalled, IsChained, IsLinked, AreLinked, IsPassed, IsSearchedTo, HasPassed}
+use Rattle.brc_check.specs.Searching.{first_visit, first_visits, added, IsVisit, IsVisited, AreFirsts}
+use Rattle.brc_check.specs.Searching.{IsUnrivalled, IsChained, IsLinked, AreLinked, IsPassed, IsSearchedTo, HasPassed}
 use Rattle.brc_check.proofs.Pushing.{push-kept, push-last, push-cases}
 use Rattle.brc_check.proofs.Steps.{arrives-within}
 

@@ -1,5 +1,6 @@
 -- The entries of a function, filled in as paths find its points.
-use Rattle.std.specs.Prelude.{◌≡◌, ◌<◌, ◌-◌, ℕ, List, [], ◌∷◌, ◌++◌, length, replicate, Option, None, Some, is_none, is_some, slice_get, slice_set, if◌then◌else◌}
+use Rattle.std.specs.Prelude.{◌≡◌, ◌<◌, ◌-◌, ℕ, List, [], ◌∷◌, ◌++◌, length}
+use Rattle.std.specs.Prelude.{replicate, Option, None, Some, is_none, is_some, slice_get, slice_set, if◌then◌else◌}
 use Rattle.std.specs.List.{count_by}
 use Rattle.brc_lang.specs.declared.module.Instr.{Instr}
 use Rattle.brc_model.specs.declared.slot.State.{State}

@@ -67,8 +67,8 @@ returns-in_ok-exits-in-Error c =
     c.in_ok-exits-in-Error.exits c.requires.searched
     (visit_read c.args.visits.now.list c.as_slice.result.now c.args.turn c.index-as_slice-turn.result
     c.as_slice.ensures c.requires.within c.index-as_slice-turn.is)
-    (sym c.follow.ensures ∙ ap (end_of c.index-as_slice-turn.result.at) c.in-Error.is) (c.if-not-is_wanted.ensures.0 refl)
-    c.as_slice-in-Error.ensures c.in_ok-exits-in-Error.ensures
+    (sym c.follow.ensures ∙ ap (end_of c.index-as_slice-turn.result.at) c.in-Error.is)
+    (c.if-not-is_wanted.ensures.0 refl) c.as_slice-in-Error.ensures c.in_ok-exits-in-Error.ensures
 
 pub returns-in_ok-add-in-To : goal.returns-in_ok-add-in-To
 returns-in_ok-add-in-To c =
