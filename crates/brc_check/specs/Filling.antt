@@ -1,5 +1,6 @@
 -- The entries of a function, filled in as paths find its points.
-use Rattle.std.specs.Prelude.{◌≡◌, ◌<◌, ◌-◌, ℕ, List, [], ◌∷◌, ◌++◌, length, replicate, Option, None, Some, is_none, is_some, slice_get, slice_set, if◌then◌else◌}
+use Rattle.std.specs.Prelude.{◌≡◌, ◌<◌, ◌-◌, ℕ, List, [], ◌∷◌, ◌++◌, length}
+use Rattle.std.specs.Prelude.{replicate, Option, None, Some, is_none, is_some, slice_get, slice_set, if◌then◌else◌}
 use Rattle.std.specs.List.{count_by}
 use Rattle.brc_lang.specs.declared.module.Instr.{Instr}
 use Rattle.brc_model.specs.declared.slot.State.{State}
@@ -46,8 +47,18 @@ pub record IsFilledTo (code : List Instr) (filling : Filling) (turns : ℕ) : Ty
   pub in_order : IsInOrder filling
   pub closed : (turn k : ℕ) → turn < turns → slice_get filling.order turn ≡ Some k → IsClosedAt code filling.entries k
 
+-- each entry is the state in which some path reaches the point, and the first point has one
+pub record AreReached (code : List Instr) (entries : List (Option State)) : Type 0 where
+  pub same_length : length entries ≡ length code
+  pub begins : entry_at entries 0 ≡ Some entry
+  pub reached : (at : ℕ) (s : State) → entry_at entries at ≡ Some s → Reaches code at s
+
+-- each entry is a state exactly if some path reaches the point in that state
+abbrev pub AreTrue : List Instr → List (Option State) → Type 0
+AreTrue code entries = (at : ℕ) → IsTrueEntry code at (entry_at entries at)
+
 -- the entries are true, and the function is acceptable
 pub record IsInferred (code : List Instr) (entries : List (Option State)) : Type 0 where
   pub same_length : length entries ≡ length code
-  pub truth : (at : ℕ) → IsTrueEntry code at (entry_at entries at)
+  pub truth : AreTrue code entries
   pub acceptable : IsAcceptableCode code

@@ -14,4 +14,6 @@ mod locks;
 #[cfg(test)]
 mod loops;
 #[cfg(test)]
+mod paths_to;
+#[cfg(test)]
 mod tables;
