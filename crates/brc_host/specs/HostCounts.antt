@@ -24,8 +24,12 @@ abbrev pub after_use : {R E : Type 0} → Result R E → HostCounts → HostCoun
 after_use (Ok answer) before = before
 after_use (Err fault) before = record before { failures = raised 1 before.failures }
 
+-- the counts after so many closes, of which so many failed
+abbrev pub after_closes : ℕ → ℕ → HostCounts → HostCounts
+after_closes closes failed before =
+    record before { failures = raised failed before.failures; closed = raised closes before.closed }
+
 -- the counts after a close
 abbrev pub after_close : {R E : Type 0} → Result R E → HostCounts → HostCounts
-after_close (Ok answer) before = record before { closed = raised 1 before.closed }
-after_close (Err fault) before =
-    record before { failures = raised 1 before.failures; closed = raised 1 before.closed }
+after_close (Ok answer) = after_closes 1 0
+after_close (Err fault) = after_closes 1 1

@@ -27,7 +27,7 @@ impl HostCounts {
         }
     }
 
-    /// Counts how a call ended that opens a file or connects to a peer.
+    /// Counts how a call ended that opens a file or connects to a peer (`fault_uncounted`).
     pub fn count_opening<T>(&mut self, answer: &Result<T, Fault>)
         ensures { self.new ≡ after_opening answer.now self.old }
     {
@@ -37,7 +37,7 @@ impl HostCounts {
         }
     }
 
-    /// Counts how a call ended that reads or writes.
+    /// Counts how a call ended that reads or writes (`count_wraps`).
     pub fn count_use<T>(&mut self, answer: &Result<T, Fault>)
         ensures { self.new ≡ after_use answer.now self.old }
     {
@@ -46,7 +46,8 @@ impl HostCounts {
         }
     }
 
-    /// Counts how a close ended. After a fault it counts too, since nobody can close the resource again.
+    /// Counts how a close ended. One that failed is a close too, since nobody can make it again
+    /// (`failed_close_uncounted`).
     pub fn count_close(&mut self, answer: &Result<(), Fault>)
         ensures { self.new ≡ after_close answer.now self.old }
     {
