@@ -7,6 +7,7 @@ mod Picked
 mod Accounts
 mod Becoming
 mod Duties
+mod MarkDuties
 mod NewHands
 mod FirstWords
 mod Opening

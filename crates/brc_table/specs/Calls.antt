@@ -2,7 +2,7 @@
 use Rattle.std.specs.Prelude.{◌≡◌, ◌≢◌, ℕ, ◌+◌, ◌-◌, List, [], ◌∷◌}
 use Rattle.brc_word.specs.Words.{released_word, merged_word}
 use Rattle.brc_model.specs.declared.duty.Duty.{Duty}
-use Rattle.brc_model.specs.declared.duty.Duty.TheVariants.{RetainStore, RetainAdd, ReleaseStore, DecideAtZero, SharedLoad, SharedExchange, MergeSwap, MergeLoad, MergeExchange, Die, BirthLocal}
+use Rattle.brc_model.specs.declared.duty.Duty.TheVariants.{RetainStore, RetainAdd, ReleaseStore, DecideAtZero, SharedLoad, SharedExchange, SetMark, TakeMark, MergeSwap, MergeLoad, MergeExchange, Die, BirthLocal}
 use Rattle.brc_model.specs.declared.actor.Status.TheVariants.{Gone}
 use Rattle.brc_table.specs.declared.view.View.{View}
 use Rattle.brc_table.specs.Hands.{MayWait}
@@ -49,3 +49,13 @@ ChainsRow x _ = ⊥
 abbrev pub OwnsFirst : ℕ → List Duty → Type 0
 OwnsFirst x (BirthLocal y h ∷ []) = y ≡ x
 OwnsFirst x _ = ⊥
+
+-- The one duty is to set the row's mark.
+abbrev pub SetsMark : ℕ → List Duty → Type 0
+SetsMark x (SetMark y ∷ []) = y ≡ x
+SetsMark x _ = ⊥
+
+-- The one duty is to take the row's mark back.
+abbrev pub TakesMark : ℕ → List Duty → Type 0
+TakesMark x (TakeMark y ∷ []) = y ≡ x
+TakesMark x _ = ⊥

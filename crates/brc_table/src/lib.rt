@@ -7,6 +7,7 @@ mod first_words;
 mod hand;
 mod laws;
 mod lives;
+mod marks;
 mod place;
 mod rule;
 mod size;

@@ -24,6 +24,9 @@ pub(crate) const GATE: usize = 2;
 /// The line of a tile's kind words.
 pub(crate) const KIND: usize = 3;
 
+/// The line of a tile's marks.
+pub(crate) const MARK: usize = 4;
+
 /// Returns the place of a row's word. The words of a row are in different cache lines, so that the owner, which writes
 /// the local word, and another thread, which writes the shared word, don't write to one line.
 pub(crate) fn in_line(line: usize, row: u32) -> usize
