@@ -8,6 +8,7 @@ mod Accounts
 mod Becoming
 mod Duties
 mod MarkDuties
+mod ThreadWords
 mod NewHands
 mod FirstWords
 mod Opening

@@ -1,15 +1,16 @@
 -- The duties about an object's mark, and where its word is.
 use Rattle.std.proofs.Common.{◌≡◌, ◌≢◌, ℕ, ◌<◌, List, [], ◌∷◌, refl, sym, ap, ◌∙◌}
 use Rattle.brc_model.specs.declared.duty.Duty.{Duty}
-use Rattle.brc_model.specs.declared.duty.Duty.TheVariants.{SetMark, TakeMark}
+use Rattle.brc_model.specs.declared.duty.Duty.TheVariants.{SetMark, Look, TakeMark}
+use Rattle.brc_model.specs.declared.address.Address.TheVariants.{ThreadWord}
 use Rattle.brc_model.specs.declared.actor.Status.TheVariants.{Gone}
-use Rattle.brc_model.specs.Layout.{row_count}
+use Rattle.brc_model.specs.Layout.{row_count, block_of}
 use Rattle.brc_table.specs.declared.view.View.{View}
 use Rattle.brc_table.specs.Places.{in_tile}
 use Rattle.brc_table.specs.Views.{RowsAreThere, did, work_about}
-use Rattle.brc_table.specs.Begins.{MakesQuietly, StoresWord, KeepsThread}
+use Rattle.brc_table.specs.Begins.{MakesQuietly, MakesAtThreadQuietly, StoresWord, KeepsThread}
 use Rattle.brc_table.specs.Plays.{overwritten}
-use Rattle.brc_table.specs.Calls.{SetsMark, TakesMark}
+use Rattle.brc_table.specs.Calls.{SetsMark, LooksAtOwner, TakesMark}
 use Rattle.brc_table.proofs.Duties.{line_makes, at_line, work_there}
 
 module _ (u : View) (x : ℕ) (alive : u.status ≢ Gone) where
@@ -27,6 +28,22 @@ module _ (u : View) (x : ℕ) (alive : u.status ≢ Gone) where
       at_line u x alive 4 (λ found. 0) (TakeMark y) is tt (ap (in_tile 4) (sym same)) refl
       (record { status = λ s. refl; head = λ head found. refl; used = λ used. refl }) (λ found suits. refl)
   mark_take_makes _ is same = absurd same
+
+  pub look_makes : (ds : List Duty) → u.agenda ≡ ds → LooksAtOwner x ds
+      → MakesAtThreadQuietly u (block_of u.layout x) (λ found. found)
+  look_makes (Look y ∷ []) is same = record {
+    makes = record {
+      duty = Look y;
+      rest = [];
+      agenda = is;
+      alive = alive;
+      address = ap (λ (z : ℕ). ThreadWord (block_of u.layout z)) same;
+      plain = refl;
+      leaves = λ found. refl;
+    };
+    quiet = record { status = λ s. refl; head = λ head found. refl; used = λ used. refl };
+  }
+  look_makes _ is same = absurd same
 
 -- The mark that is set was not set before.
 pub mark_store_overwrites : (x : ℕ) (ds : List Duty) → SetsMark x ds → overwritten ds ≡ 0

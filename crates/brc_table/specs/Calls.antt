@@ -2,7 +2,7 @@
 use Rattle.std.specs.Prelude.{◌≡◌, ◌≢◌, ℕ, ◌+◌, ◌-◌, List, [], ◌∷◌}
 use Rattle.brc_word.specs.Words.{released_word, merged_word}
 use Rattle.brc_model.specs.declared.duty.Duty.{Duty}
-use Rattle.brc_model.specs.declared.duty.Duty.TheVariants.{RetainStore, RetainAdd, ReleaseStore, DecideAtZero, SharedLoad, SharedExchange, SetMark, TakeMark, MergeSwap, MergeLoad, MergeExchange, Die, BirthLocal}
+use Rattle.brc_model.specs.declared.duty.Duty.TheVariants.{RetainStore, RetainAdd, ReleaseStore, DecideAtZero, SharedLoad, SharedExchange, SetMark, Look, TakeMark, MergeSwap, MergeLoad, MergeExchange, Die, BirthLocal}
 use Rattle.brc_model.specs.declared.actor.Status.TheVariants.{Gone}
 use Rattle.brc_table.specs.declared.view.View.{View}
 use Rattle.brc_table.specs.Hands.{MayWait}
@@ -59,3 +59,8 @@ SetsMark x _ = ⊥
 abbrev pub TakesMark : ℕ → List Duty → Type 0
 TakesMark x (TakeMark y ∷ []) = y ≡ x
 TakesMark x _ = ⊥
+
+-- The one duty is to look whether the thread of the row's block still runs.
+abbrev pub LooksAtOwner : ℕ → List Duty → Type 0
+LooksAtOwner x (Look y ∷ []) = y ≡ x
+LooksAtOwner x _ = ⊥

@@ -4,7 +4,7 @@
 ghost use Rattle.std.specs.Prelude.{◌≡◌};
 ghost use Rattle.brc_table.specs.Views.{done, turned, work_about};
 ghost use Rattle.brc_table.specs.Hands.{IsOf};
-ghost use Rattle.brc_table.specs.Calls.{CanAct, SetsMark, TakesMark};
+ghost use Rattle.brc_table.specs.Calls.{CanAct, SetsMark, LooksAtOwner, TakesMark};
 
 use crate::hand::Hand;
 use crate::place::MARK;
@@ -33,6 +33,21 @@ impl<T: Drop> Words<T> {
         hand.rows_are_there();
         let (head, used) = (hand.head, hand.used);
         self.store::<Brand>(hand, MARK, row, QUEUED, head, used);
+    }
+
+    /// Goes on with the work about the row: looks whether the thread of its block still runs. Returns what the thread
+    /// word says: 1 if the thread runs, 2 if it is leaving, 3 if it is gone.
+    pub fn thread_load(&self, hand: &mut Hand<T>, row: u32) -> u64
+        requires table { IsOf self.now hand.old }
+        requires acts { CanAct hand.old.view }
+        requires duty { LooksAtOwner row (work_about row hand.old.view) }
+        ensures table { hand.new.table ≡ hand.old.table }
+        ensures carried { hand.new.carried ≡ hand.old.carried }
+        ensures view { hand.new.view ≡ done (turned hand.old.view row) result }
+    {
+        work_is_put_aside();
+        work_is_taken_back();
+        self.load_thread::<Brand>(hand, row)
     }
 
     /// Goes on with the work about the row: takes its mark back, because the owner no longer runs. Returns the mark

@@ -1,19 +1,26 @@
 //! One atomic step of a hand, of any kind. Each is sequentially consistent, and may first turn the hand to other work.
 
-ghost use Rattle.std.specs.Prelude.{◌≡◌, ◌+◌, ◌%◌, ◌^◌, ◌<◌, ◌==◌};
+ghost use Rattle.std.specs.Prelude.{◌≡◌, ◌+◌, ◌%◌, ◌^◌, ◌<◌, ◌≤◌, ◌==◌};
 ghost use prog.Atomic.{either};
-ghost use Rattle.brc_model.specs.Layout.{row_count};
+ghost use Rattle.brc_model.specs.Layout.{row_count, block_of};
 ghost use Rattle.brc_table.specs.Places.{in_tile};
 ghost use Rattle.brc_table.specs.Views.{done};
 ghost use Rattle.brc_table.specs.Plays.{SuitsFirst, FirstFindsOwner, overwritten};
 ghost use Rattle.brc_table.specs.Hands.{IsOf};
-ghost use Rattle.brc_table.specs.Begins.{Becomes, KeepsThread, MakesQuietly, StoresWord};
+ghost use Rattle.brc_table.specs.Begins.{Becomes, KeepsThread, MakesQuietly, MakesAtThreadQuietly, StoresWord};
 
 use crate::hand::Hand;
 use crate::place::in_line;
-use crate::rule::{Begins, Continued, Stored};
+use crate::rule::{Begins, Continued, Looked, Stored};
+use crate::size::block_of;
 use crate::words::Words;
 use brc_model::{accounts_are_there, duties_are_kept, duties_are_within};
+
+/// The word of a thread that isn't started yet, which counts as running.
+const NOT_STARTED: u64 = 0;
+
+/// The word of a running thread.
+const RUNNING: u64 = 1;
 
 impl<T: Drop> Words<T> {
     /// Loads a word.
@@ -37,6 +44,26 @@ impl<T: Drop> Words<T> {
         self.table
             .shared
             .load::<Continued<B>>(&mut hand.seat, index)
+    }
+
+    /// Loads the word of the thread whose block has the row. Returns what it says of the thread: 1 if it runs or isn't
+    /// started yet, 2 if it is leaving, 3 if it is gone.
+    pub(crate) fn load_thread<B: Begins>(&self, hand: &mut Hand<T>, row: u32) -> u64
+        requires table { IsOf self.now hand.old }
+        requires begins { Becomes self.now.layout hand.old.view (B.begins hand.old.view) }
+        requires thread { KeepsThread hand.old.view (B.begins hand.old.view) }
+        requires makes { MakesAtThreadQuietly (B.begins hand.old.view) (block_of self.now.layout row) (λ found. found) }
+        ensures table { hand.new.table ≡ hand.old.table }
+        ensures carried { hand.new.carried ≡ hand.old.carried }
+        ensures view { hand.new.view ≡ done (B.begins hand.old.view) result }
+    {
+        duties_are_kept();
+        duties_are_within();
+        accounts_are_there();
+        self.layout_is_plain();
+        let thread = block_of(self.layout, row) as usize;
+        let word = self.table.shared.load::<Looked<B>>(&mut hand.seat, thread);
+        if word == NOT_STARTED { RUNNING } else { word }
     }
 
     /// Swaps a word with another value.
