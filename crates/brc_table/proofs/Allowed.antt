@@ -21,9 +21,9 @@ use Rattle.brc_model.specs.Ranges.{AreSmall}
 use Rattle.brc_model.specs.Within.{Suits, FindsOwner}
 use Rattle.brc_model.specs.Stores.{Overwrites}
 use Rattle.brc_model.specs.Counting.{IsPlainLayout}
-use Rattle.brc_model.specs.CountingLaws.{DutiesAreKept, DutiesAreWithin, AccountsAreThere}
+use Rattle.brc_model.specs.CountingLaws.{DutiesAreKept, DutiesAreWithin, AccountsAreThere, ChainsAreThere}
 use Rattle.brc_table.specs.declared.view.View.{View}
-use Rattle.brc_table.specs.Views.{actor_of, did, holds, RowsAreThere}
+use Rattle.brc_table.specs.Views.{actor_of, did, holds, NamesFewCells, RowsAreThere}
 use Rattle.brc_table.specs.Rule.{thread_reading, reading, Stands}
 use Rattle.brc_table.specs.Plays.{SuitsFirst, FirstFindsOwner, Continues, overwritten, Stores, Looks}
 use Rattle.brc_table.specs.Hands.{TableState, HandState}
@@ -54,9 +54,13 @@ small_there k (d ∷ ds) x small is = elim (cases_Bool (is_about x d)) [
   | inr other ↦ small_there k ds x small.1 (sym (ap (λ (b : Bool). b || list_any (is_about x) ds) other) ∙ is)
 ]
 
-pub rows_there : AccountsAreThere → (layout : Layout) (words : List ℕ) (views : List View) (id : ℕ) (v : View)
+few_named : (k : ℕ) (ds : List Duty) → AreSmall k ds → NamesFewCells ds
+few_named k [] small = tt
+few_named k (d ∷ ds) small = small.0.cells
+
+pub rows_there : AccountsAreThere → ChainsAreThere → (layout : Layout) (words : List ℕ) (views : List View) (id : ℕ) (v : View)
     → Stands layout words views → get_elem? views id ≡ some v → RowsAreThere v
-rows_there law layout words views id v stands here =
+rows_there law chains layout words views id v stands here =
     let m = stands.machine in
     let told = stands.told id v here in
     let found = stands.acts id v here in
@@ -84,6 +88,10 @@ rows_there law layout words views id v stands here =
       aside = λ x is.
           rows x (small_there (row_count m.layout) v.aside x
           (stands.counts.ranges.aside v.thread (actor_of v) found) is);
+      head =
+          subst (λ (l : Layout). v.head ≤ row_count l) (sym told)
+          (chains stands.accounts (1 + m.layout.workers) m v.thread (actor_of v) stands.counts found);
+      cells = few_named (row_count m.layout) v.agenda (stands.counts.ranges.each v.thread (actor_of v) found);
     }
 
 -- ---- a step
@@ -102,7 +110,8 @@ pub record IsNextAt (v : View) (d : Duty) (rest : List Duty) (index : ℕ) : Typ
   pub index_is : index ≡ place (address_of v.layout v.thread v.head d)
   pub plain : is_locking d ≡ false
 
-module _ (kept : DutiesAreKept) (within : DutiesAreWithin) (law : AccountsAreThere) (layout : Layout) (v u : View)
+module _ (kept : DutiesAreKept) (within : DutiesAreWithin) (law : AccountsAreThere)
+    (chains : ChainsAreThere) (layout : Layout) (v u : View)
     (d : Duty) (rest : List Duty) (index : ℕ) (becomes : Becomes layout v u) (next : IsNextAt u d rest index) where
   knows : (words : List ℕ) (views : List View) (id : ℕ) → Does layout words views id u d rest
       → Knows u d (read_of u d (slice_index words (place_of u d)))
@@ -159,7 +168,7 @@ module _ (kept : DutiesAreKept) (within : DutiesAreWithin) (law : AccountsAreThe
       (set (set s.views id u) id (did u (d ∷ rest) (read_of u d (slice_index s.words (place_of u d))))))
       (sym next.index_is) after)) in
       let rows : RowsAreThere w =
-      rows_there law layout (set s.words index (f found)) (set s.views id w) id w now
+      rows_there law chains layout (set s.words index (f found)) (set s.views id w) id w now
       (set_view s.views id me.0 w here) in
       (w, keeps, tt, now, goes found known rows)
 
@@ -180,7 +189,8 @@ object_next v d rest index is_at = record {
   plain = is_at.plain;
 }
 
-module _ (kept : DutiesAreKept) (within : DutiesAreWithin) (law : AccountsAreThere) (layout : Layout) (v u : View)
+module _ (kept : DutiesAreKept) (within : DutiesAreWithin) (law : AccountsAreThere)
+    (chains : ChainsAreThere) (layout : Layout) (v u : View)
     (d : Duty) (rest : List Duty) (index : ℕ) (becomes : Becomes layout v u) (is_at : IsAt u d rest index) where
   -- An object's word says what it is.
   itself : (word : ℕ) → read_of u d word ≡ word
@@ -192,7 +202,7 @@ module _ (kept : DutiesAreKept) (within : DutiesAreWithin) (law : AccountsAreThe
       → ((found : ℕ) → Learns u d rest found → then found (did u (d ∷ rest) found, me.1))
       → Allows (λ (s : State S View). Stands layout s.words s.views) slots id me index f then
   object_allows slots id me f then is_me leaves goes =
-      allows kept within law layout v u d rest index becomes (object_next u d rest index is_at) slots id me f then is_me
+      allows kept within law chains layout v u d rest index becomes (object_next u d rest index is_at) slots id me f then is_me
       (λ found known.
       itself (f found) ∙ (leaves found (subst (Knows u d) (itself found) known)
       ∙ ap (new_word u.thread u.head d) (sym (itself found))))
@@ -210,7 +220,8 @@ pub record Seen {S : Type 0} (words : TableState) (hand : HandState) (layout : L
   pub layout_is : layout ≡ words.layout
   pub view_is : me.0 ≡ hand.view
 
-module _ (kept : DutiesAreKept) (within : DutiesAreWithin) (law : AccountsAreThere) (words : TableState)
+module _ (kept : DutiesAreKept) (within : DutiesAreWithin) (law : AccountsAreThere)
+    (chains : ChainsAreThere) (words : TableState)
     (hand : HandState) (begins : View → View) {S : Type 0} (layout : Layout) (slots id index : ℕ) (me : Me S View)
     (seen : Seen words hand layout me) (becomes : Becomes words.layout hand.view (begins hand.view)) where
   -- What the hand learns is what a step that goes on says.
@@ -238,7 +249,7 @@ module _ (kept : DutiesAreKept) (within : DutiesAreWithin) (law : AccountsAreThe
   step_allowed f makes_there =
       let makes : Makes (begins me.0) index f =
       subst (λ (v : View). Makes (begins v) index f) (sym seen.view_is) makes_there in
-      object_allows kept within law layout me.0 (begins me.0) makes.duty makes.rest index becomes_here makes.at slots id me
+      object_allows kept within law chains layout me.0 (begins me.0) makes.duty makes.rest index becomes_here makes.at slots id me
       f (λ found after. Continues begins me found after) refl
       (λ found known. makes.leaves found known.suits)
       (λ found learned. continues makes.duty makes.rest found makes.at.agenda learned)
@@ -252,7 +263,7 @@ module _ (kept : DutiesAreKept) (within : DutiesAreWithin) (law : AccountsAreThe
       subst (λ (v : View). StoresWord (begins v) index word) (sym seen.view_is) stores_there in
       let u = begins me.0 in
       let makes = stores.makes in
-      object_allows kept within law layout me.0 u makes.duty makes.rest index becomes_here makes.at slots id me
+      object_allows kept within law chains layout me.0 u makes.duty makes.rest index becomes_here makes.at slots id me
       (λ found. word) (λ found after. Stores begins me after) refl
       (λ found known. makes.leaves found known.suits)
       (λ found learned.
@@ -273,7 +284,7 @@ module _ (kept : DutiesAreKept) (within : DutiesAreWithin) (law : AccountsAreThe
       let u = begins me.0 in
       let says : (k : ℕ) → read_of u makes.duty k ≡ thread_reading k =
       λ k. ap (λ (a : Address). reading a k) makes.address in
-      allows kept within law layout me.0 u makes.duty makes.rest index becomes_here (record {
+      allows kept within law chains layout me.0 u makes.duty makes.rest index becomes_here (record {
         agenda = makes.agenda;
         alive = makes.alive;
         word = subst IsTableWord (sym makes.address) tt;

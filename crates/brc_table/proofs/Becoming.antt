@@ -45,7 +45,7 @@ becomes_then layout v w u first second words views id stands here =
     (second words (set views id w) id (first words views id stands here) (set_view views id v w here))
 
 -- A hand may keep its view.
-becomes_same : (layout : Layout) (v u : View) → v ≡ u → Becomes layout v u
+pub becomes_same : (layout : Layout) (v u : View) → v ≡ u → Becomes layout v u
 becomes_same layout v u same words views id stands here =
     subst (λ (w : View). Stands layout words (set views id w)) same
     (subst (Stands layout words) (sym (set_again views id v here)) stands)
@@ -94,7 +94,7 @@ module _ (layout : Layout) (words : List ℕ) (views : List View) (id : ℕ) (v 
       })
 
   -- The same of a hand that keeps its references.
-  rearranged : (agenda aside : List Duty)
+  pub rearranged : (agenda aside : List Duty)
       → Counts old.accounts (1 + old.machine.layout.workers)
       (with_actor old.machine v.thread (working (actor_of v) agenda aside))
       → Stands layout words (set views id (record v { agenda = agenda; aside = aside }))

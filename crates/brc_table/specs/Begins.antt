@@ -4,6 +4,7 @@ use Rattle.std.specs.Prelude.{slice_set}
 use mathlib.Core.Option.{some}
 use lib.ListN.{get_elem?}
 use Rattle.brc_model.specs.declared.duty.Duty.{Duty}
+use Rattle.brc_model.specs.declared.duty.Duty.TheVariants.{Settle}
 use Rattle.brc_model.specs.declared.actor.Status.{Status}
 use Rattle.brc_model.specs.declared.actor.Status.TheVariants.{Gone}
 use Rattle.brc_model.specs.declared.address.Address.TheVariants.{ThreadWord}
@@ -70,6 +71,12 @@ pub record MakesAtThread (v : View) (thread : ℕ) (f : ℕ → ℕ) : Type 0 wh
 pub record MakesAtThreadQuietly (v : View) (thread : ℕ) (f : ℕ → ℕ) : Type 0 where
   pub makes : MakesAtThread v thread f
   pub quiet : IsQuiet makes.duty
+
+-- The hand's first duty is to settle its chain.
+pub record SettlesNext (v : View) : Type 0 where
+  pub rest : List Duty
+  pub agenda : v.agenda ≡ Settle ∷ rest
+  pub alive : v.status ≢ Gone
 
 -- The layout, the thread, its status, its chain, its used rows and the hands that it has given out are as before.
 pub record KeepsThread (v u : View) : Type 0 where

@@ -1,9 +1,9 @@
 -- Which duties each kind of step does.
-use Rattle.std.specs.Prelude.{◌≡◌, ◌≢◌, ℕ, ◌+◌, ◌-◌, List, [], ◌∷◌}
+use Rattle.std.specs.Prelude.{◌≡◌, ◌≢◌, ℕ, ◌+◌, ◌-◌, ◌<◌, List, [], ◌∷◌}
 use Rattle.brc_word.specs.Words.{released_word, merged_word}
 use Rattle.brc_model.specs.declared.duty.Duty.{Duty}
-use Rattle.brc_model.specs.declared.duty.Duty.TheVariants.{RetainStore, RetainAdd, ReleaseStore, DecideAtZero, SharedLoad, SharedExchange, SetMark, Look, TakeMark, MergeSwap, MergeLoad, MergeExchange, Die, BirthLocal}
-use Rattle.brc_model.specs.declared.actor.Status.TheVariants.{Gone}
+use Rattle.brc_model.specs.declared.duty.Duty.TheVariants.{RetainStore, RetainAdd, ReleaseStore, DecideAtZero, SharedLoad, SharedExchange, SetMark, Look, TakeMark, MergeSwap, MergeLoad, MergeExchange, Die, Settle, SettleKind, SettleCell, SettleEnd, BirthLocal}
+use Rattle.brc_model.specs.declared.actor.Status.TheVariants.{Running, Gone}
 use Rattle.brc_table.specs.declared.view.View.{View}
 use Rattle.brc_table.specs.Hands.{MayWait}
 
@@ -64,3 +64,29 @@ TakesMark x _ = ⊥
 abbrev pub LooksAtOwner : ℕ → List Duty → Type 0
 LooksAtOwner x (Look y ∷ []) = y ≡ x
 LooksAtOwner x _ = ⊥
+
+-- ---- settling: what else there is to do comes behind
+
+-- The hand runs and has nothing to do, so that it may begin to settle; or to settle is what it does next.
+abbrev pub SettlesFrom : View → List Duty → Type 0
+SettlesFrom v [] = (v.status ≡ Running) × (v.aside ≡ [])
+SettlesFrom v (Settle ∷ rest) = v.status ≢ Gone
+SettlesFrom v _ = ⊥
+
+abbrev pub MaySettle : View → Type 0
+MaySettle v = SettlesFrom v v.agenda
+
+-- The first duty is to load the kind word of the dying row.
+abbrev pub LoadsDyingKind : ℕ → List Duty → Type 0
+LoadsDyingKind x (SettleKind y ∷ rest) = y ≡ x
+LoadsDyingKind x _ = ⊥
+
+-- The first duty is to empty this cell of the dying row.
+abbrev pub EmptiesCell : ℕ → ℕ → List Duty → Type 0
+EmptiesCell x i (SettleCell y j n ∷ rest) = (y ≡ x) × (j ≡ i) × (i < n)
+EmptiesCell x i _ = ⊥
+
+-- The first duty is to close the dying row.
+abbrev pub ClosesRow : ℕ → List Duty → Type 0
+ClosesRow x (SettleEnd y ∷ rest) = y ≡ x
+ClosesRow x _ = ⊥

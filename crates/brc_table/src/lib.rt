@@ -3,6 +3,7 @@
 #![tactic(auto)]
 
 mod carried;
+mod dying;
 mod first_words;
 mod hand;
 mod laws;

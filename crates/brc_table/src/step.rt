@@ -3,18 +3,20 @@
 ghost use Rattle.std.specs.Prelude.{◌≡◌, ◌+◌, ◌%◌, ◌^◌, ◌<◌, ◌≤◌, ◌==◌};
 ghost use prog.Atomic.{either};
 ghost use Rattle.brc_model.specs.Layout.{row_count, block_of};
-ghost use Rattle.brc_table.specs.Places.{in_tile};
+ghost use Rattle.brc_model.specs.Limits.{cell_limit};
+ghost use Rattle.brc_table.specs.Places.{in_tile, cell_place};
 ghost use Rattle.brc_table.specs.Views.{done};
 ghost use Rattle.brc_table.specs.Plays.{SuitsFirst, FirstFindsOwner, overwritten};
 ghost use Rattle.brc_table.specs.Hands.{IsOf};
-ghost use Rattle.brc_table.specs.Begins.{Becomes, KeepsThread, MakesQuietly, MakesAtThreadQuietly, StoresWord};
+ghost use Rattle.brc_table.specs.Begins.{Becomes, KeepsThread, SettlesNext, MakesQuietly, MakesAtThreadQuietly, StoresWord};
 
 use crate::hand::Hand;
-use crate::place::in_line;
+use crate::place::{GATE, in_cell, in_line};
 use crate::rule::{Begins, Continued, Looked, Stored};
 use crate::size::block_of;
 use crate::words::Words;
-use brc_model::{accounts_are_there, duties_are_kept, duties_are_within};
+use brc_model::{accounts_are_there, chains_are_there, duties_are_kept, duties_are_within};
+use brc_word::next_of_dying;
 
 /// The word of a thread that isn't started yet, which counts as running.
 const NOT_STARTED: u64 = 0;
@@ -40,6 +42,7 @@ impl<T: Drop> Words<T> {
         duties_are_kept();
         duties_are_within();
         accounts_are_there();
+        chains_are_there();
         let index = in_line(line, row);
         self.table
             .shared
@@ -60,10 +63,36 @@ impl<T: Drop> Words<T> {
         duties_are_kept();
         duties_are_within();
         accounts_are_there();
+        chains_are_there();
         self.layout_is_plain();
         let thread = block_of(self.layout, row) as usize;
         let word = self.table.shared.load::<Looked<B>>(&mut hand.seat, thread);
         if word == NOT_STARTED { RUNNING } else { word }
+    }
+
+    /// Loads the gate of the first object of the hand's chain. The rest of the chain is the hand's chain from then on.
+    pub(crate) fn load_chain<B: Begins>(&self, hand: &mut Hand<T>) -> u64
+        requires table { IsOf self.now hand.old }
+        requires begins { Becomes self.now.layout hand.old.view (B.begins hand.old.view) }
+        requires thread { KeepsThread hand.old.view (B.begins hand.old.view) }
+        requires chain { 0 < hand.old.view.head }
+        requires settles { SettlesNext (B.begins hand.old.view) }
+        ensures table { hand.new.table ≡ hand.old.table }
+        ensures carried { hand.new.carried ≡ hand.old.carried }
+        ensures view { hand.new.view ≡ done (B.begins hand.old.view) result }
+    {
+        duties_are_kept();
+        duties_are_within();
+        accounts_are_there();
+        chains_are_there();
+        hand.rows_are_there();
+        let index = in_line(GATE, hand.head - 1);
+        let word = self
+            .table
+            .shared
+            .load::<Continued<B>>(&mut hand.seat, index);
+        hand.head = next_of_dying(word);
+        word
     }
 
     /// Swaps a word with another value.
@@ -82,7 +111,37 @@ impl<T: Drop> Words<T> {
         duties_are_kept();
         duties_are_within();
         accounts_are_there();
+        chains_are_there();
         let index = in_line(line, row);
+        self.table
+            .shared
+            .swap::<Continued<B>>(&mut hand.seat, index, new)
+    }
+
+    /// Swaps a list's cell with another value.
+    pub(crate) fn swap_cell<B: Begins>(
+        &self,
+        hand: &mut Hand<T>,
+        row: u32,
+        cell: u32,
+        new: u64,
+    ) -> u64
+        requires table { IsOf self.now hand.old }
+        requires begins { Becomes self.now.layout hand.old.view (B.begins hand.old.view) }
+        requires thread { KeepsThread hand.old.view (B.begins hand.old.view) }
+        requires cell { cell < cell_limit }
+        requires there { row < row_count self.now.layout }
+        requires makes { MakesQuietly (B.begins hand.old.view) (cell_place row cell) (λ found. new) }
+        ensures table { hand.new.table ≡ hand.old.table }
+        ensures carried { hand.new.carried ≡ hand.old.carried }
+        ensures view { hand.new.view ≡ done (B.begins hand.old.view) result }
+        ensures suits { SuitsFirst (B.begins hand.old.view) (B.begins hand.old.view).agenda result }
+    {
+        duties_are_kept();
+        duties_are_within();
+        accounts_are_there();
+        chains_are_there();
+        let index = in_cell(row, cell);
         self.table
             .shared
             .swap::<Continued<B>>(&mut hand.seat, index, new)
@@ -104,6 +163,7 @@ impl<T: Drop> Words<T> {
         duties_are_kept();
         duties_are_within();
         accounts_are_there();
+        chains_are_there();
         let index = in_line(line, row);
         self.table
             .shared
@@ -133,6 +193,7 @@ impl<T: Drop> Words<T> {
         duties_are_kept();
         duties_are_within();
         accounts_are_there();
+        chains_are_there();
         let index = in_line(line, row);
         self.table
             .shared
@@ -166,6 +227,7 @@ impl<T: Drop> Words<T> {
         duties_are_kept();
         duties_are_within();
         accounts_are_there();
+        chains_are_there();
         let index = in_line(line, row);
         self.table
             .shared
