@@ -28,7 +28,7 @@ use Rattle.brc_table.specs.Plays.{overwritten}
 use Rattle.brc_table.specs.Calls.{LoadsShared, SwapsLocal, StoresLocal, AddsShared, ExchangesShared, ChainsRow, OwnsFirst}
 use Rattle.brc_table.proofs.Allowed.{immortal_there}
 
-runs_on : (v : View) → v.status ≡ Running → v.status ≢ Gone
+pub runs_on : (v : View) → v.status ≡ Running → v.status ≢ Gone
 runs_on v runs gone = let wrong : Running ≡ Gone = sym runs ∙ gone in absurd cc
 
 -- ---- rows

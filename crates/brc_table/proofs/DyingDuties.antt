@@ -5,7 +5,7 @@ use Rattle.std.specs.List.{list_any}
 use Rattle.std.proofs.lemmas.Bool.{eq-eqb}
 use Rattle.brc_model.specs.declared.duty.Duty.{Duty}
 use Rattle.brc_model.specs.declared.duty.Duty.TheVariants.{Settle, SettleKind, SettleCell, SettleEnd}
-use Rattle.brc_model.specs.declared.actor.Status.TheVariants.{Running, Gone}
+use Rattle.brc_model.specs.declared.actor.Status.TheVariants.{Gone}
 use Rattle.brc_model.specs.declared.layout.Layout.{Layout}
 use Rattle.brc_model.specs.Layout.{row_count}
 use Rattle.brc_model.specs.Limits.{cell_limit}
@@ -18,6 +18,7 @@ use Rattle.brc_table.specs.Views.{actor_of, settle_first, settling, NamesFewCell
 use Rattle.brc_table.specs.Begins.{Becomes, Makes, MakesQuietly, SettlesNext}
 use Rattle.brc_table.specs.Calls.{SettlesFrom, LoadsDyingKind, EmptiesCell, ClosesRow}
 use Rattle.brc_table.proofs.Becoming.{becomes_same, rearranged}
+use Rattle.brc_table.proofs.Duties.{runs_on}
 
 -- ---- the beginning
 
@@ -36,9 +37,6 @@ settling_from law layout v _ is may some = absurd may
 pub settling_becomes : SettlesBegin → (layout : Layout) (v : View) → SettlesFrom v v.agenda → 0 < v.head
     → Becomes layout v (settling v)
 settling_becomes law layout v may some = settling_from law layout v v.agenda refl may some
-
-runs_on : (v : View) → v.status ≡ Running → v.status ≢ Gone
-runs_on v runs gone = let wrong : Running ≡ Gone = sym runs ∙ gone in absurd cc
 
 pub settles_next : (v : View) (ds : List Duty) → SettlesFrom v ds → SettlesNext (record v { agenda = settle_first ds })
 settles_next v [] may = record { rest = []; agenda = refl; alive = runs_on v may.0 }

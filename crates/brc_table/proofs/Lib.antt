@@ -8,6 +8,7 @@ mod Accounts
 mod Becoming
 mod Duties
 mod MarkDuties
+mod KindLoads
 mod DyingDuties
 mod ThreadWords
 mod NewHands

@@ -3,7 +3,7 @@ use Rattle.std.specs.Prelude.{Bool, ◌≡◌, ℕ, ◌<◌, ◌≤◌, true, �
 use Rattle.std.specs.List.{filter, list_any}
 use Rattle.brc_model.specs.declared.duty.Holding.TheVariants.{AsCaller}
 use Rattle.brc_model.specs.declared.duty.Duty.{Duty}
-use Rattle.brc_model.specs.declared.duty.Duty.TheVariants.{RetainLoad, ReleaseLoad, BirthKind, Settle}
+use Rattle.brc_model.specs.declared.duty.Duty.TheVariants.{RetainLoad, ReleaseLoad, BirthKind, KindLoad, Settle}
 use Rattle.brc_model.specs.declared.actor.Status.TheVariants.{Running}
 use Rattle.brc_model.specs.declared.layout.Layout.{Layout}
 use Rattle.brc_model.specs.Layout.{row_count, block_size, front_rows, root_row, row_at, is_immortal_row}
@@ -134,6 +134,13 @@ bearing v word = record v {
   agenda = BirthKind (next_row v) AsCaller word ∷ [];
   aside = open_work v;
   references = next_row v ∷ v.references;
+}
+
+-- the hand begins to ask for the kind of the row's object
+abbrev pub asking : View → ℕ → View
+asking v x = record v {
+  agenda = KindLoad x ∷ [];
+  aside = open_work v;
 }
 
 -- the agenda of a hand that settles its chain, or goes on to

@@ -6,6 +6,7 @@ mod carried;
 mod dying;
 mod first_words;
 mod hand;
+mod kinds;
 mod laws;
 mod lives;
 mod marks;
