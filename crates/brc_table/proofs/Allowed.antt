@@ -27,7 +27,7 @@ use Rattle.brc_table.specs.Views.{actor_of, did, holds, NamesFewCells, RowsAreTh
 use Rattle.brc_table.specs.Rule.{thread_reading, reading, Stands}
 use Rattle.brc_table.specs.Plays.{SuitsFirst, FirstFindsOwner, Continues, overwritten, Stores, Looks}
 use Rattle.brc_table.specs.Hands.{TableState, HandState}
-use Rattle.brc_table.specs.Begins.{Becomes, IsAt, Makes, MakesAtThread, StoresWord}
+use Rattle.brc_table.specs.Begins.{Becomes, IsAt, Makes, MakesAtThread, StoresThreadWord, StoresWord}
 use Rattle.brc_table.specs.Places.{place, IsTableWord}
 use Rattle.brc_table.proofs.Lists.{set_view, and_second}
 use Rattle.brc_table.proofs.Stepping.{Does, place_of, read_of, finds, relies, stands_after, object_in_table, object_reads}
@@ -274,6 +274,21 @@ module _ (kept : DutiesAreKept) (within : DutiesAreWithin) (law : AccountsAreThe
         learned.there,
       ))
 
+  -- A duty about a thread's word is about a word of the table.
+  thread_next : (thread : ℕ) (f : ℕ → ℕ) (makes : MakesAtThread (begins me.0) thread f)
+      → IsNextAt (begins me.0) makes.duty makes.rest thread
+  thread_next thread f makes = record {
+    agenda = makes.agenda;
+    alive = makes.alive;
+    word = subst IsTableWord (sym makes.address) tt;
+    index_is = ap place (sym makes.address);
+    plain = makes.plain;
+  }
+
+  thread_says : (thread : ℕ) (f : ℕ → ℕ) (makes : MakesAtThread (begins me.0) thread f) (k : ℕ)
+      → read_of (begins me.0) makes.duty k ≡ thread_reading k
+  thread_says thread f makes k = ap (λ (a : Address). reading a k) makes.address
+
   -- A step on a thread word is allowed that goes on with what the word says.
   pub look_allowed : (f : ℕ → ℕ) → MakesAtThread (begins hand.view) index f
       → Allows (λ (s : State S View). Stands layout s.words s.views) slots id me index f
@@ -282,20 +297,37 @@ module _ (kept : DutiesAreKept) (within : DutiesAreWithin) (law : AccountsAreThe
       let makes : MakesAtThread (begins me.0) index f =
       subst (λ (v : View). MakesAtThread (begins v) index f) (sym seen.view_is) makes_there in
       let u = begins me.0 in
-      let says : (k : ℕ) → read_of u makes.duty k ≡ thread_reading k =
-      λ k. ap (λ (a : Address). reading a k) makes.address in
-      allows kept within law chains layout me.0 u makes.duty makes.rest index becomes_here (record {
-        agenda = makes.agenda;
-        alive = makes.alive;
-        word = subst IsTableWord (sym makes.address) tt;
-        index_is = ap place (sym makes.address);
-        plain = makes.plain;
-      }) slots id me f (λ found after. Looks begins me found after) refl
+      let says = thread_says index f makes in
+      allows kept within law chains layout me.0 u makes.duty makes.rest index becomes_here (thread_next index f makes)
+      slots id me f (λ found after. Looks begins me found after) refl
       (λ found known.
       says (f found) ∙ (makes.leaves found ∙ ap (new_word u.thread u.head makes.duty) (sym (says found))))
       (λ found known rows. (
         ap (did u (makes.duty ∷ makes.rest)) (says found)
             ∙ ap (λ (ds : List Duty). did u ds (thread_reading found)) (sym makes.agenda),
+        refl,
+        rows,
+      ))
+
+  -- A store of a thread word is allowed.
+  pub thread_allowed : (word : ℕ) → StoresThreadWord (begins hand.view) index word
+      → Allows (λ (s : State S View). Stands layout s.words s.views) slots id me index (λ found. word)
+      (λ found after. Stores begins me after)
+  thread_allowed word stores_there =
+      let stores : StoresThreadWord (begins me.0) index word =
+      subst (λ (v : View). StoresThreadWord (begins v) index word) (sym seen.view_is) stores_there in
+      let u = begins me.0 in
+      let makes = stores.makes in
+      let says = thread_says index (λ found. word) makes in
+      allows kept within law chains layout me.0 u makes.duty makes.rest index becomes_here
+      (thread_next index (λ found. word) makes) slots id me (λ found. word) (λ found after. Stores begins me after) refl
+      (λ found known.
+      says word ∙ (makes.leaves found ∙ ap (new_word u.thread u.head makes.duty) (sym (says found))))
+      (λ found known rows.
+      let known' : read_of u makes.duty found ≡ overwritten u.agenda =
+      stores.knows (read_of u makes.duty found) known.overwrites in (
+        ap (did u (makes.duty ∷ makes.rest)) known'
+            ∙ ap (λ (ds : List Duty). did u ds (overwritten u.agenda)) (sym makes.agenda),
         refl,
         rows,
       ))

@@ -9,6 +9,8 @@ mod Becoming
 mod Duties
 mod MarkDuties
 mod KindLoads
+mod FreeDropped
+mod ExitDuties
 mod DyingDuties
 mod ThreadWords
 mod NewHands

@@ -62,7 +62,7 @@ object_reads (Slot x) word object = absurd object
 object_reads (Resource x) word object = absurd object
 object_reads (ThreadWord t) word object = absurd object
 
-same_is : (a b : Address) → same_address a b ≡ true → a ≡ b
+pub same_is : (a b : Address) → same_address a b ≡ true → a ≡ b
 same_is (Local x) (Local y) e = ap Local (eqb-true x y e)
 same_is (Shared x) (Shared y) e = ap Shared (eqb-true x y e)
 same_is (Gate x) (Gate y) e = ap Gate (eqb-true x y e)

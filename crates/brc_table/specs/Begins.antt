@@ -72,6 +72,11 @@ pub record MakesAtThreadQuietly (v : View) (thread : ℕ) (f : ℕ → ℕ) : Ty
   pub makes : MakesAtThread v thread f
   pub quiet : IsQuiet makes.duty
 
+-- The hand's first duty stores this thread's word, and knows what that word said.
+pub record StoresThreadWord (v : View) (thread word : ℕ) : Type 0 where
+  pub makes : MakesAtThread v thread (λ found. word)
+  pub knows : (found : ℕ) → Overwrites v.thread makes.duty found → found ≡ overwritten v.agenda
+
 -- The hand's first duty is to settle its chain.
 pub record SettlesNext (v : View) : Type 0 where
   pub rest : List Duty

@@ -2,7 +2,7 @@
 use Rattle.std.specs.Prelude.{◌≡◌, ◌≢◌, ℕ, ◌+◌, ◌-◌, ◌<◌, List, [], ◌∷◌}
 use Rattle.brc_word.specs.Words.{released_word, merged_word}
 use Rattle.brc_model.specs.declared.duty.Duty.{Duty}
-use Rattle.brc_model.specs.declared.duty.Duty.TheVariants.{RetainStore, RetainAdd, ReleaseStore, DecideAtZero, SharedLoad, SharedExchange, SetMark, Look, TakeMark, MergeSwap, MergeLoad, MergeExchange, Die, Settle, SettleKind, SettleCell, SettleEnd, BirthLocal}
+use Rattle.brc_model.specs.declared.duty.Duty.TheVariants.{RetainStore, RetainAdd, ReleaseStore, DecideAtZero, SharedLoad, SharedExchange, SetMark, Look, TakeMark, MergeSwap, MergeLoad, MergeExchange, Die, Settle, SettleKind, SettleCell, SettleEnd, Scan, Finish, BirthLocal}
 use Rattle.brc_model.specs.declared.actor.Status.TheVariants.{Running, Gone}
 use Rattle.brc_table.specs.declared.view.View.{View}
 use Rattle.brc_table.specs.Hands.{MayWait}
@@ -90,3 +90,27 @@ EmptiesCell x i _ = ⊥
 abbrev pub ClosesRow : ℕ → List Duty → Type 0
 ClosesRow x (SettleEnd y ∷ rest) = y ≡ x
 ClosesRow x _ = ⊥
+
+-- ---- the exit
+
+-- The hand runs and has nothing to do, not even aside.
+pub record IsFree (v : View) : Type 0 where
+  pub running : v.status ≡ Running
+  pub agenda : v.agenda ≡ []
+  pub aside : v.aside ≡ []
+
+-- The hand may leave: besides, it holds no reference, and its chain is empty.
+pub record MayLeave (v : View) : Type 0 where
+  pub free : IsFree v
+  pub holds_none : v.references ≡ []
+  pub settled : v.head ≡ 0
+
+-- The first duty is to scan the mark of the thread's row with this index.
+abbrev pub ScansRow : ℕ → List Duty → Type 0
+ScansRow i (Scan j n ∷ rest) = j ≡ i
+ScansRow i _ = ⊥
+
+-- The one duty is to say that the thread is gone.
+abbrev pub Finishes : List Duty → Type 0
+Finishes (Finish ∷ []) = Unit {0}
+Finishes _ = ⊥

@@ -2,7 +2,9 @@
 use Rattle.std.specs.Prelude.{◌≡◌, ℕ, List, [], ◌∷◌}
 use Rattle.atomic_table.specs.Table.{Me}
 use Rattle.brc_model.specs.declared.duty.Duty.{Duty}
-use Rattle.brc_model.specs.declared.duty.Duty.TheVariants.{RetainStore, ReleaseStore, Die}
+use Rattle.brc_model.specs.declared.duty.Duty.TheVariants.{RetainStore, ReleaseStore, Die, Leave, Finish}
+use Rattle.brc_model.specs.declared.actor.Status.TheVariants.{Running, Leaving}
+use Rattle.brc_model.specs.Knowledge.{status_word}
 use Rattle.brc_model.specs.Layout.{row_count}
 use Rattle.brc_model.specs.Machine.{is_running}
 use Rattle.brc_model.specs.Within.{Suits, FindsOwner}
@@ -26,6 +28,8 @@ abbrev pub overwritten : List Duty → ℕ
 overwritten (RetainStore x h w ∷ rest) = w
 overwritten (ReleaseStore x w ∷ rest) = w
 overwritten (Die x ∷ rest) = free_word
+overwritten (Leave i n ∷ rest) = status_word Running
+overwritten (Finish ∷ rest) = status_word Leaving
 overwritten _ = 0
 
 -- The hand first becomes `begins` of what it was, and then does its first duty.

@@ -3,7 +3,7 @@ use Rattle.std.specs.Prelude.{Bool, ◌≡◌, ℕ, ◌<◌, ◌≤◌, true, �
 use Rattle.std.specs.List.{filter, list_any}
 use Rattle.brc_model.specs.declared.duty.Holding.TheVariants.{AsCaller}
 use Rattle.brc_model.specs.declared.duty.Duty.{Duty}
-use Rattle.brc_model.specs.declared.duty.Duty.TheVariants.{RetainLoad, ReleaseLoad, BirthKind, KindLoad, Settle}
+use Rattle.brc_model.specs.declared.duty.Duty.TheVariants.{RetainLoad, ReleaseLoad, BirthKind, KindLoad, Settle, ClaimMark, Leave}
 use Rattle.brc_model.specs.declared.actor.Status.TheVariants.{Running}
 use Rattle.brc_model.specs.declared.layout.Layout.{Layout}
 use Rattle.brc_model.specs.Layout.{row_count, block_size, front_rows, root_row, row_at, is_immortal_row}
@@ -151,6 +151,14 @@ settle_first (d ∷ rest) = d ∷ rest
 -- the hand begins to settle its chain, unless it does already
 abbrev pub settling : View → View
 settling v = record v { agenda = settle_first v.agenda }
+
+-- the hand begins to claim the mark of a row of its own block
+abbrev pub claiming : View → ℕ → View
+claiming v x = record v { agenda = ClaimMark x ∷ [] }
+
+-- the hand begins to leave
+abbrev pub leaving : View → View
+leaving v = record v { agenda = Leave 0 v.used ∷ [] }
 
 -- ---- the hands that main has given out
 

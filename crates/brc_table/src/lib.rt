@@ -4,6 +4,7 @@
 
 mod carried;
 mod dying;
+mod exits;
 mod first_words;
 mod hand;
 mod kinds;

@@ -1,14 +1,15 @@
 //! One atomic step of a hand, of any kind. Each is sequentially consistent, and may first turn the hand to other work.
 
-ghost use Rattle.std.specs.Prelude.{◌≡◌, ◌+◌, ◌%◌, ◌^◌, ◌<◌, ◌≤◌, ◌==◌};
+ghost use Rattle.std.specs.Prelude.{◌≡◌, ◌+◌, ◌%◌, ◌^◌, ◌<◌, ◌≤◌, ◌==◌, false};
 ghost use prog.Atomic.{either};
 ghost use Rattle.brc_model.specs.Layout.{row_count, block_of};
 ghost use Rattle.brc_model.specs.Limits.{cell_limit};
+ghost use Rattle.brc_model.specs.Machine.{is_running};
 ghost use Rattle.brc_table.specs.Places.{in_tile, cell_place};
 ghost use Rattle.brc_table.specs.Views.{done};
 ghost use Rattle.brc_table.specs.Plays.{SuitsFirst, FirstFindsOwner, overwritten};
 ghost use Rattle.brc_table.specs.Hands.{IsOf};
-ghost use Rattle.brc_table.specs.Begins.{Becomes, KeepsThread, SettlesNext, MakesQuietly, MakesAtThreadQuietly, StoresWord};
+ghost use Rattle.brc_table.specs.Begins.{Becomes, KeepsThread, SettlesNext, MakesQuietly, MakesAtThreadQuietly, StoresThreadWord, StoresWord};
 
 use crate::hand::Hand;
 use crate::place::{GATE, in_cell, in_line};
@@ -93,6 +94,35 @@ impl<T: Drop> Words<T> {
             .load::<Continued<B>>(&mut hand.seat, index);
         hand.head = next_of_dying(word);
         word
+    }
+
+    /// Stores the word of the hand's own thread, which no longer runs after the step.
+    pub(crate) fn store_thread<B: Begins>(&self, hand: &mut Hand<T>, word: u64)
+        requires table { IsOf self.now hand.old }
+        requires begins { Becomes self.now.layout hand.old.view (B.begins hand.old.view) }
+        requires thread { KeepsThread hand.old.view (B.begins hand.old.view) }
+        requires stores { StoresThreadWord (B.begins hand.old.view) hand.old.view.thread word }
+        requires status { is_running (done (B.begins hand.old.view) (overwritten (B.begins hand.old.view).agenda)).status
+            ≡ false }
+        requires head { (done (B.begins hand.old.view) (overwritten (B.begins hand.old.view).agenda)).head
+            ≡ hand.old.view.head }
+        requires used { (done (B.begins hand.old.view) (overwritten (B.begins hand.old.view).agenda)).used
+            ≡ hand.old.view.used }
+        ensures table { hand.new.table ≡ hand.old.table }
+        ensures carried { hand.new.carried ≡ hand.old.carried }
+        ensures view { hand.new.view ≡ done (B.begins hand.old.view) (overwritten (B.begins hand.old.view).agenda) }
+    {
+        duties_are_kept();
+        duties_are_within();
+        accounts_are_there();
+        chains_are_there();
+        self.layout_is_plain();
+        hand.rows_are_there();
+        let thread = hand.thread as usize;
+        self.table
+            .shared
+            .store::<Stored<B>>(&mut hand.seat, thread, word);
+        hand.running = false;
     }
 
     /// Swaps a word with another value.
