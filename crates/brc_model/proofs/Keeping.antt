@@ -4,7 +4,7 @@
 -- In order: `NotBad` and `KeepsDuty` (a duty), `Replaced`, `Sits`, `SilentMoves` and `SilentSteps` (work that a thread
 -- takes up), and `Kept`, which has both parts. `Rearranging` puts a duty aside and takes it back. `NoSwaps` says that
 -- running threads leave all cells empty. `WorkAside`, `WorkBegins`, `NextRows`, `BirthsBegin` and `FreeReferences` are
--- the laws of what a running thread does between two duties, and `Locks` says of each that the thread still holds the
+-- the laws of what a running thread does between two duties, `AloneBegins` those of what it does in one go, and `Locks` says of each that the thread still holds the
 -- list that it has locked. `Moved`, `OneReference` and `HandedOver` hand a reference over to another thread. None of
 -- these knows code. `Callers` and `FirstCounts` show the invariant of a machine in which some threads hold the root,
 -- `FirstHands` and `FirstMachine` that the first machines are such. `CodeInvariant` adds the second layer, about
@@ -27,6 +27,7 @@ pub mod WorkBegins
 pub mod NextRows
 pub mod BirthsBegin
 pub mod FreeReferences
+pub mod AloneBegins
 pub mod Moved
 pub mod OneReference
 pub mod HandedOver

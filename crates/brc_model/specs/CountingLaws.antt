@@ -3,7 +3,7 @@ use Rattle.std.specs.Prelude.{◌≡◌, ◌≢◌, ℕ, zero, suc, ◌+◌, ◌
 use Rattle.brc_model.specs.declared.duty.Holding.{Holding}
 use Rattle.brc_model.specs.declared.duty.Holding.TheVariants.{ByVariable, AsCaller, InFlight}
 use Rattle.brc_model.specs.declared.duty.Duty.{Duty}
-use Rattle.brc_model.specs.declared.duty.Duty.TheVariants.{RetainLoad, ReleaseLoad, BirthKind}
+use Rattle.brc_model.specs.declared.duty.Duty.TheVariants.{RetainLoad, ReleaseLoad, BirthKind, KindLoad, Settle, ClaimMark, Leave}
 use Rattle.brc_model.specs.declared.actor.Status.TheVariants.{Gone}
 use Rattle.brc_model.specs.declared.layout.Layout.{Layout}
 use Rattle.brc_model.specs.Kinds.{kind_of_word, is_counted_kind}
@@ -11,11 +11,11 @@ use Rattle.brc_model.specs.AbstractState.{PassOn, ByThread, references_to}
 use Rattle.brc_model.specs.References.{held, reference_of}
 use Rattle.brc_model.specs.Duties.{address_of, cells_of}
 use Rattle.brc_model.specs.Moves.{gain}
-use Rattle.brc_model.specs.Layout.{row_count, row_at, is_immortal_row, IsCounted}
+use Rattle.brc_model.specs.Layout.{row_count, row_at, block_of, is_immortal_row, IsCounted}
 use Rattle.brc_model.specs.Limits.{cell_limit}
 use Rattle.brc_model.specs.Machine.{Actor, Machine, Unborn, has_room, is_running, used_by, with_actor, with_moves, done_by}
 use Rattle.brc_model.specs.BadDuties.{is_bad_duty}
-use Rattle.brc_model.specs.Accounts.{Accounts, most_lent}
+use Rattle.brc_model.specs.Accounts.{Accounts, HoldsNone, most_lent}
 use Rattle.brc_model.specs.OpenWork.{exits, may_wait}
 use Rattle.brc_model.specs.Within.{IsThere, Suits, FindsOwner}
 use Rattle.brc_model.specs.Stores.{Overwrites}
@@ -55,6 +55,11 @@ AccountsAreThere =
     (p : Accounts) (n : ℕ) (m : Machine) (t : ℕ) (a : Actor) (h : Holding) (x : ℕ) → Counts p n m
     → slice_get m.actors t ≡ Some a → 1 ≤ p t h x → x < row_count m.layout
 
+-- The head of a thread's dying chain is 0, or the number of a row plus 1.
+abbrev pub ChainsAreThere : Type 0
+ChainsAreThere = (p : Accounts) (n : ℕ) (m : Machine) (t : ℕ) (a : Actor) → Counts p n m
+    → slice_get m.actors t ≡ Some a → a.head ≤ row_count m.layout
+
 -- ---- work between two duties
 
 -- A thread puts its only duty aside, if the duty may wait.
@@ -91,6 +96,29 @@ BirthsBegin = (p : Accounts) (n : ℕ) (m : Machine) (t : ℕ) (a : Actor) (word
     → cells_of word ≤ cell_limit
     → Counts (with_account p t (with_one_more (p t) AsCaller (row_at m.layout t a.used))) n
     (with_actor m t (working a (BirthKind (row_at m.layout t a.used) AsCaller word ∷ []) a.aside))
+
+-- A ready thread begins to ask for the kind of an object to which it holds a reference.
+abbrev pub KindsAreAsked : Type 0
+KindsAreAsked = (p : Accounts) (n : ℕ) (m : Machine) (t : ℕ) (a : Actor) (x : ℕ) → Counts p n m → IsReady m t a
+    → HasNoneAbout a x → 1 ≤ p t AsCaller x
+    → Counts p n (with_actor m t (working a (KindLoad x ∷ []) a.aside))
+
+-- A ready thread that has put nothing aside begins to settle its dying chain.
+abbrev pub SettlesBegin : Type 0
+SettlesBegin = (p : Accounts) (n : ℕ) (m : Machine) (t : ℕ) (a : Actor) → Counts p n m → IsReady m t a
+    → a.aside ≡ [] → 0 < a.head → Counts p n (with_actor m t (working a (Settle ∷ []) a.aside))
+
+-- A ready thread that has put nothing aside begins to claim the mark of a row of its own block.
+abbrev pub ClaimsBegin : Type 0
+ClaimsBegin = (p : Accounts) (n : ℕ) (m : Machine) (t : ℕ) (a : Actor) (x : ℕ) → Counts p n m → IsReady m t a
+    → a.aside ≡ [] → block_of m.layout x ≡ t → x < row_count m.layout
+    → Counts p n (with_actor m t (working a (ClaimMark x ∷ []) a.aside))
+
+-- A ready thread that holds nothing, has put nothing aside and has an empty chain begins to leave.
+abbrev pub ExitsBegin : Type 0
+ExitsBegin = (p : Accounts) (n : ℕ) (m : Machine) (t : ℕ) (a : Actor) → Counts p n m → IsReady m t a
+    → a.aside ≡ [] → a.head ≡ 0 → HoldsNone (p t)
+    → Counts p n (with_actor m t (working a (Leave 0 a.used ∷ []) a.aside))
 
 -- References to immortal objects aren't counted, so a thread may have one more at any time.
 abbrev pub ImmortalsAreFree : Type 0

@@ -1,7 +1,7 @@
 //! Laws of the counting machine, which running threads stand on: what a thread's next duty keeps and what it can rely
 //! on, and what the counts of a row say.
 
-ghost use Rattle.brc_model.specs.CountingLaws.{DutiesAreKept, DutiesAreWithin, AccountsAreThere, CountsAgree};
+ghost use Rattle.brc_model.specs.CountingLaws.{DutiesAreKept, DutiesAreWithin, AccountsAreThere, ChainsAreThere, CountsAgree};
 
 /// States that a thread's next duty isn't bad, and that doing it keeps the invariant.
 pub fn duties_are_kept()
@@ -23,4 +23,9 @@ pub fn counts_agree()
 /// States that the object of each reference in a thread's account has a row.
 pub fn accounts_are_there()
     ensures { AccountsAreThere }
+{}
+
+/// States that the head of a thread's dying chain is 0, or the number of a row plus 1.
+pub fn chains_are_there()
+    ensures { ChainsAreThere }
 {}

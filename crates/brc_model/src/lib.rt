@@ -27,7 +27,9 @@ pub use actor::{Counters, Place, Stage, Status};
 pub use address::Address;
 pub use call_laws::calls_are_bounded;
 pub use code::CheckCode;
-pub use counting_laws::{accounts_are_there, counts_agree, duties_are_kept, duties_are_within};
+pub use counting_laws::{
+    accounts_are_there, chains_are_there, counts_agree, duties_are_kept, duties_are_within,
+};
 pub use duty::{Duty, Holding, Reason};
 pub use hand_laws::{hands_begin, references_are_handed_over, references_are_the_threads};
 pub use host_laws::{calls_use_what_is_lent, faults_are_counted};
@@ -46,8 +48,8 @@ pub use rule_laws::steps_go_by_rules;
 pub use slot::{Exit, Slot, State};
 pub use thread::{Call, Choice};
 pub use work_laws::{
-    births_begin, immortals_are_free, releases_begin, retains_begin, work_is_put_aside,
-    work_is_taken_back,
+    births_begin, claims_begin, exits_begin, immortals_are_free, kinds_are_asked, releases_begin,
+    retains_begin, settles_begin, work_is_put_aside, work_is_taken_back,
 };
 pub use world_laws::{
     steps_are_within, steps_move, threads_make_their_traces, worlds_are_small,

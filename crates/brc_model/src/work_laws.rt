@@ -1,7 +1,7 @@
 //! Laws of the counting machine between two duties: what running threads may do with their open work, and which work
 //! they may begin.
 
-ghost use Rattle.brc_model.specs.CountingLaws.{WorkIsPutAside, WorkIsTakenBack, RetainsBegin, ReleasesBegin, BirthsBegin, ImmortalsAreFree};
+ghost use Rattle.brc_model.specs.CountingLaws.{WorkIsPutAside, WorkIsTakenBack, RetainsBegin, ReleasesBegin, BirthsBegin, KindsAreAsked, SettlesBegin, ClaimsBegin, ExitsBegin, ImmortalsAreFree};
 
 /// States that the invariant holds after a thread puts its only duty aside, if the duty may wait.
 pub fn work_is_put_aside()
@@ -26,6 +26,29 @@ pub fn releases_begin()
 /// States that the invariant holds after a ready worker with a row left begins a birth.
 pub fn births_begin()
     ensures { BirthsBegin }
+{}
+
+/// States that the invariant holds after a ready thread begins to ask for the kind of an object to which it holds a
+/// reference.
+pub fn kinds_are_asked()
+    ensures { KindsAreAsked }
+{}
+
+/// States that the invariant holds after a ready thread that has put nothing aside begins to settle its dying chain.
+pub fn settles_begin()
+    ensures { SettlesBegin }
+{}
+
+/// States that the invariant holds after a ready thread that has put nothing aside begins to claim the mark of a row of
+/// its own block.
+pub fn claims_begin()
+    ensures { ClaimsBegin }
+{}
+
+/// States that the invariant holds after a ready thread that holds nothing, has put nothing aside and has an empty
+/// dying chain begins to leave.
+pub fn exits_begin()
+    ensures { ExitsBegin }
 {}
 
 /// States that the invariant holds after a ready thread gains a reference to an immortal object.

@@ -1,5 +1,5 @@
 -- What a table asks of a step: whatever its words are, the hand can go on, and the rule holds again.
-use Rattle.std.proofs.Common.{◌≤◌, ◌≡◌, ℕ, ◌+◌, ◌<◌, Bool, true, List, [], ◌∷◌, set, inl, inr, refl, sym, ap, ◌∙◌, subst, arith}
+use Rattle.std.proofs.Common.{◌≤◌, ◌≡◌, ◌≢◌, ℕ, ◌+◌, ◌<◌, Bool, true, false, List, [], ◌∷◌, set, inl, inr, refl, sym, ap, ◌∙◌, subst, arith}
 use Rattle.std.specs.Prelude.{◌==◌, ◌||◌, ◌&&◌, slice_index, nat_le, nat_lt}
 use Rattle.std.specs.List.{list_any}
 use Rattle.std.proofs.lemmas.List.{set-set}
@@ -10,24 +10,27 @@ use lib.ListN.{get_elem?}
 use Rattle.atomic_table.specs.Table.{State, keeps, Me, Allows}
 use Rattle.brc_model.specs.declared.duty.Duty.{Duty}
 use Rattle.brc_model.specs.declared.duty.Holding.TheVariants.{AsCaller}
+use Rattle.brc_model.specs.declared.actor.Status.TheVariants.{Gone}
+use Rattle.brc_model.specs.declared.address.Address.{Address}
 use Rattle.brc_model.specs.declared.layout.Layout.{Layout}
 use Rattle.brc_model.specs.Layout.{row_count, block_size, none_row, first_immortal_list, is_immortal_row}
 use Rattle.brc_model.specs.Duties.{address_of, new_word}
-use Rattle.brc_model.specs.Machine.{is_running}
+use Rattle.brc_model.specs.Machine.{is_running, is_locking}
 use Rattle.brc_model.specs.OpenWork.{is_about}
 use Rattle.brc_model.specs.Ranges.{AreSmall}
 use Rattle.brc_model.specs.Within.{Suits, FindsOwner}
 use Rattle.brc_model.specs.Stores.{Overwrites}
 use Rattle.brc_model.specs.Counting.{IsPlainLayout}
-use Rattle.brc_model.specs.CountingLaws.{DutiesAreKept, DutiesAreWithin, AccountsAreThere}
+use Rattle.brc_model.specs.CountingLaws.{DutiesAreKept, DutiesAreWithin, AccountsAreThere, ChainsAreThere}
 use Rattle.brc_table.specs.declared.view.View.{View}
-use Rattle.brc_table.specs.Views.{actor_of, did, holds, RowsAreThere}
-use Rattle.brc_table.specs.Rule.{Stands}
-use Rattle.brc_table.specs.Plays.{SuitsFirst, FirstFindsOwner, Continues, overwritten, Stores}
+use Rattle.brc_table.specs.Views.{actor_of, did, holds, NamesFewCells, RowsAreThere}
+use Rattle.brc_table.specs.Rule.{thread_reading, reading, Stands}
+use Rattle.brc_table.specs.Plays.{SuitsFirst, FirstFindsOwner, Continues, overwritten, Stores, Looks}
 use Rattle.brc_table.specs.Hands.{TableState, HandState}
-use Rattle.brc_table.specs.Begins.{Becomes, IsAt, Makes, StoresWord}
+use Rattle.brc_table.specs.Begins.{Becomes, IsAt, Makes, MakesAtThread, StoresThreadWord, StoresWord}
+use Rattle.brc_table.specs.Places.{place, IsTableWord}
 use Rattle.brc_table.proofs.Lists.{set_view, and_second}
-use Rattle.brc_table.proofs.Stepping.{Does, place_of, finds, relies, stands_after}
+use Rattle.brc_table.proofs.Stepping.{Does, place_of, read_of, finds, relies, stands_after, object_in_table, object_reads}
 
 -- ---- rows
 
@@ -51,9 +54,13 @@ small_there k (d ∷ ds) x small is = elim (cases_Bool (is_about x d)) [
   | inr other ↦ small_there k ds x small.1 (sym (ap (λ (b : Bool). b || list_any (is_about x) ds) other) ∙ is)
 ]
 
-pub rows_there : AccountsAreThere → (layout : Layout) (words : List ℕ) (views : List View) (id : ℕ) (v : View)
+few_named : (k : ℕ) (ds : List Duty) → AreSmall k ds → NamesFewCells ds
+few_named k [] small = tt
+few_named k (d ∷ ds) small = small.0.cells
+
+pub rows_there : AccountsAreThere → ChainsAreThere → (layout : Layout) (words : List ℕ) (views : List View) (id : ℕ) (v : View)
     → Stands layout words views → get_elem? views id ≡ some v → RowsAreThere v
-rows_there law layout words views id v stands here =
+rows_there law chains layout words views id v stands here =
     let m = stands.machine in
     let told = stands.told id v here in
     let found = stands.acts id v here in
@@ -81,79 +88,130 @@ rows_there law layout words views id v stands here =
       aside = λ x is.
           rows x (small_there (row_count m.layout) v.aside x
           (stands.counts.ranges.aside v.thread (actor_of v) found) is);
+      head =
+          subst (λ (l : Layout). v.head ≤ row_count l) (sym told)
+          (chains stands.accounts (1 + m.layout.workers) m v.thread (actor_of v) stands.counts found);
+      cells = few_named (row_count m.layout) v.agenda (stands.counts.ranges.each v.thread (actor_of v) found);
     }
 
 -- ---- a step
 
--- What a hand learns at its first duty.
-pub record Learns (v : View) (d : Duty) (rest : List Duty) (found : ℕ) : Type 0 where
+-- What a hand knows of what it finds at its first duty.
+pub record Knows (v : View) (d : Duty) (found : ℕ) : Type 0 where
   pub suits : Suits v.thread (is_running v.status) (row_count v.layout) d found
   pub overwrites : Overwrites v.thread d found
   pub owner : FindsOwner v.layout d found
-  pub there : RowsAreThere (did v (d ∷ rest) found)
 
-module _ (kept : DutiesAreKept) (within : DutiesAreWithin) (law : AccountsAreThere) (layout : Layout) (v u : View)
-    (d : Duty) (rest : List Duty) (index : ℕ) (becomes : Becomes layout v u) (is_at : IsAt u d rest index) where
-  learns : (words : List ℕ) (views : List View) (id : ℕ) → Does layout words views id u d rest
-      → Learns u d rest (slice_index words (place_of u d))
-  learns words views id does =
+-- The hand's first duty is about the word at this place.
+pub record IsNextAt (v : View) (d : Duty) (rest : List Duty) (index : ℕ) : Type 0 where
+  pub agenda : v.agenda ≡ d ∷ rest
+  pub alive : v.status ≢ Gone
+  pub word : IsTableWord (address_of v.layout v.thread v.head d)
+  pub index_is : index ≡ place (address_of v.layout v.thread v.head d)
+  pub plain : is_locking d ≡ false
+
+module _ (kept : DutiesAreKept) (within : DutiesAreWithin) (law : AccountsAreThere)
+    (chains : ChainsAreThere) (layout : Layout) (v u : View)
+    (d : Duty) (rest : List Duty) (index : ℕ) (becomes : Becomes layout v u) (next : IsNextAt u d rest index) where
+  knows : (words : List ℕ) (views : List View) (id : ℕ) → Does layout words views id u d rest
+      → Knows u d (read_of u d (slice_index words (place_of u d)))
+  knows words views id does =
       let m = does.stands.machine in
       let told = does.stands.told id u does.here in
       let relied = relies kept within layout words views id u d rest does in
-      let found = finds kept within layout words views id u d rest does in
-      let seen : m.memory (address_of m.layout u.thread u.head d) ≡ slice_index words (place_of u d) =
-      subst (λ (l : Layout). m.memory (address_of l u.thread u.head d) ≡ slice_index words (place_of u d)) told found in
+      let found = read_of u d (slice_index words (place_of u d)) in
+      let seen : m.memory (address_of m.layout u.thread u.head d) ≡ found =
+      subst (λ (l : Layout). m.memory (address_of l u.thread u.head d) ≡ found) told
+      (finds kept within layout words views id u d rest does) in
       record {
         suits =
-            subst (λ (l : Layout). Suits u.thread (is_running u.status) (row_count l) d (slice_index words (place_of u d)))
-            (sym told) (subst (λ (k : ℕ). Suits u.thread (is_running u.status) (row_count m.layout) d k) seen relied.suits);
+            subst (λ (l : Layout). Suits u.thread (is_running u.status) (row_count l) d found) (sym told)
+            (subst (λ (k : ℕ). Suits u.thread (is_running u.status) (row_count m.layout) d k) seen relied.suits);
         overwrites = subst (Overwrites u.thread d) seen relied.overwrites;
         owner =
-            subst (λ (l : Layout). FindsOwner l d (slice_index words (place_of u d))) (sym told)
+            subst (λ (l : Layout). FindsOwner l d found) (sym told)
             (subst (λ (k : ℕ). FindsOwner m.layout d k) seen relied.owner);
-        there =
-            rows_there law layout
-            (set words (place_of u d) (new_word u.thread u.head d (slice_index words (place_of u d))))
-            (set views id (did u (d ∷ rest) (slice_index words (place_of u d)))) id
-            (did u (d ∷ rest) (slice_index words (place_of u d)))
-            (stands_after kept within layout words views id u d rest does)
-            (set_view views id u (did u (d ∷ rest) (slice_index words (place_of u d))) does.here);
       }
 
-  -- The step is allowed if it leaves the duty's new word and the hand learns no more than that.
+  -- The step is allowed if it leaves the duty's new word and the hand learns no more than what it knows.
   pub allows : {S : Type 0} (slots id : ℕ) (me : Me S View) (f : ℕ → ℕ) (then : ℕ → Me S View → Type 0)
       → me.0 ≡ v
-      → ((found : ℕ) → Learns u d rest found
-      → (f found ≡ new_word u.thread u.head d found) × then found (did u (d ∷ rest) found, me.1))
+      → ((found : ℕ) → Knows u d (read_of u d found)
+      → read_of u d (f found) ≡ new_word u.thread u.head d (read_of u d found))
+      → ((found : ℕ) → Knows u d (read_of u d found) → RowsAreThere (did u (d ∷ rest) (read_of u d found))
+      → then found (did u (d ∷ rest) (read_of u d found), me.1))
       → Allows (λ (s : State S View). Stands layout s.words s.views) slots id me index f then
-  allows slots id me f then is_me goes s holds homes here below =
+  allows slots id me f then is_me leaves goes s holds homes here below =
       let stands = becomes s.words s.views id holds (here ∙ ap some is_me) in
       let there : get_elem? (set s.views id u) id ≡ some u = set_view s.views id me.0 u here in
       let does : Does layout s.words (set s.views id u) id u d rest = record {
         stands = stands;
         here = there;
-        agenda = is_at.agenda;
-        alive = is_at.alive;
-        object = is_at.object;
-        plain = is_at.plain;
+        agenda = next.agenda;
+        alive = next.alive;
+        word = next.word;
+        plain = next.plain;
       } in
       let found = slice_index s.words index in
-      let same : slice_index s.words (place_of u d) ≡ found = ap (slice_index s.words) (sym is_at.index_is) in
-      let now = goes found (subst (Learns u d rest) same (learns s.words (set s.views id u) id does)) in
-      let after = stands_after kept within layout s.words (set s.views id u) id u d rest does in
-      let P : ℕ → ℕ → List View → Type 0 = λ i k l. Stands layout (set s.words i k) l in (
-        did u (d ∷ rest) found,
-        keeps,
-        tt,
-        subst (λ (k : ℕ). Stands layout (set s.words index k) (set s.views id (did u (d ∷ rest) found))) (sym now.0)
-            (subst (λ (l : List View). Stands layout (set s.words index (new_word u.thread u.head d found)) l)
-            (set-set s.views id u (did u (d ∷ rest) found))
-            (subst (λ (k : ℕ). Stands layout (set s.words index (new_word u.thread u.head d k))
-            (set (set s.views id u) id (did u (d ∷ rest) k))) same
-            (subst (λ (i : ℕ). Stands layout (set s.words i (new_word u.thread u.head d (slice_index s.words (place_of u d))))
-            (set (set s.views id u) id (did u (d ∷ rest) (slice_index s.words (place_of u d))))) (sym is_at.index_is) after))),
-        now.1,
-      )
+      let w = did u (d ∷ rest) (read_of u d found) in
+      let same : slice_index s.words (place_of u d) ≡ found = ap (slice_index s.words) (sym next.index_is) in
+      let known : Knows u d (read_of u d found) =
+      subst (λ (k : ℕ). Knows u d (read_of u d k)) same (knows s.words (set s.views id u) id does) in
+      let left : read_of u d (f found) ≡ new_word u.thread u.head d (read_of u d (slice_index s.words (place_of u d))) =
+      leaves found known ∙ ap (λ (k : ℕ). new_word u.thread u.head d (read_of u d k)) (sym same) in
+      let after = stands_after kept within layout s.words (set s.views id u) id u d rest does (f found) left in
+      let now : Stands layout (set s.words index (f found)) (set s.views id w) =
+      subst (λ (l : List View). Stands layout (set s.words index (f found)) l) (set-set s.views id u w)
+      (subst (λ (k : ℕ). Stands layout (set s.words index (f found))
+      (set (set s.views id u) id (did u (d ∷ rest) (read_of u d k)))) same
+      (subst (λ (i : ℕ). Stands layout (set s.words i (f found))
+      (set (set s.views id u) id (did u (d ∷ rest) (read_of u d (slice_index s.words (place_of u d))))))
+      (sym next.index_is) after)) in
+      let rows : RowsAreThere w =
+      rows_there law chains layout (set s.words index (f found)) (set s.views id w) id w now
+      (set_view s.views id me.0 w here) in
+      (w, keeps, tt, now, goes found known rows)
+
+-- ---- a step on an object's word
+
+-- What a hand learns at its first duty.
+pub record Learns (v : View) (d : Duty) (rest : List Duty) (found : ℕ) : Type 0 where
+  pub known : Knows v d found
+  pub there : RowsAreThere (did v (d ∷ rest) found)
+
+-- A first duty about an object's word is about a word of the table.
+object_next : (v : View) (d : Duty) (rest : List Duty) (index : ℕ) → IsAt v d rest index → IsNextAt v d rest index
+object_next v d rest index is_at = record {
+  agenda = is_at.agenda;
+  alive = is_at.alive;
+  word = object_in_table (address_of v.layout v.thread v.head d) is_at.object;
+  index_is = is_at.index_is;
+  plain = is_at.plain;
+}
+
+module _ (kept : DutiesAreKept) (within : DutiesAreWithin) (law : AccountsAreThere)
+    (chains : ChainsAreThere) (layout : Layout) (v u : View)
+    (d : Duty) (rest : List Duty) (index : ℕ) (becomes : Becomes layout v u) (is_at : IsAt u d rest index) where
+  -- An object's word says what it is.
+  itself : (word : ℕ) → read_of u d word ≡ word
+  itself word = object_reads (address_of u.layout u.thread u.head d) word is_at.object
+
+  pub object_allows : {S : Type 0} (slots id : ℕ) (me : Me S View) (f : ℕ → ℕ) (then : ℕ → Me S View → Type 0)
+      → me.0 ≡ v
+      → ((found : ℕ) → Knows u d found → f found ≡ new_word u.thread u.head d found)
+      → ((found : ℕ) → Learns u d rest found → then found (did u (d ∷ rest) found, me.1))
+      → Allows (λ (s : State S View). Stands layout s.words s.views) slots id me index f then
+  object_allows slots id me f then is_me leaves goes =
+      allows kept within law chains layout v u d rest index becomes (object_next u d rest index is_at) slots id me f then is_me
+      (λ found known.
+      itself (f found) ∙ (leaves found (subst (Knows u d) (itself found) known)
+      ∙ ap (new_word u.thread u.head d) (sym (itself found))))
+      (λ found known rows.
+      subst (λ (k : ℕ). then found (did u (d ∷ rest) k, me.1)) (sym (itself found))
+      (goes found (record {
+        known = subst (Knows u d) (itself found) known;
+        there = subst (λ (k : ℕ). RowsAreThere (did u (d ∷ rest) k)) (itself found) rows;
+      })))
 
 -- ---- kinds of steps
 
@@ -162,7 +220,8 @@ pub record Seen {S : Type 0} (words : TableState) (hand : HandState) (layout : L
   pub layout_is : layout ≡ words.layout
   pub view_is : me.0 ≡ hand.view
 
-module _ (kept : DutiesAreKept) (within : DutiesAreWithin) (law : AccountsAreThere) (words : TableState)
+module _ (kept : DutiesAreKept) (within : DutiesAreWithin) (law : AccountsAreThere)
+    (chains : ChainsAreThere) (words : TableState)
     (hand : HandState) (begins : View → View) {S : Type 0} (layout : Layout) (slots id index : ℕ) (me : Me S View)
     (seen : Seen words hand layout me) (becomes : Becomes words.layout hand.view (begins hand.view)) where
   -- What the hand learns is what a step that goes on says.
@@ -173,8 +232,8 @@ module _ (kept : DutiesAreKept) (within : DutiesAreWithin) (law : AccountsAreThe
       let u = begins me.0 in (
         ap (λ (ds : List Duty). did u ds found) (sym agenda),
         refl,
-        subst (λ (ds : List Duty). SuitsFirst u ds found) (sym agenda) learned.suits,
-        subst (λ (ds : List Duty). FirstFindsOwner u ds found) (sym agenda) learned.owner,
+        subst (λ (ds : List Duty). SuitsFirst u ds found) (sym agenda) learned.known.suits,
+        subst (λ (ds : List Duty). FirstFindsOwner u ds found) (sym agenda) learned.known.owner,
         learned.there,
       )
 
@@ -190,12 +249,10 @@ module _ (kept : DutiesAreKept) (within : DutiesAreWithin) (law : AccountsAreThe
   step_allowed f makes_there =
       let makes : Makes (begins me.0) index f =
       subst (λ (v : View). Makes (begins v) index f) (sym seen.view_is) makes_there in
-      allows kept within law layout me.0 (begins me.0) makes.duty makes.rest index becomes_here makes.at slots id me
+      object_allows kept within law chains layout me.0 (begins me.0) makes.duty makes.rest index becomes_here makes.at slots id me
       f (λ found after. Continues begins me found after) refl
-      (λ found learned. (
-        makes.leaves found learned.suits,
-        continues makes.duty makes.rest found makes.at.agenda learned,
-      ))
+      (λ found known. makes.leaves found known.suits)
+      (λ found learned. continues makes.duty makes.rest found makes.at.agenda learned)
 
   -- A store is allowed.
   pub store_allowed : (word : ℕ) → StoresWord (begins hand.view) index word
@@ -206,15 +263,71 @@ module _ (kept : DutiesAreKept) (within : DutiesAreWithin) (law : AccountsAreThe
       subst (λ (v : View). StoresWord (begins v) index word) (sym seen.view_is) stores_there in
       let u = begins me.0 in
       let makes = stores.makes in
-      allows kept within law layout me.0 u makes.duty makes.rest index becomes_here makes.at slots id me
+      object_allows kept within law chains layout me.0 u makes.duty makes.rest index becomes_here makes.at slots id me
       (λ found. word) (λ found after. Stores begins me after) refl
+      (λ found known. makes.leaves found known.suits)
       (λ found learned.
-      let known : found ≡ overwritten u.agenda = stores.knows found learned.overwrites in (
-        makes.leaves found learned.suits,
-        (
-          ap (did u (makes.duty ∷ makes.rest)) known
-              ∙ ap (λ (ds : List Duty). did u ds (overwritten u.agenda)) (sym makes.at.agenda),
-          refl,
-          learned.there,
-        ),
+      let known : found ≡ overwritten u.agenda = stores.knows found learned.known.overwrites in (
+        ap (did u (makes.duty ∷ makes.rest)) known
+            ∙ ap (λ (ds : List Duty). did u ds (overwritten u.agenda)) (sym makes.at.agenda),
+        refl,
+        learned.there,
+      ))
+
+  -- A duty about a thread's word is about a word of the table.
+  thread_next : (thread : ℕ) (f : ℕ → ℕ) (makes : MakesAtThread (begins me.0) thread f)
+      → IsNextAt (begins me.0) makes.duty makes.rest thread
+  thread_next thread f makes = record {
+    agenda = makes.agenda;
+    alive = makes.alive;
+    word = subst IsTableWord (sym makes.address) tt;
+    index_is = ap place (sym makes.address);
+    plain = makes.plain;
+  }
+
+  thread_says : (thread : ℕ) (f : ℕ → ℕ) (makes : MakesAtThread (begins me.0) thread f) (k : ℕ)
+      → read_of (begins me.0) makes.duty k ≡ thread_reading k
+  thread_says thread f makes k = ap (λ (a : Address). reading a k) makes.address
+
+  -- A step on a thread word is allowed that goes on with what the word says.
+  pub look_allowed : (f : ℕ → ℕ) → MakesAtThread (begins hand.view) index f
+      → Allows (λ (s : State S View). Stands layout s.words s.views) slots id me index f
+      (λ found after. Looks begins me found after)
+  look_allowed f makes_there =
+      let makes : MakesAtThread (begins me.0) index f =
+      subst (λ (v : View). MakesAtThread (begins v) index f) (sym seen.view_is) makes_there in
+      let u = begins me.0 in
+      let says = thread_says index f makes in
+      allows kept within law chains layout me.0 u makes.duty makes.rest index becomes_here (thread_next index f makes)
+      slots id me f (λ found after. Looks begins me found after) refl
+      (λ found known.
+      says (f found) ∙ (makes.leaves found ∙ ap (new_word u.thread u.head makes.duty) (sym (says found))))
+      (λ found known rows. (
+        ap (did u (makes.duty ∷ makes.rest)) (says found)
+            ∙ ap (λ (ds : List Duty). did u ds (thread_reading found)) (sym makes.agenda),
+        refl,
+        rows,
+      ))
+
+  -- A store of a thread word is allowed.
+  pub thread_allowed : (word : ℕ) → StoresThreadWord (begins hand.view) index word
+      → Allows (λ (s : State S View). Stands layout s.words s.views) slots id me index (λ found. word)
+      (λ found after. Stores begins me after)
+  thread_allowed word stores_there =
+      let stores : StoresThreadWord (begins me.0) index word =
+      subst (λ (v : View). StoresThreadWord (begins v) index word) (sym seen.view_is) stores_there in
+      let u = begins me.0 in
+      let makes = stores.makes in
+      let says = thread_says index (λ found. word) makes in
+      allows kept within law chains layout me.0 u makes.duty makes.rest index becomes_here
+      (thread_next index (λ found. word) makes) slots id me (λ found. word) (λ found after. Stores begins me after) refl
+      (λ found known.
+      says word ∙ (makes.leaves found ∙ ap (new_word u.thread u.head makes.duty) (sym (says found))))
+      (λ found known rows.
+      let known' : read_of u makes.duty found ≡ overwritten u.agenda =
+      stores.knows (read_of u makes.duty found) known.overwrites in (
+        ap (did u (makes.duty ∷ makes.rest)) known'
+            ∙ ap (λ (ds : List Duty). did u ds (overwritten u.agenda)) (sym makes.agenda),
+        refl,
+        rows,
       ))

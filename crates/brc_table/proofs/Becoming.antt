@@ -45,7 +45,7 @@ becomes_then layout v w u first second words views id stands here =
     (second words (set views id w) id (first words views id stands here) (set_view views id v w here))
 
 -- A hand may keep its view.
-becomes_same : (layout : Layout) (v u : View) → v ≡ u → Becomes layout v u
+pub becomes_same : (layout : Layout) (v u : View) → v ≡ u → Becomes layout v u
 becomes_same layout v u same words views id stands here =
     subst (λ (w : View). Stands layout words (set views id w)) same
     (subst (Stands layout words) (sym (set_again views id v here)) stands)
@@ -94,7 +94,7 @@ module _ (layout : Layout) (words : List ℕ) (views : List View) (id : ℕ) (v 
       })
 
   -- The same of a hand that keeps its references.
-  rearranged : (agenda aside : List Duty)
+  pub rearranged : (agenda aside : List Duty)
       → Counts old.accounts (1 + old.machine.layout.workers)
       (with_actor old.machine v.thread (working (actor_of v) agenda aside))
       → Stands layout words (set views id (record v { agenda = agenda; aside = aside }))
@@ -109,7 +109,7 @@ module _ (layout : Layout) (words : List ℕ) (views : List View) (id : ℕ) (v 
 -- ---- all work put aside
 
 -- the hand with all its work put aside
-abbrev rested : View → View
+abbrev pub rested : View → View
 rested v = record v { agenda = []; aside = open_work v }
 
 rested_from : WorkIsPutAside → (layout : Layout) (v : View) (ds : List Duty) → v.agenda ≡ ds → MayWait ds
@@ -124,7 +124,7 @@ rested_from law layout v (d ∷ []) is may =
 rested_from law layout v (d ∷ e ∷ ds) is may = absurd may
 
 -- A hand whose next duty may wait puts all its work aside.
-rested_becomes : WorkIsPutAside → (layout : Layout) (v : View) → MayWait v.agenda → Becomes layout v (rested v)
+pub rested_becomes : WorkIsPutAside → (layout : Layout) (v : View) → MayWait v.agenda → Becomes layout v (rested v)
 rested_becomes law layout v may = rested_from law layout v v.agenda refl may
 
 -- ---- turning to other work
@@ -164,29 +164,29 @@ turned_becomes put take layout v x may =
 -- ---- a hand at rest
 
 -- What is known of a hand that runs and has put all its work aside, with none of it about the row.
-record Rests (layout : Layout) (words : List ℕ) (views : List View) (id : ℕ) (v : View) (x : ℕ) : Type 0 where
-  stands : Stands layout words views
-  here : get_elem? views id ≡ some (rested v)
-  running : v.status ≡ Running
-  free : HasNoWork v x
+pub record Rests (layout : Layout) (words : List ℕ) (views : List View) (id : ℕ) (v : View) (x : ℕ) : Type 0 where
+  pub stands : Stands layout words views
+  pub here : get_elem? views id ≡ some (rested v)
+  pub running : v.status ≡ Running
+  pub free : HasNoWork v x
 
 -- The machine's thread is ready.
-ready : (layout : Layout) (words : List ℕ) (views : List View) (id : ℕ) (v : View)
+pub is_ready : (layout : Layout) (words : List ℕ) (views : List View) (id : ℕ) (v : View)
     → (stands : Stands layout words views) → get_elem? views id ≡ some (rested v) → v.status ≡ Running
     → IsReady stands.machine v.thread (actor_of (rested v))
-ready layout words views id v stands here running =
+is_ready layout words views id v stands here running =
     record { found = stands.acts id (rested v) here; running = running; agenda = refl }
 
 -- None of the thread's work is about the row.
-alone : (v : View) (x : ℕ) → HasNoWork v x → HasNoneAbout (actor_of (rested v)) x
+pub alone : (v : View) (x : ℕ) → HasNoWork v x → HasNoneAbout (actor_of (rested v)) x
 alone v x free = omega (arith, ap length free, length-filter (is_about x) (open_work v))
 
 -- ---- free references
 
 -- The rule holds with accounts in which the thread has a reference to the object.
-record HasOne (layout : Layout) (words : List ℕ) (views : List View) (t x : ℕ) : Type 0 where
-  stands : Stands layout words views
-  more : 1 ≤ stands.accounts t AsCaller x
+pub record HasOne (layout : Layout) (words : List ℕ) (views : List View) (t x : ℕ) : Type 0 where
+  pub stands : Stands layout words views
+  pub more : 1 ≤ stands.accounts t AsCaller x
 
 -- The rule holds as well with one reference more to an immortal object: views don't list it, and no word changes.
 gains_one : ImmortalsAreFree → (layout : Layout) (words : List ℕ) (views : List View) (id : ℕ) (v : View) (x : ℕ)
@@ -205,7 +205,7 @@ gains_one law layout words views id v x rests immortal =
         machine = with_moves m (gain t AsCaller x);
         counts =
             law p (1 + m.layout.workers) m t (actor_of (rested v)) x old.counts
-            (ready layout words views id v old rests.here rests.running) (alone v x rests.free) immortal';
+            (is_ready layout words views id v old rests.here rests.running) (alone v x rests.free) immortal';
         layout_is = old.layout_is;
         plain = old.plain;
         length_is = old.length_is;
@@ -231,7 +231,7 @@ gains_one law layout words views id v x rests immortal =
     }
 
 -- If the hand holds the object, the rule holds with accounts in which its thread has a reference to it.
-has_one : ImmortalsAreFree → (layout : Layout) (words : List ℕ) (views : List View) (id : ℕ) (v : View) (x : ℕ)
+pub has_one : ImmortalsAreFree → (layout : Layout) (words : List ℕ) (views : List View) (id : ℕ) (v : View) (x : ℕ)
     → Rests layout words views id v x → HoldsOne v x → HasOne layout words views v.thread x
 has_one law layout words views id v x rests (inl immortal) = gains_one law layout words views id v x rests immortal
 has_one law layout words views id v x rests (inr one) =
@@ -262,7 +262,7 @@ retaining_becomes put law free layout v x running none holding few =
     begun layout words views id (rested v) s here (RetainLoad x AsCaller ∷ []) (open_work v)
     (with_reference v.layout x v.references) (with_one_more (s.accounts t) AsCaller x)
     (law s.accounts (1 + s.machine.layout.workers) s.machine t (actor_of (rested v)) x s.counts
-    (ready layout words views id v s here running.0) (alone v x none) one.more
+    (is_ready layout words views id v s here running.0) (alone v x none) one.more
     (λ counted. omega (
       arith,
       s.holding id (rested v) x here counted,
@@ -291,7 +291,7 @@ releasing_becomes put law free layout v x running none holding =
     begun layout words views id (rested v) s here (ReleaseLoad x AsCaller ∷ []) (open_work v)
     (without_reference v.layout x v.references) (with_one_less (s.accounts t) AsCaller x)
     (law s.accounts (1 + s.machine.layout.workers) s.machine t (actor_of (rested v)) x s.counts
-    (ready layout words views id v s here running.0) (alone v x none) one.more
+    (is_ready layout words views id v s here running.0) (alone v x none) one.more
     (λ e. absurd (let wrong : None ≡ Some x = sym (s.unlocked id (rested v) here) ∙ e in cc)))
     (λ y counted. omega (
       arith,
@@ -318,7 +318,7 @@ bearing_becomes put law layout v word running worker room kind few =
     (1 + m.layout.workers)
     (with_actor m t (working (actor_of v) (BirthKind (row_at l t v.used) AsCaller word ∷ []) (open_work v)))) (sym told)
     (law s.accounts (1 + m.layout.workers) m t (actor_of (rested v)) word s.counts
-    (ready layout words views id v s here running.0) worker
+    (is_ready layout words views id v s here running.0) worker
     (subst (λ (l : Layout). has_room l t v.used ≡ true) told room) kind few))
     (λ y counted. omega (
       arith,

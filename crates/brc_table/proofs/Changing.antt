@@ -156,6 +156,11 @@ module _ (layout : Layout) (words : List ℕ) (views : List View) (id : ℕ) (v 
     given = given_after;
   }
 
+  -- Its accounts are the new ones.
+  pub changed_accounts : changed.accounts ≡ new.accounts
+  unfolding changed
+  changed_accounts = refl
+
 -- A hand that stays as it is.
 pub itself_becomes : (layout : Layout) (v : View) → Becomes layout v v
 itself_becomes layout v words views id stands here =

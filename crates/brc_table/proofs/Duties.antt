@@ -28,7 +28,7 @@ use Rattle.brc_table.specs.Plays.{overwritten}
 use Rattle.brc_table.specs.Calls.{LoadsShared, SwapsLocal, StoresLocal, AddsShared, ExchangesShared, ChainsRow, OwnsFirst}
 use Rattle.brc_table.proofs.Allowed.{immortal_there}
 
-runs_on : (v : View) → v.status ≡ Running → v.status ≢ Gone
+pub runs_on : (v : View) → v.status ≡ Running → v.status ≢ Gone
 runs_on v runs gone = let wrong : Running ≡ Gone = sym runs ∙ gone in absurd cc
 
 -- ---- rows
@@ -103,14 +103,14 @@ either_list x (e ∷ ds) es d rest is = elim (cases_Bool (is_about x e)) [
 ]
 
 -- A row about which a hand has work is there.
-work_there : (v : View) (x : ℕ) (d : Duty) (rest : List Duty) → RowsAreThere v → work_about x v ≡ d ∷ rest
+pub work_there : (v : View) (x : ℕ) (d : Duty) (rest : List Duty) → RowsAreThere v → work_about x v ≡ d ∷ rest
     → x < row_count v.layout
 work_there v x d rest rows is = elim (either_list x v.agenda v.aside d rest is) [
   | inl next ↦ rows.agenda x next
   | inr waiting ↦ rows.aside x waiting
 ]
 
-next_there : (v : View) (x : ℕ) (d : Duty) → RowsAreThere v → v.agenda ≡ d ∷ [] → is_about x d ≡ true
+pub next_there : (v : View) (x : ℕ) (d : Duty) → RowsAreThere v → v.agenda ≡ d ∷ [] → is_about x d ≡ true
     → x < row_count v.layout
 next_there v x d rows is this =
     rows.agenda x (ap (list_any (is_about x)) is ∙ ap (λ (b : Bool). b || false) this)
@@ -119,7 +119,7 @@ next_there v x d rows is this =
 
 module _ (u : View) (x : ℕ) (alive : u.status ≢ Gone) where
   -- The hand's next duty is about the row's word in this line.
-  abbrev line_makes : (line : ℕ) (f : ℕ → ℕ) (d : Duty) → u.agenda ≡ d ∷ []
+  abbrev pub line_makes : (line : ℕ) (f : ℕ → ℕ) (d : Duty) → u.agenda ≡ d ∷ []
       → IsObjectWord (address_of u.layout u.thread u.head d)
       → in_tile line x ≡ place (address_of u.layout u.thread u.head d) → is_locking d ≡ false
       → ((found : ℕ) → Suits u.thread (is_running u.status) (row_count u.layout) d found
@@ -132,7 +132,7 @@ module _ (u : View) (x : ℕ) (alive : u.status ≢ Gone) where
     leaves = leaves;
   }
 
-  at_line : (line : ℕ) (f : ℕ → ℕ) (d : Duty) → u.agenda ≡ d ∷ []
+  pub at_line : (line : ℕ) (f : ℕ → ℕ) (d : Duty) → u.agenda ≡ d ∷ []
       → IsObjectWord (address_of u.layout u.thread u.head d)
       → in_tile line x ≡ place (address_of u.layout u.thread u.head d) → is_locking d ≡ false → IsQuiet d
       → ((found : ℕ) → Suits u.thread (is_running u.status) (row_count u.layout) d found

@@ -16,6 +16,8 @@ giving_there v t rows = record {
   held = λ x held. rows.held x (omega (arith, held, count_less root_row x v.references));
   agenda = rows.agenda;
   aside = rows.aside;
+  head = rows.head;
+  cells = rows.cells;
 }
 
 -- The spare of a worker whose hand main may give out is there, and not spent.

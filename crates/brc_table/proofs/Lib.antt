@@ -7,6 +7,12 @@ mod Picked
 mod Accounts
 mod Becoming
 mod Duties
+mod MarkDuties
+mod KindLoads
+mod FreeDropped
+mod ExitDuties
+mod DyingDuties
+mod ThreadWords
 mod NewHands
 mod FirstWords
 mod Opening

@@ -31,6 +31,8 @@ main_rows layout plain = record {
   held = λ x held. omega (arith, held_root x held);
   agenda = λ x is. absurd cc;
   aside = λ x is. absurd cc;
+  head = omega arith;
+  cells = tt;
 }
 
 worker_rows : (layout : Layout) (thread : ℕ) → 0 < thread → thread ≤ layout.workers
@@ -42,6 +44,8 @@ worker_rows layout thread some known = record {
   held = λ x held. omega (arith, held_root x held);
   agenda = λ x is. absurd cc;
   aside = λ x is. absurd cc;
+  head = omega arith;
+  cells = tt;
 }
 
 -- ---- plain fields

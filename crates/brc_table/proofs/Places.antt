@@ -126,6 +126,9 @@ row_tile layout x low =
 pub header_within : (layout : Layout) (k x : ℕ) → k < 5 → x < row_count layout → in_tile k x < word_count layout
 header_within layout k x low there = omega (arith, low, row_tile layout x there, rest_low x)
 
+pub cell_within : (layout : Layout) (x i : ℕ) → i < line → x < row_count layout → cell_place x i < word_count layout
+cell_within layout x i low there = omega (arith, low, row_tile layout x there, rest_low x)
+
 pub place_within : (layout : Layout) (a : Address) → layout.workers ≤ worker_limit → HasWord layout a → place a < word_count layout
 place_within layout (Local x) few has = header_within layout 0 x (omega arith) has
 place_within layout (Shared x) few has = header_within layout 1 x (omega arith) has

@@ -1,4 +1,4 @@
--- A hand does its first duty, which is one step on an object's word, and the rule holds again.
+-- A hand does its first duty, which is one step on a word, and the rule holds again.
 use Rattle.std.proofs.Common.{◌≡◌, ◌≢◌, ℕ, ◌+◌, ◌≤◌, Bool, true, cond, List, ◌∷◌, length, set, inl, inr, refl, sym, ap, ◌∙◌, subst, arith, false, Option}
 use Rattle.std.specs.Prelude.{◌==◌, slice_index}
 use Rattle.std.proofs.lemmas.List.{length-set, get_or-set_same, get_or-set_other}
@@ -18,7 +18,7 @@ use Rattle.brc_model.specs.Machine.{Machine, same_address, written, actor_by, do
 use Rattle.brc_model.specs.Within.{IsThere}
 use Rattle.brc_model.specs.CountingLaws.{ComesNext, DutiesAreKept, DutyWithin, DutiesAreWithin}
 use Rattle.brc_table.specs.declared.view.View.{View}
-use Rattle.brc_table.specs.Places.{place, HasWord, IsObjectWord, word_count}
+use Rattle.brc_table.specs.Places.{place, HasWord, IsObjectWord, IsTableWord, word_count}
 use Rattle.brc_table.specs.Views.{actor_of, did}
 use Rattle.brc_table.specs.Rule.{reading, Stands}
 use Rattle.brc_table.proofs.Lists.{and_first, and_second}
@@ -27,19 +27,31 @@ use Rattle.brc_table.proofs.Changing.{Changes, changed}
 
 -- ---- words and addresses
 
-object_has : (layout : Layout) (threads : ℕ) (a : Address) → IsObjectWord a → IsThere (row_count layout) threads a
-    → HasWord layout a
-object_has layout threads (Local x) object there = there
-object_has layout threads (Shared x) object there = there
-object_has layout threads (Gate x) object there = there
-object_has layout threads (KindOf x) object there = there
-object_has layout threads (Mark x) object there = there
-object_has layout threads (Cell x i) object there = there
-object_has layout threads (Slot x) object there = absurd object
-object_has layout threads (Resource x) object there = absurd object
-object_has layout threads (ThreadWord t) object there = absurd object
+table_has : (layout : Layout) (threads : ℕ) (a : Address) → IsTableWord a → threads ≡ 1 + layout.workers
+    → IsThere (row_count layout) threads a → HasWord layout a
+table_has layout threads (Local x) word all there = there
+table_has layout threads (Shared x) word all there = there
+table_has layout threads (Gate x) word all there = there
+table_has layout threads (KindOf x) word all there = there
+table_has layout threads (Mark x) word all there = there
+table_has layout threads (Cell x i) word all there = there
+table_has layout threads (Slot x) word all there = absurd word
+table_has layout threads (Resource x) word all there = absurd word
+table_has layout threads (ThreadWord t) word all there = omega (arith, there, all)
 
-object_reads : (a : Address) (word : ℕ) → IsObjectWord a → reading a word ≡ word
+-- An object's word is a word of the table.
+pub object_in_table : (a : Address) → IsObjectWord a → IsTableWord a
+object_in_table (Local x) object = tt
+object_in_table (Shared x) object = tt
+object_in_table (Gate x) object = tt
+object_in_table (KindOf x) object = tt
+object_in_table (Mark x) object = tt
+object_in_table (Cell x i) object = tt
+object_in_table (Slot x) object = absurd object
+object_in_table (Resource x) object = absurd object
+object_in_table (ThreadWord t) object = absurd object
+
+pub object_reads : (a : Address) (word : ℕ) → IsObjectWord a → reading a word ≡ word
 object_reads (Local x) word object = refl
 object_reads (Shared x) word object = refl
 object_reads (Gate x) word object = refl
@@ -50,7 +62,7 @@ object_reads (Slot x) word object = absurd object
 object_reads (Resource x) word object = absurd object
 object_reads (ThreadWord t) word object = absurd object
 
-same_is : (a b : Address) → same_address a b ≡ true → a ≡ b
+pub same_is : (a b : Address) → same_address a b ≡ true → a ≡ b
 same_is (Local x) (Local y) e = ap Local (eqb-true x y e)
 same_is (Shared x) (Shared y) e = ap Shared (eqb-true x y e)
 same_is (Gate x) (Gate y) e = ap Gate (eqb-true x y e)
@@ -65,26 +77,26 @@ same_is (Resource x) (Resource y) e = ap Resource (eqb-true x y e)
 same_is (ThreadWord t) (ThreadWord u) e = ap ThreadWord (eqb-true t u e)
 same_is _ _ e = absurd cc
 
--- Writing an object's word in the table is writing it in the machine.
-written_reads : (layout : Layout) (words : List ℕ) (memory : Address → ℕ) (a : Address) (word : ℕ)
-    → layout.workers ≤ worker_limit → length words ≡ word_count layout → IsObjectWord a → HasWord layout a
+-- Writing a word in the table is writing in the machine what it says.
+written_reads : (layout : Layout) (words : List ℕ) (memory : Address → ℕ) (a : Address) (left word : ℕ)
+    → layout.workers ≤ worker_limit → length words ≡ word_count layout → reading a left ≡ word → HasWord layout a
     → ((b : Address) → HasWord layout b → memory b ≡ reading b (slice_index words (place b)))
     → (b : Address) → HasWord layout b
-    → written memory a word b ≡ reading b (slice_index (set words (place a) word) (place b))
-written_reads layout words memory a word few long object has reads b there =
+    → written memory a word b ≡ reading b (slice_index (set words (place a) left) (place b))
+written_reads layout words memory a left word few long says has reads b there =
     elim (cases_Bool (same_address a b)) [
       | inl one ↦
-          let here : slice_index (set words (place a) word) (place a) ≡ word =
-          get_or-set_same words (place a) word 0 (omega (arith, long, place_within layout a few has)) in
+          let here : slice_index (set words (place a) left) (place a) ≡ left =
+          get_or-set_same words (place a) left 0 (omega (arith, long, place_within layout a few has)) in
           let found : written memory a word b ≡ word = ap (λ (e : Bool). cond e word (memory b)) one in
-          let there' : reading b (slice_index (set words (place a) word) (place b)) ≡ word =
-          subst (λ (c : Address). reading c (slice_index (set words (place a) word) (place c)) ≡ word) (same_is a b one)
-          (object_reads a (slice_index (set words (place a) word) (place a)) object ∙ here) in
+          let there' : reading b (slice_index (set words (place a) left) (place b)) ≡ word =
+          subst (λ (c : Address). reading c (slice_index (set words (place a) left) (place c)) ≡ word) (same_is a b one)
+          (ap (reading a) here ∙ says) in
           found ∙ sym there'
       | inr other ↦
           let apart : place b ≢ place a = λ e. place_apart layout a b few has there other (sym e) in
-          let same : slice_index (set words (place a) word) (place b) ≡ slice_index words (place b) =
-          get_or-set_other words (place a) (place b) word 0 apart in
+          let same : slice_index (set words (place a) left) (place b) ≡ slice_index words (place b) =
+          get_or-set_other words (place a) (place b) left 0 apart in
           ap (λ (e : Bool). cond e word (memory b)) other ∙ (reads b there ∙ ap (reading b) (sym same))
     ]
 
@@ -97,7 +109,7 @@ pub record Does (layout : Layout) (words : List ℕ) (views : List View) (id : �
   pub here : get_elem? views id ≡ some v
   pub agenda : v.agenda ≡ d ∷ rest
   pub alive : v.status ≢ Gone
-  pub object : IsObjectWord (address_of v.layout v.thread v.head d)
+  pub word : IsTableWord (address_of v.layout v.thread v.head d)
   pub plain : is_locking d ≡ false
 
 -- A duty that neither locks nor unlocks leaves the hand's lock as it is.
@@ -110,13 +122,17 @@ locked_still locked _ found plain = refl
 abbrev pub place_of : View → Duty → ℕ
 place_of v d = place (address_of v.layout v.thread v.head d)
 
+-- what the duty's word says, if the table has this value there
+abbrev pub read_of : View → Duty → ℕ → ℕ
+read_of v d word = reading (address_of v.layout v.thread v.head d) word
+
 module _ (kept : DutiesAreKept) (within : DutiesAreWithin) (layout : Layout) (words : List ℕ) (views : List View) (id : ℕ)
     (v : View) (d : Duty) (rest : List Duty) (does : Does layout words views id v d rest) where
   abbrev m : Machine
   m = does.stands.machine
 
   abbrev found : ℕ
-  found = slice_index words (place_of v d)
+  found = read_of v d (slice_index words (place_of v d))
 
   told : v.layout ≡ m.layout
   told = does.stands.told id v does.here
@@ -129,52 +145,49 @@ module _ (kept : DutiesAreKept) (within : DutiesAreWithin) (layout : Layout) (wo
 
   has : HasWord m.layout (address_of v.layout v.thread v.head d)
   has =
-      object_has m.layout (1 + m.layout.workers) (address_of v.layout v.thread v.head d) does.object
+      table_has m.layout (1 + m.layout.workers) (address_of v.layout v.thread v.head d) does.word refl
       (subst (λ (l : Layout). IsThere (row_count m.layout) (1 + m.layout.workers) (address_of l v.thread v.head d))
       (sym told) relies.there)
 
-  -- The machine's step finds the table's word.
+  -- The machine's step finds what the table's word says.
   pub finds : m.memory (address_of v.layout v.thread v.head d) ≡ found
-  finds =
-      does.stands.reads (address_of v.layout v.thread v.head d) has
-      ∙ object_reads (address_of v.layout v.thread v.head d) found does.object
+  finds = does.stands.reads (address_of v.layout v.thread v.head d) has
 
-  changes : Changes layout words views v (did v (d ∷ rest) found) does.stands
-      (set words (place_of v d) (new_word v.thread v.head d found))
-  changes =
-      let old = does.stands in
-      let t = v.thread in let a = actor_of v in
-      let seen : m.memory (address_of m.layout t a.head d) ≡ found =
-      subst (λ (l : Layout). m.memory (address_of l t v.head d) ≡ found) told finds in
-      record {
-        accounts = old.accounts;
-        machine = done_by m t a d rest;
-        counts = (kept old.accounts (1 + m.layout.workers) m t a d rest old.counts comes).1;
-        layout_same = refl;
-        length_is = length-set words (place_of v d) (new_word t v.head d found);
-        reads = λ b there.
-            let after =
-            written_reads m.layout words m.memory (address_of v.layout t v.head d) (new_word t v.head d found)
-            old.plain.few_workers old.length_is does.object has old.reads b there in
-            subst (λ (k : ℕ). written m.memory (address_of m.layout t a.head d) (new_word t a.head d k) b
-            ≡ reading b (slice_index (set words (place_of v d) (new_word t v.head d found)) (place b))) (sym seen)
-            (subst (λ (l : Layout). written m.memory (address_of l t v.head d) (new_word t v.head d found) b
-            ≡ reading b (slice_index (set words (place_of v d) (new_word t v.head d found)) (place b))) told after);
-        actors =
-            ap (λ (k : ℕ). set m.actors t (actor_by m.layout t a d rest k)) seen
-            ∙ ap (λ (l : Layout). set m.actors t (actor_by l t a d rest found)) (sym told);
-        thread_same = refl;
-        told_same = refl;
-        locked_same = locked_still v.locked d found does.plain;
-        given_more = λ u is. is;
-        holding = λ x counted. old.holding id v x does.here counted;
-        others = λ u apart. refl;
-        no_variables = old.no_variables;
-      }
+  module _ (left : ℕ) (leaves : read_of v d left ≡ new_word v.thread v.head d found) where
+    changes : Changes layout words views v (did v (d ∷ rest) found) does.stands (set words (place_of v d) left)
+    changes =
+        let old = does.stands in
+        let t = v.thread in let a = actor_of v in
+        let seen : m.memory (address_of m.layout t a.head d) ≡ found =
+        subst (λ (l : Layout). m.memory (address_of l t v.head d) ≡ found) told finds in
+        record {
+          accounts = old.accounts;
+          machine = done_by m t a d rest;
+          counts = (kept old.accounts (1 + m.layout.workers) m t a d rest old.counts comes).1;
+          layout_same = refl;
+          length_is = length-set words (place_of v d) left;
+          reads = λ b there.
+              let after =
+              written_reads m.layout words m.memory (address_of v.layout t v.head d) left (new_word t v.head d found)
+              old.plain.few_workers old.length_is leaves has old.reads b there in
+              subst (λ (k : ℕ). written m.memory (address_of m.layout t a.head d) (new_word t a.head d k) b
+              ≡ reading b (slice_index (set words (place_of v d) left) (place b))) (sym seen)
+              (subst (λ (l : Layout). written m.memory (address_of l t v.head d) (new_word t v.head d found) b
+              ≡ reading b (slice_index (set words (place_of v d) left) (place b))) told after);
+          actors =
+              ap (λ (k : ℕ). set m.actors t (actor_by m.layout t a d rest k)) seen
+              ∙ ap (λ (l : Layout). set m.actors t (actor_by l t a d rest found)) (sym told);
+          thread_same = refl;
+          told_same = refl;
+          locked_same = locked_still v.locked d found does.plain;
+          given_more = λ u is. is;
+          holding = λ x counted. old.holding id v x does.here counted;
+          others = λ u apart. refl;
+          no_variables = old.no_variables;
+        }
 
-  -- The rule holds after the step.
-  pub stands_after : Stands layout (set words (place_of v d) (new_word v.thread v.head d found))
-      (set views id (did v (d ∷ rest) found))
-  stands_after =
-      changed layout words views id v (did v (d ∷ rest) found) does.stands does.here
-      (set words (place_of v d) (new_word v.thread v.head d found)) changes
+    -- The rule holds after the step.
+    pub stands_after : Stands layout (set words (place_of v d) left) (set views id (did v (d ∷ rest) found))
+    stands_after =
+        changed layout words views id v (did v (d ∷ rest) found) does.stands does.here (set words (place_of v d) left)
+        changes

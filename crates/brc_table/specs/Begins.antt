@@ -4,8 +4,10 @@ use Rattle.std.specs.Prelude.{slice_set}
 use mathlib.Core.Option.{some}
 use lib.ListN.{get_elem?}
 use Rattle.brc_model.specs.declared.duty.Duty.{Duty}
+use Rattle.brc_model.specs.declared.duty.Duty.TheVariants.{Settle}
 use Rattle.brc_model.specs.declared.actor.Status.{Status}
 use Rattle.brc_model.specs.declared.actor.Status.TheVariants.{Gone}
+use Rattle.brc_model.specs.declared.address.Address.TheVariants.{ThreadWord}
 use Rattle.brc_model.specs.declared.layout.Layout.{Layout}
 use Rattle.brc_model.specs.Duties.{address_of, new_word, new_head}
 use Rattle.brc_model.specs.Layout.{row_count}
@@ -14,7 +16,7 @@ use Rattle.brc_model.specs.Within.{Suits}
 use Rattle.brc_model.specs.Stores.{Overwrites}
 use Rattle.brc_table.specs.declared.view.View.{View}
 use Rattle.brc_table.specs.Places.{place, IsObjectWord}
-use Rattle.brc_table.specs.Rule.{Stands}
+use Rattle.brc_table.specs.Rule.{thread_reading, Stands}
 use Rattle.brc_table.specs.Plays.{overwritten}
 
 -- In each table that meets the rule, a hand with the one view may have the other.
@@ -54,6 +56,32 @@ pub record MakesQuietly (v : View) (index : ℕ) (f : ℕ → ℕ) : Type 0 wher
 pub record StoresWord (v : View) (index word : ℕ) : Type 0 where
   pub makes : Makes v index (λ found. word)
   pub knows : (found : ℕ) → Overwrites v.thread makes.duty found → found ≡ overwritten v.agenda
+
+-- The hand's first duty is about this thread's word, and makes f of what it finds there.
+pub record MakesAtThread (v : View) (thread : ℕ) (f : ℕ → ℕ) : Type 0 where
+  pub duty : Duty
+  pub rest : List Duty
+  pub agenda : v.agenda ≡ duty ∷ rest
+  pub alive : v.status ≢ Gone
+  pub address : address_of v.layout v.thread v.head duty ≡ ThreadWord thread
+  pub plain : is_locking duty ≡ false
+  pub leaves : (found : ℕ) → thread_reading (f found) ≡ new_word v.thread v.head duty (thread_reading found)
+
+-- The same of a duty that leaves status, chain and used rows as they are.
+pub record MakesAtThreadQuietly (v : View) (thread : ℕ) (f : ℕ → ℕ) : Type 0 where
+  pub makes : MakesAtThread v thread f
+  pub quiet : IsQuiet makes.duty
+
+-- The hand's first duty stores this thread's word, and knows what that word said.
+pub record StoresThreadWord (v : View) (thread word : ℕ) : Type 0 where
+  pub makes : MakesAtThread v thread (λ found. word)
+  pub knows : (found : ℕ) → Overwrites v.thread makes.duty found → found ≡ overwritten v.agenda
+
+-- The hand's first duty is to settle its chain.
+pub record SettlesNext (v : View) : Type 0 where
+  pub rest : List Duty
+  pub agenda : v.agenda ≡ Settle ∷ rest
+  pub alive : v.status ≢ Gone
 
 -- The layout, the thread, its status, its chain, its used rows and the hands that it has given out are as before.
 pub record KeepsThread (v u : View) : Type 0 where

@@ -1,9 +1,9 @@
 -- Which duties each kind of step does.
-use Rattle.std.specs.Prelude.{◌≡◌, ◌≢◌, ℕ, ◌+◌, ◌-◌, List, [], ◌∷◌}
+use Rattle.std.specs.Prelude.{◌≡◌, ◌≢◌, ℕ, ◌+◌, ◌-◌, ◌<◌, List, [], ◌∷◌}
 use Rattle.brc_word.specs.Words.{released_word, merged_word}
 use Rattle.brc_model.specs.declared.duty.Duty.{Duty}
-use Rattle.brc_model.specs.declared.duty.Duty.TheVariants.{RetainStore, RetainAdd, ReleaseStore, DecideAtZero, SharedLoad, SharedExchange, MergeSwap, MergeLoad, MergeExchange, Die, BirthLocal}
-use Rattle.brc_model.specs.declared.actor.Status.TheVariants.{Gone}
+use Rattle.brc_model.specs.declared.duty.Duty.TheVariants.{RetainStore, RetainAdd, ReleaseStore, DecideAtZero, SharedLoad, SharedExchange, SetMark, Look, TakeMark, MergeSwap, MergeLoad, MergeExchange, Die, Settle, SettleKind, SettleCell, SettleEnd, Scan, Finish, BirthLocal}
+use Rattle.brc_model.specs.declared.actor.Status.TheVariants.{Running, Gone}
 use Rattle.brc_table.specs.declared.view.View.{View}
 use Rattle.brc_table.specs.Hands.{MayWait}
 
@@ -49,3 +49,68 @@ ChainsRow x _ = ⊥
 abbrev pub OwnsFirst : ℕ → List Duty → Type 0
 OwnsFirst x (BirthLocal y h ∷ []) = y ≡ x
 OwnsFirst x _ = ⊥
+
+-- The one duty is to set the row's mark.
+abbrev pub SetsMark : ℕ → List Duty → Type 0
+SetsMark x (SetMark y ∷ []) = y ≡ x
+SetsMark x _ = ⊥
+
+-- The one duty is to take the row's mark back.
+abbrev pub TakesMark : ℕ → List Duty → Type 0
+TakesMark x (TakeMark y ∷ []) = y ≡ x
+TakesMark x _ = ⊥
+
+-- The one duty is to look whether the thread of the row's block still runs.
+abbrev pub LooksAtOwner : ℕ → List Duty → Type 0
+LooksAtOwner x (Look y ∷ []) = y ≡ x
+LooksAtOwner x _ = ⊥
+
+-- ---- settling: what else there is to do comes behind
+
+-- The hand runs and has nothing to do, so that it may begin to settle; or to settle is what it does next.
+abbrev pub SettlesFrom : View → List Duty → Type 0
+SettlesFrom v [] = (v.status ≡ Running) × (v.aside ≡ [])
+SettlesFrom v (Settle ∷ rest) = v.status ≢ Gone
+SettlesFrom v _ = ⊥
+
+abbrev pub MaySettle : View → Type 0
+MaySettle v = SettlesFrom v v.agenda
+
+-- The first duty is to load the kind word of the dying row.
+abbrev pub LoadsDyingKind : ℕ → List Duty → Type 0
+LoadsDyingKind x (SettleKind y ∷ rest) = y ≡ x
+LoadsDyingKind x _ = ⊥
+
+-- The first duty is to empty this cell of the dying row.
+abbrev pub EmptiesCell : ℕ → ℕ → List Duty → Type 0
+EmptiesCell x i (SettleCell y j n ∷ rest) = (y ≡ x) × (j ≡ i) × (i < n)
+EmptiesCell x i _ = ⊥
+
+-- The first duty is to close the dying row.
+abbrev pub ClosesRow : ℕ → List Duty → Type 0
+ClosesRow x (SettleEnd y ∷ rest) = y ≡ x
+ClosesRow x _ = ⊥
+
+-- ---- the exit
+
+-- The hand runs and has nothing to do, not even aside.
+pub record IsFree (v : View) : Type 0 where
+  pub running : v.status ≡ Running
+  pub agenda : v.agenda ≡ []
+  pub aside : v.aside ≡ []
+
+-- The hand may leave: besides, it holds no reference, and its chain is empty.
+pub record MayLeave (v : View) : Type 0 where
+  pub free : IsFree v
+  pub holds_none : v.references ≡ []
+  pub settled : v.head ≡ 0
+
+-- The first duty is to scan the mark of the thread's row with this index.
+abbrev pub ScansRow : ℕ → List Duty → Type 0
+ScansRow i (Scan j n ∷ rest) = j ≡ i
+ScansRow i _ = ⊥
+
+-- The one duty is to say that the thread is gone.
+abbrev pub Finishes : List Duty → Type 0
+Finishes (Finish ∷ []) = Unit {0}
+Finishes _ = ⊥

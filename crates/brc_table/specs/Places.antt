@@ -59,6 +59,12 @@ IsObjectWord (Resource x) = ⊥
 IsObjectWord (ThreadWord t) = ⊥
 IsObjectWord _ = Unit {0}
 
+-- The address has a word of the table, an object's or a thread's.
+abbrev pub IsTableWord : Address → Type 0
+IsTableWord (Slot x) = ⊥
+IsTableWord (Resource x) = ⊥
+IsTableWord _ = Unit {0}
+
 -- the number of tiles, the last of which may have fewer rows
 abbrev pub tiles : Layout → ℕ
 tiles layout = (row_count layout + (line - 1)) / line

@@ -14,9 +14,13 @@ use Rattle.brc_table.specs.declared.view.View.{View}
 use Rattle.brc_table.specs.Places.{place, HasWord, word_count}
 use Rattle.brc_table.specs.Views.{actor_of, holds, is_given}
 
--- what a word says at its address: a thread that isn't started yet counts as running
+-- what a thread word says of the thread: one that isn't started yet counts as running
+abbrev pub thread_reading : ℕ → ℕ
+thread_reading word = if word == 0 then 1 else word
+
+-- what a word says at its address
 abbrev pub reading : Address → ℕ → ℕ
-reading (ThreadWord t) word = if word == 0 then 1 else word
+reading (ThreadWord t) word = thread_reading word
 reading address word = word
 
 -- There is a counting machine with the invariant whose words, threads and accounts are those of the table.

@@ -3,13 +3,15 @@ use Rattle.std.specs.Prelude.{Bool, ◌≡◌, ℕ, ◌<◌, ◌≤◌, true, �
 use Rattle.std.specs.List.{filter, list_any}
 use Rattle.brc_model.specs.declared.duty.Holding.TheVariants.{AsCaller}
 use Rattle.brc_model.specs.declared.duty.Duty.{Duty}
-use Rattle.brc_model.specs.declared.duty.Duty.TheVariants.{RetainLoad, ReleaseLoad, BirthKind}
+use Rattle.brc_model.specs.declared.duty.Duty.TheVariants.{RetainLoad, ReleaseLoad, BirthKind, KindLoad, Settle, ClaimMark, Leave}
 use Rattle.brc_model.specs.declared.actor.Status.TheVariants.{Running}
 use Rattle.brc_model.specs.declared.layout.Layout.{Layout}
 use Rattle.brc_model.specs.Layout.{row_count, block_size, front_rows, root_row, row_at, is_immortal_row}
 use Rattle.brc_model.specs.Duties.{address_of, new_word, continuation, new_head, ready}
 use Rattle.brc_model.specs.Machine.{Actor, is_running, status_by, used_by, locked_by, lent_by}
 use Rattle.brc_model.specs.OpenWork.{is_about}
+use Rattle.brc_model.specs.Limits.{cell_limit}
+use Rattle.brc_model.specs.Ranges.{cells_named}
 use Rattle.brc_table.specs.declared.view.View.{View}
 use Rattle.brc_table.specs.declared.view.Event.{Event}
 use Rattle.brc_table.specs.Spares.{is_spent_for}
@@ -28,8 +30,13 @@ actor_of v = record {
 
 -- ---- references
 
--- The hand's thread is main or a worker, and the objects to which the hand holds references, and those of its duties,
--- have rows.
+-- The first duty names no more cells than a list has.
+abbrev pub NamesFewCells : List Duty → Type 0
+NamesFewCells [] = Unit {0}
+NamesFewCells (d ∷ rest) = cells_named d ≤ cell_limit
+
+-- The hand's thread is main or a worker, and the objects to which the hand holds references, those of its duties and
+-- the first one of its chain have rows.
 pub record RowsAreThere (v : View) : Type 0 where
   pub thread : v.thread ≤ v.layout.workers
   pub used : v.used ≤ block_size v.layout v.thread
@@ -37,6 +44,8 @@ pub record RowsAreThere (v : View) : Type 0 where
   pub held : (x : ℕ) → 1 ≤ count_by (λ y. y == x) v.references → x < row_count v.layout
   pub agenda : (x : ℕ) → list_any (is_about x) v.agenda ≡ true → x < row_count v.layout
   pub aside : (x : ℕ) → list_any (is_about x) v.aside ≡ true → x < row_count v.layout
+  pub head : v.head ≤ row_count v.layout
+  pub cells : NamesFewCells v.agenda
 
 -- how many references the hand holds to the object
 abbrev pub holds : View → ℕ → ℕ
@@ -126,6 +135,30 @@ bearing v word = record v {
   aside = open_work v;
   references = next_row v ∷ v.references;
 }
+
+-- the hand begins to ask for the kind of the row's object
+abbrev pub asking : View → ℕ → View
+asking v x = record v {
+  agenda = KindLoad x ∷ [];
+  aside = open_work v;
+}
+
+-- the agenda of a hand that settles its chain, or goes on to
+abbrev pub settle_first : List Duty → List Duty
+settle_first [] = Settle ∷ []
+settle_first (d ∷ rest) = d ∷ rest
+
+-- the hand begins to settle its chain, unless it does already
+abbrev pub settling : View → View
+settling v = record v { agenda = settle_first v.agenda }
+
+-- the hand begins to claim the mark of a row of its own block
+abbrev pub claiming : View → ℕ → View
+claiming v x = record v { agenda = ClaimMark x ∷ [] }
+
+-- the hand begins to leave
+abbrev pub leaving : View → View
+leaving v = record v { agenda = Leave 0 v.used ∷ [] }
 
 -- ---- the hands that main has given out
 

@@ -74,6 +74,13 @@ impl<T> Hand<T> {
         self.used
     }
 
+    /// Returns the head of the hand's dying chain: 0 if the chain is empty, else the first object's row plus 1.
+    pub fn head(&self) -> u32
+        ensures { result ≡ self.now.view.head }
+    {
+        self.head
+    }
+
     /// Returns whether this hand, main's, has given out the thread's hand.
     pub fn has_given(&self, thread: u8) -> bool
         ensures { result ≡ is_given thread self.now.view }

@@ -3,10 +3,14 @@
 #![tactic(auto)]
 
 mod carried;
+mod dying;
+mod exits;
 mod first_words;
 mod hand;
+mod kinds;
 mod laws;
 mod lives;
+mod marks;
 mod place;
 mod rule;
 mod size;

@@ -48,7 +48,7 @@ impl<T: Drop> Words<T> {
     }
 
     /// Returns the row with the index in the worker's block.
-    fn row_at(&self, thread: u8, index: u32) -> u32
+    pub(crate) fn row_at(&self, thread: u8, index: u32) -> u32
         requires worker { 0 < thread }
         requires there { thread ≤ self.now.layout.workers }
         requires index { index < self.now.layout.rows }

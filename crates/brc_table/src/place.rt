@@ -1,7 +1,8 @@
 //! Where each word of the table is.
 
 ghost use Rattle.std.specs.Prelude.{◌≡◌, ◌<◌};
-ghost use Rattle.brc_table.specs.Places.{in_tile};
+ghost use Rattle.brc_model.specs.Limits.{cell_limit};
+ghost use Rattle.brc_table.specs.Places.{in_tile, cell_place};
 
 /// The words of a cache line of 64 bytes.
 pub(crate) const LINE: usize = 8;
@@ -24,6 +25,12 @@ pub(crate) const GATE: usize = 2;
 /// The line of a tile's kind words.
 pub(crate) const KIND: usize = 3;
 
+/// The line of a tile's marks.
+pub(crate) const MARK: usize = 4;
+
+/// The line of the cells of a tile's first row.
+const CELLS: usize = 5;
+
 /// Returns the place of a row's word. The words of a row are in different cache lines, so that the owner, which writes
 /// the local word, and another thread, which writes the shared word, don't write to one line.
 pub(crate) fn in_line(line: usize, row: u32) -> usize
@@ -32,4 +39,13 @@ pub(crate) fn in_line(line: usize, row: u32) -> usize
 {
     let row = row as usize;
     FRONT + TILE * (row / LINE) + LINE * line + row % LINE
+}
+
+/// Returns the place of a cell. The cells of a row are a cache line.
+pub(crate) fn in_cell(row: u32, cell: u32) -> usize
+    requires { cell < cell_limit }
+    ensures { result ≡ cell_place row cell }
+{
+    let row = row as usize;
+    FRONT + TILE * (row / LINE) + LINE * (CELLS + row % LINE) + cell as usize
 }

@@ -49,3 +49,14 @@ impl<S, B: Begins> Play<S, View> for Stored<B> {
 
     ghost then = { λ s me stored after. Stores B.begins me after };
 }
+
+/// A step that goes on with what a thread word says.
+pub(crate) struct Looked<B> {
+    marker: PhantomData<B>,
+}
+
+impl<S, B: Begins> Play<S, View> for Looked<B> {
+    ghost use Rattle.brc_table.specs.Plays.{Looks};
+
+    ghost then = { λ s me found after. Looks B.begins me found after };
+}

@@ -1,7 +1,7 @@
 //! How many rows and words a table has.
 
-ghost use Rattle.std.specs.Prelude.{◌≡◌};
-ghost use Rattle.brc_model.specs.Layout.{row_count};
+ghost use Rattle.std.specs.Prelude.{◌≡◌, ◌<◌};
+ghost use Rattle.brc_model.specs.Layout.{row_count, block_of};
 ghost use Rattle.brc_table.specs.Places.{word_count};
 
 use crate::place::{FRONT, LINE, TILE};
@@ -32,4 +32,17 @@ pub(crate) fn word_count(layout: Layout) -> usize
     ensures { result ≡ word_count layout }
 {
     FRONT + TILE * ((row_count(layout) + (LINE - 1)) / LINE)
+}
+
+/// Returns the thread whose block has the row.
+pub(crate) fn block_of(layout: Layout, row: u32) -> u32
+    requires { 0 < layout.rows }
+    ensures { result ≡ block_of layout row }
+{
+    let worker_rows = u32::from(layout.workers) * u32::from(layout.rows);
+    if FRONT_ROWS <= row && row < FRONT_ROWS + worker_rows {
+        (row - FRONT_ROWS) / u32::from(layout.rows) + 1
+    } else {
+        0
+    }
 }

@@ -1,19 +1,29 @@
 //! One atomic step of a hand, of any kind. Each is sequentially consistent, and may first turn the hand to other work.
 
-ghost use Rattle.std.specs.Prelude.{◌≡◌, ◌+◌, ◌%◌, ◌^◌, ◌<◌, ◌==◌};
+ghost use Rattle.std.specs.Prelude.{◌≡◌, ◌+◌, ◌%◌, ◌^◌, ◌<◌, ◌≤◌, ◌==◌, false};
 ghost use prog.Atomic.{either};
-ghost use Rattle.brc_model.specs.Layout.{row_count};
-ghost use Rattle.brc_table.specs.Places.{in_tile};
+ghost use Rattle.brc_model.specs.Layout.{row_count, block_of};
+ghost use Rattle.brc_model.specs.Limits.{cell_limit};
+ghost use Rattle.brc_model.specs.Machine.{is_running};
+ghost use Rattle.brc_table.specs.Places.{in_tile, cell_place};
 ghost use Rattle.brc_table.specs.Views.{done};
 ghost use Rattle.brc_table.specs.Plays.{SuitsFirst, FirstFindsOwner, overwritten};
 ghost use Rattle.brc_table.specs.Hands.{IsOf};
-ghost use Rattle.brc_table.specs.Begins.{Becomes, KeepsThread, MakesQuietly, StoresWord};
+ghost use Rattle.brc_table.specs.Begins.{Becomes, KeepsThread, SettlesNext, MakesQuietly, MakesAtThreadQuietly, StoresThreadWord, StoresWord};
 
 use crate::hand::Hand;
-use crate::place::in_line;
-use crate::rule::{Begins, Continued, Stored};
+use crate::place::{GATE, in_cell, in_line};
+use crate::rule::{Begins, Continued, Looked, Stored};
+use crate::size::block_of;
 use crate::words::Words;
-use brc_model::{accounts_are_there, duties_are_kept, duties_are_within};
+use brc_model::{accounts_are_there, chains_are_there, duties_are_kept, duties_are_within};
+use brc_word::next_of_dying;
+
+/// The word of a thread that isn't started yet, which counts as running.
+const NOT_STARTED: u64 = 0;
+
+/// The word of a running thread.
+const RUNNING: u64 = 1;
 
 impl<T: Drop> Words<T> {
     /// Loads a word.
@@ -33,10 +43,86 @@ impl<T: Drop> Words<T> {
         duties_are_kept();
         duties_are_within();
         accounts_are_there();
+        chains_are_there();
         let index = in_line(line, row);
         self.table
             .shared
             .load::<Continued<B>>(&mut hand.seat, index)
+    }
+
+    /// Loads the word of the thread whose block has the row. Returns what it says of the thread: 1 if it runs or isn't
+    /// started yet, 2 if it is leaving, 3 if it is gone.
+    pub(crate) fn load_thread<B: Begins>(&self, hand: &mut Hand<T>, row: u32) -> u64
+        requires table { IsOf self.now hand.old }
+        requires begins { Becomes self.now.layout hand.old.view (B.begins hand.old.view) }
+        requires thread { KeepsThread hand.old.view (B.begins hand.old.view) }
+        requires makes { MakesAtThreadQuietly (B.begins hand.old.view) (block_of self.now.layout row) (λ found. found) }
+        ensures table { hand.new.table ≡ hand.old.table }
+        ensures carried { hand.new.carried ≡ hand.old.carried }
+        ensures view { hand.new.view ≡ done (B.begins hand.old.view) result }
+    {
+        duties_are_kept();
+        duties_are_within();
+        accounts_are_there();
+        chains_are_there();
+        self.layout_is_plain();
+        let thread = block_of(self.layout, row) as usize;
+        let word = self.table.shared.load::<Looked<B>>(&mut hand.seat, thread);
+        if word == NOT_STARTED { RUNNING } else { word }
+    }
+
+    /// Loads the gate of the first object of the hand's chain. The rest of the chain is the hand's chain from then on.
+    pub(crate) fn load_chain<B: Begins>(&self, hand: &mut Hand<T>) -> u64
+        requires table { IsOf self.now hand.old }
+        requires begins { Becomes self.now.layout hand.old.view (B.begins hand.old.view) }
+        requires thread { KeepsThread hand.old.view (B.begins hand.old.view) }
+        requires chain { 0 < hand.old.view.head }
+        requires settles { SettlesNext (B.begins hand.old.view) }
+        ensures table { hand.new.table ≡ hand.old.table }
+        ensures carried { hand.new.carried ≡ hand.old.carried }
+        ensures view { hand.new.view ≡ done (B.begins hand.old.view) result }
+    {
+        duties_are_kept();
+        duties_are_within();
+        accounts_are_there();
+        chains_are_there();
+        hand.rows_are_there();
+        let index = in_line(GATE, hand.head - 1);
+        let word = self
+            .table
+            .shared
+            .load::<Continued<B>>(&mut hand.seat, index);
+        hand.head = next_of_dying(word);
+        word
+    }
+
+    /// Stores the word of the hand's own thread, which no longer runs after the step.
+    pub(crate) fn store_thread<B: Begins>(&self, hand: &mut Hand<T>, word: u64)
+        requires table { IsOf self.now hand.old }
+        requires begins { Becomes self.now.layout hand.old.view (B.begins hand.old.view) }
+        requires thread { KeepsThread hand.old.view (B.begins hand.old.view) }
+        requires stores { StoresThreadWord (B.begins hand.old.view) hand.old.view.thread word }
+        requires status { is_running (done (B.begins hand.old.view) (overwritten (B.begins hand.old.view).agenda)).status
+            ≡ false }
+        requires head { (done (B.begins hand.old.view) (overwritten (B.begins hand.old.view).agenda)).head
+            ≡ hand.old.view.head }
+        requires used { (done (B.begins hand.old.view) (overwritten (B.begins hand.old.view).agenda)).used
+            ≡ hand.old.view.used }
+        ensures table { hand.new.table ≡ hand.old.table }
+        ensures carried { hand.new.carried ≡ hand.old.carried }
+        ensures view { hand.new.view ≡ done (B.begins hand.old.view) (overwritten (B.begins hand.old.view).agenda) }
+    {
+        duties_are_kept();
+        duties_are_within();
+        accounts_are_there();
+        chains_are_there();
+        self.layout_is_plain();
+        hand.rows_are_there();
+        let thread = hand.thread as usize;
+        self.table
+            .shared
+            .store::<Stored<B>>(&mut hand.seat, thread, word);
+        hand.running = false;
     }
 
     /// Swaps a word with another value.
@@ -55,7 +141,37 @@ impl<T: Drop> Words<T> {
         duties_are_kept();
         duties_are_within();
         accounts_are_there();
+        chains_are_there();
         let index = in_line(line, row);
+        self.table
+            .shared
+            .swap::<Continued<B>>(&mut hand.seat, index, new)
+    }
+
+    /// Swaps a list's cell with another value.
+    pub(crate) fn swap_cell<B: Begins>(
+        &self,
+        hand: &mut Hand<T>,
+        row: u32,
+        cell: u32,
+        new: u64,
+    ) -> u64
+        requires table { IsOf self.now hand.old }
+        requires begins { Becomes self.now.layout hand.old.view (B.begins hand.old.view) }
+        requires thread { KeepsThread hand.old.view (B.begins hand.old.view) }
+        requires cell { cell < cell_limit }
+        requires there { row < row_count self.now.layout }
+        requires makes { MakesQuietly (B.begins hand.old.view) (cell_place row cell) (λ found. new) }
+        ensures table { hand.new.table ≡ hand.old.table }
+        ensures carried { hand.new.carried ≡ hand.old.carried }
+        ensures view { hand.new.view ≡ done (B.begins hand.old.view) result }
+        ensures suits { SuitsFirst (B.begins hand.old.view) (B.begins hand.old.view).agenda result }
+    {
+        duties_are_kept();
+        duties_are_within();
+        accounts_are_there();
+        chains_are_there();
+        let index = in_cell(row, cell);
         self.table
             .shared
             .swap::<Continued<B>>(&mut hand.seat, index, new)
@@ -77,6 +193,7 @@ impl<T: Drop> Words<T> {
         duties_are_kept();
         duties_are_within();
         accounts_are_there();
+        chains_are_there();
         let index = in_line(line, row);
         self.table
             .shared
@@ -106,6 +223,7 @@ impl<T: Drop> Words<T> {
         duties_are_kept();
         duties_are_within();
         accounts_are_there();
+        chains_are_there();
         let index = in_line(line, row);
         self.table
             .shared
@@ -139,6 +257,7 @@ impl<T: Drop> Words<T> {
         duties_are_kept();
         duties_are_within();
         accounts_are_there();
+        chains_are_there();
         let index = in_line(line, row);
         self.table
             .shared

@@ -65,7 +65,7 @@ none_about_held p n m t a x k core ready alone =
     )
 
 -- An object that the thread holds as the caller has a row.
-held_row : (p : Accounts) (n : ℕ) (m : Machine) (t : ℕ) (a : Actor) (x : ℕ) → CoreInvariant p n m → IsReady m t a
+pub held_row : (p : Accounts) (n : ℕ) (m : Machine) (t : ℕ) (a : Actor) (x : ℕ) → CoreInvariant p n m → IsReady m t a
     → HasNoneAbout a x → 1 ≤ p t AsCaller x → x < row_count m.layout
 held_row p n m t a x core ready alone some =
     referenced_small p n m x core (omega (
@@ -119,7 +119,7 @@ apart_from a x d begins alone few y =
     ]
 
 -- The weight of an agenda of one duty that weighs nothing.
-one_weight : (f : Duty → ℕ) (d : Duty) → f d ≡ 0 → sum_by f (d ∷ []) ≡ 0
+pub one_weight : (f : Duty → ℕ) (d : Duty) → f d ≡ 0 → sum_by f (d ∷ []) ≡ 0
 one_weight f d none = omega (arith, sum_by-cons f d [], none)
 
 -- A ready thread takes up work about a row that none of its open work is about.

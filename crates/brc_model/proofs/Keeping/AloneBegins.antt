@@ -1,0 +1,240 @@
+-- A ready thread that has put nothing aside begins what it does in one go: to settle, to claim a mark, or to leave. And
+-- a ready thread asks for an object's kind.
+use Rattle.std.proofs.Common.{◌≡◌, ℕ, Bool, cond, true, false, [], ◌∷◌, inl, refl, ap, subst, arith}
+use Rattle.std.specs.Prelude.{count_by}
+use Rattle.std.proofs.lemmas.Bool.{false≢true}
+use Rattle.std.proofs.lemmas.List.Sums.{sum_by-cons}
+use Rattle.brc_model.specs.declared.duty.Holding.{Holding}
+use Rattle.brc_model.specs.declared.duty.Holding.TheVariants.{AsCaller}
+use Rattle.brc_model.specs.declared.duty.Duty.{Duty}
+use Rattle.brc_model.specs.declared.duty.Duty.TheVariants.{Settle, Leave, ClaimMark, KindLoad}
+use Rattle.brc_model.specs.declared.actor.Status.TheVariants.{Running}
+use Rattle.brc_model.specs.Layout.{row_count}
+use Rattle.brc_model.specs.Machine.{Actor, Machine, with_actor}
+use Rattle.brc_model.specs.References.{one_if}
+use Rattle.brc_model.specs.RowInvariant.{waits, carries, merges, decides}
+use Rattle.brc_model.specs.Accounts.{Account, Accounts, lacks, extra, HoldsNone}
+use Rattle.brc_model.specs.Knowledge.{ByReference, HeadFits}
+use Rattle.brc_model.specs.OpenWork.{is_about, is_finalising, has_leave, Agenda, IsSettled}
+use Rattle.brc_model.specs.Gates.{LocksFit}
+use Rattle.brc_model.specs.Invariant.{looks, Invariant}
+use Rattle.brc_model.specs.Ranges.{IsSmall, swaps}
+use Rattle.brc_model.specs.Counting.{Counts, working, IsReady}
+use Rattle.brc_model.specs.CountingLaws.{SettlesBegin, ClaimsBegin, ExitsBegin, KindsAreAsked, ChainsAreThere}
+use Rattle.brc_model.proofs.Basics.Bag.{one_if_low}
+use Rattle.brc_model.proofs.Limits.Ranges.{row_small, head_small}
+use Rattle.brc_model.proofs.Objects.Weights.{agenda_weight-le}
+use Rattle.brc_model.proofs.Keeping.NoSwaps.{replaced_swaps}
+use Rattle.brc_model.proofs.Keeping.Rearranging.{still_wait}
+use Rattle.brc_model.proofs.Keeping.Replaced.{with_account_itself}
+use Rattle.brc_model.proofs.Keeping.Sits.{Sits}
+use Rattle.brc_model.proofs.Keeping.Kept.{kept_sits}
+use Rattle.brc_model.proofs.Keeping.WorkAside.{working_ranges}
+use Rattle.brc_model.proofs.Keeping.WorkBegins.{ready_rests, ready_holds, none_about_held, held_row, BeginsWork, one_weight, one_makes, work_begins}
+
+-- The head of a thread's chain is a row of the machine, plus 1, or 0.
+pub chains_there : ChainsAreThere
+chains_there p n m t a counts found = head_small p n m t a counts.kept.core found
+
+-- ---- work in one go
+
+-- A duty that makes and gives up no reference, and weighs nothing.
+pub record BeginsAlone (d : Duty) : Type 0 where
+  pub lacks : (k : Holding) (object : ℕ) → lacks d k object ≡ false
+  pub extra : (k : Holding) (object : ℕ) → extra d k object ≡ false
+  pub hands : (y : ℕ) → is_finalising d y ≡ false
+  pub waits : (y : ℕ) → waits y d ≡ 0
+  pub carries : (y : ℕ) → carries y d ≡ 0
+  pub merges : (y : ℕ) → merges y d ≡ 0
+  pub decides : (y : ℕ) → decides y d ≡ 0
+  pub looks : (y : ℕ) → looks y d ≡ 0
+  pub swaps : swaps d ≡ 0
+
+-- What the thread has to show besides.
+pub record TakesAlone (p : Accounts) (m : Machine) (t : ℕ) (a : Actor) (d : Duty) : Type 0 where
+  pub begins : BeginsAlone d
+  pub exited : has_leave (d ∷ []) ≡ true → HoldsNone (p t)
+  pub knows : HeadFits (with_actor m t (working a (d ∷ []) a.aside)) t (working a (d ∷ []) a.aside) d []
+  pub fits : Agenda a.used Running (d ∷ [])
+  pub settled : IsSettled a.head (d ∷ [])
+  pub small : IsSmall (row_count m.layout) d
+
+-- The thread still holds the list that it has locked, whatever it does that makes no reference.
+same_locks : (account : Account) (m : Machine) (t : ℕ) (a : Actor) (d : Duty) → LocksFit account m t a
+    → ((k : Holding) (y : ℕ) → lacks d k y ≡ false) → LocksFit account m t (working a (d ∷ []) a.aside)
+same_locks account m t a d locks none y e =
+    let it = locks y e in
+    let no : one_if (lacks d it.by y) ≡ 0 = ap one_if (none it.by y) in
+    record {
+      counted = it.counted;
+      by = it.by;
+      held_so = omega (arith, it.held_so, one_makes it.by y d, no);
+      gate = it.gate;
+    }
+
+-- A ready thread that has put nothing aside takes up such a duty.
+pub alone_begins : (p : Accounts) (n : ℕ) (m : Machine) (t : ℕ) (a : Actor) (d : Duty) → Counts p n m
+    → IsReady m t a → a.aside ≡ [] → TakesAlone p m t a d
+    → Counts p n (with_actor m t (working a (d ∷ []) a.aside))
+alone_begins p n m t a d counts ready none new =
+    let core = counts.kept.core in
+    let begins = new.begins in
+    let old = core.each t a ready.found in
+    let sits : Sits m t a (d ∷ []) (p t) = record {
+      holds = record {
+        each = λ k object.
+            omega (
+              arith,
+              (ready_holds p n m t a core ready).each k object,
+              ap one_if (begins.lacks k object),
+              ap one_if (begins.extra k object),
+            );
+      };
+      bounded = old.0.bounded;
+      exited = λ e. (new.exited e, none);
+      aside = record {
+        waits = still_wait m t a (d ∷ []) a.aside a.aside old.2.waits;
+        apart = λ y.
+            let empty : count_by (is_about y) a.aside ≡ 0 = ap (count_by (is_about y)) none in
+            omega (arith, empty, one_if_low (is_about y d));
+        pieces = inl none;
+      };
+      knows = new.knows;
+      behind = tt;
+      locks = same_locks (p t) m t a d old.0.locks begins.lacks;
+      fits = new.fits;
+      hands = λ y. ap (λ (b : Bool). cond b 1 0) (begins.hands y);
+      no_waits = λ y. one_weight (waits y) d (begins.waits y);
+      no_carries = λ y. one_weight (carries y) d (begins.carries y);
+      no_merges = λ y. one_weight (merges y) d (begins.merges y);
+      no_decides = λ y. one_weight (decides y) d (begins.decides y);
+      no_looks = λ y. one_weight (looks y) d (begins.looks y);
+    } in
+    record {
+      kept =
+          subst (λ (q : Accounts). Invariant q n (with_actor m t (working a (d ∷ []) a.aside))) (with_account_itself p t)
+          (kept_sits p n m t a (d ∷ []) (p t) counts.kept (ready_rests p n m t a core ready) sits new.settled);
+      ranges =
+          working_ranges n m t a (d ∷ []) a.aside counts.ranges ready.found (new.small, tt)
+          (counts.ranges.aside t a ready.found);
+      no_cells = counts.no_cells;
+      no_flight = counts.no_flight;
+      no_swaps = replaced_swaps m.actors t a (working a (d ∷ []) a.aside) ready.found counts.no_swaps (omega (
+        arith,
+        sum_by-cons swaps d [],
+        begins.swaps,
+        agenda_weight-le swaps m.actors t a ready.found,
+        counts.no_swaps,
+      ));
+    }
+
+settle_begins : BeginsAlone Settle
+settle_begins = record {
+  lacks = λ k object. refl;
+  extra = λ k object. refl;
+  hands = λ y. refl;
+  waits = λ y. refl;
+  carries = λ y. refl;
+  merges = λ y. refl;
+  decides = λ y. refl;
+  looks = λ y. refl;
+  swaps = refl;
+}
+
+claim_begins : (x : ℕ) → BeginsAlone (ClaimMark x)
+claim_begins x = record {
+  lacks = λ k object. refl;
+  extra = λ k object. refl;
+  hands = λ y. refl;
+  waits = λ y. refl;
+  carries = λ y. refl;
+  merges = λ y. refl;
+  decides = λ y. refl;
+  looks = λ y. refl;
+  swaps = refl;
+}
+
+leave_begins : (i k : ℕ) → BeginsAlone (Leave i k)
+leave_begins i k = record {
+  lacks = λ k object. refl;
+  extra = λ k object. refl;
+  hands = λ y. refl;
+  waits = λ y. refl;
+  carries = λ y. refl;
+  merges = λ y. refl;
+  decides = λ y. refl;
+  looks = λ y. refl;
+  swaps = refl;
+}
+
+-- The invariant and the ranges hold after a ready thread begins to settle its chain.
+pub settles_begin : SettlesBegin
+settles_begin p n m t a counts ready none some =
+    alone_begins p n m t a Settle counts ready none (record {
+      begins = settle_begins;
+      exited = λ e. absurd (false≢true e);
+      knows = some;
+      fits = refl;
+      settled = tt;
+      small = record { row = λ y e. absurd (false≢true e); cells = omega arith };
+    })
+
+-- The invariant and the ranges hold after a ready thread begins to claim the mark of a row of its block.
+pub claims_begin : ClaimsBegin
+claims_begin p n m t a x counts ready none own there =
+    alone_begins p n m t a (ClaimMark x) counts ready none (record {
+      begins = claim_begins x;
+      exited = λ e. absurd (false≢true e);
+      knows = own;
+      fits = refl;
+      settled = tt;
+      small = row_small (row_count m.layout) x (ClaimMark x) there (λ y. refl) (omega arith);
+    })
+
+-- The invariant and the ranges hold after a ready thread that holds nothing begins to leave.
+pub exits_begin : ExitsBegin
+exits_begin p n m t a counts ready none empty holds =
+    alone_begins p n m t a (Leave 0 a.used) counts ready none (record {
+      begins = leave_begins 0 a.used;
+      exited = λ e. holds;
+      knows = tt;
+      fits = (refl, refl, refl);
+      settled = (empty, tt);
+      small = record { row = λ y e. absurd (false≢true e); cells = omega arith };
+    })
+
+-- ---- a look at a kind
+
+kind_load_begins : (x : ℕ) → BeginsWork x (KindLoad x)
+kind_load_begins x = record {
+  about = λ y. refl;
+  piece = refl;
+  fits = λ used. refl;
+  stays = refl;
+  settled = λ head. tt;
+  hands = λ y. refl;
+  waits = λ y. refl;
+  carries = λ y. refl;
+  merges = λ y. refl;
+  decides = λ y. refl;
+  looks = λ y. refl;
+}
+
+-- The invariant and the ranges hold after a ready thread begins to ask for the kind of an object that it holds.
+pub kinds_asked : KindsAreAsked
+kinds_asked p n m t a x counts ready alone some =
+    let core = counts.kept.core in
+    let holds = ready_holds p n m t a core ready in
+    let in_bag = none_about_held p n m t a x AsCaller core ready alone in
+    subst (λ (q : Accounts). Counts q n (with_actor m t (working a (KindLoad x ∷ []) a.aside))) (with_account_itself p t)
+    (work_begins p n m t a x (KindLoad x) (p t) counts ready alone (record {
+      begins = kind_load_begins x;
+      no_flight = counts.no_flight t;
+      holds = λ k object. omega (arith, holds.each k object);
+      bounded = (core.each t a ready.found).0.bounded;
+      locks = same_locks (p t) m t a (KindLoad x) (core.each t a ready.found).0.locks (λ k y. refl);
+      knows = ByReference AsCaller (omega (arith, in_bag, some));
+      small =
+          row_small (row_count m.layout) x (KindLoad x) (held_row p n m t a x core ready alone some) (λ y. refl)
+          (omega arith);
+    }))

@@ -1,0 +1,138 @@
+-- The duties of a hand that finalises the objects of its chain: where their words are, and how the hand begins.
+use Rattle.std.proofs.Common.{◌≡◌, ◌≢◌, ℕ, ◌+◌, ◌-◌, ◌<◌, ◌≤◌, Bool, true, List, [], ◌∷◌, refl, sym, ap, ◌∙◌, subst, arith}
+use Rattle.std.specs.Prelude.{◌||◌}
+use Rattle.std.specs.List.{list_any}
+use Rattle.std.proofs.lemmas.Bool.{eq-eqb}
+use Rattle.brc_model.specs.declared.duty.Duty.{Duty}
+use Rattle.brc_model.specs.declared.duty.Duty.TheVariants.{Settle, SettleKind, SettleCell, SettleEnd}
+use Rattle.brc_model.specs.declared.actor.Status.TheVariants.{Gone}
+use Rattle.brc_model.specs.declared.layout.Layout.{Layout}
+use Rattle.brc_model.specs.Layout.{row_count}
+use Rattle.brc_model.specs.Limits.{cell_limit}
+use Rattle.brc_word.specs.Words.{closed_word}
+use Rattle.brc_model.specs.OpenWork.{is_about}
+use Rattle.brc_model.specs.CountingLaws.{SettlesBegin}
+use Rattle.brc_table.specs.declared.view.View.{View}
+use Rattle.brc_table.specs.Places.{in_tile, cell_place}
+use Rattle.brc_table.specs.Views.{actor_of, settle_first, settling, NamesFewCells, RowsAreThere}
+use Rattle.brc_table.specs.Begins.{Becomes, Makes, MakesQuietly, SettlesNext}
+use Rattle.brc_table.specs.Calls.{SettlesFrom, LoadsDyingKind, EmptiesCell, ClosesRow}
+use Rattle.brc_table.proofs.Becoming.{becomes_same, rearranged}
+use Rattle.brc_table.proofs.Duties.{runs_on}
+
+-- ---- the beginning
+
+settling_from : SettlesBegin → (layout : Layout) (v : View) (ds : List Duty) → v.agenda ≡ ds → SettlesFrom v ds
+    → 0 < v.head → Becomes layout v (record v { agenda = settle_first ds })
+settling_from law layout v [] is may some =
+    λ words views id stands here.
+    rearranged layout words views id v stands here (Settle ∷ []) v.aside
+    (law stands.accounts (1 + stands.machine.layout.workers) stands.machine v.thread (actor_of v) stands.counts
+    (record { found = stands.acts id v here; running = may.0; agenda = is }) may.1 some)
+settling_from law layout v (Settle ∷ rest) is may some =
+    becomes_same layout v (record v { agenda = Settle ∷ rest }) (ap (λ (ds : List Duty). record v { agenda = ds }) is)
+settling_from law layout v _ is may some = absurd may
+
+-- A hand that may settle its chain begins to, or goes on.
+pub settling_becomes : SettlesBegin → (layout : Layout) (v : View) → SettlesFrom v v.agenda → 0 < v.head
+    → Becomes layout v (settling v)
+settling_becomes law layout v may some = settling_from law layout v v.agenda refl may some
+
+pub settles_next : (v : View) (ds : List Duty) → SettlesFrom v ds → SettlesNext (record v { agenda = settle_first ds })
+settles_next v [] may = record { rest = []; agenda = refl; alive = runs_on v may.0 }
+settles_next v (Settle ∷ rest) may = record { rest = rest; agenda = refl; alive = may }
+settles_next v _ may = absurd may
+
+-- To settle loads the gate of the chain's first row.
+pub settle_makes : (v u : View) → u.head ≡ v.head → SettlesNext u → Makes u (in_tile 2 (v.head - 1)) (λ found. found)
+settle_makes v u same next = record {
+  duty = Settle;
+  rest = next.rest;
+  at = record {
+    agenda = next.agenda;
+    alive = next.alive;
+    object = tt;
+    index_is = ap (λ (k : ℕ). in_tile 2 (k - 1)) (sym same);
+    plain = refl;
+  };
+  leaves = λ found suits. refl;
+}
+
+-- ---- the rows of these duties
+
+-- The row of a hand's first duty is there.
+pub first_there : (v : View) (x : ℕ) (d : Duty) (rest : List Duty) → RowsAreThere v → v.agenda ≡ d ∷ rest
+    → is_about x d ≡ true → x < row_count v.layout
+first_there v x d rest rows is this =
+    rows.agenda x (ap (list_any (is_about x)) is ∙ ap (λ (b : Bool). b || list_any (is_about x) rest) this)
+
+pub dying_kind_there : (v : View) (x : ℕ) (ds : List Duty) → RowsAreThere v → v.agenda ≡ ds → LoadsDyingKind x ds
+    → x < row_count v.layout
+dying_kind_there v x (SettleKind y ∷ rest) rows is same = first_there v x (SettleKind y) rest rows is (eq-eqb y x same)
+dying_kind_there v x _ rows is same = absurd same
+
+pub dying_cell_there : (v : View) (x i : ℕ) (ds : List Duty) → RowsAreThere v → v.agenda ≡ ds → EmptiesCell x i ds
+    → x < row_count v.layout
+dying_cell_there v x i (SettleCell y j n ∷ rest) rows is same =
+    first_there v x (SettleCell y j n) rest rows is (eq-eqb y x same.0)
+dying_cell_there v x i _ rows is same = absurd same
+
+-- A dying list has at most as many cells as a list may have.
+pub dying_cell_low : (v : View) (x i : ℕ) (ds : List Duty) → RowsAreThere v → v.agenda ≡ ds → EmptiesCell x i ds
+    → i < cell_limit
+dying_cell_low v x i (SettleCell y j n ∷ rest) rows is same =
+    let few : n ≤ cell_limit = subst NamesFewCells is rows.cells in omega (arith, same.2, few)
+dying_cell_low v x i _ rows is same = absurd same
+
+pub gate_close_there : (v : View) (x : ℕ) (ds : List Duty) → RowsAreThere v → v.agenda ≡ ds → ClosesRow x ds
+    → x < row_count v.layout
+gate_close_there v x (SettleEnd y ∷ rest) rows is same = first_there v x (SettleEnd y) rest rows is (eq-eqb y x same)
+gate_close_there v x _ rows is same = absurd same
+
+-- ---- the words of these duties
+
+module _ (u : View) (x : ℕ) (alive : u.status ≢ Gone) where
+  pub dying_kind_makes : (ds : List Duty) → u.agenda ≡ ds → LoadsDyingKind x ds
+      → MakesQuietly u (in_tile 3 x) (λ found. found)
+  dying_kind_makes (SettleKind y ∷ rest) is same = record {
+    makes = record {
+      duty = SettleKind y;
+      rest = rest;
+      at = record { agenda = is; alive = alive; object = tt; index_is = ap (in_tile 3) (sym same); plain = refl };
+      leaves = λ found suits. refl;
+    };
+    quiet = record { status = λ s. refl; head = λ head found. refl; used = λ used. refl };
+  }
+  dying_kind_makes _ is same = absurd same
+
+  pub dying_cell_makes : (i : ℕ) (ds : List Duty) → u.agenda ≡ ds → EmptiesCell x i ds
+      → MakesQuietly u (cell_place x i) (λ found. 0)
+  dying_cell_makes i (SettleCell y j n ∷ rest) is same = record {
+    makes = record {
+      duty = SettleCell y j n;
+      rest = rest;
+      at = record {
+        agenda = is;
+        alive = alive;
+        object = tt;
+        index_is = ap (λ (z : ℕ). cell_place z i) (sym same.0) ∙ ap (cell_place y) (sym same.1);
+        plain = refl;
+      };
+      leaves = λ found suits. refl;
+    };
+    quiet = record { status = λ s. refl; head = λ head found. refl; used = λ used. refl };
+  }
+  dying_cell_makes i _ is same = absurd same
+
+  pub gate_close_makes : (word : ℕ) (ds : List Duty) → u.agenda ≡ ds → ClosesRow x ds → word ≡ closed_word
+      → MakesQuietly u (in_tile 2 x) (λ found. word)
+  gate_close_makes word (SettleEnd y ∷ rest) is same closed = record {
+    makes = record {
+      duty = SettleEnd y;
+      rest = rest;
+      at = record { agenda = is; alive = alive; object = tt; index_is = ap (in_tile 2) (sym same); plain = refl };
+      leaves = λ found suits. closed;
+    };
+    quiet = record { status = λ s. refl; head = λ head found. refl; used = λ used. refl };
+  }
+  gate_close_makes word _ is same closed = absurd same

@@ -1,0 +1,157 @@
+-- The duties of a hand that claims a mark of its block, or leaves: where their words are, and how the hand begins.
+use Rattle.std.proofs.Common.{◌≡◌, ◌≢◌, ℕ, zero, suc, ◌+◌, ◌*◌, ◌<◌, ◌≤◌, Bool, cond, List, [], ◌∷◌, set, inl, inr, refl, sym, ap, ◌∙◌, subst, arith}
+use Rattle.std.specs.Prelude.{◌==◌, count_by}
+use Rattle.std.proofs.Math.Nat.{mul-le-mul_right}
+use Rattle.std.proofs.lemmas.Bool.{cases_Bool, lt-ltb}
+use Rattle.brc_model.specs.declared.duty.Holding.TheVariants.{ByVariable, AsCaller, InFlight}
+use Rattle.brc_model.specs.declared.duty.Duty.{Duty}
+use Rattle.brc_model.specs.declared.duty.Duty.TheVariants.{ClaimMark, Leave, Scan, Finish}
+use Rattle.brc_model.specs.declared.actor.Status.TheVariants.{Gone}
+use Rattle.brc_model.specs.declared.layout.Layout.{Layout}
+use Rattle.brc_model.specs.Layout.{front_rows, worker_rows, block_of, block_size, row_at, row_count, is_immortal_row}
+use Rattle.brc_model.specs.Accounts.{HoldsNone}
+use Rattle.brc_model.specs.CountingLaws.{DutiesAreKept, ReleasesBegin, ClaimsBegin, ExitsBegin}
+use Rattle.brc_table.specs.declared.view.View.{View}
+use Rattle.brc_table.specs.Places.{in_tile}
+use Rattle.brc_table.specs.Views.{actor_of, RowsAreThere, claiming, leaving}
+use Rattle.brc_table.specs.Rule.{Stands}
+use Rattle.brc_table.specs.Begins.{Becomes, MakesQuietly, StoresThreadWord}
+use Rattle.brc_table.specs.Calls.{IsFree, MayLeave, ScansRow, Finishes}
+use Rattle.brc_table.specs.Plays.{overwritten}
+use Rattle.brc_table.proofs.Becoming.{rearranged}
+use Rattle.brc_table.proofs.FreeDropped.{HasJust, drops_all, plain_immortal}
+use Rattle.brc_table.proofs.Duties.{runs_on}
+use mathlib.Core.Option.{some}
+use lib.ListN.{get_elem?}
+
+-- ---- claims
+
+-- A hand begins to claim the mark of a row of its block.
+pub claiming_becomes : ClaimsBegin → (layout : Layout) (v : View) (x : ℕ) → IsFree v → block_of v.layout x ≡ v.thread
+    → x < row_count v.layout → Becomes layout v (claiming v x)
+claiming_becomes law layout v x free own there words views id stands here =
+    let told = stands.told id v here in
+    rearranged layout words views id v stands here (ClaimMark x ∷ []) v.aside
+    (law stands.accounts (1 + stands.machine.layout.workers) stands.machine v.thread (actor_of v) x stands.counts
+    (record { found = stands.acts id v here; running = free.running; agenda = free.agenda }) free.aside
+    (subst (λ (l : Layout). block_of l x ≡ v.thread) told own) (subst (λ (l : Layout). x < row_count l) told there))
+
+pub claim_makes : (v : View) (x : ℕ) → IsFree v → MakesQuietly (claiming v x) (in_tile 4 x) (λ found. 0)
+claim_makes v x free = record {
+  makes = record {
+    duty = ClaimMark x;
+    rest = [];
+    at = record { agenda = refl; alive = runs_on v free.running; object = tt; index_is = refl; plain = refl };
+    leaves = λ found suits. refl;
+  };
+  quiet = record { status = λ s. refl; head = λ head found. refl; used = λ used. refl };
+}
+
+-- ---- the beginning of an exit
+
+module _ (kept : DutiesAreKept) (release : ReleasesBegin) (layout : Layout) (words : List ℕ) (views : List View) (id : ℕ)
+    (v : View) (may : MayLeave v) (here : get_elem? views id ≡ some v) where
+  -- A hand that lists no reference holds none, apart from those to none.
+  holds_none : (has : HasJust kept release layout words id v may.free views 0) → HoldsNone (has.stands.accounts v.thread)
+  holds_none has (ByVariable i) object = has.stands.no_variables v.thread i object
+  holds_none has InFlight object = has.stands.counts.no_flight v.thread object
+  holds_none has AsCaller object =
+      elim (cases_Bool (is_immortal_row has.stands.machine.layout object)) [
+        | inl immortal ↦
+            let is = plain_immortal has.stands.machine.layout object has.stands.plain immortal in
+            ap (has.stands.accounts v.thread AsCaller) is ∙ has.just
+        | inr counted ↦
+            has.stands.holding id v object here counted ∙ ap (count_by (λ y. y == object)) may.holds_none
+      ]
+
+  leaves_from : ExitsBegin → HasJust kept release layout words id v may.free views 0
+      → Stands layout words (set views id (leaving v))
+  leaves_from law has =
+      let s = has.stands in
+      rearranged layout words views id v s here (Leave 0 v.used ∷ []) v.aside
+      (law s.accounts (1 + s.machine.layout.workers) s.machine v.thread (actor_of v) s.counts
+      (record { found = s.acts id v here; running = may.free.running; agenda = may.free.agenda }) may.free.aside
+      may.settled (holds_none has))
+
+-- A hand begins to leave.
+pub leaving_becomes : DutiesAreKept → ReleasesBegin → ExitsBegin → (layout : Layout) (v : View) → MayLeave v
+    → Becomes layout v (leaving v)
+leaving_becomes kept release law layout v may words views id stands here =
+    leaves_from kept release layout words views id v may here law
+    (drops_all kept release layout words id v may.free views here (stands.accounts v.thread AsCaller 0)
+    (record { stands = stands; just = refl }))
+
+pub leave_stores : (v : View) → MayLeave v → StoresThreadWord (leaving v) v.thread 2
+leave_stores v may = record {
+  makes = record {
+    duty = Leave 0 v.used;
+    rest = [];
+    agenda = refl;
+    alive = runs_on v may.free.running;
+    address = refl;
+    plain = refl;
+    leaves = λ found. refl;
+  };
+  knows = λ found over. over;
+}
+
+-- ---- the end of an exit
+
+pub gone_stores : (v : View) (ds : List Duty) → v.agenda ≡ ds → v.status ≢ Gone → Finishes ds
+    → StoresThreadWord v v.thread 3
+gone_stores v (Finish ∷ []) is alive same = record {
+  makes = record {
+    duty = Finish;
+    rest = [];
+    agenda = is;
+    alive = alive;
+    address = refl;
+    plain = refl;
+    leaves = λ found. refl;
+  };
+  knows = λ found over. over ∙ sym (ap overwritten is);
+}
+gone_stores v _ is alive same = absurd same
+
+pub gone_overwrites : (ds : List Duty) → Finishes ds → overwritten ds ≡ 2
+gone_overwrites (Finish ∷ []) same = refl
+gone_overwrites _ same = absurd same
+
+-- ---- the scan
+
+pub scan_makes : (u : View) (i : ℕ) → u.status ≢ Gone → (ds : List Duty) → u.agenda ≡ ds → ScansRow i ds
+    → MakesQuietly u (in_tile 4 (row_at u.layout u.thread i)) (λ found. 0)
+scan_makes u i alive (Scan j n ∷ rest) is same = record {
+  makes = record {
+    duty = Scan j n;
+    rest = rest;
+    at = record {
+      agenda = is;
+      alive = alive;
+      object = tt;
+      index_is = ap (λ (k : ℕ). in_tile 4 (row_at u.layout u.thread k)) (sym same);
+      plain = refl;
+    };
+    leaves = λ found suits. refl;
+  };
+  quiet = record { status = λ s. refl; head = λ head found. refl; used = λ used. refl };
+}
+scan_makes u i alive _ is same = absurd same
+
+-- Main's rows in front are at their own numbers.
+pub front_is : (layout : Layout) (i : ℕ) → i < front_rows → row_at layout 0 i ≡ i
+front_is layout i low =
+    ap (λ (b : Bool). cond b i (worker_rows layout + i)) (lt-ltb i front_rows low)
+
+low_row : (layout : Layout) (t i : ℕ) → t ≤ layout.workers → layout.immortal_lists ≡ 0 → i < block_size layout t
+    → row_at layout t i < row_count layout
+low_row layout zero i there none low =
+    let is : row_at layout zero i ≡ i = front_is layout i (omega (arith, low, none)) in omega (arith, is, low, none)
+low_row layout (suc t) i there none low =
+    let more : suc t * layout.rows ≤ layout.workers * layout.rows = mul-le-mul_right layout.rows there in
+    omega (arith, more, low)
+
+-- A used row of a hand's block is there.
+pub own_row_there : (v : View) (i : ℕ) → RowsAreThere v → v.layout.immortal_lists ≡ 0 → i < v.used
+    → row_at v.layout v.thread i < row_count v.layout
+own_row_there v i rows none low = low_row v.layout v.thread i rows.thread none (omega (arith, low, rows.used))

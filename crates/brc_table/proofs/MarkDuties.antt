@@ -1,0 +1,69 @@
+-- The duties about an object's mark, and where its word is.
+use Rattle.std.proofs.Common.{◌≡◌, ◌≢◌, ℕ, ◌<◌, List, [], ◌∷◌, refl, sym, ap, ◌∙◌}
+use Rattle.brc_model.specs.declared.duty.Duty.{Duty}
+use Rattle.brc_model.specs.declared.duty.Duty.TheVariants.{SetMark, Look, TakeMark}
+use Rattle.brc_model.specs.declared.address.Address.TheVariants.{ThreadWord}
+use Rattle.brc_model.specs.declared.actor.Status.TheVariants.{Gone}
+use Rattle.brc_model.specs.Layout.{row_count, block_of}
+use Rattle.brc_table.specs.declared.view.View.{View}
+use Rattle.brc_table.specs.Places.{in_tile}
+use Rattle.brc_table.specs.Views.{RowsAreThere, did, work_about}
+use Rattle.brc_table.specs.Begins.{MakesQuietly, MakesAtThreadQuietly, StoresWord, KeepsThread}
+use Rattle.brc_table.specs.Plays.{overwritten}
+use Rattle.brc_table.specs.Calls.{SetsMark, LooksAtOwner, TakesMark}
+use Rattle.brc_table.proofs.Duties.{line_makes, at_line, work_there}
+
+module _ (u : View) (x : ℕ) (alive : u.status ≢ Gone) where
+  pub mark_store_makes : (ds : List Duty) → u.agenda ≡ ds → SetsMark x ds → StoresWord u (in_tile 4 x) 1
+  mark_store_makes (SetMark y ∷ []) is same = record {
+    makes =
+        line_makes u x alive 4 (λ found. 1) (SetMark y) is tt (ap (in_tile 4) (sym same)) refl (λ found suits. refl);
+    knows = λ found over. over ∙ sym (ap overwritten is);
+  }
+  mark_store_makes _ is same = absurd same
+
+  pub mark_take_makes : (ds : List Duty) → u.agenda ≡ ds → TakesMark x ds
+      → MakesQuietly u (in_tile 4 x) (λ found. 0)
+  mark_take_makes (TakeMark y ∷ []) is same =
+      at_line u x alive 4 (λ found. 0) (TakeMark y) is tt (ap (in_tile 4) (sym same)) refl
+      (record { status = λ s. refl; head = λ head found. refl; used = λ used. refl }) (λ found suits. refl)
+  mark_take_makes _ is same = absurd same
+
+  pub look_makes : (ds : List Duty) → u.agenda ≡ ds → LooksAtOwner x ds
+      → MakesAtThreadQuietly u (block_of u.layout x) (λ found. found)
+  look_makes (Look y ∷ []) is same = record {
+    makes = record {
+      duty = Look y;
+      rest = [];
+      agenda = is;
+      alive = alive;
+      address = ap (λ (z : ℕ). ThreadWord (block_of u.layout z)) same;
+      plain = refl;
+      leaves = λ found. refl;
+    };
+    quiet = record { status = λ s. refl; head = λ head found. refl; used = λ used. refl };
+  }
+  look_makes _ is same = absurd same
+
+-- The mark that is set was not set before.
+pub mark_store_overwrites : (x : ℕ) (ds : List Duty) → SetsMark x ds → overwritten ds ≡ 0
+mark_store_overwrites x (SetMark y ∷ []) same = refl
+mark_store_overwrites x _ same = absurd same
+
+-- Setting a mark leaves status, chain and used rows as they are.
+pub mark_store_keeps : (v : View) (x : ℕ) (ds : List Duty) (found : ℕ) → SetsMark x ds → KeepsThread v (did v ds found)
+mark_store_keeps v x (SetMark y ∷ []) found same =
+    record { layout = refl; thread = refl; status = refl; head = refl; used = refl; given = refl }
+mark_store_keeps v x _ found same = absurd same
+
+-- ---- the rows of these duties
+
+pub mark_store_there : (v : View) (x : ℕ) (ds : List Duty) → RowsAreThere v → work_about x v ≡ ds → SetsMark x ds
+    → x < row_count v.layout
+mark_store_there v x (d ∷ rest) rows is same = work_there v x d rest rows is
+mark_store_there v x [] rows is same = absurd same
+
+pub mark_take_there : (v : View) (x : ℕ) (ds : List Duty) → RowsAreThere v → work_about x v ≡ ds → TakesMark x ds
+    → x < row_count v.layout
+mark_take_there v x (d ∷ rest) rows is same = work_there v x d rest rows is
+mark_take_there v x [] rows is same = absurd same

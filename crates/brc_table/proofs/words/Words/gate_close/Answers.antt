@@ -1,0 +1,20 @@
+use Rattle.std.proofs.Common.{◌<◌, refl, subst}
+use Rattle.brc_model.specs.declared.layout.Layout.{Layout}
+use Rattle.brc_model.specs.Layout.{row_count}
+use Rattle.brc_table.proofs.Changing.{itself_becomes}
+use Rattle.brc_table.proofs.DyingDuties.{gate_close_makes, gate_close_there}
+use Rattle.brc_table.proofs.words.Words.gate_close.Goals as goal
+
+pub swap-requires-clause-begins : goal.swap-requires-clause-begins
+swap-requires-clause-begins g c = itself_becomes c.args.self.now.layout c.args.hand.now.view
+
+pub swap-requires-clause-there : goal.swap-requires-clause-there
+swap-requires-clause-there g c =
+    let v = c.args.hand.now.view in
+    subst (λ (l : Layout). c.args.row < row_count l) c.requires.table.1
+    (gate_close_there v c.args.row v.agenda c.rows_are_there.ensures refl c.requires.duty)
+
+pub swap-requires-clause-makes : goal.swap-requires-clause-makes
+swap-requires-clause-makes g c =
+    let v = c.args.hand.now.view in
+    gate_close_makes v c.args.row c.requires.alive c.closed.result v.agenda refl c.requires.duty c.closed.ensures

@@ -1,0 +1,75 @@
+//! The steps by which a hand finalises the objects of its dying chain (PEP 703, Biased Reference Counting: an object
+//! without a reference is deallocated by the thread that gave up the last one). Each object is taken off the chain, its
+//! kind is asked for, a list's cells are emptied, and its gate says at the end that it is closed.
+
+ghost use Rattle.std.specs.Prelude.{◌≡◌, ◌≢◌, ◌<◌};
+ghost use Rattle.brc_model.specs.declared.actor.Status.TheVariants.{Gone};
+ghost use Rattle.brc_table.specs.Views.{done, settling};
+ghost use Rattle.brc_table.specs.Hands.{IsOf};
+ghost use Rattle.brc_table.specs.Calls.{MaySettle, LoadsDyingKind, EmptiesCell, ClosesRow};
+
+use crate::hand::Hand;
+use crate::place::{GATE, KIND};
+use crate::words::Words;
+use brc_model::settles_begin;
+use brc_word::closed;
+use std::marker::Brand;
+
+/// A cell without a reference.
+const EMPTY: u64 = 0;
+
+impl<T: Drop> Words<T> {
+    /// Takes the first object off the hand's dying chain: loads its gate, which names the next one.
+    pub fn gate_load(&self, hand: &mut Hand<T>) -> u64
+        requires table { IsOf self.now hand.old }
+        requires chain { 0 < hand.old.view.head }
+        requires settles { MaySettle hand.old.view }
+        ensures table { hand.new.table ≡ hand.old.table }
+        ensures carried { hand.new.carried ≡ hand.old.carried }
+        ensures view { hand.new.view ≡ done (settling hand.old.view) result }
+    {
+        settles_begin();
+        self.load_chain::<Brand>(hand)
+    }
+
+    /// Does the next duty: loads the kind word of the dying object.
+    pub fn dying_kind_load(&self, hand: &mut Hand<T>, row: u32) -> u64
+        requires table { IsOf self.now hand.old }
+        requires alive { hand.old.view.status ≢ Gone }
+        requires duty { LoadsDyingKind row hand.old.view.agenda }
+        ensures table { hand.new.table ≡ hand.old.table }
+        ensures carried { hand.new.carried ≡ hand.old.carried }
+        ensures view { hand.new.view ≡ done hand.old.view result }
+    {
+        hand.rows_are_there();
+        self.load::<Brand>(hand, KIND, row)
+    }
+
+    /// Does the next duty: empties a cell of the dying list. Returns what was there: a row plus 1, or 0.
+    pub fn dying_cell_swap(&self, hand: &mut Hand<T>, row: u32, cell: u32) -> u64
+        requires table { IsOf self.now hand.old }
+        requires alive { hand.old.view.status ≢ Gone }
+        requires duty { EmptiesCell row cell hand.old.view.agenda }
+        ensures table { hand.new.table ≡ hand.old.table }
+        ensures carried { hand.new.carried ≡ hand.old.carried }
+        ensures view { hand.new.view ≡ done hand.old.view result }
+    {
+        hand.rows_are_there();
+        self.swap_cell::<Brand>(hand, row, cell, EMPTY)
+    }
+
+    /// Does the next duty: closes the dying object. Returns the gate found, which says who deallocates the object.
+    ///
+    /// The step is a swap, since no duty knows what the gate said of the rest of the chain.
+    pub fn gate_close(&self, hand: &mut Hand<T>, row: u32) -> u64
+        requires table { IsOf self.now hand.old }
+        requires alive { hand.old.view.status ≢ Gone }
+        requires duty { ClosesRow row hand.old.view.agenda }
+        ensures table { hand.new.table ≡ hand.old.table }
+        ensures carried { hand.new.carried ≡ hand.old.carried }
+        ensures view { hand.new.view ≡ done hand.old.view result }
+    {
+        hand.rows_are_there();
+        self.swap::<Brand>(hand, GATE, row, closed())
+    }
+}

@@ -1,0 +1,103 @@
+//! The steps of a thread's exit, and of a running thread that looks through its own queue (PEP 703, Biased Reference
+//! Counting: a thread merges the objects that others have queued for it, and an exiting thread those that are left). A
+//! leaving thread says so first, so that whoever queues an object from then on looks after it, and then scans the marks
+//! of its rows.
+
+ghost use Rattle.std.specs.Prelude.{◌≡◌, ◌≢◌, ◌<◌};
+ghost use Rattle.brc_model.specs.declared.actor.Status.TheVariants.{Gone};
+ghost use Rattle.brc_model.specs.Layout.{block_of, row_at, row_count};
+ghost use Rattle.brc_table.specs.Views.{done, claiming, leaving};
+ghost use Rattle.brc_table.specs.Plays.{overwritten};
+ghost use Rattle.brc_table.specs.Hands.{IsOf};
+ghost use Rattle.brc_table.specs.Calls.{IsFree, MayLeave, ScansRow, Finishes};
+
+use crate::hand::Hand;
+use crate::place::MARK;
+use crate::words::Words;
+use brc_model::{claims_begin, duties_are_kept, exits_begin, releases_begin};
+use std::marker::Brand;
+
+/// Main's number.
+const MAIN: u8 = 0;
+
+/// The word of a thread that is leaving.
+const LEAVING: u64 = 2;
+
+/// The word of a thread that is gone.
+const GONE: u64 = 3;
+
+/// The mark of an object that is in no queue.
+const NOT_QUEUED: u64 = 0;
+
+impl<T: Drop> Words<T> {
+    /// Returns the row with the index in the block of the hand's thread.
+    pub fn own_row(&self, hand: &Hand<T>, index: u32) -> u32
+        requires table { IsOf self.now hand.now }
+        requires used { index < hand.now.view.used }
+        ensures { result ≡ row_at self.now.layout hand.now.view.thread index }
+    {
+        self.layout_is_plain();
+        hand.rows_are_there();
+        if hand.thread == MAIN {
+            index
+        } else {
+            self.row_at(hand.thread, index)
+        }
+    }
+
+    /// Begins to look through the hand's queue: takes the mark of a row of its own block. Returns the mark found.
+    pub fn mark_claim(&self, hand: &mut Hand<T>, row: u32) -> u64
+        requires table { IsOf self.now hand.old }
+        requires free { IsFree hand.old.view }
+        requires own { block_of hand.old.view.layout row ≡ hand.old.view.thread }
+        requires there { row < row_count hand.old.view.layout }
+        ensures table { hand.new.table ≡ hand.old.table }
+        ensures carried { hand.new.carried ≡ hand.old.carried }
+        ensures view { hand.new.view ≡ done (claiming hand.old.view row) result }
+    {
+        claims_begin();
+        self.swap::<Brand>(hand, MARK, row, NOT_QUEUED)
+    }
+
+    /// Begins to leave: says so in the thread's word. The hand's thread no longer runs.
+    pub fn thread_leave(&self, hand: &mut Hand<T>)
+        requires table { IsOf self.now hand.old }
+        requires may_leave { MayLeave hand.old.view }
+        ensures table { hand.new.table ≡ hand.old.table }
+        ensures carried { hand.new.carried ≡ hand.old.carried }
+        ensures view { hand.new.view ≡ done (leaving hand.old.view) 1 }
+    {
+        releases_begin();
+        exits_begin();
+        duties_are_kept();
+        self.store_thread::<Brand>(hand, LEAVING);
+    }
+
+    /// Does the next duty: takes the mark of the thread's row with the index. Returns the mark found.
+    pub fn mark_scan(&self, hand: &mut Hand<T>, index: u32) -> u64
+        requires table { IsOf self.now hand.old }
+        requires alive { hand.old.view.status ≢ Gone }
+        requires used { index < hand.old.view.used }
+        requires duty { ScansRow index hand.old.view.agenda }
+        ensures table { hand.new.table ≡ hand.old.table }
+        ensures carried { hand.new.carried ≡ hand.old.carried }
+        ensures view { hand.new.view ≡ done hand.old.view result }
+    {
+        self.layout_is_plain();
+        hand.rows_are_there();
+        let row = self.own_row(hand, index);
+        self.swap::<Brand>(hand, MARK, row, NOT_QUEUED)
+    }
+
+    /// Does the next duty: says in the thread's word that the thread is gone.
+    pub fn thread_gone(&self, hand: &mut Hand<T>)
+        requires table { IsOf self.now hand.old }
+        requires alive { hand.old.view.status ≢ Gone }
+        requires duty { Finishes hand.old.view.agenda }
+        ensures table { hand.new.table ≡ hand.old.table }
+        ensures carried { hand.new.carried ≡ hand.old.carried }
+        ensures view { hand.new.view ≡ done hand.old.view 2 }
+    {
+        self.store_thread::<Brand>(hand, GONE);
+    }
+}
