@@ -40,13 +40,20 @@ pub struct Effect {
     pub next: Next,
     /// The head of the thread's dying chain: 0 if it is empty, else a row plus 1.
     pub head: u32,
-    pub status: Status,
-    /// The number of rows of its block that the thread has used.
-    pub used: u32,
-    /// The row of the object that the thread has locked.
-    pub locked: Option<u32>,
-    /// The row of the object whose resource the thread has lent.
-    pub lent: Option<u32>,
+    pub change: Change,
+}
+
+/// What a step changes in its thread, beside the agenda and the head of the dying chain: one of these at most.
+#[derive(Clone, Copy, Debug)]
+pub enum Change {
+    Nothing,
+    Becomes(Status),
+    /// The number of rows of its block that the thread has used now.
+    Uses(u32),
+    /// The row of the object that the thread has locked now.
+    Locks(Option<u32>),
+    /// The row of the object whose resource the thread has lent now.
+    Lends(Option<u32>),
 }
 
 /// The thread that does a duty: the parts of it that the duty's effect depends on.
@@ -59,10 +66,6 @@ pub struct Doer {
     pub head: u32,
     /// The number of rows of its block that it has used.
     pub used: u32,
-    /// The row of the object that it has locked.
-    pub locked: Option<u32>,
-    /// The row of the object whose resource it has lent.
-    pub lent: Option<u32>,
     /// The number of rows of all threads together.
     pub rows: u32,
 }
@@ -129,27 +132,21 @@ impl Doer {
         }
     }
 
-    /// Returns an effect that keeps the thread's head, status, number of used rows, lock and lent resource.
+    /// Returns an effect that keeps the thread's head, and changes nothing else in the thread.
     #[inline(always)]
     fn leaves(self, word: u64, next: Next) -> Effect
         ensures { result ≡ record {
           word = word;
           next = next;
           head = self.head;
-          status = self.status;
-          used = self.used;
-          locked = self.locked;
-          lent = self.lent;
+          change = Change.Nothing;
         } }
     {
         Effect {
             word,
             next,
             head: self.head,
-            status: self.status,
-            used: self.used,
-            locked: self.locked,
-            lent: self.lent,
+            change: Change::Nothing,
         }
     }
 

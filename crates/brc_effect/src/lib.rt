@@ -9,4 +9,4 @@ mod effect;
 pub mod rows;
 pub mod states;
 
-pub use effect::{Doer, Effect, Next};
+pub use effect::{Change, Doer, Effect, Next};

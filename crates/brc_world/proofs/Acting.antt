@@ -1,5 +1,5 @@
 -- A step of the code does the thread's action, if the thread isn't gone.
-use Rattle.std.proofs.Common.{◌≡◌, ◌≢◌, ℕ, ◌≤◌, arith, Bool, true, false, cond, List, [], ◌∷◌, Option, None, Some, refl, sym, ap, ◌∙◌, subst}
+use Rattle.std.proofs.Common.{◌≡◌, ◌≢◌, ℕ, ◌≤◌, arith, Bool, true, false, cond, List, [], ◌∷◌, None, Some, refl, sym, ap, ◌∙◌, subst}
 use Rattle.std.specs.Prelude.{◌==◌, not, if◌then◌else◌}
 use Rattle.brc_lang.specs.declared.module.Function.{Function}
 use Rattle.brc_word.specs.Words.{free_word}
@@ -9,7 +9,7 @@ use Rattle.brc_model.specs.declared.actor.Status.TheVariants.{Running, Leaving, 
 use Rattle.brc_model.specs.declared.address.Address.{Address}
 use Rattle.brc_model.specs.declared.address.Address.TheVariants.{Gate}
 use Rattle.brc_model.specs.declared.duty.Duty.{Duty}
-use Rattle.brc_model.specs.declared.duty.Duty.TheVariants.{ClaimMark, LockGate, KindLoad, CellLoad}
+use Rattle.brc_model.specs.declared.duty.Duty.TheVariants.{ClaimMark, LockGate, CellLoad}
 use Rattle.brc_model.specs.Duties.{address_of}
 use Rattle.brc_model.specs.Actions.{StepActor, Action, Skip, Stuck, Silent, Calls, Does, always, agenda_action, status_action}
 use Rattle.brc_model.specs.Limits.{total_limit}
@@ -26,8 +26,8 @@ use Rattle.brc_world.specs.declared.host_call.HostCall.{HostCall}
 use Rattle.brc_world.specs.declared.host_call.HostCall.TheVariants as calls
 use Rattle.brc_world.specs.declared.question.Question.{Question}
 use Rattle.brc_world.specs.declared.question.Question.TheVariants as questions
-use Rattle.brc_world.specs.Questions.{FindsKind, FindsItem, IsAbout, IsAnswerable, place_called}
-use Rattle.brc_world.specs.Starts.{start_by, first_start, unasking, place_after, answered, started}
+use Rattle.brc_world.specs.Questions.{FindsItem, IsAbout, IsAnswerable, place_called}
+use Rattle.brc_world.specs.Starts.{start_by, first_start, unasking, duty_of, AsksWell, CanAnswer, entering, did_of, calls_counted, place_after, answered, started}
 use Rattle.brc_model.specs.declared.layout.Layout.{Layout}
 use Rattle.brc_model.specs.declared.slot.Exit.{Exit}
 use Rattle.brc_model.specs.StepMachine.{counted, closes}
@@ -63,30 +63,12 @@ record DoneBy (layout : Layout) (t : ℕ) (memory : Address → ℕ) (a : StepAc
   can : (n threads found : ℕ) → CanAct layout t n threads memory a x
       → CanDo layout t n threads memory (started a x exit found) d
 
--- the answer of a lock that finds this gate
-abbrev pub entering : ℕ → Did
-entering found = if found == free_word then answers.Moved else answers.Same
-
 enters : (b : Bool) → cond b answers.Moved answers.Same ≡ cond (not b) answers.Same answers.Moved
 enters true = refl
 enters false = refl
 
 doing_is : (d e : Duty) → starts.Doing d ≡ starts.Doing e → e ≡ d
 doing_is d e same = cc
-
--- the duty that the start does
-abbrev pub duty_of : Start → Option Duty
-duty_of starts.Stuck = None
-duty_of starts.Moved = None
-duty_of (starts.Calling call) = None
-duty_of (starts.Doing d) = Some d
-duty_of (starts.Asking d question) = Some d
-duty_of (starts.Locking row left next) = Some (LockGate row)
-
--- the answer of a step with the start, whose duty finds this word
-abbrev pub did_of : Start → ℕ → Did
-did_of (starts.Locking row left next) found = entering found
-did_of _ found = answers.Moved
 
 module _ (layout : Layout) (t : ℕ) (memory : Address → ℕ) (a : StepActor) (exit : Exit) where
   -- ---- the starts of a step that dispatches, by its action
@@ -288,6 +270,16 @@ module _ (functions : List Function) (layout : Layout) (t : ℕ) (memory : Addre
       (call_counted exit)) (sym (begun.actor exit 0))
       (agenda_called functions layout t memory a exit a.actor.agenda begun.starts 0))
 
+  -- A step that does no duty is the model's, which accesses no word.
+  pub silent_step : (start : Start) → HasStarted functions layout t a b start → duty_of start ≡ None
+      → StepsTo (did_of start 0) memory (answered start exit 0 b) (calls_counted start exit)
+  silent_step starts.Stuck begun none = stuck_step begun
+  silent_step starts.Moved begun none = moved_step begun
+  silent_step (starts.Calling call) begun none = called_step call begun
+  silent_step (starts.Doing d) begun none = absurd cc
+  silent_step (starts.Asking d question) begun none = absurd cc
+  silent_step (starts.Locking row left next) begun none = absurd cc
+
   -- The thread that has started its step finds the same value in the duty's word as before.
   finds_same : (start : Start) (d : Duty) → HasStarted functions layout t a b start
       → found_by layout t memory a d ≡ found_by layout t memory (actor_of b) d
@@ -329,26 +321,34 @@ module _ (functions : List Function) (layout : Layout) (t : ℕ) (memory : Addre
       (sym (alive_action functions layout t a a.actor.status begun.alive)) can)) in
       record { there = able.there; suits = able.suits; uses = able.uses }
 
+-- ---- after the duty
+
+same_place : (start : Start) (exit : Exit) (found : ℕ) (b after : Thread)
+    → after.mode ≡ b.mode → after.left ≡ b.left → after.turns ≡ b.turns → after.at ≡ b.at
+    → after.variables ≡ b.variables
+    → place_after start exit found after ≡ place_after start exit found b
+same_place starts.Stuck exit found b after mode left turns at variables = rw (mode, left, turns, at, variables) refl
+same_place starts.Moved exit found b after mode left turns at variables = rw (mode, left, turns, at, variables) refl
+same_place (starts.Calling call) exit found b after mode left turns at variables =
+    rw (left, turns, at, variables) refl
+same_place (starts.Doing d) exit found b after mode left turns at variables =
+    rw (mode, left, turns, at, variables) refl
+same_place (starts.Asking d question) exit found b after mode left turns at variables =
+    rw (left, turns, at, variables) refl
+same_place (starts.Locking row left next) exit found b after mode calls turns at variables =
+    rw (mode, calls, turns, at, variables) refl
+
+-- A thread that has done its duty goes on where it would have gone before, since a duty changes none of what that
+-- depends on.
+pub goes_on : (start : Start) (exit : Exit) (found : ℕ) (b after : Thread) (done : StepActor) → actor_of after ≡ done
+    → after.mode ≡ b.mode → after.left ≡ b.left → after.turns ≡ b.turns → after.at ≡ b.at
+    → after.variables ≡ b.variables
+    → answered start exit found after ≡ at_place done (place_after start exit found b)
+goes_on start exit found b after done is mode left turns at variables =
+    ap (λ (a : StepActor). at_place a (place_after start exit found after)) is
+    ∙ ap (at_place done) (same_place start exit found b after mode left turns at variables)
+
 -- ---- questions
-
--- The duty of a question is no close, so its step changes no count of faults.
-closes_nothing : (d : Duty) → FindsKind d → closes d ≡ false
-closes_nothing (KindLoad row) finds = refl
-closes_nothing _ finds = absurd finds
-
-loads_cell : (d : Duty) → FindsItem d → closes d ≡ false
-loads_cell (CellLoad row cell) finds = refl
-loads_cell _ finds = absurd finds
-
-pub asking_closes : (question : Question) (d : Duty) → IsAbout question d → closes d ≡ false
-asking_closes (questions.Kind kind otherwise) d about = closes_nothing d about
-asking_closes (questions.Range index outside) d about = closes_nothing d about
-asking_closes (questions.Borrow to otherwise) d about = loads_cell d about
-asking_closes (questions.Fetch to otherwise) d about = loads_cell d about
-
-pub asking_uncounted : (exit : Exit) (question : Question) (d : Duty) (f : Faults) → IsAbout question d
-    → f ≡ duty_counted exit d f
-asking_uncounted exit question d f about = rw (asking_closes question d about) refl
 
 item_found : (d : Duty) (t n found : ℕ) (running : Bool) → n ≤ total_limit → FindsItem d → Suits t running n d found
     → found ≤ total_limit
@@ -356,7 +356,7 @@ item_found (CellLoad row cell) t n found running small finds suits = omega (arit
 item_found _ t n found running small finds suits = absurd finds
 
 -- The word that a question is about has an answer.
-pub answerable : (question : Question) (d : Duty) (t n found : ℕ) (running : Bool) → n ≤ total_limit
+answerable : (question : Question) (d : Duty) (t n found : ℕ) (running : Bool) → n ≤ total_limit
     → IsAbout question d → Suits t running n d found → IsAnswerable question found
 answerable (questions.Kind kind otherwise) d t n found running small about suits = tt
 answerable (questions.Range index outside) d t n found running small about suits = tt
@@ -364,6 +364,15 @@ answerable (questions.Borrow to otherwise) d t n found running small about suits
     item_found d t n found running small about suits
 answerable (questions.Fetch to otherwise) d t n found running small about suits =
     item_found d t n found running small about suits
+
+-- The word that the start's duty finds answers its question.
+pub can_answer : (start : Start) (d : Duty) (t n found : ℕ) (running : Bool) → n ≤ total_limit → duty_of start ≡ Some d
+    → AsksWell start → Suits t running n d found → CanAnswer start found
+can_answer (starts.Asking c question) d t n found running small does asks suits =
+    let same : d ≡ c = cc in
+    answerable question c t n found running small asks
+    (subst (λ (e : Duty). Suits t running n e found) same suits)
+can_answer _ d t n found running small does asks suits = tt
 
 -- ---- a claim that finds a mark
 

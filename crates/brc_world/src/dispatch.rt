@@ -6,7 +6,7 @@ ghost use Rattle.brc_model.specs.declared.slot.Exit.{Exit};
 ghost use Rattle.brc_model.specs.Threads.{code_of, entry_variables};
 ghost use Rattle.brc_model.specs.Actions.{agenda_action, dispatch};
 ghost use Rattle.brc_world.specs.Actors.{actor_of};
-ghost use Rattle.brc_world.specs.Starts.{first_start, exit_action, action_at, action_inside, unasking, answered, started, AsksWell, CanBegin, Begins};
+ghost use Rattle.brc_world.specs.Starts.{duty_of, first_start, exit_action, action_at, action_inside, unasking, answered, started, AsksWell, CanBegin, Begins};
 
 use crate::dispatch::birth::birth;
 use crate::dispatch::files::{ask_host, read, write};
@@ -51,6 +51,20 @@ pub enum Start {
     /// after which `left` calls remain. Otherwise it stays where it was, and has begun neither the instruction nor, if
     /// the instruction is the first one, the call.
     Locking { row: u32, left: u32, next: usize },
+}
+
+impl Start {
+    /// Returns the duty that the step does, or `None` if it accesses no word.
+    #[inline(always)]
+    pub fn duty(&self) -> Option<Duty>
+        ensures { result ≡ duty_of self.now }
+    {
+        match *self {
+            Start::Stuck | Start::Moved | Start::Calling(_) => None,
+            Start::Doing(duty) | Start::Asking { duty, .. } => Some(duty),
+            Start::Locking { row, .. } => Some(Duty::LockGate { row }),
+        }
+    }
 }
 
 /// Takes the first duty off the agenda or, if the agenda is empty, dispatches the next instruction or the exit.

@@ -12,7 +12,7 @@ ghost use Rattle.brc_model.specs.StepMachine.{at_place};
 ghost use Rattle.brc_model.specs.Within.{IsThere, Suits};
 ghost use Rattle.brc_world.specs.Storage.{word_in, IsStored};
 ghost use Rattle.brc_world.specs.Actors.{actor_of, counters_in, found_by, actor_done, memory_by, actor_by, faults_by, waits, did_by, CanAct, finds_mark, memory_claimed, actor_claimed, did_claim, CanClaim};
-ghost use Rattle.brc_world.specs.Starts.{let_in};
+ghost use Rattle.brc_world.specs.Starts.{let_in, answered, did_of, CanAnswer};
 
 use crate::address::address_of;
 use crate::agenda::{pass_over, push};
@@ -57,21 +57,42 @@ pub fn do_duty(
     ensures point { thread.new.at ≡ thread.old.at }
     ensures variables { thread.new.variables ≡ thread.old.variables }
     ensures turns { thread.new.turns ≡ thread.old.turns }
+    ensures mode { thread.new.mode ≡ thread.old.mode }
 {
     let all = memory.rows() as u32;
     let address = address_of(layout, number, thread.head, *duty);
     let found = memory.load(address);
     let by = doer(layout, thread, number, all);
     let effect = by.effect(*duty, found);
+    thread.change(effect.change);
     push(&mut thread.agenda, effect.next);
     thread.head = effect.head;
-    thread.status = effect.status;
-    thread.used = effect.used;
-    thread.locked = effect.locked;
-    thread.lent = effect.lent;
     memory.store(address, effect.word);
     pass_over(&mut thread.agenda, effect.head);
     found
+}
+
+/// Takes the thread to the place where it goes on after the step with this start, which ended by the exit. `found` is
+/// the word that the step's duty found, or 0 if it did no duty. Returns what the step did.
+#[inline(always)]
+fn finish(thread: &mut Thread, start: &Start, exit: Exit, found: u64) -> Did
+    requires { CanAnswer start.now found }
+    ensures did { result ≡ did_of start.now found }
+    ensures actor { actor_of thread.new ≡ answered start.now exit found thread.old }
+{
+    match *start {
+        Start::Stuck => Did::Same,
+        Start::Moved | Start::Doing(_) => Did::Moved,
+        Start::Calling(call) => {
+            end_call(thread, call, exit);
+            Did::Moved
+        }
+        Start::Asking { question, .. } => {
+            answer(thread, &question, found);
+            Did::Moved
+        }
+        Start::Locking { left, next, .. } => enter(thread, left, next, found),
+    }
 }
 
 /// Sends a thread on to the instruction `next` of its call if the gate that it found was free: it has the lock.
@@ -97,8 +118,6 @@ pub fn doer(layout: Layout, thread: &Thread, number: u8, rows: u32) -> Doer
       status = thread.now.status;
       head = thread.now.head;
       used = thread.now.used;
-      locked = thread.now.locked;
-      lent = thread.now.lent;
       rows = rows;
     } }
 {
@@ -108,8 +127,6 @@ pub fn doer(layout: Layout, thread: &Thread, number: u8, rows: u32) -> Doer
         status: thread.status,
         head: thread.head,
         used: thread.used,
-        locked: thread.locked,
-        lent: thread.lent,
         rows,
     }
 }
@@ -158,27 +175,16 @@ pub fn act(
         return Ok(Did::Gone);
     }
     thread.agenda.reserve(ROOM)?;
-    match first_duty(functions, layout, number, thread) {
-        Start::Stuck => Ok(Did::Same),
-        Start::Moved => Ok(Did::Moved),
-        Start::Calling(call) => {
-            faults.count_call(exit);
-            end_call(thread, call, exit);
-            Ok(Did::Moved)
-        }
-        Start::Doing(duty) => {
-            do_duty(memory, layout, number, thread, &duty);
-            faults.count_duty(&duty, exit);
-            Ok(Did::Moved)
-        }
-        Start::Asking { duty, question } => {
+    let start = first_duty(functions, layout, number, thread);
+    match start.duty() {
+        Some(duty) => {
             let found = do_duty(memory, layout, number, thread, &duty);
-            answer(thread, &question, found);
-            Ok(Did::Moved)
+            faults.count_duty(&duty, exit);
+            Ok(finish(thread, &start, exit, found))
         }
-        Start::Locking { row, left, next } => {
-            let found = do_duty(memory, layout, number, thread, &Duty::LockGate { row });
-            Ok(enter(thread, left, next, found))
+        None => {
+            faults.count_call(&start, exit);
+            Ok(finish(thread, &start, exit, 0))
         }
     }
 }

@@ -2,7 +2,9 @@
 
 ghost use Rattle.std.specs.Prelude.{◌≡◌, if◌then◌else◌};
 ghost use Rattle.brc_model.specs.StepMachine.{counted, closes};
+ghost use Rattle.brc_world.specs.Starts.{calls_counted};
 
+use crate::dispatch::Start;
 use brc_model::{Duty, Exit};
 
 /// How often the host has faulted. A count stops at the greatest number.
@@ -15,12 +17,14 @@ pub struct Faults {
 }
 
 impl Faults {
-    /// Counts how a host call ended.
+    /// Counts how the step with this start ended, if it is a host call.
     #[inline(always)]
-    pub fn count_call(&mut self, exit: Exit)
-        ensures { self.new ≡ record self.old { calls = counted exit self.old.calls } }
+    pub fn count_call(&mut self, start: &Start, exit: Exit)
+        ensures { self.new ≡ calls_counted start.now exit self.old }
     {
-        self.calls = counted(exit, self.calls);
+        if let Start::Calling(_) = start {
+            self.calls = counted(exit, self.calls);
+        }
     }
 
     /// Counts how the step that did the duty ended: only a close may fault. The resource is closed all the same, and

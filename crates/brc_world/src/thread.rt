@@ -3,7 +3,9 @@
 ghost use Rattle.std.specs.Prelude.{◌≡◌, ◌≤◌, slice_index_or, slice_set, vec_capacity};
 ghost use Rattle.brc_model.specs.Limits.{total_limit};
 ghost use Rattle.brc_model.specs.Threads.{row_of};
+ghost use Rattle.brc_effect.specs.Effects.{status_after, used_after, locked_after, lent_after};
 
+use brc_effect::Change;
 use brc_lang::Variable;
 use brc_model::{Duty, Stage, Status};
 use std::fmt;
@@ -102,6 +104,32 @@ impl Thread {
         self.mode = Mode::InCall;
         self.left = left;
         self.at = at;
+    }
+
+    /// Makes the change that a duty's effect names.
+    #[inline(always)]
+    pub fn change(&mut self, change: Change)
+        requires { used_after self.old.used change ≤ total_limit }
+        ensures status { self.new.status ≡ status_after self.old.status change }
+        ensures used { self.new.used ≡ used_after self.old.used change }
+        ensures locked { self.new.locked ≡ locked_after self.old.locked change }
+        ensures lent { self.new.lent ≡ lent_after self.old.lent change }
+        ensures function { self.new.function ≡ self.old.function }
+        ensures mode { self.new.mode ≡ self.old.mode }
+        ensures calls { self.new.left ≡ self.old.left }
+        ensures point { self.new.at ≡ self.old.at }
+        ensures variables { self.new.variables ≡ self.old.variables }
+        ensures turns { self.new.turns ≡ self.old.turns }
+        ensures agenda { self.new.agenda ≡ self.old.agenda }
+        ensures head { self.new.head ≡ self.old.head }
+    {
+        match change {
+            Change::Nothing => (),
+            Change::Becomes(status) => self.status = status,
+            Change::Uses(used) => self.used = used,
+            Change::Locks(locked) => self.locked = locked,
+            Change::Lends(lent) => self.lent = lent,
+        }
     }
 
     /// Ends the call, with `left` calls still to make.

@@ -6,7 +6,7 @@ ghost use Rattle.brc_model.specs.declared.duty.Holding.{Holding};
 ghost use Rattle.brc_model.specs.Limits.{worker_limit};
 ghost use Rattle.brc_effect.specs.Effects.{IsEffect};
 
-use super::{Doer, Effect, Next};
+use super::{Change, Doer, Effect, Next};
 use crate::states::{FILE, FULL, SOCK};
 use brc_model::{Duty, Holding};
 use brc_word::{kind_number, local_word};
@@ -46,7 +46,7 @@ impl Doer {
             → IsEffect self (duties.BirthLocal row holding) found result }
     {
         Effect {
-            used: self.used + 1,
+            change: Change::Uses(self.used + 1),
             ..self.leaves(local_word(Some(self.number), 1), Next::Nothing)
         }
     }

@@ -5,7 +5,7 @@ ghost use Rattle.brc_model.specs.declared.duty.Duty.TheVariants as duties;
 ghost use Rattle.brc_effect.specs.Effects.{IsEffect};
 
 use super::release::handed_merge;
-use super::{Doer, Effect, Next};
+use super::{Change, Doer, Effect, Next};
 use crate::rows::row_at;
 use crate::states::{GONE, LEAVING, SET};
 use brc_model::{Duty, Status};
@@ -19,7 +19,7 @@ impl Doer {
         ensures { (found : ℕ) → IsEffect self (duties.Leave index rows) found result }
     {
         Effect {
-            status: Status::Leaving,
+            change: Change::Becomes(Status::Leaving),
             ..self.leaves(LEAVING, Next::Two(Duty::Scan { index, rows }, Duty::Finish))
         }
     }
@@ -51,7 +51,7 @@ impl Doer {
         ensures { (found : ℕ) → IsEffect self duties.Finish found result }
     {
         Effect {
-            status: Status::Gone,
+            change: Change::Becomes(Status::Gone),
             ..self.leaves(GONE, Next::Nothing)
         }
     }

@@ -4,7 +4,7 @@ ghost use Rattle.std.specs.Prelude.{ℕ};
 ghost use Rattle.brc_model.specs.declared.duty.Duty.TheVariants as duties;
 ghost use Rattle.brc_effect.specs.Effects.{IsEffect};
 
-use super::{Doer, Effect, Next};
+use super::{Change, Doer, Effect, Next};
 use crate::states::FULL;
 
 impl Doer {
@@ -15,9 +15,13 @@ impl Doer {
     pub(super) fn lend_slot(self, row: u32, found: u64) -> Effect
         ensures { IsEffect self (duties.LendSlot row) found result }
     {
-        let lent = if found == FULL { Some(row) } else { self.lent };
+        let change = if found == FULL {
+            Change::Lends(Some(row))
+        } else {
+            Change::Nothing
+        };
         Effect {
-            lent,
+            change,
             ..self.leaves(0, Next::Nothing)
         }
     }
@@ -30,7 +34,7 @@ impl Doer {
         ensures { (row : ℕ) (found : ℕ) → IsEffect self (duties.ReturnSlot row) found result }
     {
         Effect {
-            lent: None,
+            change: Change::Lends(None),
             ..self.leaves(FULL, Next::Nothing)
         }
     }

@@ -5,7 +5,7 @@ ghost use Rattle.brc_model.specs.declared.duty.Duty.TheVariants as duties;
 ghost use Rattle.brc_model.specs.Limits.{worker_limit};
 ghost use Rattle.brc_effect.specs.Effects.{IsEffect};
 
-use super::{Doer, Effect, Next};
+use super::{Change, Doer, Effect, Next};
 use crate::states::FREE;
 use brc_word::locked;
 
@@ -21,7 +21,7 @@ impl Doer {
     {
         if found == FREE {
             Effect {
-                locked: Some(row),
+                change: Change::Locks(Some(row)),
                 ..self.leaves(locked(self.number), Next::Nothing)
             }
         } else {
@@ -37,7 +37,7 @@ impl Doer {
         ensures { (row : ℕ) (found : ℕ) → IsEffect self (duties.UnlockGate row) found result }
     {
         Effect {
-            locked: None,
+            change: Change::Locks(None),
             ..self.leaves(FREE, Next::Nothing)
         }
     }

@@ -1,5 +1,4 @@
 -- The step loads and stores the duty's word, and stores the rest of the effect in the thread.
-use Rattle.std.proofs.Common.{refl}
 use Rattle.brc_world.proofs.Indices.{indexed}
 use Rattle.brc_world.proofs.doing.do_duty.Goals as goal
 
@@ -11,20 +10,3 @@ pub returns-clause-word : goal.returns-clause-word
 returns-clause-word c =
     rw (c.effect-effect.ensures.word, c.doer-by.ensures, c.load-found.ensures, c.address_of-address.ensures) at
     c.store.ensures
-
-pub returns-clause-actor : goal.returns-clause-actor
-returns-clause-actor c =
-    let effect = c.effect-effect.ensures in
-    rw (
-      c.pass_over.ensures.duties,
-      c.push.ensures.duties,
-      effect.next,
-      effect.head,
-      effect.status,
-      effect.used,
-      effect.locked,
-      effect.lent,
-      c.doer-by.ensures,
-      c.load-found.ensures,
-      c.address_of-address.ensures,
-    ) refl
