@@ -4,7 +4,7 @@ use Rattle.std.proofs.Common.{Option, refl, sym, ap, ◌∙◌, subst, inl, inr,
 use Rattle.std.specs.Prelude.{None, Some, slice_get, MatchOption, IsTrue}
 use Rattle.std.specs.List.{slice_index_or}
 use Rattle.std.proofs.lemmas.Bool.{cases_lt}
-use Rattle.std.proofs.lemmas.Option.{same_Some, slice_get_read, slice_get-get_or}
+use Rattle.std.proofs.lemmas.Option.{same_Some, slice_get_read, slice_get_within, slice_get-get_or}
 use Rattle.brc_lang.specs.declared.module.Function.{Function}
 use Rattle.brc_lang.specs.declared.module.Instr.{Instr}
 use Rattle.brc_model.specs.declared.code.CheckCode.{CheckCode}
@@ -61,7 +61,14 @@ rival-found visits at point c None firsts lt differ same e =
     is.is.same_point
 rival-found visits at point c (Some number) firsts lt differ same e =
     let there = firsts.known point number (slice_get-get_or visits.firsts point None lt ∙ ap Some e) in
-    record { differ = differ; same_point = same; visit = there.0; listed = there.1; there = there.2 }
+    record {
+      differ = differ;
+      same_point = same;
+      within = slice_get_within visits.list number there.0 there.1;
+      visit = there.0;
+      listed = there.1;
+      there = there.2;
+    }
 
 -- ---- what is found
 

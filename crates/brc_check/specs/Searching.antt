@@ -58,6 +58,7 @@ IsUnrivalled list at reported point =
 pub record IsRival (list : List Visit) (at : ℕ) (reported : CheckCode) (point number : ℕ) : Type 0 where
   pub differ : reported ≡ StatesDiffer
   pub same_point : point ≡ at
+  pub within : number < length list
   pub visit : Visit
   pub listed : slice_get list number ≡ Some visit
   pub there : visit.at ≡ point

@@ -1,5 +1,4 @@
-use Rattle.std.proofs.Common.{length, arith, refl, sym, ap, ◌∙◌, subst}
-use Rattle.std.proofs.lemmas.Option.{slice_get_within}
+use Rattle.std.proofs.Common.{refl, sym, ap, ◌∙◌, subst}
 use Rattle.brc_model.specs.Paths.{Ended, At}
 use Rattle.brc_check.specs.declared.visits.Visits.{Visits}
 use Rattle.brc_check.specs.Entries.{end_of}
@@ -27,13 +26,6 @@ rival-requires-clause-within c =
     led-within c.args.code.now c.args.wanted.at c.args.wanted.code c.args.visits.now c.args.turn c.in-To.next
     c.index-as_slice-turn.result c.in-To.state c.args.exit c.requires.searched
     (sym c.follow.ensures ∙ ap (end_of c.index-as_slice-turn.result.at) c.in-To.is)
-
-pub exits_to-requires-clause-within : goal.exits_to-requires-clause-within
-exits_to-requires-clause-within c =
-    let rival = c.in-Some.ensures in
-    let within = slice_get_within c.args.visits.now.list c.in-Some.first rival.visit rival.listed in
-    let same = ap length c.as_slice-in-Some.ensures in
-    omega (arith, within, same)
 
 pub returns-in-Some : goal.returns-in-Some
 returns-in-Some c =
