@@ -31,7 +31,8 @@ use brc_lang::Function;
 use brc_model::{Address, Duty, Exit, Layout, Status};
 
 /// Does the thread's duty, which is no longer in its agenda, on the duty's word. Returns the value that it found there.
-#[inline(always)]
+// Inside the step its values would have no registers, and the step would take longer (docs/PERFORMANCE.md).
+#[inline(never)]
 pub fn do_duty(
     memory: &mut Memory,
     layout: Layout,
