@@ -25,7 +25,7 @@ mod verifying;
 pub use brc_model::{CheckCode, Exit, Slot, State};
 pub use checked::Checked;
 pub use checker::check;
-pub use inferring::infer;
+pub use inferring::{first_states, infer};
 pub use path::Path;
 pub use refused::Refused;
 pub use state::entry;
