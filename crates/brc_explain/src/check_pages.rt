@@ -1,5 +1,9 @@
 //! The pages of C1 to C12. In the remarks of an example `@3` is the instruction of that number.
 
+ghost use Rattle.std.specs.Prelude.{◌≡◌, Some};
+ghost use Rattle.brc_explain.specs.Topics.{topic_named};
+ghost use Rattle.brc_explain.specs.declared.topic.Topic.TheVariants.{Check};
+
 use crate::page::Page;
 use brc_check::CheckCode;
 
@@ -8,7 +12,9 @@ const API_RULE: &str = "The rule of the Python/C API";
 const CHECKER_RULE: &str = "The checker's rule";
 
 /// Returns the page of a code.
-pub fn check_page(code: CheckCode) -> Page {
+pub fn check_page(code: CheckCode) -> Page
+    ensures { topic_named result.code.now ≡ Some (Check code) }
+{
     match code {
         CheckCode::EmptyUsed => EMPTY_USED,
         CheckCode::WrongKind => WRONG_KIND,
@@ -128,14 +134,16 @@ const WRONG_KIND: Page = Page {
         ("module 1", ""),
         ("func f", ""),
         ("lock v0", ""),
-        ("fetch v1 v0 0 else @8", ""),
+        ("fetch v1 v0 0 else @10", ""),
         ("unlock v0", ""),
-        ("as v1 list else @6", "@3 if (!PyList_Check(v1)) goto @6;"),
-        ("lock v1", "@4"),
+        ("as v1 list else @8", "@3 if (!PyList_Check(v1)) goto @8;"),
+        ("lock v1", "@4 v1 is a list"),
         ("unlock v1", ""),
-        ("drop v1", "@6 on both ways"),
+        ("drop v1", ""),
         ("fail", ""),
-        ("unlock v0", "@8"),
+        ("drop v1", "@8 v1 is something else"),
+        ("fail", ""),
+        ("unlock v0", "@10 here if v1 == NULL"),
         ("fail", ""),
         ("end", ""),
     ],
