@@ -9,6 +9,7 @@ mod fault;
 mod forms;
 mod line_fault;
 mod listing;
+mod lock_pages;
 mod operand_roles;
 mod page;
 mod path_text;

@@ -22,7 +22,7 @@ use std::alloc::Global;
 use std::io;
 use std::io::Write;
 
-/// Writes why `check` refuses the module: a listing of the function at fault, a path that leads to the fault, or the two
+/// Writes why `check` refuses the module: a listing of the function at fault, a path that leads to the fault or the two
 /// paths that differ, and the meaning of the code. The function of the number `only`, if it is another one, is listed
 /// first.
 ///
