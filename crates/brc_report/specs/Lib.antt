@@ -1,1 +1,2 @@
+pub mod Paint
 pub mod Report
