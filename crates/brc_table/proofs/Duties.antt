@@ -110,73 +110,78 @@ work_there v x d rest rows is = elim (either_list x v.agenda v.aside d rest is) 
   | inr waiting ↦ rows.aside x waiting
 ]
 
+-- The row of a hand's first duty is there.
+pub first_there : (v : View) (x : ℕ) (d : Duty) (rest : List Duty) → RowsAreThere v → v.agenda ≡ d ∷ rest
+    → is_about x d ≡ true → x < row_count v.layout
+first_there v x d rest rows is this =
+    rows.agenda x (ap (list_any (is_about x)) is ∙ ap (λ (b : Bool). b || list_any (is_about x) rest) this)
+
 pub next_there : (v : View) (x : ℕ) (d : Duty) → RowsAreThere v → v.agenda ≡ d ∷ [] → is_about x d ≡ true
     → x < row_count v.layout
-next_there v x d rows is this =
-    rows.agenda x (ap (list_any (is_about x)) is ∙ ap (λ (b : Bool). b || false) this)
+next_there v x d rows is this = first_there v x d [] rows is this
 
 -- ---- going on
 
 module _ (u : View) (x : ℕ) (alive : u.status ≢ Gone) where
   -- The hand's next duty is about the row's word in this line.
-  abbrev pub line_makes : (line : ℕ) (f : ℕ → ℕ) (d : Duty) → u.agenda ≡ d ∷ []
+  abbrev pub line_makes : (line : ℕ) (f : ℕ → ℕ) (d : Duty) (rest : List Duty) → u.agenda ≡ d ∷ rest
       → IsObjectWord (address_of u.layout u.thread u.head d)
       → in_tile line x ≡ place (address_of u.layout u.thread u.head d) → is_locking d ≡ false
       → ((found : ℕ) → Suits u.thread (is_running u.status) (row_count u.layout) d found
       → f found ≡ new_word u.thread u.head d found)
       → Makes u (in_tile line x) f
-  line_makes line f d is object index plain leaves = record {
+  line_makes line f d rest is object index plain leaves = record {
     duty = d;
-    rest = [];
+    rest = rest;
     at = record { agenda = is; alive = alive; object = object; index_is = index; plain = plain };
     leaves = leaves;
   }
 
-  pub at_line : (line : ℕ) (f : ℕ → ℕ) (d : Duty) → u.agenda ≡ d ∷ []
+  pub at_line : (line : ℕ) (f : ℕ → ℕ) (d : Duty) (rest : List Duty) → u.agenda ≡ d ∷ rest
       → IsObjectWord (address_of u.layout u.thread u.head d)
       → in_tile line x ≡ place (address_of u.layout u.thread u.head d) → is_locking d ≡ false → IsQuiet d
       → ((found : ℕ) → Suits u.thread (is_running u.status) (row_count u.layout) d found
       → f found ≡ new_word u.thread u.head d found)
       → MakesQuietly u (in_tile line x) f
-  at_line line f d is object index plain quiet leaves =
-      record { makes = line_makes line f d is object index plain leaves; quiet = quiet }
+  at_line line f d rest is object index plain quiet leaves =
+      record { makes = line_makes line f d rest is object index plain leaves; quiet = quiet }
 
   pub shared_load_makes : (ds : List Duty) → u.agenda ≡ ds → LoadsShared x ds
       → MakesQuietly u (in_tile 1 x) (λ found. found)
-  shared_load_makes (DecideAtZero y ∷ []) is same =
-      at_line 1 (λ found. found) (DecideAtZero y) is tt (ap (in_tile 1) (sym same)) refl
+  shared_load_makes (DecideAtZero y ∷ rest) is same =
+      at_line 1 (λ found. found) (DecideAtZero y) rest is tt (ap (in_tile 1) (sym same)) refl
       (record { status = λ s. refl; head = λ head found. refl; used = λ used. refl }) (λ found suits. refl)
-  shared_load_makes (SharedLoad y r ∷ []) is same =
-      at_line 1 (λ found. found) (SharedLoad y r) is tt (ap (in_tile 1) (sym same)) refl
+  shared_load_makes (SharedLoad y r ∷ rest) is same =
+      at_line 1 (λ found. found) (SharedLoad y r) rest is tt (ap (in_tile 1) (sym same)) refl
       (record { status = λ s. refl; head = λ head found. refl; used = λ used. refl }) (λ found suits. refl)
-  shared_load_makes (MergeLoad y c r ∷ []) is same =
-      at_line 1 (λ found. found) (MergeLoad y c r) is tt (ap (in_tile 1) (sym same)) refl
+  shared_load_makes (MergeLoad y c r ∷ rest) is same =
+      at_line 1 (λ found. found) (MergeLoad y c r) rest is tt (ap (in_tile 1) (sym same)) refl
       (record { status = λ s. refl; head = λ head found. refl; used = λ used. refl }) (λ found suits. refl)
   shared_load_makes _ is same = absurd same
 
   pub local_swap_makes : (ds : List Duty) → u.agenda ≡ ds → SwapsLocal x ds
       → MakesQuietly u (in_tile 0 x) (λ found. 0)
-  local_swap_makes (MergeSwap y r ∷ []) is same =
-      at_line 0 (λ found. 0) (MergeSwap y r) is tt (ap (in_tile 0) (sym same)) refl
+  local_swap_makes (MergeSwap y r ∷ rest) is same =
+      at_line 0 (λ found. 0) (MergeSwap y r) rest is tt (ap (in_tile 0) (sym same)) refl
       (record { status = λ s. refl; head = λ head found. refl; used = λ used. refl }) (λ found suits. refl)
   local_swap_makes _ is same = absurd same
 
   pub shared_add_makes : (ds : List Duty) → u.agenda ≡ ds → AddsShared x ds
       → MakesQuietly u (in_tile 1 x) (λ found. (found + 4) % 2 ^ 64)
   shared_add_makes (RetainAdd y h ∷ []) is same =
-      at_line 1 (λ found. (found + 4) % 2 ^ 64) (RetainAdd y h) is tt (ap (in_tile 1) (sym same)) refl
+      at_line 1 (λ found. (found + 4) % 2 ^ 64) (RetainAdd y h) [] is tt (ap (in_tile 1) (sym same)) refl
       (record { status = λ s. refl; head = λ head found. refl; used = λ used. refl })
       (λ found suits. mod-eq_of_lt (low_word found suits.0.low))
   shared_add_makes _ is same = absurd same
 
   pub shared_exchange_makes : (old new : ℕ) (ds : List Duty) → u.agenda ≡ ds → ExchangesShared x old new ds
       → MakesQuietly u (in_tile 1 x) (λ found. either (found == old) new found)
-  shared_exchange_makes old new (SharedExchange y r w ∷ []) is same =
-      at_line 1 (λ found. either (found == old) new found) (SharedExchange y r w) is tt (ap (in_tile 1) (sym same.0)) refl
+  shared_exchange_makes old new (SharedExchange y r w ∷ rest) is same =
+      at_line 1 (λ found. either (found == old) new found) (SharedExchange y r w) rest is tt (ap (in_tile 1) (sym same.0)) refl
       (record { status = λ s. refl; head = λ head found. refl; used = λ used. refl })
       (λ found suits. either_is found old new w (released_word w) same.1 same.2)
-  shared_exchange_makes old new (MergeExchange y c w r ∷ []) is same =
-      at_line 1 (λ found. either (found == old) new found) (MergeExchange y c w r) is tt (ap (in_tile 1) (sym same.0)) refl
+  shared_exchange_makes old new (MergeExchange y c w r ∷ rest) is same =
+      at_line 1 (λ found. either (found == old) new found) (MergeExchange y c w r) rest is tt (ap (in_tile 1) (sym same.0)) refl
       (record { status = λ s. refl; head = λ head found. refl; used = λ used. refl })
       (λ found suits. either_is found old new w (merged_word w c) same.1 same.2)
   shared_exchange_makes old new _ is same = absurd same
@@ -185,12 +190,12 @@ module _ (u : View) (x : ℕ) (alive : u.status ≢ Gone) where
       → StoresWord u (in_tile 0 x) word
   local_store_makes word (RetainStore y h w ∷ []) is same = record {
     makes =
-        line_makes 0 (λ found. word) (RetainStore y h w) is tt (ap (in_tile 0) (sym same.0)) refl (λ found suits. same.1);
+        line_makes 0 (λ found. word) (RetainStore y h w) [] is tt (ap (in_tile 0) (sym same.0)) refl (λ found suits. same.1);
     knows = λ found over. over ∙ sym (ap overwritten is);
   }
   local_store_makes word (ReleaseStore y w ∷ []) is same = record {
     makes =
-        line_makes 0 (λ found. word) (ReleaseStore y w) is tt (ap (in_tile 0) (sym same.0)) refl (λ found suits. same.1);
+        line_makes 0 (λ found. word) (ReleaseStore y w) [] is tt (ap (in_tile 0) (sym same.0)) refl (λ found suits. same.1);
     knows = λ found over. over ∙ sym (ap overwritten is);
   }
   local_store_makes word _ is same = absurd same
@@ -223,10 +228,10 @@ shared_add_there v x _ rows is same = absurd same
 
 pub shared_exchange_there : (v : View) (x old new : ℕ) (ds : List Duty) → RowsAreThere v → v.agenda ≡ ds
     → ExchangesShared x old new ds → x < row_count v.layout
-shared_exchange_there v x old new (SharedExchange y r w ∷ []) rows is same =
-    next_there v x (SharedExchange y r w) rows is (eq-eqb y x same.0)
-shared_exchange_there v x old new (MergeExchange y c w r ∷ []) rows is same =
-    next_there v x (MergeExchange y c w r) rows is (eq-eqb y x same.0)
+shared_exchange_there v x old new (SharedExchange y r w ∷ rest) rows is same =
+    first_there v x (SharedExchange y r w) rest rows is (eq-eqb y x same.0)
+shared_exchange_there v x old new (MergeExchange y c w r ∷ rest) rows is same =
+    first_there v x (MergeExchange y c w r) rest rows is (eq-eqb y x same.0)
 shared_exchange_there v x old new _ rows is same = absurd same
 
 pub local_store_there : (v : View) (x word : ℕ) (ds : List Duty) → RowsAreThere v → v.agenda ≡ ds
@@ -236,6 +241,22 @@ local_store_there v x word (RetainStore y h w ∷ []) rows is same =
 local_store_there v x word (ReleaseStore y w ∷ []) rows is same =
     next_there v x (ReleaseStore y w) rows is (eq-eqb y x same.0)
 local_store_there v x word _ rows is same = absurd same
+
+pub shared_load_next_there : (v : View) (x : ℕ) (ds : List Duty) → RowsAreThere v → v.agenda ≡ ds → LoadsShared x ds
+    → x < row_count v.layout
+shared_load_next_there v x (DecideAtZero y ∷ rest) rows is same =
+    first_there v x (DecideAtZero y) rest rows is (eq-eqb y x same)
+shared_load_next_there v x (SharedLoad y r ∷ rest) rows is same =
+    first_there v x (SharedLoad y r) rest rows is (eq-eqb y x same)
+shared_load_next_there v x (MergeLoad y c r ∷ rest) rows is same =
+    first_there v x (MergeLoad y c r) rest rows is (eq-eqb y x same)
+shared_load_next_there v x _ rows is same = absurd same
+
+pub local_swap_next_there : (v : View) (x : ℕ) (ds : List Duty) → RowsAreThere v → v.agenda ≡ ds → SwapsLocal x ds
+    → x < row_count v.layout
+local_swap_next_there v x (MergeSwap y r ∷ rest) rows is same =
+    first_there v x (MergeSwap y r) rest rows is (eq-eqb y x same)
+local_swap_next_there v x _ rows is same = absurd same
 
 -- ---- births and deaths
 
@@ -260,15 +281,15 @@ birth_stores v word runs = record {
 pub own_stores : (u : View) (x word : ℕ) → u.status ≢ Gone → (ds : List Duty) → u.agenda ≡ ds → OwnsFirst x ds
     → word ≡ local_word u.thread 1 → StoresWord u (in_tile 0 x) word
 own_stores u x word alive (BirthLocal y h ∷ []) is same first = record {
-  makes = line_makes u x alive 0 (λ found. word) (BirthLocal y h) is tt (ap (in_tile 0) (sym same)) refl (λ found suits. first);
+  makes = line_makes u x alive 0 (λ found. word) (BirthLocal y h) [] is tt (ap (in_tile 0) (sym same)) refl (λ found suits. first);
   knows = λ found over. over ∙ sym (ap overwritten is);
 }
 own_stores u x word alive _ is same first = absurd same
 
 pub chain_stores : (u : View) (x word : ℕ) → u.status ≢ Gone → (ds : List Duty) → u.agenda ≡ ds → ChainsRow x ds
     → word ≡ dying_word u.thread u.head → StoresWord u (in_tile 2 x) word
-chain_stores u x word alive (Die y ∷ []) is same dies = record {
-  makes = line_makes u x alive 2 (λ found. word) (Die y) is tt (ap (in_tile 2) (sym same)) refl (λ found suits. dies);
+chain_stores u x word alive (Die y ∷ rest) is same dies = record {
+  makes = line_makes u x alive 2 (λ found. word) (Die y) rest is tt (ap (in_tile 2) (sym same)) refl (λ found suits. dies);
   knows = λ found over. over ∙ sym (ap overwritten is);
 }
 chain_stores u x word alive _ is same dies = absurd same
@@ -280,5 +301,5 @@ owns_first_there v x _ rows is same = absurd same
 
 pub chains_row_there : (v : View) (x : ℕ) (ds : List Duty) → RowsAreThere v → v.agenda ≡ ds → ChainsRow x ds
     → x < row_count v.layout
-chains_row_there v x (Die y ∷ []) rows is same = next_there v x (Die y) rows is (eq-eqb y x same)
+chains_row_there v x (Die y ∷ rest) rows is same = first_there v x (Die y) rest rows is (eq-eqb y x same)
 chains_row_there v x _ rows is same = absurd same

@@ -1,7 +1,5 @@
 -- The duties of a hand that finalises the objects of its chain: where their words are, and how the hand begins.
-use Rattle.std.proofs.Common.{◌≡◌, ◌≢◌, ℕ, ◌+◌, ◌-◌, ◌<◌, ◌≤◌, Bool, true, List, [], ◌∷◌, refl, sym, ap, ◌∙◌, subst, arith}
-use Rattle.std.specs.Prelude.{◌||◌}
-use Rattle.std.specs.List.{list_any}
+use Rattle.std.proofs.Common.{◌≡◌, ◌≢◌, ℕ, ◌+◌, ◌-◌, ◌<◌, ◌≤◌, List, [], ◌∷◌, refl, sym, ap, ◌∙◌, subst, arith}
 use Rattle.std.proofs.lemmas.Bool.{eq-eqb}
 use Rattle.brc_model.specs.declared.duty.Duty.{Duty}
 use Rattle.brc_model.specs.declared.duty.Duty.TheVariants.{Settle, SettleKind, SettleCell, SettleEnd}
@@ -10,7 +8,6 @@ use Rattle.brc_model.specs.declared.layout.Layout.{Layout}
 use Rattle.brc_model.specs.Layout.{row_count}
 use Rattle.brc_model.specs.Limits.{cell_limit}
 use Rattle.brc_word.specs.Words.{closed_word}
-use Rattle.brc_model.specs.OpenWork.{is_about}
 use Rattle.brc_model.specs.CountingLaws.{SettlesBegin}
 use Rattle.brc_table.specs.declared.view.View.{View}
 use Rattle.brc_table.specs.Places.{in_tile, cell_place}
@@ -18,7 +15,7 @@ use Rattle.brc_table.specs.Views.{actor_of, settle_first, settling, NamesFewCell
 use Rattle.brc_table.specs.Begins.{Becomes, Makes, MakesQuietly, SettlesNext}
 use Rattle.brc_table.specs.Calls.{SettlesFrom, LoadsDyingKind, EmptiesCell, ClosesRow}
 use Rattle.brc_table.proofs.Becoming.{becomes_same, rearranged}
-use Rattle.brc_table.proofs.Duties.{runs_on}
+use Rattle.brc_table.proofs.Duties.{runs_on, first_there}
 
 -- ---- the beginning
 
@@ -59,12 +56,6 @@ settle_makes v u same next = record {
 }
 
 -- ---- the rows of these duties
-
--- The row of a hand's first duty is there.
-pub first_there : (v : View) (x : ℕ) (d : Duty) (rest : List Duty) → RowsAreThere v → v.agenda ≡ d ∷ rest
-    → is_about x d ≡ true → x < row_count v.layout
-first_there v x d rest rows is this =
-    rows.agenda x (ap (list_any (is_about x)) is ∙ ap (λ (b : Bool). b || list_any (is_about x) rest) this)
 
 pub dying_kind_there : (v : View) (x : ℕ) (ds : List Duty) → RowsAreThere v → v.agenda ≡ ds → LoadsDyingKind x ds
     → x < row_count v.layout

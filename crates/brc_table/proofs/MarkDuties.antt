@@ -17,7 +17,7 @@ module _ (u : View) (x : ℕ) (alive : u.status ≢ Gone) where
   pub mark_store_makes : (ds : List Duty) → u.agenda ≡ ds → SetsMark x ds → StoresWord u (in_tile 4 x) 1
   mark_store_makes (SetMark y ∷ []) is same = record {
     makes =
-        line_makes u x alive 4 (λ found. 1) (SetMark y) is tt (ap (in_tile 4) (sym same)) refl (λ found suits. refl);
+        line_makes u x alive 4 (λ found. 1) (SetMark y) [] is tt (ap (in_tile 4) (sym same)) refl (λ found suits. refl);
     knows = λ found over. over ∙ sym (ap overwritten is);
   }
   mark_store_makes _ is same = absurd same
@@ -25,7 +25,7 @@ module _ (u : View) (x : ℕ) (alive : u.status ≢ Gone) where
   pub mark_take_makes : (ds : List Duty) → u.agenda ≡ ds → TakesMark x ds
       → MakesQuietly u (in_tile 4 x) (λ found. 0)
   mark_take_makes (TakeMark y ∷ []) is same =
-      at_line u x alive 4 (λ found. 0) (TakeMark y) is tt (ap (in_tile 4) (sym same)) refl
+      at_line u x alive 4 (λ found. 0) (TakeMark y) [] is tt (ap (in_tile 4) (sym same)) refl
       (record { status = λ s. refl; head = λ head found. refl; used = λ used. refl }) (λ found suits. refl)
   mark_take_makes _ is same = absurd same
 

@@ -11,16 +11,16 @@ use Rattle.brc_table.specs.Hands.{MayWait}
 abbrev pub CanAct : View → Type 0
 CanAct v = (v.status ≢ Gone) × MayWait v.agenda
 
--- The one duty is to load the row's shared word.
+-- The first duty is to load the row's shared word.
 abbrev pub LoadsShared : ℕ → List Duty → Type 0
-LoadsShared x (DecideAtZero y ∷ []) = y ≡ x
-LoadsShared x (SharedLoad y r ∷ []) = y ≡ x
-LoadsShared x (MergeLoad y c r ∷ []) = y ≡ x
+LoadsShared x (DecideAtZero y ∷ rest) = y ≡ x
+LoadsShared x (SharedLoad y r ∷ rest) = y ≡ x
+LoadsShared x (MergeLoad y c r ∷ rest) = y ≡ x
 LoadsShared x _ = ⊥
 
--- The one duty is to swap the row's local word for nobody's.
+-- The first duty is to swap the row's local word for nobody's.
 abbrev pub SwapsLocal : ℕ → List Duty → Type 0
-SwapsLocal x (MergeSwap y r ∷ []) = y ≡ x
+SwapsLocal x (MergeSwap y r ∷ rest) = y ≡ x
 SwapsLocal x _ = ⊥
 
 -- The one duty is to store this word as the row's local word.
@@ -34,15 +34,15 @@ abbrev pub AddsShared : ℕ → List Duty → Type 0
 AddsShared x (RetainAdd y h ∷ []) = y ≡ x
 AddsShared x _ = ⊥
 
--- The one duty is to exchange the row's shared word, if it is still the old one, for the new one.
+-- The first duty is to exchange the row's shared word, if it is still the old one, for the new one.
 abbrev pub ExchangesShared : ℕ → ℕ → ℕ → List Duty → Type 0
-ExchangesShared x old new (SharedExchange y r w ∷ []) = (y ≡ x) × (old ≡ w) × (new ≡ released_word w)
-ExchangesShared x old new (MergeExchange y c w r ∷ []) = (y ≡ x) × (old ≡ w) × (new ≡ merged_word w c)
+ExchangesShared x old new (SharedExchange y r w ∷ rest) = (y ≡ x) × (old ≡ w) × (new ≡ released_word w)
+ExchangesShared x old new (MergeExchange y c w r ∷ rest) = (y ≡ x) × (old ≡ w) × (new ≡ merged_word w c)
 ExchangesShared x old new _ = ⊥
 
--- The one duty is to chain the dying row.
+-- The first duty is to chain the dying row.
 abbrev pub ChainsRow : ℕ → List Duty → Type 0
-ChainsRow x (Die y ∷ []) = y ≡ x
+ChainsRow x (Die y ∷ rest) = y ≡ x
 ChainsRow x _ = ⊥
 
 -- The one duty is to store the new row's first local word.

@@ -7,6 +7,7 @@ mod dying;
 mod exits;
 mod first_words;
 mod hand;
+mod handed;
 mod kinds;
 mod laws;
 mod lives;

@@ -2,7 +2,8 @@
 //! Counting). Each call is one atomic step. Its condition says that the step is the next one of the hand's work; the
 //! crate above computes which that is.
 
-ghost use Rattle.std.specs.Prelude.{◌≡◌, ◌+◌, ◌<◌, ◌≤◌, length};
+ghost use Rattle.std.specs.Prelude.{◌≡◌, ◌≢◌, ◌+◌, ◌<◌, ◌≤◌, length};
+ghost use Rattle.brc_model.specs.declared.actor.Status.TheVariants.{Gone};
 ghost use Rattle.brc_model.specs.Duties.{address_of};
 ghost use Rattle.brc_model.specs.Within.{OwnerFits};
 ghost use Rattle.brc_word.specs.Words.{owner_part, local_part};
@@ -127,7 +128,7 @@ impl<T: Drop> Words<T> {
     /// Does the next duty: exchanges the row's shared word, if it is still `old`. Returns the value found.
     pub fn shared_exchange(&self, hand: &mut Hand<T>, row: u32, old: u64, new: u64) -> u64
         requires table { IsOf self.now hand.old }
-        requires acts { CanAct hand.old.view }
+        requires alive { hand.old.view.status ≢ Gone }
         requires duty { ExchangesShared row old new hand.old.view.agenda }
         ensures table { hand.new.table ≡ hand.old.table }
         ensures carried { hand.new.carried ≡ hand.old.carried }

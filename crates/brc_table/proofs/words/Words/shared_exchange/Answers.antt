@@ -16,4 +16,4 @@ exchange-requires-clause-there g c =
 
 pub exchange-requires-clause-makes : goal.exchange-requires-clause-makes
 exchange-requires-clause-makes g c =
-    shared_exchange_makes c.args.hand.now.view c.args.row c.requires.acts.0 c.args.old c.args.new c.args.hand.now.view.agenda refl c.requires.duty
+    shared_exchange_makes c.args.hand.now.view c.args.row c.requires.alive c.args.old c.args.new c.args.hand.now.view.agenda refl c.requires.duty
