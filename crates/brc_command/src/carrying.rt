@@ -16,10 +16,11 @@ use crate::calls::number_of;
 use crate::lines::{write_stop, write_version};
 use crate::load::{Load, STANDARD_INPUT};
 use crate::step_fault::StepFault;
-use crate::stepping::step_text;
+use crate::stepping::step_text_on;
 use crate::stop::Stop;
+use crate::terminal::{NoTerminal, Terminal};
 use crate::texts::{accepted, module_of};
-use crate::turns::run;
+use crate::turns::run_on;
 use brc_check::Checked;
 use brc_lang::Module;
 use brc_model::Call;
@@ -28,7 +29,8 @@ use std::alloc::Global;
 use std::io::Write;
 use std::sync::Wait;
 
-/// Carries out the request and returns the exit status: 0, or that of `Stop::status`.
+/// Carries out the request and returns the exit status: 0, or that of `Stop::status`. Nobody watches: no text is
+/// coloured, and no progress is shown.
 ///
 /// If the status isn't 0, a line on standard error gives the reason. An error of standard error is ignored.
 pub fn execute<R: Wait, L: Load, W: Write, E: Write>(
@@ -46,7 +48,27 @@ pub fn execute<R: Wait, L: Load, W: Write, E: Write>(
         (IsReason (L.may_give load.old) (L.may_lack load.old) asked.now) (W.contents out.old) (W.contents out.new)
         (E.contents err.old) (E.contents err.new) result }
 {
-    match carry_out(rt, alloc, asked, load, out) {
+    execute_on(rt, alloc, asked, load, &mut NoTerminal, out, err)
+}
+
+/// Does what `execute` does, before somebody at a terminal.
+pub fn execute_on<R: Wait, L: Load, T: Terminal, W: Write, E: Write>(
+    rt: &R,
+    alloc: Global,
+    asked: &Asked<'_>,
+    load: &mut L,
+    terminal: &mut T,
+    out: &mut W,
+    err: &mut E,
+) -> u8
+    ensures known { result ≤ 3 }
+    ensures done { result ≡ 0 → IsDone (HasReport (L.may_give load.old) asked.now) (W.contents out.old)
+        (W.contents out.new) (E.contents err.old) (E.contents err.new) }
+    ensures stopped { result ≢ 0 → IsStopped (HasReport (L.may_give load.old) asked.now)
+        (IsReason (L.may_give load.old) (L.may_lack load.old) asked.now) (W.contents out.old) (W.contents out.new)
+        (E.contents err.old) (E.contents err.new) result }
+{
+    match carry_out(rt, alloc, asked, load, terminal, out) {
         Ok(()) => 0,
         Err(stop) => {
             let _ = write_stop(&stop, err);
@@ -58,11 +80,12 @@ pub fn execute<R: Wait, L: Load, W: Write, E: Write>(
 /// Carries out the request and writes its report.
 ///
 /// Returns the first reason from the top why it can't: a file, the texts, the check, a function's name, memory, output.
-pub fn carry_out<'a, R: Wait, L: Load, W: Write>(
+pub fn carry_out<'a, R: Wait, L: Load, T: Terminal, W: Write>(
     rt: &R,
     alloc: Global,
     asked: &Asked<'a>,
     load: &mut L,
+    terminal: &mut T,
     out: &mut W,
 ) -> Result<(), Stop<'a>>
     ensures reported { OnOk result (Reports (HasReport (L.may_give load.old) asked.now) (W.contents out.old)
@@ -73,9 +96,9 @@ pub fn carry_out<'a, R: Wait, L: Load, W: Write>(
         (W.contents out.old) (W.contents out.new) }
 {
     match asked {
-        Asked::Run(asked) => run_file(rt, alloc, asked, load, out),
+        Asked::Run(asked) => run_file(rt, alloc, asked, load, terminal, out),
         Asked::Check { file } => check_file(alloc, file, load, out),
-        Asked::Step { file, schedule } => step_files(alloc, file, schedule, load, out),
+        Asked::Step { file, schedule } => step_files(alloc, file, schedule, load, terminal, out),
         Asked::Version => match write_version(out) {
             Ok(()) => Ok(()),
             Err(_) => Err(Stop::Fault(StepFault::Output)),
@@ -83,11 +106,12 @@ pub fn carry_out<'a, R: Wait, L: Load, W: Write>(
     }
 }
 
-fn run_file<'a, R: Wait, L: Load, W: Write>(
+fn run_file<'a, R: Wait, L: Load, T: Terminal, W: Write>(
     rt: &R,
     alloc: Global,
     asked: &Run<'a>,
     load: &mut L,
+    terminal: &mut T,
     out: &mut W,
 ) -> Result<(), Stop<'a>>
     ensures reported { OnOk result (Reports (HasRunReport (L.may_give load.old) asked.now) (W.contents out.old)
@@ -102,7 +126,15 @@ fn run_file<'a, R: Wait, L: Load, W: Write>(
     let Some(call) = call_of(checked.module(), asked) else {
         return Err(Stop::NoFunction(asked.function));
     };
-    let tally = run(rt, alloc, &checked, asked.threads, asked.rows, call)?;
+    let tally = run_on(
+        rt,
+        alloc,
+        &checked,
+        asked.threads,
+        asked.rows,
+        call,
+        terminal,
+    )?;
     match write_tally(&tally, out) {
         Ok(()) => Ok(()),
         Err(_) => Err(Stop::Fault(StepFault::Output)),
@@ -131,11 +163,12 @@ fn check_file<'a, L: Load, W: Write>(
 }
 
 // Both files are loaded before either text is read. Standard input can be loaded only once, so it can't be both.
-fn step_files<'a, L: Load, W: Write>(
+fn step_files<'a, L: Load, T: Terminal, W: Write>(
     alloc: Global,
     file: &'a str,
     schedule: &'a str,
     load: &mut L,
+    terminal: &mut T,
     out: &mut W,
 ) -> Result<(), Stop<'a>>
     ensures reported { OnOk result (Reports (HasStepReport (L.may_give load.old) file.now schedule.now)
@@ -151,7 +184,7 @@ fn step_files<'a, L: Load, W: Write>(
     }
     let module = load.load(alloc, file)?;
     let schedule = load.load(alloc, schedule)?;
-    match step_text(alloc, module.as_slice(), schedule.as_slice(), out) {
+    match step_text_on(alloc, module.as_slice(), schedule.as_slice(), terminal, out) {
         Ok(()) => Ok(()),
         Err(fault) => Err(Stop::Fault(fault)),
     }

@@ -2,7 +2,7 @@ use Rattle.std.proofs.Common.{ap}
 use Rattle.std.specs.Prelude.{Err}
 use Rattle.brc_command.specs.Lines.{stop_text}
 use Rattle.brc_command.proofs.Outputs.{begun_anyway}
-use Rattle.brc_command.proofs.carrying.execute.Goals as goal
+use Rattle.brc_command.proofs.carrying.execute_on.Goals as goal
 
 pub returns-in-Err-clause-stopped : goal.returns-in-Err-clause-stopped
 returns-in-Err-clause-stopped g c = λ _. record {
