@@ -14,7 +14,7 @@ use Rattle.brc_model.specs.declared.slot.State.{State}
 use Rattle.brc_model.specs.declared.slot.Exit.{Exit}
 use Rattle.brc_model.specs.declared.slot.Exit.TheVariants.{Success, Fault}
 use Rattle.brc_model.specs.Slots.{entry}
-use Rattle.brc_model.specs.Paths.{At, Reports, follow}
+use Rattle.brc_model.specs.Paths.{At, Reports, IsAcceptableCode, follow}
 use Rattle.brc_model.specs.Tables.{HasShape, entry_at, entries_of}
 use Rattle.brc_check.specs.declared.refused.CodeAt as refused
 use Rattle.brc_check.specs.declared.refused.Refused.{Refused}
@@ -22,10 +22,11 @@ use Rattle.brc_check.specs.declared.step.Step.{Step}
 use Rattle.brc_check.specs.declared.step.Step.TheVariants.{To, Ends, Error}
 use Rattle.brc_check.specs.Entries.{end_of, StaysOn, IsClosed, IsClosedAt, IsBlocked, IsErrorAt}
 use Rattle.brc_check.specs.declared.filling.Filling.{Filling}
-use Rattle.brc_check.specs.Filling.{settled_at, IsFilledTo}
+use Rattle.brc_check.specs.Filling.{settled_at, IsFilledTo, IsInferred, AreReached, AreTrue}
 use Rattle.brc_check.specs.Refusal.{IsReported, IsFunctionError}
 use Rattle.brc_check.proofs.Settling.{entry-within}
-use Rattle.brc_check.proofs.Turns.{first_blocked, second_blocked, filled_both}
+use Rattle.brc_check.proofs.Turns.{first_blocked, second_blocked, filled_both, both_reached}
+use Rattle.brc_check.proofs.Tables.{never_reported}
 
 pub entry_read : (entries read : List (Option State)) (at : ℕ) (s : State) (d : Option State) → read ≡ entries
     → at < length entries
@@ -75,6 +76,26 @@ pub second_result : (code : List Instr) (filling once twice : Filling) (turns at
 second_result code filling once twice turns at s (Ok found) filled next here is on is_twice on_fault =
     second_reported code filling once twice turns at s found filled next here is on is_twice on_fault
 second_result code filling once twice turns at s (Err refused) filled next here is on is_twice on_fault = tt
+
+-- the states are reached, whether or not an exit is blocked
+pub both_led : (code : List Instr) (filling once twice : Filling) (turns at : ℕ) (s : State)
+    (r : Result (Option refused.CodeAt) AllocError)
+    → IsFilledTo code filling turns → entry_at filling.entries at ≡ Some s
+    → once ≡ settled_at filling (follow code (At at s) Success)
+    → IfOk r (λ found. twice ≡ settled_at once (follow code (At at s) Fault))
+    → IfOk r (λ found. AreReached code twice.entries)
+both_led code filling once twice turns at s (Ok found) filled here is is_twice =
+    let q : twice ≡ settled_at (settled_at filling (follow code (At at s) Success)) (follow code (At at s) Fault) =
+    is_twice ∙ ap (λ (f : Filling). settled_at f (follow code (At at s) Fault)) is in
+    subst (λ (f : Filling). AreReached code f.entries) (sym q) (both_reached code filling turns at s filled here)
+both_led code filling once twice turns at s (Err refused) filled here is is_twice = tt
+
+-- acceptable code has nothing to report, so that its entries are true
+pub true_unless_reported : (code : List Instr) (entries : List (Option State)) (r : Option refused.CodeAt)
+    → MatchOption r (IsInferred code entries) (λ m. IsReported code m.at m.code) → IsAcceptableCode code
+    → AreTrue code entries
+true_unless_reported code entries None inferred accepted = inferred.truth
+true_unless_reported code entries (Some m) reported accepted = absurd (never_reported code m.at m.code accepted reported)
 
 -- ---- looked at
 

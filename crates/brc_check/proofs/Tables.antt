@@ -164,7 +164,7 @@ refused_for functions number f r lt is refusal =
       })
     ]
 
-never_reported : (code : List Instr) (at : ℕ) (c : CheckCode) → IsAcceptableCode code → IsReported code at c → ⊥
+pub never_reported : (code : List Instr) (at : ℕ) (c : CheckCode) → IsAcceptableCode code → IsReported code at c → ⊥
 never_reported code at c accepted reported =
     elim reported [
       | inl m ↦ accepted.reports_none at c m

@@ -15,7 +15,7 @@ use Rattle.brc_model.specs.Paths.{PathEnd, At, Ended, Reports, follow, ReportsCo
 use Rattle.brc_model.specs.Tables.{Reaches, StatesDifferAt, entry_at}
 use Rattle.brc_check.specs.declared.filling.Filling.{Filling}
 use Rattle.brc_check.specs.Entries.{StaysOn, IsClosed, IsBlocked}
-use Rattle.brc_check.specs.Filling.{first_filling, settled_at, IsInOrder, IsFilledTo, IsInferred}
+use Rattle.brc_check.specs.Filling.{first_filling, settled_at, IsInOrder, IsFilledTo, IsInferred, AreReached}
 use Rattle.brc_check.specs.Refusal.{IsReported}
 use Rattle.brc_check.proofs.Steps.{arrives-within}
 use Rattle.brc_check.proofs.Paths.{begins, reaches-more, reports-more, closed-reached, closed-acceptable}
@@ -250,4 +250,37 @@ filled_last code filling turns filled all =
       same_length = filled.same_length;
       truth = λ at s. (filled.reached at s, closed-reached code filling.entries closed at s);
       acceptable = closed-acceptable code filling.entries closed;
+    }
+
+-- ---- the entries found so far
+
+pub filled_reached : (code : List Instr) (filling : Filling) (turns : ℕ) → IsFilledTo code filling turns
+    → AreReached code filling.entries
+filled_reached code filling turns filled =
+    record { same_length = filled.same_length; begins = filled.begins; reached = filled.reached }
+
+pub first_reached : (code : List Instr) (filling : Filling) (turns at : ℕ) (s : State)
+    → IsFilledTo code filling turns → entry_at filling.entries at ≡ Some s
+    → AreReached code (settled_at filling (follow code (At at s) Success)).entries
+first_reached code filling turns at s filled here =
+    let first = leads code filling at s Success filled.same_length in
+    record {
+      same_length = first.same_length ∙ filled.same_length;
+      begins = first.kept 0 entry filled.begins;
+      reached = reached-led code filling at s Success filled.same_length filled.reached here;
+    }
+
+pub both_reached : (code : List Instr) (filling : Filling) (turns at : ℕ) (s : State)
+    → IsFilledTo code filling turns → entry_at filling.entries at ≡ Some s
+    → (let once = settled_at filling (follow code (At at s) Success) in
+    AreReached code (settled_at once (follow code (At at s) Fault)).entries)
+both_reached code filling turns at s filled here =
+    let once = settled_at filling (follow code (At at s) Success) in
+    let first = first_reached code filling turns at s filled here in
+    let before = leads code filling at s Success filled.same_length in
+    let second = leads code once at s Fault first.same_length in
+    record {
+      same_length = second.same_length ∙ first.same_length;
+      begins = second.kept 0 entry first.begins;
+      reached = reached-led code once at s Fault first.same_length first.reached (before.kept at s here);
     }

@@ -46,8 +46,18 @@ pub record IsFilledTo (code : List Instr) (filling : Filling) (turns : ℕ) : Ty
   pub in_order : IsInOrder filling
   pub closed : (turn k : ℕ) → turn < turns → slice_get filling.order turn ≡ Some k → IsClosedAt code filling.entries k
 
+-- each entry is the state in which some path reaches the point, and the first point has one
+pub record AreReached (code : List Instr) (entries : List (Option State)) : Type 0 where
+  pub same_length : length entries ≡ length code
+  pub begins : entry_at entries 0 ≡ Some entry
+  pub reached : (at : ℕ) (s : State) → entry_at entries at ≡ Some s → Reaches code at s
+
+-- each entry is a state exactly if some path reaches the point in that state
+abbrev pub AreTrue : List Instr → List (Option State) → Type 0
+AreTrue code entries = (at : ℕ) → IsTrueEntry code at (entry_at entries at)
+
 -- the entries are true, and the function is acceptable
 pub record IsInferred (code : List Instr) (entries : List (Option State)) : Type 0 where
   pub same_length : length entries ≡ length code
-  pub truth : (at : ℕ) → IsTrueEntry code at (entry_at entries at)
+  pub truth : AreTrue code entries
   pub acceptable : IsAcceptableCode code

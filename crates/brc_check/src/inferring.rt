@@ -3,10 +3,10 @@
 
 ghost use Rattle.std.specs.Prelude.{◌≡◌, ◌⊎◌, ◌<◌, ◌+◌, length, IfOk, OnOk, IfErr, MatchOption, MatchResult};
 ghost use Rattle.brc_lang.specs.Grammar.{IsModule, IsFunction};
-ghost use Rattle.brc_model.specs.Paths.{IsAcceptable, follow, At};
+ghost use Rattle.brc_model.specs.Paths.{IsAcceptable, IsAcceptableCode, follow, At};
 ghost use Rattle.brc_model.specs.Tables.{IsTrueTable};
 ghost use Rattle.brc_check.specs.Entries.{StaysOn, IsBlocked};
-ghost use Rattle.brc_check.specs.Filling.{first_filling, settled_at, IsFilledTo, IsInferred};
+ghost use Rattle.brc_check.specs.Filling.{first_filling, settled_at, IsFilledTo, IsInferred, AreReached, AreTrue};
 ghost use Rattle.brc_check.specs.Refusal.{IsReported, IsForMemory, IsRefusal};
 
 use crate::entries::blocked;
@@ -44,8 +44,9 @@ fn lead(
 /// Follows both exits of the point found at this turn, if there is one.
 fn lead_on(code: &[Instr], filling: &mut Filling, turn: usize) -> Result<Option<CodeAt>, AllocError>
     requires { IsFilledTo code.now filling.old turn }
-    ensures { IfOk result (λ reported. MatchOption reported (IsFilledTo code.now filling.new (turn + 1))
+    ensures filled { IfOk result (λ reported. MatchOption reported (IsFilledTo code.now filling.new (turn + 1))
         (λ m. IsReported code.now m.at m.code)) }
+    ensures reached { IfOk result (λ reported. AreReached code.now filling.new.entries) }
 {
     let Some((at, state)) = found_at(filling, turn) else {
         return Ok(None);
@@ -59,8 +60,9 @@ fn lead_on(code: &[Instr], filling: &mut Filling, turn: usize) -> Result<Option<
 fn fill(code: &[Instr], filling: &mut Filling) -> Result<Option<CodeAt>, AllocError>
     requires some { 0 < length code.now }
     requires begun { filling.old ≡ first_filling (length code.now) }
-    ensures { IfOk result (λ reported. MatchOption reported (IsInferred code.now filling.new.entries)
+    ensures inferred { IfOk result (λ reported. MatchOption reported (IsInferred code.now filling.new.entries)
         (λ m. IsReported code.now m.at m.code)) }
+    ensures reached { IfOk result (λ reported. AreReached code.now filling.new.entries) }
 {
     // No point is found twice, so there is a turn for each.
     for turn in 0..code.len() {
@@ -96,6 +98,20 @@ fn infer_function(alloc: Global, function: &Function) -> Result<Sequence<Option<
         Ok(Some(reported)) => Err(reported.in_function(function.name)),
         Ok(None) => Ok(filling.entries),
     }
+}
+
+/// Returns, for each point of the code, the state in which the first path reaches it, or `None` if none does. If a path
+/// reports an error, or reaches a point in a second state, the points that only later paths find have none.
+pub fn first_states(alloc: Global, code: &[Instr]) -> Result<Sequence<Option<State>>, AllocError>
+    requires { 0 < length code.now }
+    ensures reached { IfOk result (AreReached code.now) }
+    // In code that is accepted, no point that a path reaches is left out.
+    ensures truth { IsAcceptableCode code.now → IfOk result (AreTrue code.now) }
+{
+    let mut filling = first_filling(alloc, code.len())?;
+    // The error, if there is one, is for `infer` to report.
+    let _reported = fill(code, &mut filling)?;
+    Ok(filling.entries)
 }
 
 /// Returns the table of an acceptable module, or the first error that it finds. Memory that is refused is `NoMemory`.

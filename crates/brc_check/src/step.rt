@@ -10,7 +10,7 @@ use brc_lang::Instr;
 use brc_model::{CheckCode, Exit, State};
 
 /// The end of a step.
-#[derive(Clone, Copy)]
+#[derive(Clone, Copy, Debug)]
 pub enum Step {
     /// A point, and the state in which the path reaches it.
     To(usize, State),
@@ -28,7 +28,9 @@ fn after(instr: Instr, exit: Exit, state: &State) -> State
     arriving
 }
 
-/// Returns the step from a point in a state by one exit of the instruction there.
+/// Returns the step from a point, which the code has, in a state by one exit of the instruction there.
+///
+/// An instruction that reports a code in the state is not taken: whatever the exit, the step ends with that code.
 pub fn follow(code: &[Instr], at: usize, state: &State, exit: Exit) -> Step
     requires { at < length code.now }
     ensures { end_of at result ≡ follow code.now (At at state.now) exit }

@@ -1,6 +1,9 @@
+use Rattle.std.proofs.Common.{sym, subst}
 use Rattle.brc_model.specs.declared.slot.Exit.TheVariants.{Success}
-use Rattle.brc_check.proofs.Turns.{led-length}
-use Rattle.brc_check.proofs.Points.{first_reported, second_result}
+use Rattle.brc_check.specs.declared.filling.Filling.{Filling}
+use Rattle.brc_check.specs.Filling.{AreReached}
+use Rattle.brc_check.proofs.Turns.{led-length, first_reached}
+use Rattle.brc_check.proofs.Points.{first_reported, second_result, both_led}
 use Rattle.brc_check.proofs.inferring.lead_on.Goals as goal
 
 pub lead-requires-2-clause-same_length : goal.lead-requires-2-clause-same_length
@@ -8,15 +11,27 @@ lead-requires-2-clause-same_length c =
     led-length c.args.code.now c.args.filling.now c.lead.new.filling c.in-Some.at c.in-Some.state Success
     c.requires.same_length c.in_ok-reported.ensures.filled
 
-pub returns-in-Some-2 : goal.returns-in-Some-2
-returns-in-Some-2 c =
+pub returns-in-Some-2-clause-filled : goal.returns-in-Some-2-clause-filled
+returns-in-Some-2-clause-filled c =
     first_reported c.args.code.now c.args.filling.now c.lead.new.filling c.args.turn c.in-Some.at c.in-Some.state
     c.in-Some-2.reported.at c.in-Some-2.reported.code c.requires c.in-Some.ensures.known
     c.in_ok-reported.ensures.filled (rw c.in-Some-2.is at c.in_ok-reported.ensures.reported)
 
-pub returns : goal.returns
-returns c =
+pub returns-clause-filled : goal.returns-clause-filled
+returns-clause-filled c =
     second_result c.args.code.now c.args.filling.now c.lead.new.filling c.lead-2.new.filling c.args.turn c.in-Some.at
     c.in-Some.state c.lead-2.result c.requires c.in-Some.ensures.found c.in-Some.ensures.known
     c.in_ok-reported.ensures.filled (rw c.in_default-2.is at c.in_ok-reported.ensures.reported)
     c.lead-2.ensures.filled c.lead-2.ensures.reported
+
+pub returns-in-Some-2-clause-reached : goal.returns-in-Some-2-clause-reached
+returns-in-Some-2-clause-reached c =
+    subst (λ (f : Filling). AreReached c.args.code.now f.entries) (sym c.in_ok-reported.ensures.filled)
+    (first_reached c.args.code.now c.args.filling.now c.args.turn c.in-Some.at c.in-Some.state c.requires
+    c.in-Some.ensures.known)
+
+pub returns-clause-reached : goal.returns-clause-reached
+returns-clause-reached c =
+    both_led c.args.code.now c.args.filling.now c.lead.new.filling c.lead-2.new.filling c.args.turn c.in-Some.at
+    c.in-Some.state c.lead-2.result c.requires c.in-Some.ensures.known c.in_ok-reported.ensures.filled
+    c.lead-2.ensures.filled

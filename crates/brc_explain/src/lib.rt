@@ -1,0 +1,20 @@
+//! Explanations for people: of a code, of a text that can't be read, of a module that is refused, and of one that is
+//! accepted.
+#![tactic(auto)]
+
+mod accepted;
+mod check_pages;
+mod fault;
+mod page;
+mod read_pages;
+mod refused;
+mod text;
+mod topic;
+mod unreadable;
+
+pub use accepted::explain_accepted;
+pub use fault::ExplainFault;
+pub use page::{ExampleLine, Page, page_of, write_page};
+pub use refused::explain_refused;
+pub use topic::{Topic, topic_named};
+pub use unreadable::explain_unreadable;

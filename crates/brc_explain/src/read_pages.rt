@@ -1,0 +1,252 @@
+//! The pages of L1 to L8.
+
+use crate::page::Page;
+use brc_lang::FaultCode;
+
+const READS: &str = "What is read there";
+
+/// Returns the page of a code.
+pub fn read_page(code: FaultCode) -> Page {
+    match code {
+        FaultCode::FirstLine => FIRST_LINE,
+        FaultCode::UnknownWord => UNKNOWN_WORD,
+        FaultCode::Number => NUMBER,
+        FaultCode::Target => TARGET,
+        FaultCode::NameTwice => NAME_TWICE,
+        FaultCode::OverLimit => OVER_LIMIT,
+        FaultCode::CutOff => CUT_OFF,
+        FaultCode::NoMemory => NO_MEMORY,
+    }
+}
+
+const FIRST_LINE: Page = Page {
+    code: "L1",
+    title: "another first line",
+    meaning: &[
+        "The text doesn't begin with the line `module 1`: the line is missing, it is",
+        "another one, or no line feed ends it.",
+    ],
+    rule_heading: READS,
+    rule: &[
+        "The first line of a module is `module 1`: the word, one space, the version",
+        "of the language, and a line feed (no carriage return, no byte order mark).",
+        "The functions follow below it.",
+    ],
+    mend: &["Begin the text with the line `module 1`."],
+    example: &[
+        ("module 2", "line 1"),
+        ("func f", ""),
+        ("fail", ""),
+        ("end", ""),
+    ],
+    printed: "unreadable line 1 L1",
+    mended: &[("module 1", ""), ("func f", ""), ("fail", ""), ("end", "")],
+};
+
+const UNKNOWN_WORD: Page = Page {
+    code: "L2",
+    title: "a wrong word",
+    meaning: &[
+        "A line has a word that can't be there: a first word that is no instruction,",
+        "a word too many or too few, another word in place of `else`, a variable",
+        "without its `v` or a target without its `@`, a kind or a mode that there",
+        "isn't, a function's name of another form. Or the line is empty.",
+    ],
+    rule_heading: READS,
+    rule: &[
+        "Outside a function: `func NAME`, where NAME is a letter a to z and up to 15",
+        "more of a to z, 0 to 9 and _. Inside one: an instruction, or `end`.",
+        "",
+        "  num vD K else @L      list vD N else @L     none vD",
+        "  newref vD vS          move vD vS            drop vS",
+        "  lock vC               unlock vC",
+        "  borrow vD vC I else @L                      fetch vD vC I else @L",
+        "  set vC I vS else @L                         put vC I vS else @L",
+        "  open vD P MODE else @L                      connect vD P else @L",
+        "  read vD vF N else @L                        write vF vN else @L",
+        "  as vS KIND else @L    goto @L               again @L N",
+        "  ret vS                fail",
+        "",
+        "vD, vS, vC, vF and vN are variables, v0 to v15. K, N, I and P are numbers.",
+        "MODE is r, w, rw, wc or rwc; KIND is none, num, list, file or sock. @L is the",
+        "number of an instruction, counted from @0. One space is between two words,",
+        "and none at the beginning or the end of a line. There are no comments.",
+    ],
+    mend: &["Write the line in one of these forms."],
+    example: &[
+        ("module 1", ""),
+        ("func f", ""),
+        ("incref v1 v0", "line 3: no such instruction"),
+        ("ret v1", ""),
+        ("end", ""),
+    ],
+    printed: "unreadable line 3 L2",
+    mended: &[
+        ("module 1", ""),
+        ("func f", ""),
+        ("newref v1 v0", "v1 = Py_NewRef(v0);"),
+        ("ret v1", ""),
+        ("end", ""),
+    ],
+};
+
+const NUMBER: Page = Page {
+    code: "L3",
+    title: "a wrong number",
+    meaning: &[
+        "A number is out of range, or isn't written as one: it begins with a zero, or",
+        "has a sign, a point, a letter or no digit.",
+    ],
+    rule_heading: READS,
+    rule: &[
+        "A number has decimal digits alone, without a leading zero (0 itself is one).",
+        "",
+        "  a variable, v0 to v15               0 to 15",
+        "  a target, @0 to @255                0 to 255",
+        "  num vD K                            0 to 4294967295",
+        "  list vD N, its cells                1 to 8",
+        "  an index I of a list's item         0 to 255",
+        "  a path or a peer P                  0 to 15",
+        "  read vD vF N, its bytes at most     1 to 4096",
+        "  again @L N, how often it goes back  1 to 65535",
+    ],
+    mend: &["Write a number in this range."],
+    example: &[
+        ("module 1", ""),
+        ("func f", ""),
+        ("list v1 9 else @2", "line 3: nine cells"),
+        ("ret v1", ""),
+        ("fail", ""),
+        ("end", ""),
+    ],
+    printed: "unreadable line 3 L3",
+    mended: &[
+        ("module 1", ""),
+        ("func f", ""),
+        ("list v1 8 else @2", "eight at most"),
+        ("ret v1", ""),
+        ("fail", ""),
+        ("end", ""),
+    ],
+};
+
+const TARGET: Page = Page {
+    code: "L4",
+    title: "a target that leads the wrong way",
+    meaning: &[
+        "A target behind `else` or `goto` isn't the number of a later instruction of",
+        "the function, or one of `again` isn't its own number or that of an earlier",
+        "instruction. It is reported at the line of the function's `end`, since only",
+        "there it is known how many instructions there are.",
+    ],
+    rule_heading: READS,
+    rule: &[
+        "Instructions are counted from @0, in each function anew; `func` and `end`",
+        "aren't counted. `else @L` and `goto @L` lead forward, so that a call ends;",
+        "only `again @L N` leads back, N times at most in one call.",
+    ],
+    mend: &[
+        "Count the instructions from @0 and write the number of the one to go on at.",
+        "To go back, use `again`.",
+    ],
+    example: &[
+        ("module 1", ""),
+        ("func f", ""),
+        ("goto @0", "@0 leads to itself"),
+        ("fail", "@1"),
+        ("end", "line 5"),
+    ],
+    printed: "unreadable line 5 L4",
+    mended: &[
+        ("module 1", ""),
+        ("func f", ""),
+        ("goto @1", "@0"),
+        ("fail", "@1"),
+        ("end", ""),
+    ],
+};
+
+const NAME_TWICE: Page = Page {
+    code: "L5",
+    title: "a name twice",
+    meaning: &["An earlier function has the same name."],
+    rule_heading: READS,
+    rule: &["No two functions of a module have the same name."],
+    mend: &["Give the function another name."],
+    example: &[
+        ("module 1", ""),
+        ("func f", ""),
+        ("fail", ""),
+        ("end", ""),
+        ("func f", "line 5"),
+        ("fail", ""),
+        ("end", ""),
+    ],
+    printed: "unreadable line 5 L5",
+    mended: &[
+        ("module 1", ""),
+        ("func f", ""),
+        ("fail", ""),
+        ("end", ""),
+        ("func g", ""),
+        ("fail", ""),
+        ("end", ""),
+    ],
+};
+
+const OVER_LIMIT: Page = Page {
+    code: "L6",
+    title: "over a limit",
+    meaning: &["There is a 65th function, or a function has a 257th instruction or none."],
+    rule_heading: READS,
+    rule: &["A module has 1 to 64 functions, and each has 1 to 256 instructions."],
+    mend: &[
+        "Divide the module, or the function. A function that does nothing has one",
+        "instruction: `fail` (return NULL).",
+    ],
+    example: &[
+        ("module 1", ""),
+        ("func f", ""),
+        ("end", "line 3: no instruction"),
+    ],
+    printed: "unreadable line 3 L6",
+    mended: &[("module 1", ""), ("func f", ""), ("fail", ""), ("end", "")],
+};
+
+const CUT_OFF: Page = Page {
+    code: "L7",
+    title: "the text is cut off",
+    meaning: &[
+        "The text ends too early: inside a function, before the first one, or in the",
+        "middle of a line. Its line number is that of the line that isn't ended, or",
+        "of the one that is missing.",
+    ],
+    rule_heading: READS,
+    rule: &[
+        "A module has a function at least, each function ends with the line `end`,",
+        "and each line, the last one too, ends with a line feed.",
+    ],
+    mend: &["Add the line that is missing, or the line feed behind the last one."],
+    example: &[
+        ("module 1", ""),
+        ("func f", ""),
+        ("fail", "and then nothing: line 4 is missing"),
+    ],
+    printed: "unreadable line 4 L7",
+    mended: &[("module 1", ""), ("func f", ""), ("fail", ""), ("end", "")],
+};
+
+const NO_MEMORY: Page = Page {
+    code: "L8",
+    title: "memory was refused",
+    meaning: &[
+        "brc needed memory to read the text, and the system gave it none. It says",
+        "nothing of the text. `brc` prints `no memory` and ends with status 3.",
+    ],
+    rule_heading: READS,
+    rule: &["Nothing: any text may be refused for want of memory."],
+    mend: &["Run brc again with more memory. The text needs no change."],
+    example: &[],
+    printed: "",
+    mended: &[],
+};
