@@ -5,6 +5,7 @@ mod accepted;
 mod asked;
 mod calls;
 mod carrying;
+mod explaining;
 mod lines;
 mod load;
 mod step_fault;
