@@ -2,20 +2,23 @@
 #![tactic(auto)]
 
 mod disk;
+mod screen;
 
-use brc_arguments::act;
+use brc_arguments::act_on;
 use disk::Disk;
+use screen::Screen;
 use std::io;
-use std::io::ErrorKind;
+use std::io::{ErrorKind, IsTerminal};
 use std::process::ExitCode;
 
 fn main(rt: HostRuntime) -> ExitCode {
     let status = match words(&rt) {
-        Ok(words) => act(
+        Ok(words) => act_on(
             &rt,
             rt.alloc(),
             words.as_slice(),
             &mut Disk::new(&rt),
+            &mut Screen::new(&rt, rt.stdout().is_terminal(), rt.stderr().is_terminal()),
             &mut io::writer(&rt.stdout()),
             &mut io::writer(&rt.stderr()),
         ),

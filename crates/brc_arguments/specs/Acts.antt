@@ -3,7 +3,7 @@ use Rattle.std.specs.Prelude.{◌≡◌, ◌⊎◌, ℕ, List, Option}
 use Rattle.brc_lang.specs.Written.{AppendsBeginning}
 use Rattle.brc_command.specs.declared.asked.Asked.{Asked}
 use Rattle.brc_command.specs.declared.step_fault.StepFault.TheVariants.{NoMemory}
-use Rattle.brc_command.specs.Commands.{HasReport, IsReason, IsDone, IsStopped}
+use Rattle.brc_command.specs.Commands.{HasReport, IsReason, Leaves, IsDone, IsStopped}
 use Rattle.brc_command.specs.Lines.{fault_text}
 
 -- the command line makes a request, and `act` carries it out
@@ -15,7 +15,7 @@ pub record Ends (gives : List ℕ → List ℕ → Type 0) (old new err_old err_
 pub record IsStoppedAsking (gives : List ℕ → List ℕ → Type 0) (lacks : List ℕ → Type 0)
     (old new err_old err_new : Option (List ℕ)) (status : ℕ) : Type 0 where
   pub asked : Asked
-  pub stopped : IsStopped (HasReport gives asked) (IsReason gives lacks asked) old new err_old err_new status
+  pub stopped : IsStopped (IsReason gives lacks asked) (Leaves gives asked) old new err_old err_new status
 
 -- the command line is wrong or asks for help, and the status is 2; or memory was refused, and the status is 3
 abbrev pub IsRefused : Option (List ℕ) → Option (List ℕ) → ℕ → Type 0

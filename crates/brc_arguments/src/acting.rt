@@ -2,7 +2,7 @@ ghost use Rattle.std.specs.Prelude.{◌≡◌, ◌≢◌, ◌≤◌};
 ghost use Rattle.brc_arguments.specs.Acts.{Ends, Stops, IsRefused};
 
 use crate::command::parse;
-use brc_command::{Load, StepFault, Stop, execute, write_stop};
+use brc_command::{Load, NoTerminal, StepFault, Stop, Terminal, execute_on, write_stop};
 use clap::Error;
 use clap::error::ErrorKind;
 use std::alloc::Global;
@@ -16,7 +16,8 @@ const USAGE: u8 = 2;
 /// Carries out a command line, whose first word is the program's own name, and returns the exit status.
 ///
 /// The status is 2 for a wrong command line or a call for help, 3 if memory is refused, and otherwise that of
-/// `execute`. If it isn't 0, standard error has the reason. An error of standard error is ignored.
+/// `execute`. If it isn't 0, standard error has the reason. An error of standard error is ignored. Nobody watches: no
+/// text is coloured, and no progress is shown.
 pub fn act<R: Wait, S: AsStr, L: Load, W: Write, E: Write>(
     rt: &R,
     alloc: Global,
@@ -31,8 +32,27 @@ pub fn act<R: Wait, S: AsStr, L: Load, W: Write, E: Write>(
     ensures stopped { result ≢ 0 → Stops (L.may_give load.old) (L.may_lack load.old) (W.contents out.old)
         (W.contents out.new) (E.contents err.old) (E.contents err.new) result }
 {
+    act_on(rt, alloc, words, load, &mut NoTerminal, out, err)
+}
+
+/// Does what `act` does, before somebody at a terminal.
+pub fn act_on<R: Wait, S: AsStr, L: Load, T: Terminal, W: Write, E: Write>(
+    rt: &R,
+    alloc: Global,
+    words: &[S],
+    load: &mut L,
+    terminal: &mut T,
+    out: &mut W,
+    err: &mut E,
+) -> u8
+    ensures known { result ≤ 3 }
+    ensures done { result ≡ 0 → Ends (L.may_give load.old) (W.contents out.old) (W.contents out.new)
+        (E.contents err.old) (E.contents err.new) }
+    ensures stopped { result ≢ 0 → Stops (L.may_give load.old) (L.may_lack load.old) (W.contents out.old)
+        (W.contents out.new) (E.contents err.old) (E.contents err.new) result }
+{
     match parse(alloc, words) {
-        Ok(asked) => execute(rt, alloc, &asked, load, out, err),
+        Ok(asked) => execute_on(rt, alloc, &asked, load, terminal, out, err),
         Err(error) => refuse(&error, err),
     }
 }

@@ -1,9 +1,12 @@
 use brc_command::{Asked, MOST_ROWS, MOST_THREADS, MOST_TIMES, Run, VERSION};
+use brc_explain::topic_named;
 use brc_lang::number;
 use clap::error::ErrorKind;
 use clap::{Arg, ArgMatches, Command, Error, value_parser};
 use std::alloc::{AllocError, Global};
 use std::convert::AsStr;
+
+const UNKNOWN_CODE: &str = "no such code: C1 to C12 and L1 to L8 can be explained";
 
 const SIGNED: &str = "invalid value for a number: a sign or a leading zero";
 
@@ -20,6 +23,9 @@ pub fn parse<'a, S: AsStr>(alloc: Global, words: &'a [S]) -> Result<Asked<'a>, E
     if !has_plain_numbers(&matches) {
         return Err(command.error(ErrorKind::ValueValidation, SIGNED)?);
     }
+    if !has_known_code(&matches) {
+        return Err(command.error(ErrorKind::ValueValidation, UNKNOWN_CODE)?);
+    }
     match asked_in(&matches) {
         Some(asked) => Ok(asked),
         None => Err(command.error(ErrorKind::MissingSubcommand, "a command is required")?),
@@ -34,7 +40,8 @@ fn program<'a>(alloc: Global) -> Result<Command<'a>, AllocError> {
         .subcommand_required(true)
         .subcommand(check_command(alloc)?)?
         .subcommand(run_command(alloc)?)?
-        .subcommand(step_command(alloc)?)
+        .subcommand(step_command(alloc)?)?
+        .subcommand(explain_command(alloc)?)
 }
 
 fn check_command<'a>(alloc: Global) -> Result<Command<'a>, AllocError> {
@@ -94,6 +101,31 @@ fn step_command<'a>(alloc: Global) -> Result<Command<'a>, AllocError> {
         )
 }
 
+fn explain_command<'a>(alloc: Global) -> Result<Command<'a>, AllocError> {
+    Command::new(alloc, "explain")
+        .about("Explains what the checker says of a module, or a code")
+        .after_help("Example: brc explain module.brc --function f\n         brc explain --code C5")
+        .arg(
+            Arg::new(alloc, "FILE")
+                .required_unless_present("code")?
+                .help("The module's file, or - for standard input"),
+        )?
+        .arg(
+            Arg::new(alloc, "function")
+                .long("function")
+                .value_name("F")
+                .help("The one function to explain; all, if it is left out"),
+        )?
+        .arg(
+            Arg::new(alloc, "code")
+                .long("code")
+                .value_name("CODE")
+                .conflicts_with("FILE")?
+                .conflicts_with("function")?
+                .help("A code to explain: C1 to C12, or L1 to L8"),
+        )
+}
+
 fn file_argument<'a>(alloc: Global) -> Arg<'a> {
     Arg::new(alloc, "FILE")
         .required(true)
@@ -110,7 +142,30 @@ fn asked_in<'a>(matches: &ArgMatches<'a>) -> Option<Asked<'a>> {
         let schedule = step.get_str("SCHEDULE")?;
         return Some(Asked::Step { file, schedule });
     }
+    if let Some(explain) = matches.subcommand_matches("explain") {
+        return explanation_in(explain);
+    }
     run_of(matches.subcommand_matches("run")?)
+}
+
+fn explanation_in<'a>(explain: &ArgMatches<'a>) -> Option<Asked<'a>> {
+    if let Some(code) = explain.get_str("code") {
+        let topic = topic_named(code.as_bytes())?;
+        return Some(Asked::Page { topic });
+    }
+    let file = explain.get_str("FILE")?;
+    let function = explain.get_str("function");
+    Some(Asked::Explain { file, function })
+}
+
+fn has_known_code(matches: &ArgMatches) -> bool {
+    let Some(explain) = matches.subcommand_matches("explain") else {
+        return true;
+    };
+    match explain.get_str("code") {
+        Some(code) => topic_named(code.as_bytes()).is_some(),
+        None => true,
+    }
 }
 
 // Numbers have the same form as in texts; clap also takes signs and leading zeros.

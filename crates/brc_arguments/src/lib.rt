@@ -4,4 +4,4 @@
 mod acting;
 mod command;
 
-pub use acting::act;
+pub use acting::{act, act_on};

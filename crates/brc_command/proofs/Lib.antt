@@ -2,4 +2,5 @@ mod Accepting
 mod Calling
 mod Machines
 mod Outputs
+mod TakingLines
 mod Turning

@@ -1,7 +1,7 @@
 -- Rounds of the workers, steps of main, and the world that they lead to.
 use Rattle.std.proofs.Common.{◌≡◌, ℕ, zero, suc, ◌+◌, ◌<◌, Bool, true, false, ◌&&◌, List, [], ◌∷◌, ◌++◌, length, get_or}
 use Rattle.std.proofs.Common.{take, refl, sym, ap, ◌∙◌, arith, append_assoc, append-nil}
-use Rattle.std.specs.Prelude.{Result, Ok, Err, IfOk, replicate}
+use Rattle.std.specs.Prelude.{Result, Ok, Err, IfOk, OnOk, replicate}
 use Rattle.std.specs.List.{list_all, repeat}
 use Rattle.std.proofs.lemmas.List.FromFn.{map-range_with_len_more}
 use Rattle.std.proofs.lemmas.List.Folds.{list_all_at, list_all_more}
@@ -19,7 +19,7 @@ use Rattle.brc_report.specs.declared.tally.Tally.{Tally}
 use Rattle.brc_world.specs.Answers.{is_gone, is_gone_at}
 use Rattle.brc_world.specs.Runs.{world_after}
 use Rattle.brc_world.specs.Tallies.{tally_of}
-use Rattle.brc_command.specs.Turns.{turn, turns, steps_of_main, AreGone, IsTallyOfRun}
+use Rattle.brc_command.specs.Turns.{turn, turns, steps_of_main, AreGone, IsFinished, IsTallyOfRun}
 
 -- steps, and then more of them
 pub leads_on : (u v w : World) (first more : List (ℕ × Choice)) → v ≡ world_after u first → w ≡ world_after v more
@@ -53,24 +53,35 @@ main_more n u v w before after =
     leads_on u v w (steps_of_main n) ((0, Fault) ∷ []) before after
     ∙ ap (world_after u) (replicate_more n (0, Fault))
 
--- a run's tally, from where its two parts lead
-pub tally_of_run : {E : Type 0} (m : Module) (rows workers : ℕ) (call : Call) (first mid last : World)
-    (calls : List Call) (r : Result Tally E)
-    → calls ≡ replicate workers call → first ≡ first_world m rows calls
-    → (n : ℕ) × (mid ≡ world_after first (turns n workers)) → (n : ℕ) × (last ≡ world_after mid (steps_of_main n))
-    → AreGone last
-    → IfOk r (λ tally. tally ≡ tally_of last) → IfOk r (λ tally. IsTallyOfRun m rows workers call tally)
-tally_of_run m rows workers call first mid last calls (Ok tally) same is begun ended gone counted = record {
+-- rounds of the workers, then steps of main until every thread is gone
+pub finished : {T E : Type 0} (workers : ℕ) (first mid last : World) (r : Result T E)
+    → (n : ℕ) × (mid ≡ world_after first (turns n workers))
+    → OnOk r ((n : ℕ) × (last ≡ world_after mid (steps_of_main n))) → OnOk r (AreGone last)
+    → OnOk r (IsFinished workers first last)
+finished workers first mid last (Ok done) begun ended gone = record {
   rounds = begun.0;
   more = ended.0;
-  last = last;
-  led = leads_on first mid last (turns begun.0 workers) (steps_of_main ended.0) begun.1 ended.1
-      ∙ ap (λ (w : World). world_after w (turns begun.0 workers ++ steps_of_main ended.0))
-      (is ∙ ap (first_world m rows) same);
+  led = leads_on first mid last (turns begun.0 workers) (steps_of_main ended.0) begun.1 ended.1;
   gone = gone;
+}
+finished workers first mid last (Err e) begun ended gone = ended
+
+-- a run's tally, from where its two parts lead
+pub tally_of_run : {E : Type 0} (m : Module) (rows workers : ℕ) (call : Call) (first last : World)
+    (calls : List Call) (r : Result Tally E)
+    → calls ≡ replicate workers call → first ≡ first_world m rows calls → IsFinished workers first last
+    → IfOk r (λ tally. tally ≡ tally_of last) → IfOk r (λ tally. IsTallyOfRun m rows workers call tally)
+tally_of_run m rows workers call first last calls (Ok tally) same is ended counted = record {
+  rounds = ended.rounds;
+  more = ended.more;
+  last = last;
+  led = ended.led
+      ∙ ap (λ (w : World). world_after w (turns ended.rounds workers ++ steps_of_main ended.more))
+      (is ∙ ap (first_world m rows) same);
+  gone = ended.gone;
   counted = counted;
 }
-tally_of_run m rows workers call first mid last calls (Err e) same is begun ended gone counted = counted
+tally_of_run m rows workers call first last calls (Err e) same is ended counted = counted
 
 pub tally_of_last : {E : Type 0} (m : Module) (rows : ℕ) (calls planned : List Call) (events : List (ℕ × Choice))
     (first last : World) (r : Result Tally E) → calls ≡ planned → first ≡ first_world m rows calls

@@ -1,17 +1,17 @@
 -- The report of each command over the files that a loader may give, and the reasons why it may stop.
-use Rattle.std.specs.Prelude.{◌≡◌, ◌≢◌, ◌⊎◌, ℕ, true, false, List, Option, codes}
+use Rattle.std.specs.Prelude.{◌≡◌, ◌≢◌, ◌⊎◌, ℕ, true, false, List, Option, Some, option_map, codes}
 use Rattle.std.specs.Io.KnownBytes.{Appends}
 use Rattle.brc_lang.specs.declared.module.Module.{Module}
 use Rattle.brc_lang.specs.Grammar.{Spells}
 use Rattle.brc_lang.specs.Fault.{HasFault}
 use Rattle.brc_lang.specs.Written.{AppendsBeginning}
-use Rattle.brc_model.specs.Paths.{IsAcceptable}
 use Rattle.brc_check.specs.Refusal.{IsRefusedFor}
 use Rattle.brc_report.specs.declared.tally.Tally.{Tally}
 use Rattle.brc_report.specs.Report.{tally_text}
 use Rattle.brc_schedule.specs.declared.schedule.Schedule.{Schedule}
 use Rattle.brc_command.specs.declared.asked.Asked.{Asked}
 use Rattle.brc_command.specs.declared.asked.Asked.TheVariants.{Run as ToRun, Check as ToCheck, Step as ToStep, Version}
+use Rattle.brc_command.specs.declared.asked.Asked.TheVariants.{Explain as ToExplain, Page as ToPage}
 use Rattle.brc_command.specs.declared.asked.Run.{Run}
 use Rattle.brc_command.specs.declared.step_fault.StepFault.{StepFault}
 use Rattle.brc_command.specs.declared.step_fault.StepFault.TheVariants.{Text, Refused, NoMemory, Output}
@@ -19,16 +19,12 @@ use Rattle.brc_command.specs.declared.stop.Stop.{Stop}
 use Rattle.brc_command.specs.declared.stop.Stop.TheVariants.{UnreadableFile, NoFunction, Fault}
 use Rattle.brc_command.specs.Accepted.{accepted_text}
 use Rattle.brc_command.specs.Calls.{has_function, calls_named}
+use Rattle.brc_command.specs.Explanations.{IsAccepted, HasOnly, LacksNamed}
 use Rattle.brc_command.specs.Lines.{stop_text, stop_status, version_text}
 use Rattle.brc_command.specs.Texts.{IsReady, IsFaultOfTexts, report}
 use Rattle.brc_command.specs.Turns.{IsTallyOfRun}
 
 -- ---- the reports; `gives path bytes`: the loader may give these bytes for the path
-
--- the text spells an accepted module
-pub record IsAccepted (text : List ℕ) (m : Module) : Type 0 where
-  pub spelled : Spells text m
-  pub accepted : IsAcceptable m
 
 pub record HasCheckReport (gives : List ℕ → List ℕ → Type 0) (file text : List ℕ) : Type 0 where
   pub module_text : List ℕ
@@ -66,10 +62,21 @@ pub record HasRunReport (gives : List ℕ → List ℕ → Type 0) (asked : Run)
   pub ran : RunsTo m asked tally
   pub reported : text ≡ tally_text tally
 
+-- the file gives an accepted module, with the function for which an explanation asks. What an explanation says is left
+-- open here
+pub record HasExplanation (gives : List ℕ → List ℕ → Type 0) (file : List ℕ) (only : Option (List ℕ)) : Type 0 where
+  pub module_text : List ℕ
+  pub m : Module
+  pub given : gives file module_text
+  pub accepted : IsAccepted module_text m
+  pub known : HasOnly m only
+
 abbrev pub HasReport : (List ℕ → List ℕ → Type 0) → Asked → List ℕ → Type 0
 HasReport gives (ToRun asked) text = HasRunReport gives asked text
 HasReport gives (ToCheck file) text = HasCheckReport gives file.now text
 HasReport gives (ToStep file schedule) text = HasStepReport gives file.now schedule.now text
+HasReport gives (ToExplain file function) text = HasExplanation gives file.now (option_map (λ name. name.now) function)
+HasReport gives (ToPage topic) text = Unit {0}
 HasReport gives Version text = text ≡ version_text
 
 -- ---- the reasons; `lacks path`: the loader may answer that the path can't be read. Refused memory and an error of the
@@ -119,10 +126,25 @@ IsStepReason gives lacks file schedule (Fault NoMemory) = Unit {0}
 IsStepReason gives lacks file schedule (Fault Output) = Unit {0}
 IsStepReason gives lacks file schedule (Fault e) = AreAtFault gives file schedule e
 
+-- the module of the file lacks the function for which an explanation asks, or the file gives no accepted module
+abbrev pub IsExplainReason : (List ℕ → List ℕ → Type 0) → (List ℕ → Type 0) → List ℕ → Option (List ℕ) → Stop → Type 0
+IsExplainReason gives lacks file only (NoFunction name) = (only ≡ Some name.now)
+    × (text : List ℕ) × gives file text × LacksNamed text name.now
+IsExplainReason gives lacks file only stop = IsModuleReason gives lacks file stop
+
+-- memory was refused, or the writer returned an error
+abbrev pub IsPageReason : Stop → Type 0
+IsPageReason (Fault NoMemory) = Unit {0}
+IsPageReason (Fault Output) = Unit {0}
+IsPageReason stop = ⊥
+
 abbrev pub IsReason : (List ℕ → List ℕ → Type 0) → (List ℕ → Type 0) → Asked → Stop → Type 0
 IsReason gives lacks (ToRun asked) stop = IsRunReason gives lacks asked stop
 IsReason gives lacks (ToCheck file) stop = IsModuleReason gives lacks file.now stop
 IsReason gives lacks (ToStep file schedule) stop = IsStepReason gives lacks file.now schedule.now stop
+IsReason gives lacks (ToExplain file function) stop =
+    IsExplainReason gives lacks file.now (option_map (λ name. name.now) function) stop
+IsReason gives lacks (ToPage topic) stop = IsPageReason stop
 IsReason gives lacks Version stop = stop ≡ Fault Output
 
 -- ---- the outputs afterwards
@@ -140,13 +162,28 @@ pub record IsDone (is_report : List ℕ → Type 0) (old new err_old err_new : O
   pub reported : Reports is_report old new
   pub silent : err_new ≡ err_old
 
--- one reason gives the status and the line, of which at least a prefix is on standard error. Standard output is as it
--- was, or has a prefix of the report if its writer returned an error
-pub record IsStopped (is_report : List ℕ → Type 0) (is_reason : Stop → Type 0)
+-- standard output after a stop: as it was, or with a prefix of the report if its writer returned an error
+pub record LeavesReport (is_report : List ℕ → Type 0) (stop : Stop) (old new : Option (List ℕ)) : Type 0 where
+  pub unwritten : stop ≢ Fault Output → new ≡ old
+  pub begun : stop ≡ Fault Output → BeginsReport is_report old new
+
+-- standard output after an explanation that stops: a text that can't be read and a module that is refused are explained
+-- too
+abbrev pub LeavesExplanation : Stop → Option (List ℕ) → Option (List ℕ) → Type 0
+LeavesExplanation (Fault (Text e)) old new = (text : List ℕ) × Appends old new text
+LeavesExplanation (Fault (Refused r)) old new = (text : List ℕ) × Appends old new text
+LeavesExplanation (Fault Output) old new = (text : List ℕ) × AppendsBeginning old new text
+LeavesExplanation stop old new = new ≡ old
+
+abbrev pub Leaves : (List ℕ → List ℕ → Type 0) → Asked → Stop → Option (List ℕ) → Option (List ℕ) → Type 0
+Leaves gives (ToExplain file function) stop old new = LeavesExplanation stop old new
+Leaves gives asked stop old new = LeavesReport (HasReport gives asked) stop old new
+
+-- one reason gives the status and the line, of which at least a prefix is on standard error
+pub record IsStopped (is_reason : Stop → Type 0) (leaves : Stop → Option (List ℕ) → Option (List ℕ) → Type 0)
     (old new err_old err_new : Option (List ℕ)) (status : ℕ) : Type 0 where
   pub stop : Stop
   pub reason : is_reason stop
   pub same_status : status ≡ stop_status stop
   pub line : AppendsBeginning err_old err_new (stop_text stop)
-  pub unwritten : stop ≢ Fault Output → new ≡ old
-  pub begun : stop ≡ Fault Output → BeginsReport is_report old new
+  pub left : leaves stop old new

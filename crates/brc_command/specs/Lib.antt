@@ -1,6 +1,7 @@
 pub mod Accepted
 pub mod Calls
 pub mod Commands
+pub mod Explanations
 pub mod Lines
 pub mod Texts
 pub mod Turns

@@ -26,6 +26,13 @@ steps_of_main n = replicate n (0, Fault)
 abbrev pub AreGone : World → Type 0
 AreGone w = list_all (λ (a : StepActor). has_gone a.actor.status) w.actors ≡ true
 
+-- every thread is gone, after whole rounds of the workers and then steps of main alone
+pub record IsFinished (workers : ℕ) (old new : World) : Type 0 where
+  pub rounds : ℕ
+  pub more : ℕ
+  pub led : new ≡ world_after old (turns rounds workers ++ steps_of_main more)
+  pub gone : AreGone new
+
 -- The tally of a world in which every thread is gone. Whole rounds of the workers and then steps of main alone lead
 -- there from the first world, in which each worker is to make the call.
 pub record IsTallyOfRun (m : Module) (rows workers : ℕ) (call : Call) (tally : Tally) : Type 0 where

@@ -1,6 +1,8 @@
 ghost use Rattle.std.specs.Prelude.{◌<◌, ◌≤◌};
 ghost use Rattle.brc_model.specs.Limits.{worker_limit, row_limit, times_limit};
 
+use brc_explain::Topic;
+
 /// The greatest number of workers.
 pub const MOST_THREADS: u32 = 32;
 
@@ -16,9 +18,23 @@ pub enum Asked<'a> {
     /// Run a function of a module.
     Run(Run<'a>),
     /// Check the module of the file.
-    Check { file: &'a str },
+    Check {
+        file: &'a str,
+    },
     /// Step the schedule of the second file over the module of the first.
-    Step { file: &'a str, schedule: &'a str },
+    Step {
+        file: &'a str,
+        schedule: &'a str,
+    },
+    /// Explain what the checker says of the module of the file, or of its function of this name.
+    Explain {
+        file: &'a str,
+        function: Option<&'a str>,
+    },
+    /// Explain a code.
+    Page {
+        topic: Topic,
+    },
     /// Print the program's name and version.
     Version,
 }

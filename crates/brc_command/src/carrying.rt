@@ -1,34 +1,40 @@
 //! The commands over a loader and writers.
 
 ghost use Rattle.std.specs.Prelude.{◌≡◌, ◌≢◌, ◌≤◌, true, false, IsSome, IsNone, IfSome, IfErr, OnOk, IsErrOf};
-ghost use Rattle.std.specs.Prelude.{MatchResult};
+ghost use Rattle.std.specs.Prelude.{MatchResult, option_map};
 ghost use Rattle.brc_model.specs.Safety.{IsCall};
 ghost use Rattle.brc_command.specs.declared.stop.Stop.TheVariants.{Fault};
 ghost use Rattle.brc_command.specs.declared.step_fault.StepFault.TheVariants.{Output};
 ghost use Rattle.brc_command.specs.Calls.{calls_named, has_function};
 ghost use Rattle.brc_command.specs.Commands.{Reports, BeginsReport, HasCheckReport, HasRunReport, HasStepReport};
 ghost use Rattle.brc_command.specs.Commands.{HasReport, IsModuleReason, IsRunReason, IsStepReason, IsReason};
-ghost use Rattle.brc_command.specs.Commands.{IsDone, IsStopped, IsAccepted, IsModuleFault};
+ghost use Rattle.brc_command.specs.Commands.{IsDone, IsStopped, IsModuleFault, HasExplanation, IsExplainReason};
+ghost use Rattle.brc_command.specs.Commands.{IsPageReason, LeavesExplanation, Leaves};
+ghost use Rattle.brc_command.specs.Explanations.{IsAccepted};
 
 use crate::accepted::write_accepted;
 use crate::asked::{Asked, Run};
 use crate::calls::number_of;
+use crate::explaining::{Explanation, explanation_of};
 use crate::lines::{write_stop, write_version};
 use crate::load::{Load, STANDARD_INPUT};
 use crate::step_fault::StepFault;
-use crate::stepping::step_text;
+use crate::stepping::step_text_on;
 use crate::stop::Stop;
+use crate::terminal::{NoTerminal, Terminal};
 use crate::texts::{accepted, module_of};
-use crate::turns::run;
+use crate::turns::run_on;
 use brc_check::Checked;
-use brc_lang::Module;
+use brc_explain::{Topic, write_page};
+use brc_lang::{Module, write_bytes};
 use brc_model::Call;
-use brc_report::write_tally;
+use brc_report::{Paint, write_tally};
 use std::alloc::Global;
 use std::io::Write;
 use std::sync::Wait;
 
-/// Carries out the request and returns the exit status: 0, or that of `Stop::status`.
+/// Carries out the request and returns the exit status: 0, or that of `Stop::status`. Nobody watches: no text is
+/// coloured, and no progress is shown.
 ///
 /// If the status isn't 0, a line on standard error gives the reason. An error of standard error is ignored.
 pub fn execute<R: Wait, L: Load, W: Write, E: Write>(
@@ -42,11 +48,31 @@ pub fn execute<R: Wait, L: Load, W: Write, E: Write>(
     ensures known { result ≤ 3 }
     ensures done { result ≡ 0 → IsDone (HasReport (L.may_give load.old) asked.now) (W.contents out.old)
         (W.contents out.new) (E.contents err.old) (E.contents err.new) }
-    ensures stopped { result ≢ 0 → IsStopped (HasReport (L.may_give load.old) asked.now)
-        (IsReason (L.may_give load.old) (L.may_lack load.old) asked.now) (W.contents out.old) (W.contents out.new)
+    ensures stopped { result ≢ 0 → IsStopped
+        (IsReason (L.may_give load.old) (L.may_lack load.old) asked.now) (Leaves (L.may_give load.old) asked.now) (W.contents out.old) (W.contents out.new)
         (E.contents err.old) (E.contents err.new) result }
 {
-    match carry_out(rt, alloc, asked, load, out) {
+    execute_on(rt, alloc, asked, load, &mut NoTerminal, out, err)
+}
+
+/// Does what `execute` does, before somebody at a terminal.
+pub fn execute_on<R: Wait, L: Load, T: Terminal, W: Write, E: Write>(
+    rt: &R,
+    alloc: Global,
+    asked: &Asked<'_>,
+    load: &mut L,
+    terminal: &mut T,
+    out: &mut W,
+    err: &mut E,
+) -> u8
+    ensures known { result ≤ 3 }
+    ensures done { result ≡ 0 → IsDone (HasReport (L.may_give load.old) asked.now) (W.contents out.old)
+        (W.contents out.new) (E.contents err.old) (E.contents err.new) }
+    ensures stopped { result ≢ 0 → IsStopped
+        (IsReason (L.may_give load.old) (L.may_lack load.old) asked.now) (Leaves (L.may_give load.old) asked.now) (W.contents out.old) (W.contents out.new)
+        (E.contents err.old) (E.contents err.new) result }
+{
+    match carry_out(rt, alloc, asked, load, terminal, out) {
         Ok(()) => 0,
         Err(stop) => {
             let _ = write_stop(&stop, err);
@@ -58,24 +84,29 @@ pub fn execute<R: Wait, L: Load, W: Write, E: Write>(
 /// Carries out the request and writes its report.
 ///
 /// Returns the first reason from the top why it can't: a file, the texts, the check, a function's name, memory, output.
-pub fn carry_out<'a, R: Wait, L: Load, W: Write>(
+pub fn carry_out<'a, R: Wait, L: Load, T: Terminal, W: Write>(
     rt: &R,
     alloc: Global,
     asked: &Asked<'a>,
     load: &mut L,
+    terminal: &mut T,
     out: &mut W,
 ) -> Result<(), Stop<'a>>
     ensures reported { OnOk result (Reports (HasReport (L.may_give load.old) asked.now) (W.contents out.old)
         (W.contents out.new)) }
     ensures stopped { IfErr result (IsReason (L.may_give load.old) (L.may_lack load.old) asked.now) }
-    ensures unwritten { IfErr result (λ e. e ≢ Fault Output → W.contents out.new ≡ W.contents out.old) }
-    ensures begun { IsErrOf result (Fault Output) → BeginsReport (HasReport (L.may_give load.old) asked.now)
-        (W.contents out.old) (W.contents out.new) }
+    ensures left { IfErr result (λ e. Leaves (L.may_give load.old) asked.now e (W.contents out.old)
+        (W.contents out.new)) }
 {
+    let paint = terminal.paint();
     match asked {
-        Asked::Run(asked) => run_file(rt, alloc, asked, load, out),
+        Asked::Run(asked) => run_file(rt, alloc, asked, load, terminal, out),
         Asked::Check { file } => check_file(alloc, file, load, out),
-        Asked::Step { file, schedule } => step_files(alloc, file, schedule, load, out),
+        Asked::Step { file, schedule } => step_files(alloc, file, schedule, load, terminal, out),
+        Asked::Explain { file, function } => {
+            explain_file(alloc, file, *function, paint, load, out)
+        }
+        Asked::Page { topic } => explain_topic(alloc, *topic, paint, out),
         Asked::Version => match write_version(out) {
             Ok(()) => Ok(()),
             Err(_) => Err(Stop::Fault(StepFault::Output)),
@@ -83,11 +114,12 @@ pub fn carry_out<'a, R: Wait, L: Load, W: Write>(
     }
 }
 
-fn run_file<'a, R: Wait, L: Load, W: Write>(
+fn run_file<'a, R: Wait, L: Load, T: Terminal, W: Write>(
     rt: &R,
     alloc: Global,
     asked: &Run<'a>,
     load: &mut L,
+    terminal: &mut T,
     out: &mut W,
 ) -> Result<(), Stop<'a>>
     ensures reported { OnOk result (Reports (HasRunReport (L.may_give load.old) asked.now) (W.contents out.old)
@@ -102,7 +134,15 @@ fn run_file<'a, R: Wait, L: Load, W: Write>(
     let Some(call) = call_of(checked.module(), asked) else {
         return Err(Stop::NoFunction(asked.function));
     };
-    let tally = run(rt, alloc, &checked, asked.threads, asked.rows, call)?;
+    let tally = run_on(
+        rt,
+        alloc,
+        &checked,
+        asked.threads,
+        asked.rows,
+        call,
+        terminal,
+    )?;
     match write_tally(&tally, out) {
         Ok(()) => Ok(()),
         Err(_) => Err(Stop::Fault(StepFault::Output)),
@@ -131,11 +171,12 @@ fn check_file<'a, L: Load, W: Write>(
 }
 
 // Both files are loaded before either text is read. Standard input can be loaded only once, so it can't be both.
-fn step_files<'a, L: Load, W: Write>(
+fn step_files<'a, L: Load, T: Terminal, W: Write>(
     alloc: Global,
     file: &'a str,
     schedule: &'a str,
     load: &mut L,
+    terminal: &mut T,
     out: &mut W,
 ) -> Result<(), Stop<'a>>
     ensures reported { OnOk result (Reports (HasStepReport (L.may_give load.old) file.now schedule.now)
@@ -151,9 +192,62 @@ fn step_files<'a, L: Load, W: Write>(
     }
     let module = load.load(alloc, file)?;
     let schedule = load.load(alloc, schedule)?;
-    match step_text(alloc, module.as_slice(), schedule.as_slice(), out) {
+    match step_text_on(alloc, module.as_slice(), schedule.as_slice(), terminal, out) {
         Ok(()) => Ok(()),
         Err(fault) => Err(Stop::Fault(fault)),
+    }
+}
+
+/// Writes the explanation of the file's module, also if its text can't be read or the checker refuses it.
+fn explain_file<'a, L: Load, W: Write>(
+    alloc: Global,
+    file: &'a str,
+    function: Option<&'a str>,
+    paint: Paint,
+    load: &mut L,
+    out: &mut W,
+) -> Result<(), Stop<'a>>
+    ensures reported { OnOk result (Reports (λ _. HasExplanation (L.may_give load.old) file.now
+        (option_map (λ name. name.now) function.entry)) (W.contents out.old) (W.contents out.new)) }
+    ensures stopped { IfErr result (IsExplainReason (L.may_give load.old) (L.may_lack load.old) file.now
+        (option_map (λ name. name.now) function.entry)) }
+    ensures left { IfErr result (λ e. LeavesExplanation e (W.contents out.old) (W.contents out.new)) }
+{
+    let bytes = load.load(alloc, file)?;
+    match explanation_of(alloc, bytes.as_slice(), function, paint) {
+        Ok(Explanation { text, fault }) => {
+            if write_bytes(text.as_slice(), out).is_err() {
+                return Err(Stop::Fault(StepFault::Output));
+            }
+            match fault {
+                None => Ok(()),
+                Some(fault) => Err(Stop::Fault(fault)),
+            }
+        }
+        Err(stop) => Err(stop),
+    }
+}
+
+/// Writes the page of a code.
+fn explain_topic<'a, W: Write>(
+    alloc: Global,
+    topic: Topic,
+    paint: Paint,
+    out: &mut W,
+) -> Result<(), Stop<'a>>
+    ensures reported { OnOk result (Reports (λ _. Unit {0}) (W.contents out.old) (W.contents out.new)) }
+    ensures stopped { IfErr result IsPageReason }
+    ensures unwritten { IfErr result (λ e. e ≢ Fault Output → W.contents out.new ≡ W.contents out.old) }
+    ensures begun { IsErrOf result (Fault Output) → BeginsReport (λ _. Unit {0}) (W.contents out.old)
+        (W.contents out.new) }
+{
+    let mut page = Vec::new(alloc);
+    if write_page(topic, paint, &mut page).is_err() {
+        return Err(Stop::Fault(StepFault::NoMemory));
+    }
+    match write_bytes(page.as_slice(), out) {
+        Ok(()) => Ok(()),
+        Err(_) => Err(Stop::Fault(StepFault::Output)),
     }
 }
 

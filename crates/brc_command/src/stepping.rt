@@ -1,23 +1,30 @@
 //! The steps of a schedule over a module, both given as texts.
 
-ghost use Rattle.std.specs.Prelude.{◌≡◌, ◌≢◌, ◌⊎◌, IfOk, IfErr, OnOk, IsErrOf, MatchResult};
+ghost use Rattle.std.specs.Prelude.{◌≡◌, ◌≢◌, ◌⊎◌, ◌<◌, length, IfOk, IfErr, OnOk, IsErrOf, MatchResult};
+ghost use Rattle.std.specs.List.{All};
 ghost use Rattle.brc_model.specs.Safety.{AreCalls};
 ghost use Rattle.brc_schedule.specs.Text.{IsSchedule};
+ghost use Rattle.brc_world.specs.Runs.{world_after, events_of_line, events_of};
 ghost use Rattle.brc_world.specs.Tallies.{tally_of};
+ghost use Rattle.brc_world.specs.Worlds.{seen};
 ghost use Rattle.brc_command.specs.declared.step_fault.StepFault.TheVariants.{Output};
 ghost use Rattle.brc_command.specs.Calls.{calls_of};
 ghost use Rattle.brc_command.specs.Texts.{last_world, HasTally, StepsTo, StepsTowards, IsFaultOfTexts};
 
 use crate::calls::calls_of;
 use crate::step_fault::StepFault;
+use crate::terminal::{NoTerminal, Terminal, more_made};
 use crate::texts::{accepted, module_of, schedule_of};
 use brc_check::Checked;
 use brc_model::Call;
 use brc_report::{Tally, write_tally};
-use brc_schedule::Schedule;
+use brc_schedule::{Schedule, Steps};
 use brc_world::{NoMemory, World, runs_follow_machines, tallies_follow_machines};
 use std::alloc::Global;
 use std::io::Write;
+
+/// The most steps that are taken before the terminal can show how far the run is.
+const PART: u32 = 65_536;
 
 /// Makes the schedule's steps over the module and writes the report of the world afterwards.
 ///
@@ -35,16 +42,38 @@ pub fn step_text<W: Write>(
     ensures begun { IsErrOf result Output → StepsTowards module.now schedule.now (W.contents out.old)
         (W.contents out.new) }
 {
+    step_text_on(alloc, module, schedule, &mut NoTerminal, out)
+}
+
+/// Does what `step_text` does, and shows how far it is.
+pub fn step_text_on<T: Terminal, W: Write>(
+    alloc: Global,
+    module: &[u8],
+    schedule: &[u8],
+    terminal: &mut T,
+    out: &mut W,
+) -> Result<(), StepFault>
+    ensures stepped { OnOk result (StepsTo module.now schedule.now (W.contents out.old) (W.contents out.new)) }
+    ensures fault { IfErr result (λ e. (e ≡ Output) ⊎ IsFaultOfTexts module.now schedule.now e) }
+    ensures unwritten { IfErr result (λ e. e ≢ Output → W.contents out.new ≡ W.contents out.old) }
+    ensures begun { IsErrOf result Output → StepsTowards module.now schedule.now (W.contents out.old)
+        (W.contents out.new) }
+{
     runs_follow_machines();
     tallies_follow_machines();
-    let tally = tally_of_texts(alloc, module, schedule)?;
+    let tally = tally_of_texts(alloc, module, schedule, terminal)?;
     match write_tally(&tally, out) {
         Ok(()) => Ok(()),
         Err(_) => Err(StepFault::Output),
     }
 }
 
-fn tally_of_texts(alloc: Global, module: &[u8], schedule: &[u8]) -> Result<Tally, StepFault>
+fn tally_of_texts<T: Terminal>(
+    alloc: Global,
+    module: &[u8],
+    schedule: &[u8],
+    terminal: &mut T,
+) -> Result<Tally, StepFault>
     ensures { MatchResult result (λ tally. HasTally module.now schedule.now tally)
         (λ e. IsFaultOfTexts module.now schedule.now e) }
 {
@@ -52,14 +81,15 @@ fn tally_of_texts(alloc: Global, module: &[u8], schedule: &[u8]) -> Result<Tally
     let schedule = schedule_of(alloc, schedule)?;
     let checked = accepted(alloc, module)?;
     let calls = calls_of(alloc, checked.module(), &schedule)?;
-    Ok(last_tally(alloc, &checked, &schedule, calls.as_slice())?)
+    Ok(last_tally(alloc, &checked, &schedule, calls.as_slice(), terminal)?)
 }
 
-fn last_tally(
+fn last_tally<T: Terminal>(
     alloc: Global,
     checked: &Checked,
     schedule: &Schedule,
     calls: &[Call],
+    terminal: &mut T,
 ) -> Result<Tally, NoMemory>
     requires fits { IsSchedule schedule.now }
     requires found { calls.now ≡ calls_of checked.now.module schedule.now.calls }
@@ -68,6 +98,47 @@ fn last_tally(
 {
     let workers = usize::from(schedule.workers);
     let mut world = World::new(alloc, checked, workers, schedule.rows, calls)?;
-    world.run(schedule)?;
+    let taken = take_lines(&mut world, schedule.steps.as_slice(), terminal);
+    terminal.clear();
+    taken?;
     world.tally(alloc)
+}
+
+/// Takes the steps of all lines in order.
+fn take_lines<T: Terminal>(
+    world: &mut World,
+    lines: &[Steps],
+    terminal: &mut T,
+) -> Result<(), NoMemory>
+    requires { All (λ line. line.thread < length world.old.actors) lines.now }
+    ensures { OnOk result (seen world.new ≡ world_after (seen world.old) (events_of lines.now)) }
+{
+    let mut made = 0;
+    for line in lines {
+        take_line(world, *line, made, terminal)?;
+        made = made.saturating_add(u64::from(line.times));
+    }
+    Ok(())
+}
+
+/// Takes the steps of a line, in parts, after the steps that were made before.
+fn take_line<T: Terminal>(
+    world: &mut World,
+    line: Steps,
+    before: u64,
+    terminal: &mut T,
+) -> Result<(), NoMemory>
+    requires { line.thread < length world.old.actors }
+    ensures stepped { OnOk result (seen world.new ≡ world_after (seen world.old) (events_of_line line)) }
+    ensures as_many { length world.new.actors ≡ length world.old.actors }
+{
+    let mut made = before;
+    let mut left = line.times;
+    while left > 0 {
+        let times = left.min(PART);
+        world.take_steps(Steps { times, ..line })?;
+        left -= times;
+        made = more_made(made, u64::from(times), terminal);
+    }
+    Ok(())
 }

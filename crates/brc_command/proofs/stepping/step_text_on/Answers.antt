@@ -3,7 +3,7 @@ use Rattle.std.specs.Io.KnownBytes.{Appends}
 use Rattle.brc_lang.specs.Written.{AppendsBeginning}
 use Rattle.brc_report.specs.Report.{tally_text}
 use Rattle.brc_command.proofs.Machines.{tally_of_machine}
-use Rattle.brc_command.proofs.stepping.step_text.Goals as goal
+use Rattle.brc_command.proofs.stepping.step_text_on.Goals as goal
 
 pub returns-in-Ok-clause-stepped : goal.returns-in-Ok-clause-stepped
 returns-in-Ok-clause-stepped g c =

@@ -1,0 +1,51 @@
+//! What the person at a terminal sees of a command: colours, and how far a run is.
+
+ghost use Rattle.std.specs.Prelude.{◌≡◌};
+ghost use Rattle.brc_report.specs.declared.paint.Paint.{Paint};
+ghost use Rattle.brc_report.specs.declared.paint.Paint.TheVariants.{Plain};
+
+use brc_report::Paint;
+
+/// After how many steps a run says again how far it is.
+const STEPS_BETWEEN: u64 = 65_536;
+
+/// The terminal of whoever started the command.
+pub trait Terminal {
+    // How it marks the parts of a text.
+    ghost paint_of: { Self → Paint };
+
+    /// Returns how the parts of an explanation or a trace are marked. Other reports are never marked.
+    fn paint(&self) -> Paint
+        ensures { result ≡ paint_of self.now };
+
+    /// Shows how many steps a run has made so far. A run calls it once in some 65,536 steps.
+    fn made(&mut self, steps: u64);
+
+    /// Takes away what `made` has shown. A run calls it at its end, before anything is written.
+    fn clear(&mut self);
+}
+
+/// No terminal: texts aren't marked, and nothing is shown.
+#[derive(Clone, Copy, Debug)]
+pub struct NoTerminal;
+
+impl Terminal for NoTerminal {
+    ghost paint_of = { λ _. Plain };
+
+    fn paint(&self) -> Paint {
+        Paint::Plain
+    }
+
+    fn made(&mut self, _steps: u64) {}
+
+    fn clear(&mut self) {}
+}
+
+/// Adds steps to those that a run has made, and shows the sum if it has passed a multiple of 65,536.
+pub fn more_made<T: Terminal>(made: u64, more: u64, terminal: &mut T) -> u64 {
+    let sum = made.saturating_add(more);
+    if made / STEPS_BETWEEN != sum / STEPS_BETWEEN {
+        terminal.made(sum);
+    }
+    sum
+}
