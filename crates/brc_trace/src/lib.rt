@@ -3,4 +3,7 @@
 #![tactic(auto)]
 
 mod line;
+mod rule;
 mod word;
+
+pub use rule::Rule;

@@ -1,7 +1,7 @@
 //! What the words of objects and threads say.
 
 ghost use Rattle.std.specs.Prelude.{◌≡◌, ◌≤◌, ◌++◌, OnOk};
-ghost use Rattle.brc_word.specs.Words.{half, owner_part, local_part};
+ghost use Rattle.brc_word.specs.Words.{half, owner_part, local_part, next_part};
 ghost use Rattle.brc_trace.specs.WordTexts.{row_text, local_text, count_text, phase_text, shared_text, next_text, dying_text};
 ghost use Rattle.brc_trace.specs.WordTexts.{gate_text, kind_text, mark_text, cell_text, status_text};
 ghost use Rattle.brc_trace.specs.WordTexts.{value_text, subject_text, left_text, change_text, word_text};
@@ -185,13 +185,14 @@ fn show_dying(word: u64, line: &mut Line) -> Result<(), AllocError>
 {
     line.text("dying by ")?;
     line.number(word / HALF - 1)?;
-    show_next(next_of_dying(word), line)
+    show_next(word, line)
 }
 
-/// Adds what follows in the chain of the thread that deallocates the object.
-fn show_next(next: u32, line: &mut Line) -> Result<(), AllocError>
-    ensures { OnOk result (line.new ≡ line.old ++ next_text next) }
+/// Adds what follows in the chain of the thread that deallocates the object with this gate.
+fn show_next(word: u64, line: &mut Line) -> Result<(), AllocError>
+    ensures { OnOk result (line.new ≡ line.old ++ next_text (next_part word)) }
 {
+    let next = next_of_dying(word);
     if next == 0 {
         return line.text(", last");
     }
