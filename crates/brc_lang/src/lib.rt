@@ -33,4 +33,4 @@ pub use output::{write_bytes, write_number, write_pieces};
 pub use reading::read;
 pub use sequence::Sequence;
 pub use variable::Variable;
-pub use writing::write;
+pub use writing::{write, write_instruction};

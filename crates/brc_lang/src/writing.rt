@@ -69,7 +69,8 @@ fn write_line<W: Write>(instr: Instr, writer: &mut W) -> io::Result<()>
     write_bytes(b"\n", writer)
 }
 
-fn write_instruction<W: Write>(instr: Instr, writer: &mut W) -> io::Result<()>
+/// Writes the instruction's text, which has no line feed, with the errors of `write_bytes`.
+pub fn write_instruction<W: Write>(instr: Instr, writer: &mut W) -> io::Result<()>
     ensures whole { OnOk result (Appends (W.contents writer.old) (W.contents writer.new) (instruction_text instr)) }
     ensures begun { OnErr result (AppendsBeginning (W.contents writer.old) (W.contents writer.new)
         (instruction_text instr)) }
