@@ -1,2 +1,5 @@
+pub mod EntryTexts
+pub mod Outcomes
+pub mod PartTexts
 pub mod Rules
 pub mod WordTexts

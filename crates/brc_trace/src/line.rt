@@ -1,7 +1,7 @@
 ghost use Rattle.std.specs.Prelude.{◌≡◌, [], ◌++◌, OnOk, decimal};
-ghost use Rattle.std.specs.List.{flat_map};
 ghost use Rattle.brc_lang.specs.Grammar.{instruction};
 
+use brc_lang::{Instr, write_instruction};
 use itoa::Buffer;
 use std::alloc::{AllocError, Global};
 use std::marker::Model;
@@ -16,6 +16,7 @@ impl Model for Line {
     ghost use Rattle.std.specs.Prelude.{ℕ, List};
 
     ghost Value = { List ℕ };
+
     ghost view = { λ l. l.bytes.items };
 }
 
@@ -48,6 +49,23 @@ impl Line {
         ensures { OnOk result (self.new ≡ self.old ++ text.now) }
     {
         self.bytes.extend_from_slice(text.as_bytes())
+    }
+
+    /// Adds the bytes.
+    pub fn bytes(&mut self, bytes: &[u8]) -> Result<(), AllocError>
+        ensures { OnOk result (self.new ≡ self.old ++ bytes.now) }
+    {
+        self.bytes.extend_from_slice(bytes)
+    }
+
+    /// Adds the instruction as a module spells it.
+    pub fn instruction(&mut self, instr: Instr) -> Result<(), AllocError>
+        ensures { OnOk result (self.new ≡ self.old ++ instruction instr) }
+    {
+        match write_instruction(instr, &mut self.bytes) {
+            Ok(()) => Ok(()),
+            Err(_) => Err(AllocError),
+        }
     }
 
     /// Adds the number's decimal digits.

@@ -4,11 +4,10 @@ ghost use Rattle.std.specs.Prelude.{◌≡◌, if◌then◌else◌};
 ghost use Rattle.brc_model.specs.Duties.{counts_locally, has_resource};
 ghost use Rattle.brc_trace.specs.Rules.{rule_name, rule_of, rule_at, retain_rule, release_rule, shared_rule, merge_rule};
 
+use crate::word::owner_part;
 use brc_model::{Duty, Exit, Reason};
 use brc_word::{is_dead, is_fresh, is_immortal, kind_number, local_count};
 use brc_world::Event;
-
-use crate::word::owner_part;
 
 /// A way in which a step can go. All but the last three are the rules of the model's step relation, in their order:
 /// those of an object's life, and then those of a thread's exit.
@@ -166,7 +165,10 @@ pub fn rule_at(thread: u8, running: bool, event: Event) -> Rule
         Event::Calls(Exit::Success) => Rule::HostAnswers,
         Event::Calls(Exit::Fault) => Rule::HostFaults,
         Event::Does {
-            duty, found, left, ..
+            duty,
+            found,
+            left,
+            ..
         } => rule_of(thread, running, duty, found, left),
     }
 }

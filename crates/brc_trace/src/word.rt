@@ -8,9 +8,7 @@ ghost use Rattle.brc_trace.specs.WordTexts.{value_text, subject_text, left_text,
 
 use crate::line::Line;
 use brc_model::Address;
-use brc_word::{
-    is_closed, is_immortal, kind_argument, kind_number, local_count, next_of_dying,
-};
+use brc_word::{is_closed, is_immortal, kind_argument, kind_number, local_count, next_of_dying};
 use std::alloc::AllocError;
 
 /// The number of values of half a word.
