@@ -1,5 +1,5 @@
 -- Sights: what a thread's next step does, as it can be seen before the step is taken.
-use Rattle.std.specs.Prelude.{ℕ, zero, suc, ◌==◌, Bool, true, false, if◌then◌else◌, List, [], ◌∷◌, ◌++◌, Option, None, Some, slice_get}
+use Rattle.std.specs.Prelude.{ℕ, zero, ◌==◌, Bool, true, false, if◌then◌else◌, List, [], ◌∷◌, ◌++◌, Option, None, Some, slice_get}
 use Rattle.std.specs.List.{list_any, flat_map}
 use Rattle.brc_lang.specs.declared.kind.Kind.{Kind}
 use Rattle.brc_model.specs.declared.address.Address.{Address}
@@ -40,14 +40,18 @@ abbrev pub is_scan : Duty → Bool
 is_scan (Scan i n) = true
 is_scan _ = false
 
+-- Says whether the thread's next duty announces its exit.
+abbrev pub leaves_next : List Duty → Bool
+leaves_next [] = false
+leaves_next (d ∷ rest) = is_leave d
+
 -- Returns the part of its exit in which a thread with this agenda is. The duty that announces the exit is behind all
 -- that the release of the root leads to, and the scan of the further marks behind all that one mark leads to.
 abbrev pub exit_part : List Duty → ExitPart
-exit_part [] = exit_parts.Gone
-exit_part (d ∷ rest) =
-    if is_leave d then exit_parts.Leave
-    else if list_any is_leave rest then exit_parts.Root
-    else if list_any is_scan (d ∷ rest) then exit_parts.Marks
+exit_part agenda =
+    if leaves_next agenda then exit_parts.Leave
+    else if list_any is_leave agenda then exit_parts.Root
+    else if list_any is_scan agenda then exit_parts.Marks
     else exit_parts.Gone
 
 -- Returns the part to which the next step of a thread with this place and this agenda belongs, if they say it. A thread
