@@ -1,5 +1,5 @@
 -- The line of a step: its number, its thread, the part that it belongs to, its rule, its word and its outcomes.
-use Rattle.std.specs.Prelude.{ℕ, Bool, true, false, if◌then◌else◌, List, [], ◌++◌, codes, decimal}
+use Rattle.std.specs.Prelude.{ℕ, if◌then◌else◌, List, [], ◌++◌, codes, decimal}
 use Rattle.brc_lang.specs.declared.module.Function.{Function}
 use Rattle.brc_lang.specs.Grammar.{line}
 use Rattle.brc_report.specs.declared.paint.Paint.{Paint}
@@ -58,7 +58,7 @@ naming_text paint functions e =
     painted paint roles.Part (part_text functions e.sight.function e.part) ++ gap
     ++ painted paint roles.Rule (rule_name (rule_at e.thread e.sight.running e.sight.event))
 
-abbrev pub entry_text : Paint → List Function → Entry → List ℕ
+unfoldable pub entry_text : Paint → List Function → Entry → List ℕ
 entry_text paint functions e =
     opening_text paint e.number e.thread ++ naming_text paint functions e
     ++ line (event_text paint e.sight.exit e.sight.event)

@@ -3,12 +3,19 @@
 #![tactic(auto)]
 
 mod entry;
+mod fault;
+mod laws;
 mod line;
 mod outcome;
 mod part;
+mod past;
 mod rule;
+mod tracing;
 mod word;
 
 pub use entry::Entry;
+pub use fault::TraceFault;
+pub use laws::traces_show_words;
 pub use outcome::{Fate, Outcome};
 pub use rule::Rule;
+pub use tracing::trace;

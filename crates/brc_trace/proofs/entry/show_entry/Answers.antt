@@ -1,5 +1,5 @@
 use Rattle.std.proofs.Common.{◌≡◌, ◌++◌, ◌∙◌, ℕ, List, Result, Ok, Err, OnOk, codes, ap, append_assoc}
-use Rattle.brc_trace.specs.EntryTexts.{opening_text, naming_text, event_text}
+use Rattle.brc_trace.specs.EntryTexts.{opening_text, naming_text, event_text, entry_text}
 use Rattle.brc_trace.proofs.entry.show_entry.Goals as goal
 
 -- four texts added one after another
@@ -16,6 +16,7 @@ four_added (Ok x) old opening naming event feed one two three last first second 
     ∙ append_assoc old (opening ++ naming) (event ++ feed)
 
 pub returns : goal.returns
+unfolding entry_text
 returns c =
     let e = c.args.entry.now in
     four_added c.text.result c.args.line.now (opening_text c.args.paint e.number e.thread)
