@@ -124,7 +124,9 @@ fn see_duty(
     )
 }
 
-/// Returns the event of the thread's duty: what it finds in its word, and what it would leave there.
+/// Returns the event of the thread's duty: what it finds in its word, and what it would leave there
+/// (`word_after_for_before`). A compare-exchange that fails is an event too: the thread found a word by which it retries
+/// (`lost_exchange_unseen`).
 fn duty_event(memory: &Memory, layout: Layout, number: u8, thread: &Thread, duty: &Duty) -> Event
     requires some_rows { 0 < layout.rows }
     requires small { length memory.now.local ≤ total_limit }
@@ -194,7 +196,7 @@ fn begins_at(thread: &Thread, choice: Choice) -> Option<Part>
 
 /// Returns the part of the thread's work to which its next step belongs, if the thread's state says it. Each step of an
 /// exit says its part. Other steps say it only if they begin an instruction or go on inside one: a duty doesn't know
-/// for which instruction it is done.
+/// for which instruction it is done (`part_of_the_first_instruction`).
 fn next_part(thread: &Thread) -> Option<Part>
     ensures { result ≡ next_part (actor_of thread.now).place (actor_of thread.now).actor.agenda }
 {
