@@ -1,4 +1,5 @@
 pub mod EntryTexts
+pub mod Naming
 pub mod Outcomes
 pub mod PartTexts
 pub mod Rules

@@ -15,7 +15,7 @@ mod word;
 
 pub use entry::Entry;
 pub use fault::TraceFault;
-pub use laws::traces_show_words;
+pub use laws::{rules_are_named, traces_show_words};
 pub use outcome::{Fate, Outcome};
 pub use rule::Rule;
 pub use tracing::trace;
