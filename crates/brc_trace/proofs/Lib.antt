@@ -1,0 +1,6 @@
+mod Gone
+mod Lines
+mod Naming
+mod Showing
+mod Traces
+mod Writing
