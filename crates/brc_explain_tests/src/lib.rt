@@ -1,0 +1,11 @@
+//! Tests of explanations: the pages of the codes, the word at fault in a text, and paths to a refusal.
+#![tactic(auto)]
+
+#[cfg(test)]
+mod explaining;
+#[cfg(test)]
+mod modules;
+#[cfg(test)]
+mod pages;
+#[cfg(test)]
+mod words_at_fault;
