@@ -1,8 +1,12 @@
 mod Same
 mod Steps
 mod Paths
+mod Pushing
 mod Settling
 mod Turns
 mod Points
 mod Tables
 mod Mapping
+mod Trails
+mod Searches
+mod Passing

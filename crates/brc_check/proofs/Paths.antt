@@ -14,7 +14,7 @@ use Rattle.brc_check.specs.Entries.{StaysOn, IsClosed, IsErrorAt}
 
 -- ---- one step more
 
-path_end-more : (code : List Instr) (exits : List Exit) (e : Exit)
+pub path_end-more : (code : List Instr) (exits : List Exit) (e : Exit)
     → path_end code (exits ++ e ∷ []) ≡ follow code (path_end code exits) e
 path_end-more code exits e = fold-append (follow code) (At 0 entry) exits (e ∷ [])
 

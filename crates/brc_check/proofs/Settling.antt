@@ -12,6 +12,7 @@ use Rattle.brc_model.specs.Slots.{entry}
 use Rattle.brc_model.specs.Tables.{entry_at}
 use Rattle.brc_check.specs.declared.filling.Filling.{Filling}
 use Rattle.brc_check.specs.Filling.{first_filling, settled, IsInOrder}
+use Rattle.brc_check.proofs.Pushing.{push-kept, push-last, push-cases}
 
 pub entry-within : (entries : List (Option State)) (k : ℕ) (s : State) → entry_at entries k ≡ Some s
     → k < length entries
@@ -20,24 +21,6 @@ entry-within entries k s e =
       | inl lt ↦ lt
       | inr le ↦ absurd (none-some s (sym (get_or_past entries k None le) ∙ e))
     ]
-
--- ---- a point more at the end
-
-push-kept : (order : List ℕ) (at turn k : ℕ) → slice_get order turn ≡ Some k → slice_get (order ++ at ∷ []) turn ≡ Some k
-push-kept [] at turn k e = absurd (none-some k e)
-push-kept (x ∷ order) at zero k e = e
-push-kept (x ∷ order) at (suc turn) k e = push-kept order at turn k e
-
-push-last : (order : List ℕ) (at : ℕ) → slice_get (order ++ at ∷ []) (length order) ≡ Some at
-push-last [] at = refl
-push-last (x ∷ order) at = push-last order at
-
-push-cases : (order : List ℕ) (at turn k : ℕ) → slice_get (order ++ at ∷ []) turn ≡ Some k
-    → (slice_get order turn ≡ Some k) ⊎ (k ≡ at)
-push-cases [] at zero k e = inr (sym (same_Some at k e))
-push-cases [] at (suc turn) k e = absurd (none-some k e)
-push-cases (x ∷ order) at zero k e = inl e
-push-cases (x ∷ order) at (suc turn) k e = push-cases order at turn k e
 
 -- ---- one state settled
 
@@ -102,7 +85,7 @@ found-in_order filling at s lt none ordered = record {
   ];
   known = λ turn k e. elim (push-cases filling.order at turn k e) [
     | inl old ↦ let there = ordered.known turn k old in (there.0, found-kept filling at s none k there.0 there.1)
-    | inr new ↦ (s, found-same filling at k s lt new)
+    | inr new ↦ (s, found-same filling at k s lt new.1)
   ];
   once = found-once filling at s lt none ordered.once;
 }

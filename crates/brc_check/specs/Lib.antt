@@ -2,3 +2,5 @@ pub mod Accepted
 pub mod Refusal
 pub mod Entries
 pub mod Filling
+pub mod PathTo
+pub mod Searching

@@ -1,1 +1,2 @@
 pub mod Topics
+pub mod Walking

@@ -1,27 +1,64 @@
 //! The explanation of a module that is accepted.
 
 use crate::fault::ExplainFault;
-use brc_check::Checked;
-use brc_lang::write_bytes;
-use brc_report::Paint;
+use crate::forms::{is_asked, write_all_forms};
+use crate::listing::{Marked, write_listing};
+use crate::state_text::write_legend;
+use crate::text::{write_heading, write_in};
+use brc_check::{Checked, first_states};
+use brc_lang::{Function, write_bytes};
+use brc_report::{Paint, Role};
 use std::alloc::Global;
+use std::io;
 use std::io::Write;
 
 /// Writes a listing of each function, or of the one of the number `only`, with the state before each instruction.
 ///
 /// Returns `NoMemory` if memory is refused, and `Output` if the writer makes an error.
 pub fn explain_accepted<W: Write>(
-    _alloc: Global,
+    alloc: Global,
     checked: &Checked,
     only: Option<usize>,
-    _paint: Paint,
+    paint: Paint,
     out: &mut W,
 ) -> Result<(), ExplainFault> {
+    write_accepted(paint, out)?;
     let functions = checked.module().functions.as_slice();
     for (number, function) in functions.iter().enumerate() {
-        if only.is_none_or(|asked| asked == number) {
-            write_bytes(function.name.as_bytes(), out)?;
+        if is_asked(only, number) {
+            list_accepted(alloc, function, paint, out)?;
         }
     }
+    write_heading("The instructions, and what they are in C", paint, out)?;
+    write_all_forms(functions, only, out)?;
     Ok(())
+}
+
+fn write_accepted<W: Write>(paint: Paint, out: &mut W) -> io::Result<()> {
+    write_in(Role::Success, &[b"accepted"], paint, out)?;
+    write_bytes(
+        b": on every path each reference is given up exactly once, nothing is used\n\
+        after it may be freed, and each lock is ended.\n\n\
+        Below, each instruction has its number and what the variables hold before it:\n",
+        out,
+    )?;
+    write_legend(out)
+}
+
+fn list_accepted<W: Write>(
+    alloc: Global,
+    function: &Function,
+    paint: Paint,
+    out: &mut W,
+) -> Result<(), ExplainFault> {
+    if function.code.len() == 0 {
+        return Ok(());
+    }
+    let entries = first_states(alloc, function.code.as_slice())?;
+    let marked = Marked {
+        at: None,
+        code: "",
+        unknown: "unreachable",
+    };
+    write_listing(alloc, function, entries.as_slice(), marked, paint, out)
 }

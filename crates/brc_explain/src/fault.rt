@@ -1,3 +1,6 @@
+ghost use Rattle.std.specs.Prelude.{◌≡◌};
+ghost use Rattle.brc_explain.specs.declared.fault.ExplainFault.TheVariants.{NoMemory, Output};
+
 use std::alloc::AllocError;
 use std::io;
 
@@ -11,12 +14,16 @@ pub enum ExplainFault {
 }
 
 impl From<AllocError> for ExplainFault {
+    ghost from_gives = { λ _ e. e ≡ NoMemory };
+
     fn from(_e: AllocError) -> ExplainFault {
         ExplainFault::NoMemory
     }
 }
 
 impl From<io::Error> for ExplainFault {
+    ghost from_gives = { λ _ e. e ≡ Output };
+
     fn from(_e: io::Error) -> ExplainFault {
         ExplainFault::Output
     }

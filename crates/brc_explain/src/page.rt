@@ -1,5 +1,8 @@
 //! The page of a code: its meaning, the rule behind it, the usual mend, and an example with its mended form.
 
+ghost use Rattle.std.specs.Prelude.{◌≡◌, Some};
+ghost use Rattle.brc_explain.specs.Topics.{topic_named};
+
 use crate::check_pages::check_page;
 use crate::read_pages::read_page;
 use crate::text::{write_gap, write_heading, write_paragraph, write_section, write_title};
@@ -39,7 +42,9 @@ pub struct Page {
 const TEXT_WIDTH: usize = 24;
 
 /// Returns the page of a code.
-pub fn page_of(topic: Topic) -> Page {
+pub fn page_of(topic: Topic) -> Page
+    ensures { topic_named result.code.now ≡ Some topic }
+{
     match topic {
         Topic::Check(code) => check_page(code),
         Topic::Read(code) => read_page(code),

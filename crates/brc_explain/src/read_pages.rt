@@ -1,12 +1,18 @@
 //! The pages of L1 to L8.
 
+ghost use Rattle.std.specs.Prelude.{◌≡◌, Some};
+ghost use Rattle.brc_explain.specs.Topics.{topic_named};
+ghost use Rattle.brc_explain.specs.declared.topic.Topic.TheVariants.{Read};
+
 use crate::page::Page;
 use brc_lang::FaultCode;
 
 const READS: &str = "What is read there";
 
 /// Returns the page of a code.
-pub fn read_page(code: FaultCode) -> Page {
+pub fn read_page(code: FaultCode) -> Page
+    ensures { topic_named result.code.now ≡ Some (Read code) }
+{
     match code {
         FaultCode::FirstLine => FIRST_LINE,
         FaultCode::UnknownWord => UNKNOWN_WORD,

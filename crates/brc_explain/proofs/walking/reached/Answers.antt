@@ -1,0 +1,16 @@
+use Rattle.std.proofs.Common.{◌≡◌, ◌∙◌, ℕ, get_or, sym, ap}
+use Rattle.std.specs.Prelude.{Option}
+use Rattle.brc_model.specs.declared.slot.State.{State}
+use Rattle.brc_model.specs.declared.slot.Exit.TheVariants.{Success}
+use Rattle.brc_explain.specs.Walking.{onward}
+use Rattle.brc_explain.proofs.Walks.{reached-more}
+use Rattle.brc_explain.proofs.walking.reached.Goals as goal
+
+pub loop-exit-preserved : goal.loop-exit-preserved
+loop-exit-preserved c =
+    let code = c.args.code.now in
+    let exits = c.args.exits.now in
+    let i = c.loop-exit.exit-index in
+    c.onward-place.ensures
+    ∙ ap (λ (p : Option (ℕ × State)). onward code p (get_or exits i Success)) c.loop-exit.invariant
+    ∙ sym (reached-more code exits i Success c.loop-exit-test.true)

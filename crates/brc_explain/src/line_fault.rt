@@ -1,0 +1,235 @@
+//! Which word of a line is at fault (L2 and L3). The reader looks at the first word, the number of words and the word
+//! `else` first, and then at the words from left to right; so does this search.
+
+use crate::forms::{Form, Operand, form_of};
+use crate::visible::{Span, behind, part, whole};
+use crate::words::{empty_word, word_at};
+use brc_lang::{is_word, number_between};
+
+/// What is wrong with a line, and what would be read there.
+#[derive(Clone, Copy, Debug)]
+pub struct LineFault {
+    /// The part of the line that is at fault.
+    pub span: Span,
+    /// What is wrong with it.
+    pub wrong: &'static str,
+    /// What would be read there.
+    pub wanted: Wanted,
+    /// The form of the line's instruction, if its name is one.
+    pub form: Option<Form>,
+}
+
+/// What would be read at a place.
+#[derive(Clone, Copy, Debug, PartialEq, Eq)]
+pub enum Wanted {
+    /// The name of an instruction.
+    Name,
+    /// What the sentence says.
+    Said(&'static str),
+    Operand(Operand),
+}
+
+const HEADING: Wanted = Wanted::Said(
+    "`func NAME`, as in `func f`, and the function's instructions below it",
+);
+
+const NAME: Wanted = Wanted::Said(
+    "a name: a letter a to z, and up to 15 more of a to z, 0 to 9 and _",
+);
+
+fn fault(span: Span, wrong: &'static str, wanted: Wanted) -> LineFault {
+    LineFault {
+        span,
+        wrong,
+        wanted,
+        form: None,
+    }
+}
+
+/// Returns what is wrong with a line outside a function.
+pub fn heading_fault(line: &[u8]) -> LineFault {
+    let Some(first) = word_at(line, 0) else {
+        return fault(whole(line), "The line is empty.", HEADING);
+    };
+    let word = part(line, first);
+    if !is_word(word, b"func") {
+        return fault(first, outside(word), HEADING);
+    }
+    let Some(name) = word_at(line, 1) else {
+        return fault(behind(line), "The function has no name.", NAME);
+    };
+    if let Some(extra) = word_at(line, 2) {
+        let wrong = "This word is one too many: a name has no space in it.";
+        return fault(
+            extra,
+            wrong,
+            Wanted::Said("the end of the line, behind the name"),
+        );
+    }
+    fault(name, "This is no name of a function.", NAME)
+}
+
+/// Returns what is wrong with a line outside a function that begins with this word.
+fn outside(word: &[u8]) -> &'static str {
+    if word.is_empty() {
+        "The line is empty or begins with a space, and no function is open here."
+    } else if is_word(word, b"end") {
+        "No function is open here, so there is none to end."
+    } else if form_of(word).is_some() {
+        "This is an instruction, and no function is open here."
+    } else {
+        "Outside a function each line is the heading of the next one."
+    }
+}
+
+/// Returns what is wrong with a line of a function.
+pub fn instruction_fault(line: &[u8]) -> LineFault {
+    let first = word_at(line, 0).unwrap_or(whole(line));
+    let word = part(line, first);
+    let Some(form) = form_of(word) else {
+        return fault(first, unknown(line, word), Wanted::Name);
+    };
+    let found = operand_fault(line, &form);
+    LineFault {
+        form: Some(form),
+        ..found
+    }
+}
+
+/// Returns what is wrong with a line of a function that begins with this word, which is no instruction's name.
+fn unknown(line: &[u8], word: &[u8]) -> &'static str {
+    if line.is_empty() {
+        "The line is empty. A text has no empty line."
+    } else if word.is_empty() {
+        "The line begins with a space. It begins with the name of its instruction."
+    } else if is_word(word, b"func") {
+        "The function above is still open: its `end` is missing."
+    } else if is_word(word, b"end") {
+        "`end` stands alone on its line."
+    } else {
+        "No instruction has this name."
+    }
+}
+
+/// Returns what is wrong with the words behind the name of an instruction.
+fn operand_fault(line: &[u8], form: &Form) -> LineFault {
+    let count = form.operands.len();
+    if word_at(line, count).is_none() {
+        let wrong = "A word is missing here.";
+        return fault(
+            behind(line),
+            wrong,
+            Wanted::Said("the rest of the instruction"),
+        );
+    }
+    if let Some(extra) = word_at(line, count.saturating_add(1)) {
+        return too_many(line, extra);
+    }
+    if let Some(found) = else_fault(line, form.operands) {
+        return found;
+    }
+    for (at, operand) in form.operands.iter().enumerate() {
+        let span = word_at(line, at + 1).unwrap_or(behind(line));
+        let word = part(line, span);
+        if !fits(word, *operand) {
+            return fault(span, misfit(word, *operand), Wanted::Operand(*operand));
+        }
+    }
+    fault(whole(line), "The line isn't an instruction.", Wanted::Name)
+}
+
+/// Returns what is wrong with a line of too many words, the first of which behind the instruction's end is `extra`.
+fn too_many(line: &[u8], extra: Span) -> LineFault {
+    let end = Wanted::Said("the words of the instruction, with one space between two");
+    match empty_word(line) {
+        Some(empty) if empty.from < line.len() => {
+            fault(
+                empty,
+                "There is a space too many: an empty word is between two spaces.",
+                end,
+            )
+        }
+        Some(empty) => fault(empty, "There is a space at the end of the line.", end),
+        None => fault(extra, "Here the instruction has a word too many.", end),
+    }
+}
+
+/// Returns what is wrong with the word in the place of `else`, if that place has another one.
+fn else_fault(line: &[u8], operands: &[Operand]) -> Option<LineFault> {
+    for (at, operand) in operands.iter().enumerate() {
+        let span = word_at(line, at + 1).unwrap_or(behind(line));
+        if *operand == Operand::Else && !is_word(part(line, span), b"else") {
+            let wrong = "This isn't the word `else`.";
+            return Some(fault(span, wrong, Wanted::Operand(Operand::Else)));
+        }
+    }
+    None
+}
+
+fn fits(word: &[u8], operand: Operand) -> bool {
+    match operand {
+        Operand::Variable => marked_number(b'v', 15, word),
+        Operand::Number(low, high) => number_between(low, high, word).is_ok(),
+        Operand::Mode => {
+            is_word(word, b"r")
+                || is_word(word, b"w")
+                || is_word(word, b"rw")
+                || is_word(word, b"wc")
+                || is_word(word, b"rwc")
+        }
+        Operand::Kind => {
+            is_word(word, b"none")
+                || is_word(word, b"num")
+                || is_word(word, b"list")
+                || is_word(word, b"file")
+                || is_word(word, b"sock")
+        }
+        Operand::Else => is_word(word, b"else"),
+        Operand::Target => marked_number(b'@', 255, word),
+    }
+}
+
+/// Returns whether the word is the mark and a number of at most `high` behind it.
+fn marked_number(mark: u8, high: u32, word: &[u8]) -> bool {
+    match word {
+        [first, digits @ ..] => *first == mark && number_between(0, high, digits).is_ok(),
+        [] => false,
+    }
+}
+
+/// Returns what is wrong with a word that doesn't fit in its place.
+fn misfit(word: &[u8], operand: Operand) -> &'static str {
+    if word.is_empty() {
+        return "A word is missing here: there is an empty one between two spaces.";
+    }
+    match operand {
+        Operand::Variable => {
+            if word.starts_with(b"v") {
+                "This is no variable: v, and a number from 0 to 15 without a leading zero."
+            } else {
+                "This is no variable: it doesn't begin with v."
+            }
+        }
+        Operand::Number(_, _) => number_misfit(word),
+        Operand::Mode => "There is no such mode.",
+        Operand::Kind => "There is no such kind.",
+        Operand::Else => "This isn't the word `else`.",
+        Operand::Target => {
+            if word.starts_with(b"@") {
+                "This is no target: @, and a number from 0 to 255 without a leading zero."
+            } else {
+                "This is no target: it doesn't begin with @."
+            }
+        }
+    }
+}
+
+fn number_misfit(word: &[u8]) -> &'static str {
+    if !word.iter().all(|byte| byte.is_ascii_digit()) {
+        "This is no number: it has something else than digits."
+    } else if word.len() > 1 && word.starts_with(b"0") {
+        "This number begins with a zero."
+    } else {
+        "This number is out of range."
+    }
+}

@@ -1,0 +1,316 @@
+//! What is wrong at the point of a refusal, in a sentence about its variables.
+
+use crate::operand_roles::roles_of;
+use crate::state_text::{is_empty, is_owned, slot_at, slot_words, write_variable};
+use crate::walking::reached;
+use brc_check::{CheckCode, Exit, Slot, State};
+use brc_lang::{Instr, Kind, Variable, write_bytes, write_instruction, write_number, write_pieces};
+use std::io;
+use std::io::Write;
+
+/// Writes why the instruction at the end of the path reports the code in the state there.
+pub fn write_why<W: Write>(
+    code: &[Instr],
+    exits: &[Exit],
+    at: usize,
+    state: &State,
+    reported: CheckCode,
+    out: &mut W,
+) -> io::Result<()> {
+    if at >= code.len() {
+        return Ok(());
+    }
+    let instr = code[at];
+    match reported {
+        CheckCode::EmptyUsed => write_empty(code, exits, instr, state, out),
+        CheckCode::WrongKind => write_kind(instr, state, out),
+        CheckCode::NotOwned => write_borrowed(instr, state, out),
+        CheckCode::StillOwns => write_still(instr, state, out),
+        CheckCode::LeftOwned => write_left(instr, state, out),
+        CheckCode::LeftLocked | CheckCode::SecondLock => write_locked(state, out),
+        CheckCode::NotLocked => write_unlocked(instr, state, out),
+        CheckCode::LockedChanged => write_locked(state, out),
+        CheckCode::RunsOff => write_bytes(b"No instruction comes behind this one.\n", out),
+        CheckCode::StatesDiffer | CheckCode::NoMemory => Ok(()),
+    }
+}
+
+/// Returns the first of the instruction's variables that is empty, but for the one that it fills.
+fn empty_one(instr: Instr, state: &State) -> Option<Variable> {
+    let roles = roles_of(instr);
+    for variable in [roles.given, roles.object, roles.used] {
+        if let Some(variable) = variable {
+            if is_empty(slot_at(state, variable)) {
+                return Some(variable);
+            }
+        }
+    }
+    None
+}
+
+fn write_empty<W: Write>(
+    code: &[Instr],
+    exits: &[Exit],
+    instr: Instr,
+    state: &State,
+    out: &mut W,
+) -> io::Result<()> {
+    let Some(variable) = empty_one(instr, state) else {
+        return Ok(());
+    };
+    write_variable(variable, out)?;
+    match emptied(code, exits, variable) {
+        None => write_bytes(b" is empty: nothing was put into it on this path.\n", out),
+        Some((at, cause)) => {
+            write_bytes(b" is empty since @", out)?;
+            write_number(at as u64, out)?;
+            write_bytes(b", `", out)?;
+            write_instruction(cause, out)?;
+            write_bytes(b"`.\n", out)?;
+            write_bytes(reason(&cause, variable).as_bytes(), out)?;
+            write_bytes(b"\n", out)
+        }
+    }
+}
+
+/// Returns the last instruction on the path that left the variable empty, and its number.
+fn emptied(code: &[Instr], exits: &[Exit], variable: Variable) -> Option<(usize, Instr)> {
+    let mut found = None;
+    for taken in 0..exits.len() {
+        let before = reached(code, &exits[..taken]);
+        let after = reached(code, &exits[..taken + 1]);
+        if let (Some((at, before)), Some((_, after))) = (before, after) {
+            if at < code.len() && empties(code[at], &before, &after, variable) {
+                found = Some((at, code[at]));
+            }
+        }
+    }
+    found
+}
+
+/// Returns whether the instruction empties the variable, or should have filled it and didn't.
+fn empties(instr: Instr, before: &State, after: &State, variable: Variable) -> bool {
+    let fills = roles_of(instr).filled == Some(variable);
+    is_empty(slot_at(after, variable)) && (fills || !is_empty(slot_at(before, variable)))
+}
+
+/// Returns why the instruction leaves the variable empty.
+fn reason(instr: &Instr, variable: Variable) -> &'static str {
+    let roles = roles_of(*instr);
+    if roles.filled == Some(variable) {
+        return "On this path it failed, and made nothing.";
+    }
+    let given = roles.given == Some(variable);
+    match instr {
+        Instr::Drop { .. } => "The reference was given up there.",
+        Instr::Move { .. } => "The reference was handed on there.",
+        Instr::Set { .. } if given => { "PyList_SetItem steals the reference, also if it fails." }
+        Instr::Set { .. } | Instr::Put { .. } => {
+            "It borrowed an item, and the list may have freed the item there."
+        }
+        Instr::Unlock { .. } => {
+            "It borrowed an item, and from there on another thread may free the item."
+        }
+        _ => "Nothing is in it from there on.",
+    }
+}
+
+/// Returns the kinds that the instruction wants for its object.
+fn wanted_kinds(instr: &Instr) -> &'static str {
+    match instr {
+        Instr::Lock { .. } => "a list, a file or a socket",
+        Instr::Read { .. } | Instr::Write { .. } => "a file or a socket",
+        _ => "a list",
+    }
+}
+
+/// Returns the kind that the instruction wants for the object of a variable that it only uses.
+fn wanted_kind(instr: &Instr) -> &'static str {
+    match instr {
+        Instr::As { kind, .. } => kind_phrase(*kind),
+        _ => "a number",
+    }
+}
+
+fn kind_phrase(kind: Kind) -> &'static str {
+    match kind {
+        Kind::None => "none",
+        Kind::Num => "a number",
+        Kind::List => "a list",
+        Kind::File => "a file",
+        Kind::Sock => "a socket",
+        Kind::Any => "an object of a kind that isn't known",
+    }
+}
+
+fn kind_of(slot: Slot) -> Kind {
+    match slot {
+        Slot::Empty => Kind::Any,
+        Slot::Owned(kind) | Slot::Caller(kind) | Slot::Locked(kind) => kind,
+    }
+}
+
+/// Returns whether the instruction wants an object of the kind.
+fn is_right(instr: Instr, kind: Kind) -> bool {
+    match instr {
+        Instr::Lock { .. } => matches!(kind, Kind::List | Kind::File | Kind::Sock),
+        Instr::Read { .. } | Instr::Write { .. } => matches!(kind, Kind::File | Kind::Sock),
+        _ => kind == Kind::List,
+    }
+}
+
+fn write_kind<W: Write>(instr: Instr, state: &State, out: &mut W) -> io::Result<()> {
+    let roles = roles_of(instr);
+    if let Some(object) = roles.object {
+        let kind = kind_of(slot_at(state, object));
+        if !is_right(instr, kind) {
+            let wanted = wanted_kinds(&instr);
+            return write_misfit(object, kind, wanted, out);
+        }
+    }
+    if let Some(used) = roles.used {
+        let kind = kind_of(slot_at(state, used));
+        let wanted = wanted_kind(&instr);
+        return write_misfit(used, kind, wanted, out);
+    }
+    Ok(())
+}
+
+fn write_misfit<W: Write>(
+    variable: Variable,
+    kind: Kind,
+    wanted: &str,
+    out: &mut W,
+) -> io::Result<()> {
+    write_variable(variable, out)?;
+    write_bytes(b" is ", out)?;
+    write_bytes(kind_phrase(kind).as_bytes(), out)?;
+    write_pieces(&[b". Wanted: ", wanted.as_bytes(), b".\n"], out)
+}
+
+fn write_borrowed<W: Write>(instr: Instr, state: &State, out: &mut W) -> io::Result<()> {
+    let Some(given) = roles_of(instr).given else {
+        return Ok(());
+    };
+    write_variable(given, out)?;
+    let whose: &[u8] = match slot_at(state, given) {
+        Slot::Locked(_) =>
+            b" borrows an item: the reference is the list's, and isn't given up here.\n",
+        _ => b" borrows from the caller: the reference isn't given up here.\n",
+    };
+    write_bytes(whose, out)
+}
+
+fn write_still<W: Write>(instr: Instr, state: &State, out: &mut W) -> io::Result<()> {
+    let Some(filled) = roles_of(instr).filled else {
+        return Ok(());
+    };
+    write_variable(filled, out)?;
+    let kind = kind_phrase(kind_of(slot_at(state, filled)));
+    write_pieces(
+        &[
+            b" still owns a reference to ",
+            kind.as_bytes(),
+            b", which would be lost.\n",
+        ],
+        out,
+    )
+}
+
+/// Writes which variables own references at the end of a call, but for the one that is returned.
+fn write_left<W: Write>(instr: Instr, state: &State, out: &mut W) -> io::Result<()> {
+    let returned = roles_of(instr).given;
+    for (number, slot) in state.slots.iter().enumerate() {
+        let variable = Variable::new(number as u8);
+        if is_owned(*slot) && returned != Some(variable) {
+            write_variable(variable, out)?;
+            let kind = kind_phrase(kind_of(*slot));
+            write_pieces(
+                &[
+                    b" still owns a reference to ",
+                    kind.as_bytes(),
+                    b", which nobody gives up.\n",
+                ],
+                out,
+            )?;
+        }
+    }
+    Ok(())
+}
+
+fn write_locked<W: Write>(state: &State, out: &mut W) -> io::Result<()> {
+    let Some(locked) = state.locked else {
+        return Ok(());
+    };
+    write_variable(locked, out)?;
+    write_bytes(
+        b" is the locked variable here, and isn't unlocked yet.\n",
+        out,
+    )
+}
+
+fn write_unlocked<W: Write>(instr: Instr, state: &State, out: &mut W) -> io::Result<()> {
+    let Some(object) = roles_of(instr).object else {
+        return Ok(());
+    };
+    write_variable(object, out)?;
+    match state.locked {
+        None => write_bytes(b" isn't locked here, and no other variable is.\n", out),
+        Some(locked) => {
+            write_bytes(b" isn't the locked variable here: ", out)?;
+            write_variable(locked, out)?;
+            write_bytes(b" is.\n", out)
+        }
+    }
+}
+
+/// Writes each variable in which two states differ.
+pub fn write_differences<W: Write>(one: &State, other: &State, out: &mut W) -> io::Result<()> {
+    for (number, (first, second)) in one.slots.iter().zip(other.slots.iter()).enumerate() {
+        if first != second {
+            write_bytes(b"    v", out)?;
+            write_number(number as u64, out)?;
+            write_pair(*first, *second, out)?;
+        }
+    }
+    if one.locked != other.locked {
+        write_bytes(b"    locked: ", out)?;
+        write_lock(one.locked, out)?;
+        write_bytes(b" on the first path, ", out)?;
+        write_lock(other.locked, out)?;
+        write_bytes(b" on the second\n", out)?;
+    }
+    Ok(())
+}
+
+fn write_pair<W: Write>(first: Slot, second: Slot, out: &mut W) -> io::Result<()> {
+    let (how, what) = words_or_empty(first);
+    let (other_how, other_what) = words_or_empty(second);
+    write_pieces(
+        &[
+            b": ",
+            how.as_bytes(),
+            what.as_bytes(),
+            b" on the first path, ",
+            other_how.as_bytes(),
+            other_what.as_bytes(),
+            b" on the second\n",
+        ],
+        out,
+    )
+}
+
+fn words_or_empty(slot: Slot) -> (&'static str, &'static str) {
+    if is_empty(slot) {
+        ("", "empty")
+    } else {
+        slot_words(slot)
+    }
+}
+
+fn write_lock<W: Write>(locked: Option<Variable>, out: &mut W) -> io::Result<()> {
+    match locked {
+        None => write_bytes(b"none", out),
+        Some(variable) => write_variable(variable, out),
+    }
+}

@@ -1,0 +1,42 @@
+//! The words of a line by their places. Single spaces separate them, so two spaces have an empty word between them.
+
+use crate::visible::Span;
+
+/// Returns the place of the word of this number, from 0, or `None` if the line has fewer words.
+pub fn word_at(line: &[u8], number: usize) -> Option<Span> {
+    let mut left = number;
+    let mut from = 0;
+    for (at, byte) in line.iter().enumerate() {
+        if *byte == b' ' {
+            if left == 0 {
+                return Some(Span { from, to: at });
+            }
+            left -= 1;
+            from = at + 1;
+        }
+    }
+    if left > 0 {
+        return None;
+    }
+    Some(Span {
+        from,
+        to: line.len(),
+    })
+}
+
+/// Returns the place of the first empty word, or `None`.
+pub fn empty_word(line: &[u8]) -> Option<Span> {
+    let mut from = 0;
+    for (at, byte) in line.iter().enumerate() {
+        if *byte == b' ' {
+            if at == from {
+                return Some(Span { from, to: from });
+            }
+            from = at + 1;
+        }
+    }
+    if from == line.len() {
+        return Some(Span { from, to: from });
+    }
+    None
+}
