@@ -136,7 +136,7 @@ fn take_line<T: Terminal>(
     let mut left = line.times;
     while left > 0 {
         let times = left.min(PART);
-        world.take(Steps { times, ..line })?;
+        world.take_steps(Steps { times, ..line })?;
         left -= times;
         made = more_made(made, u64::from(times), terminal);
     }

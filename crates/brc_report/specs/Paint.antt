@@ -21,8 +21,8 @@ role_mark Code = rendition (codes "1;31")
 role_mark Aside = rendition (codes "2")
 
 abbrev pub mark_text : Paint → Role → List ℕ
-mark_text Plain role = []
-mark_text Ansi role = role_mark role
+mark_text Plain r = []
+mark_text Ansi r = role_mark r
 
 abbrev pub reset_text : Paint → List ℕ
 reset_text Plain = []

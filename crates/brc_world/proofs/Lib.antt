@@ -3,6 +3,7 @@ pub mod Storing
 pub mod Indices
 pub mod Dispatching
 pub mod Acting
+pub mod Peeking
 pub mod Stepping
 pub mod Waiting
 pub mod Outcomes
@@ -10,3 +11,4 @@ pub mod Answering
 pub mod Tallying
 pub mod MachineTallying
 pub mod Running
+pub mod Tracing

@@ -1,5 +1,5 @@
 -- The words and the thread after a step of the code are those of the model's world after its step.
-use Rattle.std.proofs.Common.{◌≡◌, ◌≢◌, ℕ, Bool, true, false, cond, List, [], Option, Some, inl, inr, refl, sym, ap, ◌∙◌, None}
+use Rattle.std.proofs.Common.{◌≡◌, ◌≢◌, ℕ, Bool, true, false, cond, List, [], Option, Some, inl, inr, refl, sym, ap, ◌∙◌}
 use Rattle.std.specs.Prelude.{◌==◌, not, length, slice_get, slice_set}
 use Rattle.std.proofs.lemmas.Bool.{cases_Bool, and_parts, eqb-true}
 use Rattle.std.proofs.lemmas.Bool.Decides.{eqb_tells}
@@ -175,7 +175,7 @@ pub able : (w : World) (t : ℕ) (a : StepActor) (d : Duty) → IsWithin w t a.a
 able w t a d within = record { there = within.there; suits = within.suits; uses = within.used }
 
 -- The thread can do its action, if each duty that the action may be is within all bounds.
-can_act : (w : World) (t : ℕ) (a : StepActor) (x : Action)
+pub can_act : (w : World) (t : ℕ) (a : StepActor) (x : Action)
     → ((d : Duty) (rest : List Duty) (place : ℕ → Place) → x ≡ Does d rest place → IsWithin w t a.actor d)
     → CanAct w.layout t (row_count w.layout) (length w.actors) w.memory a x
 can_act w t a Skip within = tt

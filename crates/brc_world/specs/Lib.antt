@@ -2,6 +2,7 @@ pub mod Storage
 pub mod Actors
 pub mod Questions
 pub mod Starts
+pub mod Sights
 pub mod Worlds
 pub mod Answers
 pub mod Tallies

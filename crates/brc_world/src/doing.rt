@@ -90,7 +90,7 @@ fn enter(thread: &mut Thread, left: u32, next: usize, found: u64) -> Did
 
 /// Returns the parts of the thread that a duty's effect depends on. `rows` is the number of rows of all threads
 /// together.
-fn doer(layout: Layout, thread: &Thread, number: u8, rows: u32) -> Doer
+pub fn doer(layout: Layout, thread: &Thread, number: u8, rows: u32) -> Doer
     ensures { result ≡ record {
       layout = layout;
       number = number;
@@ -234,7 +234,7 @@ fn finds_mark(memory: &Memory, layout: Layout, number: u8, thread: &Thread, row:
 /// Returns whether the thread may claim the row: it runs, is in no call, has nothing to do, and has used the row of its
 /// block. It may claim no other thread's row, because only the owner may merge an object while it runs
 /// (`claim_of_any_row`).
-fn may_claim(layout: Layout, number: u8, thread: &Thread, row: u32) -> bool
+pub fn may_claim(layout: Layout, number: u8, thread: &Thread, row: u32) -> bool
     requires { 0 < layout.rows }
     ensures { result ≡ may_claim layout number (actor_of thread.now) row }
 {

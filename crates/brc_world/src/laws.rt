@@ -4,8 +4,10 @@ ghost use Rattle.std.specs.Prelude.{◌≡◌, ℕ, List};
 ghost use Rattle.brc_model.specs.declared.thread.Choice.{Choice};
 ghost use Rattle.brc_lang.specs.declared.module.Module.{Module};
 ghost use Rattle.brc_model.specs.StepMachine.{StepMachine, machine_after};
+ghost use Rattle.brc_model.specs.Trace.{events_on};
 ghost use Rattle.brc_model.specs.World.{world_of};
 ghost use Rattle.brc_world.specs.Runs.{world_after};
+ghost use Rattle.brc_world.specs.Sights.{words_seen};
 ghost use Rattle.brc_world.specs.Tallies.{tally_of};
 ghost use Rattle.brc_world.specs.MachineTallies.{IsMachineOf, machine_tally};
 
@@ -20,6 +22,15 @@ use brc_model::{
 pub fn runs_follow_machines()
     ensures { (m : StepMachine) (events : List (ℕ × Choice)) → world_of (machine_after m events)
         ≡ world_after (world_of m) events }
+{
+    worlds_follow_machines();
+}
+
+/// States that the words that a thread's sights show, along any events, are the thread's trace: its word events, in
+/// order, with what each step found and left.
+pub fn sights_are_traces()
+    ensures { (m : StepMachine) (t : ℕ) (events : List (ℕ × Choice)) → words_seen t (world_of m) events
+        ≡ events_on t m events }
 {
     worlds_follow_machines();
 }

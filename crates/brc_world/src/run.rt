@@ -21,15 +21,15 @@ impl World<'_> {
         ensures as_many { length self.new.actors ≡ length self.old.actors }
     {
         for line in schedule.steps.as_slice() {
-            self.take(*line)?;
+            self.take_steps(*line)?;
         }
         Ok(())
     }
 
-    /// Takes the steps of one line of a schedule, which may also be a part of such a line: so a caller that runs a
-    /// schedule line by line can say how far it is. Returns `NoMemory` at the first step that is refused memory, as
-    /// `run` does.
-    pub fn take(&mut self, line: Steps) -> Result<(), NoMemory>
+    /// Takes the steps of one line of a schedule. Returns `NoMemory` at the first step that is refused memory: the steps
+    /// before it have been taken, and it would have changed the world. Once the thread is gone, the rest of its steps
+    /// change nothing, and are not tried.
+    pub fn take_steps(&mut self, line: Steps) -> Result<(), NoMemory>
         requires { line.thread < length self.old.actors }
         ensures done { OnOk result (seen self.new ≡ world_after (seen self.old) (events_of_line line)) }
         ensures stopped { OnErr result (StandsWithin (seen self.old) (events_of_line line) (seen self.new)) }

@@ -5,6 +5,7 @@ ghost use Rattle.brc_model.specs.Safety.{AreCalls};
 ghost use Rattle.brc_model.specs.Actions.{exit_of};
 ghost use Rattle.brc_model.specs.Limits.{row_limit};
 ghost use Rattle.brc_model.specs.World.{first_world, step};
+ghost use Rattle.brc_world.specs.Sights.{sight_at};
 ghost use Rattle.brc_world.specs.Worlds.{seen, choice_of};
 ghost use Rattle.brc_world.specs.Tallies.{used_of, is_born, is_closed_row, rows_born, left_in, tally_of};
 ghost use Rattle.brc_world.specs.MachineTallies.{IsMachineTally};
@@ -13,11 +14,14 @@ ghost use Rattle.brc_model.specs.Layout.{row_count};
 
 use crate::did::Did;
 use crate::doing::{act, claim};
+use crate::event::Sight;
 use crate::faults::Faults;
 use crate::first::first_threads;
 use crate::laws::tallies_follow_machines;
 use crate::memory::{CELLS, Memory, first_memory};
 use crate::no_memory::NoMemory;
+use crate::peek::peek;
+use crate::scratch::Scratch;
 use crate::tally::{kind_numbered, running_in};
 use crate::thread::Thread;
 use brc_check::Checked;
@@ -209,6 +213,31 @@ impl<'a> World<'a> {
         }
     }
 
+    /// Returns what the thread's step by the choice does, without taking it, or `None` if the thread takes no step: it
+    /// is gone, or may not claim the row. A lock that another thread holds, and a claim that finds no mark, change
+    /// nothing, but are steps all the same: each finds a word. Returns `NoMemory` if memory is refused.
+    pub fn next_event(
+        &self,
+        scratch: &mut Scratch,
+        thread: usize,
+        choice: Choice,
+    ) -> Result<Option<Sight>, NoMemory>
+        requires { thread < length self.now.actors }
+        ensures { IfOk result (λ sight. sight ≡ sight_at (seen self.now) thread choice) }
+    {
+        worlds_are_small();
+        steps_are_within();
+        peek(
+            self.accepted.functions.as_slice(),
+            &self.memory,
+            self.layout,
+            thread as u8,
+            &self.threads[thread],
+            choice,
+            &mut scratch.thread,
+        )
+    }
+
     /// Takes one step of the thread, which accesses one word at most, and returns what the step did. Returns
     /// `NoMemory`, with nothing changed, if memory is refused; a step that changes nothing is never refused. The choice
     /// `Fault` means what `Ok` means, unless the step is a host call or a close.
@@ -275,7 +304,7 @@ impl<'a> World<'a> {
 
 /// Returns the exit by which the choice ends a host call or a close.
 #[inline(always)]
-fn exit_of(choice: Choice) -> Exit
+pub fn exit_of(choice: Choice) -> Exit
     ensures { result ≡ exit_of choice }
 {
     match choice {

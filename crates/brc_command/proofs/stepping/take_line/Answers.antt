@@ -8,8 +8,8 @@ pub loop-left-preserved : goal.loop-left-preserved
 loop-left-preserved g c =
     let few : c.min-times.result ≤ c.loop-left.left = grind arith in
     record {
-      leads = part_taken (seen c.loop-left.world) (seen c.take.new.self)
+      leads = part_taken (seen c.loop-left.world) (seen c.take_steps.new.self)
           (world_after (seen c.args.world.now) (events_of_line c.args.line)) (c.args.line.thread, c.args.line.choice)
-          c.loop-left.left c.min-times.result few c.loop-left.invariant.leads c.in_ok-take.ensures.done;
-      as_many = c.in_ok-take.ensures.as_many ∙ c.loop-left.invariant.as_many;
+          c.loop-left.left c.min-times.result few c.loop-left.invariant.leads c.in_ok-take_steps.ensures.done;
+      as_many = c.in_ok-take_steps.ensures.as_many ∙ c.loop-left.invariant.as_many;
     }

@@ -1,6 +1,6 @@
 -- An idle thread with calls left dispatches the first instruction of its next call.
 use Rattle.std.proofs.Common.{◌≡◌, ◌-◌, [], ap, ◌∙◌, reverse}
-use Rattle.std.specs.Prelude.{None, slice_get}
+use Rattle.std.specs.Prelude.{slice_get}
 use Rattle.brc_model.specs.declared.actor.Place.TheVariants.{Idle}
 use Rattle.brc_model.specs.Threads.{code_of}
 use Rattle.brc_model.specs.Actions as model

@@ -1,7 +1,7 @@
 use Rattle.std.proofs.Common.{ap, ◌∙◌, arith}
 use Rattle.brc_world.specs.Worlds.{seen}
 use Rattle.brc_world.proofs.Running.{on_err, gone_done, stopped_at, one_more}
-use Rattle.brc_world.proofs.world.World.take.Goals as goal
+use Rattle.brc_world.proofs.world.World.take_steps.Goals as goal
 
 pub returns-in_err-step-clause-stopped : goal.returns-in_err-step-clause-stopped
 returns-in_err-step-clause-stopped c =

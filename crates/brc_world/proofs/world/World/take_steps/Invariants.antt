@@ -1,7 +1,7 @@
 use Rattle.std.proofs.Common.{◌≡◌, length, replicate}
 use Rattle.brc_world.specs.Worlds.{seen}
 use Rattle.brc_world.specs.Runs.{world_after}
-use Rattle.brc_world.proofs.world.World.take.Given as goal
+use Rattle.brc_world.proofs.world.World.take_steps.Given as goal
 
 abbrev pub invariant-loop : goal.invariant-loop
 invariant-loop l = record {

@@ -1,0 +1,96 @@
+-- A thread that is gone takes no step: its events change nothing, have no entry, and are counted.
+use Rattle.std.proofs.Common.{◌≡◌, ℕ, zero, suc, ◌+◌, ◌∙◌, true, false, List, [], Option, None, Some, slice_get, replicate, min, refl, ap, arith}
+use Rattle.std.proofs.lemmas.Bool.{and_left, and_right}
+use Rattle.brc_model.specs.declared.actor.Status.{Status}
+use Rattle.brc_model.specs.declared.actor.Status.TheVariants.{Running, Leaving, Gone}
+use Rattle.brc_model.specs.declared.layout.Layout.{Layout}
+use Rattle.brc_model.specs.declared.thread.Choice.{Choice}
+use Rattle.brc_model.specs.declared.thread.Choice.TheVariants as choices
+use Rattle.brc_model.specs.Actions.{StepActor, Action, Skip, is_idle, may_claim, action_of, exit_of}
+use Rattle.brc_model.specs.Machine.{is_running}
+use Rattle.brc_model.specs.Safety.{has_gone}
+use Rattle.brc_model.specs.StepMachine.{of_thread, machine_by}
+use Rattle.brc_model.specs.World.{World, world_of, machine_of, step}
+use Rattle.brc_world.specs.declared.event.Part.{Part}
+use Rattle.brc_world.specs.declared.event.Sight.{Sight}
+use Rattle.brc_world.specs.Answers.{is_gone, is_gone_at}
+use Rattle.brc_world.specs.Runs.{world_after}
+use Rattle.brc_world.specs.Sights.{sight_at, sight_by}
+use Rattle.brc_trace.specs.declared.past.Past.{Past}
+use Rattle.brc_trace.specs.TraceText.{past_by, past_after, entries_on, most_number}
+
+claims_none : (layout : Layout) (t : ℕ) (a : StepActor) (row : ℕ) → a.actor.status ≡ Gone
+    → may_claim layout t a row ≡ false
+claims_none layout t a row gone =
+    and_left _ _ (and_left _ _ (and_left _ _ (and_right (is_idle a.place) _ (ap is_running gone))))
+
+status_gone : (s : Status) → has_gone s ≡ true → s ≡ Gone
+status_gone Gone e = refl
+status_gone Running e = absurd cc
+status_gone Leaving e = absurd cc
+
+acts : (w : World) (t : ℕ) (choice : Choice) (a : StepActor) → a.actor.status ≡ Gone
+    → action_of w.functions w.layout t a choice ≡ Skip
+acts w t choices.Ok a gone = rw gone refl
+acts w t choices.Fault a gone = rw gone refl
+acts w t (choices.Claim row) a gone = rw (claims_none w.layout t a row gone) refl
+
+stays_among : (w : World) (t : ℕ) (choice : Choice) (o : Option StepActor) → is_gone o ≡ true
+    → world_of (of_thread (machine_of w) (λ a. machine_by (machine_of w) t a (exit_of choice)
+    (action_of w.functions w.layout t a choice)) o) ≡ w
+stays_among w t choice None e = refl
+stays_among w t choice (Some a) e =
+    ap (λ (action : Action). world_of (machine_by (machine_of w) t a (exit_of choice) action))
+    (acts w t choice a (status_gone a.actor.status e))
+
+unseen_among : (w : World) (t : ℕ) (choice : Choice) (o : Option StepActor) → is_gone o ≡ true
+    → of_thread None (λ a. sight_by w.layout t w.memory a choice (action_of w.functions w.layout t a choice)) o ≡ None
+unseen_among w t choice None e = refl
+unseen_among w t choice (Some a) e =
+    ap (λ (action : Action). sight_by w.layout t w.memory a choice action)
+    (acts w t choice a (status_gone a.actor.status e))
+
+stays : (w : World) (t : ℕ) (choice : Choice) → is_gone_at w t ≡ true → step w t choice ≡ w
+stays w t choice e = stays_among w t choice (slice_get w.actors t) e
+
+unseen : (w : World) (t : ℕ) (choice : Choice) → is_gone_at w t ≡ true → sight_at w t choice ≡ None
+unseen w t choice e = unseen_among w t choice (slice_get w.actors t) e
+
+-- what is remembered after so many steps without a line
+abbrev pub counted_past : Past → ℕ → Past
+counted_past past n = record { parts = past.parts; number = min (past.number + n) most_number }
+
+pub counted_is : (now last : Past) (n : ℕ) → last.parts ≡ now.parts → last.number ≡ min (now.number + n) most_number
+    → last ≡ counted_past now n
+counted_is now last n parts number =
+    ap (λ (ps : List Part). let p : Past = record { parts = ps; number = last.number } in p) parts
+    ∙ ap (λ (m : ℕ). let p : Past = record { parts = now.parts; number = m } in p) number
+
+min_twice : (number n most : ℕ) → min (min (number + 1) most + suc n) most ≡ min (number + suc (suc n)) most
+min_twice number n most = omega arith
+
+module _ (w : World) (t : ℕ) (choice : Choice) (gone : is_gone_at w t ≡ true) where
+  pub gone_world : (n : ℕ) → world_after w (replicate n (t, choice)) ≡ w
+  gone_world zero = refl
+  gone_world (suc n) =
+      ap (λ (v : World). world_after v (replicate n (t, choice))) (stays w t choice gone) ∙ gone_world n
+
+  gone_once : (past : Past) → past_by past t (sight_at w t choice) ≡ counted_past past 1
+  gone_once past = ap (λ (s : Option Sight). past_by past t s) (unseen w t choice gone)
+
+  pub gone_past : (past : Past) (n : ℕ) → past_after w past (replicate (suc n) (t, choice)) ≡ counted_past past (suc n)
+  gone_past past zero = gone_once past
+  gone_past past (suc n) =
+      ap (λ (v : World). past_after v (past_by past t (sight_at w t choice)) (replicate (suc n) (t, choice)))
+      (stays w t choice gone)
+      ∙ ap (λ (p : Past). past_after w p (replicate (suc n) (t, choice))) (gone_once past)
+      ∙ gone_past (counted_past past 1) n
+      ∙ ap (λ (m : ℕ). let p : Past = record { parts = past.parts; number = m } in p)
+      (min_twice past.number n most_number)
+
+  pub gone_entries : (past : Past) (n : ℕ) → entries_on w past (replicate n (t, choice)) ≡ []
+  gone_entries past zero = refl
+  gone_entries past (suc n) =
+      rw (unseen w t choice gone)
+      (ap (λ (v : World). entries_on v (counted_past past 1) (replicate n (t, choice))) (stays w t choice gone)
+      ∙ gone_entries (counted_past past 1) n)

@@ -1,0 +1,5 @@
+mod Gone
+mod Lines
+mod Showing
+mod Traces
+mod Writing

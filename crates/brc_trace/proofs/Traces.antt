@@ -1,0 +1,154 @@
+-- A trace of events after a trace of others. Read `traced_then` and `stops_then` first.
+use Rattle.std.proofs.Common.{◌≡◌, ℕ, ◌∙◌, List, [], ◌∷◌, ◌++◌, Option, Result, Ok, Err, refl, sym, ap, subst, append_assoc}
+use Rattle.std.specs.Io.KnownBytes.{Appends}
+use Rattle.std.specs.Prelude.{OnOk, OnErr}
+use Rattle.std.proofs.lemmas.List.{append-nil}
+use Rattle.brc_lang.specs.Written.{AppendsBeginning}
+use Rattle.std.proofs.lemmas.List.Concat.{flat_map-append}
+use Rattle.std.proofs.lemmas.List.Sums.{fold-append}
+use Rattle.brc_lang.specs.declared.module.Function.{Function}
+use Rattle.brc_report.specs.declared.paint.Paint.{Paint}
+use Rattle.brc_model.specs.declared.thread.Choice.{Choice}
+use Rattle.brc_model.specs.World.{World, step}
+use Rattle.brc_world.specs.Runs.{world_after}
+use Rattle.brc_trace.specs.declared.entry.Entry.{Entry}
+use Rattle.brc_trace.specs.declared.past.Past.{Past}
+use Rattle.brc_trace.specs.EntryTexts.{entry_text}
+use Rattle.brc_trace.specs.TraceText.{past_at, past_after, entries_at, entries_on, lines_text}
+use Rattle.brc_trace.specs.TraceText.{IsTraced, StopsAmong}
+use Rattle.brc_trace.proofs.Writing.{nothing_appended, not_begun, begins_early, begins_late, both_written}
+
+pub on_err : {T E P : Type 0} (r : Result T E) → P → OnErr r P
+on_err (Ok x) p = tt
+on_err (Err e) p = p
+
+-- where a trace is done, its world is the one after its events
+pub made_to : {X E : Type 0} (r : Result X E) (paint : Paint) (functions : List Function) (w : World) (past : Past)
+    (events : List (ℕ × Choice)) (new : World) (now : Past) (a b : Option (List ℕ)) (to : World)
+    → world_after w events ≡ to → OnOk r (IsTraced paint functions w past events new now a b) → OnOk r (new ≡ to)
+made_to (Err e) paint functions w past events new now a b to is done = tt
+made_to (Ok x) paint functions w past events new now a b to is done = done.made ∙ is
+
+-- ---- two lists of events
+
+after_both : (w : World) (xs ys : List (ℕ × Choice)) → world_after w (xs ++ ys) ≡ world_after (world_after w xs) ys
+after_both w xs ys = fold-append (λ (v : World) (event : ℕ × Choice). step v event.0 event.1) w xs ys
+
+past_both : (w : World) (past : Past) (xs ys : List (ℕ × Choice))
+    → past_after w past (xs ++ ys) ≡ past_after (world_after w xs) (past_after w past xs) ys
+past_both w past [] ys = refl
+past_both w past (event ∷ xs) ys = past_both (step w event.0 event.1) (past_at w past event) xs ys
+
+entries_both : (w : World) (past : Past) (xs ys : List (ℕ × Choice))
+    → entries_on w past (xs ++ ys)
+    ≡ entries_on w past xs ++ entries_on (world_after w xs) (past_after w past xs) ys
+entries_both w past [] ys = refl
+entries_both w past (event ∷ xs) ys =
+    let next = step w event.0 event.1 in
+    let then = past_at w past event in
+    ap (λ (l : List Entry). entries_at w past event ++ l) (entries_both next then xs ys)
+    ∙ sym (append_assoc (entries_at w past event) (entries_on next then xs)
+    (entries_on (world_after next xs) (past_after next then xs) ys))
+
+module _ (paint : Paint) (functions : List Function) (w : World) (past : Past) where
+  lines_both : (xs ys : List (ℕ × Choice))
+      → lines_text paint functions (entries_on w past (xs ++ ys))
+      ≡ lines_text paint functions (entries_on w past xs)
+      ++ lines_text paint functions (entries_on (world_after w xs) (past_after w past xs) ys)
+  lines_both xs ys =
+      ap (lines_text paint functions) (entries_both w past xs ys)
+      ∙ flat_map-append (entry_text paint functions) (entries_on w past xs)
+      (entries_on (world_after w xs) (past_after w past xs) ys)
+
+  lines_from : (xs ys : List (ℕ × Choice)) (at : World) (now : Past) → at ≡ world_after w xs → now ≡ past_after w past xs
+      → lines_text paint functions (entries_on w past (xs ++ ys))
+      ≡ lines_text paint functions (entries_on w past xs) ++ lines_text paint functions (entries_on at now ys)
+  lines_from xs ys at now world_is past_is =
+      lines_both xs ys
+      ∙ ap (λ (v : World). lines_text paint functions (entries_on w past xs)
+      ++ lines_text paint functions (entries_on v (past_after w past xs) ys)) (sym world_is)
+      ∙ ap (λ (p : Past). lines_text paint functions (entries_on w past xs)
+      ++ lines_text paint functions (entries_on at p ys)) (sym past_is)
+
+  -- ---- one event
+
+  lines_one : (event : ℕ × Choice) → lines_text paint functions (entries_at w past event)
+      ≡ lines_text paint functions (entries_on w past (event ∷ []))
+  lines_one event = ap (lines_text paint functions) (sym (append-nil (entries_at w past event)))
+
+  pub one_traced : (event : ℕ × Choice) (new : World) (now : Past) (a b : Option (List ℕ)) (bytes : List ℕ)
+      → new ≡ step w event.0 event.1 → now ≡ past_at w past event
+      → bytes ≡ lines_text paint functions (entries_at w past event) → Appends a b bytes
+      → IsTraced paint functions w past (event ∷ []) new now a b
+  one_traced event new now a b bytes made remembers is written = record {
+    made = made;
+    remembers = remembers;
+    written = subst (Appends a b) (is ∙ lines_one event) written;
+  }
+
+  pub one_stopped : (event : ℕ × Choice) (new : World) (a b : Option (List ℕ)) (bytes : List ℕ)
+      → new ≡ step w event.0 event.1 → bytes ≡ lines_text paint functions (entries_at w past event)
+      → AppendsBeginning a b bytes → StopsAmong paint functions w past (event ∷ []) new a b
+  one_stopped event new a b bytes made is begun = record {
+    stands = record { made = event ∷ []; left = []; parts = refl; stands = made };
+    begun = subst (AppendsBeginning a b) (is ∙ lines_one event) begun;
+  }
+
+  -- no event has been made, and nothing written
+  pub none_stopped : (events : List (ℕ × Choice)) (new : World) (a : Option (List ℕ)) → new ≡ w
+      → StopsAmong paint functions w past events new a a
+  none_stopped events new a same = record {
+    stands = record { made = []; left = events; parts = refl; stands = same };
+    begun = not_begun a _;
+  }
+
+  -- ---- one trace after another
+
+  pub traced_none : (a : Option (List ℕ)) → IsTraced paint functions w past [] w past a a
+  traced_none a = record { made = refl; remembers = refl; written = nothing_appended a }
+
+  pub traced_then : (xs ys : List (ℕ × Choice)) (at : World) (now : Past) (new : World) (last : Past)
+      (a b c : Option (List ℕ))
+      → IsTraced paint functions w past xs at now a b
+      → IsTraced paint functions at now ys new last b c
+      → IsTraced paint functions w past (xs ++ ys) new last a c
+  traced_then xs ys at now new last a b c first second = record {
+    made = second.made ∙ ap (λ (v : World). world_after v ys) first.made ∙ sym (after_both w xs ys);
+    remembers =
+        second.remembers ∙ ap (λ (v : World). past_after v now ys) first.made
+        ∙ ap (λ (p : Past). past_after (world_after w xs) p ys) first.remembers ∙ sym (past_both w past xs ys);
+    written =
+        both_written a b c _ _ _ (lines_from xs ys at now first.made first.remembers) first.written second.written;
+  }
+
+  pub stops_then : (xs ys : List (ℕ × Choice)) (at : World) (now : Past) (new : World) (a b c : Option (List ℕ))
+      → IsTraced paint functions w past xs at now a b
+      → StopsAmong paint functions at now ys new b c
+      → StopsAmong paint functions w past (xs ++ ys) new a c
+  stops_then xs ys at now new a b c first second = record {
+    stands = record {
+      made = xs ++ second.stands.made;
+      left = second.stands.left;
+      parts =
+          ap (λ (l : List (ℕ × Choice)). xs ++ l) second.stands.parts
+          ∙ sym (append_assoc xs second.stands.made second.stands.left);
+      stands =
+          second.stands.stands ∙ ap (λ (v : World). world_after v second.stands.made) first.made
+          ∙ sym (after_both w xs second.stands.made);
+    };
+    begun = begins_late a b c _ _ _ (lines_from xs ys at now first.made first.remembers) first.written second.begun;
+  }
+
+  pub stops_before : (xs ys : List (ℕ × Choice)) (new : World) (a b : Option (List ℕ))
+      → StopsAmong paint functions w past xs new a b → StopsAmong paint functions w past (xs ++ ys) new a b
+  stops_before xs ys new a b stop = record {
+    stands = record {
+      made = stop.stands.made;
+      left = stop.stands.left ++ ys;
+      parts =
+          ap (λ (l : List (ℕ × Choice)). l ++ ys) stop.stands.parts
+          ∙ append_assoc stop.stands.made stop.stands.left ys;
+      stands = stop.stands.stands;
+    };
+    begun = begins_early a b _ _ _ (lines_both xs ys) stop.begun;
+  }

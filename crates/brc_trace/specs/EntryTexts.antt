@@ -1,0 +1,64 @@
+-- The line of a step: its number, its thread, the part that it belongs to, its rule, its word and its outcomes.
+use Rattle.std.specs.Prelude.{ℕ, if◌then◌else◌, List, [], ◌++◌, codes, decimal}
+use Rattle.brc_lang.specs.declared.module.Function.{Function}
+use Rattle.brc_lang.specs.Grammar.{line}
+use Rattle.brc_report.specs.declared.paint.Paint.{Paint}
+use Rattle.brc_report.specs.declared.paint.Role.{Role}
+use Rattle.brc_report.specs.declared.paint.Role.TheVariants as roles
+use Rattle.brc_report.specs.Paint.{mark_text, reset_text}
+use Rattle.brc_model.specs.declared.address.Address.{Address}
+use Rattle.brc_model.specs.declared.duty.Duty.{Duty}
+use Rattle.brc_model.specs.declared.slot.Exit.{Exit}
+use Rattle.brc_model.specs.Trace.{is_word}
+use Rattle.brc_world.specs.declared.event.Event.{Event}
+use Rattle.brc_world.specs.declared.event.Event.TheVariants.{Silent, Calls, Does}
+use Rattle.brc_trace.specs.declared.entry.Entry.{Entry}
+use Rattle.brc_trace.specs.Outcomes.{reference_outcome, lock_outcome, phase_outcome, life_outcome, outcome_text, before_next}
+use Rattle.brc_trace.specs.PartTexts.{part_text}
+use Rattle.brc_trace.specs.Rules.{rule_name, rule_at}
+use Rattle.brc_trace.specs.WordTexts.{word_text}
+
+-- what separates the fields of a line
+abbrev pub gap : List ℕ
+gap = codes "  "
+
+abbrev pub painted : Paint → Role → List ℕ → List ℕ
+painted paint part text = mark_text paint part ++ text ++ reset_text paint
+
+-- the word of the step; slots and resources are none
+abbrev pub found_text : Paint → Address → ℕ → ℕ → List ℕ
+found_text paint address found left =
+    if is_word address then gap ++ painted paint roles.Word (word_text address found left) else []
+
+-- what the duty brings about: of a reference, of a lock, of a state, of a life
+abbrev pub duty_text : Paint → Exit → Duty → Address → ℕ → ℕ → List ℕ
+duty_text paint exit d address found left =
+    let reference = reference_outcome d found in
+    let lock = lock_outcome d found in
+    let phase = phase_outcome address found left in
+    let second = before_next gap reference in
+    let third = before_next second lock in
+    outcome_text paint gap reference ++ outcome_text paint second lock ++ outcome_text paint third phase
+    ++ outcome_text paint (before_next third phase) (life_outcome exit d found left)
+
+abbrev pub event_text : Paint → Exit → Event → List ℕ
+event_text paint exit Silent = []
+event_text paint exit (Calls _) = []
+event_text paint exit (Does d address found left) =
+    found_text paint address found left ++ duty_text paint exit d address found left
+
+-- the number of the step, and its thread
+abbrev pub opening_text : Paint → ℕ → ℕ → List ℕ
+opening_text paint number thread =
+    painted paint roles.Aside (decimal number) ++ codes "  thread " ++ decimal thread ++ gap
+
+-- the part that the step belongs to, and its rule
+abbrev pub naming_text : Paint → List Function → Entry → List ℕ
+naming_text paint functions e =
+    painted paint roles.Part (part_text functions e.sight.function e.part) ++ gap
+    ++ painted paint roles.Rule (rule_name (rule_at e.thread e.sight.running e.sight.event))
+
+unfoldable pub entry_text : Paint → List Function → Entry → List ℕ
+entry_text paint functions e =
+    opening_text paint e.number e.thread ++ naming_text paint functions e
+    ++ line (event_text paint e.sight.exit e.sight.event)

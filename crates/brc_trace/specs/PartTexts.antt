@@ -1,0 +1,31 @@
+-- What a step belongs to, as a reader of a trace sees it.
+use Rattle.std.specs.Prelude.{ℕ, List, [], ◌++◌, Option, None, Some, slice_get, codes, decimal}
+use Rattle.brc_lang.specs.declared.module.Function.{Function}
+use Rattle.brc_lang.specs.declared.module.Instr.{Instr}
+use Rattle.brc_lang.specs.Grammar.{instruction}
+use Rattle.brc_world.specs.declared.event.ExitPart.{ExitPart}
+use Rattle.brc_world.specs.declared.event.ExitPart.TheVariants.{Root, Leave, Marks, Gone}
+use Rattle.brc_world.specs.declared.event.Part.{Part}
+use Rattle.brc_world.specs.declared.event.Part.TheVariants.{Instruction, Claim, Exit}
+
+-- the instruction as a module spells it
+abbrev pub instr_text : Option Instr → List ℕ
+instr_text None = []
+instr_text (Some i) = codes " " ++ instruction i
+
+-- the function's name, the instruction's number from 0, and the instruction
+abbrev pub point_text : Option Function → ℕ → List ℕ
+point_text None at = codes "@" ++ decimal at
+point_text (Some f) at = f.name ++ codes " @" ++ decimal at ++ instr_text (slice_get f.code at)
+
+abbrev pub exit_text : ExitPart → List ℕ
+exit_text Root = codes "exit: root"
+exit_text Leave = codes "exit: leave"
+exit_text Marks = codes "exit: marks"
+exit_text Gone = codes "exit: gone"
+
+-- the part of the work of a thread that calls the function of this number
+abbrev pub part_text : List Function → ℕ → Part → List ℕ
+part_text functions number (Instruction at) = point_text (slice_get functions number) at
+part_text functions number (Claim row) = codes "claim of row " ++ decimal row
+part_text functions number (Exit part) = exit_text part

@@ -1,0 +1,100 @@
+-- The trace of a list of events: the lines of its steps, in order. A thread that is gone, and one that may not claim a
+-- row, takes no step and has no line, but its event is counted.
+use Rattle.std.specs.Prelude.{◌≡◌, ℕ, ◌+◌, ◌^◌, ◌-◌, min, List, [], ◌∷◌, ◌++◌, length, Option, None, Some, slice_index_or, slice_set, replicate}
+use Rattle.std.specs.List.{flat_map}
+use Rattle.std.specs.Io.KnownBytes.{Appends}
+use Rattle.brc_lang.specs.declared.module.Function.{Function}
+use Rattle.brc_lang.specs.Written.{AppendsBeginning}
+use Rattle.brc_report.specs.declared.paint.Paint.{Paint}
+use Rattle.brc_model.specs.declared.thread.Choice.{Choice}
+use Rattle.brc_model.specs.World.{World, step}
+use Rattle.brc_world.specs.declared.event.Part.{Part}
+use Rattle.brc_world.specs.declared.event.Part.TheVariants.{Instruction}
+use Rattle.brc_world.specs.declared.event.Sight.{Sight}
+use Rattle.brc_world.specs.Runs.{world_after}
+use Rattle.brc_world.specs.Sights.{sight_at}
+use Rattle.brc_trace.specs.declared.entry.Entry.{Entry}
+use Rattle.brc_trace.specs.declared.past.Past.{Past}
+use Rattle.brc_trace.specs.EntryTexts.{entry_text}
+
+-- ---- what a trace remembers
+
+-- the part of a thread's work before its first step, whose sight names its part
+abbrev pub first_part : Part
+first_part = Instruction 0
+
+abbrev pub first_past : ℕ → Past
+first_past threads = record { parts = replicate threads first_part; number = 1 }
+
+-- the part that a step belongs to: the one that its sight names, or else that of the thread's last step
+abbrev pub part_now : List Part → ℕ → Option Part → Part
+part_now parts t None = slice_index_or parts t first_part
+part_now parts t (Some part) = part
+
+abbrev pub parts_by : List Part → ℕ → Option Sight → List Part
+parts_by parts t None = parts
+parts_by parts t (Some sight) = slice_set parts t (part_now parts t sight.begins)
+
+-- the greatest number of a step: those behind it have it too
+abbrev pub most_number : ℕ
+most_number = 2 ^ 64 - 1
+
+-- what is remembered after an event of thread t
+abbrev pub past_by : Past → ℕ → Option Sight → Past
+past_by past t sight =
+    record { parts = parts_by past.parts t sight; number = min (past.number + 1) most_number }
+
+-- ---- the entries
+
+abbrev pub entries_by : Past → ℕ → Option Sight → List Entry
+entries_by past t None = []
+entries_by past t (Some sight) =
+    record { number = past.number; thread = t; part = part_now past.parts t sight.begins; sight = sight } ∷ []
+
+abbrev pub entries_at : World → Past → ℕ × Choice → List Entry
+entries_at w past event = entries_by past event.0 (sight_at w event.0 event.1)
+
+abbrev pub past_at : World → Past → ℕ × Choice → Past
+past_at w past event = past_by past event.0 (sight_at w event.0 event.1)
+
+-- Returns the entries of the events, one for each step, from a world and what is remembered there.
+abbrev pub entries_on : World → Past → List (ℕ × Choice) → List Entry
+entries_on w past [] = []
+entries_on w past (event ∷ rest) =
+    entries_at w past event ++ entries_on (step w event.0 event.1) (past_at w past event) rest
+
+abbrev pub past_after : World → Past → List (ℕ × Choice) → Past
+past_after w past [] = past
+past_after w past (event ∷ rest) = past_after (step w event.0 event.1) (past_at w past event) rest
+
+-- ---- the text
+
+abbrev pub lines_text : Paint → List Function → List Entry → List ℕ
+lines_text paint functions entries = flat_map (entry_text paint functions) entries
+
+-- Returns the trace of the events from a world in which no step has been taken yet.
+abbrev pub trace_text : Paint → World → List (ℕ × Choice) → List ℕ
+trace_text paint w events =
+    lines_text paint w.functions (entries_on w (first_past (length w.actors)) events)
+
+-- ---- a trace that is written
+
+-- The world after the first events of the list.
+pub record StandsAmong (old : World) (events : List (ℕ × Choice)) (new : World) : Type 0 where
+  pub made : List (ℕ × Choice)
+  pub left : List (ℕ × Choice)
+  pub parts : events ≡ made ++ left
+  pub stands : new ≡ world_after old made
+
+-- All events have been made, and their lines written.
+pub record IsTraced (paint : Paint) (functions : List Function) (old : World) (past : Past)
+    (events : List (ℕ × Choice)) (new : World) (now : Past) (before after : Option (List ℕ)) : Type 0 where
+  pub made : new ≡ world_after old events
+  pub remembers : now ≡ past_after old past events
+  pub written : Appends before after (lines_text paint functions (entries_on old past events))
+
+-- Some of the events have been made, and a beginning of their lines is written.
+pub record StopsAmong (paint : Paint) (functions : List Function) (old : World) (past : Past)
+    (events : List (ℕ × Choice)) (new : World) (before after : Option (List ℕ)) : Type 0 where
+  pub stands : StandsAmong old events new
+  pub begun : AppendsBeginning before after (lines_text paint functions (entries_on old past events))

@@ -1,0 +1,68 @@
+//! What a step belongs to: an instruction, a claim, or a part of a thread's exit.
+
+ghost use Rattle.std.specs.Prelude.{◌≡◌, ◌++◌, OnOk, Some, slice_get};
+ghost use Rattle.brc_trace.specs.PartTexts.{instr_text, point_text, exit_text, part_text};
+
+use crate::line::Line;
+use brc_lang::{Function, Instr};
+use brc_world::{ExitPart, Part};
+use std::alloc::AllocError;
+
+/// Adds the part of the work of a thread that calls the function with the number.
+pub fn show_part(
+    functions: &[Function],
+    number: usize,
+    part: Part,
+    line: &mut Line,
+) -> Result<(), AllocError>
+    ensures { OnOk result (line.new ≡ line.old ++ part_text functions.now number part) }
+{
+    match part {
+        Part::Instruction { at } => match functions.get(number) {
+            Some(function) => show_point(function, at, line),
+            None => {
+                line.text("@")?;
+                line.number(at as u64)
+            }
+        },
+        Part::Claim { row } => {
+            line.text("claim of row ")?;
+            line.number(u64::from(row))
+        }
+        Part::Exit(part) => line.text(exit_name(part)),
+    }
+}
+
+/// Adds the function's name, the instruction's number and the instruction.
+fn show_point(function: &Function, at: usize, line: &mut Line) -> Result<(), AllocError>
+    ensures { OnOk result (line.new ≡ line.old ++ point_text (Some function.now) at) }
+{
+    line.bytes(function.name.as_bytes())?;
+    line.text(" @")?;
+    line.number(at as u64)?;
+    show_instr(function.code.as_slice(), at, line)
+}
+
+/// Adds the instruction as a module spells it, if the code has it.
+fn show_instr(code: &[Instr], at: usize, line: &mut Line) -> Result<(), AllocError>
+    ensures { OnOk result (line.new ≡ line.old ++ instr_text (slice_get code.now at)) }
+{
+    match code.get(at) {
+        Some(instr) => {
+            line.text(" ")?;
+            line.instruction(*instr)
+        }
+        None => Ok(()),
+    }
+}
+
+fn exit_name(part: ExitPart) -> &'static str
+    ensures { result.now ≡ exit_text part }
+{
+    match part {
+        ExitPart::Root => "exit: root",
+        ExitPart::Leave => "exit: leave",
+        ExitPart::Marks => "exit: marks",
+        ExitPart::Gone => "exit: gone",
+    }
+}

@@ -1,0 +1,260 @@
+//! A look at a thread's next step: what the step does is found out without taking it.
+
+ghost use Rattle.std.specs.Prelude.{◌≡◌, ◌<◌, ◌≤◌, length, reverse, IfOk, None};
+ghost use Rattle.std.specs.List.{list_any};
+ghost use Rattle.brc_model.specs.Actions.{action_of, status_action};
+ghost use Rattle.brc_model.specs.Duties.{address_of};
+ghost use Rattle.brc_model.specs.Limits.{worker_limit, total_limit};
+ghost use Rattle.brc_model.specs.Within.{IsThere};
+ghost use Rattle.brc_world.specs.Actors.{actor_of, CanDo, CanAct};
+ghost use Rattle.brc_world.specs.Sights.{is_leave, is_scan, leaves_next, exit_part, next_part, begins_at, duty_event, kind_born, sight_of, sight_by};
+ghost use Rattle.brc_world.specs.Storage.{word_in};
+
+use crate::address::address_of;
+use crate::dispatch::{Start, first_duty};
+use crate::doing::{doer, may_claim};
+use crate::event::{Event, ExitPart, Part, Sight};
+use crate::memory::Memory;
+use crate::no_memory::NoMemory;
+use crate::scratch::copy_thread;
+use crate::tally::kind_numbered;
+use crate::thread::{Mode, Thread};
+use crate::world::exit_of;
+use brc_lang::{Function, Kind};
+use brc_model::{Address, Choice, Duty, Layout, Status};
+use brc_word::kind_number;
+
+/// Returns the sight of the thread's step by the choice, or `None` if it takes no step: it is gone, or may not claim the
+/// row. `copy` becomes a copy of the thread whose step has started. Returns `NoMemory` if memory is refused.
+pub fn peek(
+    functions: &[Function],
+    memory: &Memory,
+    layout: Layout,
+    number: u8,
+    thread: &Thread,
+    choice: Choice,
+    copy: &mut Thread,
+) -> Result<Option<Sight>, NoMemory>
+    requires some_rows { 0 < layout.rows }
+    requires small { length memory.now.local ≤ total_limit }
+    requires known { number ≤ worker_limit }
+    requires can { CanAct layout number (length memory.now.local) (length memory.now.thread) (word_in memory.now)
+        (actor_of thread.now) (action_of functions.now layout number (actor_of thread.now) choice) }
+    ensures { IfOk result (λ sight. sight ≡ sight_by layout number (word_in memory.now) (actor_of thread.now) choice
+        (action_of functions.now layout number (actor_of thread.now) choice)) }
+{
+    match choice {
+        Choice::Ok | Choice::Fault => {
+            peek_ahead(functions, memory, layout, number, thread, choice, copy)
+        }
+        Choice::Claim { row } => {
+            if !may_claim(layout, number, thread, row) {
+                return Ok(None);
+            }
+            let duty = Duty::ClaimMark { row };
+            Ok(Some(see_duty(memory, layout, number, thread, choice, &duty)))
+        }
+    }
+}
+
+/// Returns the sight of the thread's step by a choice that is no claim, or `None` if the thread is gone. The copy's step
+/// is started, by which the thread's action is known; the thread itself stays as it is.
+fn peek_ahead(
+    functions: &[Function],
+    memory: &Memory,
+    layout: Layout,
+    number: u8,
+    thread: &Thread,
+    choice: Choice,
+    copy: &mut Thread,
+) -> Result<Option<Sight>, NoMemory>
+    requires some_rows { 0 < layout.rows }
+    requires small { length memory.now.local ≤ total_limit }
+    requires known { number ≤ worker_limit }
+    requires can { CanAct layout number (length memory.now.local) (length memory.now.thread) (word_in memory.now)
+        (actor_of thread.now) (status_action functions.now layout number (actor_of thread.now) thread.now.status) }
+    ensures { IfOk result (λ sight. sight ≡ sight_by layout number (word_in memory.now) (actor_of thread.now) choice
+        (status_action functions.now layout number (actor_of thread.now) thread.now.status)) }
+{
+    if let Status::Gone = thread.status {
+        return Ok(None);
+    }
+    copy_thread(thread, copy)?;
+    match first_duty(functions, layout, number, copy) {
+        Start::Stuck => Ok(None),
+        Start::Moved => Ok(Some(sight_of(thread, choice, Event::Silent, None))),
+        Start::Calling(_) => {
+            let event = Event::Calls(exit_of(choice));
+            Ok(Some(sight_of(thread, choice, event, None)))
+        }
+        Start::Doing(duty) => Ok(Some(see_duty(memory, layout, number, thread, choice, &duty))),
+        Start::Asking { duty, .. } => {
+            Ok(Some(see_duty(memory, layout, number, thread, choice, &duty)))
+        }
+        Start::Locking { row, .. } => {
+            let duty = Duty::LockGate { row };
+            Ok(Some(see_duty(memory, layout, number, thread, choice, &duty)))
+        }
+    }
+}
+
+/// Returns the sight of the thread's step by the choice, which does the duty.
+fn see_duty(
+    memory: &Memory,
+    layout: Layout,
+    number: u8,
+    thread: &Thread,
+    choice: Choice,
+    duty: &Duty,
+) -> Sight
+    requires some_rows { 0 < layout.rows }
+    requires small { length memory.now.local ≤ total_limit }
+    requires known { number ≤ worker_limit }
+    requires can { CanDo layout number (length memory.now.local) (length memory.now.thread) (word_in memory.now)
+        (actor_of thread.now) duty.now }
+    ensures { result ≡ sight_of (actor_of thread.now) choice (duty_event layout number (word_in memory.now)
+        (actor_of thread.now) duty.now) (kind_born (word_in memory.now) duty.now) }
+{
+    let event = duty_event(memory, layout, number, thread, duty);
+    sight_of(
+        thread,
+        choice,
+        event,
+        kind_born(memory, layout, number, thread, duty),
+    )
+}
+
+/// Returns the event of the thread's duty: what it finds in its word, and what it would leave there
+/// (`word_after_for_before`). A compare-exchange that fails is an event too: the thread found a word by which it retries
+/// (`lost_exchange_unseen`).
+fn duty_event(memory: &Memory, layout: Layout, number: u8, thread: &Thread, duty: &Duty) -> Event
+    requires some_rows { 0 < layout.rows }
+    requires small { length memory.now.local ≤ total_limit }
+    requires known { number ≤ worker_limit }
+    requires can { CanDo layout number (length memory.now.local) (length memory.now.thread) (word_in memory.now)
+        (actor_of thread.now) duty.now }
+    ensures { result ≡ duty_event layout number (word_in memory.now) (actor_of thread.now) duty.now }
+{
+    let all = memory.rows() as u32;
+    let address = address_of(layout, number, thread.head, *duty);
+    let found = memory.load(address);
+    let by = doer(layout, thread, number, all);
+    let effect = by.effect(*duty, found);
+    Event::Does {
+        duty: *duty,
+        address,
+        found,
+        left: effect.word,
+    }
+}
+
+/// Returns the kind of the object that the duty makes, by its kind word, or `None` if the duty is no birth's last one.
+fn kind_born(
+    memory: &Memory,
+    layout: Layout,
+    number: u8,
+    thread: &Thread,
+    duty: &Duty,
+) -> Option<Kind>
+    requires { IsThere (length memory.now.local) (length memory.now.thread)
+        (address_of layout number thread.now.head duty.now) }
+    ensures { result ≡ kind_born (word_in memory.now) duty.now }
+{
+    match *duty {
+        Duty::BirthLocal { row, .. } => {
+            let word = memory.load(Address::KindOf { row });
+            Some(kind_numbered(kind_number(word)))
+        }
+        _ => None,
+    }
+}
+
+/// Returns the sight of the thread's step by the choice, which is the event.
+fn sight_of(thread: &Thread, choice: Choice, event: Event, born: Option<Kind>) -> Sight
+    ensures { result ≡ sight_of (actor_of thread.now) choice event born }
+{
+    Sight {
+        begins: begins_at(thread, choice),
+        event,
+        function: thread.function,
+        running: matches!(thread.status, Status::Running),
+        head: thread.head,
+        exit: exit_of(choice),
+        born,
+    }
+}
+
+/// Returns the part of the thread's work to which its step by the choice belongs, if the thread's state says it.
+fn begins_at(thread: &Thread, choice: Choice) -> Option<Part>
+    ensures { result ≡ begins_at (actor_of thread.now) choice }
+{
+    match choice {
+        Choice::Ok | Choice::Fault => next_part(thread),
+        Choice::Claim { row } => Some(Part::Claim { row }),
+    }
+}
+
+/// Returns the part of the thread's work to which its next step belongs, if the thread's state says it. Each step of an
+/// exit says its part. Other steps say it only if they begin an instruction or go on inside one: a duty doesn't know
+/// for which instruction it is done (`part_of_the_first_instruction`).
+fn next_part(thread: &Thread) -> Option<Part>
+    ensures { result ≡ next_part (actor_of thread.now).place (actor_of thread.now).actor.agenda }
+{
+    let rests = thread.agenda.is_empty();
+    match thread.mode {
+        Mode::Exiting => Some(Part::Exit(exit_part(thread.agenda.as_slice()))),
+        Mode::Idle if rests && thread.left == 0 => Some(Part::Exit(ExitPart::Root)),
+        Mode::Idle if rests => Some(Part::Instruction { at: 0 }),
+        Mode::InCall | Mode::Inside(_) if rests => Some(Part::Instruction { at: thread.at }),
+        _ => None,
+    }
+}
+
+/// Returns the part of its exit in which a thread with this agenda is. The last duty is done next.
+#[tactic(auto, using(crate::proofs::Peeking::any_reversed))]
+fn exit_part(agenda: &[Duty]) -> ExitPart
+    ensures { result ≡ exit_part (reverse agenda.now) }
+{
+    if leaves_next(agenda) {
+        ExitPart::Leave
+    } else if leaves_later(agenda) {
+        ExitPart::Root
+    } else if scans(agenda) {
+        ExitPart::Marks
+    } else {
+        ExitPart::Gone
+    }
+}
+
+fn leaves_next(agenda: &[Duty]) -> bool
+    ensures { result ≡ leaves_next (reverse agenda.now) }
+{
+    match agenda.last() {
+        Some(duty) => is_leave(*duty),
+        None => false,
+    }
+}
+
+fn leaves_later(agenda: &[Duty]) -> bool
+    ensures { result ≡ list_any is_leave agenda.now }
+{
+    agenda.iter().any(|duty| is_leave(*duty))
+}
+
+fn scans(agenda: &[Duty]) -> bool
+    ensures { result ≡ list_any is_scan agenda.now }
+{
+    agenda.iter().any(|duty| is_scan(*duty))
+}
+
+fn is_leave(duty: Duty) -> bool
+    ensures { result ≡ is_leave duty }
+{
+    matches!(duty, Duty::Leave { .. })
+}
+
+fn is_scan(duty: Duty) -> bool
+    ensures { result ≡ is_scan duty }
+{
+    matches!(duty, Duty::Scan { .. })
+}
