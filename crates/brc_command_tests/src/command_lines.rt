@@ -137,10 +137,35 @@ fn refuses_numbers(rt: HostRuntime) {
     }
 }
 
+// Each asks for an explanation that has this part.
+#[test]
+fn explains_by_command_lines(rt: HostRuntime) {
+    let cases: [(&[&str], &[u8]); 7] = [
+        (&["brc", "explain", "m.brc"], b"f"),
+        (&["brc", "explain", "-"], b"f"),
+        (&["brc", "explain", "m.brc", "--function", "f"], b"f"),
+        (&["brc", "explain", "--code", "C1"], b"C1"),
+        (&["brc", "explain", "--code", "C12"], b"C12"),
+        (&["brc", "explain", "--code", "L1"], b"L1"),
+        (&["brc", "explain", "--code", "L8"], b"L8"),
+    ];
+    for (words, part) in cases {
+        let (out, err, status) = outputs(&rt, words);
+        assert!(rt;
+            out.as_slice()
+                .windows(part.len().max(1))
+                .any(|seen| seen == part),
+            "{words:?}"
+        );
+        assert!(rt; err.is_empty(), "{words:?}");
+        assert_eq!(rt; status, 0, "{words:?}");
+    }
+}
+
 // The command line is read before any file: there is no `n.brc`.
 #[test]
 fn refuses_command_lines(rt: HostRuntime) {
-    let cases: [(&[&str], &[u8]); 19] = [
+    let cases: [(&[&str], &[u8]); 27] = [
         (&["brc"], b"error: "),
         (&["brc", "walk", "m.brc"], b"error: "),
         (&["brc", "run", "--call", "f"], b"error: "),
@@ -161,6 +186,17 @@ fn refuses_command_lines(rt: HostRuntime) {
         (&["brc", "run", "--help"], b"Checks "),
         (&["brc", "check", "--help"], b"Checks "),
         (&["brc", "step", "--help"], b"Checks "),
+        (&["brc", "explain"], b"error: "),
+        (&["brc", "explain", "n.brc", "s.txt"], b"error: "),
+        (&["brc", "explain", "n.brc", "--function"], b"error: "),
+        (&["brc", "explain", "n.brc", "--code", "C5"], b"error: "),
+        (&["brc", "explain", "--code", "C13"], b"error: "),
+        (&["brc", "explain", "--code", "c5"], b"error: "),
+        (
+            &["brc", "explain", "--code", "C5", "--function", "f"],
+            b"error: ",
+        ),
+        (&["brc", "explain", "--help"], b"Explains "),
         (&["brc", "step", "n.brc", "s.txt"], b"unreadable file\n"),
         (&["brc", "step", "-", "-"], b"unreadable file\n"),
     ];
@@ -171,7 +207,7 @@ fn refuses_command_lines(rt: HostRuntime) {
 
 #[test]
 fn help_has_an_example(rt: HostRuntime) {
-    let cases: [(&[&str], &[u8]); 4] = [
+    let cases: [(&[&str], &[u8]); 5] = [
         (&["brc", "--help"], b"Example: brc check module.brc\n"),
         (
             &["brc", "check", "--help"],
@@ -184,6 +220,10 @@ fn help_has_an_example(rt: HostRuntime) {
         (
             &["brc", "step", "--help"],
             b"Example: brc step module.brc steps.schedule\n",
+        ),
+        (
+            &["brc", "explain", "--help"],
+            b"Example: brc explain module.brc --function f\n         brc explain --code C5\n",
         ),
     ];
     for (words, end) in cases {

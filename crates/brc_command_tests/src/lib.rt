@@ -8,6 +8,8 @@ mod command_lines;
 #[cfg(test)]
 mod commands;
 #[cfg(test)]
+mod explanations;
+#[cfg(test)]
 mod host;
 #[cfg(test)]
 mod items;
@@ -21,5 +23,7 @@ mod loops;
 mod paths;
 #[cfg(test)]
 mod steps;
+#[cfg(test)]
+mod terminals;
 #[cfg(test)]
 mod worked;
