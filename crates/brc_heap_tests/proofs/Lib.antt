@@ -1,1 +1,2 @@
 pub mod Readiness
+mod Marking

@@ -9,3 +9,5 @@ mod calls;
 mod hands;
 #[cfg(test)]
 mod root;
+#[cfg(test)]
+mod single;
