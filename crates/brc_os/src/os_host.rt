@@ -1,0 +1,116 @@
+use crate::os_resource::OsResource;
+use bitflags::Flags;
+use brc_host::{Fault, Host, HostCounts};
+use brc_lang::Mode;
+use std::fs::{File, OpenOptions};
+use std::net::{Net, SocketAddr, TcpStream};
+use std::rt::Files;
+
+/// The most bytes of one read.
+const MOST_BYTES: usize = 4096;
+
+/// The files and the peers that a run was given, by their numbers from 0.
+///
+/// No contract can say what files and peers hold, nor whether the system fails: it says how the calls are counted.
+#[derive(Drop)]
+pub struct OsHost<'r, R> {
+    rt: &'r R,
+    paths: &'r [String],
+    peers: &'r [String],
+    counts: HostCounts,
+}
+
+impl<'r, R: Files<File = File> + Net<Stream = TcpStream>> OsHost<'r, R> {
+    /// Returns a host over the system behind `rt`. A peer is an IP address and a port, as `127.0.0.1:8080`; to connect
+    /// to another text fails.
+    pub fn new(rt: &'r R, paths: &'r [String], peers: &'r [String]) -> OsHost<'r, R> {
+        OsHost {
+            rt,
+            paths,
+            peers,
+            counts: HostCounts::new(),
+        }
+    }
+
+    // Opens the file as the mode says. What it holds stays (POSIX open, without O_TRUNC).
+    fn file(&self, path: u8, mode: Mode) -> Result<OsResource, Fault> {
+        let Some(path) = self.paths.get(usize::from(path)) else {
+            return Err(Fault);
+        };
+        let is_written = mode.contains(Mode::WRITE);
+        let mut options = OpenOptions::new();
+        options.read(mode.contains(Mode::READ));
+        options.write(is_written);
+        options.create(mode.contains(Mode::CREATE));
+        match options.open(self.rt, path.as_str()) {
+            Ok(file) if is_written => Ok(OsResource::WrittenFile(file)),
+            Ok(file) => Ok(OsResource::ReadFile(file)),
+            Err(_) => Err(Fault),
+        }
+    }
+
+    fn connection(&self, peer: u8) -> Result<OsResource, Fault> {
+        let Some(peer) = self.peers.get(usize::from(peer)) else {
+            return Err(Fault);
+        };
+        let Ok(address) = peer.as_str().parse::<SocketAddr>() else {
+            return Err(Fault);
+        };
+        match self.rt.connect(address) {
+            Ok(stream) => Ok(OsResource::Peer(stream)),
+            Err(_) => Err(Fault),
+        }
+    }
+}
+
+impl<R: Files<File = File> + Net<Stream = TcpStream>> Host for OsHost<'_, R> {
+    type Res = OsResource;
+
+    ghost counts = { λ host. host.counts };
+
+    fn open(&mut self, path: u8, mode: Mode) -> Result<OsResource, Fault> {
+        let file = self.file(path, mode);
+        self.counts.count_opening(&file);
+        file
+    }
+
+    fn connect(&mut self, peer: u8) -> Result<OsResource, Fault> {
+        let connection = self.connection(peer);
+        self.counts.count_opening(&connection);
+        connection
+    }
+
+    fn read(&mut self, from: &mut OsResource, most: u16) -> Result<u16, Fault> {
+        let mut buffer = [0u8; MOST_BYTES];
+        let got = match from.read(&mut buffer[..usize::from(most)]) {
+            Ok(got) => Ok(got as u16),
+            Err(_) => Err(Fault),
+        };
+        self.counts.count_use(&got);
+        got
+    }
+
+    fn write(&mut self, to: &mut OsResource, bytes: &[u8]) -> Result<(), Fault> {
+        let written = to.write(bytes).or(Err(Fault));
+        self.counts.count_use(&written);
+        written
+    }
+
+    fn close(&mut self, resource: OsResource) -> Result<(), Fault> {
+        let closed = resource.close().or(Err(Fault));
+        self.counts.count_close(&closed);
+        closed
+    }
+
+    fn failures(&self) -> u64 {
+        self.counts.failures
+    }
+
+    fn opened(&self) -> u64 {
+        self.counts.opened
+    }
+
+    fn closed(&self) -> u64 {
+        self.counts.closed
+    }
+}
