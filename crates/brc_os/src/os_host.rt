@@ -1,8 +1,12 @@
+ghost use Rattle.std.specs.Prelude.{◌≡◌};
+ghost use Rattle.brc_host.specs.HostCounts.{no_counts};
+
 use crate::os_resource::OsResource;
 use bitflags::Flags;
 use brc_host::{Fault, Host, HostCounts};
 use brc_lang::Mode;
 use std::fs::{File, OpenOptions};
+use std::marker::Model;
 use std::net::{Net, SocketAddr, TcpStream};
 use std::rt::Files;
 
@@ -20,10 +24,21 @@ pub struct OsHost<'r, R> {
     counts: HostCounts,
 }
 
+// A contract sees what it has counted, and nothing else.
+impl<'r, R> Model for OsHost<'r, R> {
+    ghost use Rattle.brc_host.specs.declared.counts.HostCounts.{HostCounts};
+
+    ghost Value = { HostCounts };
+
+    ghost view = { λ host. host.counts };
+}
+
 impl<'r, R: Files<File = File> + Net<Stream = TcpStream>> OsHost<'r, R> {
     /// Returns a host over the system behind `rt`. A peer is an IP address and a port, as `127.0.0.1:8080`; to connect
     /// to another text fails.
-    pub fn new(rt: &'r R, paths: &'r [String], peers: &'r [String]) -> OsHost<'r, R> {
+    pub fn new(rt: &'r R, paths: &'r [String], peers: &'r [String]) -> OsHost<'r, R>
+        ensures { result ≡ no_counts }
+    {
         OsHost {
             rt,
             paths,
@@ -66,7 +81,7 @@ impl<'r, R: Files<File = File> + Net<Stream = TcpStream>> OsHost<'r, R> {
 impl<R: Files<File = File> + Net<Stream = TcpStream>> Host for OsHost<'_, R> {
     type Res = OsResource;
 
-    ghost counts = { λ host. host.counts };
+    ghost counts = { λ host. host };
 
     fn open(&mut self, path: u8, mode: Mode) -> Result<OsResource, Fault> {
         let file = self.file(path, mode);
