@@ -10,10 +10,10 @@ use std::marker::Model;
 use std::net::{Net, SocketAddr, TcpStream};
 use std::rt::Files;
 
-/// The most bytes of one read.
-const MOST_BYTES: usize = 4096;
-
 /// The files and the peers that a run was given, by their numbers from 0.
+///
+/// A call fails if the system's call does; also to open a path or to connect to a peer whose number wasn't given, and
+/// to connect to a peer that isn't an IP address and a port, as `127.0.0.1:8080` or `[::1]:8080`. No name is looked up.
 ///
 /// No contract can say what files and peers hold, nor whether the system fails: it says how the calls are counted.
 #[derive(Drop)]
@@ -34,8 +34,7 @@ impl<'r, R> Model for OsHost<'r, R> {
 }
 
 impl<'r, R: Files<File = File> + Net<Stream = TcpStream>> OsHost<'r, R> {
-    /// Returns a host over the system behind `rt`. A peer is an IP address and a port, as `127.0.0.1:8080`; to connect
-    /// to another text fails.
+    /// Returns a host over the system behind `rt`, which reaches these files and these peers.
     pub fn new(rt: &'r R, paths: &'r [String], peers: &'r [String]) -> OsHost<'r, R>
         ensures { result ≡ no_counts }
     {
@@ -47,8 +46,8 @@ impl<'r, R: Files<File = File> + Net<Stream = TcpStream>> OsHost<'r, R> {
         }
     }
 
-    // Opens the file as the mode says. What it holds stays (POSIX open, without O_TRUNC).
-    fn file(&self, path: u8, mode: Mode) -> Result<OsResource, Fault> {
+    // Opens the file as the mode says (POSIX open). It has no O_TRUNC, so a file that is there keeps its bytes.
+    fn open_file(&self, path: u8, mode: Mode) -> Result<OsResource, Fault> {
         let Some(path) = self.paths.get(usize::from(path)) else {
             return Err(Fault);
         };
@@ -64,7 +63,8 @@ impl<'r, R: Files<File = File> + Net<Stream = TcpStream>> OsHost<'r, R> {
         }
     }
 
-    fn connection(&self, peer: u8) -> Result<OsResource, Fault> {
+    // Connects to the peer (POSIX socket and connect).
+    fn connect_peer(&self, peer: u8) -> Result<OsResource, Fault> {
         let Some(peer) = self.peers.get(usize::from(peer)) else {
             return Err(Fault);
         };
@@ -84,35 +84,31 @@ impl<R: Files<File = File> + Net<Stream = TcpStream>> Host for OsHost<'_, R> {
     ghost counts = { λ host. host };
 
     fn open(&mut self, path: u8, mode: Mode) -> Result<OsResource, Fault> {
-        let file = self.file(path, mode);
+        let file = self.open_file(path, mode);
         self.counts.count_opening(&file);
         file
     }
 
     fn connect(&mut self, peer: u8) -> Result<OsResource, Fault> {
-        let connection = self.connection(peer);
+        let connection = self.connect_peer(peer);
         self.counts.count_opening(&connection);
         connection
     }
 
     fn read(&mut self, from: &mut OsResource, most: u16) -> Result<u16, Fault> {
-        let mut buffer = [0u8; MOST_BYTES];
-        let got = match from.read(&mut buffer[..usize::from(most)]) {
-            Ok(got) => Ok(got as u16),
-            Err(_) => Err(Fault),
-        };
+        let got = from.read(most);
         self.counts.count_use(&got);
         got
     }
 
     fn write(&mut self, to: &mut OsResource, bytes: &[u8]) -> Result<(), Fault> {
-        let written = to.write(bytes).or(Err(Fault));
+        let written = to.write(bytes);
         self.counts.count_use(&written);
         written
     }
 
     fn close(&mut self, resource: OsResource) -> Result<(), Fault> {
-        let closed = resource.close().or(Err(Fault));
+        let closed = resource.close();
         self.counts.count_close(&closed);
         closed
     }
