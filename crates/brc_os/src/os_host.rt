@@ -12,8 +12,9 @@ use std::rt::Files;
 
 /// The files and the peers that a run was given, by their numbers from 0.
 ///
-/// A call fails if the system's call does; also to open a path or to connect to a peer whose number wasn't given, and
-/// to connect to a peer that isn't an IP address and a port, as `127.0.0.1:8080` or `[::1]:8080`. No name is looked up.
+/// A call fails if the system's call fails. So does one that opens a path or connects to a peer whose number wasn't
+/// given, or connects to a peer that isn't an IP address and a port, as `127.0.0.1:8080` or `[::1]:8080`: no name is
+/// looked up.
 ///
 /// No contract can say what files and peers hold, nor whether the system fails: it says how the calls are counted.
 #[derive(Drop)]

@@ -28,7 +28,7 @@ impl OsResource {
         ensures { IfOk result (λ got. got ≤ most) }
     {
         let mut room = [0u8; MOST_BYTES];
-        // A read that a signal interrupts has read nothing, and std answers so; the other calls std repeats itself.
+        // std repeats any other call that a signal interrupts, but not a read, which has then read nothing.
         for _ in 0..u64::MAX {
             match self.read_into(&mut room[..usize::from(most)]) {
                 Ok(got) => return Ok(got as u16),
@@ -57,8 +57,8 @@ impl OsResource {
         written.or(Err(Fault))
     }
 
-    /// Closes it, also if it fails. Before, a file that was opened for writing is synced (fsync), so that what the
-    /// system couldn't store is a fault, and a connection is shut in both directions (shutdown).
+    /// Syncs a file that was opened for writing (fsync), so that what the system couldn't store is a fault, or shuts a
+    /// connection in both directions (shutdown); then closes it (close), also if that failed.
     pub(crate) fn close(self) -> Result<(), Fault> {
         let ended = match self {
             OsResource::ReadFile(_) => Ok(()),
