@@ -3,3 +3,5 @@
 
 #[cfg(test)]
 mod fake_host;
+#[cfg(test)]
+mod os_host;
