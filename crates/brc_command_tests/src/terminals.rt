@@ -116,7 +116,10 @@ fn colours_explanations_alone(rt: HostRuntime) {
     assert!(rt; !out.as_slice().contains(&escape[0]));
     let check = Asked::Check { file: "m.brc" };
     let (_, out) = told(&rt, &check, FIRST, b"");
-    assert_eq!(rt; out.as_slice(), b"accepted 1 functions 3 instructions\n".as_slice());
+    assert_eq!(rt;
+        out.as_slice(),
+        b"accepted 1 functions 3 instructions\n".as_slice()
+    );
 }
 
 #[test]
