@@ -7,8 +7,9 @@ examples/README.md, and compares what is printed.
 
 A block marked `module` or `schedule` is the file f.brc or f.schedule of the blocks `console` below it. If the mark goes
 on with a name, it is the file of this name, and has to be the same as the one in examples/from_c. A console block is
-one command, on a line that begins with `$`, and what it prints: standard output, then standard error. The exit status
-has to be the one that LANGUAGE.md's table gives to such a line; an explanation has the line at its end.
+one command, on a line that begins with `$`, and what it prints: standard output, then standard error. A block marked
+`part` has some lines of that, one after another. The exit status has to be the one that LANGUAGE.md's table gives to
+such a line; an explanation has the line at its end.
 
 A row of a table in examples/README.md names a module and what `brc check` prints of it. Each module has a row, and each
 file of examples/from_c a block in FROM_C.md.
@@ -31,23 +32,29 @@ STATUSES = {"refused": 1, "unreadable": 2, "no function": 2, "cannot write": 2, 
 
 
 class Example:
-    def __init__(self, place, command, files, wanted):
-        self.place, self.files, self.wanted = place, files, wanted
+    def __init__(self, place, command, files, wanted, is_part=False):
+        self.place, self.files, self.wanted, self.is_part = place, files, wanted, is_part
         self.words = shlex.split(command)
-        line = wanted.splitlines()[-1] if self.words[0] == "explain" else wanted
-        self.status = next((s for start, s in STATUSES.items() if line.startswith(start)), 0)
+
+    def is_met(self, printed, status):
+        """Whether this is printed, or printed among other lines, and the status is that of its last line."""
+        last = printed.splitlines()[-1:] if self.words[0] == "explain" else [printed]
+        means = next((s for start, s in STATUSES.items() for line in last if line.startswith(start)), 0)
+        same = f"\n{self.wanted}" in f"\n{printed}" if self.is_part else self.wanted == printed
+        return same and status == means
 
 
 def page_examples(page):
     """The examples of a page, and the files that its blocks name."""
     text = page.read_text()
     files, found, named = {}, [], {}
-    for block in re.finditer(r"^```(module|schedule|console)(?: (\S+))?\n(.*?)^```$", text, re.M | re.S):
+    for block in re.finditer(r"^```(module|schedule|console|part)(?: (\S+))?\n(.*?)^```$", text, re.M | re.S):
         mark, name, inner = block.groups()
-        if mark == "console":
+        if mark in ("console", "part"):
             line = text.count("\n", 0, block.start()) + 1
             command, wanted = inner.split("\n", 1)
-            found.append(Example(f"{page.name}, line {line}", command.removeprefix("$ brc "), dict(files), wanted))
+            words = command.removeprefix("$ brc ")
+            found.append(Example(f"{page.name}, line {line}", words, dict(files), wanted, mark == "part"))
         else:
             files[name or ("f.brc" if mark == "module" else "f.schedule")] = inner
             if name:
@@ -135,7 +142,7 @@ def run_try(found):
 def main():
     found, faults = examples()
     for example, printed, status in (run_try if "--try" in sys.argv[1:] else run_program)(found):
-        if (printed, status) != (example.wanted, example.status):
+        if not example.is_met(printed, status):
             faults.append(f"{example.place}: status {status}, and it prints\n{printed}")
     print(*faults, f"{len(found)} examples, {len(faults)} wrong", sep="\n")
     sys.exit(1 if faults else 0)
