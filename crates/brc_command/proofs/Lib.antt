@@ -4,3 +4,4 @@ mod Machines
 mod Outputs
 mod TakingLines
 mod Turning
+mod Writing
