@@ -3,5 +3,6 @@ mod Calling
 mod Machines
 mod Outputs
 mod TakingLines
+mod Traced
 mod Turning
 mod Writing
