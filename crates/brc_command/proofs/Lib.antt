@@ -1,5 +1,6 @@
 mod Accepting
 mod Calling
+mod Leaving
 mod Machines
 mod Outputs
 mod TakingLines

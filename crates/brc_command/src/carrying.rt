@@ -10,7 +10,7 @@ ghost use Rattle.brc_command.specs.Commands.{Reports, BeginsReport, HasCheckRepo
 ghost use Rattle.brc_command.specs.Commands.{HasReport, IsModuleReason, IsRunReason, IsStepReason, IsReason};
 ghost use Rattle.brc_command.specs.Commands.{IsDone, IsStopped, IsModuleFault, HasExplanation, IsExplainReason};
 ghost use Rattle.brc_command.specs.Commands.{IsPageReason, LeavesExplanation, Leaves};
-ghost use Rattle.brc_command.specs.Commands.{HasTraceReport, LeavesTrace};
+ghost use Rattle.brc_command.specs.Commands.{HasTraceReport, LeavesTrace, IsStandardInput};
 ghost use Rattle.brc_command.specs.Explanations.{IsAccepted};
 ghost use Rattle.brc_report.specs.declared.paint.Paint.TheVariants.{Plain};
 
@@ -108,10 +108,10 @@ pub fn carry_out<'a, R: Wait, L: Load, T: Terminal, W: Write>(
         Asked::Step {
             file,
             schedule,
-            trace: true,
-        } => trace_files(alloc, file, schedule, paint, load, out),
+            trace: false,
+        } => step_files(alloc, file, schedule, load, terminal, out),
         Asked::Step { file, schedule, .. } => {
-            step_files(alloc, file, schedule, load, terminal, out)
+            trace_files(alloc, file, schedule, paint, load, out)
         }
         Asked::Explain { file, function } => {
             explain_file(alloc, file, *function, paint, load, out)
@@ -180,7 +180,15 @@ fn check_file<'a, L: Load, W: Write>(
     }
 }
 
-// Both files are loaded before either text is read. Standard input can be loaded only once, so it can't be both.
+// Returns whether both files are standard input, which can be loaded only once.
+fn read_standard_input_twice(file: &str, schedule: &str) -> bool
+    ensures twice { result ≡ true → IsStandardInput file.now × IsStandardInput schedule.now }
+    ensures apart { result ≡ false → IsStandardInput file.now → IsStandardInput schedule.now → ⊥ }
+{
+    file == STANDARD_INPUT && schedule == STANDARD_INPUT
+}
+
+// Both files are loaded before either text is read.
 fn step_files<'a, L: Load, T: Terminal, W: Write>(
     alloc: Global,
     file: &'a str,
@@ -197,7 +205,7 @@ fn step_files<'a, L: Load, T: Terminal, W: Write>(
     ensures begun { IsErrOf result (Fault Output) → BeginsReport
         (HasStepReport (L.may_give load.old) file.now schedule.now) (W.contents out.old) (W.contents out.new) }
 {
-    if file == STANDARD_INPUT && schedule == STANDARD_INPUT {
+    if read_standard_input_twice(file, schedule) {
         return Err(Stop::UnreadableFile);
     }
     let module = load.load(alloc, file)?;
@@ -225,7 +233,7 @@ fn trace_files<'a, L: Load, W: Write>(
         (HasTraceReport (L.may_give load.old) paint file.now schedule.now) e
         (W.contents out.old) (W.contents out.new)) }
 {
-    if file == STANDARD_INPUT && schedule == STANDARD_INPUT {
+    if read_standard_input_twice(file, schedule) {
         return Err(Stop::UnreadableFile);
     }
     let module = load.load(alloc, file)?;
