@@ -8,7 +8,8 @@ use Rattle.brc_command.specs.Commands.{HasReport, IsReason, Leaves, IsDone, IsSt
 use Rattle.brc_command.specs.Lines.{fault_text}
 
 -- the command line makes a request, and `act` carries it out
-pub record Ends (gives : List ℕ → List ℕ → Type 0) (paint : Paint) (old new err_old err_new : Option (List ℕ)) : Type 0 where
+pub record Ends (gives : List ℕ → List ℕ → Type 0) (paint : Paint) (old new err_old err_new : Option (List ℕ))
+    : Type 0 where
   pub asked : Asked
   pub done : IsDone (HasReport gives paint asked) old new err_old err_new
 

@@ -1,5 +1,5 @@
 -- What a trace of two files leaves, from what that of their texts leaves.
-use Rattle.std.proofs.Common.{◌≡◌, ◌⊎◌, ℕ, List, Option, inl, inr, refl}
+use Rattle.std.proofs.Common.{ℕ, List, Option, inl, inr, refl}
 use Rattle.brc_report.specs.declared.paint.Paint.{Paint}
 use Rattle.brc_command.specs.declared.step_fault.StepFault.{StepFault}
 use Rattle.brc_command.specs.declared.step_fault.StepFault.TheVariants.{Text, Plan, Refused, NoFunction, NoMemory}

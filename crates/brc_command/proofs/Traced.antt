@@ -1,5 +1,5 @@
 -- What is written of a trace and its report, from the parts that are written.
-use Rattle.std.proofs.Common.{◌≡◌, ◌⊎◌, ℕ, List, ◌++◌, Option, Result, Ok, Err, OnOk, OnErr, inl, inr, refl, sym, ap, ◌∙◌, subst}
+use Rattle.std.proofs.Common.{◌≡◌, ℕ, List, ◌++◌, Option, Result, Ok, Err, OnOk, OnErr, ap, ◌∙◌, subst}
 use Rattle.std.specs.Io.KnownBytes.{Appends}
 use Rattle.brc_lang.specs.declared.module.Module.{Module}
 use Rattle.brc_lang.specs.Written.{AppendsBeginning}
@@ -66,8 +66,8 @@ report_begun paint m s w old mid new tally same whole counted begun =
     (subst (AppendsBeginning mid new) counted begun))
 
 -- all of it, for the module that the text spells
-pub traced_to : {T E : Type 0} (r : Result T E) (paint : Paint) (module_text schedule_text : List ℕ) (m checked : Module)
-    (s : Schedule) (old new : Option (List ℕ)) → checked ≡ m → IsReady module_text schedule_text m s
+pub traced_to : {T E : Type 0} (r : Result T E) (paint : Paint) (module_text schedule_text : List ℕ)
+    (m checked : Module) (s : Schedule) (old new : Option (List ℕ)) → checked ≡ m → IsReady module_text schedule_text m s
     → tally_of (last_world m s) ≡ machine_tally (last_machine m s)
     → OnOk r (Appends old new (traced_report paint checked s))
     → OnOk r (TracesTo paint module_text schedule_text old new)

@@ -90,7 +90,8 @@ HasReport gives paint (ToRun asked) text = HasRunReport gives asked text
 HasReport gives paint (ToCheck file) text = HasCheckReport gives file.now text
 HasReport gives paint (ToStep file schedule false) text = HasStepReport gives file.now schedule.now text
 HasReport gives paint (ToStep file schedule true) text = HasTraceReport gives paint file.now schedule.now text
-HasReport gives paint (ToExplain file function) text = HasExplanation gives file.now (option_map (λ name. name.now) function)
+HasReport gives paint (ToExplain file function) text =
+    HasExplanation gives file.now (option_map (λ name. name.now) function)
 HasReport gives paint (ToPage topic) text = Unit {0}
 HasReport gives paint Version text = text ≡ version_text
 

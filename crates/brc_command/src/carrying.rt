@@ -52,7 +52,8 @@ pub fn execute<R: Wait, L: Load, W: Write, E: Write>(
     ensures done { result ≡ 0 → IsDone (HasReport (L.may_give load.old) Plain asked.now) (W.contents out.old)
         (W.contents out.new) (E.contents err.old) (E.contents err.new) }
     ensures stopped { result ≢ 0 → IsStopped
-        (IsReason (L.may_give load.old) (L.may_lack load.old) asked.now) (Leaves (L.may_give load.old) Plain asked.now) (W.contents out.old) (W.contents out.new)
+        (IsReason (L.may_give load.old) (L.may_lack load.old) asked.now)
+        (Leaves (L.may_give load.old) Plain asked.now) (W.contents out.old) (W.contents out.new)
         (E.contents err.old) (E.contents err.new) result }
 {
     execute_on(rt, alloc, asked, load, &mut NoTerminal, out, err)
@@ -69,10 +70,11 @@ pub fn execute_on<R: Wait, L: Load, T: Terminal, W: Write, E: Write>(
     err: &mut E,
 ) -> u8
     ensures known { result ≤ 3 }
-    ensures done { result ≡ 0 → IsDone (HasReport (L.may_give load.old) (T.paint_of terminal.old) asked.now) (W.contents out.old)
-        (W.contents out.new) (E.contents err.old) (E.contents err.new) }
+    ensures done { result ≡ 0 → IsDone (HasReport (L.may_give load.old) (T.paint_of terminal.old) asked.now)
+        (W.contents out.old) (W.contents out.new) (E.contents err.old) (E.contents err.new) }
     ensures stopped { result ≢ 0 → IsStopped
-        (IsReason (L.may_give load.old) (L.may_lack load.old) asked.now) (Leaves (L.may_give load.old) (T.paint_of terminal.old) asked.now) (W.contents out.old) (W.contents out.new)
+        (IsReason (L.may_give load.old) (L.may_lack load.old) asked.now)
+        (Leaves (L.may_give load.old) (T.paint_of terminal.old) asked.now) (W.contents out.old) (W.contents out.new)
         (E.contents err.old) (E.contents err.new) result }
 {
     match carry_out(rt, alloc, asked, load, terminal, out) {
@@ -95,11 +97,11 @@ pub fn carry_out<'a, R: Wait, L: Load, T: Terminal, W: Write>(
     terminal: &mut T,
     out: &mut W,
 ) -> Result<(), Stop<'a>>
-    ensures reported { OnOk result (Reports (HasReport (L.may_give load.old) (T.paint_of terminal.old) asked.now) (W.contents out.old)
-        (W.contents out.new)) }
+    ensures reported { OnOk result (Reports (HasReport (L.may_give load.old) (T.paint_of terminal.old) asked.now)
+        (W.contents out.old) (W.contents out.new)) }
     ensures stopped { IfErr result (IsReason (L.may_give load.old) (L.may_lack load.old) asked.now) }
-    ensures left { IfErr result (λ e. Leaves (L.may_give load.old) (T.paint_of terminal.old) asked.now e (W.contents out.old)
-        (W.contents out.new)) }
+    ensures left { IfErr result (λ e. Leaves (L.may_give load.old) (T.paint_of terminal.old) asked.now e
+        (W.contents out.old) (W.contents out.new)) }
 {
     let paint = terminal.paint();
     match asked {

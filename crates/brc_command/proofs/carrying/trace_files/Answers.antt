@@ -1,4 +1,4 @@
-use Rattle.std.proofs.Common.{List, ℕ, subst, sym}
+use Rattle.std.proofs.Common.{subst, sym}
 use Rattle.brc_command.proofs.Leaving.{trace_left}
 use Rattle.brc_command.proofs.carrying.trace_files.Goals as goal
 
