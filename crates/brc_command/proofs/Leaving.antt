@@ -11,34 +11,41 @@ use Rattle.brc_command.specs.Traces.{TracesTo, TracesTowards, LeavesTraceOf, tra
 module _ (gives : List ℕ → List ℕ → Type 0) (paint : Paint) (file schedule module_text schedule_text : List ℕ)
     (old new : Option (List ℕ)) (module_given : gives file module_text) (schedule_given : gives schedule schedule_text)
     (apart : IsStandardInput file → IsStandardInput schedule → ⊥) where
-
   pub trace_reported : TracesTo paint module_text schedule_text old new
       → Reports (HasTraceReport gives paint file schedule) old new
-  trace_reported traced = (traced_report paint traced.m traced.s , record {
-    module_text = module_text;
-    schedule_text = schedule_text;
-    m = traced.m;
-    s = traced.s;
-    module_given = module_given;
-    schedule_given = schedule_given;
-    apart = apart;
-    ready = traced.ready;
-    reported = refl;
-  } , traced.reported)
+  trace_reported traced = (
+    traced_report paint traced.m traced.s,
+    record {
+      module_text = module_text;
+      schedule_text = schedule_text;
+      m = traced.m;
+      s = traced.s;
+      module_given = module_given;
+      schedule_given = schedule_given;
+      apart = apart;
+      ready = traced.ready;
+      reported = refl;
+    },
+    traced.reported,
+  )
 
   towards : TracesTowards paint module_text schedule_text old new
       → BeginsReport (HasTraceReport gives paint file schedule) old new
-  towards begun = (traced_report paint begun.m begun.s , record {
-    module_text = module_text;
-    schedule_text = schedule_text;
-    m = begun.m;
-    s = begun.s;
-    module_given = module_given;
-    schedule_given = schedule_given;
-    apart = apart;
-    ready = begun.ready;
-    reported = refl;
-  } , begun.begun)
+  towards begun = (
+    traced_report paint begun.m begun.s,
+    record {
+      module_text = module_text;
+      schedule_text = schedule_text;
+      m = begun.m;
+      s = begun.s;
+      module_given = module_given;
+      schedule_given = schedule_given;
+      apart = apart;
+      ready = begun.ready;
+      reported = refl;
+    },
+    begun.begun,
+  )
 
   pub trace_left : (e : StepFault) → LeavesTraceOf paint module_text schedule_text e old new
       → LeavesTrace (HasTraceReport gives paint file schedule) (Fault e) old new
