@@ -1,4 +1,5 @@
 ghost use Rattle.std.specs.Prelude.{◌≡◌, ◌≢◌, ◌≤◌};
+ghost use Rattle.brc_report.specs.declared.paint.Paint.TheVariants.{Plain};
 ghost use Rattle.brc_arguments.specs.Acts.{Ends, Stops, IsRefused};
 
 use crate::command::parse;
@@ -27,9 +28,9 @@ pub fn act<R: Wait, S: AsStr, L: Load, W: Write, E: Write>(
     err: &mut E,
 ) -> u8
     ensures known { result ≤ 3 }
-    ensures done { result ≡ 0 → Ends (L.may_give load.old) (W.contents out.old) (W.contents out.new)
+    ensures done { result ≡ 0 → Ends (L.may_give load.old) Plain (W.contents out.old) (W.contents out.new)
         (E.contents err.old) (E.contents err.new) }
-    ensures stopped { result ≢ 0 → Stops (L.may_give load.old) (L.may_lack load.old) (W.contents out.old)
+    ensures stopped { result ≢ 0 → Stops (L.may_give load.old) (L.may_lack load.old) Plain (W.contents out.old)
         (W.contents out.new) (E.contents err.old) (E.contents err.new) result }
 {
     act_on(rt, alloc, words, load, &mut NoTerminal, out, err)
@@ -46,10 +47,10 @@ pub fn act_on<R: Wait, S: AsStr, L: Load, T: Terminal, W: Write, E: Write>(
     err: &mut E,
 ) -> u8
     ensures known { result ≤ 3 }
-    ensures done { result ≡ 0 → Ends (L.may_give load.old) (W.contents out.old) (W.contents out.new)
-        (E.contents err.old) (E.contents err.new) }
-    ensures stopped { result ≢ 0 → Stops (L.may_give load.old) (L.may_lack load.old) (W.contents out.old)
-        (W.contents out.new) (E.contents err.old) (E.contents err.new) result }
+    ensures done { result ≡ 0 → Ends (L.may_give load.old) (T.paint_of terminal.old) (W.contents out.old)
+        (W.contents out.new) (E.contents err.old) (E.contents err.new) }
+    ensures stopped { result ≢ 0 → Stops (L.may_give load.old) (L.may_lack load.old) (T.paint_of terminal.old)
+        (W.contents out.old) (W.contents out.new) (E.contents err.old) (E.contents err.new) result }
 {
     match parse(alloc, words) {
         Ok(asked) => execute_on(rt, alloc, &asked, load, terminal, out, err),

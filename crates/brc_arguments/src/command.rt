@@ -2,7 +2,7 @@ use brc_command::{Asked, MOST_ROWS, MOST_THREADS, MOST_TIMES, Run, VERSION};
 use brc_explain::topic_named;
 use brc_lang::number;
 use clap::error::ErrorKind;
-use clap::{Arg, ArgMatches, Command, Error, value_parser};
+use clap::{Arg, ArgAction, ArgMatches, Command, Error, value_parser};
 use std::alloc::{AllocError, Global};
 use std::convert::AsStr;
 
@@ -98,6 +98,12 @@ fn step_command<'a>(alloc: Global) -> Result<Command<'a>, AllocError> {
             Arg::new(alloc, "SCHEDULE")
                 .required(true)
                 .help("The schedule's file, or - for standard input"),
+        )?
+        .arg(
+            Arg::new(alloc, "trace")
+                .long("trace")
+                .action(ArgAction::SetTrue)
+                .help("Writes a line for each step before the report"),
         )
 }
 
@@ -140,7 +146,12 @@ fn asked_in<'a>(matches: &ArgMatches<'a>) -> Option<Asked<'a>> {
     if let Some(step) = matches.subcommand_matches("step") {
         let file = step.get_str("FILE")?;
         let schedule = step.get_str("SCHEDULE")?;
-        return Some(Asked::Step { file, schedule });
+        let trace = step.get_flag("trace");
+        return Some(Asked::Step {
+            file,
+            schedule,
+            trace,
+        });
     }
     if let Some(explain) = matches.subcommand_matches("explain") {
         return explanation_in(explain);

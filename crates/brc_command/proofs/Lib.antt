@@ -1,6 +1,9 @@
 mod Accepting
 mod Calling
+mod Leaving
 mod Machines
 mod Outputs
 mod TakingLines
+mod Traced
 mod Turning
+mod Writing

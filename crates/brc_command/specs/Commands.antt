@@ -6,6 +6,7 @@ use Rattle.brc_lang.specs.Grammar.{Spells}
 use Rattle.brc_lang.specs.Fault.{HasFault}
 use Rattle.brc_lang.specs.Written.{AppendsBeginning}
 use Rattle.brc_check.specs.Refusal.{IsRefusedFor}
+use Rattle.brc_report.specs.declared.paint.Paint.{Paint}
 use Rattle.brc_report.specs.declared.tally.Tally.{Tally}
 use Rattle.brc_report.specs.Report.{tally_text}
 use Rattle.brc_schedule.specs.declared.schedule.Schedule.{Schedule}
@@ -22,6 +23,7 @@ use Rattle.brc_command.specs.Calls.{has_function, calls_named}
 use Rattle.brc_command.specs.Explanations.{IsAccepted, HasOnly, LacksNamed}
 use Rattle.brc_command.specs.Lines.{stop_text, stop_status, version_text}
 use Rattle.brc_command.specs.Texts.{IsReady, IsFaultOfTexts, report}
+use Rattle.brc_command.specs.Traces.{traced_report}
 use Rattle.brc_command.specs.Turns.{IsTallyOfRun}
 
 -- ---- the reports; `gives path bytes`: the loader may give these bytes for the path
@@ -48,6 +50,18 @@ pub record HasStepReport (gives : List ℕ → List ℕ → Type 0) (file schedu
   pub ready : IsReady module_text schedule_text m s
   pub reported : text ≡ report m s
 
+pub record HasTraceReport (gives : List ℕ → List ℕ → Type 0) (paint : Paint) (file schedule text : List ℕ)
+    : Type 0 where
+  pub module_text : List ℕ
+  pub schedule_text : List ℕ
+  pub m : Module
+  pub s : Schedule
+  pub module_given : gives file module_text
+  pub schedule_given : gives schedule schedule_text
+  pub apart : IsStandardInput file → IsStandardInput schedule → ⊥
+  pub ready : IsReady module_text schedule_text m s
+  pub reported : text ≡ traced_report paint m s
+
 -- the module has the function, and the run's tally is this one
 pub record RunsTo (m : Module) (asked : Run) (tally : Tally) : Type 0 where
   pub known : has_function m asked.function.now ≡ true
@@ -71,13 +85,15 @@ pub record HasExplanation (gives : List ℕ → List ℕ → Type 0) (file : Lis
   pub accepted : IsAccepted module_text m
   pub known : HasOnly m only
 
-abbrev pub HasReport : (List ℕ → List ℕ → Type 0) → Asked → List ℕ → Type 0
-HasReport gives (ToRun asked) text = HasRunReport gives asked text
-HasReport gives (ToCheck file) text = HasCheckReport gives file.now text
-HasReport gives (ToStep file schedule) text = HasStepReport gives file.now schedule.now text
-HasReport gives (ToExplain file function) text = HasExplanation gives file.now (option_map (λ name. name.now) function)
-HasReport gives (ToPage topic) text = Unit {0}
-HasReport gives Version text = text ≡ version_text
+abbrev pub HasReport : (List ℕ → List ℕ → Type 0) → Paint → Asked → List ℕ → Type 0
+HasReport gives paint (ToRun asked) text = HasRunReport gives asked text
+HasReport gives paint (ToCheck file) text = HasCheckReport gives file.now text
+HasReport gives paint (ToStep file schedule false) text = HasStepReport gives file.now schedule.now text
+HasReport gives paint (ToStep file schedule true) text = HasTraceReport gives paint file.now schedule.now text
+HasReport gives paint (ToExplain file function) text =
+    HasExplanation gives file.now (option_map (λ name. name.now) function)
+HasReport gives paint (ToPage topic) text = Unit {0}
+HasReport gives paint Version text = text ≡ version_text
 
 -- ---- the reasons; `lacks path`: the loader may answer that the path can't be read. Refused memory and an error of the
 -- writer may stop any command
@@ -141,7 +157,7 @@ IsPageReason stop = ⊥
 abbrev pub IsReason : (List ℕ → List ℕ → Type 0) → (List ℕ → Type 0) → Asked → Stop → Type 0
 IsReason gives lacks (ToRun asked) stop = IsRunReason gives lacks asked stop
 IsReason gives lacks (ToCheck file) stop = IsModuleReason gives lacks file.now stop
-IsReason gives lacks (ToStep file schedule) stop = IsStepReason gives lacks file.now schedule.now stop
+IsReason gives lacks (ToStep file schedule trace) stop = IsStepReason gives lacks file.now schedule.now stop
 IsReason gives lacks (ToExplain file function) stop =
     IsExplainReason gives lacks file.now (option_map (λ name. name.now) function) stop
 IsReason gives lacks (ToPage topic) stop = IsPageReason stop
@@ -175,9 +191,17 @@ LeavesExplanation (Fault (Refused r)) old new = (text : List ℕ) × Appends old
 LeavesExplanation (Fault Output) old new = (text : List ℕ) × AppendsBeginning old new text
 LeavesExplanation stop old new = new ≡ old
 
-abbrev pub Leaves : (List ℕ → List ℕ → Type 0) → Asked → Stop → Option (List ℕ) → Option (List ℕ) → Type 0
-Leaves gives (ToExplain file function) stop old new = LeavesExplanation stop old new
-Leaves gives asked stop old new = LeavesReport (HasReport gives asked) stop old new
+-- standard output after a trace that stops: if memory was refused, it may have a prefix of the report too
+abbrev pub LeavesTrace : (List ℕ → Type 0) → Stop → Option (List ℕ) → Option (List ℕ) → Type 0
+LeavesTrace is_report (Fault Output) old new = BeginsReport is_report old new
+LeavesTrace is_report (Fault NoMemory) old new = (new ≡ old) ⊎ BeginsReport is_report old new
+LeavesTrace is_report stop old new = new ≡ old
+
+abbrev pub Leaves : (List ℕ → List ℕ → Type 0) → Paint → Asked → Stop → Option (List ℕ) → Option (List ℕ) → Type 0
+Leaves gives paint (ToExplain file function) stop old new = LeavesExplanation stop old new
+Leaves gives paint (ToStep file schedule true) stop old new =
+    LeavesTrace (HasTraceReport gives paint file.now schedule.now) stop old new
+Leaves gives paint asked stop old new = LeavesReport (HasReport gives paint asked) stop old new
 
 -- one reason gives the status and the line, of which at least a prefix is on standard error
 pub record IsStopped (is_reason : Stop → Type 0) (leaves : Stop → Option (List ℕ) → Option (List ℕ) → Type 0)

@@ -4,4 +4,5 @@ pub mod Commands
 pub mod Explanations
 pub mod Lines
 pub mod Texts
+pub mod Traces
 pub mod Turns

@@ -13,6 +13,8 @@ use Rattle.brc_command.specs.declared.step_fault.StepFault.{StepFault}
 use Rattle.brc_command.specs.declared.step_fault.StepFault.TheVariants.{Text, Plan, Refused, NoFunction, NoMemory}
 use Rattle.brc_command.specs.declared.step_fault.StepFault.TheVariants.{Output}
 use Rattle.brc_command.specs.declared.stop.Stop.{Stop}
+use Rattle.brc_trace.specs.declared.fault.TraceFault.{TraceFault}
+use Rattle.brc_trace.specs.declared.fault.TraceFault.TheVariants as traces
 use Rattle.brc_command.specs.declared.stop.Stop.TheVariants.{UnreadableFile, NoFunction as Unknown, Fault}
 
 -- ---- codes
@@ -89,3 +91,9 @@ stop_status _ = 2
 abbrev pub stop_of : LoadError → Stop
 stop_of loads.Unreadable = UnreadableFile
 stop_of loads.NoMemory = Fault NoMemory
+
+-- ---- a trace that stops
+
+abbrev pub fault_of_trace : TraceFault → StepFault
+fault_of_trace traces.NoMemory = NoMemory
+fault_of_trace traces.Output = Output

@@ -21,10 +21,11 @@ pub enum Asked<'a> {
     Check {
         file: &'a str,
     },
-    /// Step the schedule of the second file over the module of the first.
+    /// Step the schedule of the second file over the module of the first. A trace has a line for each step.
     Step {
         file: &'a str,
         schedule: &'a str,
+        trace: bool,
     },
     /// Explain what the checker says of the module of the file, or of its function of this name.
     Explain {

@@ -10,7 +10,9 @@ ghost use Rattle.brc_command.specs.Commands.{Reports, BeginsReport, HasCheckRepo
 ghost use Rattle.brc_command.specs.Commands.{HasReport, IsModuleReason, IsRunReason, IsStepReason, IsReason};
 ghost use Rattle.brc_command.specs.Commands.{IsDone, IsStopped, IsModuleFault, HasExplanation, IsExplainReason};
 ghost use Rattle.brc_command.specs.Commands.{IsPageReason, LeavesExplanation, Leaves};
+ghost use Rattle.brc_command.specs.Commands.{HasTraceReport, LeavesTrace, IsStandardInput};
 ghost use Rattle.brc_command.specs.Explanations.{IsAccepted};
+ghost use Rattle.brc_report.specs.declared.paint.Paint.TheVariants.{Plain};
 
 use crate::accepted::write_accepted;
 use crate::asked::{Asked, Run};
@@ -23,6 +25,7 @@ use crate::stepping::step_text_on;
 use crate::stop::Stop;
 use crate::terminal::{NoTerminal, Terminal};
 use crate::texts::{accepted, module_of};
+use crate::tracing::trace_text_in;
 use crate::turns::run_on;
 use brc_check::Checked;
 use brc_explain::{Topic, write_page};
@@ -46,10 +49,11 @@ pub fn execute<R: Wait, L: Load, W: Write, E: Write>(
     err: &mut E,
 ) -> u8
     ensures known { result ≤ 3 }
-    ensures done { result ≡ 0 → IsDone (HasReport (L.may_give load.old) asked.now) (W.contents out.old)
+    ensures done { result ≡ 0 → IsDone (HasReport (L.may_give load.old) Plain asked.now) (W.contents out.old)
         (W.contents out.new) (E.contents err.old) (E.contents err.new) }
     ensures stopped { result ≢ 0 → IsStopped
-        (IsReason (L.may_give load.old) (L.may_lack load.old) asked.now) (Leaves (L.may_give load.old) asked.now) (W.contents out.old) (W.contents out.new)
+        (IsReason (L.may_give load.old) (L.may_lack load.old) asked.now)
+        (Leaves (L.may_give load.old) Plain asked.now) (W.contents out.old) (W.contents out.new)
         (E.contents err.old) (E.contents err.new) result }
 {
     execute_on(rt, alloc, asked, load, &mut NoTerminal, out, err)
@@ -66,10 +70,11 @@ pub fn execute_on<R: Wait, L: Load, T: Terminal, W: Write, E: Write>(
     err: &mut E,
 ) -> u8
     ensures known { result ≤ 3 }
-    ensures done { result ≡ 0 → IsDone (HasReport (L.may_give load.old) asked.now) (W.contents out.old)
-        (W.contents out.new) (E.contents err.old) (E.contents err.new) }
+    ensures done { result ≡ 0 → IsDone (HasReport (L.may_give load.old) (T.paint_of terminal.old) asked.now)
+        (W.contents out.old) (W.contents out.new) (E.contents err.old) (E.contents err.new) }
     ensures stopped { result ≢ 0 → IsStopped
-        (IsReason (L.may_give load.old) (L.may_lack load.old) asked.now) (Leaves (L.may_give load.old) asked.now) (W.contents out.old) (W.contents out.new)
+        (IsReason (L.may_give load.old) (L.may_lack load.old) asked.now)
+        (Leaves (L.may_give load.old) (T.paint_of terminal.old) asked.now) (W.contents out.old) (W.contents out.new)
         (E.contents err.old) (E.contents err.new) result }
 {
     match carry_out(rt, alloc, asked, load, terminal, out) {
@@ -92,17 +97,24 @@ pub fn carry_out<'a, R: Wait, L: Load, T: Terminal, W: Write>(
     terminal: &mut T,
     out: &mut W,
 ) -> Result<(), Stop<'a>>
-    ensures reported { OnOk result (Reports (HasReport (L.may_give load.old) asked.now) (W.contents out.old)
-        (W.contents out.new)) }
+    ensures reported { OnOk result (Reports (HasReport (L.may_give load.old) (T.paint_of terminal.old) asked.now)
+        (W.contents out.old) (W.contents out.new)) }
     ensures stopped { IfErr result (IsReason (L.may_give load.old) (L.may_lack load.old) asked.now) }
-    ensures left { IfErr result (λ e. Leaves (L.may_give load.old) asked.now e (W.contents out.old)
-        (W.contents out.new)) }
+    ensures left { IfErr result (λ e. Leaves (L.may_give load.old) (T.paint_of terminal.old) asked.now e
+        (W.contents out.old) (W.contents out.new)) }
 {
     let paint = terminal.paint();
     match asked {
         Asked::Run(asked) => run_file(rt, alloc, asked, load, terminal, out),
         Asked::Check { file } => check_file(alloc, file, load, out),
-        Asked::Step { file, schedule } => step_files(alloc, file, schedule, load, terminal, out),
+        Asked::Step {
+            file,
+            schedule,
+            trace: false,
+        } => step_files(alloc, file, schedule, load, terminal, out),
+        Asked::Step { file, schedule, .. } => {
+            trace_files(alloc, file, schedule, paint, load, out)
+        }
         Asked::Explain { file, function } => {
             explain_file(alloc, file, *function, paint, load, out)
         }
@@ -170,7 +182,15 @@ fn check_file<'a, L: Load, W: Write>(
     }
 }
 
-// Both files are loaded before either text is read. Standard input can be loaded only once, so it can't be both.
+// Returns whether both files are standard input, which can be loaded only once.
+fn read_standard_input_twice(file: &str, schedule: &str) -> bool
+    ensures twice { result ≡ true → IsStandardInput file.now × IsStandardInput schedule.now }
+    ensures apart { result ≡ false → IsStandardInput file.now → IsStandardInput schedule.now → ⊥ }
+{
+    file == STANDARD_INPUT && schedule == STANDARD_INPUT
+}
+
+// Both files are loaded before either text is read.
 fn step_files<'a, L: Load, T: Terminal, W: Write>(
     alloc: Global,
     file: &'a str,
@@ -187,12 +207,40 @@ fn step_files<'a, L: Load, T: Terminal, W: Write>(
     ensures begun { IsErrOf result (Fault Output) → BeginsReport
         (HasStepReport (L.may_give load.old) file.now schedule.now) (W.contents out.old) (W.contents out.new) }
 {
-    if file == STANDARD_INPUT && schedule == STANDARD_INPUT {
+    if read_standard_input_twice(file, schedule) {
         return Err(Stop::UnreadableFile);
     }
     let module = load.load(alloc, file)?;
     let schedule = load.load(alloc, schedule)?;
     match step_text_on(alloc, module.as_slice(), schedule.as_slice(), terminal, out) {
+        Ok(()) => Ok(()),
+        Err(fault) => Err(Stop::Fault(fault)),
+    }
+}
+
+// The files are loaded as in `step_files`.
+fn trace_files<'a, L: Load, W: Write>(
+    alloc: Global,
+    file: &'a str,
+    schedule: &'a str,
+    paint: Paint,
+    load: &mut L,
+    out: &mut W,
+) -> Result<(), Stop<'a>>
+    ensures reported { OnOk result (Reports (HasTraceReport (L.may_give load.old) paint file.now schedule.now)
+        (W.contents out.old) (W.contents out.new)) }
+    ensures stopped { IfErr result (IsStepReason (L.may_give load.old)
+        (L.may_lack load.old) file.now schedule.now) }
+    ensures left { IfErr result (λ e. LeavesTrace
+        (HasTraceReport (L.may_give load.old) paint file.now schedule.now) e
+        (W.contents out.old) (W.contents out.new)) }
+{
+    if read_standard_input_twice(file, schedule) {
+        return Err(Stop::UnreadableFile);
+    }
+    let module = load.load(alloc, file)?;
+    let schedule = load.load(alloc, schedule)?;
+    match trace_text_in(alloc, module.as_slice(), schedule.as_slice(), paint, out) {
         Ok(()) => Ok(()),
         Err(fault) => Err(Stop::Fault(fault)),
     }

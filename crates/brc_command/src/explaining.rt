@@ -1,4 +1,4 @@
-//! The explanation of a module's text: of a module that is accepted, of one that is refused, and of a text that can't be
+//! The explanation of a module's text: of an accepted module, of a refused one, and of a text that can't be
 //! read. It is made before any of it is written, so that want of memory leaves nothing behind.
 
 ghost use Rattle.std.specs.Prelude.{◌≡◌, Some, None, IfOk, IfErr, OnOk, option_map};

@@ -13,6 +13,7 @@ mod stepping;
 mod stop;
 mod terminal;
 mod texts;
+mod tracing;
 mod turns;
 
 pub use accepted::write_accepted;
@@ -24,4 +25,5 @@ pub use step_fault::StepFault;
 pub use stepping::step_text;
 pub use stop::Stop;
 pub use terminal::{NoTerminal, Terminal};
+pub use tracing::trace_text;
 pub use turns::{run, run_on};

@@ -1,8 +1,10 @@
 ghost use Rattle.std.specs.Prelude.{◌≡◌};
 ghost use Rattle.brc_command.specs.declared.step_fault.StepFault.TheVariants.{NoMemory};
+ghost use Rattle.brc_command.specs.Lines.{fault_of_trace};
 
 use brc_check::Refused;
 use brc_lang::{Name, ReadFault};
+use brc_trace::TraceFault;
 use brc_world::NoMemory;
 use std::alloc::AllocFailed;
 
@@ -28,6 +30,17 @@ impl<T: Drop> From<AllocFailed<T>> for StepFault {
 
     fn from(_e: AllocFailed<T>) -> StepFault {
         StepFault::NoMemory
+    }
+}
+
+impl From<TraceFault> for StepFault {
+    ghost from_gives = { λ fault e. e ≡ fault_of_trace fault };
+
+    fn from(fault: TraceFault) -> StepFault {
+        match fault {
+            TraceFault::NoMemory => StepFault::NoMemory,
+            TraceFault::Output => StepFault::Output,
+        }
     }
 }
 

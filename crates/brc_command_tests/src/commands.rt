@@ -20,6 +20,7 @@ pub const CHECK: Asked<'static> = Asked::Check { file: "m.brc" };
 pub const STEP: Asked<'static> = Asked::Step {
     file: "m.brc",
     schedule: "s.txt",
+    trace: false,
 };
 
 pub fn to_run<'a>(function: &'a str, threads: u32, rows: u16, times: u32) -> Asked<'a>
@@ -229,6 +230,7 @@ fn stops_for_each_reason(rt: HostRuntime) {
     let twice = Asked::Step {
         file: "-",
         schedule: "-",
+        trace: false,
     };
     assert_outputs(
         &rt,

@@ -26,4 +26,6 @@ mod steps;
 #[cfg(test)]
 mod terminals;
 #[cfg(test)]
+mod traces;
+#[cfg(test)]
 mod worked;
