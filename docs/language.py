@@ -77,14 +77,15 @@ def table_examples():
 
 def examples():
     """All examples, and the faults of files that differ or aren't named."""
-    found, faults = [], []
+    found, faults, in_pages = [], [], set()
     for page in PAGES:
         more, named = page_examples(page)
         found += more
+        in_pages |= set(named)
         faults += [f"{page.name}: {name} differs from examples/from_c" for name, text in named.items()
                    if not (FROM_C / name).exists() or (FROM_C / name).read_text() != text]
     faults += [f"{FROM_C_PAGE.name}: {path.name} has no block" for path in sorted(FROM_C.iterdir())
-               if path.name not in named]
+               if path.name not in in_pages]
     more, named = table_examples()
     modules = [str(path.relative_to(EXAMPLES)) for path in sorted(EXAMPLES.rglob("*.brc"))]
     faults += [f"examples/README.md: {name} has no row" for name in modules if name not in named]
