@@ -8,7 +8,7 @@ use brc_report::Paint;
 use std::process::Abort;
 use std::sync::Wait;
 
-// A terminal that notes what it is told.
+// A terminal that notes what it is given.
 #[derive(Clone, Copy)]
 struct Notes {
     times: u64,
@@ -65,7 +65,7 @@ fn told<R: Wait + AllocGlobal>(
     (notes, out)
 }
 
-// A terminal is told of the steps in rising order, and its line is wiped once; it changes no report.
+// A terminal is given the steps in rising order, and its line is wiped once; it changes no report.
 fn assert_told<R: Wait + Abort + AllocGlobal>(
     rt: &R,
     asked: &Asked<'_>,
