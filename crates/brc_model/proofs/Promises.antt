@@ -1,9 +1,9 @@
 -- What is promised of an accepted module (`Safe.accepted_is_safe`) and of each event follows from the invariant.
 --
 -- In order: `Agreeing`; `Safe`, over `Keeping/StepCases`; `Counting`, the laws of the counting machine; `StatesRise` to
--- `ClosedOnce`; `Gates`, `Births`, `MarksWatched`, `KindWords` and `CellsUnderLock`; `RowLaws`, which extends these
--- laws to every list of events; `KnownKinds` and `BorrowedItems`, what the checker says of kinds and of borrowed items;
--- then the laws of the world: `Worlds`, `AgendaMoves`, `Emptied`, `Leading`, `Turns`, `Elsewhere`, `StepsMove`,
+-- `ClosedOnce`; `Gates`, `Births`, `MarksWatched`, `KindWords` and `CellsUnderLock`; `Guarded`, what of these holds of
+-- running threads; `RowLaws`, which extends these laws to every list of events; `KnownKinds` and `BorrowedItems`, what
+-- the checker says of kinds and of borrowed items; then the laws of the world: `Worlds`, `AgendaMoves`, `Emptied`, `Leading`, `Turns`, `Elsewhere`, `StepsMove`,
 -- `LocksWait`, `Trace`, `CallsLeft`, `Bounded`, `Faults`, `HostCalls`.
 -- `Rules` proves that the named rules are the steps. `Worked` computes three schedules.
 
@@ -20,6 +20,7 @@ pub mod MarksWatched
 pub mod ResourcesClose
 pub mod KindWords
 pub mod CellsUnderLock
+pub mod Guarded
 pub mod RowLaws
 pub mod KnownKinds
 pub mod BorrowedItems

@@ -1,10 +1,11 @@
 -- The laws of the counting machine that running threads stand on.
-use Rattle.std.specs.Prelude.{◌≡◌, ◌≢◌, ℕ, zero, suc, ◌+◌, ◌<◌, ◌≤◌, true, false, List, [], ◌∷◌, ◌++◌, Some, slice_get}
+use Rattle.std.specs.Prelude.{◌≡◌, ◌≢◌, ℕ, zero, suc, ◌+◌, ◌<◌, ◌≤◌, true, false, List, [], ◌∷◌, ◌++◌, None, Some, slice_get}
 use Rattle.brc_model.specs.declared.duty.Holding.{Holding}
 use Rattle.brc_model.specs.declared.duty.Holding.TheVariants.{ByVariable, AsCaller, InFlight}
 use Rattle.brc_model.specs.declared.duty.Duty.{Duty}
-use Rattle.brc_model.specs.declared.duty.Duty.TheVariants.{RetainLoad, ReleaseLoad, BirthKind, KindLoad, Settle, ClaimMark, Leave}
+use Rattle.brc_model.specs.declared.duty.Duty.TheVariants.{RetainLoad, ReleaseLoad, BirthKind, KindLoad, LockGate, UnlockGate, CellLoad, Settle, ClaimMark, Leave}
 use Rattle.brc_model.specs.declared.actor.Status.TheVariants.{Gone}
+use Rattle.brc_model.specs.declared.address.Address.TheVariants.{KindOf}
 use Rattle.brc_model.specs.declared.layout.Layout.{Layout}
 use Rattle.brc_model.specs.Kinds.{kind_of_word, is_counted_kind}
 use Rattle.brc_model.specs.AbstractState.{PassOn, ByThread, references_to}
@@ -17,6 +18,7 @@ use Rattle.brc_model.specs.Machine.{Actor, Machine, Unborn, has_room, is_running
 use Rattle.brc_model.specs.BadDuties.{is_bad_duty}
 use Rattle.brc_model.specs.Accounts.{Accounts, HoldsNone, most_lent}
 use Rattle.brc_model.specs.OpenWork.{exits, may_wait}
+use Rattle.brc_model.specs.Knowledge.{HasNoRetainAside}
 use Rattle.brc_model.specs.Within.{IsThere, Suits, FindsOwner}
 use Rattle.brc_model.specs.Stores.{Overwrites}
 use Rattle.brc_model.specs.Agreement.{AgreesAt}
@@ -102,6 +104,24 @@ abbrev pub KindsAreAsked : Type 0
 KindsAreAsked = (p : Accounts) (n : ℕ) (m : Machine) (t : ℕ) (a : Actor) (x : ℕ) → Counts p n m → IsReady m t a
     → HasNoneAbout a x → 1 ≤ p t AsCaller x
     → Counts p n (with_actor m t (working a (KindLoad x ∷ []) a.aside))
+
+-- A ready thread that has locked nothing begins to lock an object to which it holds a reference.
+abbrev pub LocksBegin : Type 0
+LocksBegin = (p : Accounts) (n : ℕ) (m : Machine) (t : ℕ) (a : Actor) (x : ℕ) → Counts p n m → IsReady m t a
+    → HasNoneAbout a x → IsCounted m.layout x → 1 ≤ p t AsCaller x → a.locked ≡ None
+    → Counts p n (with_actor m t (working a (LockGate x ∷ []) a.aside))
+
+-- A ready thread that has put no retain aside and has lent nothing begins to unlock the object that it has locked.
+abbrev pub UnlocksBegin : Type 0
+UnlocksBegin = (p : Accounts) (n : ℕ) (m : Machine) (t : ℕ) (a : Actor) (x : ℕ) → Counts p n m → IsReady m t a
+    → HasNoneAbout a x → 1 ≤ p t AsCaller x → a.locked ≡ Some x → HasNoRetainAside a → a.lent ≡ None
+    → Counts p n (with_actor m t (working a (UnlockGate x ∷ []) a.aside))
+
+-- A ready thread begins to load a cell of the list that it has locked.
+abbrev pub CellLoadsBegin : Type 0
+CellLoadsBegin = (p : Accounts) (n : ℕ) (m : Machine) (t : ℕ) (a : Actor) (x i : ℕ) → Counts p n m → IsReady m t a
+    → HasNoneAbout a x → 1 ≤ p t AsCaller x → a.locked ≡ Some x → i < cells_of (m.memory (KindOf x))
+    → Counts p n (with_actor m t (working a (CellLoad x i ∷ []) a.aside))
 
 -- A ready thread that has put nothing aside begins to settle its dying chain.
 abbrev pub SettlesBegin : Type 0

@@ -37,6 +37,7 @@ pub mod Counting
 pub mod CountingLaws
 pub mod Progress
 pub mod Watched
+pub mod GuardLaws
 pub mod ResourceLaws
 pub mod Trace
 pub mod Bounded

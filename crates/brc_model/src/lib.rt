@@ -11,6 +11,7 @@ mod call_laws;
 mod code;
 mod counting_laws;
 mod duty;
+mod guard_laws;
 mod hand_laws;
 mod host_laws;
 mod laws;
@@ -31,6 +32,10 @@ pub use counting_laws::{
     accounts_are_there, chains_are_there, counts_agree, duties_are_kept, duties_are_within,
 };
 pub use duty::{Duty, Holding, Reason};
+pub use guard_laws::{
+    cells_are_guarded, gone_threads_hold_nothing, owners_count_alone, queued_marks_are_watched,
+    slots_are_guarded,
+};
 pub use hand_laws::{hands_begin, references_are_handed_over, references_are_the_threads};
 pub use host_laws::{calls_use_what_is_lent, faults_are_counted};
 pub use laws::accepted_is_safe;
@@ -48,8 +53,9 @@ pub use rule_laws::steps_go_by_rules;
 pub use slot::{Exit, Slot, State};
 pub use thread::{Call, Choice};
 pub use work_laws::{
-    births_begin, claims_begin, exits_begin, immortals_are_free, kinds_are_asked, releases_begin,
-    retains_begin, settles_begin, work_is_put_aside, work_is_taken_back,
+    births_begin, cell_loads_begin, claims_begin, exits_begin, immortals_are_free, kinds_are_asked,
+    locks_begin, releases_begin, retains_begin, settles_begin, unlocks_begin, work_is_put_aside,
+    work_is_taken_back,
 };
 pub use world_laws::{
     steps_are_within, steps_move, threads_make_their_traces, worlds_are_small,

@@ -1,7 +1,7 @@
 //! Laws of the counting machine between two duties: what running threads may do with their open work, and which work
 //! they may begin.
 
-ghost use Rattle.brc_model.specs.CountingLaws.{WorkIsPutAside, WorkIsTakenBack, RetainsBegin, ReleasesBegin, BirthsBegin, KindsAreAsked, SettlesBegin, ClaimsBegin, ExitsBegin, ImmortalsAreFree};
+ghost use Rattle.brc_model.specs.CountingLaws.{WorkIsPutAside, WorkIsTakenBack, RetainsBegin, ReleasesBegin, BirthsBegin, KindsAreAsked, LocksBegin, UnlocksBegin, CellLoadsBegin, SettlesBegin, ClaimsBegin, ExitsBegin, ImmortalsAreFree};
 
 /// States that the invariant holds after a thread puts its only duty aside, if the duty may wait.
 pub fn work_is_put_aside()
@@ -32,6 +32,22 @@ pub fn births_begin()
 /// reference.
 pub fn kinds_are_asked()
     ensures { KindsAreAsked }
+{}
+
+/// States that the invariant holds after a ready thread that has locked nothing begins to lock an object to which it
+/// holds a reference.
+pub fn locks_begin()
+    ensures { LocksBegin }
+{}
+
+/// States that the invariant holds after a ready thread begins to unlock the object that it has locked.
+pub fn unlocks_begin()
+    ensures { UnlocksBegin }
+{}
+
+/// States that the invariant holds after a ready thread begins to load a cell of the list that it has locked.
+pub fn cell_loads_begin()
+    ensures { CellLoadsBegin }
 {}
 
 /// States that the invariant holds after a ready thread that has put nothing aside begins to settle its dying chain.

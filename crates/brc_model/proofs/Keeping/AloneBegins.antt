@@ -60,7 +60,7 @@ pub record TakesAlone (p : Accounts) (m : Machine) (t : ℕ) (a : Actor) (d : Du
   pub small : IsSmall (row_count m.layout) d
 
 -- The thread still holds the list that it has locked, whatever it does that makes no reference.
-same_locks : (account : Account) (m : Machine) (t : ℕ) (a : Actor) (d : Duty) → LocksFit account m t a
+pub same_locks : (account : Account) (m : Machine) (t : ℕ) (a : Actor) (d : Duty) → LocksFit account m t a
     → ((k : Holding) (y : ℕ) → lacks d k y ≡ false) → LocksFit account m t (working a (d ∷ []) a.aside)
 same_locks account m t a d locks none y e =
     let it = locks y e in

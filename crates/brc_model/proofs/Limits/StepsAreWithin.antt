@@ -90,7 +90,7 @@ row_owner owner k live = elim live.mode [
 ]
 
 -- A live row has no owner, or the thread of its block owns it; immortal rows are main's.
-live_owner : (p : Accounts) (n : ℕ) (m : Machine) (x : ℕ) → CoreInvariant p n m → m.life x ≡ Live
+pub live_owner : (p : Accounts) (n : ℕ) (m : Machine) (x : ℕ) → CoreInvariant p n m → m.life x ≡ Live
     → (owner_part (m.memory (Local x)) ≡ 0) ⊎ (owner_part (m.memory (Local x)) ≡ block_of m.layout x + 1)
 live_owner p n m x core live = elim (cases_Bool (is_immortal_row m.layout x)) [
   | inl immortal ↦ inr (omega (arith, core.immortal_words x immortal, immortal_block m.layout x immortal))

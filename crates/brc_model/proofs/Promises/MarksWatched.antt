@@ -1,5 +1,5 @@
 -- In each machine that events lead to, each set mark is watched, as the invariant says.
-use Rattle.std.proofs.Common.{◌≡◌, ℕ, ◌+◌, ◌<◌, Bool, true, false, List, [], ◌∷◌, inl, inr, length, Some, refl, sym, ap, ◌∙◌, arith}
+use Rattle.std.proofs.Common.{◌≡◌, ◌≢◌, ℕ, ◌+◌, ◌<◌, Bool, true, false, List, [], ◌∷◌, inl, inr, length, Some, refl, sym, ap, ◌∙◌, arith}
 use Rattle.std.specs.Prelude.{◌&&◌, ◌||◌, nat_le, nat_lt, slice_get}
 use Rattle.std.specs.List.{list_any}
 use Rattle.std.proofs.lemmas.Bool.{lt-ltb}
@@ -18,7 +18,8 @@ use Rattle.brc_model.specs.Watched.{looks_at, scans_over, IsWatched, ByRunning, 
 use Rattle.brc_model.specs.References.{one_if}
 use Rattle.brc_model.specs.RowInvariant.{weight}
 use Rattle.brc_model.specs.OpenWork.{Later, Agenda, AgendaFits, scans}
-use Rattle.brc_model.specs.Invariant.{looks}
+use Rattle.brc_model.specs.Accounts.{Accounts}
+use Rattle.brc_model.specs.Invariant.{looks, CoreInvariant}
 use Rattle.brc_model.specs.Knowledge.{status_word}
 use Rattle.brc_model.proofs.Work.HasDuties.{some_weighs, is_open}
 use Rattle.brc_model.specs.Invariant as core
@@ -38,12 +39,11 @@ status_runs Leaving e = absurd (omega (arith, e))
 status_runs Gone e = absurd (omega (arith, e))
 
 -- A marked row was born, so the thread of its block exists.
-by_running : (p : Module) (n : ℕ) (m : StepMachine) (x : ℕ) → CodeInvariant p n m → m.memory (Mark x) ≡ 1
-    → m.memory (ThreadWord (block_of m.layout x)) ≡ 1 → IsWatched (counting m) x
-by_running p n m x whole marked word =
-    let used = born_used whole.accounts n (counting m) x whole.kept.core
-    (marked_born whole.accounts n (counting m) x whole.kept.core marked) in
-    let fits = (whole.kept.core.each (block_of m.layout x) used.by used.found).0 in
+by_running : (p : Accounts) (n : ℕ) (m : Machine) (x : ℕ) → CoreInvariant p n m → m.memory (Mark x) ≡ 1
+    → m.memory (ThreadWord (block_of m.layout x)) ≡ 1 → IsWatched m x
+by_running p n m x core marked word =
+    let used = born_used p n m x core (marked_born p n m x core marked) in
+    let fits = (core.each (block_of m.layout x) used.by used.found).0 in
     ByRunning (used.by, used.found, status_runs used.by.status (sym fits.word ∙ word))
 
 -- ---- by an exit
@@ -93,14 +93,13 @@ exit_scans a Gone x fits low e = let none : false ≡ true = ap (scans x) (sym f
 exit_scans a Running x fits low e = agenda_scans a.used Running x a.agenda fits low e
 exit_scans a Leaving x fits low e = agenda_scans a.used Leaving x a.agenda fits low e
 
-by_exit : (p : Module) (n : ℕ) (m : StepMachine) (x : ℕ) (a : Actor) → CodeInvariant p n m → m.memory (Mark x) ≡ 1
-    → slice_get (counting m).actors (block_of m.layout x) ≡ Some a
-    → scans (index_of m.layout (block_of m.layout x) x) a.agenda ≡ true → IsWatched (counting m) x
-by_exit p n m x a whole marked found e =
+by_exit : (p : Accounts) (n : ℕ) (m : Machine) (x : ℕ) (a : Actor) → CoreInvariant p n m → m.memory (Mark x) ≡ 1
+    → slice_get m.actors (block_of m.layout x) ≡ Some a
+    → scans (index_of m.layout (block_of m.layout x) x) a.agenda ≡ true → IsWatched m x
+by_exit p n m x a core marked found e =
     let t = block_of m.layout x in
-    let within = marked_within whole.accounts n (counting m) t a x whole.kept.core found marked refl in
-    let shown =
-    exit_scans a a.status (index_of m.layout t x) (whole.kept.core.each t a found).1 within e in
+    let within = marked_within p n m t a x core found marked refl in
+    let shown = exit_scans a a.status (index_of m.layout t x) (core.each t a found).1 within e in
     ByExit a found shown.0 shown.1
 
 -- ---- by a look
@@ -117,18 +116,23 @@ by_look m x weighs =
 
 -- ---- all marks
 
-watched_so : (p : Module) (n : ℕ) (m : StepMachine) (x : ℕ) → CodeInvariant p n m → m.memory (Mark x) ≡ 1
-    → core.IsWatched (counting m) x → IsWatched (counting m) x
-watched_so p n m x whole marked (core.ByRunning word) = by_running p n m x whole marked word
-watched_so p n m x whole marked (core.ByExit a found e) = by_exit p n m x a whole marked found e
-watched_so p n m x whole marked (core.ByLook weighs) = by_look (counting m) x weighs
+watched_so : (p : Accounts) (n : ℕ) (m : Machine) (x : ℕ) → CoreInvariant p n m → m.memory (Mark x) ≡ 1
+    → core.IsWatched m x → IsWatched m x
+watched_so p n m x kept marked (core.ByRunning word) = by_running p n m x kept marked word
+watched_so p n m x kept marked (core.ByExit a found e) = by_exit p n m x a kept marked found e
+watched_so p n m x kept marked (core.ByLook weighs) = by_look m x weighs
+
+-- A mark that is set is watched, whatever code the threads run.
+pub mark_watched : (p : Accounts) (n : ℕ) (m : Machine) (x : ℕ) → CoreInvariant p n m → m.memory (Mark x) ≢ 0
+    → IsWatched m x
+mark_watched p n m x kept set =
+    elim (kept.marks x) [
+      | inl none ↦ absurd (set none)
+      | inr marked ↦ watched_so p n m x kept marked.0 marked.2
+    ]
 
 all_watched : (p : Module) (n : ℕ) (m : StepMachine) → CodeInvariant p n m → MarksWatched m
-all_watched p n m whole = λ x set.
-    elim (whole.kept.core.marks x) [
-      | inl none ↦ absurd (set none)
-      | inr marked ↦ watched_so p n m x whole marked.0 marked.2
-    ]
+all_watched p n m whole = λ x set. mark_watched whole.accounts n (counting m) x whole.kept.core set
 
 pub marks_watched : (p : Module) → IsModule p → IsAcceptable p → Always MarksWatched p
 marks_watched p fits accepted = λ rows calls events some most are_calls.

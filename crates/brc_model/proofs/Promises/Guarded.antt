@@ -1,0 +1,187 @@
+-- What holds between any two steps of running threads beside the counts: who watches a mark, who may change a cell, a
+-- slot or a local word, and what a thread that is gone holds.
+use Rattle.std.proofs.Common.{◌≡◌, ◌≢◌, ◌⊎◌, ℕ, ◌+◌, ◌-◌, Bool, cond, List, Option, None, Some, inl, inr, refl, sym, ap, ◌∙◌, subst, arith}
+use Rattle.std.specs.Prelude.{◌==◌}
+use Rattle.std.proofs.lemmas.Bool.{eq-eqb}
+use Rattle.std.proofs.lemmas.Bool.Decides.{eqb_tells}
+use Rattle.brc_word.specs.Words.{local_word}
+use Rattle.brc_model.specs.declared.duty.Duty.{Duty}
+use Rattle.brc_model.specs.declared.duty.Duty.TheVariants.{RetainLoad, RetainStore, ReleaseLoad, ReleaseStore, MergeSwap, BirthSlot, BirthLocal, TakeSlot, LendSlot, ReturnSlot}
+use Rattle.brc_model.specs.declared.duty.Reason.TheVariants.{Own, Handed}
+use Rattle.brc_model.specs.declared.duty.Holding.TheVariants.{InFlight}
+use Rattle.brc_model.specs.declared.actor.Status.{Status}
+use Rattle.brc_model.specs.declared.address.Address.TheVariants.{Local, Slot, ThreadWord}
+use Rattle.brc_model.specs.Layout.{block_of}
+use Rattle.brc_model.specs.Machine.{Actor, Machine, Unborn, Dying, written}
+use Rattle.brc_model.specs.References.{one_if}
+use Rattle.brc_model.specs.RowInvariant.{decides}
+use Rattle.brc_model.specs.Accounts.{Account, Accounts, HoldsNone}
+use Rattle.brc_model.specs.Knowledge.{status_word, OwnsLocally}
+use Rattle.brc_model.specs.OpenWork.{AgendaFits, exits}
+use Rattle.brc_model.specs.Invariant.{ActorFits, AtDuty}
+use Rattle.brc_model.specs.Progress.{HasLock, Runs}
+use Rattle.brc_model.specs.Counting.{Counts}
+use Rattle.brc_model.specs.CountingLaws.{ComesNext}
+use Rattle.brc_model.specs.GuardLaws.{QueuedMarksAreWatched, HoldsGate, CellsAreGuarded, SlotsAreGuarded, OwnersCountAlone, GoneThreadsHoldNothing}
+use Rattle.brc_model.proofs.Basics.Blocks.{next_block, next_unborn}
+use Rattle.brc_model.proofs.Basics.Written.{written_apart, written_load, apart_local}
+use Rattle.brc_model.proofs.Frame.Alive.{Alive, alive_backed, alive_deciding, first_weighs}
+use Rattle.brc_model.proofs.Frame.Leaves.{head_of, given_alive}
+use Rattle.brc_model.proofs.Limits.StepsAreWithin.{live_owner}
+use Rattle.brc_model.proofs.Stepping.Neutral.{memory_by}
+use Rattle.brc_model.proofs.Promises.CellsUnderLock.{changed_by}
+use Rattle.brc_model.proofs.Promises.MarksWatched.{mark_watched}
+
+-- The premise of the lemmas about one duty.
+at_next : {p : Accounts} {n : ℕ} {m : Machine} {t : ℕ} {a : Actor} {d : Duty} {rest : List Duty} → Counts p n m
+    → ComesNext m t a d rest → AtDuty p n m t a d rest
+at_next counts next = record { core = counts.kept.core; found = next.found; agenda = next.agenda }
+
+-- ---- marks
+
+pub marks_guarded : QueuedMarksAreWatched
+marks_guarded p n m x counts set = mark_watched p n m x counts.kept.core set
+
+-- ---- cells and slots
+
+-- The gate of the object that a thread has locked names the thread.
+gate_of : (p : Accounts) (n : ℕ) (m : Machine) (t x : ℕ) → Counts p n m → HasLock m t x → HoldsGate m t x
+gate_of p n m t x counts (a, found, locked) = record {
+  actor = a;
+  found = found;
+  locked = locked;
+  gate = ((counts.kept.core.each t a found).0.locks x locked).gate;
+}
+
+pub cells_guarded : CellsAreGuarded
+cells_guarded p n m t a d rest x i counts next changed =
+    elim (changed_by p n m t a d rest x i (at_next counts next) changed) [
+      | inl lock ↦ inl (gate_of p n m t x counts lock)
+      | inr dies ↦ inr dies
+    ]
+
+abbrev MayMove : Machine → ℕ → ℕ → Type 0
+MayMove m t x = HasLock m t x ⊎ ((m.life x ≡ Dying t) ⊎ ((m.life x ≡ Unborn) × (block_of m.layout x ≡ t)))
+
+-- A step that changes no slot but another row's leaves the row's.
+by_slot : (m : Machine) (t x y word : ℕ) → MayMove m t y
+    → written m.memory (Slot y) word (Slot x) ≢ m.memory (Slot x) → MayMove m t x
+by_slot m t x y word may changed = elim (eqb_tells y x) [
+  | inl same ↦ subst (MayMove m t) same.1 may
+  | inr other ↦ absurd (changed (ap (λ (b : Bool). cond b word (m.memory (Slot x))) other.0))
+]
+
+moved_by : (p : Accounts) (n : ℕ) (m : Machine) (t : ℕ) (a : Actor) (d : Duty) (rest : List Duty) (x : ℕ)
+    → AtDuty p n m t a d rest → memory_by m t a d (Slot x) ≢ m.memory (Slot x) → MayMove m t x
+moved_by p n m t a (TakeSlot y) rest x here =
+    by_slot m t x y 0 (inr (inl (head_of p n m t a (TakeSlot y) rest here).1))
+moved_by p n m t a (BirthSlot y h) rest x here =
+    let next = (head_of p n m t a (BirthSlot y h) rest here).0 in
+    by_slot m t x y 1 (inr (inr (next_unborn p n m t a y here.core here.found next, next_block m t a y next)))
+moved_by p n m t a (LendSlot y) rest x here =
+    by_slot m t x y 0 (inl (a, here.found, (head_of p n m t a (LendSlot y) rest here).1))
+moved_by p n m t a (ReturnSlot y) rest x here =
+    let lent = head_of p n m t a (ReturnSlot y) rest here in
+    by_slot m t x y 1 (inl (a, here.found, (here.core.each t a here.found).0.lent y lent))
+moved_by p n m t a _ rest x here = λ changed. absurd (changed refl)
+
+pub slots_guarded : SlotsAreGuarded
+slots_guarded p n m t a d rest x counts next changed =
+    elim (moved_by p n m t a d rest x (at_next counts next) changed) [
+      | inl lock ↦ inl (gate_of p n m t x counts lock)
+      | inr other ↦ inr other
+    ]
+
+-- ---- local words
+
+-- A live row's owner is the thread of its block.
+owner_block : (p : Accounts) (n : ℕ) (m : Machine) (t : ℕ) (a : Actor) (d : Duty) (rest : List Duty) (x : ℕ)
+    → AtDuty p n m t a d rest → Alive m x → OwnsLocally m t a x → t ≡ block_of m.layout x
+owner_block p n m t a d rest x here alive owns = elim (live_owner p n m x here.core alive.life) [
+  | inl nobody ↦ absurd (omega (arith, nobody, owns.owner))
+  | inr block ↦ omega (arith, block, owns.owner)
+]
+
+abbrev MayCount : Machine → ℕ → ℕ → Type 0
+MayCount m t x = Runs m (block_of m.layout x) → t ≡ block_of m.layout x
+
+-- A step that changes no local word but another row's leaves the row's.
+by_local : (m : Machine) (t x y word : ℕ) → MayCount m t y
+    → written m.memory (Local y) word (Local x) ≢ m.memory (Local x) → MayCount m t x
+by_local m t x y word may changed = elim (eqb_tells y x) [
+  | inl same ↦ subst (MayCount m t) same.1 may
+  | inr other ↦ absurd (changed (written_apart m.memory (Local y) (Local x) word (apart_local y x other.1)))
+]
+
+-- A thread that runs has the word of a running thread.
+runs_word : (p : Accounts) (n : ℕ) (m : Machine) (t u : ℕ) (a : Actor) (d : Duty) (rest : List Duty)
+    → AtDuty p n m t a d rest → Runs m u → m.memory (ThreadWord u) ≡ 1
+runs_word p n m t u a d rest here (b, found, runs) =
+    (here.core.each u b found).0.word ∙ ap status_word runs
+
+counted_by : (p : Accounts) (n : ℕ) (m : Machine) (t : ℕ) (a : Actor) (d : Duty) (rest : List Duty) (x : ℕ)
+    → AtDuty p n m t a d rest → memory_by m t a d (Local x) ≢ m.memory (Local x) → MayCount m t x
+counted_by p n m t a (RetainLoad y h) rest x here changed =
+    absurd (changed (written_load m.memory (Local y) (Local x)))
+counted_by p n m t a (ReleaseLoad y h) rest x here changed =
+    absurd (changed (written_load m.memory (Local y) (Local x)))
+counted_by p n m t a (RetainStore y h w) rest x here changed =
+    let fits = head_of p n m t a (RetainStore y h w) rest here in
+    by_local m t x y (w + 1) (λ runs.
+    owner_block p n m t a (RetainStore y h w) rest y here (alive_backed p n m t a y here.core fits.0 fits.1) fits.2)
+    changed
+counted_by p n m t a (ReleaseStore y w) rest x here changed =
+    let fits = head_of p n m t a (ReleaseStore y w) rest here in
+    let alive =
+    given_alive p n m t a (ReleaseStore y w) rest InFlight y here fits.0 (eq-eqb y y refl) refl in
+    by_local m t x y (w - 1) (λ runs. owner_block p n m t a (ReleaseStore y w) rest y here alive fits.1) changed
+counted_by p n m t a (MergeSwap y Own) rest x here changed =
+    let fits = head_of p n m t a (MergeSwap y Own) rest here in
+    let one : one_if (y == y) ≡ 1 = ap one_if (eq-eqb y y refl) in
+    let alive =
+    alive_deciding p n m y here.core fits.0
+    (omega (arith, first_weighs (decides y) m.actors t a (MergeSwap y Own) rest here.found here.agenda, one)) in
+    by_local m t x y 0 (λ runs. owner_block p n m t a (MergeSwap y Own) rest y here alive fits.1) changed
+counted_by p n m t a (MergeSwap y Handed) rest x here changed =
+    by_local m t x y 0 (λ runs. elim (head_of p n m t a (MergeSwap y Handed) rest here).1 [
+      | inl mine ↦ sym mine
+      | inr stopped ↦
+          absurd (stopped (runs_word p n m t (block_of m.layout y) a (MergeSwap y Handed) rest here runs))
+    ]) changed
+counted_by p n m t a (BirthLocal y h) rest x here changed =
+    let next = (head_of p n m t a (BirthLocal y h) rest here).0 in
+    by_local m t x y (local_word t 1) (λ runs. sym (next_block m t a y next)) changed
+counted_by p n m t a _ rest x here changed = absurd (changed refl)
+
+pub owners_alone : OwnersCountAlone
+owners_alone p n m t a d rest x counts next runs changed =
+    counted_by p n m t a d rest x (at_next counts next) changed runs
+
+-- ---- threads that are gone
+
+none_locked : (account : Account) (m : Machine) (t : ℕ) (a : Actor) (locked : Option ℕ) → ActorFits account m t a
+    → HoldsNone account → a.locked ≡ locked → locked ≡ None
+none_locked account m t a None fits none is = refl
+none_locked account m t a (Some x) fits none is =
+    let it = fits.locks x is in absurd (omega (arith, it.held_so, none it.by x))
+
+none_lent : (account : Account) (m : Machine) (t : ℕ) (a : Actor) (lent : Option ℕ) → ActorFits account m t a
+    → a.locked ≡ None → a.lent ≡ lent → lent ≡ None
+none_lent account m t a None fits unlocked is = refl
+none_lent account m t a (Some x) fits unlocked is =
+    absurd (let wrong : None ≡ Some x = sym unlocked ∙ fits.lent x is in cc)
+
+pub gone_hold_nothing : GoneThreadsHoldNothing
+gone_hold_nothing p n m t a counts found gone =
+    let fits = counts.kept.core.each t a found in
+    let idle = subst (AgendaFits a) gone fits.1 in
+    let left = fits.0.exited (ap (λ (s : Status). exits s a.agenda) gone) in
+    let unlocked = none_locked (p t) m t a a.locked fits.0 left.0 refl in
+    record {
+      none = left.0;
+      agenda = idle.0;
+      aside = left.1;
+      settled = idle.1;
+      unlocked = unlocked;
+      returned = none_lent (p t) m t a a.lent fits.0 unlocked refl;
+    }

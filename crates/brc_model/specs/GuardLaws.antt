@@ -1,0 +1,63 @@
+-- What holds between any two steps of running threads beside the counts: marks that are set are watched, cells and slots
+-- are guarded by their row's gate, owners alone count in local words, and a thread that is gone holds nothing.
+use Rattle.std.specs.Prelude.{◌≡◌, ◌≢◌, ◌⊎◌, ℕ, List, [], None, Some, slice_get}
+use Rattle.brc_word.specs.Words.{locked_word}
+use Rattle.brc_model.specs.declared.duty.Duty.{Duty}
+use Rattle.brc_model.specs.declared.actor.Status.TheVariants.{Gone}
+use Rattle.brc_model.specs.declared.address.Address.TheVariants.{Local, Gate, Mark, Cell, Slot}
+use Rattle.brc_model.specs.Layout.{block_of}
+use Rattle.brc_model.specs.Machine.{Actor, Machine, Unborn, Dying, done_by}
+use Rattle.brc_model.specs.Accounts.{Accounts, HoldsNone}
+use Rattle.brc_model.specs.Progress.{Runs}
+use Rattle.brc_model.specs.Watched.{IsWatched}
+use Rattle.brc_model.specs.Counting.{Counts}
+use Rattle.brc_model.specs.CountingLaws.{ComesNext}
+
+-- Each mark that is set is watched: the thread of its block runs, or its exit will scan the mark, or some thread will
+-- look at it.
+abbrev pub QueuedMarksAreWatched : Type 0
+QueuedMarksAreWatched = (p : Accounts) (n : ℕ) (m : Machine) (x : ℕ) → Counts p n m → m.memory (Mark x) ≢ 0
+    → IsWatched m x
+
+-- The thread has locked the row's object, and the object's gate names the thread.
+pub record HoldsGate (m : Machine) (t x : ℕ) : Type 0 where
+  pub actor : Actor
+  pub found : slice_get m.actors t ≡ Some actor
+  pub locked : actor.locked ≡ Some x
+  pub gate : m.memory (Gate x) ≡ locked_word t
+
+-- A step that changes a cell is of the thread that holds the row's gate, or that deallocates the row.
+abbrev pub CellsAreGuarded : Type 0
+CellsAreGuarded =
+    (p : Accounts) (n : ℕ) (m : Machine) (t : ℕ) (a : Actor) (d : Duty) (rest : List Duty) (x i : ℕ) → Counts p n m
+    → ComesNext m t a d rest → (done_by m t a d rest).memory (Cell x i) ≢ m.memory (Cell x i)
+    → HoldsGate m t x ⊎ (m.life x ≡ Dying t)
+
+-- A step that takes a resource out of its slot or puts it there is of the thread that holds the row's gate, or that
+-- deallocates the row, or in whose block the row is not yet born.
+abbrev pub SlotsAreGuarded : Type 0
+SlotsAreGuarded =
+    (p : Accounts) (n : ℕ) (m : Machine) (t : ℕ) (a : Actor) (d : Duty) (rest : List Duty) (x : ℕ) → Counts p n m
+    → ComesNext m t a d rest → (done_by m t a d rest).memory (Slot x) ≢ m.memory (Slot x)
+    → HoldsGate m t x ⊎ ((m.life x ≡ Dying t) ⊎ ((m.life x ≡ Unborn) × (block_of m.layout x ≡ t)))
+
+-- While the thread of a row's block runs, a step that changes the row's local word is that thread's.
+abbrev pub OwnersCountAlone : Type 0
+OwnersCountAlone =
+    (p : Accounts) (n : ℕ) (m : Machine) (t : ℕ) (a : Actor) (d : Duty) (rest : List Duty) (x : ℕ) → Counts p n m
+    → ComesNext m t a d rest → Runs m (block_of m.layout x)
+    → (done_by m t a d rest).memory (Local x) ≢ m.memory (Local x) → t ≡ block_of m.layout x
+
+-- The thread has nothing to do, holds no reference, no lock and no resource, and its dying chain is empty.
+pub record HoldsNothing (account : Accounts) (t : ℕ) (a : Actor) : Type 0 where
+  pub none : HoldsNone (account t)
+  pub agenda : a.agenda ≡ []
+  pub aside : a.aside ≡ []
+  pub settled : a.head ≡ 0
+  pub unlocked : a.locked ≡ None
+  pub returned : a.lent ≡ None
+
+-- A thread that is gone holds nothing.
+abbrev pub GoneThreadsHoldNothing : Type 0
+GoneThreadsHoldNothing = (p : Accounts) (n : ℕ) (m : Machine) (t : ℕ) (a : Actor) → Counts p n m
+    → slice_get m.actors t ≡ Some a → a.status ≡ Gone → HoldsNothing p t a
