@@ -1,6 +1,6 @@
 -- What holds between any two steps of running threads beside the counts: marks that are set are watched, cells and slots
 -- are guarded by their row's gate, owners alone count in local words, and a thread that is gone holds nothing.
-use Rattle.std.specs.Prelude.{◌≡◌, ◌≢◌, ◌⊎◌, ℕ, List, [], None, Some, slice_get}
+use Rattle.std.specs.Prelude.{true, ◌≡◌, ◌≢◌, ◌⊎◌, ℕ, List, [], None, Some, slice_get}
 use Rattle.brc_word.specs.Words.{locked_word}
 use Rattle.brc_model.specs.declared.duty.Duty.{Duty}
 use Rattle.brc_model.specs.declared.actor.Status.TheVariants.{Gone}
@@ -8,6 +8,7 @@ use Rattle.brc_model.specs.declared.address.Address.TheVariants.{Local, Gate, Ma
 use Rattle.brc_model.specs.Layout.{block_of}
 use Rattle.brc_model.specs.Machine.{Actor, Machine, Unborn, Dying, done_by}
 use Rattle.brc_model.specs.Accounts.{Accounts, HoldsNone}
+use Rattle.brc_model.specs.OpenWork.{is_finalising}
 use Rattle.brc_model.specs.Progress.{Runs}
 use Rattle.brc_model.specs.Watched.{IsWatched}
 use Rattle.brc_model.specs.Counting.{Counts}
@@ -26,12 +27,19 @@ pub record HoldsGate (m : Machine) (t x : ℕ) : Type 0 where
   pub locked : actor.locked ≡ Some x
   pub gate : m.memory (Gate x) ≡ locked_word t
 
--- A step that changes a cell is of the thread that holds the row's gate, or that deallocates the row.
+-- A step that changes a cell is of the thread that holds the row's gate, or it is a step of the row's deallocation.
 abbrev pub CellsAreGuarded : Type 0
 CellsAreGuarded =
     (p : Accounts) (n : ℕ) (m : Machine) (t : ℕ) (a : Actor) (d : Duty) (rest : List Duty) (x i : ℕ) → Counts p n m
     → ComesNext m t a d rest → (done_by m t a d rest).memory (Cell x i) ≢ m.memory (Cell x i)
-    → HoldsGate m t x ⊎ (m.life x ≡ Dying t)
+    → HoldsGate m t x ⊎ ((m.life x ≡ Dying t) × (is_finalising d x ≡ true))
+
+-- While a thread has locked a list, no other thread changes a cell of it.
+abbrev pub LockedCellsStay : Type 0
+LockedCellsStay =
+    (p : Accounts) (n : ℕ) (m : Machine) (t : ℕ) (a : Actor) (d : Duty) (rest : List Duty) (u : ℕ) (b : Actor) (x i : ℕ)
+    → Counts p n m → ComesNext m t a d rest → slice_get m.actors u ≡ Some b → u ≢ t → b.locked ≡ Some x
+    → (done_by m t a d rest).memory (Cell x i) ≡ m.memory (Cell x i)
 
 -- A step that takes a resource out of its slot or puts it there is of the thread that holds the row's gate, or that
 -- deallocates the row, or in whose block the row is not yet born.

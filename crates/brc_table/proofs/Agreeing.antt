@@ -105,7 +105,7 @@ row_says law p n m x counts is Closed life row = dead_says m x row
 -- ---- the machine's sums over its hands
 
 -- A number below a list's length has an element.
-there_is : {A : Type 0} (xs : List A) (t : ℕ) → t < length xs → (a : A) × (slice_get xs t ≡ Some a)
+pub there_is : {A : Type 0} (xs : List A) (t : ℕ) → t < length xs → (a : A) × (slice_get xs t ≡ Some a)
 there_is [] t low = absurd (omega (arith, low))
 there_is (a ∷ rest) zero low = (a, refl)
 there_is (a ∷ rest) (suc t) low = there_is rest t (omega (arith, low))

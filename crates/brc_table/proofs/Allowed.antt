@@ -1,31 +1,34 @@
 -- What a table asks of a step: whatever its words are, the hand can go on, and the rule holds again.
-use Rattle.std.proofs.Common.{◌≤◌, ◌≡◌, ◌≢◌, ℕ, ◌+◌, ◌<◌, Bool, true, false, List, [], ◌∷◌, set, inl, inr, refl, sym, ap, ◌∙◌, subst, arith}
+use Rattle.std.proofs.Common.{◌≤◌, ◌≡◌, ◌≢◌, ℕ, ◌+◌, ◌<◌, Bool, true, List, [], ◌∷◌, set, inl, inr, refl, sym, ap, ◌∙◌, subst, arith}
 use Rattle.std.specs.Prelude.{◌==◌, ◌||◌, ◌&&◌, slice_index, nat_le, nat_lt}
 use Rattle.std.specs.List.{list_any}
 use Rattle.std.proofs.lemmas.List.{set-set}
-use Rattle.std.proofs.lemmas.Bool.{cases_Bool, eqb-true, ltb-true}
+use Rattle.std.proofs.lemmas.Bool.{cases_Bool, cases_lt, eqb-true, ltb-true}
 use Rattle.std.proofs.lemmas.Option.{slice_get_within}
 use mathlib.Core.Option.{some}
 use lib.ListN.{get_elem?}
 use Rattle.atomic_table.specs.Table.{State, keeps, Me, Allows}
 use Rattle.brc_model.specs.declared.duty.Duty.{Duty}
+use Rattle.brc_model.specs.declared.duty.Duty.TheVariants.{KindLoad, CellLoad}
 use Rattle.brc_model.specs.declared.duty.Holding.TheVariants.{AsCaller}
 use Rattle.brc_model.specs.declared.actor.Status.TheVariants.{Gone}
 use Rattle.brc_model.specs.declared.address.Address.{Address}
 use Rattle.brc_model.specs.declared.layout.Layout.{Layout}
+use Rattle.brc_model.specs.Limits.{cell_limit}
 use Rattle.brc_model.specs.Layout.{row_count, block_size, none_row, first_immortal_list, is_immortal_row}
-use Rattle.brc_model.specs.Duties.{address_of, new_word}
-use Rattle.brc_model.specs.Machine.{is_running, is_locking}
+use Rattle.brc_model.specs.Duties.{address_of, new_word, cells_of}
+use Rattle.brc_model.specs.Machine.{is_running}
 use Rattle.brc_model.specs.OpenWork.{is_about}
 use Rattle.brc_model.specs.Ranges.{AreSmall}
 use Rattle.brc_model.specs.Within.{Suits, FindsOwner}
 use Rattle.brc_model.specs.Stores.{Overwrites}
 use Rattle.brc_model.specs.Counting.{IsPlainLayout}
 use Rattle.brc_model.specs.CountingLaws.{DutiesAreKept, DutiesAreWithin, AccountsAreThere, ChainsAreThere}
+use Rattle.brc_model.specs.GuardLaws.{LockedCellsStay}
 use Rattle.brc_table.specs.declared.view.View.{View}
 use Rattle.brc_table.specs.Views.{actor_of, did, holds, NamesFewCells, RowsAreThere}
 use Rattle.brc_table.specs.Rule.{thread_reading, reading, Stands}
-use Rattle.brc_table.specs.Plays.{SuitsFirst, FirstFindsOwner, Continues, overwritten, Stores, Looks}
+use Rattle.brc_table.specs.Plays.{SuitsFirst, FirstFindsOwner, FindsSeen, Continues, overwritten, Stores, Looks}
 use Rattle.brc_table.specs.Hands.{TableState, HandState}
 use Rattle.brc_table.specs.Begins.{Becomes, IsAt, Makes, MakesAtThread, StoresThreadWord, StoresWord}
 use Rattle.brc_table.specs.Places.{place, IsTableWord}
@@ -92,6 +95,18 @@ rows_there law chains layout words views id v stands here =
           subst (λ (l : Layout). v.head ≤ row_count l) (sym told)
           (chains stands.accounts (1 + m.layout.workers) m v.thread (actor_of v) stands.counts found);
       cells = few_named (row_count m.layout) v.agenda (stands.counts.ranges.each v.thread (actor_of v) found);
+      locked = λ x e.
+          let lock = (stands.counts.kept.core.each v.thread (actor_of v) found).0.locks x e in
+          rows x (law stands.accounts (1 + m.layout.workers) m v.thread (actor_of v) lock.by x stands.counts found
+          (omega (arith, lock.held_so)));
+      kinds = λ x word seen. elim (cases_lt 0 word) [
+        | inl more ↦
+            subst (λ (w : ℕ). cells_of w ≤ cell_limit) (stands.kinds_seen id x word v here more seen)
+            (stands.counts.ranges.kinds x)
+        | inr none ↦
+            let zero_word : word ≡ 0 = omega (arith, none) in
+            subst (λ (w : ℕ). cells_of w ≤ cell_limit) (sym zero_word) (omega arith)
+      ];
     }
 
 -- ---- a step
@@ -101,6 +116,24 @@ pub record Knows (v : View) (d : Duty) (found : ℕ) : Type 0 where
   pub suits : Suits v.thread (is_running v.status) (row_count v.layout) d found
   pub overwrites : Overwrites v.thread d found
   pub owner : FindsOwner v.layout d found
+  pub seen : FindsSeen v (d ∷ []) found
+
+-- A load of a kind word, or of a cell of the locked list, finds what the hand has seen there.
+finds_seen : (layout : Layout) (words : List ℕ) (views : List View) (id : ℕ) (v : View) (d : Duty) (found : ℕ)
+    → (stands : Stands layout words views) → get_elem? views id ≡ some v
+    → stands.machine.memory (address_of v.layout v.thread v.head d) ≡ found → FindsSeen v (d ∷ []) found
+finds_seen layout words views id v (KindLoad x) found stands here is =
+    λ word some seen. sym is ∙ stands.kinds_seen id x word v here some seen
+finds_seen layout words views id v (CellLoad x i) found stands here is =
+    λ word locked seen. sym is ∙ stands.cells_seen id x i word v here locked seen
+finds_seen layout words views id v _ found stands here is = tt
+
+-- What is behind the duty doesn't matter.
+seen_first : (v : View) (d : Duty) (rest : List Duty) (found : ℕ) → FindsSeen v (d ∷ []) found
+    → FindsSeen v (d ∷ rest) found
+seen_first v (KindLoad x) rest found seen = seen
+seen_first v (CellLoad x i) rest found seen = seen
+seen_first v _ rest found seen = tt
 
 -- The hand's first duty is about the word at this place.
 pub record IsNextAt (v : View) (d : Duty) (rest : List Duty) (index : ℕ) : Type 0 where
@@ -108,21 +141,20 @@ pub record IsNextAt (v : View) (d : Duty) (rest : List Duty) (index : ℕ) : Typ
   pub alive : v.status ≢ Gone
   pub word : IsTableWord (address_of v.layout v.thread v.head d)
   pub index_is : index ≡ place (address_of v.layout v.thread v.head d)
-  pub plain : is_locking d ≡ false
 
 module _ (kept : DutiesAreKept) (within : DutiesAreWithin) (law : AccountsAreThere)
-    (chains : ChainsAreThere) (layout : Layout) (v u : View)
+    (chains : ChainsAreThere) (stay : LockedCellsStay) (layout : Layout) (v u : View)
     (d : Duty) (rest : List Duty) (index : ℕ) (becomes : Becomes layout v u) (next : IsNextAt u d rest index) where
   knows : (words : List ℕ) (views : List View) (id : ℕ) → Does layout words views id u d rest
       → Knows u d (read_of u d (slice_index words (place_of u d)))
   knows words views id does =
       let m = does.stands.machine in
       let told = does.stands.told id u does.here in
-      let relied = relies kept within layout words views id u d rest does in
+      let relied = relies kept within stay layout words views id u d rest does in
       let found = read_of u d (slice_index words (place_of u d)) in
       let seen : m.memory (address_of m.layout u.thread u.head d) ≡ found =
       subst (λ (l : Layout). m.memory (address_of l u.thread u.head d) ≡ found) told
-      (finds kept within layout words views id u d rest does) in
+      (finds kept within stay layout words views id u d rest does) in
       record {
         suits =
             subst (λ (l : Layout). Suits u.thread (is_running u.status) (row_count l) d found) (sym told)
@@ -131,6 +163,9 @@ module _ (kept : DutiesAreKept) (within : DutiesAreWithin) (law : AccountsAreThe
         owner =
             subst (λ (l : Layout). FindsOwner l d found) (sym told)
             (subst (λ (k : ℕ). FindsOwner m.layout d k) seen relied.owner);
+        seen =
+            finds_seen layout words views id u d found does.stands does.here
+            (finds kept within stay layout words views id u d rest does);
       }
 
   -- The step is allowed if it leaves the duty's new word and the hand learns no more than what it knows.
@@ -150,7 +185,6 @@ module _ (kept : DutiesAreKept) (within : DutiesAreWithin) (law : AccountsAreThe
         agenda = next.agenda;
         alive = next.alive;
         word = next.word;
-        plain = next.plain;
       } in
       let found = slice_index s.words index in
       let w = did u (d ∷ rest) (read_of u d found) in
@@ -159,7 +193,7 @@ module _ (kept : DutiesAreKept) (within : DutiesAreWithin) (law : AccountsAreThe
       subst (λ (k : ℕ). Knows u d (read_of u d k)) same (knows s.words (set s.views id u) id does) in
       let left : read_of u d (f found) ≡ new_word u.thread u.head d (read_of u d (slice_index s.words (place_of u d))) =
       leaves found known ∙ ap (λ (k : ℕ). new_word u.thread u.head d (read_of u d k)) (sym same) in
-      let after = stands_after kept within layout s.words (set s.views id u) id u d rest does (f found) left in
+      let after = stands_after kept within stay layout s.words (set s.views id u) id u d rest does (f found) left in
       let now : Stands layout (set s.words index (f found)) (set s.views id w) =
       subst (λ (l : List View). Stands layout (set s.words index (f found)) l) (set-set s.views id u w)
       (subst (λ (k : ℕ). Stands layout (set s.words index (f found))
@@ -186,11 +220,10 @@ object_next v d rest index is_at = record {
   alive = is_at.alive;
   word = object_in_table (address_of v.layout v.thread v.head d) is_at.object;
   index_is = is_at.index_is;
-  plain = is_at.plain;
 }
 
 module _ (kept : DutiesAreKept) (within : DutiesAreWithin) (law : AccountsAreThere)
-    (chains : ChainsAreThere) (layout : Layout) (v u : View)
+    (chains : ChainsAreThere) (stay : LockedCellsStay) (layout : Layout) (v u : View)
     (d : Duty) (rest : List Duty) (index : ℕ) (becomes : Becomes layout v u) (is_at : IsAt u d rest index) where
   -- An object's word says what it is.
   itself : (word : ℕ) → read_of u d word ≡ word
@@ -202,7 +235,7 @@ module _ (kept : DutiesAreKept) (within : DutiesAreWithin) (law : AccountsAreThe
       → ((found : ℕ) → Learns u d rest found → then found (did u (d ∷ rest) found, me.1))
       → Allows (λ (s : State S View). Stands layout s.words s.views) slots id me index f then
   object_allows slots id me f then is_me leaves goes =
-      allows kept within law chains layout v u d rest index becomes (object_next u d rest index is_at) slots id me f then is_me
+      allows kept within law chains stay layout v u d rest index becomes (object_next u d rest index is_at) slots id me f then is_me
       (λ found known.
       itself (f found) ∙ (leaves found (subst (Knows u d) (itself found) known)
       ∙ ap (new_word u.thread u.head d) (sym (itself found))))
@@ -221,7 +254,7 @@ pub record Seen {S : Type 0} (words : TableState) (hand : HandState) (layout : L
   pub view_is : me.0 ≡ hand.view
 
 module _ (kept : DutiesAreKept) (within : DutiesAreWithin) (law : AccountsAreThere)
-    (chains : ChainsAreThere) (words : TableState)
+    (chains : ChainsAreThere) (stay : LockedCellsStay) (words : TableState)
     (hand : HandState) (begins : View → View) {S : Type 0} (layout : Layout) (slots id index : ℕ) (me : Me S View)
     (seen : Seen words hand layout me) (becomes : Becomes words.layout hand.view (begins hand.view)) where
   -- What the hand learns is what a step that goes on says.
@@ -235,6 +268,7 @@ module _ (kept : DutiesAreKept) (within : DutiesAreWithin) (law : AccountsAreThe
         subst (λ (ds : List Duty). SuitsFirst u ds found) (sym agenda) learned.known.suits,
         subst (λ (ds : List Duty). FirstFindsOwner u ds found) (sym agenda) learned.known.owner,
         learned.there,
+        subst (λ (ds : List Duty). FindsSeen u ds found) (sym agenda) (seen_first u d rest found learned.known.seen),
       )
 
   becomes_here : Becomes layout me.0 (begins me.0)
@@ -249,7 +283,7 @@ module _ (kept : DutiesAreKept) (within : DutiesAreWithin) (law : AccountsAreThe
   step_allowed f makes_there =
       let makes : Makes (begins me.0) index f =
       subst (λ (v : View). Makes (begins v) index f) (sym seen.view_is) makes_there in
-      object_allows kept within law chains layout me.0 (begins me.0) makes.duty makes.rest index becomes_here makes.at slots id me
+      object_allows kept within law chains stay layout me.0 (begins me.0) makes.duty makes.rest index becomes_here makes.at slots id me
       f (λ found after. Continues begins me found after) refl
       (λ found known. makes.leaves found known.suits)
       (λ found learned. continues makes.duty makes.rest found makes.at.agenda learned)
@@ -263,13 +297,13 @@ module _ (kept : DutiesAreKept) (within : DutiesAreWithin) (law : AccountsAreThe
       subst (λ (v : View). StoresWord (begins v) index word) (sym seen.view_is) stores_there in
       let u = begins me.0 in
       let makes = stores.makes in
-      object_allows kept within law chains layout me.0 u makes.duty makes.rest index becomes_here makes.at slots id me
+      object_allows kept within law chains stay layout me.0 u makes.duty makes.rest index becomes_here makes.at slots id me
       (λ found. word) (λ found after. Stores begins me after) refl
       (λ found known. makes.leaves found known.suits)
       (λ found learned.
-      let known : found ≡ overwritten u.agenda = stores.knows found learned.known.overwrites in (
+      let known : found ≡ overwritten u = stores.knows found learned.known.overwrites in (
         ap (did u (makes.duty ∷ makes.rest)) known
-            ∙ ap (λ (ds : List Duty). did u ds (overwritten u.agenda)) (sym makes.at.agenda),
+            ∙ ap (λ (ds : List Duty). did u ds (overwritten u)) (sym makes.at.agenda),
         refl,
         learned.there,
       ))
@@ -282,7 +316,6 @@ module _ (kept : DutiesAreKept) (within : DutiesAreWithin) (law : AccountsAreThe
     alive = makes.alive;
     word = subst IsTableWord (sym makes.address) tt;
     index_is = ap place (sym makes.address);
-    plain = makes.plain;
   }
 
   thread_says : (thread : ℕ) (f : ℕ → ℕ) (makes : MakesAtThread (begins me.0) thread f) (k : ℕ)
@@ -298,7 +331,7 @@ module _ (kept : DutiesAreKept) (within : DutiesAreWithin) (law : AccountsAreThe
       subst (λ (v : View). MakesAtThread (begins v) index f) (sym seen.view_is) makes_there in
       let u = begins me.0 in
       let says = thread_says index f makes in
-      allows kept within law chains layout me.0 u makes.duty makes.rest index becomes_here (thread_next index f makes)
+      allows kept within law chains stay layout me.0 u makes.duty makes.rest index becomes_here (thread_next index f makes)
       slots id me f (λ found after. Looks begins me found after) refl
       (λ found known.
       says (f found) ∙ (makes.leaves found ∙ ap (new_word u.thread u.head makes.duty) (sym (says found))))
@@ -319,15 +352,15 @@ module _ (kept : DutiesAreKept) (within : DutiesAreWithin) (law : AccountsAreThe
       let u = begins me.0 in
       let makes = stores.makes in
       let says = thread_says index (λ found. word) makes in
-      allows kept within law chains layout me.0 u makes.duty makes.rest index becomes_here
+      allows kept within law chains stay layout me.0 u makes.duty makes.rest index becomes_here
       (thread_next index (λ found. word) makes) slots id me (λ found. word) (λ found after. Stores begins me after) refl
       (λ found known.
       says word ∙ (makes.leaves found ∙ ap (new_word u.thread u.head makes.duty) (sym (says found))))
       (λ found known rows.
-      let known' : read_of u makes.duty found ≡ overwritten u.agenda =
+      let known' : read_of u makes.duty found ≡ overwritten u =
       stores.knows (read_of u makes.duty found) known.overwrites in (
         ap (did u (makes.duty ∷ makes.rest)) known'
-            ∙ ap (λ (ds : List Duty). did u ds (overwritten u.agenda)) (sym makes.agenda),
+            ∙ ap (λ (ds : List Duty). did u ds (overwritten u)) (sym makes.agenda),
         refl,
         rows,
       ))

@@ -1,6 +1,6 @@
 -- Changes of a hand's view at which no word changes: the hand turns to other work, or it begins a retain, a release or
 -- a birth. First it puts its next duty aside, which may wait.
-use Rattle.std.proofs.Common.{◌≡◌, ◌⊎◌, ℕ, ◌+◌, ◌<◌, ◌≤◌, true, List, [], ◌∷◌, ◌++◌, length, set, inl, inr, refl, sym, ap, ◌∙◌, subst, arith, None, Some}
+use Rattle.std.proofs.Common.{◌≡◌, ◌⊎◌, ℕ, ◌+◌, ◌<◌, ◌≤◌, true, List, [], ◌∷◌, ◌++◌, length, set, inl, inr, refl, sym, ap, ◌∙◌, subst, arith}
 use Rattle.std.specs.Prelude.{◌==◌, not, count_by}
 use Rattle.std.specs.List.{filter}
 use Rattle.std.proofs.lemmas.Bool.{cases_Bool, eq-eqb}
@@ -29,7 +29,7 @@ use Rattle.brc_model.specs.CountingLaws.{WorkIsPutAside, WorkIsTakenBack, Retain
 use Rattle.brc_table.specs.declared.view.View.{View}
 use Rattle.brc_table.specs.Views.{actor_of, open_work, turned, with_reference, without_reference, retaining, releasing, next_row, bearing}
 use Rattle.brc_table.specs.Rule.{Stands}
-use Rattle.brc_table.specs.Hands.{most_references, HoldsOne, HasNoWork, MayWait, IsRunning}
+use Rattle.brc_table.specs.Hands.{most_references, HoldsOne, KeepsLock, HasNoWork, MayWait, IsRunning}
 use Rattle.brc_table.specs.Begins.{Becomes}
 use Rattle.brc_table.proofs.Lists.{set_view}
 use Rattle.brc_table.proofs.Accounts.{with_account_same, with_account_other, with_account_itself, one_more_else, immortal_apart, count_with_reference, count_without_reference}
@@ -77,7 +77,6 @@ module _ (layout : Layout) (words : List ℕ) (views : List View) (id : ℕ) (v 
         actors = refl;
         thread_same = refl;
         told_same = refl;
-        locked_same = refl;
         given_more = λ k is. is;
         holding = λ y counted.
             ap (λ (a : Account). a AsCaller y) own
@@ -91,6 +90,10 @@ module _ (layout : Layout) (words : List ℕ) (views : List View) (id : ℕ) (v 
               ap (λ (a : Account). a (ByVariable i) y) (with_account_other p t account k apart.1)
               ∙ old.no_variables k i y
         ];
+        kinds_stay = λ y word more is. is;
+        cells_stay = λ other y i w apart is locked. refl;
+        kinds_here = λ y word more seen. old.kinds_seen id y word v here more seen;
+        cells_here = λ y i word locked seen. old.cells_seen id y i word v here locked seen;
       })
 
   -- The same of a hand that keeps its references.
@@ -212,7 +215,8 @@ gains_one law layout words views id v x rests immortal =
         reads = old.reads;
         acts = old.acts;
         told = old.told;
-        unlocked = old.unlocked;
+        kinds_seen = old.kinds_seen;
+        cells_seen = old.cells_seen;
         holding = λ other w y is counted.
             one_more_else p t x w.thread AsCaller y (immortal_apart m.layout x y immortal' counted)
             ∙ old.holding other w y is counted;
@@ -278,8 +282,8 @@ retaining_becomes put law free layout v x running none holding few =
 
 -- A hand begins to give up a reference that it holds.
 pub releasing_becomes : WorkIsPutAside → ReleasesBegin → ImmortalsAreFree → (layout : Layout) (v : View) (x : ℕ)
-    → IsRunning v → HasNoWork v x → HoldsOne v x → Becomes layout v (releasing v x)
-releasing_becomes put law free layout v x running none holding =
+    → IsRunning v → HasNoWork v x → HoldsOne v x → KeepsLock v x → Becomes layout v (releasing v x)
+releasing_becomes put law free layout v x running none holding keeps =
     becomes_then layout v (rested v) (releasing v x) (rested_becomes put layout v running.1)
     (λ words views id stands here.
     let one =
@@ -292,7 +296,9 @@ releasing_becomes put law free layout v x running none holding =
     (without_reference v.layout x v.references) (with_one_less (s.accounts t) AsCaller x)
     (law s.accounts (1 + s.machine.layout.workers) s.machine t (actor_of (rested v)) x s.counts
     (is_ready layout words views id v s here running.0) (alone v x none) one.more
-    (λ e. absurd (let wrong : None ≡ Some x = sym (s.unlocked id (rested v) here) ∙ e in cc)))
+    (λ e.
+    let lock = (s.counts.kept.core.each t (actor_of (rested v)) (s.acts id (rested v) here)).0.locks x e in
+    omega (arith, s.holding id (rested v) x here lock.counted, keeps e)))
     (λ y counted. omega (
       arith,
       s.holding id (rested v) y here (subst (λ (l : Layout). IsCounted l y) told counted),

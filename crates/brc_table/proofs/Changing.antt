@@ -1,5 +1,5 @@
 -- One hand's view changes, and with it the machine, so that the rule holds again.
-use Rattle.std.proofs.Common.{◌≡◌, ◌≢◌, ℕ, ◌+◌, ◌<◌, true, List, length, set, Some, ⊎_elim, refl, sym, ap, ◌∙◌, subst, None}
+use Rattle.std.proofs.Common.{◌≡◌, ◌≢◌, ℕ, ◌+◌, ◌<◌, true, List, length, set, Some, ⊎_elim, refl, sym, ap, ◌∙◌, subst}
 use Rattle.std.specs.Prelude.{slice_get, slice_index}
 use Rattle.std.proofs.lemmas.Option.{slice_get_within}
 use mathlib.Core.Option.{some, some-injective}
@@ -7,6 +7,7 @@ use lib.ListN.{get_elem?}
 use Rattle.atomic_table.proofs.Lists.{at_set, set_else, set_again}
 use Rattle.brc_model.specs.declared.duty.Holding.TheVariants.{ByVariable, AsCaller}
 use Rattle.brc_model.specs.declared.address.Address.{Address}
+use Rattle.brc_model.specs.declared.address.Address.TheVariants.{KindOf, Cell}
 use Rattle.brc_model.specs.declared.layout.Layout.{Layout}
 use Rattle.brc_model.specs.Layout.{IsCounted}
 use Rattle.brc_model.specs.Machine.{Actor, Machine, idle_actor}
@@ -15,6 +16,7 @@ use Rattle.brc_model.specs.Counting.{Counts, IsPlainLayout}
 use Rattle.brc_table.specs.declared.view.View.{View}
 use Rattle.brc_table.specs.Places.{place, HasWord, word_count}
 use Rattle.brc_table.specs.Views.{actor_of, holds}
+use Rattle.brc_table.specs.Seen.{has_seen_kind, cell_seen}
 use Rattle.brc_table.specs.Rule.{reading, Stands}
 use Rattle.brc_table.specs.Views.{is_given}
 use Rattle.brc_table.specs.Begins.{Becomes}
@@ -35,11 +37,18 @@ pub record Changes (layout : Layout) (words : List ℕ) (views : List View) (v u
   pub actors : machine.actors ≡ set old.machine.actors v.thread (actor_of u)
   pub thread_same : u.thread ≡ v.thread
   pub told_same : u.layout ≡ v.layout
-  pub locked_same : u.locked ≡ v.locked
   pub given_more : (t : ℕ) → is_given t v ≡ true → is_given t u ≡ true
   pub holding : (x : ℕ) → IsCounted machine.layout x → accounts v.thread AsCaller x ≡ holds u x
   pub others : (t : ℕ) → t ≢ v.thread → accounts t ≡ old.accounts t
   pub no_variables : (t i x : ℕ) → accounts t (ByVariable i) x ≡ 0
+  -- what the other hands have seen stays
+  pub kinds_stay : (x word : ℕ) → 0 < word → old.machine.memory (KindOf x) ≡ word → machine.memory (KindOf x) ≡ word
+  pub cells_stay : (other x i : ℕ) (w : View) → w.thread ≢ v.thread → get_elem? views other ≡ some w
+      → w.locked ≡ Some x → machine.memory (Cell x i) ≡ old.machine.memory (Cell x i)
+  -- what this hand has seen is there
+  pub kinds_here : (x word : ℕ) → 0 < word → has_seen_kind x word u ≡ true → machine.memory (KindOf x) ≡ word
+  pub cells_here : (x i word : ℕ) → u.locked ≡ Some x → cell_seen x i u ≡ Some word
+      → machine.memory (Cell x i) ≡ word
 
 module _ (layout : Layout) (words : List ℕ) (views : List View) (id : ℕ) (v u : View) (old : Stands layout words views)
     (here : get_elem? views id ≡ some v) (after : List ℕ) (new : Changes layout words views v u old after) where
@@ -69,11 +78,22 @@ module _ (layout : Layout) (words : List ℕ) (views : List View) (id : ℕ) (v 
       (λ t. old.told other w t.1 ∙ sym new.layout_same)
       (at_set views id other u w is)
 
-  unlocked_after : (other : ℕ) (w : View) → get_elem? (set views id u) other ≡ some w → w.locked ≡ None
-  unlocked_after other w is =
+  kinds_after : (other x word : ℕ) (w : View) → get_elem? (set views id u) other ≡ some w → 0 < word
+      → has_seen_kind x word w ≡ true → new.machine.memory (KindOf x) ≡ word
+  kinds_after other x word w is more seen =
       ⊎_elim
-      (λ t. subst (λ (x : View). x.locked ≡ None) t.1 (new.locked_same ∙ old.unlocked id v here))
-      (λ t. old.unlocked other w t.1)
+      (λ t. new.kinds_here x word more (subst (λ (z : View). has_seen_kind x word z ≡ true) (sym t.1) seen))
+      (λ t. new.kinds_stay x word more (old.kinds_seen other x word w t.1 more seen))
+      (at_set views id other u w is)
+
+  cells_after : (other x i word : ℕ) (w : View) → get_elem? (set views id u) other ≡ some w → w.locked ≡ Some x
+      → cell_seen x i w ≡ Some word → new.machine.memory (Cell x i) ≡ word
+  cells_after other x i word w is locked seen =
+      ⊎_elim
+      (λ t. new.cells_here x i word (subst (λ (z : View). z.locked ≡ Some x) (sym t.1) locked)
+      (subst (λ (z : View). cell_seen x i z ≡ Some word) (sym t.1) seen))
+      (λ t. new.cells_stay other x i w (elsewhere other w t.0 t.1) t.1 locked
+      ∙ old.cells_seen other x i word w t.1 locked seen)
       (at_set views id other u w is)
 
   holding_after : (other : ℕ) (w : View) (x : ℕ) → get_elem? (set views id u) other ≡ some w
@@ -148,7 +168,8 @@ module _ (layout : Layout) (words : List ℕ) (views : List View) (id : ℕ) (v 
     reads = new.reads;
     acts = acts_after;
     told = told_after;
-    unlocked = unlocked_after;
+    kinds_seen = kinds_after;
+    cells_seen = cells_after;
     holding = holding_after;
     no_variables = new.no_variables;
     apart = apart_after;

@@ -1,5 +1,5 @@
 -- The duty of each kind of step, and where its word is.
-use Rattle.std.proofs.Common.{◌≡◌, ◌≢◌, ℕ, ◌+◌, ◌%◌, ◌*◌, ◌^◌, ◌<◌, ◌≤◌, ◌⊎◌, true, false, Bool, List, [], ◌∷◌, ◌++◌, inl, inr, refl, sym, ap, ◌∙◌, arith}
+use Rattle.std.proofs.Common.{◌≡◌, ◌≢◌, ℕ, ◌+◌, ◌%◌, ◌*◌, ◌^◌, ◌<◌, ◌≤◌, ◌⊎◌, true, Bool, List, [], ◌∷◌, ◌++◌, inl, inr, refl, sym, ap, ◌∙◌, arith}
 use Rattle.std.specs.Prelude.{◌==◌, ◌||◌, cond}
 use Rattle.std.specs.List.{filter, list_any}
 use Rattle.std.proofs.lemmas.Bool.{cases_Bool, eq-eqb}
@@ -14,7 +14,7 @@ use Rattle.brc_model.specs.Limits.{worker_limit, row_limit}
 use Rattle.std.proofs.Math.Nat.{div-add-mod, mod-lt, mod-eq_of_lt}
 use Rattle.brc_word.specs.Words.{biased_part, bias, local_word, released_word, merged_word, dying_word}
 use Rattle.brc_model.specs.Duties.{address_of, new_word}
-use Rattle.brc_model.specs.Machine.{is_running, is_locking}
+use Rattle.brc_model.specs.Machine.{is_running}
 use Rattle.brc_model.specs.Within.{Suits}
 use Rattle.brc_model.specs.OpenWork.{is_about}
 use Rattle.brc_model.specs.Counting.{IsPlainLayout}
@@ -24,7 +24,7 @@ use Rattle.brc_table.specs.Places.{in_tile, place, IsObjectWord}
 use Rattle.brc_table.specs.Views.{RowsAreThere, did, work_about, retaining, releasing, bearing, next_row}
 use Rattle.brc_table.specs.Hands.{HoldsOne}
 use Rattle.brc_table.specs.Begins.{IsQuiet, Makes, MakesQuietly, StoresWord, KeepsThread}
-use Rattle.brc_table.specs.Plays.{overwritten}
+use Rattle.brc_table.specs.Plays.{overwritten_by}
 use Rattle.brc_table.specs.Calls.{LoadsShared, SwapsLocal, StoresLocal, AddsShared, ExchangesShared, ChainsRow, OwnsFirst}
 use Rattle.brc_table.proofs.Allowed.{immortal_there}
 
@@ -43,7 +43,7 @@ low_word : (found : ℕ) → biased_part found < 2 * bias → found + 4 < 2 ^ 64
 low_word found low = let parts = div-add-mod found 4 in let rest : found % 4 < 4 = mod-lt found (omega arith) in
     omega (arith, low, parts, rest)
 
-either_is : (found old new w word : ℕ) → old ≡ w → new ≡ word
+pub either_is : (found old new w word : ℕ) → old ≡ w → new ≡ word
     → either (found == old) new found ≡ cond (found == w) word found
 either_is found old new w word same leaves = elim (cases_Bool (found == w)) [
   | inl this ↦ rw (same, this) leaves
@@ -58,7 +58,7 @@ retain_makes v x runs = record {
   makes = record {
     duty = RetainLoad x AsCaller;
     rest = [];
-    at = record { agenda = refl; alive = runs_on v runs; object = tt; index_is = refl; plain = refl };
+    at = record { agenda = refl; alive = runs_on v runs; object = tt; index_is = refl };
     leaves = λ found suits. refl;
   };
   quiet = record { status = λ s. refl; head = λ head found. refl; used = λ used. refl };
@@ -70,7 +70,7 @@ release_makes v x runs = record {
   makes = record {
     duty = ReleaseLoad x AsCaller;
     rest = [];
-    at = record { agenda = refl; alive = runs_on v runs; object = tt; index_is = refl; plain = refl };
+    at = record { agenda = refl; alive = runs_on v runs; object = tt; index_is = refl };
     leaves = λ found suits. refl;
   };
   quiet = record { status = λ s. refl; head = λ head found. refl; used = λ used. refl };
@@ -126,50 +126,50 @@ module _ (u : View) (x : ℕ) (alive : u.status ≢ Gone) where
   -- The hand's next duty is about the row's word in this line.
   abbrev pub line_makes : (line : ℕ) (f : ℕ → ℕ) (d : Duty) (rest : List Duty) → u.agenda ≡ d ∷ rest
       → IsObjectWord (address_of u.layout u.thread u.head d)
-      → in_tile line x ≡ place (address_of u.layout u.thread u.head d) → is_locking d ≡ false
+      → in_tile line x ≡ place (address_of u.layout u.thread u.head d)
       → ((found : ℕ) → Suits u.thread (is_running u.status) (row_count u.layout) d found
       → f found ≡ new_word u.thread u.head d found)
       → Makes u (in_tile line x) f
-  line_makes line f d rest is object index plain leaves = record {
+  line_makes line f d rest is object index leaves = record {
     duty = d;
     rest = rest;
-    at = record { agenda = is; alive = alive; object = object; index_is = index; plain = plain };
+    at = record { agenda = is; alive = alive; object = object; index_is = index };
     leaves = leaves;
   }
 
   pub at_line : (line : ℕ) (f : ℕ → ℕ) (d : Duty) (rest : List Duty) → u.agenda ≡ d ∷ rest
       → IsObjectWord (address_of u.layout u.thread u.head d)
-      → in_tile line x ≡ place (address_of u.layout u.thread u.head d) → is_locking d ≡ false → IsQuiet d
+      → in_tile line x ≡ place (address_of u.layout u.thread u.head d) → IsQuiet d
       → ((found : ℕ) → Suits u.thread (is_running u.status) (row_count u.layout) d found
       → f found ≡ new_word u.thread u.head d found)
       → MakesQuietly u (in_tile line x) f
-  at_line line f d rest is object index plain quiet leaves =
-      record { makes = line_makes line f d rest is object index plain leaves; quiet = quiet }
+  at_line line f d rest is object index quiet leaves =
+      record { makes = line_makes line f d rest is object index leaves; quiet = quiet }
 
   pub shared_load_makes : (ds : List Duty) → u.agenda ≡ ds → LoadsShared x ds
       → MakesQuietly u (in_tile 1 x) (λ found. found)
   shared_load_makes (DecideAtZero y ∷ rest) is same =
-      at_line 1 (λ found. found) (DecideAtZero y) rest is tt (ap (in_tile 1) (sym same)) refl
+      at_line 1 (λ found. found) (DecideAtZero y) rest is tt (ap (in_tile 1) (sym same))
       (record { status = λ s. refl; head = λ head found. refl; used = λ used. refl }) (λ found suits. refl)
   shared_load_makes (SharedLoad y r ∷ rest) is same =
-      at_line 1 (λ found. found) (SharedLoad y r) rest is tt (ap (in_tile 1) (sym same)) refl
+      at_line 1 (λ found. found) (SharedLoad y r) rest is tt (ap (in_tile 1) (sym same))
       (record { status = λ s. refl; head = λ head found. refl; used = λ used. refl }) (λ found suits. refl)
   shared_load_makes (MergeLoad y c r ∷ rest) is same =
-      at_line 1 (λ found. found) (MergeLoad y c r) rest is tt (ap (in_tile 1) (sym same)) refl
+      at_line 1 (λ found. found) (MergeLoad y c r) rest is tt (ap (in_tile 1) (sym same))
       (record { status = λ s. refl; head = λ head found. refl; used = λ used. refl }) (λ found suits. refl)
   shared_load_makes _ is same = absurd same
 
   pub local_swap_makes : (ds : List Duty) → u.agenda ≡ ds → SwapsLocal x ds
       → MakesQuietly u (in_tile 0 x) (λ found. 0)
   local_swap_makes (MergeSwap y r ∷ rest) is same =
-      at_line 0 (λ found. 0) (MergeSwap y r) rest is tt (ap (in_tile 0) (sym same)) refl
+      at_line 0 (λ found. 0) (MergeSwap y r) rest is tt (ap (in_tile 0) (sym same))
       (record { status = λ s. refl; head = λ head found. refl; used = λ used. refl }) (λ found suits. refl)
   local_swap_makes _ is same = absurd same
 
   pub shared_add_makes : (ds : List Duty) → u.agenda ≡ ds → AddsShared x ds
       → MakesQuietly u (in_tile 1 x) (λ found. (found + 4) % 2 ^ 64)
   shared_add_makes (RetainAdd y h ∷ []) is same =
-      at_line 1 (λ found. (found + 4) % 2 ^ 64) (RetainAdd y h) [] is tt (ap (in_tile 1) (sym same)) refl
+      at_line 1 (λ found. (found + 4) % 2 ^ 64) (RetainAdd y h) [] is tt (ap (in_tile 1) (sym same))
       (record { status = λ s. refl; head = λ head found. refl; used = λ used. refl })
       (λ found suits. mod-eq_of_lt (low_word found suits.0.low))
   shared_add_makes _ is same = absurd same
@@ -177,11 +177,11 @@ module _ (u : View) (x : ℕ) (alive : u.status ≢ Gone) where
   pub shared_exchange_makes : (old new : ℕ) (ds : List Duty) → u.agenda ≡ ds → ExchangesShared x old new ds
       → MakesQuietly u (in_tile 1 x) (λ found. either (found == old) new found)
   shared_exchange_makes old new (SharedExchange y r w ∷ rest) is same =
-      at_line 1 (λ found. either (found == old) new found) (SharedExchange y r w) rest is tt (ap (in_tile 1) (sym same.0)) refl
+      at_line 1 (λ found. either (found == old) new found) (SharedExchange y r w) rest is tt (ap (in_tile 1) (sym same.0))
       (record { status = λ s. refl; head = λ head found. refl; used = λ used. refl })
       (λ found suits. either_is found old new w (released_word w) same.1 same.2)
   shared_exchange_makes old new (MergeExchange y c w r ∷ rest) is same =
-      at_line 1 (λ found. either (found == old) new found) (MergeExchange y c w r) rest is tt (ap (in_tile 1) (sym same.0)) refl
+      at_line 1 (λ found. either (found == old) new found) (MergeExchange y c w r) rest is tt (ap (in_tile 1) (sym same.0))
       (record { status = λ s. refl; head = λ head found. refl; used = λ used. refl })
       (λ found suits. either_is found old new w (merged_word w c) same.1 same.2)
   shared_exchange_makes old new _ is same = absurd same
@@ -190,13 +190,13 @@ module _ (u : View) (x : ℕ) (alive : u.status ≢ Gone) where
       → StoresWord u (in_tile 0 x) word
   local_store_makes word (RetainStore y h w ∷ []) is same = record {
     makes =
-        line_makes 0 (λ found. word) (RetainStore y h w) [] is tt (ap (in_tile 0) (sym same.0)) refl (λ found suits. same.1);
-    knows = λ found over. over ∙ sym (ap overwritten is);
+        line_makes 0 (λ found. word) (RetainStore y h w) [] is tt (ap (in_tile 0) (sym same.0)) (λ found suits. same.1);
+    knows = λ found over. over ∙ sym (ap (overwritten_by u.thread) is);
   }
   local_store_makes word (ReleaseStore y w ∷ []) is same = record {
     makes =
-        line_makes 0 (λ found. word) (ReleaseStore y w) [] is tt (ap (in_tile 0) (sym same.0)) refl (λ found suits. same.1);
-    knows = λ found over. over ∙ sym (ap overwritten is);
+        line_makes 0 (λ found. word) (ReleaseStore y w) [] is tt (ap (in_tile 0) (sym same.0)) (λ found suits. same.1);
+    knows = λ found over. over ∙ sym (ap (overwritten_by u.thread) is);
   }
   local_store_makes word _ is same = absurd same
 
@@ -272,7 +272,7 @@ birth_stores v word runs = record {
   makes = record {
     duty = BirthKind (next_row v) AsCaller word;
     rest = [];
-    at = record { agenda = refl; alive = runs_on v runs; object = tt; index_is = refl; plain = refl };
+    at = record { agenda = refl; alive = runs_on v runs; object = tt; index_is = refl };
     leaves = λ found suits. refl;
   };
   knows = λ found over. over;
@@ -281,16 +281,16 @@ birth_stores v word runs = record {
 pub own_stores : (u : View) (x word : ℕ) → u.status ≢ Gone → (ds : List Duty) → u.agenda ≡ ds → OwnsFirst x ds
     → word ≡ local_word u.thread 1 → StoresWord u (in_tile 0 x) word
 own_stores u x word alive (BirthLocal y h ∷ []) is same first = record {
-  makes = line_makes u x alive 0 (λ found. word) (BirthLocal y h) [] is tt (ap (in_tile 0) (sym same)) refl (λ found suits. first);
-  knows = λ found over. over ∙ sym (ap overwritten is);
+  makes = line_makes u x alive 0 (λ found. word) (BirthLocal y h) [] is tt (ap (in_tile 0) (sym same)) (λ found suits. first);
+  knows = λ found over. over ∙ sym (ap (overwritten_by u.thread) is);
 }
 own_stores u x word alive _ is same first = absurd same
 
 pub chain_stores : (u : View) (x word : ℕ) → u.status ≢ Gone → (ds : List Duty) → u.agenda ≡ ds → ChainsRow x ds
     → word ≡ dying_word u.thread u.head → StoresWord u (in_tile 2 x) word
 chain_stores u x word alive (Die y ∷ rest) is same dies = record {
-  makes = line_makes u x alive 2 (λ found. word) (Die y) rest is tt (ap (in_tile 2) (sym same)) refl (λ found suits. dies);
-  knows = λ found over. over ∙ sym (ap overwritten is);
+  makes = line_makes u x alive 2 (λ found. word) (Die y) rest is tt (ap (in_tile 2) (sym same)) (λ found suits. dies);
+  knows = λ found over. over ∙ sym (ap (overwritten_by u.thread) is);
 }
 chain_stores u x word alive _ is same dies = absurd same
 

@@ -50,7 +50,6 @@ settle_makes v u same next = record {
     alive = next.alive;
     object = tt;
     index_is = ap (λ (k : ℕ). in_tile 2 (k - 1)) (sym same);
-    plain = refl;
   };
   leaves = λ found suits. refl;
 }
@@ -89,7 +88,7 @@ module _ (u : View) (x : ℕ) (alive : u.status ≢ Gone) where
     makes = record {
       duty = SettleKind y;
       rest = rest;
-      at = record { agenda = is; alive = alive; object = tt; index_is = ap (in_tile 3) (sym same); plain = refl };
+      at = record { agenda = is; alive = alive; object = tt; index_is = ap (in_tile 3) (sym same) };
       leaves = λ found suits. refl;
     };
     quiet = record { status = λ s. refl; head = λ head found. refl; used = λ used. refl };
@@ -107,7 +106,6 @@ module _ (u : View) (x : ℕ) (alive : u.status ≢ Gone) where
         alive = alive;
         object = tt;
         index_is = ap (λ (z : ℕ). cell_place z i) (sym same.0) ∙ ap (cell_place y) (sym same.1);
-        plain = refl;
       };
       leaves = λ found suits. refl;
     };
@@ -121,7 +119,7 @@ module _ (u : View) (x : ℕ) (alive : u.status ≢ Gone) where
     makes = record {
       duty = SettleEnd y;
       rest = rest;
-      at = record { agenda = is; alive = alive; object = tt; index_is = ap (in_tile 2) (sym same); plain = refl };
+      at = record { agenda = is; alive = alive; object = tt; index_is = ap (in_tile 2) (sym same) };
       leaves = λ found suits. closed;
     };
     quiet = record { status = λ s. refl; head = λ head found. refl; used = λ used. refl };

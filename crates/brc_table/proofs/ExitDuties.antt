@@ -17,7 +17,7 @@ use Rattle.brc_table.specs.Views.{actor_of, RowsAreThere, claiming, leaving}
 use Rattle.brc_table.specs.Rule.{Stands}
 use Rattle.brc_table.specs.Begins.{Becomes, MakesQuietly, StoresThreadWord}
 use Rattle.brc_table.specs.Calls.{IsFree, MayLeave, ScansRow, Finishes}
-use Rattle.brc_table.specs.Plays.{overwritten}
+use Rattle.brc_table.specs.Plays.{overwritten_by}
 use Rattle.brc_table.proofs.Becoming.{rearranged}
 use Rattle.brc_table.proofs.FreeDropped.{HasJust, drops_all, plain_immortal}
 use Rattle.brc_table.proofs.Duties.{runs_on}
@@ -41,7 +41,7 @@ claim_makes v x free = record {
   makes = record {
     duty = ClaimMark x;
     rest = [];
-    at = record { agenda = refl; alive = runs_on v free.running; object = tt; index_is = refl; plain = refl };
+    at = record { agenda = refl; alive = runs_on v free.running; object = tt; index_is = refl };
     leaves = λ found suits. refl;
   };
   quiet = record { status = λ s. refl; head = λ head found. refl; used = λ used. refl };
@@ -89,7 +89,6 @@ leave_stores v may = record {
     agenda = refl;
     alive = runs_on v may.free.running;
     address = refl;
-    plain = refl;
     leaves = λ found. refl;
   };
   knows = λ found over. over;
@@ -106,16 +105,15 @@ gone_stores v (Finish ∷ []) is alive same = record {
     agenda = is;
     alive = alive;
     address = refl;
-    plain = refl;
     leaves = λ found. refl;
   };
-  knows = λ found over. over ∙ sym (ap overwritten is);
+  knows = λ found over. over ∙ sym (ap (overwritten_by v.thread) is);
 }
 gone_stores v _ is alive same = absurd same
 
-pub gone_overwrites : (ds : List Duty) → Finishes ds → overwritten ds ≡ 2
-gone_overwrites (Finish ∷ []) same = refl
-gone_overwrites _ same = absurd same
+pub gone_overwrites : (t : ℕ) (ds : List Duty) → Finishes ds → overwritten_by t ds ≡ 2
+gone_overwrites t (Finish ∷ []) same = refl
+gone_overwrites t _ same = absurd same
 
 -- ---- the scan
 
@@ -130,7 +128,6 @@ scan_makes u i alive (Scan j n ∷ rest) is same = record {
       alive = alive;
       object = tt;
       index_is = ap (λ (k : ℕ). in_tile 4 (row_at u.layout u.thread k)) (sym same);
-      plain = refl;
     };
     leaves = λ found suits. refl;
   };

@@ -1,7 +1,7 @@
 -- A hand that has nothing to do gives up its references to immortal objects: no count has them, and no word changes.
-use Rattle.std.proofs.Common.{◌≡◌, ℕ, zero, suc, ◌+◌, Bool, true, cond, List, [], ◌∷◌, ◌++◌, set, Some, None, inl, inr, refl, sym, ap, ◌∙◌, subst, arith}
+use Rattle.std.proofs.Common.{◌≡◌, ℕ, zero, suc, ◌+◌, Bool, true, cond, List, [], ◌∷◌, ◌++◌, set, inl, inr, refl, sym, ap, ◌∙◌, subst, arith}
 use Rattle.std.specs.Prelude.{◌==◌, ◌||◌, ◌&&◌, count_by, nat_le, nat_lt}
-use Rattle.std.proofs.lemmas.Bool.{cases_Bool, eqb-true, leb-true, ltb-true}
+use Rattle.std.proofs.lemmas.Bool.{cases_Bool, eqb-true, leb-true, ltb-true, false≢true}
 use Rattle.std.proofs.lemmas.Bool.Decides.{eqb_tells}
 use Rattle.std.proofs.lemmas.List.{set-set}
 use Rattle.std.proofs.lemmas.Option.{slice_get_within}
@@ -13,7 +13,7 @@ use Rattle.brc_model.specs.declared.duty.Holding.TheVariants.{ByVariable, AsCall
 use Rattle.brc_model.specs.declared.duty.Duty.{Duty}
 use Rattle.brc_model.specs.declared.duty.Duty.TheVariants.{ReleaseLoad}
 use Rattle.brc_model.specs.declared.address.Address.{Address}
-use Rattle.brc_model.specs.declared.address.Address.TheVariants.{Local}
+use Rattle.brc_model.specs.declared.address.Address.TheVariants.{Local, KindOf, Cell}
 use Rattle.brc_model.specs.declared.layout.Layout.{Layout}
 use Rattle.brc_model.specs.Layout.{none_row, first_immortal_list, is_immortal_row}
 use Rattle.brc_model.specs.Duties.{continuation, ready}
@@ -101,7 +101,7 @@ module _ (kept : DutiesAreKept) (law : ReleasesBegin) (layout : Layout) (words :
         law s.accounts n m t a none_row s.counts
         (record { found = s.acts id v here; running = free.running; agenda = free.agenda }) alone
         (omega (arith, has.just))
-        (λ e. absurd (let wrong : None ≡ Some none_row = sym (s.unlocked id v here) ∙ e in cc))
+        (λ e. absurd (false≢true (sym ((s.counts.kept.core.each t a (s.acts id v here)).0.locks none_row e).counted)))
 
     after : Counts p n (done_by (with_actor m t busy) t busy (ReleaseLoad none_row AsCaller) [])
     after =
@@ -147,7 +147,6 @@ module _ (kept : DutiesAreKept) (law : ReleasesBegin) (layout : Layout) (words :
           })) rests;
       thread_same = refl;
       told_same = refl;
-      locked_same = refl;
       given_more = λ u is. is;
       holding = λ x counted.
           ap (λ (account : Account). account AsCaller x) (with_account_same s.accounts t less)
@@ -162,6 +161,12 @@ module _ (kept : DutiesAreKept) (law : ReleasesBegin) (layout : Layout) (words :
             ap (λ (account : Account). account (ByVariable i) y) (with_account_other s.accounts t less u apart.1)
             ∙ s.no_variables u i y
       ];
+      kinds_stay = λ x word more is. unwritten m.memory (Local none_row) (KindOf x) ∙ is;
+      cells_stay = λ other x i w apart is locked. unwritten m.memory (Local none_row) (Cell x i);
+      kinds_here = λ x word more seen.
+          unwritten m.memory (Local none_row) (KindOf x) ∙ s.kinds_seen id x word v here more seen;
+      cells_here = λ x i word locked seen.
+          unwritten m.memory (Local none_row) (Cell x i) ∙ s.cells_seen id x i word v here locked seen;
     }
 
     -- The thread has one reference to none less.

@@ -18,6 +18,8 @@ giving_there v t rows = record {
   aside = rows.aside;
   head = rows.head;
   cells = rows.cells;
+  locked = rows.locked;
+  kinds = rows.kinds;
 }
 
 -- The spare of a worker whose hand main may give out is there, and not spent.

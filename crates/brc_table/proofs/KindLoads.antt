@@ -32,7 +32,7 @@ asking_makes v x runs = record {
   makes = record {
     duty = KindLoad x;
     rest = [];
-    at = record { agenda = refl; alive = runs_on v runs; object = tt; index_is = refl; plain = refl };
+    at = record { agenda = refl; alive = runs_on v runs; object = tt; index_is = refl };
     leaves = λ found suits. refl;
   };
   quiet = record { status = λ s. refl; head = λ head found. refl; used = λ used. refl };

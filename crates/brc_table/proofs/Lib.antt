@@ -1,6 +1,7 @@
 mod Lists
 mod Places
 mod Changing
+mod SeenWords
 mod Stepping
 mod Allowed
 mod Picked
@@ -9,6 +10,7 @@ mod Becoming
 mod Duties
 mod MarkDuties
 mod KindLoads
+mod Locking
 mod FreeDropped
 mod ExitDuties
 mod DyingDuties
@@ -21,6 +23,7 @@ mod Tally
 mod Claims
 mod Sharing
 mod Agreeing
+mod Guarding
 mod Spares
 mod Splitting
 mod GivenHands

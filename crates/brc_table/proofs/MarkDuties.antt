@@ -9,7 +9,7 @@ use Rattle.brc_table.specs.declared.view.View.{View}
 use Rattle.brc_table.specs.Places.{in_tile}
 use Rattle.brc_table.specs.Views.{RowsAreThere, did, work_about}
 use Rattle.brc_table.specs.Begins.{MakesQuietly, MakesAtThreadQuietly, StoresWord, KeepsThread}
-use Rattle.brc_table.specs.Plays.{overwritten}
+use Rattle.brc_table.specs.Plays.{overwritten_by}
 use Rattle.brc_table.specs.Calls.{SetsMark, LooksAtOwner, TakesMark}
 use Rattle.brc_table.proofs.Duties.{line_makes, at_line, work_there}
 
@@ -17,15 +17,15 @@ module _ (u : View) (x : ℕ) (alive : u.status ≢ Gone) where
   pub mark_store_makes : (ds : List Duty) → u.agenda ≡ ds → SetsMark x ds → StoresWord u (in_tile 4 x) 1
   mark_store_makes (SetMark y ∷ []) is same = record {
     makes =
-        line_makes u x alive 4 (λ found. 1) (SetMark y) [] is tt (ap (in_tile 4) (sym same)) refl (λ found suits. refl);
-    knows = λ found over. over ∙ sym (ap overwritten is);
+        line_makes u x alive 4 (λ found. 1) (SetMark y) [] is tt (ap (in_tile 4) (sym same)) (λ found suits. refl);
+    knows = λ found over. over ∙ sym (ap (overwritten_by u.thread) is);
   }
   mark_store_makes _ is same = absurd same
 
   pub mark_take_makes : (ds : List Duty) → u.agenda ≡ ds → TakesMark x ds
       → MakesQuietly u (in_tile 4 x) (λ found. 0)
   mark_take_makes (TakeMark y ∷ []) is same =
-      at_line u x alive 4 (λ found. 0) (TakeMark y) [] is tt (ap (in_tile 4) (sym same)) refl
+      at_line u x alive 4 (λ found. 0) (TakeMark y) [] is tt (ap (in_tile 4) (sym same))
       (record { status = λ s. refl; head = λ head found. refl; used = λ used. refl }) (λ found suits. refl)
   mark_take_makes _ is same = absurd same
 
@@ -38,7 +38,6 @@ module _ (u : View) (x : ℕ) (alive : u.status ≢ Gone) where
       agenda = is;
       alive = alive;
       address = ap (λ (z : ℕ). ThreadWord (block_of u.layout z)) same;
-      plain = refl;
       leaves = λ found. refl;
     };
     quiet = record { status = λ s. refl; head = λ head found. refl; used = λ used. refl };
@@ -46,9 +45,9 @@ module _ (u : View) (x : ℕ) (alive : u.status ≢ Gone) where
   look_makes _ is same = absurd same
 
 -- The mark that is set was not set before.
-pub mark_store_overwrites : (x : ℕ) (ds : List Duty) → SetsMark x ds → overwritten ds ≡ 0
-mark_store_overwrites x (SetMark y ∷ []) same = refl
-mark_store_overwrites x _ same = absurd same
+pub mark_store_overwrites : (t x : ℕ) (ds : List Duty) → SetsMark x ds → overwritten_by t ds ≡ 0
+mark_store_overwrites t x (SetMark y ∷ []) same = refl
+mark_store_overwrites t x _ same = absurd same
 
 -- Setting a mark leaves status, chain and used rows as they are.
 pub mark_store_keeps : (v : View) (x : ℕ) (ds : List Duty) (found : ℕ) → SetsMark x ds → KeepsThread v (did v ds found)

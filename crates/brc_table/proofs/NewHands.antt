@@ -1,7 +1,7 @@
 -- A new hand is as its plain fields say: main's first one, and a worker's that main has just given out.
 use Rattle.std.proofs.Common.{◌≡◌, ℕ, ◌<◌, ◌≤◌, true, false, List, [], ◌∷◌, Option, None, length, replicate, refl, sym, ap, subst, inl, inr, arith}
 use Rattle.std.specs.Prelude.{◌==◌, count_by, slice_get}
-use Rattle.std.proofs.lemmas.Bool.{cases_Bool, eqb-true}
+use Rattle.std.proofs.lemmas.Bool.{cases_Bool, eqb-true, false≢true}
 use Rattle.atomic_table.specs.Table.{Me}
 use Rattle.brc_model.specs.declared.layout.Layout.{Layout}
 use Rattle.brc_model.specs.Layout.{front_rows, root_row}
@@ -33,6 +33,8 @@ main_rows layout plain = record {
   aside = λ x is. absurd cc;
   head = omega arith;
   cells = tt;
+  locked = λ x e. absurd cc;
+  kinds = λ x word seen. absurd (false≢true seen);
 }
 
 worker_rows : (layout : Layout) (thread : ℕ) → 0 < thread → thread ≤ layout.workers
@@ -46,6 +48,8 @@ worker_rows layout thread some known = record {
   aside = λ x is. absurd cc;
   head = omega arith;
   cells = tt;
+  locked = λ x e. absurd cc;
+  kinds = λ x word seen. absurd (false≢true seen);
 }
 
 -- ---- plain fields

@@ -1,7 +1,7 @@
 -- A table stands on its first words, with main's hand alone.
 use Rattle.std.proofs.Common.{◌≡◌, ℕ, zero, suc, ◌+◌, ◌<◌, Bool, true, false, cond, ◌&&◌, List, [], ◌∷◌, Some, refl, sym, ap, ◌∙◌, subst, arith, None}
 use Rattle.std.specs.Prelude.{◌==◌, slice_get}
-use Rattle.std.proofs.lemmas.Bool.{ne_eqb}
+use Rattle.std.proofs.lemmas.Bool.{ne_eqb, false≢true}
 use Rattle.std.proofs.lemmas.List.Sums.{sum_by-cons}
 use mathlib.Core.Option.{some, some-injective, some-ne-none}
 use lib.ListN.{get_elem?}
@@ -16,6 +16,7 @@ use Rattle.brc_model.specs.Counting.{IsPlainLayout, hands_machine, hands_account
 use Rattle.brc_model.specs.CountingLaws.{HandsBegin}
 use Rattle.brc_table.specs.declared.view.View.{View}
 use Rattle.brc_table.specs.Views.{actor_of, holds, main_view}
+use Rattle.brc_table.specs.Seen.{has_seen_kind, cell_seen}
 use Rattle.brc_table.specs.Rule.{Stands}
 use Rattle.brc_table.specs.Opening.{AreFirst}
 use Rattle.brc_table.proofs.Lists.{slice_get-replicate}
@@ -68,7 +69,11 @@ module _ (begin : HandsBegin) (layout : Layout) (plain : IsPlainLayout layout) (
     acts = λ id v is.
         of_main (λ w. slice_get (hands_machine layout).actors w.thread ≡ Some (actor_of w)) id v is refl;
     told = λ id v is. of_main (λ w. w.layout ≡ layout) id v is refl;
-    unlocked = λ id v is. of_main (λ w. w.locked ≡ None) id v is refl;
+    kinds_seen = λ id x word v is more seen.
+        absurd (false≢true (sym (of_main (λ w. has_seen_kind x word w ≡ false) id v is refl) ∙ seen));
+    cells_seen = λ id x i word v is locked seen.
+        absurd (let none = of_main (λ w. cell_seen x i w ≡ None) id v is refl in
+        let wrong : None ≡ Some word = sym none ∙ seen in cc);
     holding = λ id v x is counted.
         of_main (λ w. hands_accounts w.thread AsCaller x ≡ holds w x) id v is (main_holds layout x);
     no_variables = λ t i x. by_none (t == 0);

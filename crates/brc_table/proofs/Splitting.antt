@@ -11,6 +11,7 @@ use Rattle.atomic_table.specs.Table.{State, Splits}
 use Rattle.atomic_table.proofs.Lists.{at_set, set_else, at_longer, at_last}
 use Rattle.brc_model.specs.declared.duty.Holding.TheVariants.{ByVariable, AsCaller}
 use Rattle.brc_model.specs.declared.duty.Duty.{Duty}
+use Rattle.brc_model.specs.declared.address.Address.TheVariants.{KindOf, Cell}
 use Rattle.brc_model.specs.declared.layout.Layout.{Layout}
 use Rattle.brc_model.specs.Layout.{first_immortal_list, IsCounted, root_row}
 use Rattle.brc_model.specs.AbstractState.{PassOn, ByThread}
@@ -23,6 +24,7 @@ use Rattle.brc_model.specs.CountingLaws.{ReferencesAreHandedOver}
 use Rattle.brc_table.specs.declared.view.View.{View}
 use Rattle.brc_table.specs.Views.{actor_of, holds, is_given, giving, worker_view}
 use Rattle.brc_table.specs.Rule.{Stands}
+use Rattle.brc_table.specs.Seen.{has_seen_kind, cell_seen}
 use Rattle.brc_table.specs.Hands.{HasNoWork}
 use Rattle.brc_table.specs.Giving.{MayGive}
 use Rattle.brc_table.proofs.Lists.{set_view}
@@ -160,7 +162,7 @@ module _ (law : ReferencesAreHandedOver) (layout : Layout) (words : List ℕ) (v
       law p (1 + old.machine.layout.workers) old.machine v.thread t (actor_of v) (idle_actor 0) root_row old.counts
       (old.acts id v here) worker_idle.0 (λ e. t_apart (sym e)) (has_none v root_row may.no_work) refl refl root_counted
       (omega (arith, old.holding id v root_row here root_counted, may.holds_root))
-      (λ e. absurd (let wrong : None ≡ Some root_row = sym (old.unlocked id v here) ∙ e in cc))
+      (λ e. omega (arith, old.holding id v root_row here root_counted, may.keeps e))
       (omega (arith, worker_idle.1 AsCaller root_row))
 
   -- ---- each part of the rule
@@ -178,10 +180,22 @@ module _ (law : ReferencesAreHandedOver) (layout : Layout) (words : List ℕ) (v
   told_after other z (Another apart is) = old.told other z is
   told_after other z (New same is) = subst (λ (w : View). w.layout ≡ machine.layout) is (old.told id v here)
 
-  unlocked_after : (other : ℕ) (z : View) → Whose other z → z.locked ≡ None
-  unlocked_after other z (Mains same is) = subst (λ (w : View). w.locked ≡ None) is (old.unlocked id v here)
-  unlocked_after other z (Another apart is) = old.unlocked other z is
-  unlocked_after other z (New same is) = subst (λ (w : View). w.locked ≡ None) is refl
+  kinds_after : (other x word : ℕ) (z : View) → Whose other z → 0 < word → has_seen_kind x word z ≡ true
+      → old.machine.memory (KindOf x) ≡ word
+  kinds_after other x word z (Mains same is) high seen =
+      old.kinds_seen id x word v here high (subst (λ (w : View). has_seen_kind x word w ≡ true) (sym is) seen)
+  kinds_after other x word z (Another apart is) high seen = old.kinds_seen other x word z is high seen
+  kinds_after other x word z (New same is) high seen =
+      absurd (false≢true (subst (λ (w : View). has_seen_kind x word w ≡ true) (sym is) seen))
+
+  cells_after : (other x i word : ℕ) (z : View) → Whose other z → z.locked ≡ Some x → cell_seen x i z ≡ Some word
+      → old.machine.memory (Cell x i) ≡ word
+  cells_after other x i word z (Mains same is) locked seen =
+      old.cells_seen id x i word v here (subst (λ (w : View). w.locked ≡ Some x) (sym is) locked)
+      (subst (λ (w : View). cell_seen x i w ≡ Some word) (sym is) seen)
+  cells_after other x i word z (Another apart is) locked seen = old.cells_seen other x i word z is locked seen
+  cells_after other x i word z (New same is) locked seen =
+      absurd (let wrong : None ≡ Some x = subst (λ (w : View). w.locked ≡ Some x) (sym is) locked in cc)
 
   holding_after : (other : ℕ) (z : View) (x : ℕ) → Whose other z → IsCounted machine.layout x
       → after z.thread AsCaller x ≡ holds z x
@@ -283,7 +297,9 @@ module _ (law : ReferencesAreHandedOver) (layout : Layout) (words : List ℕ) (v
     reads = old.reads;
     acts = λ other z is. acts_after other z (whose other z is);
     told = λ other z is. told_after other z (whose other z is);
-    unlocked = λ other z is. unlocked_after other z (whose other z is);
+    kinds_seen = λ other x word z is high seen. kinds_after other x word z (whose other z is) high seen;
+    cells_seen = λ other x i word z is locked seen.
+        cells_after other x i word z (whose other z is) locked seen;
     holding = λ other z x is counted. holding_after other z x (whose other z is) counted;
     no_variables = none_after;
     apart = λ one other w z is that same. apart_after one other w z (whose one w is) (whose other z that) same;

@@ -1,12 +1,11 @@
 -- A hand does its first duty, which is one step on a word, and the rule holds again.
-use Rattle.std.proofs.Common.{◌≡◌, ◌≢◌, ℕ, ◌+◌, ◌≤◌, Bool, true, cond, List, ◌∷◌, length, set, inl, inr, refl, sym, ap, ◌∙◌, subst, arith, false, Option}
+use Rattle.std.proofs.Common.{◌≡◌, ◌≢◌, ℕ, ◌+◌, ◌≤◌, Bool, true, cond, List, ◌∷◌, length, set, inl, inr, refl, sym, ap, ◌∙◌, subst, arith}
 use Rattle.std.specs.Prelude.{◌==◌, slice_index}
 use Rattle.std.proofs.lemmas.List.{length-set, get_or-set_same, get_or-set_other}
 use Rattle.std.proofs.lemmas.Bool.{eqb-true, cases_Bool}
 use mathlib.Core.Option.{some}
 use lib.ListN.{get_elem?}
 use Rattle.brc_model.specs.declared.duty.Duty.{Duty}
-use Rattle.brc_model.specs.declared.duty.Duty.TheVariants.{LockGate, UnlockGate}
 use Rattle.brc_model.specs.declared.actor.Status.TheVariants.{Gone}
 use Rattle.brc_model.specs.declared.address.Address.{Address}
 use Rattle.brc_model.specs.declared.address.Address.TheVariants.{Local, Shared, Gate, KindOf, Mark, Cell, Slot, Resource, ThreadWord}
@@ -14,16 +13,18 @@ use Rattle.brc_model.specs.declared.layout.Layout.{Layout}
 use Rattle.brc_model.specs.Layout.{row_count}
 use Rattle.brc_model.specs.Limits.{worker_limit}
 use Rattle.brc_model.specs.Duties.{address_of, new_word}
-use Rattle.brc_model.specs.Machine.{Machine, same_address, written, actor_by, done_by, is_locking, locked_by}
+use Rattle.brc_model.specs.Machine.{Machine, same_address, written, actor_by, done_by, locked_by}
 use Rattle.brc_model.specs.Within.{IsThere}
 use Rattle.brc_model.specs.CountingLaws.{ComesNext, DutiesAreKept, DutyWithin, DutiesAreWithin}
+use Rattle.brc_model.specs.GuardLaws.{LockedCellsStay}
 use Rattle.brc_table.specs.declared.view.View.{View}
 use Rattle.brc_table.specs.Places.{place, HasWord, IsObjectWord, IsTableWord, word_count}
-use Rattle.brc_table.specs.Views.{actor_of, did}
+use Rattle.brc_table.specs.Views.{actor_of, event_of, did}
 use Rattle.brc_table.specs.Rule.{reading, Stands}
 use Rattle.brc_table.proofs.Lists.{and_first, and_second}
 use Rattle.brc_table.proofs.Places.{place_apart, place_within}
 use Rattle.brc_table.proofs.Changing.{Changes, changed}
+use Rattle.brc_table.proofs.SeenWords.{kind_stays, IsStep, kind_here, cell_here}
 
 -- ---- words and addresses
 
@@ -110,13 +111,6 @@ pub record Does (layout : Layout) (words : List ℕ) (views : List View) (id : �
   pub agenda : v.agenda ≡ d ∷ rest
   pub alive : v.status ≢ Gone
   pub word : IsTableWord (address_of v.layout v.thread v.head d)
-  pub plain : is_locking d ≡ false
-
--- A duty that neither locks nor unlocks leaves the hand's lock as it is.
-locked_still : (locked : Option ℕ) (d : Duty) (found : ℕ) → is_locking d ≡ false → locked_by locked d found ≡ locked
-locked_still locked (LockGate x) found plain = absurd cc
-locked_still locked (UnlockGate x) found plain = absurd cc
-locked_still locked _ found plain = refl
 
 -- the place of the duty's word
 abbrev pub place_of : View → Duty → ℕ
@@ -126,7 +120,7 @@ place_of v d = place (address_of v.layout v.thread v.head d)
 abbrev pub read_of : View → Duty → ℕ → ℕ
 read_of v d word = reading (address_of v.layout v.thread v.head d) word
 
-module _ (kept : DutiesAreKept) (within : DutiesAreWithin) (layout : Layout) (words : List ℕ) (views : List View) (id : ℕ)
+module _ (kept : DutiesAreKept) (within : DutiesAreWithin) (stay : LockedCellsStay) (layout : Layout) (words : List ℕ) (views : List View) (id : ℕ)
     (v : View) (d : Duty) (rest : List Duty) (does : Does layout words views id v d rest) where
   abbrev m : Machine
   m = does.stands.machine
@@ -160,6 +154,10 @@ module _ (kept : DutiesAreKept) (within : DutiesAreWithin) (layout : Layout) (wo
         let t = v.thread in let a = actor_of v in
         let seen : m.memory (address_of m.layout t a.head d) ≡ found =
         subst (λ (l : Layout). m.memory (address_of l t v.head d) ≡ found) told finds in
+        let is_step : IsStep m.layout m.memory t v.head d (event_of v d found) = record {
+          address = ap (λ (l : Layout). address_of l t v.head d) told;
+          left = ap (new_word t v.head d) (sym seen);
+        } in
         record {
           accounts = old.accounts;
           machine = done_by m t a d rest;
@@ -179,11 +177,22 @@ module _ (kept : DutiesAreKept) (within : DutiesAreWithin) (layout : Layout) (wo
               ∙ ap (λ (l : Layout). set m.actors t (actor_by l t a d rest found)) (sym told);
           thread_same = refl;
           told_same = refl;
-          locked_same = locked_still v.locked d found does.plain;
           given_more = λ u is. is;
           holding = λ x counted. old.holding id v x does.here counted;
           others = λ u apart. refl;
           no_variables = old.no_variables;
+          kinds_stay = λ x word more is.
+              kind_stays m.layout m.memory t v.head d x word relies.overwrites more is;
+          cells_stay = λ other x i w apart is locked.
+              stay old.accounts (1 + m.layout.workers) m t a d rest w.thread (actor_of w) x i old.counts comes
+              (old.acts other w is) apart locked;
+          kinds_here = λ x word more shown.
+              kind_here m.layout m.memory t v.head d (event_of v d found) is_step v.trace x word relies.overwrites more
+              (λ before. old.kinds_seen id x word v does.here more before) shown;
+          cells_here = λ x i word locked shown.
+              cell_here m.layout m.memory t v.head d (event_of v d found) is_step v.trace x i word v.locked
+              (λ before known. old.cells_seen id x i word v does.here before known)
+              (ap (locked_by v.locked d) seen ∙ locked) shown;
         }
 
     -- The rule holds after the step.

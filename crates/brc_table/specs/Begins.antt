@@ -1,5 +1,5 @@
 -- Changes of a hand's view at which no word changes: taking work up, and turning to other work.
-use Rattle.std.specs.Prelude.{◌≡◌, ◌≢◌, ℕ, List, ◌∷◌, false}
+use Rattle.std.specs.Prelude.{◌≡◌, ◌≢◌, ℕ, List, ◌∷◌}
 use Rattle.std.specs.Prelude.{slice_set}
 use mathlib.Core.Option.{some}
 use lib.ListN.{get_elem?}
@@ -11,7 +11,7 @@ use Rattle.brc_model.specs.declared.address.Address.TheVariants.{ThreadWord}
 use Rattle.brc_model.specs.declared.layout.Layout.{Layout}
 use Rattle.brc_model.specs.Duties.{address_of, new_word, new_head}
 use Rattle.brc_model.specs.Layout.{row_count}
-use Rattle.brc_model.specs.Machine.{status_by, used_by, is_running, is_locking}
+use Rattle.brc_model.specs.Machine.{status_by, used_by, is_running}
 use Rattle.brc_model.specs.Within.{Suits}
 use Rattle.brc_model.specs.Stores.{Overwrites}
 use Rattle.brc_table.specs.declared.view.View.{View}
@@ -30,8 +30,6 @@ pub record IsAt (v : View) (d : Duty) (rest : List Duty) (index : ℕ) : Type 0 
   pub alive : v.status ≢ Gone
   pub object : IsObjectWord (address_of v.layout v.thread v.head d)
   pub index_is : index ≡ place (address_of v.layout v.thread v.head d)
-  -- no call locks yet
-  pub plain : is_locking d ≡ false
 
 -- The duty leaves the thread's status, the head of its chain and its used rows as they are.
 pub record IsQuiet (d : Duty) : Type 0 where
@@ -55,7 +53,7 @@ pub record MakesQuietly (v : View) (index : ℕ) (f : ℕ → ℕ) : Type 0 wher
 -- The same of a store, which knows the value that it overwrites.
 pub record StoresWord (v : View) (index word : ℕ) : Type 0 where
   pub makes : Makes v index (λ found. word)
-  pub knows : (found : ℕ) → Overwrites v.thread makes.duty found → found ≡ overwritten v.agenda
+  pub knows : (found : ℕ) → Overwrites v.thread makes.duty found → found ≡ overwritten v
 
 -- The hand's first duty is about this thread's word, and makes f of what it finds there.
 pub record MakesAtThread (v : View) (thread : ℕ) (f : ℕ → ℕ) : Type 0 where
@@ -64,7 +62,6 @@ pub record MakesAtThread (v : View) (thread : ℕ) (f : ℕ → ℕ) : Type 0 wh
   pub agenda : v.agenda ≡ duty ∷ rest
   pub alive : v.status ≢ Gone
   pub address : address_of v.layout v.thread v.head duty ≡ ThreadWord thread
-  pub plain : is_locking duty ≡ false
   pub leaves : (found : ℕ) → thread_reading (f found) ≡ new_word v.thread v.head duty (thread_reading found)
 
 -- The same of a duty that leaves status, chain and used rows as they are.
@@ -75,7 +72,7 @@ pub record MakesAtThreadQuietly (v : View) (thread : ℕ) (f : ℕ → ℕ) : Ty
 -- The hand's first duty stores this thread's word, and knows what that word said.
 pub record StoresThreadWord (v : View) (thread word : ℕ) : Type 0 where
   pub makes : MakesAtThread v thread (λ found. word)
-  pub knows : (found : ℕ) → Overwrites v.thread makes.duty found → found ≡ overwritten v.agenda
+  pub knows : (found : ℕ) → Overwrites v.thread makes.duty found → found ≡ overwritten v
 
 -- The hand's first duty is to settle its chain.
 pub record SettlesNext (v : View) : Type 0 where

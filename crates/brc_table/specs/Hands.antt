@@ -1,5 +1,5 @@
 -- What contracts see of a table and of a hand.
-use Rattle.std.specs.Prelude.{◌≡◌, ℕ, ◌≤◌, ◌^◌, ◌%◌, ◌⊎◌, true, Option, None, List, [], ◌∷◌, slice_index_or}
+use Rattle.std.specs.Prelude.{◌≡◌, ℕ, ◌≤◌, ◌^◌, ◌%◌, ◌⊎◌, true, Option, None, Some, List, [], ◌∷◌, slice_index_or, count_by}
 use Rattle.atomic_table.specs.Seated.{TableId}
 use Rattle.brc_model.specs.declared.actor.Status.TheVariants.{Running}
 use Rattle.brc_model.specs.declared.duty.Duty.{Duty}
@@ -8,7 +8,8 @@ use Rattle.brc_model.specs.Layout.{is_immortal_row}
 use Rattle.brc_model.specs.Limits.{row_limit}
 use Rattle.brc_model.specs.OpenWork.{may_wait}
 use Rattle.brc_table.specs.declared.view.View.{View}
-use Rattle.brc_table.specs.Views.{holds, work_about}
+use Rattle.brc_model.specs.Knowledge.{is_retain}
+use Rattle.brc_table.specs.Views.{holds, work_about, open_work}
 
 -- A table, as contracts see it: which one it is, and its size.
 pub record TableState : Type 0 where
@@ -43,9 +44,18 @@ most_references = 2 ^ 32
 abbrev pub HoldsOne : View → ℕ → Type 0
 HoldsOne v x = (is_immortal_row v.layout x ≡ true) ⊎ (1 ≤ holds v x)
 
+-- The hand keeps a reference to the object if it has locked it: it holds a second one.
+abbrev pub KeepsLock : View → ℕ → Type 0
+KeepsLock v x = v.locked ≡ Some x → 2 ≤ holds v x
+
 -- The hand has nothing to do about the row.
 abbrev pub HasNoWork : View → ℕ → Type 0
 HasNoWork v x = work_about x v ≡ []
+
+-- The hand retains nothing. A cell of the list that it has locked may be what keeps a retained object alive, so a hand
+-- ends its retains before it unlocks the list.
+abbrev pub HasNoRetain : View → Type 0
+HasNoRetain v = count_by is_retain (open_work v) ≡ 0
 
 -- The hand's next duty may wait, so that the hand may turn to other work.
 abbrev pub MayWait : List Duty → Type 0

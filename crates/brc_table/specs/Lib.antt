@@ -1,5 +1,6 @@
 pub mod Places
 pub mod Views
+pub mod Seen
 pub mod Rule
 pub mod Plays
 pub mod Hands
@@ -8,4 +9,5 @@ pub mod Calls
 pub mod Opening
 pub mod Agreeing
 pub mod Giving
+pub mod Guarding
 pub mod Spares

@@ -1,16 +1,17 @@
 -- What a step on a word makes of its hand.
-use Rattle.std.specs.Prelude.{◌≡◌, ℕ, List, [], ◌∷◌}
+use Rattle.std.specs.Prelude.{◌≡◌, ℕ, ◌<◌, true, Some, List, [], ◌∷◌}
 use Rattle.atomic_table.specs.Table.{Me}
 use Rattle.brc_model.specs.declared.duty.Duty.{Duty}
-use Rattle.brc_model.specs.declared.duty.Duty.TheVariants.{RetainStore, ReleaseStore, Die, Leave, Finish}
+use Rattle.brc_model.specs.declared.duty.Duty.TheVariants.{RetainStore, ReleaseStore, Die, Leave, Finish, KindLoad, UnlockGate, CellLoad}
 use Rattle.brc_model.specs.declared.actor.Status.TheVariants.{Running, Leaving}
 use Rattle.brc_model.specs.Knowledge.{status_word}
 use Rattle.brc_model.specs.Layout.{row_count}
 use Rattle.brc_model.specs.Machine.{is_running}
 use Rattle.brc_model.specs.Within.{Suits, FindsOwner}
-use Rattle.brc_word.specs.Words.{free_word}
+use Rattle.brc_word.specs.Words.{free_word, locked_word}
 use Rattle.brc_table.specs.declared.view.View.{View}
 use Rattle.brc_table.specs.Views.{done, RowsAreThere}
+use Rattle.brc_table.specs.Seen.{has_seen_kind, cell_seen}
 use Rattle.brc_table.specs.Rule.{thread_reading}
 
 -- The value found suits the view's first duty.
@@ -23,25 +24,37 @@ abbrev pub FirstFindsOwner : View → List Duty → ℕ → Type 0
 FirstFindsOwner v [] found = Unit {0}
 FirstFindsOwner v (d ∷ rest) found = FindsOwner v.layout d found
 
--- the value that the view's first duty overwrites, if it is a store
-abbrev pub overwritten : List Duty → ℕ
-overwritten (RetainStore x h w ∷ rest) = w
-overwritten (ReleaseStore x w ∷ rest) = w
-overwritten (Die x ∷ rest) = free_word
-overwritten (Leave i n ∷ rest) = status_word Running
-overwritten (Finish ∷ rest) = status_word Leaving
-overwritten _ = 0
+-- A load of a kind word finds what the hand has seen there, and so does a load of a cell of the locked list.
+abbrev pub FindsSeen : View → List Duty → ℕ → Type 0
+FindsSeen v (KindLoad x ∷ rest) found = (word : ℕ) → 0 < word → has_seen_kind x word v ≡ true → found ≡ word
+FindsSeen v (CellLoad x i ∷ rest) found = (word : ℕ) → v.locked ≡ Some x → cell_seen x i v ≡ Some word → found ≡ word
+FindsSeen v _ found = Unit {0}
+
+-- the value that the thread's first duty overwrites, if it is a store
+abbrev pub overwritten_by : ℕ → List Duty → ℕ
+overwritten_by t (RetainStore x h w ∷ rest) = w
+overwritten_by t (ReleaseStore x w ∷ rest) = w
+overwritten_by t (Die x ∷ rest) = free_word
+overwritten_by t (Leave i n ∷ rest) = status_word Running
+overwritten_by t (Finish ∷ rest) = status_word Leaving
+overwritten_by t (UnlockGate x ∷ rest) = locked_word t
+overwritten_by t _ = 0
+
+-- the same of a hand
+abbrev pub overwritten : View → ℕ
+overwritten v = overwritten_by v.thread v.agenda
 
 -- The hand first becomes `begins` of what it was, and then does its first duty.
 abbrev pub Continues : {S : Type 0} → (View → View) → Me S View → ℕ → Me S View → Type 0
 Continues begins me found after =
     (after.0 ≡ done (begins me.0) found) × (after.1 ≡ me.1) × SuitsFirst (begins me.0) (begins me.0).agenda found
     × FirstFindsOwner (begins me.0) (begins me.0).agenda found × RowsAreThere after.0
+    × FindsSeen (begins me.0) (begins me.0).agenda found
 
 -- The same of a store, which knows the value that it overwrites.
 abbrev pub Stores : {S : Type 0} → (View → View) → Me S View → Me S View → Type 0
 Stores begins me after =
-    (after.0 ≡ done (begins me.0) (overwritten (begins me.0).agenda)) × (after.1 ≡ me.1) × RowsAreThere after.0
+    (after.0 ≡ done (begins me.0) (overwritten (begins me.0))) × (after.1 ≡ me.1) × RowsAreThere after.0
 
 -- The same of a step on a thread word, which goes on with what the word says of the thread.
 abbrev pub Looks : {S : Type 0} → (View → View) → Me S View → ℕ → Me S View → Type 0

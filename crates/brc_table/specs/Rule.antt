@@ -1,10 +1,10 @@
 -- The table's rule: between any two steps, words and views are those of a counting machine that has the invariant.
-use Rattle.std.specs.Prelude.{◌≡◌, ℕ, ◌+◌, ◌<◌, true, ◌==◌, if◌then◌else◌, List, length, Some, slice_get, slice_index, None}
+use Rattle.std.specs.Prelude.{◌≡◌, ℕ, ◌+◌, ◌<◌, true, ◌==◌, if◌then◌else◌, List, length, Some, slice_get, slice_index}
 use mathlib.Core.Option.{some}
 use lib.ListN.{get_elem?}
 use Rattle.brc_model.specs.declared.duty.Holding.TheVariants.{ByVariable, AsCaller}
 use Rattle.brc_model.specs.declared.address.Address.{Address}
-use Rattle.brc_model.specs.declared.address.Address.TheVariants.{ThreadWord}
+use Rattle.brc_model.specs.declared.address.Address.TheVariants.{KindOf, Cell, ThreadWord}
 use Rattle.brc_model.specs.declared.layout.Layout.{Layout}
 use Rattle.brc_model.specs.Layout.{IsCounted}
 use Rattle.brc_model.specs.Machine.{Machine, idle_actor}
@@ -13,6 +13,7 @@ use Rattle.brc_model.specs.Counting.{Counts, IsPlainLayout}
 use Rattle.brc_table.specs.declared.view.View.{View}
 use Rattle.brc_table.specs.Places.{place, HasWord, word_count}
 use Rattle.brc_table.specs.Views.{actor_of, holds, is_given}
+use Rattle.brc_table.specs.Seen.{has_seen_kind, cell_seen}
 
 -- what a thread word says of the thread: one that isn't started yet counts as running
 abbrev pub thread_reading : ℕ → ℕ
@@ -39,8 +40,12 @@ pub record Stands (layout : Layout) (words : List ℕ) (views : List View) : Typ
   -- the references to counted objects are those that the view lists
   pub holding : (id : ℕ) (v : View) (x : ℕ) → get_elem? views id ≡ some v → IsCounted machine.layout x
       → accounts v.thread AsCaller x ≡ holds v x
-  -- no call locks yet
-  pub unlocked : (id : ℕ) (v : View) → get_elem? views id ≡ some v → v.locked ≡ None
+  -- a kind word that a hand has seen is still there
+  pub kinds_seen : (id x word : ℕ) (v : View) → get_elem? views id ≡ some v → 0 < word
+      → has_seen_kind x word v ≡ true → machine.memory (KindOf x) ≡ word
+  -- while a hand has locked a list, a cell has what the hand last saw or stored there
+  pub cells_seen : (id x i word : ℕ) (v : View) → get_elem? views id ≡ some v → v.locked ≡ Some x
+      → cell_seen x i v ≡ Some word → machine.memory (Cell x i) ≡ word
   -- no hand holds a reference by a variable
   pub no_variables : (t i x : ℕ) → accounts t (ByVariable i) x ≡ 0
   -- no thread has two hands

@@ -1,13 +1,13 @@
 -- A hand's view as a thread of the counting machine, and what its steps make of it.
-use Rattle.std.specs.Prelude.{Bool, ◌≡◌, ℕ, ◌<◌, ◌≤◌, true, ◌==◌, not, if◌then◌else◌, Option, List, [], ◌∷◌, ◌++◌, None, length, count_by, fold}
+use Rattle.std.specs.Prelude.{Bool, ◌≡◌, ℕ, ◌<◌, ◌≤◌, true, ◌==◌, not, if◌then◌else◌, Option, List, [], ◌∷◌, ◌++◌, None, Some, length, count_by, fold}
 use Rattle.std.specs.List.{filter, list_any}
 use Rattle.brc_model.specs.declared.duty.Holding.TheVariants.{AsCaller}
 use Rattle.brc_model.specs.declared.duty.Duty.{Duty}
-use Rattle.brc_model.specs.declared.duty.Duty.TheVariants.{RetainLoad, ReleaseLoad, BirthKind, KindLoad, Settle, ClaimMark, Leave}
+use Rattle.brc_model.specs.declared.duty.Duty.TheVariants.{RetainLoad, ReleaseLoad, BirthKind, KindLoad, LockGate, UnlockGate, CellLoad, Settle, ClaimMark, Leave}
 use Rattle.brc_model.specs.declared.actor.Status.TheVariants.{Running}
 use Rattle.brc_model.specs.declared.layout.Layout.{Layout}
 use Rattle.brc_model.specs.Layout.{row_count, block_size, front_rows, root_row, row_at, is_immortal_row}
-use Rattle.brc_model.specs.Duties.{address_of, new_word, continuation, new_head, ready}
+use Rattle.brc_model.specs.Duties.{address_of, new_word, continuation, new_head, ready, cells_of}
 use Rattle.brc_model.specs.Machine.{Actor, is_running, status_by, used_by, locked_by, lent_by}
 use Rattle.brc_model.specs.OpenWork.{is_about}
 use Rattle.brc_model.specs.Limits.{cell_limit}
@@ -15,6 +15,7 @@ use Rattle.brc_model.specs.Ranges.{cells_named}
 use Rattle.brc_table.specs.declared.view.View.{View}
 use Rattle.brc_table.specs.declared.view.Event.{Event}
 use Rattle.brc_table.specs.Spares.{is_spent_for}
+use Rattle.brc_table.specs.Seen.{has_seen_kind}
 
 -- the thread of the counting machine that the view is of
 abbrev pub actor_of : View → Actor
@@ -35,8 +36,9 @@ abbrev pub NamesFewCells : List Duty → Type 0
 NamesFewCells [] = Unit {0}
 NamesFewCells (d ∷ rest) = cells_named d ≤ cell_limit
 
--- The hand's thread is main or a worker, and the objects to which the hand holds references, those of its duties and
--- the first one of its chain have rows.
+-- The hand's thread is main or a worker, and the objects to which the hand holds references, those of its duties, the
+-- one that it has locked and the first one of its chain have rows. No kind word that it has seen names more cells than a
+-- list has.
 pub record RowsAreThere (v : View) : Type 0 where
   pub thread : v.thread ≤ v.layout.workers
   pub used : v.used ≤ block_size v.layout v.thread
@@ -46,6 +48,8 @@ pub record RowsAreThere (v : View) : Type 0 where
   pub aside : (x : ℕ) → list_any (is_about x) v.aside ≡ true → x < row_count v.layout
   pub head : v.head ≤ row_count v.layout
   pub cells : NamesFewCells v.agenda
+  pub locked : (x : ℕ) → v.locked ≡ Some x → x < row_count v.layout
+  pub kinds : (x word : ℕ) → has_seen_kind x word v ≡ true → cells_of word ≤ cell_limit
 
 -- how many references the hand holds to the object
 abbrev pub holds : View → ℕ → ℕ
@@ -142,6 +146,16 @@ asking v x = record v {
   agenda = KindLoad x ∷ [];
   aside = open_work v;
 }
+
+-- the hand begins to lock the row's object, to unlock it, or to load a cell of it
+abbrev pub locking : View → ℕ → View
+locking v x = record v { agenda = LockGate x ∷ []; aside = open_work v }
+
+abbrev pub unlocking : View → ℕ → View
+unlocking v x = record v { agenda = UnlockGate x ∷ []; aside = open_work v }
+
+abbrev pub loading_cell : View → ℕ → ℕ → View
+loading_cell v x i = record v { agenda = CellLoad x i ∷ []; aside = open_work v }
 
 -- the agenda of a hand that settles its chain, or goes on to
 abbrev pub settle_first : List Duty → List Duty

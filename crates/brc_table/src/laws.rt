@@ -6,8 +6,12 @@ ghost use Rattle.brc_model.specs.Layout.{row_count, IsCounted};
 ghost use Rattle.brc_table.specs.declared.view.View.{View};
 ghost use Rattle.brc_table.specs.Rule.{Stands};
 ghost use Rattle.brc_table.specs.Agreeing.{AgreesInTable};
+ghost use Rattle.brc_table.specs.Guarding.{SetMarksAreWatched, OnlyHoldersChangeCells, OnlyRunningOwnersCount, GoneHandsHoldNothing};
 
-use brc_model::counts_agree;
+use brc_model::{
+    cells_are_guarded, counts_agree, gone_threads_hold_nothing, owners_count_alone,
+    queued_marks_are_watched,
+};
 
 /// States that in each table, between any two steps of any threads, the counts of every counted object add up to the
 /// references that the hands hold and the decrements that are pending, and what each state of the object implies.
@@ -16,4 +20,33 @@ pub fn counts_agree_in_every_table()
         → IsCounted layout x → x < row_count layout → AgreesInTable words views x }
 {
     counts_agree();
+}
+
+/// States that each mark that is set is watched: by the thread of its block while that runs, by its exit, or by a hand
+/// that has the duty to look at the mark.
+pub fn set_marks_are_watched()
+    ensures { SetMarksAreWatched }
+{
+    queued_marks_are_watched();
+}
+
+/// States that a step changes a cell only if its hand has locked the list, or deallocates it.
+pub fn only_holders_change_cells()
+    ensures { OnlyHoldersChangeCells }
+{
+    cells_are_guarded();
+}
+
+/// States that while the thread of a block runs, no other hand changes the local words of the block.
+pub fn only_running_owners_count()
+    ensures { OnlyRunningOwnersCount }
+{
+    owners_count_alone();
+}
+
+/// States that a hand whose thread is gone holds no reference, lock, resource, duty or chain.
+pub fn gone_hands_hold_nothing()
+    ensures { GoneHandsHoldNothing }
+{
+    gone_threads_hold_nothing();
 }

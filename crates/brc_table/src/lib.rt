@@ -3,6 +3,7 @@
 #![tactic(auto)]
 
 mod carried;
+mod cells;
 mod dying;
 mod exits;
 mod first_words;
@@ -11,6 +12,7 @@ mod handed;
 mod kinds;
 mod laws;
 mod lives;
+mod locks;
 mod marks;
 mod place;
 mod rule;
@@ -22,7 +24,10 @@ mod view;
 mod words;
 
 pub use hand::Hand;
-pub use laws::counts_agree_in_every_table;
+pub use laws::{
+    counts_agree_in_every_table, gone_hands_hold_nothing, only_holders_change_cells,
+    only_running_owners_count, set_marks_are_watched,
+};
 pub use rule::Counting;
 pub use view::{Event, View};
 pub use words::Words;

@@ -66,7 +66,7 @@ impl<T: Drop> Words<T> {
         requires duty { OwnsFirst row hand.old.view.agenda }
         ensures table { hand.new.table ≡ hand.old.table }
         ensures carried { hand.new.carried ≡ hand.old.carried }
-        ensures view { hand.new.view ≡ done hand.old.view (overwritten hand.old.view.agenda) }
+        ensures view { hand.new.view ≡ done hand.old.view (overwritten hand.old.view) }
     {
         self.layout_is_plain();
         hand.rows_are_there();
@@ -82,7 +82,7 @@ impl<T: Drop> Words<T> {
         requires duty { ChainsRow row hand.old.view.agenda }
         ensures table { hand.new.table ≡ hand.old.table }
         ensures carried { hand.new.carried ≡ hand.old.carried }
-        ensures view { hand.new.view ≡ done hand.old.view (overwritten hand.old.view.agenda) }
+        ensures view { hand.new.view ≡ done hand.old.view (overwritten hand.old.view) }
     {
         self.layout_is_plain();
         hand.rows_are_there();

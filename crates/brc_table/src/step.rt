@@ -7,7 +7,7 @@ ghost use Rattle.brc_model.specs.Limits.{cell_limit};
 ghost use Rattle.brc_model.specs.Machine.{is_running};
 ghost use Rattle.brc_table.specs.Places.{in_tile, cell_place};
 ghost use Rattle.brc_table.specs.Views.{done};
-ghost use Rattle.brc_table.specs.Plays.{SuitsFirst, FirstFindsOwner, overwritten};
+ghost use Rattle.brc_table.specs.Plays.{SuitsFirst, FirstFindsOwner, FindsSeen, overwritten};
 ghost use Rattle.brc_table.specs.Hands.{IsOf};
 ghost use Rattle.brc_table.specs.Begins.{Becomes, KeepsThread, SettlesNext, MakesQuietly, MakesAtThreadQuietly, StoresThreadWord, StoresWord};
 
@@ -16,7 +16,9 @@ use crate::place::{GATE, in_cell, in_line};
 use crate::rule::{Begins, Continued, Looked, Stored};
 use crate::size::block_of;
 use crate::words::Words;
-use brc_model::{accounts_are_there, chains_are_there, duties_are_kept, duties_are_within};
+use brc_model::{
+    accounts_are_there, chains_are_there, duties_are_kept, duties_are_within, locked_cells_stay,
+};
 use brc_word::next_of_dying;
 
 /// The word of a thread that isn't started yet, which counts as running.
@@ -39,12 +41,38 @@ impl<T: Drop> Words<T> {
         ensures view { hand.new.view ≡ done (B.begins hand.old.view) result }
         ensures suits { SuitsFirst (B.begins hand.old.view) (B.begins hand.old.view).agenda result }
         ensures owner { FirstFindsOwner (B.begins hand.old.view) (B.begins hand.old.view).agenda result }
+        ensures seen { FindsSeen (B.begins hand.old.view) (B.begins hand.old.view).agenda result }
     {
         duties_are_kept();
         duties_are_within();
         accounts_are_there();
         chains_are_there();
+        locked_cells_stay();
         let index = in_line(line, row);
+        self.table
+            .shared
+            .load::<Continued<B>>(&mut hand.seat, index)
+    }
+
+    /// Loads a list's cell.
+    pub(crate) fn load_cell<B: Begins>(&self, hand: &mut Hand<T>, row: u32, cell: u32) -> u64
+        requires table { IsOf self.now hand.old }
+        requires begins { Becomes self.now.layout hand.old.view (B.begins hand.old.view) }
+        requires thread { KeepsThread hand.old.view (B.begins hand.old.view) }
+        requires cell { cell < cell_limit }
+        requires there { row < row_count self.now.layout }
+        requires makes { MakesQuietly (B.begins hand.old.view) (cell_place row cell) (λ found. found) }
+        ensures table { hand.new.table ≡ hand.old.table }
+        ensures carried { hand.new.carried ≡ hand.old.carried }
+        ensures view { hand.new.view ≡ done (B.begins hand.old.view) result }
+        ensures seen { FindsSeen (B.begins hand.old.view) (B.begins hand.old.view).agenda result }
+    {
+        duties_are_kept();
+        duties_are_within();
+        accounts_are_there();
+        chains_are_there();
+        locked_cells_stay();
+        let index = in_cell(row, cell);
         self.table
             .shared
             .load::<Continued<B>>(&mut hand.seat, index)
@@ -65,6 +93,7 @@ impl<T: Drop> Words<T> {
         duties_are_within();
         accounts_are_there();
         chains_are_there();
+        locked_cells_stay();
         self.layout_is_plain();
         let thread = block_of(self.layout, row) as usize;
         let word = self.table.shared.load::<Looked<B>>(&mut hand.seat, thread);
@@ -86,6 +115,7 @@ impl<T: Drop> Words<T> {
         duties_are_within();
         accounts_are_there();
         chains_are_there();
+        locked_cells_stay();
         hand.rows_are_there();
         let index = in_line(GATE, hand.head - 1);
         let word = self
@@ -102,20 +132,21 @@ impl<T: Drop> Words<T> {
         requires begins { Becomes self.now.layout hand.old.view (B.begins hand.old.view) }
         requires thread { KeepsThread hand.old.view (B.begins hand.old.view) }
         requires stores { StoresThreadWord (B.begins hand.old.view) hand.old.view.thread word }
-        requires status { is_running (done (B.begins hand.old.view) (overwritten (B.begins hand.old.view).agenda)).status
+        requires status { is_running (done (B.begins hand.old.view) (overwritten (B.begins hand.old.view))).status
             ≡ false }
-        requires head { (done (B.begins hand.old.view) (overwritten (B.begins hand.old.view).agenda)).head
+        requires head { (done (B.begins hand.old.view) (overwritten (B.begins hand.old.view))).head
             ≡ hand.old.view.head }
-        requires used { (done (B.begins hand.old.view) (overwritten (B.begins hand.old.view).agenda)).used
+        requires used { (done (B.begins hand.old.view) (overwritten (B.begins hand.old.view))).used
             ≡ hand.old.view.used }
         ensures table { hand.new.table ≡ hand.old.table }
         ensures carried { hand.new.carried ≡ hand.old.carried }
-        ensures view { hand.new.view ≡ done (B.begins hand.old.view) (overwritten (B.begins hand.old.view).agenda) }
+        ensures view { hand.new.view ≡ done (B.begins hand.old.view) (overwritten (B.begins hand.old.view)) }
     {
         duties_are_kept();
         duties_are_within();
         accounts_are_there();
         chains_are_there();
+        locked_cells_stay();
         self.layout_is_plain();
         hand.rows_are_there();
         let thread = hand.thread as usize;
@@ -142,6 +173,7 @@ impl<T: Drop> Words<T> {
         duties_are_within();
         accounts_are_there();
         chains_are_there();
+        locked_cells_stay();
         let index = in_line(line, row);
         self.table
             .shared
@@ -171,6 +203,7 @@ impl<T: Drop> Words<T> {
         duties_are_within();
         accounts_are_there();
         chains_are_there();
+        locked_cells_stay();
         let index = in_cell(row, cell);
         self.table
             .shared
@@ -194,6 +227,7 @@ impl<T: Drop> Words<T> {
         duties_are_within();
         accounts_are_there();
         chains_are_there();
+        locked_cells_stay();
         let index = in_line(line, row);
         self.table
             .shared
@@ -224,6 +258,7 @@ impl<T: Drop> Words<T> {
         duties_are_within();
         accounts_are_there();
         chains_are_there();
+        locked_cells_stay();
         let index = in_line(line, row);
         self.table
             .shared
@@ -246,18 +281,19 @@ impl<T: Drop> Words<T> {
         requires line { line < 5 }
         requires there { row < row_count self.now.layout }
         requires stores { StoresWord (B.begins hand.old.view) (in_tile line row) word }
-        requires status { (done (B.begins hand.old.view) (overwritten (B.begins hand.old.view).agenda)).status
+        requires status { (done (B.begins hand.old.view) (overwritten (B.begins hand.old.view))).status
             ≡ hand.old.view.status }
-        requires head { (done (B.begins hand.old.view) (overwritten (B.begins hand.old.view).agenda)).head ≡ head }
-        requires used { (done (B.begins hand.old.view) (overwritten (B.begins hand.old.view).agenda)).used ≡ used }
+        requires head { (done (B.begins hand.old.view) (overwritten (B.begins hand.old.view))).head ≡ head }
+        requires used { (done (B.begins hand.old.view) (overwritten (B.begins hand.old.view))).used ≡ used }
         ensures table { hand.new.table ≡ hand.old.table }
         ensures carried { hand.new.carried ≡ hand.old.carried }
-        ensures view { hand.new.view ≡ done (B.begins hand.old.view) (overwritten (B.begins hand.old.view).agenda) }
+        ensures view { hand.new.view ≡ done (B.begins hand.old.view) (overwritten (B.begins hand.old.view)) }
     {
         duties_are_kept();
         duties_are_within();
         accounts_are_there();
         chains_are_there();
+        locked_cells_stay();
         let index = in_line(line, row);
         self.table
             .shared

@@ -9,7 +9,7 @@ ghost use Rattle.brc_model.specs.Within.{OwnerFits};
 ghost use Rattle.brc_word.specs.Words.{owner_part, local_part};
 ghost use Rattle.brc_table.specs.Views.{done, turned, work_about, retaining, releasing};
 ghost use Rattle.brc_table.specs.Plays.{SuitsFirst, overwritten};
-ghost use Rattle.brc_table.specs.Hands.{IsOf, IsRunning, HoldsOne, HasNoWork, most_references};
+ghost use Rattle.brc_table.specs.Hands.{IsOf, IsRunning, HoldsOne, KeepsLock, HasNoWork, most_references};
 ghost use Rattle.brc_table.specs.Calls.{CanAct, LoadsShared, SwapsLocal, StoresLocal, AddsShared, ExchangesShared};
 
 use crate::hand::Hand;
@@ -47,11 +47,12 @@ impl<T: Drop> Words<T> {
         self.load::<Brand>(hand, LOCAL, row)
     }
 
-    /// Begins to release an object: loads its local word.
+    /// Begins to release an object: loads its local word. The hand keeps a reference to the object that it has locked.
     pub fn release_load(&self, hand: &mut Hand<T>, row: u32) -> u64
         requires table { IsOf self.now hand.old }
         requires running { IsRunning hand.old.view }
         requires held { HoldsOne hand.old.view row }
+        requires keeps { KeepsLock hand.old.view row }
         requires idle { HasNoWork hand.old.view row }
         ensures table { hand.new.table ≡ hand.old.table }
         ensures carried { hand.new.carried ≡ hand.old.carried }
@@ -105,7 +106,7 @@ impl<T: Drop> Words<T> {
         requires duty { StoresLocal row word hand.old.view.agenda }
         ensures table { hand.new.table ≡ hand.old.table }
         ensures carried { hand.new.carried ≡ hand.old.carried }
-        ensures view { hand.new.view ≡ done hand.old.view (overwritten hand.old.view.agenda) }
+        ensures view { hand.new.view ≡ done hand.old.view (overwritten hand.old.view) }
     {
         hand.rows_are_there();
         let (head, used) = (hand.head, hand.used);

@@ -21,7 +21,7 @@ pub struct View {
     pub head: u32,
     /// How many rows of the thread's block are used.
     pub used: u32,
-    /// The row of the list that the hand has locked. No call locks yet.
+    /// The row of the list that the hand has locked.
     pub locked: Option<u32>,
     /// The row whose resource the hand has lent. No call lends yet.
     pub lent: Option<u32>,

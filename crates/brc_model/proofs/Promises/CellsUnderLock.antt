@@ -21,7 +21,7 @@ use Rattle.brc_model.proofs.Keeping.Sits.{sitting}
 use Rattle.brc_model.proofs.Keeping.CodeInvariant.{CodeInvariant}
 use Rattle.brc_model.proofs.Keeping.StepCases.{ShowsSteps, at_duty, event_shows}
 
-abbrev pub MayChange : Machine → ℕ → ℕ → Type 0
+abbrev MayChange : Machine → ℕ → ℕ → Type 0
 MayChange m t x = HasLock m t x ⊎ (m.life x ≡ Dying t)
 
 -- A step that changes no cell but another row's changes none of the row's.
@@ -34,8 +34,7 @@ by_row m t x y i j word may =
       | false ↦ λ e other. absurd (other refl)
     ] refl
 
--- A step that changes a cell is of such a thread.
-pub changed_by : (p : Accounts) (n : ℕ) (m : Machine) (t : ℕ) (a : Actor) (d : Duty) (rest : List Duty) (x i : ℕ)
+changed_by : (p : Accounts) (n : ℕ) (m : Machine) (t : ℕ) (a : Actor) (d : Duty) (rest : List Duty) (x i : ℕ)
     → AtDuty p n m t a d rest → memory_by m t a d (Cell x i) ≢ m.memory (Cell x i) → MayChange m t x
 changed_by p n m t a (SettleCell y j k) rest x i here =
     let dies = (head_of p n m t a (SettleCell y j k) rest here).1 in

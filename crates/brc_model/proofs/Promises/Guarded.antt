@@ -1,35 +1,34 @@
 -- What holds between any two steps of running threads beside the counts: who watches a mark, who may change a cell, a
 -- slot or a local word, and what a thread that is gone holds.
-use Rattle.std.proofs.Common.{◌≡◌, ◌≢◌, ◌⊎◌, ℕ, ◌+◌, ◌-◌, Bool, cond, List, Option, None, Some, inl, inr, refl, sym, ap, ◌∙◌, subst, arith}
-use Rattle.std.specs.Prelude.{◌==◌}
+use Rattle.std.proofs.Common.{true, ◌≡◌, ◌≢◌, ◌⊎◌, ℕ, ◌+◌, ◌-◌, Bool, cond, List, Option, None, Some, inl, inr, refl, sym, ap, ◌∙◌, subst, arith}
+use Rattle.std.specs.Prelude.{◌==◌, ◌&&◌, slice_get}
 use Rattle.std.proofs.lemmas.Bool.{eq-eqb}
 use Rattle.std.proofs.lemmas.Bool.Decides.{eqb_tells}
 use Rattle.brc_word.specs.Words.{local_word}
 use Rattle.brc_model.specs.declared.duty.Duty.{Duty}
-use Rattle.brc_model.specs.declared.duty.Duty.TheVariants.{RetainLoad, RetainStore, ReleaseLoad, ReleaseStore, MergeSwap, BirthSlot, BirthLocal, TakeSlot, LendSlot, ReturnSlot}
+use Rattle.brc_model.specs.declared.duty.Duty.TheVariants.{RetainLoad, RetainStore, ReleaseLoad, ReleaseStore, MergeSwap, SettleCell, CellLoad, CellSwap, BirthSlot, BirthLocal, TakeSlot, LendSlot, ReturnSlot}
 use Rattle.brc_model.specs.declared.duty.Reason.TheVariants.{Own, Handed}
 use Rattle.brc_model.specs.declared.duty.Holding.TheVariants.{InFlight}
 use Rattle.brc_model.specs.declared.actor.Status.{Status}
-use Rattle.brc_model.specs.declared.address.Address.TheVariants.{Local, Slot, ThreadWord}
+use Rattle.brc_model.specs.declared.address.Address.TheVariants.{Local, Cell, Slot, ThreadWord}
 use Rattle.brc_model.specs.Layout.{block_of}
-use Rattle.brc_model.specs.Machine.{Actor, Machine, Unborn, Dying, written}
+use Rattle.brc_model.specs.Machine.{Actor, Machine, Unborn, Live, Dying, written}
 use Rattle.brc_model.specs.References.{one_if}
 use Rattle.brc_model.specs.RowInvariant.{decides}
 use Rattle.brc_model.specs.Accounts.{Account, Accounts, HoldsNone}
 use Rattle.brc_model.specs.Knowledge.{status_word, OwnsLocally}
-use Rattle.brc_model.specs.OpenWork.{AgendaFits, exits}
+use Rattle.brc_model.specs.OpenWork.{AgendaFits, exits, is_finalising}
 use Rattle.brc_model.specs.Invariant.{ActorFits, AtDuty}
 use Rattle.brc_model.specs.Progress.{HasLock, Runs}
 use Rattle.brc_model.specs.Counting.{Counts}
 use Rattle.brc_model.specs.CountingLaws.{ComesNext}
-use Rattle.brc_model.specs.GuardLaws.{QueuedMarksAreWatched, HoldsGate, CellsAreGuarded, SlotsAreGuarded, OwnersCountAlone, GoneThreadsHoldNothing}
+use Rattle.brc_model.specs.GuardLaws.{QueuedMarksAreWatched, HoldsGate, CellsAreGuarded, LockedCellsStay, SlotsAreGuarded, OwnersCountAlone, GoneThreadsHoldNothing}
 use Rattle.brc_model.proofs.Basics.Blocks.{next_block, next_unborn}
 use Rattle.brc_model.proofs.Basics.Written.{written_apart, written_load, apart_local}
 use Rattle.brc_model.proofs.Frame.Alive.{Alive, alive_backed, alive_deciding, first_weighs}
-use Rattle.brc_model.proofs.Frame.Leaves.{head_of, given_alive}
+use Rattle.brc_model.proofs.Frame.Leaves.{head_of, given_alive, locked_alive}
 use Rattle.brc_model.proofs.Limits.StepsAreWithin.{live_owner}
 use Rattle.brc_model.proofs.Stepping.Neutral.{memory_by}
-use Rattle.brc_model.proofs.Promises.CellsUnderLock.{changed_by}
 use Rattle.brc_model.proofs.Promises.MarksWatched.{mark_watched}
 
 -- The premise of the lemmas about one duty.
@@ -53,11 +52,55 @@ gate_of p n m t x counts (a, found, locked) = record {
   gate = ((counts.kept.core.each t a found).0.locks x locked).gate;
 }
 
+abbrev MayEdit : Machine → ℕ → Duty → ℕ → Type 0
+MayEdit m t d x = HasLock m t x ⊎ ((m.life x ≡ Dying t) × (is_finalising d x ≡ true))
+
+-- A step that changes no cell but another row's leaves the row's.
+by_cell : (P : ℕ → Type 0) (m : Machine) (x y i j word : ℕ) → P y
+    → written m.memory (Cell y j) word (Cell x i) ≢ m.memory (Cell x i) → P x
+by_cell P m x y i j word may changed = elim (eqb_tells y x) [
+  | inl same ↦ subst P same.1 may
+  | inr other ↦ absurd (changed (ap (λ (b : Bool). cond (b && (j == i)) word (m.memory (Cell x i))) other.0))
+]
+
+edited_by : (p : Accounts) (n : ℕ) (m : Machine) (t : ℕ) (a : Actor) (d : Duty) (rest : List Duty) (x i : ℕ)
+    → AtDuty p n m t a d rest → memory_by m t a d (Cell x i) ≢ m.memory (Cell x i) → MayEdit m t d x
+edited_by p n m t a (SettleCell y j k) rest x i here =
+    by_cell (MayEdit m t (SettleCell y j k)) m x y i j 0
+    (inr ((head_of p n m t a (SettleCell y j k) rest here).1, eq-eqb y y refl))
+edited_by p n m t a (CellSwap y j z h) rest x i here =
+    by_cell (MayEdit m t (CellSwap y j z h)) m x y i j (z + 1)
+    (inl (a, here.found, (head_of p n m t a (CellSwap y j z h) rest here).0))
+edited_by p n m t a (CellLoad y j) rest x i here =
+    λ changed. absurd (changed (written_load m.memory (Cell y j) (Cell x i)))
+edited_by p n m t a _ rest x i here = λ changed. absurd (changed refl)
+
 pub cells_guarded : CellsAreGuarded
 cells_guarded p n m t a d rest x i counts next changed =
-    elim (changed_by p n m t a d rest x i (at_next counts next) changed) [
+    elim (edited_by p n m t a d rest x i (at_next counts next) changed) [
       | inl lock ↦ inl (gate_of p n m t x counts lock)
       | inr dies ↦ inr dies
+    ]
+
+-- Two threads don't hold one gate, and a locked list isn't dying.
+no_other : (p : Accounts) (n : ℕ) (m : Machine) (t u : ℕ) (b : Actor) (d : Duty) (x : ℕ) → Counts p n m
+    → slice_get m.actors u ≡ Some b → u ≢ t → b.locked ≡ Some x → MayEdit m t d x → ⊥
+no_other p n m t u b d x counts found apart locked (inl lock) =
+    let mine = ((counts.kept.core.each u b found).0.locks x locked).gate in
+    let other = (gate_of p n m t x counts lock).gate in
+    apart (omega (arith, mine, other))
+no_other p n m t u b d x counts found apart locked (inr dies) =
+    let alive = locked_alive p n m u b x counts.kept.core found locked in
+    let wrong : Live ≡ Dying t = sym alive.life ∙ dies.0 in
+    absurd cc
+
+pub cells_stay : LockedCellsStay
+cells_stay p n m t a d rest u b x i counts next found apart locked =
+    elim (eqb_tells (memory_by m t a d (Cell x i)) (m.memory (Cell x i))) [
+      | inl same ↦ same.1
+      | inr other ↦
+          absurd (no_other p n m t u b d x counts found apart locked
+          (edited_by p n m t a d rest x i (at_next counts next) other.1))
     ]
 
 abbrev MayMove : Machine → ℕ → ℕ → Type 0

@@ -9,7 +9,7 @@ use Rattle.brc_table.proofs.words.Words.release_load.Goals as goal
 pub load-requires-clause-begins : goal.load-requires-clause-begins
 load-requires-clause-begins g c =
     releasing_becomes c.work_is_put_aside.ensures c.releases_begin.ensures c.immortals_are_free.ensures c.args.self.now.layout
-    c.args.hand.now.view c.args.row c.requires.running c.requires.idle c.requires.held
+    c.args.hand.now.view c.args.row c.requires.running c.requires.idle c.requires.held c.requires.keeps
 
 pub load-requires-clause-there : goal.load-requires-clause-there
 load-requires-clause-there g c =

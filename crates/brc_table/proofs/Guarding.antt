@@ -1,0 +1,206 @@
+-- The laws of a table beside the counts follow from those of the counting machine whose words and threads are the
+-- table's.
+use Rattle.std.proofs.Common.{◌≡◌, ◌≢◌, ◌⊎◌, ℕ, zero, suc, ◌+◌, ◌<◌, List, [], ◌∷◌, Some, inl, inr, refl, sym, ap, ◌∙◌, subst, arith}
+use Rattle.std.specs.Prelude.{◌||◌, slice_get, slice_index}
+use Rattle.std.specs.List.{list_any}
+use Rattle.std.proofs.lemmas.Bool.{false≢true}
+use Rattle.std.proofs.lemmas.Bool.Decides.{eqb_tells}
+use Rattle.std.proofs.lemmas.List.Folds.{list_any-append}
+use Rattle.std.proofs.lemmas.Option.{slice_get_within}
+use mathlib.Core.Option.{some, some-injective, some-ne-none}
+use lib.ListN.{get_elem?}
+use Rattle.brc_model.specs.declared.duty.Duty.{Duty}
+use Rattle.brc_model.specs.declared.duty.Holding.TheVariants.{AsCaller}
+use Rattle.brc_model.specs.declared.actor.Status.{Status}
+use Rattle.brc_model.specs.declared.actor.Status.TheVariants.{Running, Leaving, Gone}
+use Rattle.brc_model.specs.declared.address.Address.{Address}
+use Rattle.brc_model.specs.declared.address.Address.TheVariants.{Local, Gate, Mark, Cell, ThreadWord}
+use Rattle.brc_model.specs.declared.layout.Layout.{Layout}
+use Rattle.brc_model.specs.Layout.{row_count, block_of, index_of, IsCounted}
+use Rattle.brc_model.specs.Duties.{address_of, new_word}
+use Rattle.brc_model.specs.Knowledge.{status_word}
+use Rattle.brc_model.specs.Machine.{Actor, Machine, idle_actor, done_by, written}
+use Rattle.brc_model.specs.Progress.{Runs}
+use Rattle.brc_model.specs.Watched.{looks_at, scans_over}
+use Rattle.brc_model.specs.Watched as machine
+use Rattle.brc_model.specs.CountingLaws.{ComesNext}
+use Rattle.brc_model.specs.GuardLaws as guard
+use Rattle.brc_model.proofs.Basics.Blocks.{block_within}
+use Rattle.brc_model.proofs.Basics.Lists.{some_is}
+use Rattle.brc_model.proofs.Basics.Written.{written_here}
+use Rattle.brc_table.specs.declared.view.View.{View}
+use Rattle.brc_table.specs.Places.{place, HasWord}
+use Rattle.brc_table.specs.Views.{actor_of, holds}
+use Rattle.brc_table.specs.Rule.{reading, Stands}
+use Rattle.brc_table.specs.Guarding.{thread_says, IsWatched, ByRunning, ByExit, ByLook, SetMarksAreWatched, ChangesWord, OnlyHoldersChangeCells, OnlyRunningOwnersCount, GoneHandsHoldNothing}
+use Rattle.brc_table.proofs.Agreeing.{there_is}
+
+-- ---- the hand of a thread
+
+-- The thread has a hand.
+record HandOf (views : List View) (t : ℕ) : Type 0 where
+  id : ℕ
+  view : View
+  here : get_elem? views id ≡ some view
+  thread : view.thread ≡ t
+
+abbrev HasNoHand : List View → ℕ → Type 0
+HasNoHand views t = (id : ℕ) (v : View) → get_elem? views id ≡ some v → v.thread ≡ t → ⊥
+
+none_in : (v : View) (views : List View) (t : ℕ) → v.thread ≢ t → HasNoHand views t → HasNoHand (v ∷ views) t
+none_in v views t apart none zero w is same = apart (ap (λ (u : View). u.thread) (some-injective v w is) ∙ same)
+none_in v views t apart none (suc id) w is same = none id w is same
+
+hand_of : (views : List View) (t : ℕ) → HandOf views t ⊎ HasNoHand views t
+hand_of [] t = inr (λ id v is same. some-ne-none v (sym is))
+hand_of (v ∷ views) t = elim (eqb_tells v.thread t) [
+  | inl same ↦ inl (record { id = 0; view = v; here = refl; thread = same.1 })
+  | inr apart ↦ elim (hand_of views t) [
+    | inl found ↦ inl (record { id = suc found.id; view = found.view; here = found.here; thread = found.thread })
+    | inr none ↦ inr (none_in v views t apart.1 none)
+  ]
+]
+
+-- The word of a thread that runs.
+word_runs : (s : Status) → status_word s ≡ 1 → s ≡ Running
+word_runs Running e = refl
+word_runs Leaving e = absurd (omega (arith, e))
+word_runs Gone e = absurd (omega (arith, e))
+
+module _ (layout : Layout) (words : List ℕ) (views : List View) (s : Stands layout words views) where
+  abbrev m : Machine
+  m = s.machine
+
+  abbrev n : ℕ
+  n = 1 + m.layout.workers
+
+  -- A thread of the machine is its hand's, or it has done nothing.
+  thread_is : (t : ℕ) (a : Actor) → slice_get m.actors t ≡ Some a
+      → ((h : HandOf views t) × (a ≡ actor_of h.view)) ⊎ (a ≡ idle_actor 0)
+  thread_is t a found = elim (hand_of views t) [
+    | inl h ↦
+        inl (h, some_is a (actor_of h.view) (sym found ∙ (ap (slice_get m.actors) (sym h.thread) ∙ s.acts h.id h.view h.here)))
+    | inr none ↦
+        let low = slice_get_within m.actors t a found in
+        let idle = s.idle t (omega (arith, low, s.counts.kept.core.threads)) none in
+        inr (some_is a (idle_actor 0) (sym found ∙ idle.0))
+  ]
+
+  -- ---- marks
+
+  -- The word of a running thread says that it runs.
+  running_says : (t : ℕ) → t < n → (a : Actor) → slice_get m.actors t ≡ Some a → a.status ≡ Running
+      → thread_says words t ≡ 1
+  running_says t low a found runs =
+      sym (s.reads (ThreadWord t) low)
+      ∙ ((s.counts.kept.core.each t a found).0.word ∙ ap status_word runs)
+
+  -- The thread of a row's block is one of the threads.
+  block_low : (x : ℕ) → block_of m.layout x < n
+  block_low x = omega (arith, block_within m.layout x s.counts.kept.core.some_rows)
+
+  watched_so : (x : ℕ) → machine.IsWatched m x → IsWatched m.layout words views x
+  watched_so x (machine.ByRunning runs) =
+      ByRunning (running_says (block_of m.layout x) (block_low x) runs.0 runs.1 runs.2)
+  watched_so x (machine.ByExit a found leaves scans) = elim (thread_is (block_of m.layout x) a found) [
+    | inl hand ↦
+        ByExit hand.0.id hand.0.view hand.0.here hand.0.thread
+        (ap (λ (b : Actor). b.status) (sym hand.1) ∙ leaves)
+        (ap (λ (b : Actor). list_any (scans_over (index_of m.layout (block_of m.layout x) x)) b.agenda) (sym hand.1)
+        ∙ scans)
+    | inr idle ↦
+        let wrong : Running ≡ Leaving = ap (λ (b : Actor). b.status) (sym idle) ∙ leaves in absurd cc
+  ]
+  watched_so x (machine.ByLook t a found looks) = elim (thread_is t a found) [
+    | inl hand ↦
+        ByLook hand.0.id hand.0.view hand.0.here
+        (list_any-append (looks_at x) hand.0.view.agenda hand.0.view.aside
+        ∙ (ap (λ (b : Actor). list_any (looks_at x) b.agenda || list_any (looks_at x) b.aside) (sym hand.1) ∙ looks))
+    | inr idle ↦
+        absurd (false≢true (ap (λ (b : Actor). list_any (looks_at x) b.agenda || list_any (looks_at x) b.aside) (sym idle)
+        ∙ looks))
+  ]
+
+  -- The thread of a word that says so runs.
+  says_running : (t : ℕ) → t < n → thread_says words t ≡ 1 → Runs m t
+  says_running t low says =
+      let (a, found) = there_is m.actors t (omega (arith, low, s.counts.kept.core.threads)) in
+      let word = (s.counts.kept.core.each t a found).0.word in
+      (a, found, word_runs a.status (sym word ∙ (s.reads (ThreadWord t) low ∙ says)))
+
+-- ---- words that change
+
+module _ (layout : Layout) (words : List ℕ) (views : List View) (v : View) (d : Duty) (a : Address)
+    (it : ChangesWord layout words views v d a) where
+  abbrev now : Machine
+  now = it.stands.machine
+
+  next : ComesNext now v.thread (actor_of v) d it.rest
+  next = record { found = it.stands.acts it.id v it.here; agenda = it.agenda; alive = it.alive }
+
+  has : HasWord now.layout a
+  has = subst (λ (l : Layout). HasWord l a) (sym it.stands.layout_is) it.there
+
+  -- The machine's word changes, too.
+  changed : ((word : ℕ) → reading a word ≡ word)
+      → (done_by now v.thread (actor_of v) d it.rest).memory a ≢ now.memory a
+  changed plain same =
+      let found : now.memory a ≡ slice_index words (place a) =
+      it.stands.reads a has ∙ plain (slice_index words (place a)) in
+      let at : address_of now.layout v.thread v.head d ≡ a =
+      subst (λ (l : Layout). address_of l v.thread v.head d ≡ a) (sym it.stands.layout_is) it.at in
+      let after : (done_by now v.thread (actor_of v) d it.rest).memory a ≡ new_word v.thread v.head d (now.memory a) =
+      ap (λ (b : Address). written now.memory b (new_word v.thread v.head d (now.memory b)) a) at
+      ∙ written_here now.memory a (new_word v.thread v.head d (now.memory a)) in
+      it.other (ap (new_word v.thread v.head d) (sym found) ∙ (sym after ∙ (same ∙ found)))
+
+-- ---- the laws
+
+pub marks_are_watched : guard.QueuedMarksAreWatched → SetMarksAreWatched
+marks_are_watched law layout words views x s there set =
+    let same = s.layout_is in
+    let there' : x < row_count s.machine.layout = subst (λ (l : Layout). x < row_count l) (sym same) there in
+    subst (λ (l : Layout). IsWatched l words views x) same
+    (watched_so layout words views s x (law s.accounts (1 + s.machine.layout.workers) s.machine x s.counts
+    (λ none. set (sym (s.reads (Mark x) there') ∙ none))))
+
+pub holders_change : guard.CellsAreGuarded → OnlyHoldersChangeCells
+holders_change law layout words views v d x i it =
+    let s = it.stands in
+    elim (law s.accounts (1 + s.machine.layout.workers) s.machine v.thread (actor_of v) d it.rest x i s.counts
+    (next layout words views v d (Cell x i) it) (changed layout words views v d (Cell x i) it (λ word. refl))) [
+      | inl holds ↦
+          let there = has layout words views v d (Cell x i) it in
+          let mine : holds.actor ≡ actor_of v = some_is holds.actor (actor_of v) (sym holds.found ∙ s.acts it.id v it.here) in
+          inl (
+            ap (λ (b : Actor). b.locked) (sym mine) ∙ holds.locked,
+            sym (s.reads (Gate x) there.0) ∙ holds.gate,
+          )
+      | inr dies ↦ inr dies.1
+    ]
+
+pub owners_count : guard.OwnersCountAlone → OnlyRunningOwnersCount
+owners_count law layout words views v d x it says =
+    let s = it.stands in
+    let same = s.layout_is in
+    let says' : thread_says words (block_of s.machine.layout x) ≡ 1 =
+    subst (λ (l : Layout). thread_says words (block_of l x) ≡ 1) (sym same) says in
+    let runs =
+    says_running layout words views s (block_of s.machine.layout x)
+    (block_low layout words views s x) says' in
+    subst (λ (l : Layout). v.thread ≡ block_of l x) same
+    (law s.accounts (1 + s.machine.layout.workers) s.machine v.thread (actor_of v) d it.rest x s.counts
+    (next layout words views v d (Local x) it) runs (changed layout words views v d (Local x) it (λ word. refl)))
+
+pub gone_hold : guard.GoneThreadsHoldNothing → GoneHandsHoldNothing
+gone_hold law layout words views id v s here gone =
+    let it = law s.accounts (1 + s.machine.layout.workers) s.machine v.thread (actor_of v) s.counts (s.acts id v here) gone in
+    record {
+      none = λ x counted.
+          sym (s.holding id v x here (subst (λ (l : Layout). IsCounted l x) (sym s.layout_is) counted)) ∙ it.none AsCaller x;
+      agenda = it.agenda;
+      aside = it.aside;
+      settled = it.settled;
+      unlocked = it.unlocked;
+      returned = it.returned;
+    }

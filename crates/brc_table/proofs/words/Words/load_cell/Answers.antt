@@ -1,0 +1,26 @@
+use Rattle.std.proofs.Common.{◌≡◌, ℕ, ◌<◌, ap, sym, ◌∙◌, subst}
+use Rattle.brc_table.specs.Hands.{TableState, HandState}
+use Rattle.brc_table.specs.Places.{word_count, cell_place}
+use Rattle.brc_table.specs.Begins.{Makes}
+use Rattle.brc_table.proofs.Places.{cell_within}
+use Rattle.brc_table.proofs.Allowed.{step_allowed}
+use Rattle.brc_table.proofs.words.Words.load_cell.Goals as goal
+
+pub load-requires : goal.load-requires
+load-requires g c =
+    let hand = c.hand.inside in
+    let begins = g.B.Begins.begins in
+    let shared = c.self.inside.table.shared in
+    let table_is = ap (λ (w : TableState). w.table) c.self.view_is in
+    let layout_is = ap (λ (w : TableState). w.layout) c.self.view_is in
+    let at : c.in_cell-index.result ≡ cell_place c.args.row c.args.cell = c.in_cell-index.ensures in
+    let there = cell_within c.args.self.now.layout c.args.row c.args.cell c.requires.cell c.requires.there in (
+      ap (λ (h : HandState). h.table) c.hand.view_is ∙ (c.requires.table.0 ∙ sym table_is),
+      subst (λ (i : ℕ). i < shared.table_id.words) (sym at) (subst (λ (k : ℕ). cell_place c.args.row c.args.cell < k)
+          (sym (c.self.invariant.1 ∙ ap word_count layout_is)) there),
+      step_allowed c.duties_are_kept.ensures c.duties_are_within.ensures c.accounts_are_there.ensures c.chains_are_there.ensures c.locked_cells_stay.ensures c.args.self.now
+          c.args.hand.now begins shared.key shared.table_id.slots hand.seat.id c.in_cell-index.result hand.seat.me
+          (record { layout_is = layout_is; view_is = ap (λ (h : HandState). h.view) c.hand.view_is }) c.requires.begins
+          (λ found. found)
+          (subst (λ (i : ℕ). Makes (begins c.args.hand.now.view) i (λ found. found)) (sym at) c.requires.makes.makes),
+    )

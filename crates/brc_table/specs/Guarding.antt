@@ -1,0 +1,82 @@
+-- What holds of a table between any two steps of its hands, beside the counts: marks that are set are watched, cells
+-- change under their list's lock alone, a running thread alone changes the local words of its block, and a hand whose
+-- thread is gone holds nothing.
+use Rattle.std.specs.Prelude.{◌≡◌, ◌≢◌, ◌⊎◌, ℕ, ◌<◌, true, List, [], ◌∷◌, None, Some, slice_index}
+use Rattle.std.specs.List.{list_any}
+use mathlib.Core.Option.{some}
+use lib.ListN.{get_elem?}
+use Rattle.brc_word.specs.Words.{locked_word}
+use Rattle.brc_model.specs.declared.duty.Duty.{Duty}
+use Rattle.brc_model.specs.declared.actor.Status.TheVariants.{Leaving, Gone}
+use Rattle.brc_model.specs.declared.address.Address.{Address}
+use Rattle.brc_model.specs.declared.address.Address.TheVariants.{Local, Gate, Cell, ThreadWord}
+use Rattle.brc_model.specs.declared.layout.Layout.{Layout}
+use Rattle.brc_model.specs.Layout.{row_count, block_of, index_of, IsCounted}
+use Rattle.brc_model.specs.Duties.{address_of, new_word}
+use Rattle.brc_model.specs.OpenWork.{is_finalising}
+use Rattle.brc_model.specs.Watched.{looks_at, scans_over}
+use Rattle.brc_table.specs.declared.view.View.{View}
+use Rattle.brc_table.specs.Places.{place, HasWord}
+use Rattle.brc_table.specs.Views.{holds, open_work}
+use Rattle.brc_table.specs.Rule.{thread_reading, Stands}
+use Rattle.brc_table.specs.Agreeing.{mark_at}
+
+-- what the word of a thread says of it
+abbrev pub thread_says : List ℕ → ℕ → ℕ
+thread_says words t = thread_reading (slice_index words (place (ThreadWord t)))
+
+-- The thread of the row's block runs or isn't started; or its hand is leaving and still has to scan the row's mark; or
+-- some hand has the duty to look at the mark.
+pub data IsWatched (layout : Layout) (words : List ℕ) (views : List View) (x : ℕ) : Type 0 where
+  ByRunning : thread_says words (block_of layout x) ≡ 1 → IsWatched layout words views x
+  ByExit : (id : ℕ) (v : View) → get_elem? views id ≡ some v → v.thread ≡ block_of layout x → v.status ≡ Leaving
+      → list_any (scans_over (index_of layout (block_of layout x) x)) v.agenda ≡ true → IsWatched layout words views x
+  ByLook : (id : ℕ) (v : View) → get_elem? views id ≡ some v → list_any (looks_at x) (open_work v) ≡ true
+      → IsWatched layout words views x
+
+-- Each mark that is set is watched.
+abbrev pub SetMarksAreWatched : Type 0
+SetMarksAreWatched = (layout : Layout) (words : List ℕ) (views : List View) (x : ℕ) → Stands layout words views
+    → x < row_count layout → mark_at words x ≢ 0 → IsWatched layout words views x
+
+-- The hand's first duty is about the word at the address, which the table has, and changes it.
+pub record ChangesWord (layout : Layout) (words : List ℕ) (views : List View) (v : View) (d : Duty) (a : Address)
+    : Type 0 where
+  pub stands : Stands layout words views
+  pub id : ℕ
+  pub here : get_elem? views id ≡ some v
+  pub rest : List Duty
+  pub agenda : v.agenda ≡ d ∷ rest
+  pub alive : v.status ≢ Gone
+  pub there : HasWord layout a
+  pub at : address_of layout v.thread v.head d ≡ a
+  pub other : new_word v.thread v.head d (slice_index words (place a)) ≢ slice_index words (place a)
+
+-- The hand has locked the row's object, and the object's gate names the hand's thread.
+abbrev pub HoldsGate : List ℕ → View → ℕ → Type 0
+HoldsGate words v x = (v.locked ≡ Some x) × (slice_index words (place (Gate x)) ≡ locked_word v.thread)
+
+-- A step that changes a cell is of the hand that has locked the list, or it is a step of the list's deallocation.
+abbrev pub OnlyHoldersChangeCells : Type 0
+OnlyHoldersChangeCells = (layout : Layout) (words : List ℕ) (views : List View) (v : View) (d : Duty) (x i : ℕ)
+    → ChangesWord layout words views v d (Cell x i) → HoldsGate words v x ⊎ (is_finalising d x ≡ true)
+
+-- While the thread of a row's block runs, a step that changes the row's local word is of that thread's hand.
+abbrev pub OnlyRunningOwnersCount : Type 0
+OnlyRunningOwnersCount = (layout : Layout) (words : List ℕ) (views : List View) (v : View) (d : Duty) (x : ℕ)
+    → ChangesWord layout words views v d (Local x) → thread_says words (block_of layout x) ≡ 1
+    → v.thread ≡ block_of layout x
+
+-- The hand has nothing to do, holds no reference to a counted object, no lock and no resource, and its chain is empty.
+pub record HoldsNothing (layout : Layout) (v : View) : Type 0 where
+  pub none : (x : ℕ) → IsCounted layout x → holds v x ≡ 0
+  pub agenda : v.agenda ≡ []
+  pub aside : v.aside ≡ []
+  pub settled : v.head ≡ 0
+  pub unlocked : v.locked ≡ None
+  pub returned : v.lent ≡ None
+
+-- A hand whose thread is gone holds nothing.
+abbrev pub GoneHandsHoldNothing : Type 0
+GoneHandsHoldNothing = (layout : Layout) (words : List ℕ) (views : List View) (id : ℕ) (v : View)
+    → Stands layout words views → get_elem? views id ≡ some v → v.status ≡ Gone → HoldsNothing layout v

@@ -1,0 +1,39 @@
+-- What a hand has seen of kind words and of the cells of its locked list. Its trace has each step that it made with the
+-- value that the step left.
+use Rattle.std.specs.Prelude.{◌≡◌, ℕ, ◌<◌, Bool, true, ◌==◌, ◌&&◌, if◌then◌else◌, Option, None, Some, fold}
+use Rattle.std.specs.List.{list_any}
+use Rattle.brc_model.specs.declared.address.Address.TheVariants.{Gate, KindOf, Cell}
+use Rattle.brc_model.specs.Duties.{cells_of}
+use Rattle.brc_model.specs.Machine.{same_address}
+use Rattle.brc_table.specs.declared.view.View.{View}
+use Rattle.brc_table.specs.declared.view.Event.{Event}
+
+-- ---- kinds
+
+-- Says whether the step left this kind word: a load leaves what it found, and a birth what it stored.
+abbrev pub shows_kind : ℕ → ℕ → Event → Bool
+shows_kind x word e = same_address e.address (KindOf x) && (e.left == word)
+
+-- Says whether the hand has loaded or stored this kind word of the row.
+abbrev pub has_seen_kind : ℕ → ℕ → View → Bool
+has_seen_kind x word v = list_any (shows_kind x word) v.trace
+
+-- The hand has seen that the row's object is a list which has the cell.
+pub record KnowsCell (v : View) (x cell : ℕ) : Type 0 where
+  pub word : ℕ
+  pub seen : has_seen_kind x word v ≡ true
+  pub low : cell < cells_of word
+
+-- ---- cells
+
+-- what the hand knows of the cell after a step of its own: a step on the cell shows what it left there, and a step on the
+-- row's gate begins or ends a lock
+abbrev pub cell_known : ℕ → ℕ → Option ℕ → Event → Option ℕ
+cell_known x i known e =
+    if same_address e.address (Cell x i) then Some e.left
+    else if same_address e.address (Gate x) then None
+    else known
+
+-- the word that the hand last saw or stored in the cell since it locked the list
+abbrev pub cell_seen : ℕ → ℕ → View → Option ℕ
+cell_seen x i v = fold (cell_known x i) None v.trace
