@@ -4,7 +4,7 @@ use Rattle.brc_model.specs.declared.duty.Duty.{Duty}
 use Rattle.brc_model.specs.declared.duty.Duty.TheVariants.{Die}
 use Rattle.brc_table.specs.declared.view.View.{View}
 use Rattle.brc_table.specs.Views.{done}
-use Rattle.brc_table.specs.Plays.{overwritten}
+use Rattle.brc_table.specs.Plays.{overwritten, overwritten_by}
 use Rattle.brc_table.specs.Calls.{ChainsRow}
 use Rattle.brc_heap.specs.Calls.{chained, chained_by}
 
@@ -12,6 +12,6 @@ pub chains_row : (v : View) (x : ℕ) → v.agenda ≡ Die x ∷ [] → ChainsRo
 chains_row v x is = subst (ChainsRow x) (sym is) refl
 
 -- The gate's store ends what the exchange began.
-pub chained_is : (v : View) (x : ℕ) → v.agenda ≡ Die x ∷ [] → done v (overwritten v.agenda) ≡ chained v
+pub chained_is : (v : View) (x : ℕ) → v.agenda ≡ Die x ∷ [] → done v (overwritten v) ≡ chained v
 chained_is v x is =
-    ap (λ (ds : List Duty). done v (overwritten ds)) is ∙ sym (ap (chained_by v) is)
+    ap (λ (ds : List Duty). done v (overwritten_by v.thread ds)) is ∙ sym (ap (chained_by v) is)

@@ -1,13 +1,13 @@
 -- What each call leaves of its hand's work, and which references the hand holds afterwards.
 use Rattle.std.proofs.Common.{◌≡◌, ℕ, zero, suc, Bool, true, false, List, [], ◌∷◌, ◌++◌, refl, sym, ap, ◌∙◌, subst}
 use Rattle.std.specs.Prelude.{◌==◌, ◌&&◌, nat_lt, if◌then◌else◌}
-use Rattle.std.proofs.lemmas.Bool.{eq-eqb}
+use Rattle.std.proofs.lemmas.Bool.{eq-eqb, ne_eqb}
 use Rattle.brc_word.specs.Words.{local_part, is_immortal_word, most_local, free_word, fresh_word, dead_word, released_word, merged_word}
 use Rattle.brc_model.specs.declared.duty.Duty.{Duty}
 use Rattle.brc_model.specs.declared.duty.Holding.TheVariants.{AsCaller}
 use Rattle.brc_model.specs.declared.duty.Reason.{Reason}
 use Rattle.brc_model.specs.declared.duty.Reason.TheVariants.{Own}
-use Rattle.brc_model.specs.declared.duty.Duty.TheVariants.{RetainLoad, RetainStore, RetainAdd, ReleaseLoad, ReleaseStore, DecideAtZero, SharedLoad, SetMark, MergeSwap, MergeLoad, Die}
+use Rattle.brc_model.specs.declared.duty.Duty.TheVariants.{RetainLoad, RetainStore, RetainAdd, ReleaseLoad, ReleaseStore, DecideAtZero, SharedLoad, SharedExchange, SetMark, MergeSwap, MergeLoad, MergeExchange, Die}
 use Rattle.brc_model.specs.Duties.{ready, counts_locally}
 use Rattle.brc_model.specs.Machine.{is_running}
 use Rattle.brc_table.specs.declared.view.View.{View}
@@ -18,7 +18,8 @@ use Rattle.brc_heap.specs.declared.release.ZeroStep.TheVariants as zeros
 use Rattle.brc_heap.specs.declared.release.SharedRelease.TheVariants as shared
 use Rattle.brc_heap.specs.declared.merge.MergeStep.TheVariants as merge
 use Rattle.brc_heap.specs.Calls.{retained, counts_here, released_locally, local_answer, chained_by, chained, decided, zero_answer, released_shared, shared_answer, merge_tried, merge_answer, Leaves, local_left, zero_left, shared_left, merge_left}
-use Rattle.brc_heap.proofs.Exchanges.{release_steps, merge_steps}
+use Rattle.brc_heap.proofs.Exchanges.{exchange_ready, release_steps, merge_ready, merge_steps}
+use Rattle.brc_heap.proofs.Sight.{same_sight}
 use Rattle.brc_heap.proofs.Leaving.{AllAbout, WorksAt, turned_works, begun_works, KeepsStatus, done_works, works_leave}
 
 -- ---- references
@@ -56,10 +57,10 @@ retain_next (suc head) x word false true = refl
 retain_next zero x word false false = refl
 retain_next (suc head) x word false false = refl
 
-retain_keeps : (x word : ℕ) (immortal counts : Bool) → KeepsStatus (retain_list x word immortal counts)
+retain_keeps : (x word : ℕ) (immortal counts : Bool) → KeepsStatus x (retain_list x word immortal counts)
 retain_keeps x word true counts = tt
-retain_keeps x word false true = ((λ s. refl), λ n. refl)
-retain_keeps x word false false = ((λ s. refl), λ n. refl)
+retain_keeps x word false true = ((λ s. refl), (λ n. refl), record { locked = λ l k. refl; lent = λ l k. refl; cells = λ l t k y i ne. refl; gates = λ l t k y ne. refl })
+retain_keeps x word false false = ((λ s. refl), (λ n. refl), record { locked = λ l k. refl; lent = λ l k. refl; cells = λ l t k y i ne. refl; gates = λ l t k y ne. refl })
 
 retain_ends : (u : View) (x word found : ℕ) (immortal counts : Bool) → u.agenda ≡ retain_list x word immortal counts
     → (did u (retain_list x word immortal counts) found).agenda ≡ []
@@ -70,9 +71,9 @@ retain_ends u x word found false false is = refl
 -- A retain leaves nothing to do.
 pub retain_leaves : (v : View) (x word found : ℕ) → HasNoWork v x → Leaves x [] v (retained v x word found)
 retain_leaves v x word found none =
-    let begun = begun_works x v (retaining v x) none refl refl refl refl refl refl in
+    let begun = begun_works x v (retaining v x) none refl refl refl refl refl (same_sight x v (retaining v x) refl refl refl) refl in
     let loaded = done (retaining v x) word in
-    let works = done_works x v (retaining v x) (RetainLoad x AsCaller ∷ []) word begun refl ((λ s. refl), λ n. refl) in
+    let works = done_works x v (retaining v x) (RetainLoad x AsCaller ∷ []) word begun refl ((λ s. refl), (λ n. refl), record { locked = λ l k. refl; lent = λ l k. refl; cells = λ l t k y i ne. refl; gates = λ l t k y ne. refl }) in
     let immortal = is_immortal_word word in
     let counts = counts_locally v.thread (is_running v.status) word && nat_lt (local_part word) most_local in
     let next : loaded.agenda ≡ retain_list x word immortal counts = retain_next v.head x word immortal counts in
@@ -97,10 +98,10 @@ release_next (suc head) x word false true = refl
 release_next zero x word false false = refl
 release_next (suc head) x word false false = refl
 
-release_keeps : (x word : ℕ) (immortal counts : Bool) → KeepsStatus (release_list x word immortal counts)
+release_keeps : (x word : ℕ) (immortal counts : Bool) → KeepsStatus x (release_list x word immortal counts)
 release_keeps x word true counts = tt
-release_keeps x word false true = ((λ s. refl), λ n. refl)
-release_keeps x word false false = ((λ s. refl), λ n. refl)
+release_keeps x word false true = ((λ s. refl), (λ n. refl), record { locked = λ l k. refl; lent = λ l k. refl; cells = λ l t k y i ne. refl; gates = λ l t k y ne. refl })
+release_keeps x word false false = ((λ s. refl), (λ n. refl), record { locked = λ l k. refl; lent = λ l k. refl; cells = λ l t k y i ne. refl; gates = λ l t k y ne. refl })
 
 -- what the answer says is left
 abbrev release_left : ℕ → Bool → Bool → Bool → List Duty
@@ -145,10 +146,10 @@ release_about x false false last = ((eq-eqb x x refl, tt), refl)
 pub release_leaves : (v : View) (x word : ℕ) → HasNoWork v x
     → Leaves x (local_left x (local_answer v word)) v (released_locally v x word)
 release_leaves v x word none =
-    let begun = begun_works x v (releasing v x) none refl refl refl refl refl refl in
+    let begun = begun_works x v (releasing v x) none refl refl refl refl refl (same_sight x v (releasing v x) refl refl refl) refl in
     let loaded = done (releasing v x) word in
     let works =
-    done_works x v (releasing v x) (ReleaseLoad x AsCaller ∷ []) word begun refl ((λ s. refl), λ n. refl) in
+    done_works x v (releasing v x) (ReleaseLoad x AsCaller ∷ []) word begun refl ((λ s. refl), (λ n. refl), record { locked = λ l k. refl; lent = λ l k. refl; cells = λ l t k y i ne. refl; gates = λ l t k y ne. refl }) in
     let immortal = is_immortal_word word in
     let counts = counts_here v word in
     let last = local_part word == 1 in
@@ -171,8 +172,17 @@ release_references v x word =
 
 -- ---- deaths
 
-die_keeps : (x : ℕ) → KeepsStatus (Die x ∷ [])
-die_keeps x = ((λ s. refl), λ n. refl)
+die_keeps : (x : ℕ) → KeepsStatus x (Die x ∷ [])
+die_keeps x = (
+  (λ s. refl),
+  (λ n. refl),
+  record {
+    locked = λ l k. refl;
+    lent = λ l k. refl;
+    cells = λ l t k y i ne. refl;
+    gates = λ l t k y ne. ne_eqb x y (λ e. ne (sym e));
+  },
+)
 
 -- A hand at whose row an object dies chains it, and has nothing left to do there.
 die_leaves : (x : ℕ) (v u : View) → WorksAt x v u → u.agenda ≡ Die x ∷ [] → Leaves x [] v (chained u)
@@ -218,7 +228,7 @@ pub decide_leaves : (v : View) (x word : ℕ) → work_about x v ≡ DecideAtZer
     → Leaves x (zero_left x (zero_answer word)) v (decided v x word)
 decide_leaves v x word is =
     let loaded = done (turned v x) word in
-    let works = done_works x v (turned v x) (DecideAtZero x ∷ []) word (turned_works x v) is ((λ s. refl), λ n. refl) in
+    let works = done_works x v (turned v x) (DecideAtZero x ∷ []) word (turned_works x v) is ((λ s. refl), (λ n. refl), record { locked = λ l k. refl; lent = λ l k. refl; cells = λ l t k y i ne. refl; gates = λ l t k y ne. refl }) in
     let next = ap (λ (ds : List Duty). (did (turned v x) ds word).agenda) is ∙ decide_next v.head x (word == fresh_word) in
     decide_ends x v loaded (word == fresh_word) works next
 
@@ -227,15 +237,12 @@ decide_leaves v x word is =
 exchange_works : (v : View) (x word found : ℕ) (r : Reason) → work_about x v ≡ SharedLoad x r ∷ []
     → WorksAt x v (resumed (turned v x) (word ∷ found ∷ []))
 exchange_works v x word found r is =
-    let begun = turned_works x v in
-    subst (WorksAt x v) (sym (release_steps v x word found r is)) (record {
-      layout = begun.layout;
-      thread = begun.thread;
-      status = begun.status;
-      used = begun.used;
-      given = begun.given;
-      aside = begun.aside;
-    })
+    let loaded = done (turned v x) word in
+    let works =
+    done_works x v (turned v x) (SharedLoad x r ∷ []) word (turned_works x v) is ((λ s. refl), (λ n. refl), record { locked = λ l k. refl; lent = λ l k. refl; cells = λ l t k y i ne. refl; gates = λ l t k y ne. refl }) in
+    let next =
+    ap (λ (ds : List Duty). (did (turned v x) ds word).agenda) is ∙ exchange_ready v.head x word r in
+    done_works x v loaded (SharedExchange x r word ∷ []) found works next ((λ s. refl), (λ n. refl), record { locked = λ l k. refl; lent = λ l k. refl; cells = λ l t k y i ne. refl; gates = λ l t k y ne. refl })
 
 abbrev shared_list : ℕ → Reason → Bool → Bool → Bool → List Duty
 shared_list x r same fresh dead =
@@ -279,15 +286,12 @@ shared_leaves v x word found r is =
 merge_works : (v : View) (x c word found : ℕ) → work_about x v ≡ MergeLoad x c Own ∷ []
     → WorksAt x v (resumed (turned v x) (word ∷ found ∷ []))
 merge_works v x c word found is =
-    let begun = turned_works x v in
-    subst (WorksAt x v) (sym (merge_steps v x c word found is)) (record {
-      layout = begun.layout;
-      thread = begun.thread;
-      status = begun.status;
-      used = begun.used;
-      given = begun.given;
-      aside = begun.aside;
-    })
+    let loaded = done (turned v x) word in
+    let works =
+    done_works x v (turned v x) (MergeLoad x c Own ∷ []) word (turned_works x v) is ((λ s. refl), (λ n. refl), record { locked = λ l k. refl; lent = λ l k. refl; cells = λ l t k y i ne. refl; gates = λ l t k y ne. refl }) in
+    let next =
+    ap (λ (ds : List Duty). (did (turned v x) ds word).agenda) is ∙ merge_ready v.head x c word Own in
+    done_works x v loaded (MergeExchange x c word Own ∷ []) found works next ((λ s. refl), (λ n. refl), record { locked = λ l k. refl; lent = λ l k. refl; cells = λ l t k y i ne. refl; gates = λ l t k y ne. refl })
 
 abbrev merge_list : ℕ → ℕ → Bool → Bool → List Duty
 merge_list x c same dead = if same then (if dead then Die x ∷ [] else []) else MergeLoad x c Own ∷ []

@@ -17,11 +17,11 @@ use Rattle.brc_heap.proofs.Turning.{none_aside, work_next}
 
 -- ---- duties that need a step
 
-exchange_ready : (head x w : ℕ) (r : Reason) → ready head (SharedExchange x r w ∷ []) ≡ SharedExchange x r w ∷ []
+pub exchange_ready : (head x w : ℕ) (r : Reason) → ready head (SharedExchange x r w ∷ []) ≡ SharedExchange x r w ∷ []
 exchange_ready zero x w r = refl
 exchange_ready (suc head) x w r = refl
 
-merge_ready : (head x c w : ℕ) (r : Reason) → ready head (MergeExchange x c w r ∷ []) ≡ MergeExchange x c w r ∷ []
+pub merge_ready : (head x c w : ℕ) (r : Reason) → ready head (MergeExchange x c w r ∷ []) ≡ MergeExchange x c w r ∷ []
 merge_ready zero x c w r = refl
 merge_ready (suc head) x c w r = refl
 

@@ -11,7 +11,8 @@ use Rattle.brc_model.specs.OpenWork.{is_about}
 use Rattle.brc_table.specs.declared.view.View.{View}
 use Rattle.brc_table.specs.Views.{open_work, turned, did, done}
 use Rattle.brc_table.specs.Hands.{MayWait, HasNoWork}
-use Rattle.brc_heap.specs.Calls.{Leaves}
+use Rattle.brc_heap.specs.Calls.{KeepsSight, Leaves}
+use Rattle.brc_heap.proofs.Sight.{StaysAt, same_sight, sight_then, did_sight}
 use Rattle.brc_heap.proofs.Turning.{away, passes, fails, none_aside, all_away}
 
 -- ---- rows of duties
@@ -113,30 +114,41 @@ pub record WorksAt (x : ℕ) (v u : View) : Type 0 where
   pub status : u.status ≡ v.status
   pub used : u.used ≡ v.used
   pub given : u.given ≡ v.given
+  pub sight : KeepsSight x v u
   pub aside : u.aside ≡ filter (away x) (open_work v)
 
 pub turned_works : (x : ℕ) (v : View) → WorksAt x v (turned v x)
 turned_works x v =
-    record { layout = refl; thread = refl; status = refl; used = refl; given = refl; aside = refl }
+    record {
+      layout = refl;
+      thread = refl;
+      status = refl;
+      used = refl;
+      given = refl;
+      sight = same_sight x v (turned v x) refl refl refl;
+      aside = refl;
+    }
 
 -- A hand that begins work has put all its other work aside.
 pub begun_works : (x : ℕ) (v u : View) → HasNoWork v x → u.layout ≡ v.layout → u.thread ≡ v.thread
-    → u.status ≡ v.status → u.used ≡ v.used → u.given ≡ v.given → u.aside ≡ open_work v → WorksAt x v u
-begun_works x v u none layout thread status used given aside = record {
+    → u.status ≡ v.status → u.used ≡ v.used → u.given ≡ v.given → KeepsSight x v u → u.aside ≡ open_work v
+    → WorksAt x v u
+begun_works x v u none layout thread status used given sight aside = record {
   layout = layout;
   thread = thread;
   status = status;
   used = used;
   given = given;
+  sight = sight;
   aside = aside ∙ sym (all_away x (open_work v) none);
 }
 
--- The first duty changes neither the thread's status nor how many rows it has used.
-abbrev pub KeepsStatus : List Duty → Type 0
-KeepsStatus [] = Unit {0}
-KeepsStatus (d ∷ ds) = ((s : Status) → status_by s d ≡ s) × ((n : ℕ) → used_by n d ≡ n)
+-- The first duty changes neither the thread's status nor how many rows it has used, and stays at the row.
+abbrev pub KeepsStatus : ℕ → List Duty → Type 0
+KeepsStatus x [] = Unit {0}
+KeepsStatus x (d ∷ ds) = ((s : Status) → status_by s d ≡ s) × ((n : ℕ) → used_by n d ≡ n) × StaysAt x d
 
-did_works : (x : ℕ) (v u : View) (ds : List Duty) (found : ℕ) → WorksAt x v u → KeepsStatus ds
+did_works : (x : ℕ) (v u : View) (ds : List Duty) (found : ℕ) → WorksAt x v u → KeepsStatus x ds
     → WorksAt x v (did u ds found)
 did_works x v u [] found works keeps = works
 did_works x v u (d ∷ ds) found works keeps = record {
@@ -145,14 +157,15 @@ did_works x v u (d ∷ ds) found works keeps = record {
   status = keeps.0 u.status ∙ works.status;
   used = keeps.1 u.used ∙ works.used;
   given = works.given;
+  sight = sight_then x v u (did u (d ∷ ds) found) works.sight (did_sight x u d ds found keeps.2);
   aside = works.aside;
 }
 
 -- One more duty leaves the hand at work.
-pub done_works : (x : ℕ) (v u : View) (ds : List Duty) (found : ℕ) → WorksAt x v u → u.agenda ≡ ds → KeepsStatus ds
+pub done_works : (x : ℕ) (v u : View) (ds : List Duty) (found : ℕ) → WorksAt x v u → u.agenda ≡ ds → KeepsStatus x ds
     → WorksAt x v (done u found)
 done_works x v u ds found works is keeps =
-    did_works x v u u.agenda found works (subst KeepsStatus (sym is) keeps)
+    did_works x v u u.agenda found works (subst (KeepsStatus x) (sym is) keeps)
 
 -- What is left of the hand's work.
 pub works_leave : (x : ℕ) (v u : View) (left : List Duty) → WorksAt x v u → u.agenda ≡ left → AllAbout x left
@@ -163,6 +176,7 @@ works_leave x v u left works is all waits = record {
   status = works.status;
   used = works.used;
   given = works.given;
+  sight = works.sight;
   waits = subst MayWait (sym is) waits;
   left_is =
       filter_both (is_about x) u.agenda u.aside

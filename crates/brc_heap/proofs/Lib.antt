@@ -2,8 +2,10 @@ mod Turning
 mod Choices
 mod Exchanges
 mod Dying
+mod Sight
 mod Leaving
 mod Ending
 mod Merging
 mod Bearing
+mod Asking
 mod OwnRows

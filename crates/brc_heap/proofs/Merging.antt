@@ -14,6 +14,7 @@ use Rattle.brc_table.specs.Views.{did, done, work_about, turned}
 use Rattle.brc_heap.specs.declared.merge.MergeStep.TheVariants as merge
 use Rattle.brc_heap.specs.Calls.{Leaves, merge_begun, merge_tried, merge_answer, first_answer}
 use Rattle.brc_heap.proofs.Turning.{none_aside, turned_itself}
+use Rattle.brc_heap.proofs.Sight.{sight_then}
 use Rattle.brc_heap.proofs.Leaving.{WorksAt, turned_works, done_works, works_leave}
 
 -- One call after another about one row.
@@ -25,6 +26,7 @@ leaves_then x first second v u w one other = record {
   status = other.status ∙ one.status;
   used = other.used ∙ one.used;
   given = other.given ∙ one.given;
+  sight = sight_then x v u w one.sight other.sight;
   waits = other.waits;
   left_is = other.left_is;
   others = λ y ne. other.others y ne ∙ one.others y ne;
@@ -46,7 +48,7 @@ swap_next v x local is =
 swap_works : (v : View) (x local : ℕ) → work_about x v ≡ MergeSwap x Own ∷ []
     → WorksAt x v (done (turned v x) local)
 swap_works v x local is =
-    done_works x v (turned v x) (MergeSwap x Own ∷ []) local (turned_works x v) is ((λ s. refl), λ n. refl)
+    done_works x v (turned v x) (MergeSwap x Own ∷ []) local (turned_works x v) is ((λ s. refl), (λ n. refl), record { locked = λ l k. refl; lent = λ l k. refl; cells = λ l t k y i ne. refl; gates = λ l t k y ne. refl })
 
 -- The swap of an object that nobody owns leaves nothing to do.
 pub swap_ends : (v : View) (x local : ℕ) → work_about x v ≡ MergeSwap x Own ∷ [] → (local == 0) ≡ true

@@ -11,10 +11,12 @@ use Rattle.brc_model.specs.Kinds.{kind_number}
 use Rattle.brc_model.specs.Duties.{counts_locally}
 use Rattle.brc_model.specs.Machine.{is_running}
 use Rattle.brc_model.specs.declared.layout.Layout.{Layout}
+use Rattle.brc_model.specs.Layout.{root_row}
 use Rattle.brc_model.specs.declared.address.Address.TheVariants.{Local}
 use Rattle.brc_table.specs.declared.view.View.{View}
 use Rattle.brc_table.specs.declared.view.Event.{Event}
-use Rattle.brc_table.specs.Views.{done, resumed, turned, retaining, releasing, bearing, work_about, open_work, next_row, is_given}
+use Rattle.brc_table.specs.Views.{done, resumed, turned, asking, retaining, releasing, bearing, work_about, open_work, next_row, is_given}
+use Rattle.brc_table.specs.Seen.{has_seen_kind, cell_seen}
 use Rattle.brc_table.specs.Hands.{HandState, MayWait, carried_of}
 use Rattle.brc_heap.specs.declared.release.LocalRelease.{LocalRelease}
 use Rattle.brc_heap.specs.declared.release.LocalRelease.TheVariants as local
@@ -116,6 +118,24 @@ pub record MergeIsBegun (hand : HandState) (x carried : ℕ) : Type 0 where
   pub duty : work_about x hand.view ≡ MergeLoad x carried Own ∷ []
   pub begun : carried_of hand x ≡ Some carried
 
+-- ---- what a call keeps
+
+-- The hand has locked and lent what it had, and knows of kinds and of cells what it has seen, but perhaps not of the
+-- cells of the row x.
+pub record KeepsSight (x : ℕ) (v u : View) : Type 0 where
+  pub locked : u.locked ≡ v.locked
+  pub lent : u.lent ≡ v.lent
+  pub kinds : (y word : ℕ) → has_seen_kind y word v ≡ true → has_seen_kind y word u ≡ true
+  pub cells : (y i : ℕ) → y ≢ x → cell_seen y i u ≡ cell_seen y i v
+
+-- ---- kinds
+
+-- The hand has loaded the row's kind word. It is the word that the hand has seen there before, if it has.
+pub record SeesKind (x word : ℕ) (v u : View) : Type 0 where
+  pub view_is : u ≡ done (asking v x) word
+  pub seen : has_seen_kind x word u ≡ true
+  pub stays : (before : ℕ) → 0 < before → has_seen_kind x before v ≡ true → word ≡ before
+
 -- ---- births
 
 -- the kind word of a new object
@@ -134,6 +154,7 @@ pub record HasBorn (v u : View) : Type 0 where
   pub used : u.used ≡ v.used + 1
   pub given : u.given ≡ v.given
   pub references : u.references ≡ next_row v ∷ v.references
+  pub sight : KeepsSight (next_row v) v u
   pub waits : MayWait u.agenda
   pub work : open_work u ≡ open_work v
 
@@ -151,19 +172,21 @@ pub record HasGiven (thread : ℕ) (v u : View) : Type 0 where
   pub used : u.used ≡ v.used
   pub given : u.given ≡ thread ∷ v.given
   pub references : u.references ≡ v.references
+  pub sight : KeepsSight root_row v u
   pub waits : MayWait u.agenda
   pub work : (x : ℕ) → work_about x u ≡ work_about x v
 
 -- ---- what a call leaves
 
 -- After a call about the row x, this is left of the hand's work about it. Work about other rows is as before, and so are
--- the thread, its status, its used rows and the hands that it has given out.
+-- the thread, its status, its used rows, its lock and the hands that it has given out.
 pub record Leaves (x : ℕ) (left : List Duty) (v u : View) : Type 0 where
   pub layout : u.layout ≡ v.layout
   pub thread : u.thread ≡ v.thread
   pub status : u.status ≡ v.status
   pub used : u.used ≡ v.used
   pub given : u.given ≡ v.given
+  pub sight : KeepsSight x v u
   pub waits : MayWait u.agenda
   pub left_is : work_about x u ≡ left
   pub others : (y : ℕ) → y ≢ x → work_about y u ≡ work_about y v

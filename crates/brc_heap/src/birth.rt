@@ -6,6 +6,7 @@ ghost use Rattle.brc_model.specs.Kinds.{kind_number};
 ghost use Rattle.brc_model.specs.Limits.{cell_limit};
 ghost use Rattle.brc_model.specs.Machine.{has_room};
 ghost use Rattle.brc_table.specs.Views.{next_row};
+ghost use Rattle.brc_table.specs.Seen.{has_seen_kind};
 ghost use Rattle.brc_table.specs.Hands.{IsOf, IsRunning};
 ghost use Rattle.brc_heap.specs.Calls.{kind_word, born, HasBorn};
 
@@ -42,6 +43,7 @@ impl<T: Drop> Heap<T> {
         ensures carried { hand.new.carried ≡ hand.old.carried }
         ensures events { hand.new.view ≡ born hand.old.view (kind_word kind arg) }
         ensures born { HasBorn hand.old.view hand.new.view }
+        ensures seen { has_seen_kind result (kind_word kind arg) hand.new.view ≡ true }
     {
         drop(resource);
         self.birth_steps(hand, kind, arg)

@@ -7,6 +7,7 @@
 mod birth;
 mod error;
 mod heap;
+mod kinds;
 mod merge;
 mod release;
 mod retain;

@@ -7,7 +7,7 @@ ghost use Rattle.brc_word.specs.Words.{owner_part};
 ghost use Rattle.brc_model.specs.Layout.{block_of};
 ghost use Rattle.brc_model.specs.Within.{OwnerFits};
 ghost use Rattle.brc_table.specs.Views.{without_reference, work_about};
-ghost use Rattle.brc_table.specs.Hands.{IsOf, IsRunning, HoldsOne, HasNoWork};
+ghost use Rattle.brc_table.specs.Hands.{IsOf, IsRunning, HoldsOne, KeepsLock, HasNoWork};
 ghost use Rattle.brc_table.specs.Calls.{CanAct};
 ghost use Rattle.brc_heap.specs.Calls.{local_answer, released_locally, local_left, zero_answer, decided, zero_left, shared_answer, released_shared, shared_left, Leaves};
 
@@ -53,11 +53,12 @@ pub enum SharedRelease {
 impl<T: Drop> Heap<T> {
     /// Gives up a reference to an object (`Py_DECREF`), in the local word if the hand's thread owns the object.
     ///
-    /// `Zero` and `Share` leave a duty with the hand: to decide by `zero_step`, or to go on by `try_release_shared`.
+    /// The hand keeps a reference to the object that it has locked. `Zero` and `Share` leave a duty with the hand: to decide by `zero_step`, or to go on by `try_release_shared`.
     pub fn release_local(&self, hand: &mut Hand<T>, row: u32) -> LocalRelease
         requires table { IsOf self.now hand.old }
         requires running { IsRunning hand.old.view }
         requires held { HoldsOne hand.old.view row }
+        requires keeps { KeepsLock hand.old.view row }
         requires idle { HasNoWork hand.old.view row }
         ensures table { IsOf self.now hand.new }
         ensures carried { hand.new.carried ≡ hand.old.carried }
@@ -78,6 +79,7 @@ impl<T: Drop> Heap<T> {
         requires table { IsOf self.now hand.old }
         requires running { IsRunning hand.old.view }
         requires held { HoldsOne hand.old.view row }
+        requires keeps { KeepsLock hand.old.view row }
         requires idle { HasNoWork hand.old.view row }
         ensures table { hand.new.table ≡ hand.old.table }
         ensures carried { hand.new.carried ≡ hand.old.carried }

@@ -1,0 +1,62 @@
+//! What an object is (Python/C API manual, Common Object Structures: `Py_TYPE`, and Integer Objects: `PyLong_AsLong`).
+
+ghost use Rattle.std.specs.Prelude.{◌≡◌, ◌<◌, [], ℕ, true};
+ghost use Rattle.brc_word.specs.Words.{argument_part};
+ghost use Rattle.brc_model.specs.Kinds.{kind_numbered, kind_of_word};
+ghost use Rattle.brc_table.specs.Views.{done, asking};
+ghost use Rattle.brc_table.specs.Seen.{has_seen_kind};
+ghost use Rattle.brc_table.specs.Hands.{IsOf, IsRunning, HoldsOne, HasNoWork};
+ghost use Rattle.brc_heap.specs.Calls.{Leaves, SeesKind};
+
+use crate::heap::Heap;
+use brc_lang::Kind;
+use brc_table::Hand;
+use brc_word::{kind_argument, kind_number};
+
+/// Returns the kind that the number of a kind word names, or `Any` if it names none.
+fn kind_numbered(number: u32) -> Kind
+    ensures { result ≡ kind_numbered number }
+{
+    match number {
+        1 => Kind::None,
+        2 => Kind::Num,
+        3 => Kind::List,
+        4 => Kind::File,
+        5 => Kind::Sock,
+        _ => Kind::Any,
+    }
+}
+
+impl<T: Drop> Heap<T> {
+    /// Returns the kind of an object to which the hand holds a reference. The kind word that it loads is the one that
+    /// the object's birth stored, and the one that the hand has seen before.
+    pub fn kind_of(&self, hand: &mut Hand<T>, row: u32) -> Kind
+        requires table { IsOf self.now hand.old }
+        requires running { IsRunning hand.old.view }
+        requires held { HoldsOne hand.old.view row }
+        requires idle { HasNoWork hand.old.view row }
+        ensures table { IsOf self.now hand.new }
+        ensures carried { hand.new.carried ≡ hand.old.carried }
+        ensures sees { (word : ℕ) × SeesKind row word hand.old.view hand.new.view × (result ≡ kind_of_word word) }
+        ensures left { Leaves row [] hand.old.view hand.new.view }
+        ensures references { hand.new.view.references ≡ hand.old.view.references }
+    {
+        kind_numbered(kind_number(self.words().kind_load(hand, row)))
+    }
+
+    /// Returns the argument of an object to which the hand holds a reference: the value of a number, how many cells a
+    /// list has, else 0.
+    pub fn arg_of(&self, hand: &mut Hand<T>, row: u32) -> u32
+        requires table { IsOf self.now hand.old }
+        requires running { IsRunning hand.old.view }
+        requires held { HoldsOne hand.old.view row }
+        requires idle { HasNoWork hand.old.view row }
+        ensures table { IsOf self.now hand.new }
+        ensures carried { hand.new.carried ≡ hand.old.carried }
+        ensures sees { (word : ℕ) × SeesKind row word hand.old.view hand.new.view × (result ≡ argument_part word) }
+        ensures left { Leaves row [] hand.old.view hand.new.view }
+        ensures references { hand.new.view.references ≡ hand.old.view.references }
+    {
+        kind_argument(self.words().kind_load(hand, row))
+    }
+}
