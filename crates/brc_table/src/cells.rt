@@ -1,6 +1,7 @@
 //! The steps of a hand on the cells of the list that it has locked (Python/C API manual, List Objects).
 
-ghost use Rattle.std.specs.Prelude.{◌≡◌, ℕ, Some};
+ghost use Rattle.std.specs.Prelude.{◌≡◌, ◌≤◌, ℕ, Some};
+ghost use Rattle.brc_model.specs.Layout.{row_count};
 ghost use Rattle.brc_table.specs.Views.{done, loading_cell};
 ghost use Rattle.brc_table.specs.Seen.{KnowsCell, cell_seen};
 ghost use Rattle.brc_table.specs.Hands.{IsOf, IsRunning, HoldsOne, HasNoWork};
@@ -23,6 +24,7 @@ impl<T: Drop> Words<T> {
         ensures table { hand.new.table ≡ hand.old.table }
         ensures carried { hand.new.carried ≡ hand.old.carried }
         ensures view { hand.new.view ≡ done (loading_cell hand.old.view row cell) result }
+        ensures there { result ≤ row_count hand.old.view.layout }
         ensures stays { (word : ℕ) → cell_seen row cell hand.old.view ≡ Some word → result ≡ word }
     {
         work_is_put_aside();

@@ -65,6 +65,7 @@ impl<T: Drop> Words<T> {
         ensures table { hand.new.table ≡ hand.old.table }
         ensures carried { hand.new.carried ≡ hand.old.carried }
         ensures view { hand.new.view ≡ done (B.begins hand.old.view) result }
+        ensures suits { SuitsFirst (B.begins hand.old.view) (B.begins hand.old.view).agenda result }
         ensures seen { FindsSeen (B.begins hand.old.view) (B.begins hand.old.view).agenda result }
     {
         duties_are_kept();

@@ -1,0 +1,35 @@
+-- What each call on a list does to its hand's view, from the word that its step finds.
+use Rattle.std.specs.Prelude.{◌≡◌, ◌≢◌, ℕ, zero, suc, ◌≤◌, true, Option, None, Some}
+use Rattle.brc_model.specs.Layout.{row_count}
+use Rattle.brc_table.specs.declared.view.View.{View}
+use Rattle.brc_table.specs.Views.{done, open_work, loading_cell}
+use Rattle.brc_table.specs.Seen.{has_seen_kind, cell_seen}
+use Rattle.brc_table.specs.Hands.{MayWait}
+
+-- The hand's thread, its references, its lent resource and its other work are as before, and so are its used rows and
+-- the hands that it has given out. It still knows the kinds that it has seen.
+pub record Keeps (v u : View) : Type 0 where
+  pub layout : u.layout ≡ v.layout
+  pub thread : u.thread ≡ v.thread
+  pub status : u.status ≡ v.status
+  pub references : u.references ≡ v.references
+  pub used : u.used ≡ v.used
+  pub given : u.given ≡ v.given
+  pub lent : u.lent ≡ v.lent
+  pub waits : MayWait u.agenda
+  pub work : open_work u ≡ open_work v
+  pub kinds : (y word : ℕ) → has_seen_kind y word v ≡ true → has_seen_kind y word u ≡ true
+
+-- the row that a cell's word names, if the cell isn't empty
+abbrev pub row_in : ℕ → Option ℕ
+row_in zero = None
+row_in (suc row) = Some row
+
+-- The hand has loaded the list's cell. It has what the hand last saw or stored there since it locked the list, if it did,
+-- and now the hand has seen it. What it has seen of the other cells is as before.
+pub record SeesItem (x cell word : ℕ) (v u : View) : Type 0 where
+  pub view_is : u ≡ done (loading_cell v x cell) word
+  pub there : word ≤ row_count v.layout
+  pub stays : (before : ℕ) → cell_seen x cell v ≡ Some before → word ≡ before
+  pub seen : cell_seen x cell u ≡ Some word
+  pub others : (i : ℕ) → i ≢ cell → cell_seen x i u ≡ cell_seen x i v

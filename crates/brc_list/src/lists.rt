@@ -1,0 +1,130 @@
+//! The calls of a hand on the lists of a heap.
+
+ghost use Rattle.std.specs.Prelude.{◌≡◌, ◌<◌, ◌==◌, if◌then◌else◌, ℕ, true, None, Some};
+ghost use Rattle.brc_word.specs.Words.{free_word};
+ghost use Rattle.brc_model.specs.Duties.{cells_of};
+ghost use Rattle.brc_model.specs.Layout.{IsCounted};
+ghost use Rattle.brc_table.specs.Views.{done, asking, locking, unlocking};
+ghost use Rattle.brc_table.specs.Plays.{overwritten};
+ghost use Rattle.brc_table.specs.Seen.{has_seen_kind, KnowsCell};
+ghost use Rattle.brc_table.specs.Hands.{IsOf, IsRunning, HoldsOne, HasNoWork, HasNoRetain};
+ghost use Rattle.brc_list.specs.Calls.{Keeps, SeesItem, row_in};
+
+use brc_heap::{Hand, Heap};
+use brc_word::{kind_argument, kind_number};
+use std::marker::Model;
+
+/// The gate of a list that no thread has locked.
+const FREE: u64 = 1;
+
+/// The number of the kind of lists.
+const LIST: u32 = 3;
+
+/// The lists of a heap. `T` is the resource of a file or a socket.
+pub struct Lists<'h, T: Drop> {
+    heap: &'h Heap<T>,
+}
+
+impl<'h, T: Drop> Model for Lists<'h, T> {
+    ghost use Rattle.brc_table.specs.Hands.{TableState};
+
+    ghost Value = { TableState };
+
+    ghost view = { λ lists. lists.heap.now };
+}
+
+impl<'h, T: Drop> Lists<'h, T> {
+    /// Returns the lists of the heap.
+    pub fn new(heap: &'h Heap<T>) -> Lists<'h, T>
+        ensures { result ≡ heap.now }
+    {
+        Lists { heap }
+    }
+
+    /// Tries once to lock a list to which the hand holds a reference, as it has locked none. Returns whether the hand has
+    /// locked it: not if another thread has locked it just now.
+    pub fn try_lock(&self, hand: &mut Hand<T>, row: u32) -> bool
+        requires table { IsOf self.now hand.old }
+        requires running { IsRunning hand.old.view }
+        requires counted { IsCounted hand.old.view.layout row }
+        requires held { HoldsOne hand.old.view row }
+        requires idle { HasNoWork hand.old.view row }
+        requires unlocked { hand.old.view.locked ≡ None }
+        ensures table { IsOf self.now hand.new }
+        ensures carried { hand.new.carried ≡ hand.old.carried }
+        ensures events { (found : ℕ) × (hand.new.view ≡ done (locking hand.old.view row) found)
+            × (result ≡ (found == free_word)) }
+        ensures locked { hand.new.view.locked ≡ (if result then Some row else None) }
+        ensures keeps { Keeps hand.old.view hand.new.view }
+    {
+        self.heap.words().gate_lock(hand, row) == FREE
+    }
+
+    /// Unlocks the list that the hand has locked. The hand retains nothing meanwhile, and has lent no resource.
+    pub fn unlock(&self, hand: &mut Hand<T>, row: u32)
+        requires table { IsOf self.now hand.old }
+        requires running { IsRunning hand.old.view }
+        requires held { HoldsOne hand.old.view row }
+        requires idle { HasNoWork hand.old.view row }
+        requires locked { hand.old.view.locked ≡ Some row }
+        requires retains { HasNoRetain hand.old.view }
+        requires returned { hand.old.view.lent ≡ None }
+        ensures table { IsOf self.now hand.new }
+        ensures carried { hand.new.carried ≡ hand.old.carried }
+        ensures events { hand.new.view
+            ≡ done (unlocking hand.old.view row) (overwritten (unlocking hand.old.view row)) }
+        ensures unlocked { hand.new.view.locked ≡ None }
+        ensures keeps { Keeps hand.old.view hand.new.view }
+    {
+        self.heap.words().gate_unlock(hand, row);
+    }
+
+    /// Returns how many cells an object has to which the hand holds a reference: a list has those of its birth, and any
+    /// other object none. The hand needs no lock for it. Afterwards it may ask for each of the cells.
+    pub fn size(&self, hand: &mut Hand<T>, row: u32) -> u32
+        requires table { IsOf self.now hand.old }
+        requires running { IsRunning hand.old.view }
+        requires held { HoldsOne hand.old.view row }
+        requires idle { HasNoWork hand.old.view row }
+        ensures table { IsOf self.now hand.new }
+        ensures carried { hand.new.carried ≡ hand.old.carried }
+        ensures events { (word : ℕ) × (hand.new.view ≡ done (asking hand.old.view row) word)
+            × (result ≡ cells_of word) × ((before : ℕ) → 0 < before → has_seen_kind row before hand.old.view ≡ true
+            → word ≡ before) }
+        ensures cells { (i : ℕ) → i < result → KnowsCell hand.new.view row i }
+        ensures locked { hand.new.view.locked ≡ hand.old.view.locked }
+        ensures keeps { Keeps hand.old.view hand.new.view }
+    {
+        let word = self.heap.words().kind_load(hand, row);
+        if kind_number(word) == LIST {
+            kind_argument(word)
+        } else {
+            0
+        }
+    }
+
+    /// Returns what is in a cell of the list that the hand has locked: the row of an object, or `None` if the cell is
+    /// empty. The list keeps its reference to the object, so that the hand borrows it (`PyList_GetItem`).
+    pub fn item(&self, hand: &mut Hand<T>, row: u32, cell: u32) -> Option<u32>
+        requires table { IsOf self.now hand.old }
+        requires running { IsRunning hand.old.view }
+        requires held { HoldsOne hand.old.view row }
+        requires idle { HasNoWork hand.old.view row }
+        requires locked { hand.old.view.locked ≡ Some row }
+        requires knows { KnowsCell hand.old.view row cell }
+        ensures table { IsOf self.now hand.new }
+        ensures carried { hand.new.carried ≡ hand.old.carried }
+        ensures sees { (word : ℕ) × SeesItem row cell word hand.old.view hand.new.view × (result ≡ row_in word) }
+        ensures locked { hand.new.view.locked ≡ Some row }
+        ensures keeps { Keeps hand.old.view hand.new.view }
+    {
+        let words = self.heap.words();
+        words.layout_is_plain();
+        let word = words.cell_load(hand, row, cell);
+        if word == 0 {
+            None
+        } else {
+            Some((word - 1) as u32)
+        }
+    }
+}
