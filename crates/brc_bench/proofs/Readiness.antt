@@ -14,21 +14,13 @@ use Rattle.brc_model.specs.Layout.{root_row, none_row, first_immortal_list, row_
 use Rattle.brc_table.specs.Views.{worker_view, next_row, open_work}
 use Rattle.brc_table.specs.Hands.{TableState, HandState, IsOf}
 use Rattle.brc_heap.specs.Calls.{Leaves, HasBorn}
+use Rattle.brc_heap.proofs.Leaving.{leaves_then}
 use Rattle.brc_bench.specs.Ready.{IsReady}
 
 -- What two calls about the same row leave.
 pub both_leave : {x : ℕ} {left next : List Duty} {v u w : View} → Leaves x left v u → Leaves x next u w
     → Leaves x next v w
-both_leave one two = record {
-  layout = two.layout ∙ one.layout;
-  thread = two.thread ∙ one.thread;
-  status = two.status ∙ one.status;
-  used = two.used ∙ one.used;
-  given = two.given ∙ one.given;
-  waits = two.waits;
-  left_is = two.left_is;
-  others = λ y ne. two.others y ne ∙ one.others y ne;
-}
+both_leave {x} {left} {next} {v} {u} {w} one two = leaves_then x left next v u w one two
 
 -- After a call a hand can act as before.
 pub still_acts : {x : ℕ} {left : List Duty} {v u : View} → CanAct v → Leaves x left v u → CanAct u
@@ -84,4 +76,5 @@ born_ready heap hand before (suc t) some none was table born =
           omega (arith, all, here);
       idle = ap (filter (is_about x)) (born.work ∙ ap open_work was);
       few = let two : length hand.view.references ≡ 2 = ap length references in omega (arith, two);
+      unlocked = born.sight.locked ∙ ap (λ (u : View). u.locked) was;
     }

@@ -1,5 +1,5 @@
 -- What a hand needs so that it can retain and release an object again and again.
-use Rattle.std.specs.Prelude.{◌<◌, ◌≤◌, ℕ, length}
+use Rattle.std.specs.Prelude.{◌≡◌, ◌<◌, ◌≤◌, ℕ, None, length}
 use Rattle.std.specs.Prelude.{List, [], ◌∷◌}
 use Rattle.std.specs.Coded.{Unit-prop}
 use Rattle.std.proofs.Props.{props}
@@ -9,7 +9,7 @@ use Rattle.brc_model.specs.Layout.{IsCounted}
 use Rattle.brc_table.specs.Views.{holds}
 use Rattle.brc_table.specs.Hands.{TableState, HandState, IsOf, IsRunning, HasNoWork, most_references}
 
--- The hand runs, holds a reference to the counted object, and has nothing to do about it.
+-- The hand runs, holds a reference to the counted object, has nothing to do about it, and has locked nothing.
 pub record IsReady (heap : TableState) (hand : HandState) (row : ℕ) : Type 0 where
   pub table : IsOf heap hand
   pub running : IsRunning hand.view
@@ -17,6 +17,7 @@ pub record IsReady (heap : TableState) (hand : HandState) (row : ℕ) : Type 0 w
   pub held : 1 ≤ holds hand.view row
   pub idle : HasNoWork hand.view row
   pub few : length hand.view.references < most_references
+  pub unlocked : hand.view.locked ≡ None
 
 -- ---- a fact that a struct can keep
 

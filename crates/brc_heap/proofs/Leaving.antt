@@ -190,3 +190,18 @@ works_leave x v u left works is all waits = record {
       ∙ (ap (λ (ds : List Duty). ds ++ filter (is_about y) u.aside) (all_fail x y left ne all)
       ∙ (ap (filter (is_about y)) works.aside ∙ others_stay x y (open_work v) ne)));
 }
+
+-- One call after another about one row.
+pub leaves_then : (x : ℕ) (first second : List Duty) (v u w : View) → Leaves x first v u → Leaves x second u w
+    → Leaves x second v w
+leaves_then x first second v u w one other = record {
+  layout = other.layout ∙ one.layout;
+  thread = other.thread ∙ one.thread;
+  status = other.status ∙ one.status;
+  used = other.used ∙ one.used;
+  given = other.given ∙ one.given;
+  sight = sight_then x v u w one.sight other.sight;
+  waits = other.waits;
+  left_is = other.left_is;
+  others = λ y ne. other.others y ne ∙ one.others y ne;
+}

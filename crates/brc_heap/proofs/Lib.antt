@@ -2,8 +2,8 @@ mod Turning
 mod Choices
 mod Exchanges
 mod Dying
-mod Sight
-mod Leaving
+pub mod Sight
+pub mod Leaving
 mod Ending
 mod Merging
 mod Bearing

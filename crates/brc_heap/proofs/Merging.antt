@@ -14,23 +14,7 @@ use Rattle.brc_table.specs.Views.{did, done, work_about, turned}
 use Rattle.brc_heap.specs.declared.merge.MergeStep.TheVariants as merge
 use Rattle.brc_heap.specs.Calls.{Leaves, merge_begun, merge_tried, merge_answer, first_answer}
 use Rattle.brc_heap.proofs.Turning.{none_aside, turned_itself}
-use Rattle.brc_heap.proofs.Sight.{sight_then}
 use Rattle.brc_heap.proofs.Leaving.{WorksAt, turned_works, done_works, works_leave}
-
--- One call after another about one row.
-pub leaves_then : (x : ℕ) (first second : List Duty) (v u w : View) → Leaves x first v u → Leaves x second u w
-    → Leaves x second v w
-leaves_then x first second v u w one other = record {
-  layout = other.layout ∙ one.layout;
-  thread = other.thread ∙ one.thread;
-  status = other.status ∙ one.status;
-  used = other.used ∙ one.used;
-  given = other.given ∙ one.given;
-  sight = sight_then x v u w one.sight other.sight;
-  waits = other.waits;
-  left_is = other.left_is;
-  others = λ y ne. other.others y ne ∙ one.others y ne;
-}
 
 swap_by : (head x local : ℕ) (none : Bool)
     → ready head ((if none then [] else MergeLoad x (local_part local) Own ∷ []) ++ [])

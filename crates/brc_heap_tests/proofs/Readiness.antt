@@ -1,5 +1,5 @@
 -- Hands stay ready to retain and release the root.
-use Rattle.std.proofs.Common.{◌≡◌, ◌≢◌, ◌≤◌, ◌<◌, ℕ, ◌+◌, Bool, true, false, List, [], ◌∷◌, length, inl, inr, refl, sym, ap, ◌∙◌, subst, arith}
+use Rattle.std.proofs.Common.{◌≡◌, ◌≢◌, ◌≤◌, ◌<◌, ℕ, ◌+◌, Bool, true, false, List, [], ◌∷◌, length, None, Some, inl, inr, refl, sym, ap, ◌∙◌, subst, arith}
 use Rattle.std.specs.Prelude.{◌==◌, ◌⊎◌, cond, count_by, if◌then◌else◌}
 use Rattle.std.proofs.lemmas.List.Sums.{sum_by-cons}
 use Rattle.brc_model.specs.declared.actor.Status.TheVariants.{Running, Gone}
@@ -11,29 +11,25 @@ use Rattle.brc_table.specs.Views.{work_about, with_reference, without_reference,
 use Rattle.brc_table.specs.Opening.{plain_layout}
 use Rattle.brc_model.specs.OpenWork.{is_about}
 use Rattle.std.specs.List.{filter}
-use Rattle.brc_table.specs.Hands.{TableState, HandState, IsOf, IsRunning, HoldsOne, most_references}
+use Rattle.brc_table.specs.Hands.{TableState, HandState, IsOf, IsRunning, HoldsOne, KeepsLock, most_references}
 use Rattle.brc_table.specs.Calls.{CanAct}
 use Rattle.brc_heap.specs.Calls.{Leaves, HasGiven, HasBorn}
+use Rattle.brc_heap.proofs.Leaving.{leaves_then}
 use Rattle.brc_heap_tests.specs.Ready.{IsReady}
 
 -- What two calls about the same row leave.
 pub both_leave : {x : ℕ} {left next : List Duty} {v u w : View} → Leaves x left v u → Leaves x next u w
     → Leaves x next v w
-both_leave one two = record {
-  layout = two.layout ∙ one.layout;
-  thread = two.thread ∙ one.thread;
-  status = two.status ∙ one.status;
-  used = two.used ∙ one.used;
-  given = two.given ∙ one.given;
-  waits = two.waits;
-  left_is = two.left_is;
-  others = λ y ne. two.others y ne ∙ one.others y ne;
-}
+both_leave {x} {left} {next} {v} {u} {w} one two = leaves_then x left next v u w one two
 
 -- A hand that runs after a call can act.
 pub still_acts : {x : ℕ} {left : List Duty} {v u : View} → IsRunning v → Leaves x left v u → CanAct u
 still_acts running leaves =
     ((λ gone. absurd (let e : Running ≡ Gone = sym (leaves.status ∙ running.0) ∙ gone in cc)), leaves.waits)
+
+-- A hand that has locked nothing may give up any reference.
+pub unlocked_keeps : (v : View) (x : ℕ) → v.locked ≡ None → KeepsLock v x
+unlocked_keeps v x none = λ e. absurd (let wrong : None ≡ Some x = sym none ∙ e in cc)
 
 -- A running hand still runs after a call.
 pub still_runs : {x : ℕ} {left : List Duty} {v u : View} → IsRunning v → Leaves x left v u → IsRunning u
@@ -85,6 +81,7 @@ ready_again ready table leaves same = record {
   held = subst (λ (rows : List ℕ). 1 ≤ count_by (λ y. y == root_row) rows) (sym same) ready.held;
   idle = leaves.left_is;
   few = subst (λ (rows : List ℕ). length rows < most_references) (sym same) ready.few;
+  unlocked = leaves.sight.locked ∙ ready.unlocked;
 }
 
 -- Main is ready again after it has given out a worker's hand.
@@ -96,6 +93,7 @@ ready_after_giving ready table gives = record {
   held = subst (λ (rows : List ℕ). 1 ≤ count_by (λ y. y == root_row) rows) (sym gives.references) ready.held;
   idle = gives.work root_row ∙ ready.idle;
   few = subst (λ (rows : List ℕ). length rows < most_references) (sym gives.references) ready.few;
+  unlocked = gives.sight.locked ∙ ready.unlocked;
 }
 
 -- Work about another row is as it was.
@@ -128,4 +126,5 @@ ready_after_release {heap} {before} {after} {x} {left} born first ready here bir
           leaves.others root_row (λ e. absurd (omega (arith, row, e)))
           ∙ (ap (filter (is_about root_row)) birth.work ∙ ready.idle);
       few = subst (λ (rows : List ℕ). length rows < most_references) (sym same) ready.few;
+      unlocked = leaves.sight.locked ∙ (birth.sight.locked ∙ ready.unlocked);
     }

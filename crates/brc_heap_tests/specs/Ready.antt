@@ -1,5 +1,5 @@
 -- What the tests' helpers require of a hand.
-use Rattle.std.specs.Prelude.{◌≤◌, ◌<◌, length, List, [], ◌∷◌}
+use Rattle.std.specs.Prelude.{◌≡◌, ◌≤◌, ◌<◌, None, length, List, [], ◌∷◌}
 use Rattle.std.specs.Coded.{Unit-prop}
 use Rattle.std.proofs.Props.{props}
 use Rattle.brc_model.specs.declared.duty.Duty.{Duty}
@@ -7,13 +7,14 @@ use Rattle.brc_model.specs.Layout.{root_row}
 use Rattle.brc_table.specs.Views.{holds}
 use Rattle.brc_table.specs.Hands.{TableState, HandState, IsOf, IsRunning, HasNoWork, MayWait, most_references}
 
--- The hand runs, holds a reference to the root, and has nothing to do about it.
+-- The hand runs, holds a reference to the root, has nothing to do about it, and has locked nothing.
 pub record IsReady (heap : TableState) (hand : HandState) : Type 0 where
   pub table : IsOf heap hand
   pub running : IsRunning hand.view
   pub held : 1 ≤ holds hand.view root_row
   pub idle : HasNoWork hand.view root_row
   pub few : length hand.view.references < most_references
+  pub unlocked : hand.view.locked ≡ None
 
 -- ---- a fact that a struct can keep
 

@@ -7,7 +7,7 @@ ghost use Rattle.brc_model.specs.Layout.{root_row};
 ghost use Rattle.brc_model.specs.Limits.{worker_limit, row_limit};
 ghost use Rattle.brc_table.specs.Opening.{plain_layout};
 ghost use Rattle.brc_table.specs.Views.{work_about, without_reference, main_view, worker_view};
-ghost use Rattle.brc_table.specs.Hands.{IsOf, IsRunning, HoldsOne, HasNoWork};
+ghost use Rattle.brc_table.specs.Hands.{IsOf, IsRunning, HoldsOne, KeepsLock, HasNoWork};
 ghost use Rattle.brc_table.specs.Calls.{CanAct};
 ghost use Rattle.brc_heap.specs.Calls.{Leaves, shared_left};
 ghost use Rattle.brc_heap_tests.specs.Ready.{IsReady};
@@ -73,6 +73,7 @@ pub fn release(heap: &Heap<u32>, hand: &mut Hand<u32>) -> bool
     requires table { IsOf heap.now hand.old }
     requires running { IsRunning hand.old.view }
     requires held { HoldsOne hand.old.view root_row }
+    requires keeps { KeepsLock hand.old.view root_row }
     requires idle { HasNoWork hand.old.view root_row }
     ensures table { IsOf heap.now hand.new }
     ensures left { result ≡ true → Leaves root_row [] hand.old.view hand.new.view }

@@ -6,7 +6,8 @@ use Rattle.brc_model.specs.declared.duty.Duty.TheVariants.{MergeLoad}
 use Rattle.brc_table.specs.declared.view.View.{View}
 use Rattle.brc_table.specs.Views.{turned, work_about}
 use Rattle.brc_heap.specs.Calls.{Leaves, merge_tried, merge_answer, merge_left}
-use Rattle.brc_heap.proofs.Merging.{leaves_then, swap_ends, swap_leaves, swap_stays, first_of, answer_of}
+use Rattle.brc_heap.proofs.Merging.{swap_ends, swap_leaves, swap_stays, first_of, answer_of}
+use Rattle.brc_heap.proofs.Leaving.{leaves_then}
 use Rattle.brc_heap.proofs.heap.Heap.merge_first.Goals as goal
 
 pub returns-then-local-eq0-clause-left : goal.returns-then-local-eq0-clause-left
