@@ -1,10 +1,10 @@
 -- What the tests' helpers require of a hand.
-use Rattle.std.specs.Prelude.{◌≡◌, ◌≤◌, ◌<◌, None, length, List, [], ◌∷◌}
+use Rattle.std.specs.Prelude.{◌≡◌, ◌≤◌, ◌<◌, ℕ, Option, None, length, List, [], ◌∷◌}
 use Rattle.std.specs.Coded.{Unit-prop}
 use Rattle.std.proofs.Props.{props}
 use Rattle.brc_model.specs.declared.duty.Duty.{Duty}
 use Rattle.brc_model.specs.Layout.{root_row}
-use Rattle.brc_table.specs.Views.{holds}
+use Rattle.brc_table.specs.Views.{holds, open_work}
 use Rattle.brc_table.specs.Hands.{TableState, HandState, IsOf, IsRunning, HasNoWork, MayWait, most_references}
 
 -- The hand runs, holds a reference to the root, has nothing to do about it, and has locked nothing.
@@ -15,6 +15,15 @@ pub record IsReady (heap : TableState) (hand : HandState) : Type 0 where
   pub idle : HasNoWork hand.view root_row
   pub few : length hand.view.references < most_references
   pub unlocked : hand.view.locked ≡ None
+
+-- The hand runs, holds a reference to the root, has no work at all, and has locked this row's object, or none.
+pub record IsResting (heap : TableState) (hand : HandState) (locked : Option ℕ) : Type 0 where
+  pub table : IsOf heap hand
+  pub running : IsRunning hand.view
+  pub held : 1 ≤ holds hand.view root_row
+  pub rests : open_work hand.view ≡ []
+  pub locked_is : hand.view.locked ≡ locked
+  pub lent : hand.view.lent ≡ None
 
 -- ---- a fact that a struct can keep
 

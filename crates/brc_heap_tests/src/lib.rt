@@ -1,4 +1,4 @@
-//! Tests of headers and births under real threads.
+//! Tests of headers, births and lists under real threads.
 #![tactic(auto)]
 
 #[cfg(test)]
@@ -7,6 +7,10 @@ mod births;
 mod calls;
 #[cfg(test)]
 mod hands;
+#[cfg(test)]
+mod kinds;
+#[cfg(test)]
+mod lists;
 #[cfg(test)]
 mod root;
 #[cfg(test)]

@@ -21,6 +21,7 @@ const FREE: u64 = 1;
 const LIST: u32 = 3;
 
 /// The lists of a heap. `T` is the resource of a file or a socket.
+#[derive(Drop)]
 pub struct Lists<'h, T: Drop> {
     heap: &'h Heap<T>,
 }
