@@ -2,10 +2,12 @@
 use Rattle.std.specs.Prelude.{◌≡◌, ◌≢◌, ℕ, zero, suc, ◌+◌, ◌<◌, ◌≤◌, true, false, List, [], ◌∷◌, ◌++◌, None, Some, slice_get}
 use Rattle.brc_model.specs.declared.duty.Holding.{Holding}
 use Rattle.brc_model.specs.declared.duty.Holding.TheVariants.{ByVariable, AsCaller, InFlight}
+use Rattle.brc_word.specs.Words.{dead_word, merged_word}
+use Rattle.brc_model.specs.declared.duty.Reason.TheVariants.{Handed}
 use Rattle.brc_model.specs.declared.duty.Duty.{Duty}
-use Rattle.brc_model.specs.declared.duty.Duty.TheVariants.{RetainLoad, ReleaseLoad, BirthKind, KindLoad, LockGate, UnlockGate, CellLoad, Settle, ClaimMark, Leave}
+use Rattle.brc_model.specs.declared.duty.Duty.TheVariants.{RetainLoad, ReleaseLoad, MergeExchange, BirthKind, KindLoad, LockGate, UnlockGate, CellLoad, Settle, ClaimMark, Leave}
 use Rattle.brc_model.specs.declared.actor.Status.TheVariants.{Gone}
-use Rattle.brc_model.specs.declared.address.Address.TheVariants.{KindOf}
+use Rattle.brc_model.specs.declared.address.Address.TheVariants.{Shared, KindOf}
 use Rattle.brc_model.specs.declared.layout.Layout.{Layout}
 use Rattle.brc_model.specs.Kinds.{kind_of_word, is_counted_kind}
 use Rattle.brc_model.specs.AbstractState.{PassOn, ByThread, references_to}
@@ -61,6 +63,12 @@ AccountsAreThere =
 abbrev pub ChainsAreThere : Type 0
 ChainsAreThere = (p : Accounts) (n : ℕ) (m : Machine) (t : ℕ) (a : Actor) → Counts p n m
     → slice_get m.actors t ≡ Some a → a.head ≤ row_count m.layout
+
+-- A merge for a handed reference leaves that reference counted, so the object doesn't die by it.
+abbrev pub HandedMergesLive : Type 0
+HandedMergesLive =
+    (p : Accounts) (n : ℕ) (m : Machine) (t : ℕ) (a : Actor) (x c w : ℕ) (rest : List Duty) → Counts p n m
+    → ComesNext m t a (MergeExchange x c w Handed) rest → m.memory (Shared x) ≡ w → merged_word w c ≢ dead_word
 
 -- ---- work between two duties
 

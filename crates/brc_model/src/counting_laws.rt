@@ -1,7 +1,7 @@
 //! Laws of the counting machine, which running threads stand on: what a thread's next duty keeps and what it can rely
 //! on, and what the counts of a row say.
 
-ghost use Rattle.brc_model.specs.CountingLaws.{DutiesAreKept, DutiesAreWithin, AccountsAreThere, ChainsAreThere, CountsAgree};
+ghost use Rattle.brc_model.specs.CountingLaws.{DutiesAreKept, DutiesAreWithin, AccountsAreThere, ChainsAreThere, CountsAgree, HandedMergesLive};
 
 /// States that a thread's next duty isn't bad, and that doing it keeps the invariant.
 pub fn duties_are_kept()
@@ -28,4 +28,10 @@ pub fn accounts_are_there()
 /// States that the head of a thread's dying chain is 0, or the number of a row plus 1.
 pub fn chains_are_there()
     ensures { ChainsAreThere }
+{}
+
+/// States that a merge for a reference that was handed to the owner's queue leaves that reference counted, so that the
+/// object doesn't die by the merge.
+pub fn handed_merges_live()
+    ensures { HandedMergesLive }
 {}

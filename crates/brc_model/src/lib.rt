@@ -30,6 +30,7 @@ pub use call_laws::calls_are_bounded;
 pub use code::CheckCode;
 pub use counting_laws::{
     accounts_are_there, chains_are_there, counts_agree, duties_are_kept, duties_are_within,
+    handed_merges_live,
 };
 pub use duty::{Duty, Holding, Reason};
 pub use guard_laws::{

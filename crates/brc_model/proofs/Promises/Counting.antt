@@ -1,8 +1,8 @@
 -- The laws of the counting machine: a thread's next duty keeps its invariant and is within its bounds, and the counts
 -- of each row agree.
-use Rattle.std.proofs.Common.{◌≡◌, ℕ, ◌<◌, ◌≤◌, cond, List, [], ◌∷◌, inl, inr, ap, subst, arith}
-use Rattle.std.specs.Prelude.{count_by}
-use Rattle.std.proofs.lemmas.Bool.{cases_Bool, cases_lt}
+use Rattle.std.proofs.Common.{◌≡◌, ℕ, ◌<◌, ◌≤◌, cond, List, [], ◌∷◌, inl, inr, refl, ap, subst, arith}
+use Rattle.std.specs.Prelude.{◌==◌, count_by}
+use Rattle.std.proofs.lemmas.Bool.{cases_Bool, cases_lt, eq-eqb}
 use Rattle.std.proofs.lemmas.List.Sums.{sum_by-cons}
 use Rattle.brc_model.specs.declared.duty.Holding.{Holding}
 use Rattle.brc_model.specs.AbstractState.{references_to}
@@ -10,15 +10,24 @@ use Rattle.brc_model.specs.References.{one_if, reference_of}
 use Rattle.brc_model.specs.OpenWork.{is_about}
 use Rattle.brc_model.proofs.Basics.Bag.{held-le-references_to}
 use Rattle.brc_model.proofs.Frame.Aside.{lacks_about, lacks_counted}
+use Rattle.brc_word.specs.Words.{biased_part}
 use Rattle.brc_model.specs.declared.duty.Duty.{Duty}
+use Rattle.brc_model.specs.declared.duty.Duty.TheVariants.{MergeExchange}
+use Rattle.brc_model.specs.declared.duty.Reason.TheVariants.{Handed}
+use Rattle.brc_model.specs.declared.address.Address.TheVariants.{Local}
+use Rattle.brc_model.specs.RowInvariant.{waits, merges, InOwned, InSwapped, InMerged}
+use Rattle.brc_model.specs.Invariant.{AtDuty}
 use Rattle.brc_model.specs.Layout.{row_count}
 use Rattle.brc_model.specs.Machine.{Actor, Machine}
 use Rattle.brc_model.specs.Accounts.{Accounts, lacks_of}
 use Rattle.brc_model.specs.Counting.{Counts}
-use Rattle.brc_model.specs.CountingLaws.{ComesNext, DutiesAreKept, DutiesAreWithin, AccountsAreThere, CountsAgree}
+use Rattle.brc_model.specs.CountingLaws.{ComesNext, DutiesAreKept, DutiesAreWithin, AccountsAreThere, CountsAgree, HandedMergesLive}
 use Rattle.brc_model.specs.Ranges.{AreSmall, swaps}
 use Rattle.brc_model.proofs.Keeping.Kept.{Doing, duty_kept}
 use Rattle.brc_model.proofs.Frame.Alive.{first_weighs}
+use Rattle.brc_model.proofs.Frame.Leaves.{merge_alive}
+use Rattle.brc_model.proofs.Objects.RowSteps.{shared_merged}
+use Rattle.brc_model.proofs.Work.MergesOnce.{carried_is}
 use Rattle.brc_model.proofs.Keeping.NoSwaps.{swaps_after, cells_after}
 use Rattle.brc_model.proofs.Limits.Ranges.{head_small, duty_ranges, referenced_small}
 use Rattle.brc_model.proofs.Limits.StepsAreWithin.{duty_within}
@@ -96,3 +105,23 @@ accounts_there p n m t a h x counts found holds =
             (omega (arith, each, in_bag, none, quiet, holds, making_about a.agenda h x, lacks_counted a.aside h x))
       ]
     ]
+
+-- A merge for a handed reference leaves that reference counted: it is still pending, and the merge adds all that was
+-- swapped out of the local word.
+pub merges_live : HandedMergesLive
+merges_live p n m t a x c w rest counts next same dead =
+    let here : AtDuty p n m t a (MergeExchange x c w Handed) rest =
+    record { core = counts.kept.core; found = next.found; agenda = next.agenda } in
+    let live = (merge_alive p n m t a x c w Handed rest here).live in
+    let one : one_if (x == x) ≡ 1 = ap one_if (eq-eqb x x refl) in
+    let merging =
+    first_weighs (merges x) m.actors t a (MergeExchange x c w Handed) rest next.found next.agenda in
+    let waiting = first_weighs (waits x) m.actors t a (MergeExchange x c w Handed) rest next.found next.agenda in
+    let local : m.memory (Local x) ≡ 0 = elim live.mode [
+      | InOwned s ↦ absurd (omega (arith, s.merging, merging, one))
+      | InSwapped s ↦ s.local
+      | InMerged s ↦ s.local
+    ] in
+    let carried = carried_is p n m t a x c w Handed rest here in
+    let left = ap biased_part dead in
+    omega (arith, live.sum, waiting, one, local, carried, same, (shared_merged w c).0, left)
