@@ -9,7 +9,8 @@ use mathlib.Core.Option.{some}
 use lib.ListN.{get_elem?}
 use Rattle.atomic_table.specs.Table.{State, keeps, Me, Allows}
 use Rattle.brc_model.specs.declared.duty.Duty.{Duty}
-use Rattle.brc_model.specs.declared.duty.Duty.TheVariants.{KindLoad, CellLoad}
+use Rattle.brc_model.specs.declared.duty.Duty.TheVariants.{MergeExchange, KindLoad, CellLoad}
+use Rattle.brc_model.specs.declared.duty.Reason.TheVariants.{Handed}
 use Rattle.brc_model.specs.declared.duty.Holding.TheVariants.{AsCaller}
 use Rattle.brc_model.specs.declared.actor.Status.TheVariants.{Gone}
 use Rattle.brc_model.specs.declared.address.Address.{Address}
@@ -23,12 +24,12 @@ use Rattle.brc_model.specs.Ranges.{AreSmall}
 use Rattle.brc_model.specs.Within.{Suits, FindsOwner}
 use Rattle.brc_model.specs.Stores.{Overwrites}
 use Rattle.brc_model.specs.Counting.{IsPlainLayout}
-use Rattle.brc_model.specs.CountingLaws.{DutiesAreKept, DutiesAreWithin, AccountsAreThere, ChainsAreThere}
+use Rattle.brc_model.specs.CountingLaws.{DutiesAreKept, DutiesAreWithin, AccountsAreThere, ChainsAreThere, HandedMergesLive}
 use Rattle.brc_model.specs.GuardLaws.{LockedCellsStay}
 use Rattle.brc_table.specs.declared.view.View.{View}
 use Rattle.brc_table.specs.Views.{actor_of, did, holds, NamesFewCells, RowsAreThere}
 use Rattle.brc_table.specs.Rule.{thread_reading, reading, Stands}
-use Rattle.brc_table.specs.Plays.{SuitsFirst, FirstFindsOwner, FindsSeen, Continues, overwritten, Stores, Looks}
+use Rattle.brc_table.specs.Plays.{SuitsFirst, FirstFindsOwner, FindsKnown, Continues, overwritten, Stores, Looks}
 use Rattle.brc_table.specs.Hands.{TableState, HandState}
 use Rattle.brc_table.specs.Begins.{Becomes, IsAt, Makes, MakesAtThread, StoresThreadWord, StoresWord}
 use Rattle.brc_table.specs.Places.{place, IsTableWord}
@@ -116,24 +117,30 @@ pub record Knows (v : View) (d : Duty) (found : ℕ) : Type 0 where
   pub suits : Suits v.thread (is_running v.status) (row_count v.layout) d found
   pub overwrites : Overwrites v.thread d found
   pub owner : FindsOwner v.layout d found
-  pub seen : FindsSeen v (d ∷ []) found
+  pub finds : FindsKnown v (d ∷ []) found
 
--- A load of a kind word, or of a cell of the locked list, finds what the hand has seen there.
-finds_seen : (layout : Layout) (words : List ℕ) (views : List View) (id : ℕ) (v : View) (d : Duty) (found : ℕ)
-    → (stands : Stands layout words views) → get_elem? views id ≡ some v
-    → stands.machine.memory (address_of v.layout v.thread v.head d) ≡ found → FindsSeen v (d ∷ []) found
-finds_seen layout words views id v (KindLoad x) found stands here is =
+-- The hand's first duty finds what the hand knows of it.
+finds_known : HandedMergesLive → (layout : Layout) (words : List ℕ) (views : List View) (id : ℕ) (v : View) (d : Duty) (found : ℕ)
+    → (stands : Stands layout words views) → get_elem? views id ≡ some v → (rest : List Duty) → v.agenda ≡ d ∷ rest
+    → v.status ≢ Gone → stands.machine.memory (address_of v.layout v.thread v.head d) ≡ found
+    → FindsKnown v (d ∷ []) found
+finds_known live layout words views id v (KindLoad x) found stands here rest agenda alive is =
     λ word some seen. sym is ∙ stands.kinds_seen id x word v here some seen
-finds_seen layout words views id v (CellLoad x i) found stands here is =
+finds_known live layout words views id v (CellLoad x i) found stands here rest agenda alive is =
     λ word locked seen. sym is ∙ stands.cells_seen id x i word v here locked seen
-finds_seen layout words views id v _ found stands here is = tt
+finds_known live layout words views id v (MergeExchange x c w Handed) found stands here rest agenda alive is =
+    λ same.
+    live stands.accounts (1 + stands.machine.layout.workers) stands.machine v.thread (actor_of v) x c w rest stands.counts
+    (record { found = stands.acts id v here; agenda = agenda; alive = alive }) (is ∙ same)
+finds_known live layout words views id v _ found stands here rest agenda alive is = tt
 
 -- What is behind the duty doesn't matter.
-seen_first : (v : View) (d : Duty) (rest : List Duty) (found : ℕ) → FindsSeen v (d ∷ []) found
-    → FindsSeen v (d ∷ rest) found
-seen_first v (KindLoad x) rest found seen = seen
-seen_first v (CellLoad x i) rest found seen = seen
-seen_first v _ rest found seen = tt
+known_first : (v : View) (d : Duty) (rest : List Duty) (found : ℕ) → FindsKnown v (d ∷ []) found
+    → FindsKnown v (d ∷ rest) found
+known_first v (KindLoad x) rest found known = known
+known_first v (CellLoad x i) rest found known = known
+known_first v (MergeExchange x c w Handed) rest found known = known
+known_first v _ rest found known = tt
 
 -- The hand's first duty is about the word at this place.
 pub record IsNextAt (v : View) (d : Duty) (rest : List Duty) (index : ℕ) : Type 0 where
@@ -143,7 +150,7 @@ pub record IsNextAt (v : View) (d : Duty) (rest : List Duty) (index : ℕ) : Typ
   pub index_is : index ≡ place (address_of v.layout v.thread v.head d)
 
 module _ (kept : DutiesAreKept) (within : DutiesAreWithin) (law : AccountsAreThere)
-    (chains : ChainsAreThere) (stay : LockedCellsStay) (layout : Layout) (v u : View)
+    (chains : ChainsAreThere) (stay : LockedCellsStay) (live : HandedMergesLive) (layout : Layout) (v u : View)
     (d : Duty) (rest : List Duty) (index : ℕ) (becomes : Becomes layout v u) (next : IsNextAt u d rest index) where
   knows : (words : List ℕ) (views : List View) (id : ℕ) → Does layout words views id u d rest
       → Knows u d (read_of u d (slice_index words (place_of u d)))
@@ -163,8 +170,8 @@ module _ (kept : DutiesAreKept) (within : DutiesAreWithin) (law : AccountsAreThe
         owner =
             subst (λ (l : Layout). FindsOwner l d found) (sym told)
             (subst (λ (k : ℕ). FindsOwner m.layout d k) seen relied.owner);
-        seen =
-            finds_seen layout words views id u d found does.stands does.here
+        finds =
+            finds_known live layout words views id u d found does.stands does.here rest does.agenda does.alive
             (finds kept within stay layout words views id u d rest does);
       }
 
@@ -223,7 +230,7 @@ object_next v d rest index is_at = record {
 }
 
 module _ (kept : DutiesAreKept) (within : DutiesAreWithin) (law : AccountsAreThere)
-    (chains : ChainsAreThere) (stay : LockedCellsStay) (layout : Layout) (v u : View)
+    (chains : ChainsAreThere) (stay : LockedCellsStay) (live : HandedMergesLive) (layout : Layout) (v u : View)
     (d : Duty) (rest : List Duty) (index : ℕ) (becomes : Becomes layout v u) (is_at : IsAt u d rest index) where
   -- An object's word says what it is.
   itself : (word : ℕ) → read_of u d word ≡ word
@@ -235,7 +242,7 @@ module _ (kept : DutiesAreKept) (within : DutiesAreWithin) (law : AccountsAreThe
       → ((found : ℕ) → Learns u d rest found → then found (did u (d ∷ rest) found, me.1))
       → Allows (λ (s : State S View). Stands layout s.words s.views) slots id me index f then
   object_allows slots id me f then is_me leaves goes =
-      allows kept within law chains stay layout v u d rest index becomes (object_next u d rest index is_at) slots id me f then is_me
+      allows kept within law chains stay live layout v u d rest index becomes (object_next u d rest index is_at) slots id me f then is_me
       (λ found known.
       itself (f found) ∙ (leaves found (subst (Knows u d) (itself found) known)
       ∙ ap (new_word u.thread u.head d) (sym (itself found))))
@@ -254,7 +261,7 @@ pub record Seen {S : Type 0} (words : TableState) (hand : HandState) (layout : L
   pub view_is : me.0 ≡ hand.view
 
 module _ (kept : DutiesAreKept) (within : DutiesAreWithin) (law : AccountsAreThere)
-    (chains : ChainsAreThere) (stay : LockedCellsStay) (words : TableState)
+    (chains : ChainsAreThere) (stay : LockedCellsStay) (live : HandedMergesLive) (words : TableState)
     (hand : HandState) (begins : View → View) {S : Type 0} (layout : Layout) (slots id index : ℕ) (me : Me S View)
     (seen : Seen words hand layout me) (becomes : Becomes words.layout hand.view (begins hand.view)) where
   -- What the hand learns is what a step that goes on says.
@@ -268,7 +275,7 @@ module _ (kept : DutiesAreKept) (within : DutiesAreWithin) (law : AccountsAreThe
         subst (λ (ds : List Duty). SuitsFirst u ds found) (sym agenda) learned.known.suits,
         subst (λ (ds : List Duty). FirstFindsOwner u ds found) (sym agenda) learned.known.owner,
         learned.there,
-        subst (λ (ds : List Duty). FindsSeen u ds found) (sym agenda) (seen_first u d rest found learned.known.seen),
+        subst (λ (ds : List Duty). FindsKnown u ds found) (sym agenda) (known_first u d rest found learned.known.finds),
       )
 
   becomes_here : Becomes layout me.0 (begins me.0)
@@ -283,7 +290,7 @@ module _ (kept : DutiesAreKept) (within : DutiesAreWithin) (law : AccountsAreThe
   step_allowed f makes_there =
       let makes : Makes (begins me.0) index f =
       subst (λ (v : View). Makes (begins v) index f) (sym seen.view_is) makes_there in
-      object_allows kept within law chains stay layout me.0 (begins me.0) makes.duty makes.rest index becomes_here makes.at slots id me
+      object_allows kept within law chains stay live layout me.0 (begins me.0) makes.duty makes.rest index becomes_here makes.at slots id me
       f (λ found after. Continues begins me found after) refl
       (λ found known. makes.leaves found known.suits)
       (λ found learned. continues makes.duty makes.rest found makes.at.agenda learned)
@@ -297,7 +304,7 @@ module _ (kept : DutiesAreKept) (within : DutiesAreWithin) (law : AccountsAreThe
       subst (λ (v : View). StoresWord (begins v) index word) (sym seen.view_is) stores_there in
       let u = begins me.0 in
       let makes = stores.makes in
-      object_allows kept within law chains stay layout me.0 u makes.duty makes.rest index becomes_here makes.at slots id me
+      object_allows kept within law chains stay live layout me.0 u makes.duty makes.rest index becomes_here makes.at slots id me
       (λ found. word) (λ found after. Stores begins me after) refl
       (λ found known. makes.leaves found known.suits)
       (λ found learned.
@@ -331,7 +338,7 @@ module _ (kept : DutiesAreKept) (within : DutiesAreWithin) (law : AccountsAreThe
       subst (λ (v : View). MakesAtThread (begins v) index f) (sym seen.view_is) makes_there in
       let u = begins me.0 in
       let says = thread_says index f makes in
-      allows kept within law chains stay layout me.0 u makes.duty makes.rest index becomes_here (thread_next index f makes)
+      allows kept within law chains stay live layout me.0 u makes.duty makes.rest index becomes_here (thread_next index f makes)
       slots id me f (λ found after. Looks begins me found after) refl
       (λ found known.
       says (f found) ∙ (makes.leaves found ∙ ap (new_word u.thread u.head makes.duty) (sym (says found))))
@@ -352,7 +359,7 @@ module _ (kept : DutiesAreKept) (within : DutiesAreWithin) (law : AccountsAreThe
       let u = begins me.0 in
       let makes = stores.makes in
       let says = thread_says index (λ found. word) makes in
-      allows kept within law chains stay layout me.0 u makes.duty makes.rest index becomes_here
+      allows kept within law chains stay live layout me.0 u makes.duty makes.rest index becomes_here
       (thread_next index (λ found. word) makes) slots id me (λ found. word) (λ found after. Stores begins me after) refl
       (λ found known.
       says word ∙ (makes.leaves found ∙ ap (new_word u.thread u.head makes.duty) (sym (says found))))

@@ -1,14 +1,15 @@
 -- What a step on a word makes of its hand.
-use Rattle.std.specs.Prelude.{◌≡◌, ℕ, ◌<◌, true, Some, List, [], ◌∷◌}
+use Rattle.std.specs.Prelude.{◌≡◌, ◌≢◌, ℕ, ◌<◌, true, Some, List, [], ◌∷◌}
 use Rattle.atomic_table.specs.Table.{Me}
+use Rattle.brc_model.specs.declared.duty.Reason.TheVariants.{Handed}
 use Rattle.brc_model.specs.declared.duty.Duty.{Duty}
-use Rattle.brc_model.specs.declared.duty.Duty.TheVariants.{RetainStore, ReleaseStore, Die, Leave, Finish, KindLoad, UnlockGate, CellLoad}
+use Rattle.brc_model.specs.declared.duty.Duty.TheVariants.{RetainStore, ReleaseStore, Die, Leave, Finish, MergeExchange, KindLoad, UnlockGate, CellLoad}
 use Rattle.brc_model.specs.declared.actor.Status.TheVariants.{Running, Leaving}
 use Rattle.brc_model.specs.Knowledge.{status_word}
 use Rattle.brc_model.specs.Layout.{row_count}
 use Rattle.brc_model.specs.Machine.{is_running}
 use Rattle.brc_model.specs.Within.{Suits, FindsOwner}
-use Rattle.brc_word.specs.Words.{free_word, locked_word}
+use Rattle.brc_word.specs.Words.{free_word, locked_word, merged_word, dead_word}
 use Rattle.brc_table.specs.declared.view.View.{View}
 use Rattle.brc_table.specs.Views.{done, RowsAreThere}
 use Rattle.brc_table.specs.Seen.{has_seen_kind, cell_seen}
@@ -24,11 +25,13 @@ abbrev pub FirstFindsOwner : View → List Duty → ℕ → Type 0
 FirstFindsOwner v [] found = Unit {0}
 FirstFindsOwner v (d ∷ rest) found = FindsOwner v.layout d found
 
--- A load of a kind word finds what the hand has seen there, and so does a load of a cell of the locked list.
-abbrev pub FindsSeen : View → List Duty → ℕ → Type 0
-FindsSeen v (KindLoad x ∷ rest) found = (word : ℕ) → 0 < word → has_seen_kind x word v ≡ true → found ≡ word
-FindsSeen v (CellLoad x i ∷ rest) found = (word : ℕ) → v.locked ≡ Some x → cell_seen x i v ≡ Some word → found ≡ word
-FindsSeen v _ found = Unit {0}
+-- What a hand knows of what its first duty finds. A load of a kind word finds what the hand has seen there, and so does a load of a cell of the locked list. A merge for
+-- a handed reference that wins leaves that reference counted.
+abbrev pub FindsKnown : View → List Duty → ℕ → Type 0
+FindsKnown v (KindLoad x ∷ rest) found = (word : ℕ) → 0 < word → has_seen_kind x word v ≡ true → found ≡ word
+FindsKnown v (CellLoad x i ∷ rest) found = (word : ℕ) → v.locked ≡ Some x → cell_seen x i v ≡ Some word → found ≡ word
+FindsKnown v (MergeExchange x c w Handed ∷ rest) found = found ≡ w → merged_word w c ≢ dead_word
+FindsKnown v _ found = Unit {0}
 
 -- the value that the thread's first duty overwrites, if it is a store
 abbrev pub overwritten_by : ℕ → List Duty → ℕ
@@ -49,7 +52,7 @@ abbrev pub Continues : {S : Type 0} → (View → View) → Me S View → ℕ �
 Continues begins me found after =
     (after.0 ≡ done (begins me.0) found) × (after.1 ≡ me.1) × SuitsFirst (begins me.0) (begins me.0).agenda found
     × FirstFindsOwner (begins me.0) (begins me.0).agenda found × RowsAreThere after.0
-    × FindsSeen (begins me.0) (begins me.0).agenda found
+    × FindsKnown (begins me.0) (begins me.0).agenda found
 
 -- The same of a store, which knows the value that it overwrites.
 abbrev pub Stores : {S : Type 0} → (View → View) → Me S View → Me S View → Type 0

@@ -7,7 +7,7 @@ ghost use Rattle.brc_model.specs.Limits.{cell_limit};
 ghost use Rattle.brc_model.specs.Machine.{is_running};
 ghost use Rattle.brc_table.specs.Places.{in_tile, cell_place};
 ghost use Rattle.brc_table.specs.Views.{done};
-ghost use Rattle.brc_table.specs.Plays.{SuitsFirst, FirstFindsOwner, FindsSeen, overwritten};
+ghost use Rattle.brc_table.specs.Plays.{SuitsFirst, FirstFindsOwner, FindsKnown, overwritten};
 ghost use Rattle.brc_table.specs.Hands.{IsOf};
 ghost use Rattle.brc_table.specs.Begins.{Becomes, KeepsThread, SettlesNext, MakesQuietly, MakesAtThreadQuietly, StoresThreadWord, StoresWord};
 
@@ -17,7 +17,8 @@ use crate::rule::{Begins, Continued, Looked, Stored};
 use crate::size::block_of;
 use crate::words::Words;
 use brc_model::{
-    accounts_are_there, chains_are_there, duties_are_kept, duties_are_within, locked_cells_stay,
+    accounts_are_there, chains_are_there, duties_are_kept, duties_are_within, handed_merges_live,
+    locked_cells_stay,
 };
 use brc_word::next_of_dying;
 
@@ -41,13 +42,14 @@ impl<T: Drop> Words<T> {
         ensures view { hand.new.view ≡ done (B.begins hand.old.view) result }
         ensures suits { SuitsFirst (B.begins hand.old.view) (B.begins hand.old.view).agenda result }
         ensures owner { FirstFindsOwner (B.begins hand.old.view) (B.begins hand.old.view).agenda result }
-        ensures seen { FindsSeen (B.begins hand.old.view) (B.begins hand.old.view).agenda result }
+        ensures finds { FindsKnown (B.begins hand.old.view) (B.begins hand.old.view).agenda result }
     {
         duties_are_kept();
         duties_are_within();
         accounts_are_there();
         chains_are_there();
         locked_cells_stay();
+        handed_merges_live();
         let index = in_line(line, row);
         self.table
             .shared
@@ -66,13 +68,14 @@ impl<T: Drop> Words<T> {
         ensures carried { hand.new.carried ≡ hand.old.carried }
         ensures view { hand.new.view ≡ done (B.begins hand.old.view) result }
         ensures suits { SuitsFirst (B.begins hand.old.view) (B.begins hand.old.view).agenda result }
-        ensures seen { FindsSeen (B.begins hand.old.view) (B.begins hand.old.view).agenda result }
+        ensures finds { FindsKnown (B.begins hand.old.view) (B.begins hand.old.view).agenda result }
     {
         duties_are_kept();
         duties_are_within();
         accounts_are_there();
         chains_are_there();
         locked_cells_stay();
+        handed_merges_live();
         let index = in_cell(row, cell);
         self.table
             .shared
@@ -95,6 +98,7 @@ impl<T: Drop> Words<T> {
         accounts_are_there();
         chains_are_there();
         locked_cells_stay();
+        handed_merges_live();
         self.layout_is_plain();
         let thread = block_of(self.layout, row) as usize;
         let word = self.table.shared.load::<Looked<B>>(&mut hand.seat, thread);
@@ -117,6 +121,7 @@ impl<T: Drop> Words<T> {
         accounts_are_there();
         chains_are_there();
         locked_cells_stay();
+        handed_merges_live();
         hand.rows_are_there();
         let index = in_line(GATE, hand.head - 1);
         let word = self
@@ -148,6 +153,7 @@ impl<T: Drop> Words<T> {
         accounts_are_there();
         chains_are_there();
         locked_cells_stay();
+        handed_merges_live();
         self.layout_is_plain();
         hand.rows_are_there();
         let thread = hand.thread as usize;
@@ -175,6 +181,7 @@ impl<T: Drop> Words<T> {
         accounts_are_there();
         chains_are_there();
         locked_cells_stay();
+        handed_merges_live();
         let index = in_line(line, row);
         self.table
             .shared
@@ -205,6 +212,7 @@ impl<T: Drop> Words<T> {
         accounts_are_there();
         chains_are_there();
         locked_cells_stay();
+        handed_merges_live();
         let index = in_cell(row, cell);
         self.table
             .shared
@@ -229,6 +237,7 @@ impl<T: Drop> Words<T> {
         accounts_are_there();
         chains_are_there();
         locked_cells_stay();
+        handed_merges_live();
         let index = in_line(line, row);
         self.table
             .shared
@@ -254,12 +263,14 @@ impl<T: Drop> Words<T> {
         ensures carried { hand.new.carried ≡ hand.old.carried }
         ensures view { hand.new.view ≡ done (B.begins hand.old.view) result }
         ensures suits { SuitsFirst (B.begins hand.old.view) (B.begins hand.old.view).agenda result }
+        ensures finds { FindsKnown (B.begins hand.old.view) (B.begins hand.old.view).agenda result }
     {
         duties_are_kept();
         duties_are_within();
         accounts_are_there();
         chains_are_there();
         locked_cells_stay();
+        handed_merges_live();
         let index = in_line(line, row);
         self.table
             .shared
@@ -295,6 +306,7 @@ impl<T: Drop> Words<T> {
         accounts_are_there();
         chains_are_there();
         locked_cells_stay();
+        handed_merges_live();
         let index = in_line(line, row);
         self.table
             .shared

@@ -8,7 +8,7 @@ ghost use Rattle.brc_model.specs.Duties.{address_of};
 ghost use Rattle.brc_model.specs.Within.{OwnerFits};
 ghost use Rattle.brc_word.specs.Words.{owner_part, local_part};
 ghost use Rattle.brc_table.specs.Views.{done, turned, work_about, retaining, releasing};
-ghost use Rattle.brc_table.specs.Plays.{SuitsFirst, overwritten};
+ghost use Rattle.brc_table.specs.Plays.{SuitsFirst, FindsKnown, overwritten};
 ghost use Rattle.brc_table.specs.Hands.{IsOf, IsRunning, HoldsOne, KeepsLock, HasNoWork, most_references};
 ghost use Rattle.brc_table.specs.Calls.{CanAct, LoadsShared, SwapsLocal, StoresLocal, AddsShared, ExchangesShared};
 
@@ -126,7 +126,8 @@ impl<T: Drop> Words<T> {
         self.add::<Brand>(hand, SHARED, row, ONE_REFERENCE)
     }
 
-    /// Does the next duty: exchanges the row's shared word, if it is still `old`. Returns the value found.
+    /// Does the next duty: exchanges the row's shared word, if it is still `old`. Returns the value found. A merge for a
+    /// handed reference leaves that reference counted.
     pub fn shared_exchange(&self, hand: &mut Hand<T>, row: u32, old: u64, new: u64) -> u64
         requires table { IsOf self.now hand.old }
         requires alive { hand.old.view.status ≢ Gone }
@@ -134,6 +135,7 @@ impl<T: Drop> Words<T> {
         ensures table { hand.new.table ≡ hand.old.table }
         ensures carried { hand.new.carried ≡ hand.old.carried }
         ensures view { hand.new.view ≡ done hand.old.view result }
+        ensures finds { FindsKnown hand.old.view hand.old.view.agenda result }
     {
         hand.rows_are_there();
         self.exchange::<Brand>(hand, SHARED, row, old, new)
