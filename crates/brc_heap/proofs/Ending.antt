@@ -1,12 +1,12 @@
 -- What each call leaves of its hand's work, and which references the hand holds afterwards.
-use Rattle.std.proofs.Common.{◌≡◌, ℕ, zero, suc, Bool, true, false, List, [], ◌∷◌, ◌++◌, refl, sym, ap, ◌∙◌, subst}
+use Rattle.std.proofs.Common.{◌≡◌, ◌≢◌, ℕ, zero, suc, Bool, true, false, List, [], ◌∷◌, ◌++◌, refl, sym, ap, ◌∙◌, subst}
 use Rattle.std.specs.Prelude.{◌==◌, ◌&&◌, nat_lt, if◌then◌else◌}
-use Rattle.std.proofs.lemmas.Bool.{eq-eqb, ne_eqb}
+use Rattle.std.proofs.lemmas.Bool.{eq-eqb, ne_eqb, eqb-true}
 use Rattle.brc_word.specs.Words.{local_part, is_immortal_word, most_local, free_word, fresh_word, dead_word, released_word, merged_word}
 use Rattle.brc_model.specs.declared.duty.Duty.{Duty}
 use Rattle.brc_model.specs.declared.duty.Holding.TheVariants.{AsCaller}
 use Rattle.brc_model.specs.declared.duty.Reason.{Reason}
-use Rattle.brc_model.specs.declared.duty.Reason.TheVariants.{Own}
+use Rattle.brc_model.specs.declared.duty.Reason.TheVariants.{Own, Handed}
 use Rattle.brc_model.specs.declared.duty.Duty.TheVariants.{RetainLoad, RetainStore, RetainAdd, ReleaseLoad, ReleaseStore, DecideAtZero, SharedLoad, SharedExchange, SetMark, MergeSwap, MergeLoad, MergeExchange, Die}
 use Rattle.brc_model.specs.Duties.{ready, counts_locally}
 use Rattle.brc_model.specs.Machine.{is_running}
@@ -18,7 +18,7 @@ use Rattle.brc_heap.specs.declared.release.ZeroStep.TheVariants as zeros
 use Rattle.brc_heap.specs.declared.release.SharedRelease.TheVariants as shared
 use Rattle.brc_heap.specs.declared.merge.MergeStep.TheVariants as merge
 use Rattle.brc_heap.specs.Calls.{retained, counts_here, released_locally, local_answer, chained_by, chained, decided, zero_answer, released_shared, shared_answer, merge_tried, merge_answer, Leaves, local_left, zero_left, shared_left, merge_left}
-use Rattle.brc_heap.proofs.Exchanges.{exchange_ready, release_steps, merge_ready, merge_steps}
+use Rattle.brc_heap.proofs.Exchanges.{exchange_ready, release_steps, merge_list, merge_next, merge_exchanges}
 use Rattle.brc_heap.proofs.Sight.{same_sight}
 use Rattle.brc_heap.proofs.Leaving.{AllAbout, WorksAt, turned_works, begun_works, KeepsStatus, done_works, works_leave}
 
@@ -283,41 +283,50 @@ shared_leaves v x word found r is =
 
 -- ---- merge
 
-merge_works : (v : View) (x c word found : ℕ) → work_about x v ≡ MergeLoad x c Own ∷ []
+merge_works : (v : View) (x c word found : ℕ) (r : Reason) → work_about x v ≡ MergeLoad x c r ∷ []
     → WorksAt x v (resumed (turned v x) (word ∷ found ∷ []))
-merge_works v x c word found is =
+merge_works v x c word found r is =
     let loaded = done (turned v x) word in
-    let works =
-    done_works x v (turned v x) (MergeLoad x c Own ∷ []) word (turned_works x v) is ((λ s. refl), (λ n. refl), record { locked = λ l k. refl; lent = λ l k. refl; cells = λ l t k y i ne. refl; gates = λ l t k y ne. refl }) in
-    let next =
-    ap (λ (ds : List Duty). (did (turned v x) ds word).agenda) is ∙ merge_ready v.head x c word Own in
-    done_works x v loaded (MergeExchange x c word Own ∷ []) found works next ((λ s. refl), (λ n. refl), record { locked = λ l k. refl; lent = λ l k. refl; cells = λ l t k y i ne. refl; gates = λ l t k y ne. refl })
+    let works = done_works x v (turned v x) (MergeLoad x c r ∷ []) word (turned_works x v) is ((λ s. refl), (λ n. refl), record { locked = λ l k. refl; lent = λ l k. refl; cells = λ l t k y i ne. refl; gates = λ l t k y ne. refl }) in
+    done_works x v loaded (MergeExchange x c word r ∷ []) found works (merge_exchanges v x c word r is) ((λ s. refl), (λ n. refl), record { locked = λ l k. refl; lent = λ l k. refl; cells = λ l t k y i ne. refl; gates = λ l t k y ne. refl })
 
-abbrev merge_list : ℕ → ℕ → Bool → Bool → List Duty
-merge_list x c same dead = if same then (if dead then Die x ∷ [] else []) else MergeLoad x c Own ∷ []
-
-merge_next : (head x c : ℕ) (same dead : Bool)
-    → ready head ((if same then (if dead then Die x ∷ [] else []) else MergeLoad x c Own ∷ []) ++ [])
-    ≡ merge_list x c same dead
-merge_next zero x c true true = refl
-merge_next (suc head) x c true true = refl
-merge_next zero x c true false = refl
-merge_next (suc head) x c true false = refl
-merge_next zero x c false dead = refl
-merge_next (suc head) x c false dead = refl
-
-merge_ends : (x c : ℕ) (v u : View) (same dead : Bool) → WorksAt x v u → u.agenda ≡ merge_list x c same dead
-    → Leaves x (merge_left x c (if same then (if dead then merge.Dying else merge.Kept) else merge.Again)) v (chained u)
-merge_ends x c v u true true works is = die_leaves x v u works is
-merge_ends x c v u true false works is = live_leaves x v u [] works is tt tt tt
-merge_ends x c v u false dead works is =
+own_ends : (x c : ℕ) (v u : View) (same dead : Bool) → WorksAt x v u → u.agenda ≡ merge_list x c Own same dead
+    → Leaves x (merge_left x c Own (if same then (if dead then merge.Dying else merge.Kept) else merge.Again)) v
+    (chained u)
+own_ends x c v u true true works is = die_leaves x v u works is
+own_ends x c v u true false works is = live_leaves x v u [] works is tt tt tt
+own_ends x c v u false dead works is =
     live_leaves x v u (MergeLoad x c Own ∷ []) works is tt (eq-eqb x x refl, tt) refl
 
-pub merge_leaves : (v : View) (x c word found : ℕ) → work_about x v ≡ MergeLoad x c Own ∷ []
-    → Leaves x (merge_left x c (merge_answer c word found)) v (merge_tried (turned v x) word found)
-merge_leaves v x c word found is =
-    let u = resumed (turned v x) (word ∷ found ∷ []) in
-    let next : u.agenda ≡ merge_list x c (found == word) (merged_word word c == dead_word) =
-    ap (λ (w : View). w.agenda) (merge_steps v x c word found is)
-    ∙ merge_next v.head x c (found == word) (merged_word word c == dead_word) in
-    merge_ends x c v u (found == word) (merged_word word c == dead_word) (merge_works v x c word found is) next
+-- A merge for a handed reference leaves the reference to be given up, and the object alive.
+handed_ends : (x c : ℕ) (v u : View) (same dead : Bool) → WorksAt x v u → u.agenda ≡ merge_list x c Handed same dead
+    → (same ≡ true → dead ≡ false)
+    → Leaves x (merge_left x c Handed (if same then (if dead then merge.Dying else merge.Kept) else merge.Again)) v
+    (chained u)
+handed_ends x c v u true true works is lives = absurd (let wrong : true ≡ false = lives refl in cc)
+handed_ends x c v u true false works is lives =
+    live_leaves x v u (SharedLoad x Handed ∷ []) works is tt (eq-eqb x x refl, tt) refl
+handed_ends x c v u false dead works is lives =
+    live_leaves x v u (MergeLoad x c Handed ∷ []) works is tt (eq-eqb x x refl, tt) refl
+
+-- A merge that wins for a handed reference leaves a reference counted.
+abbrev pub Lives : Reason → ℕ → ℕ → ℕ → Type 0
+Lives Own c word found = Unit {0}
+Lives Handed c word found = found ≡ word → merged_word word c ≢ dead_word
+
+pub lives_by : (r : Reason) (c word found : ℕ) (v : View) (x : ℕ) → work_about x v ≡ MergeLoad x c r ∷ []
+    → (work_about x v ≡ MergeLoad x c Handed ∷ [] → found ≡ word → merged_word word c ≢ dead_word)
+    → Lives r c word found
+lives_by Own c word found v x duty lives = tt
+lives_by Handed c word found v x duty lives = lives duty
+
+pub merge_leaves : (v : View) (x c word found : ℕ) (r : Reason) → work_about x v ≡ MergeLoad x c r ∷ []
+    → Lives r c word found
+    → Leaves x (merge_left x c r (merge_answer c word found)) v (merge_tried (turned v x) word found)
+merge_leaves v x c word found Own is lives =
+    own_ends x c v (resumed (turned v x) (word ∷ found ∷ [])) (found == word) (merged_word word c == dead_word)
+    (merge_works v x c word found Own is) (merge_next v x c word found Own is)
+merge_leaves v x c word found Handed is lives =
+    handed_ends x c v (resumed (turned v x) (word ∷ found ∷ [])) (found == word) (merged_word word c == dead_word)
+    (merge_works v x c word found Handed is) (merge_next v x c word found Handed is)
+    (λ same. ne_eqb (merged_word word c) dead_word (lives (eqb-true found word same)))

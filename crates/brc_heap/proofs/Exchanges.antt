@@ -1,15 +1,18 @@
 -- What follows a load of the shared word and a compare-exchange.
-use Rattle.std.proofs.Common.{◌≡◌, ℕ, zero, suc, Bool, true, false, List, [], ◌∷◌, ◌++◌, refl, ap, ◌∙◌}
+use Rattle.std.proofs.Common.{◌≡◌, ◌≢◌, ℕ, zero, suc, Bool, true, false, List, [], ◌∷◌, ◌++◌, refl, ap, ◌∙◌, subst}
 use Rattle.std.specs.Prelude.{◌==◌, if◌then◌else◌}
-use Rattle.std.proofs.lemmas.Bool.{eq-eqb}
+use Rattle.std.specs.List.{filter}
+use Rattle.std.proofs.lemmas.Bool.{eq-eqb, eqb-true}
 use Rattle.brc_word.specs.Words.{fresh_word, dead_word, released_word, merged_word}
 use Rattle.brc_model.specs.declared.duty.Duty.{Duty}
 use Rattle.brc_model.specs.declared.duty.Reason.{Reason}
-use Rattle.brc_model.specs.declared.duty.Reason.TheVariants.{Own}
+use Rattle.brc_model.specs.declared.duty.Reason.TheVariants.{Own, Handed}
 use Rattle.brc_model.specs.declared.duty.Duty.TheVariants.{SharedLoad, SharedExchange, SetMark, MergeLoad, MergeExchange, Die}
 use Rattle.brc_model.specs.Duties.{ready}
+use Rattle.brc_model.specs.OpenWork.{is_about}
 use Rattle.brc_table.specs.declared.view.View.{View}
 use Rattle.brc_table.specs.Views.{did, done, resumed, turned, work_about}
+use Rattle.brc_table.specs.Plays.{FindsKnown}
 use Rattle.brc_heap.specs.declared.release.SharedRelease.TheVariants as shared
 use Rattle.brc_heap.specs.declared.merge.MergeStep.TheVariants as merge
 use Rattle.brc_heap.specs.Calls.{shared_answer, merge_answer}
@@ -41,11 +44,11 @@ pub release_steps : (v : View) (x word found : ℕ) (r : Reason) → work_about 
 release_steps v x word found r is =
     two_steps v x word found (SharedLoad x r) (SharedExchange x r word) is (exchange_ready v.head x word r)
 
-pub merge_steps : (v : View) (x c word found : ℕ) → work_about x v ≡ MergeLoad x c Own ∷ []
+pub merge_steps : (v : View) (x c word found : ℕ) (r : Reason) → work_about x v ≡ MergeLoad x c r ∷ []
     → resumed (turned v x) (word ∷ found ∷ [])
-    ≡ did (did (turned v x) (MergeLoad x c Own ∷ []) word) (MergeExchange x c word Own ∷ []) found
-merge_steps v x c word found is =
-    two_steps v x word found (MergeLoad x c Own) (MergeExchange x c word Own) is (merge_ready v.head x c word Own)
+    ≡ did (did (turned v x) (MergeLoad x c r ∷ []) word) (MergeExchange x c word r ∷ []) found
+merge_steps v x c word found r is =
+    two_steps v x word found (MergeLoad x c r) (MergeExchange x c word r) is (merge_ready v.head x c word r)
 
 -- ---- deaths
 
@@ -77,29 +80,84 @@ pub merge_dies : (v : View) (x c word found : ℕ) → work_about x v ≡ MergeL
     → (found == word) ≡ true → (merged_word word c == dead_word) ≡ true
     → (resumed (turned v x) (word ∷ found ∷ [])).agenda ≡ Die x ∷ []
 merge_dies v x c word found is same dead =
-    ap (λ (u : View). u.agenda) (merge_steps v x c word found is)
+    ap (λ (u : View). u.agenda) (merge_steps v x c word found Own is)
     ∙ merge_dies_by v.head x c (found == word) (merged_word word c == dead_word) same dead
+
+-- What the exchange of a merge for a handed reference finds leaves the reference counted.
+pub handed_lives : (v u : View) (x c word found : ℕ) → u ≡ done (turned v x) word → FindsKnown u u.agenda found
+    → work_about x v ≡ MergeLoad x c Handed ∷ [] → found ≡ word → merged_word word c ≢ dead_word
+handed_lives v u x c word found is known duty =
+    let next : u.agenda ≡ MergeExchange x c word Handed ∷ [] =
+    ap (λ (w : View). w.agenda) is
+    ∙ (ap (λ (ds : List Duty). (did (turned v x) ds word).agenda) duty ∙ merge_ready v.head x c word Handed) in
+    subst (λ (ds : List Duty). FindsKnown u ds found) next known
+
+-- So a merge that leaves (0, merged) is one for the last local reference.
+pub merge_ends : (v : View) (x c word found : ℕ) (r : Reason) → work_about x v ≡ MergeLoad x c r ∷ []
+    → (found == word) ≡ true → (merged_word word c == dead_word) ≡ true
+    → (work_about x v ≡ MergeLoad x c Handed ∷ [] → found ≡ word → merged_word word c ≢ dead_word)
+    → (resumed (turned v x) (word ∷ found ∷ [])).agenda ≡ Die x ∷ []
+merge_ends v x c word found Own is same dead lives = merge_dies v x c word found is same dead
+merge_ends v x c word found Handed is same dead lives =
+    absurd (lives is (eqb-true found word same) (eqb-true (merged_word word c) dead_word dead))
 
 -- ---- a lost exchange
 
-merge_lost_by : (head x c : ℕ) (same dead : Bool) → same ≡ false
+-- what follows an exchange: nothing if it wins, the death, or the release of the handed reference; else the load again
+abbrev pub merge_list : ℕ → ℕ → Reason → Bool → Bool → List Duty
+merge_list x c Own same dead = if same then (if dead then Die x ∷ [] else []) else MergeLoad x c Own ∷ []
+merge_list x c Handed same dead = if same then SharedLoad x Handed ∷ [] else MergeLoad x c Handed ∷ []
+
+merge_own : (head x c : ℕ) (same dead : Bool)
     → ready head ((if same then (if dead then Die x ∷ [] else []) else MergeLoad x c Own ∷ []) ++ [])
-    ≡ MergeLoad x c Own ∷ []
-merge_lost_by zero x c false dead lost = refl
-merge_lost_by (suc head) x c false dead lost = refl
-merge_lost_by head x c true dead lost = absurd cc
+    ≡ merge_list x c Own same dead
+merge_own zero x c true true = refl
+merge_own (suc head) x c true true = refl
+merge_own zero x c true false = refl
+merge_own (suc head) x c true false = refl
+merge_own zero x c false dead = refl
+merge_own (suc head) x c false dead = refl
+
+merge_handed : (head x c : ℕ) (same dead : Bool)
+    → ready head ((if same then SharedLoad x Handed ∷ [] else MergeLoad x c Handed ∷ []) ++ [])
+    ≡ merge_list x c Handed same dead
+merge_handed zero x c true dead = refl
+merge_handed (suc head) x c true dead = refl
+merge_handed zero x c false dead = refl
+merge_handed (suc head) x c false dead = refl
+
+pub merge_next : (v : View) (x c word found : ℕ) (r : Reason) → work_about x v ≡ MergeLoad x c r ∷ []
+    → (resumed (turned v x) (word ∷ found ∷ [])).agenda
+    ≡ merge_list x c r (found == word) (merged_word word c == dead_word)
+merge_next v x c word found Own is =
+    ap (λ (u : View). u.agenda) (merge_steps v x c word found Own is)
+    ∙ merge_own v.head x c (found == word) (merged_word word c == dead_word)
+merge_next v x c word found Handed is =
+    ap (λ (u : View). u.agenda) (merge_steps v x c word found Handed is)
+    ∙ merge_handed v.head x c (found == word) (merged_word word c == dead_word)
+
+lost_list : (x c : ℕ) (r : Reason) (same dead : Bool) → same ≡ false
+    → merge_list x c r same dead ≡ MergeLoad x c r ∷ []
+lost_list x c Own false dead lost = refl
+lost_list x c Handed false dead lost = refl
+lost_list x c r true dead lost = absurd cc
 
 -- A merge whose exchange is lost loads the shared word again.
-pub merge_lost : (v : View) (x c word found : ℕ) → work_about x v ≡ MergeLoad x c Own ∷ []
+pub merge_lost : (v : View) (x c word found : ℕ) (r : Reason) → work_about x v ≡ MergeLoad x c r ∷ []
     → (found == word) ≡ false
-    → work_about x (resumed (turned v x) (word ∷ found ∷ [])) ≡ MergeLoad x c Own ∷ []
-merge_lost v x c word found is lost =
-    let steps = merge_steps v x c word found is in
-    let after = did (did (turned v x) (MergeLoad x c Own ∷ []) word) (MergeExchange x c word Own ∷ []) found in
-    ap (work_about x) steps
-    ∙ work_next after x (MergeLoad x c Own)
-    (merge_lost_by v.head x c (found == word) (merged_word word c == dead_word) lost) (eq-eqb x x refl)
-    (none_aside x (v.agenda ++ v.aside))
+    → work_about x (resumed (turned v x) (word ∷ found ∷ [])) ≡ MergeLoad x c r ∷ []
+merge_lost v x c word found r is lost =
+    work_next (resumed (turned v x) (word ∷ found ∷ [])) x (MergeLoad x c r)
+    (merge_next v x c word found r is
+    ∙ lost_list x c r (found == word) (merged_word word c == dead_word) lost) (eq-eqb x x refl)
+    (ap (λ (u : View). filter (is_about x) u.aside) (merge_steps v x c word found r is)
+    ∙ none_aside x (v.agenda ++ v.aside))
+
+-- The exchange of a merge comes next after the load.
+pub merge_exchanges : (v : View) (x c word : ℕ) (r : Reason) → work_about x v ≡ MergeLoad x c r ∷ []
+    → (done (turned v x) word).agenda ≡ MergeExchange x c word r ∷ []
+merge_exchanges v x c word r is =
+    ap (λ (ds : List Duty). (did (turned v x) ds word).agenda) is ∙ merge_ready v.head x c word r
 
 -- ---- answers
 

@@ -8,7 +8,7 @@ use Rattle.brc_model.specs.declared.duty.Reason.{Reason}
 use Rattle.brc_model.specs.declared.duty.Reason.TheVariants.{Own}
 use Rattle.brc_model.specs.declared.duty.Duty.TheVariants.{DecideAtZero, SharedLoad, SetMark, MergeSwap, MergeLoad, Die}
 use Rattle.brc_model.specs.Kinds.{kind_number}
-use Rattle.brc_model.specs.Duties.{counts_locally}
+use Rattle.brc_model.specs.Duties.{counts_locally, once_merged}
 use Rattle.brc_model.specs.Machine.{is_running}
 use Rattle.brc_model.specs.declared.layout.Layout.{Layout}
 use Rattle.brc_model.specs.Layout.{root_row}
@@ -108,15 +108,20 @@ merge_answer carried word found =
 abbrev pub first_answer : ℕ → ℕ → ℕ → MergeStep
 first_answer local word found = if local == 0 then merge.Kept else merge_answer (local_part local) word found
 
--- The hand has a merge of the row to begin, because its last local reference is gone, and carries nothing from it.
-pub record MergeIsFirst (hand : HandState) (x : ℕ) : Type 0 where
-  pub duty : work_about x hand.view ≡ MergeSwap x Own ∷ []
+-- The hand has a merge of the row to begin, and carries nothing from it. It merges because the row's last local
+-- reference is gone, or because it has claimed the row's mark, and so has a handed reference to give up.
+pub record MergeIsFirst (r : Reason) (hand : HandState) (x : ℕ) : Type 0 where
+  pub duty : work_about x hand.view ≡ MergeSwap x r ∷ []
   pub none : carried_of hand x ≡ None
 
 -- The hand has begun a merge of the row, and remembers what it carries.
-pub record MergeIsBegun (hand : HandState) (x carried : ℕ) : Type 0 where
-  pub duty : work_about x hand.view ≡ MergeLoad x carried Own ∷ []
+pub record MergeIsBegun (r : Reason) (hand : HandState) (x carried : ℕ) : Type 0 where
+  pub duty : work_about x hand.view ≡ MergeLoad x carried r ∷ []
   pub begun : carried_of hand x ≡ Some carried
+
+-- One or the other.
+abbrev pub Merges : Reason → HandState → ℕ → Type 0
+Merges r hand x = MergeIsFirst r hand x ⊎ ((carried : ℕ) × MergeIsBegun r hand x carried)
 
 -- ---- what a call keeps
 
@@ -209,8 +214,8 @@ shared_left x r shared.Queued = SetMark x ∷ []
 shared_left x r shared.Dying = []
 shared_left x r shared.Again = SharedLoad x r ∷ []
 
--- a merge is left if it has to be tried again
-abbrev pub merge_left : ℕ → ℕ → MergeStep → List Duty
-merge_left x carried merge.Kept = []
-merge_left x carried merge.Dying = []
-merge_left x carried merge.Again = MergeLoad x carried Own ∷ []
+-- what a merge leaves: a handed reference is still to be given up, or the merge has to be tried again
+abbrev pub merge_left : ℕ → ℕ → Reason → MergeStep → List Duty
+merge_left x carried r merge.Kept = once_merged x r
+merge_left x carried r merge.Dying = []
+merge_left x carried r merge.Again = MergeLoad x carried r ∷ []

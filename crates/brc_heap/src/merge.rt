@@ -1,13 +1,15 @@
 //! Merging an object's two counts, so that nobody owns it any more.
 
-ghost use Rattle.std.specs.Prelude.{◌≡◌, ◌≢◌, ◌⊎◌, ◌%◌, [], ◌∷◌, ℕ, None, slice_set};
+ghost use Rattle.std.specs.Prelude.{◌≡◌, ◌≢◌, ◌%◌, [], ◌∷◌, ℕ, None, slice_set};
 ghost use Rattle.brc_model.specs.Limits.{row_limit};
-ghost use Rattle.brc_model.specs.declared.duty.Reason.TheVariants.{Own};
+ghost use Rattle.brc_word.specs.Words.{merged_word, dead_word};
+ghost use Rattle.brc_model.specs.declared.duty.Reason.{Reason};
+ghost use Rattle.brc_model.specs.declared.duty.Reason.TheVariants.{Handed};
 ghost use Rattle.brc_model.specs.declared.duty.Duty.TheVariants.{MergeLoad};
 ghost use Rattle.brc_table.specs.Views.{turned, work_about};
 ghost use Rattle.brc_table.specs.Hands.{IsOf, carried_of};
 ghost use Rattle.brc_table.specs.Calls.{CanAct};
-ghost use Rattle.brc_heap.specs.Calls.{MergeIsFirst, MergeIsBegun, merge_begun, merge_tried, merge_answer, first_answer, merge_left, Leaves};
+ghost use Rattle.brc_heap.specs.Calls.{MergeIsFirst, MergeIsBegun, Merges, merge_begun, merge_tried, merge_answer, first_answer, merge_left, Leaves};
 
 use crate::heap::Heap;
 use brc_table::Hand;
@@ -25,26 +27,30 @@ pub enum MergeStep {
 }
 
 impl<T: Drop> Heap<T> {
-    /// Tries once to merge an object, as `zero_step` answered `Merge`, or this call `Again`.
+    /// Tries once to merge an object, as `zero_step` answered `Merge`, or this call `Again`; or because the hand has
+    /// claimed the object's mark. A merge for a claimed mark leaves the duty to give the handed reference up, by
+    /// `try_release_shared`, and the object never dies by it.
     ///
     /// The first turn swaps the local word for nobody's. After `Again` the hand remembers the local count that it
     /// carries from the row, and the next turn goes on with it. What it carries from other rows stays.
     pub fn merge_step(&self, hand: &mut Hand<T>, row: u32) -> MergeStep
         requires table { IsOf self.now hand.old }
         requires acts { CanAct hand.old.view }
-        requires duty { MergeIsFirst hand.old row ⊎ ((carried : ℕ) × MergeIsBegun hand.old row carried) }
+        requires duty { (r : Reason) × Merges r hand.old row }
         ensures table { IsOf self.now hand.new }
-        ensures first { MergeIsFirst hand.old row → (local : ℕ) × (word : ℕ) × (found : ℕ)
+        ensures first { (r : Reason) → MergeIsFirst r hand.old row → (local : ℕ) × (word : ℕ) × (found : ℕ)
             × (hand.new.view ≡ merge_begun hand.old.view row local word found)
             × (result ≡ first_answer local word found) }
-        ensures later { (carried : ℕ) → MergeIsBegun hand.old row carried → (word : ℕ) × (found : ℕ)
+        ensures later { (r : Reason) (carried : ℕ) → MergeIsBegun r hand.old row carried → (word : ℕ) × (found : ℕ)
             × (hand.new.view ≡ merge_tried (turned hand.old.view row) word found)
             × (result ≡ merge_answer carried word found) }
-        ensures again { result ≡ MergeStep.Again → (carried : ℕ) × MergeIsBegun hand.new row carried }
+        ensures again { (r : Reason) → Merges r hand.old row → result ≡ MergeStep.Again
+            → (carried : ℕ) × MergeIsBegun r hand.new row carried }
         ensures done { result ≢ MergeStep.Again → carried_of hand.new row ≡ None }
         ensures others { hand.new.carried
             ≡ slice_set hand.old.carried (row % row_limit) (carried_of hand.new row) }
-        ensures left { (carried : ℕ) × Leaves row (merge_left row carried result) hand.old.view hand.new.view }
+        ensures left { (r : Reason) → Merges r hand.old row
+            → (carried : ℕ) × Leaves row (merge_left row carried r result) hand.old.view hand.new.view }
         ensures references { hand.new.view.references ≡ hand.old.view.references }
     {
         match hand.carried(row) {
@@ -57,16 +63,18 @@ impl<T: Drop> Heap<T> {
     fn merge_first(&self, hand: &mut Hand<T>, row: u32) -> MergeStep
         requires table { IsOf self.now hand.old }
         requires acts { CanAct hand.old.view }
-        requires duty { MergeIsFirst hand.old row }
+        requires duty { (r : Reason) × MergeIsFirst r hand.old row }
         ensures table { IsOf self.now hand.new }
         ensures first { (local : ℕ) × (word : ℕ) × (found : ℕ)
             × (hand.new.view ≡ merge_begun hand.old.view row local word found)
             × (result ≡ first_answer local word found) }
-        ensures again { result ≡ MergeStep.Again → (carried : ℕ) × MergeIsBegun hand.new row carried }
+        ensures again { (r : Reason) → MergeIsFirst r hand.old row → result ≡ MergeStep.Again
+            → (carried : ℕ) × MergeIsBegun r hand.new row carried }
         ensures done { result ≢ MergeStep.Again → carried_of hand.new row ≡ None }
         ensures others { hand.new.carried
             ≡ slice_set hand.old.carried (row % row_limit) (carried_of hand.new row) }
-        ensures left { (carried : ℕ) × Leaves row (merge_left row carried result) hand.old.view hand.new.view }
+        ensures left { (r : Reason) → MergeIsFirst r hand.old row
+            → (carried : ℕ) × Leaves row (merge_left row carried r result) hand.old.view hand.new.view }
         ensures references { hand.new.view.references ≡ hand.old.view.references }
     {
         let local = self.words().local_swap(hand, row);
@@ -80,16 +88,18 @@ impl<T: Drop> Heap<T> {
     fn merge_carried(&self, hand: &mut Hand<T>, row: u32, carried: u32) -> MergeStep
         requires table { IsOf self.now hand.old }
         requires acts { CanAct hand.old.view }
-        requires duty { work_about row hand.old.view ≡ MergeLoad row carried Own ∷ [] }
+        requires duty { (r : Reason) × (work_about row hand.old.view ≡ MergeLoad row carried r ∷ []) }
         ensures table { IsOf self.now hand.new }
         ensures events { (word : ℕ) × (found : ℕ)
             × (hand.new.view ≡ merge_tried (turned hand.old.view row) word found)
             × (result ≡ merge_answer carried word found) }
-        ensures again { result ≡ MergeStep.Again → MergeIsBegun hand.new row carried }
+        ensures again { (r : Reason) → work_about row hand.old.view ≡ MergeLoad row carried r ∷ []
+            → result ≡ MergeStep.Again → MergeIsBegun r hand.new row carried }
         ensures done { result ≢ MergeStep.Again → carried_of hand.new row ≡ None }
         ensures others { hand.new.carried
             ≡ slice_set hand.old.carried (row % row_limit) (carried_of hand.new row) }
-        ensures left { Leaves row (merge_left row carried result) hand.old.view hand.new.view }
+        ensures left { (r : Reason) → work_about row hand.old.view ≡ MergeLoad row carried r ∷ []
+            → Leaves row (merge_left row carried r result) hand.old.view hand.new.view }
         ensures references { hand.new.view.references ≡ hand.old.view.references }
     {
         self.merge_steps(hand, row, carried)
@@ -99,12 +109,15 @@ impl<T: Drop> Heap<T> {
     fn merge_steps(&self, hand: &mut Hand<T>, row: u32, carried: u32) -> MergeStep
         requires table { IsOf self.now hand.old }
         requires acts { CanAct hand.old.view }
-        requires duty { work_about row hand.old.view ≡ MergeLoad row carried Own ∷ [] }
+        requires duty { (r : Reason) × (work_about row hand.old.view ≡ MergeLoad row carried r ∷ []) }
         ensures table { hand.new.table ≡ hand.old.table }
         ensures events { (word : ℕ) × (found : ℕ)
             × (hand.new.view ≡ merge_tried (turned hand.old.view row) word found)
-            × (result ≡ merge_answer carried word found) }
-        ensures again { result ≡ MergeStep.Again → MergeIsBegun hand.new row carried }
+            × (result ≡ merge_answer carried word found)
+            × (work_about row hand.old.view ≡ MergeLoad row carried Handed ∷ [] → found ≡ word
+            → merged_word word carried ≢ dead_word) }
+        ensures again { (r : Reason) → work_about row hand.old.view ≡ MergeLoad row carried r ∷ []
+            → result ≡ MergeStep.Again → MergeIsBegun r hand.new row carried }
         ensures done { result ≢ MergeStep.Again → carried_of hand.new row ≡ None }
         ensures others { hand.new.carried
             ≡ slice_set hand.old.carried (row % row_limit) (carried_of hand.new row) }
