@@ -1,4 +1,4 @@
-mod Turning
+pub mod Turning
 mod Choices
 mod Exchanges
 mod Dying

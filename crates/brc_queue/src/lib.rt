@@ -1,0 +1,9 @@
+//! The queues of objects that other threads have handed to their owners (PEP 703, Biased Reference Counting). The queue
+//! of a thread is one mark for each row of its block.
+//!
+//! Each call tries once. It never waits, and takes no memory.
+#![tactic(auto)]
+
+mod queue;
+
+pub use queue::{Looked, Queue};
