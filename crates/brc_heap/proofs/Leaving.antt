@@ -178,6 +178,8 @@ works_leave x v u left works is all waits = record {
   given = works.given;
   sight = works.sight;
   waits = subst MayWait (sym is) waits;
+  agenda = is;
+  aside = works.aside;
   left_is =
       filter_both (is_about x) u.agenda u.aside
       ∙ (ap (λ (ds : List Duty). filter (is_about x) ds ++ filter (is_about x) u.aside) is
@@ -191,6 +193,28 @@ works_leave x v u left works is all waits = record {
       ∙ (ap (filter (is_about y)) works.aside ∙ others_stay x y (open_work v) ne)));
 }
 
+-- Of work about the row nothing is about other rows, and putting it apart twice is putting it apart once.
+none_away : (x : ℕ) (ds : List Duty) → filter (away x) (filter (is_about x) ds) ≡ []
+none_away x [] = refl
+none_away x (d ∷ ds) = elim (cases_Bool (is_about x d)) [
+  | inl this ↦
+      ap (filter (away x)) (passes (is_about x) d ds this)
+      ∙ (fails (away x) d (filter (is_about x) ds) (ap not this) ∙ none_away x ds)
+  | inr other ↦ ap (filter (away x)) (fails (is_about x) d ds other) ∙ none_away x ds
+]
+
+away_again : (x : ℕ) (ds : List Duty) → filter (away x) (filter (away x) ds) ≡ filter (away x) ds
+away_again x [] = refl
+away_again x (d ∷ ds) = elim (cases_Bool (is_about x d)) [
+  | inl this ↦
+      ap (filter (away x)) (fails (away x) d ds (ap not this))
+      ∙ (away_again x ds ∙ sym (fails (away x) d ds (ap not this)))
+  | inr other ↦
+      ap (filter (away x)) (passes (away x) d ds (ap not other))
+      ∙ (passes (away x) d (filter (away x) ds) (ap not other)
+      ∙ (ap (λ (es : List Duty). d ∷ es) (away_again x ds) ∙ sym (passes (away x) d ds (ap not other))))
+]
+
 -- One call after another about one row.
 pub leaves_then : (x : ℕ) (first second : List Duty) (v u w : View) → Leaves x first v u → Leaves x second u w
     → Leaves x second v w
@@ -202,6 +226,13 @@ leaves_then x first second v u w one other = record {
   given = other.given ∙ one.given;
   sight = sight_then x v u w one.sight other.sight;
   waits = other.waits;
+  agenda = other.agenda;
+  aside =
+      other.aside
+      ∙ (filter_both (away x) u.agenda u.aside
+      ∙ (ap (λ (ds : List Duty). filter (away x) ds ++ filter (away x) u.aside) (one.agenda ∙ sym one.left_is)
+      ∙ (ap (λ (ds : List Duty). ds ++ filter (away x) u.aside) (none_away x (open_work u))
+      ∙ (ap (filter (away x)) one.aside ∙ away_again x (open_work v)))));
   left_is = other.left_is;
   others = λ y ne. other.others y ne ∙ one.others y ne;
 }

@@ -1,6 +1,7 @@
 -- What each call does to its hand's view, from the words that its steps find. A call's steps are those of the model:
 -- each is the hand's next duty, which finds some word (`done`).
-use Rattle.std.specs.Prelude.{◌≡◌, ◌≢◌, ◌⊎◌, ◌<◌, ◌≤◌, ◌++◌, true, ℕ, ◌+◌, ◌*◌, ◌==◌, Bool, if◌then◌else◌, List, [], ◌∷◌, None, Some}
+use Rattle.std.specs.Prelude.{◌≡◌, ◌≢◌, ◌⊎◌, ◌<◌, ◌≤◌, ◌++◌, true, ℕ, ◌+◌, ◌*◌, ◌==◌, Bool, not, if◌then◌else◌, List, [], ◌∷◌, None, Some}
+use Rattle.std.specs.List.{filter}
 use Rattle.brc_word.specs.Words.{owner_part, most_local, half, local_part, is_immortal_word, free_word, fresh_word, dead_word, released_word, merged_word}
 use Rattle.brc_lang.specs.declared.kind.Kind.{Kind}
 use Rattle.brc_model.specs.declared.duty.Duty.{Duty}
@@ -10,6 +11,7 @@ use Rattle.brc_model.specs.declared.duty.Duty.TheVariants.{DecideAtZero, SharedL
 use Rattle.brc_model.specs.Kinds.{kind_number}
 use Rattle.brc_model.specs.Duties.{counts_locally, once_merged}
 use Rattle.brc_model.specs.Machine.{is_running}
+use Rattle.brc_model.specs.OpenWork.{is_about}
 use Rattle.brc_model.specs.declared.layout.Layout.{Layout}
 use Rattle.brc_model.specs.Layout.{root_row}
 use Rattle.brc_model.specs.declared.address.Address.TheVariants.{Local}
@@ -178,13 +180,13 @@ pub record HasGiven (thread : ℕ) (v u : View) : Type 0 where
   pub given : u.given ≡ thread ∷ v.given
   pub references : u.references ≡ v.references
   pub sight : KeepsSight root_row v u
-  pub waits : MayWait u.agenda
-  pub work : (x : ℕ) → work_about x u ≡ work_about x v
+  pub agenda : u.agenda ≡ []
+  pub aside : u.aside ≡ open_work v
 
 -- ---- what a call leaves
 
--- After a call about the row x, this is left of the hand's work about it. Work about other rows is as before, and so are
--- the thread, its status, its used rows, its lock and the hands that it has given out.
+-- After a call about the row x, this is left of the hand's work about it, and comes next. All other work is aside, and
+-- as it was. So are the thread, its status, its used rows, its lock and the hands that it has given out.
 pub record Leaves (x : ℕ) (left : List Duty) (v u : View) : Type 0 where
   pub layout : u.layout ≡ v.layout
   pub thread : u.thread ≡ v.thread
@@ -193,6 +195,8 @@ pub record Leaves (x : ℕ) (left : List Duty) (v u : View) : Type 0 where
   pub given : u.given ≡ v.given
   pub sight : KeepsSight x v u
   pub waits : MayWait u.agenda
+  pub agenda : u.agenda ≡ left
+  pub aside : u.aside ≡ filter (λ d. not (is_about x d)) (open_work v)
   pub left_is : work_about x u ≡ left
   pub others : (y : ℕ) → y ≢ x → work_about y u ≡ work_about y v
 

@@ -1,17 +1,18 @@
 -- Hands stay ready to retain and release the root.
-use Rattle.std.proofs.Common.{◌≡◌, ◌≢◌, ◌≤◌, ◌<◌, ℕ, ◌+◌, Bool, true, false, List, [], ◌∷◌, length, None, Some, inl, inr, refl, sym, ap, ◌∙◌, subst, arith}
-use Rattle.std.specs.Prelude.{◌==◌, ◌⊎◌, cond, count_by, if◌then◌else◌}
+use Rattle.std.proofs.Common.{◌≡◌, ◌≢◌, ◌≤◌, ◌<◌, ℕ, ◌+◌, Bool, true, false, List, [], ◌∷◌, ◌++◌, ◌%◌, length, Option, None, Some, inl, inr, refl, sym, ap, ◌∙◌, subst, arith}
+use Rattle.std.specs.Prelude.{◌==◌, ◌⊎◌, cond, count_by, slice_index_or, if◌then◌else◌}
 use Rattle.std.proofs.lemmas.List.Sums.{sum_by-cons}
 use Rattle.brc_model.specs.declared.actor.Status.TheVariants.{Running, Gone}
 use Rattle.brc_model.specs.declared.duty.Duty.{Duty}
 use Rattle.brc_model.specs.declared.layout.Layout.{Layout}
+use Rattle.brc_model.specs.Limits.{row_limit}
 use Rattle.brc_model.specs.Layout.{root_row, is_immortal_row}
 use Rattle.brc_table.specs.declared.view.View.{View}
-use Rattle.brc_table.specs.Views.{work_about, with_reference, without_reference, without_one, worker_view, next_row}
+use Rattle.brc_table.specs.Views.{work_about, open_work, with_reference, without_reference, without_one, worker_view, next_row}
 use Rattle.brc_table.specs.Opening.{plain_layout}
 use Rattle.brc_model.specs.OpenWork.{is_about}
 use Rattle.std.specs.List.{filter}
-use Rattle.brc_table.specs.Hands.{TableState, HandState, IsOf, IsRunning, HoldsOne, KeepsLock, most_references}
+use Rattle.brc_table.specs.Hands.{TableState, HandState, IsOf, IsRunning, HoldsOne, KeepsLock, MayWait, CarriesNothing, most_references}
 use Rattle.brc_table.specs.Calls.{CanAct}
 use Rattle.brc_heap.specs.Calls.{Leaves, HasGiven, HasBorn}
 use Rattle.brc_heap.proofs.Leaving.{leaves_then}
@@ -30,6 +31,16 @@ still_acts running leaves =
 -- A hand that has locked nothing may give up any reference.
 pub unlocked_keeps : (v : View) (x : ℕ) → v.locked ≡ None → KeepsLock v x
 unlocked_keeps v x none = λ e. absurd (let wrong : None ≡ Some x = sym none ∙ e in cc)
+
+-- A hand that can act still can after a call.
+pub acts_still : {x : ℕ} {left : List Duty} {v u : View} → CanAct v → Leaves x left v u → CanAct u
+acts_still acts leaves = ((λ gone. acts.0 (sym leaves.status ∙ gone)), leaves.waits)
+
+-- A hand that carries nothing carries nothing after a call that leaves what it carries.
+pub carries_still : (before after : HandState) → after.carried ≡ before.carried → CarriesNothing before
+    → CarriesNothing after
+carries_still before after same none x =
+    ap (λ (counts : List (Option ℕ)). slice_index_or counts (x % row_limit) None) same ∙ none x
 
 -- A running hand still runs after a call.
 pub still_runs : {x : ℕ} {left : List Duty} {v u : View} → IsRunning v → Leaves x left v u → IsRunning u
@@ -84,14 +95,18 @@ ready_again ready table leaves same = record {
   unlocked = leaves.sight.locked ∙ ready.unlocked;
 }
 
+-- Main's work is as it was.
+given_work : {thread : ℕ} {v u : View} → HasGiven thread v u → open_work u ≡ open_work v
+given_work {thread} {v} {u} gives = ap (λ (ds : List Duty). ds ++ u.aside) gives.agenda ∙ gives.aside
+
 -- Main is ready again after it has given out a worker's hand.
 pub ready_after_giving : {heap : TableState} {before after : HandState} {thread : ℕ} → IsReady heap before
     → IsOf heap after → HasGiven thread before.view after.view → IsReady heap after
 ready_after_giving ready table gives = record {
   table = table;
-  running = (gives.status ∙ ready.running.0, gives.waits);
+  running = (gives.status ∙ ready.running.0, subst MayWait (sym gives.agenda) tt);
   held = subst (λ (rows : List ℕ). 1 ≤ count_by (λ y. y == root_row) rows) (sym gives.references) ready.held;
-  idle = gives.work root_row ∙ ready.idle;
+  idle = ap (filter (is_about root_row)) (given_work gives) ∙ ready.idle;
   few = subst (λ (rows : List ℕ). length rows < most_references) (sym gives.references) ready.few;
   unlocked = gives.sight.locked ∙ ready.unlocked;
 }

@@ -2,6 +2,7 @@
 use Rattle.std.specs.Prelude.{◌≡◌, ◌≤◌, ◌<◌, ℕ, Option, None, length, List, [], ◌∷◌}
 use Rattle.std.specs.Coded.{Unit-prop}
 use Rattle.std.proofs.Props.{props}
+use Rattle.brc_model.specs.declared.actor.Status.TheVariants.{Running}
 use Rattle.brc_model.specs.declared.duty.Duty.{Duty}
 use Rattle.brc_model.specs.Layout.{root_row}
 use Rattle.brc_table.specs.Views.{holds, open_work}
@@ -24,6 +25,15 @@ pub record IsResting (heap : TableState) (hand : HandState) (locked : Option ℕ
   pub rests : open_work hand.view ≡ []
   pub locked_is : hand.view.locked ≡ locked
   pub lent : hand.view.lent ≡ None
+
+-- The hand runs, has nothing to do, not even aside, and holds one reference, to the root.
+pub record IsAlone (heap : TableState) (hand : HandState) : Type 0 where
+  pub table : IsOf heap hand
+  pub status : hand.view.status ≡ Running
+  pub agenda : hand.view.agenda ≡ []
+  pub aside : hand.view.aside ≡ []
+  pub references : hand.view.references ≡ root_row ∷ []
+  pub unlocked : hand.view.locked ≡ None
 
 -- ---- a fact that a struct can keep
 

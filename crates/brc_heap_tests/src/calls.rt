@@ -7,9 +7,9 @@ ghost use Rattle.brc_model.specs.Layout.{root_row};
 ghost use Rattle.brc_model.specs.Limits.{worker_limit, row_limit};
 ghost use Rattle.brc_table.specs.Opening.{plain_layout};
 ghost use Rattle.brc_table.specs.Views.{work_about, without_reference, main_view, worker_view};
-ghost use Rattle.brc_table.specs.Hands.{IsOf, IsRunning, HoldsOne, KeepsLock, HasNoWork};
+ghost use Rattle.brc_table.specs.Hands.{IsOf, IsRunning, HoldsOne, KeepsLock, HasNoWork, CarriesNothing};
 ghost use Rattle.brc_table.specs.Calls.{CanAct};
-ghost use Rattle.brc_heap.specs.Calls.{Leaves, shared_left};
+ghost use Rattle.brc_heap.specs.Calls.{Leaves, HasGiven, shared_left};
 ghost use Rattle.brc_heap_tests.specs.Ready.{IsReady};
 
 use brc_heap::{Hand, Heap, LocalRelease, SharedRelease};
@@ -43,6 +43,8 @@ pub fn worker(heap: &Heap<u32>, main: &mut Hand<u32>, thread: u8) -> Result<Hand
     requires main { main.old.view.thread ≡ 0 }
     ensures view { IfOk result (λ hand. hand.view ≡ worker_view heap.now.layout thread) }
     ensures worker { IfOk result (λ hand. IsReady heap.now hand) }
+    ensures none { IfOk result CarriesNothing }
+    ensures given { OnOk result (HasGiven thread main.old.view main.new.view) }
     ensures ready { OnOk result (IsReady heap.now main.new) }
     ensures main { OnOk result (main.new.view.thread ≡ 0) }
 {
@@ -58,13 +60,14 @@ pub fn release_shared(heap: &Heap<u32>, hand: &mut Hand<u32>) -> SharedRelease
     ensures left { Leaves root_row (shared_left root_row Own result) hand.old.view hand.new.view }
     ensures references { hand.new.view.references ≡ hand.old.view.references }
 {
+    let mut ended = heap.try_release_shared(hand, ROOT);
     for _ in 0..TRIES {
-        match heap.try_release_shared(hand, ROOT) {
-            SharedRelease::Again => {}
-            ended => return ended,
+        match ended {
+            SharedRelease::Again => ended = heap.try_release_shared(hand, ROOT),
+            _ => break,
         }
     }
-    SharedRelease::Again
+    ended
 }
 
 /// Releases the root. Returns whether references are left, and nothing is left to do.

@@ -1,4 +1,4 @@
-//! Tests of headers, births and lists under real threads.
+//! Tests of headers, births, lists and queues under real threads.
 #![tactic(auto)]
 
 #[cfg(test)]
@@ -11,6 +11,8 @@ mod hands;
 mod kinds;
 #[cfg(test)]
 mod lists;
+#[cfg(test)]
+mod queue;
 #[cfg(test)]
 mod root;
 #[cfg(test)]
