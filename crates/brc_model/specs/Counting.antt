@@ -15,19 +15,17 @@ use Rattle.brc_model.specs.Machine.{Actor, Machine, idle_actor}
 use Rattle.brc_model.specs.StepMachine.{rooted_memory, first_life, first_kinds, caller_reference}
 use Rattle.brc_model.specs.OpenWork.{is_about, about_of}
 use Rattle.brc_model.specs.Invariant.{Invariant}
-use Rattle.brc_model.specs.Ranges.{HasNoCells, HasNoSwaps, Ranges}
+use Rattle.brc_model.specs.Ranges.{Ranges}
 
 -- No account has a reference in flight, as inside no instruction.
 abbrev pub HasNothingInFlight : Accounts → Type 0
 HasNothingInFlight p = (t object : ℕ) → p t InFlight object ≡ 0
 
 -- What holds between any two steps of running threads with these accounts: the invariant, and the rows of all duties are
--- rows of the machine. Cells are empty, no thread is about to fill one, and no account has a reference in flight.
+-- rows of the machine, and no account has a reference in flight.
 pub record Counts (p : Accounts) (n : ℕ) (m : Machine) : Type 0 where
   pub kept : Invariant p n m
   pub ranges : Ranges n m
-  pub no_cells : HasNoCells m
-  pub no_swaps : HasNoSwaps m
   pub no_flight : HasNothingInFlight p
 
 -- ---- accounts

@@ -1,5 +1,5 @@
 -- The laws of the counting machine that running threads stand on.
-use Rattle.std.specs.Prelude.{◌≡◌, ◌≢◌, ℕ, zero, suc, ◌+◌, ◌<◌, ◌≤◌, true, false, List, [], ◌∷◌, ◌++◌, None, Some, slice_get}
+use Rattle.std.specs.Prelude.{◌≡◌, ◌≢◌, ℕ, zero, suc, ◌+◌, ◌<◌, ◌≤◌, Bool, true, false, ◌&&◌, ◌==◌, count_by, List, [], ◌∷◌, ◌++◌, None, Some, slice_get}
 use Rattle.brc_model.specs.declared.duty.Holding.{Holding}
 use Rattle.brc_model.specs.declared.duty.Holding.TheVariants.{ByVariable, AsCaller, InFlight}
 use Rattle.brc_word.specs.Words.{dead_word, merged_word}
@@ -7,11 +7,11 @@ use Rattle.brc_model.specs.declared.duty.Reason.TheVariants.{Handed}
 use Rattle.brc_model.specs.declared.duty.Duty.{Duty}
 use Rattle.brc_model.specs.declared.duty.Duty.TheVariants.{RetainLoad, ReleaseLoad, MergeExchange, BirthKind, KindLoad, LockGate, UnlockGate, CellLoad, Settle, ClaimMark, Leave}
 use Rattle.brc_model.specs.declared.actor.Status.TheVariants.{Gone}
-use Rattle.brc_model.specs.declared.address.Address.TheVariants.{Shared, KindOf}
+use Rattle.brc_model.specs.declared.address.Address.TheVariants.{Shared, KindOf, Cell}
 use Rattle.brc_model.specs.declared.layout.Layout.{Layout}
 use Rattle.brc_model.specs.Kinds.{kind_of_word, is_counted_kind}
-use Rattle.brc_model.specs.AbstractState.{PassOn, ByThread, references_to}
-use Rattle.brc_model.specs.References.{held, reference_of}
+use Rattle.brc_model.specs.AbstractState.{PassOn, Holder, ByThread, ByCell, Reference, references_to}
+use Rattle.brc_model.specs.References.{held, reference_of, word_holds}
 use Rattle.brc_model.specs.Duties.{address_of, cells_of}
 use Rattle.brc_model.specs.Moves.{gain}
 use Rattle.brc_model.specs.Layout.{row_count, row_at, block_of, is_immortal_row, IsCounted}
@@ -191,7 +191,29 @@ thread_references m x t =
 abbrev pub HasNoVariables : Machine → ℕ → Type 0
 HasNoVariables m x = (t v : ℕ) → held (reference_of t (ByVariable v) x) m.abstract.references ≡ 0
 
--- The references to an object are those of the threads.
+-- The sum of a number over the cells that lists may have: over the rows below `rows`, and in each the first cells.
+abbrev pub over_cells : (ℕ → ℕ → ℕ) → ℕ → ℕ
+over_cells f rows = over_threads (λ y. over_threads (f y) cell_limit) rows
+
+-- how many references to the object the machine's cells hold
+abbrev pub cell_references : Machine → ℕ → ℕ
+cell_references m x = over_cells (λ y i. word_holds (m.memory (Cell y i)) x) (row_count m.layout)
+
+-- The references to an object are those of the threads, and those that cells hold.
 abbrev pub SharesOfThreads : Type 0
 SharesOfThreads = (p : Accounts) (n : ℕ) (m : Machine) (x : ℕ) → Counts p n m → HasNoVariables m x
-    → references_to x m.abstract.references ≡ over_threads (thread_references m x) n
+    → references_to x m.abstract.references ≡ over_threads (thread_references m x) n + cell_references m x
+
+-- Says whether a cell holds the reference.
+abbrev pub is_in_cell : Holder → Bool
+is_in_cell (ByCell x i) = true
+is_in_cell (ByThread t k) = false
+
+-- how many of the bag's references to the object cells hold
+abbrev pub in_cells : ℕ → List Reference → ℕ
+in_cells x bag = count_by (λ r. is_in_cell r.holder && (r.object == x)) bag
+
+-- The references that cells hold are those that their words name.
+abbrev pub CellsHold : Type 0
+CellsHold = (p : Accounts) (n : ℕ) (m : Machine) (x : ℕ) → Counts p n m
+    → in_cells x m.abstract.references ≡ cell_references m x

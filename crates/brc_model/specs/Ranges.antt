@@ -31,18 +31,10 @@ AreSmall k (d ∷ rest) = IsSmall k d × AreSmall k rest
 abbrev pub HasFewCells : Machine → Type 0
 HasFewCells m = (x : ℕ) → cells_of (m.memory (KindOf x)) ≤ cell_limit
 
--- Every cell is empty.
-abbrev pub HasNoCells : Machine → Type 0
-HasNoCells m = (x i : ℕ) → m.memory (Cell x i) ≡ 0
-
 -- 1 if the duty stores a reference in a cell, else 0.
 abbrev pub swaps : Duty → ℕ
 swaps (CellSwap x i y h) = 1
 swaps _ = 0
-
--- No thread is about to store a reference in a cell.
-abbrev pub HasNoSwaps : Machine → Type 0
-HasNoSwaps m = weight swaps m.actors ≡ 0
 
 pub record Ranges (n : ℕ) (m : Machine) : Type 0 where
   pub kinds : HasFewCells m

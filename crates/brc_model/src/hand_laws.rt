@@ -1,7 +1,7 @@
 //! Laws of the counting machine as running threads use it: how it begins, how a thread hands a reference over to
 //! another, and which references there are.
 
-ghost use Rattle.brc_model.specs.CountingLaws.{HandsBegin, ReferencesAreHandedOver, SharesOfThreads};
+ghost use Rattle.brc_model.specs.CountingLaws.{HandsBegin, ReferencesAreHandedOver, SharesOfThreads, CellsHold};
 
 /// States that the first machine of hands has the invariant: main holds the root, and no worker holds anything.
 pub fn hands_begin()
@@ -14,8 +14,13 @@ pub fn references_are_handed_over()
     ensures { ReferencesAreHandedOver }
 {}
 
-/// States that the references to an object are those that the threads hold as callers or in flight, if no thread holds
-/// the object by a variable.
+/// States that the references to an object are those that the threads hold as callers or in flight, and those that the
+/// words of cells name, if no thread holds the object by a variable.
 pub fn references_are_the_threads()
     ensures { SharesOfThreads }
+{}
+
+/// States that the references that cells hold are those that their words name.
+pub fn cells_hold()
+    ensures { CellsHold }
 {}

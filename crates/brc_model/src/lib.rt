@@ -37,7 +37,9 @@ pub use guard_laws::{
     cells_are_guarded, gone_threads_hold_nothing, locked_cells_stay, owners_count_alone,
     queued_marks_are_watched, slots_are_guarded,
 };
-pub use hand_laws::{hands_begin, references_are_handed_over, references_are_the_threads};
+pub use hand_laws::{
+    cells_hold, hands_begin, references_are_handed_over, references_are_the_threads,
+};
 pub use host_laws::{calls_use_what_is_lent, faults_are_counted};
 pub use laws::accepted_is_safe;
 pub use layout::Layout;

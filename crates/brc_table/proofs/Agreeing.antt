@@ -1,6 +1,6 @@
 -- The words and all hands of a table agree about each counted object's references.
 use Rattle.std.proofs.Common.{◌≡◌, ℕ, zero, suc, ◌+◌, ◌<◌, ◌≤◌, List, [], ◌∷◌, length, Some, refl, sym, ap, ◌∙◌, subst, arith}
-use Rattle.std.specs.Prelude.{slice_get, sum_by}
+use Rattle.std.specs.Prelude.{slice_get, slice_index, sum_by}
 use Rattle.std.proofs.lemmas.Option.{slice_get_within}
 use Rattle.std.proofs.lemmas.List.Sums.{sum_by-append}
 use mathlib.Core.Option.{some}
@@ -8,22 +8,25 @@ use lib.ListN.{get_elem?}
 use Rattle.brc_word.specs.Words.{local_part, biased_part, phase_part, bias}
 use Rattle.brc_model.specs.declared.duty.Duty.{Duty}
 use Rattle.brc_model.specs.declared.duty.Holding.TheVariants.{AsCaller}
-use Rattle.brc_model.specs.declared.address.Address.TheVariants.{Local, Shared, Mark}
+use Rattle.brc_model.specs.declared.address.Address.TheVariants.{Local, Shared, Mark, Cell}
 use Rattle.brc_model.specs.declared.layout.Layout.{Layout}
 use Rattle.brc_model.specs.Layout.{row_count, block_of, IsCounted}
 use Rattle.brc_model.specs.AbstractState.{references_to}
+use Rattle.brc_model.specs.Limits.{cell_limit}
 use Rattle.brc_model.specs.References.{word_holds}
+use Rattle.brc_table.specs.Places.{place}
 use Rattle.brc_model.specs.Agreement.{awaits, carries, weighed, IsPhase, biased_total, awaiting}
 use Rattle.brc_model.specs.Machine.{Actor, Life, Unborn, Live, Dying, Closed, Machine, idle_actor}
 use Rattle.brc_model.specs.RowInvariant.{Numbers, Phased, IsDefault, IsQueued, Mode, InOwned, InSwapped, InMerged, IsDead, IsUnborn, RowInvariant}
 use Rattle.brc_model.specs.Invariant.{numbers_of}
 use Rattle.brc_model.specs.Accounts.{Accounts}
 use Rattle.brc_model.specs.Counting.{Counts}
-use Rattle.brc_model.specs.CountingLaws.{CountsAgree, over_threads}
+use Rattle.brc_model.specs.CountingLaws.{CountsAgree, CellsHold, over_threads}
+use Rattle.brc_model.specs.CountingLaws as laws
 use Rattle.brc_table.specs.declared.view.View.{View}
 use Rattle.brc_table.specs.Views.{actor_of, holds, open_work}
 use Rattle.brc_table.specs.Rule.{Stands}
-use Rattle.brc_table.specs.Agreeing.{local_at, shared_at, mark_at, gives_up, makes, over_work, listed, pending, IsInUse, AgreesInTable}
+use Rattle.brc_table.specs.Agreeing.{local_at, shared_at, mark_at, gives_up, makes, over_work, listed, in_cells, pending, IsInUse, AgreesInTable}
 use Rattle.brc_table.proofs.Summing.{over_each, over_sum, weight_at, weight_there, over_list, over_hands}
 use Rattle.brc_table.proofs.Sharing.{share, share_all, share_one}
 
@@ -170,17 +173,26 @@ module _ (layout : Layout) (words : List ℕ) (views : List View) (s : Stands la
         weight_there (work_of (gives_up x)) m.actors t it.0 it.1,
       )
 
-  -- The references are those that the hands list, without those in the making, and with those being given up.
-  references : (x : ℕ) → IsCounted m.layout x
+  -- The references that cells hold are those that the table's words name.
+  held_by_cells : CellsHold → (x : ℕ) → laws.in_cells x m.abstract.references ≡ in_cells m.layout words x
+  held_by_cells hold x =
+      hold s.accounts threads m x s.counts
+      ∙ over_each (λ y. over_threads (λ i. word_holds (m.memory (Cell y i)) x) cell_limit)
+      (λ y. over_threads (λ i. word_holds (slice_index words (place (Cell y i))) x) cell_limit) (row_count m.layout)
+      (λ y row. over_each (λ i. word_holds (m.memory (Cell y i)) x)
+      (λ i. word_holds (slice_index words (place (Cell y i))) x) cell_limit
+      (λ i cell. ap (λ (w : ℕ). word_holds w x) (s.reads (Cell y i) (row, cell))))
+
+  -- The references are those that cells hold and those that the hands list, without those in the making, and with those
+  -- being given up.
+  references : CellsHold → (x : ℕ) → IsCounted m.layout x
       → references_to x m.abstract.references + over_work (makes x) views
-      ≡ listed views x + over_work (gives_up x) views
-  references x is =
+      ≡ listed views x + in_cells m.layout words x + over_work (gives_up x) views
+  references hold x is =
       let bag = m.abstract.references in
       let made = weight_at (work_of (makes x)) m.actors in
       let given = weight_at (work_of (gives_up x)) m.actors in
       let all = share_all x threads bag (record {
-        cells = λ y i.
-            s.counts.kept.core.cells_hold y i x ∙ ap (λ (w : ℕ). word_holds w x) (s.counts.no_cells y i);
         beyond = λ t past k. s.counts.kept.core.beyond t past k x;
       }) in
       let each =
@@ -196,14 +208,15 @@ module _ (layout : Layout) (words : List ℕ) (views : List View) (s : Stands la
         work (makes x),
         work (gives_up x),
         accounts x is,
+        held_by_cells hold x,
       )
 
 -- ---- agreement
 
 -- The words and the hands of a table agree about each counted object.
-pub agrees_in_table : CountsAgree → (layout : Layout) (words : List ℕ) (views : List View) (x : ℕ)
-    → Stands layout words views → IsCounted layout x → x < row_count layout → AgreesInTable words views x
-agrees_in_table law layout words views x s is there =
+pub agrees_in_table : CountsAgree → CellsHold → (layout : Layout) (words : List ℕ) (views : List View) (x : ℕ)
+    → Stands layout words views → IsCounted layout x → x < row_count layout → AgreesInTable layout words views x
+agrees_in_table law hold layout words views x s is there =
     let m = s.machine in
     let is' : IsCounted m.layout x = subst (λ (l : Layout). IsCounted l x) (sym s.layout_is) is in
     let there' : x < row_count m.layout = subst (λ (l : Layout). x < row_count l) (sym s.layout_is) there in
@@ -216,11 +229,13 @@ agrees_in_table law layout words views x s is there =
     let biased = ap biased_part shared in
     let carried = work layout words views s (carries x) in
     let awaited = work layout words views s (awaits x) in
-    let refs = references layout words views s x is' in
+    let refs = references layout words views s hold x is' in
+    let cells : in_cells m.layout words x ≡ in_cells layout words x =
+    ap (λ (l : Layout). in_cells l words x) s.layout_is in
     let awaits_is : awaiting m x ≡ pending words views x = omega (arith, mark, awaited) in
-    let in_use : IsInUse words views x → 1 ≤ uses m x = λ used. omega (arith, used, refs, awaits_is) in
+    let in_use : IsInUse layout words views x → 1 ≤ uses m x = λ used. omega (arith, used, refs, cells, awaits_is) in
     record {
-      total = omega (arith, says.total, ap local_part local, biased, carried, refs, awaits_is);
+      total = omega (arith, says.total, ap local_part local, biased, carried, refs, cells, awaits_is);
       one_pending = omega (arith, says.one_pending, awaits_is);
       default_none = λ e. omega (arith, says.default_none (phase ∙ e), awaits_is);
       default_counts = λ e. omega (arith, says.default_counts (phase ∙ e), biased);

@@ -1,5 +1,5 @@
--- The references to an object are those that the hands list, without those that hands are making, and with those that
--- hands are giving up.
+-- The references to an object are those that cells hold and those that the hands list, without those that hands are
+-- making, and with those that hands are giving up.
 use Rattle.std.proofs.Common.{◌≡◌, ℕ, suc, ◌+◌, ◌<◌, ◌≤◌, Bool, true, false, cond, ◌&&◌, List, [], ◌∷◌, ◌++◌, length, inl, inr, refl, sym, ap, ◌∙◌, subst, arith}
 use Rattle.std.specs.Prelude.{◌==◌, sum_by}
 use Rattle.std.proofs.lemmas.Bool.{eq-eqb, ne_eqb, cases_lt}
@@ -12,8 +12,9 @@ use Rattle.brc_model.specs.References.{held, one_if, reference_of, cell_referenc
 use Rattle.brc_model.specs.Machine.{Actor}
 use Rattle.brc_model.specs.Accounts.{Account, HoldsAt}
 use Rattle.brc_model.specs.OpenWork.{AgendaFits}
-use Rattle.brc_model.specs.CountingLaws.{over_threads}
+use Rattle.brc_model.specs.CountingLaws.{over_threads, is_in_cell, in_cells}
 use Rattle.brc_model.proofs.Basics.Bag.{held-cons, held_itself, references_to-cons}
+use Rattle.brc_model.proofs.Limits.CellShares.{this_object, no_object, in_cells-cons}
 use Rattle.brc_table.specs.Agreeing.{gives_up, makes}
 use Rattle.brc_table.proofs.Summing.{over_each, over_sum, over_none, over_one}
 use Rattle.brc_table.proofs.Tally.{tally, tally_both, same_length, zeros, zeros_long, zeros_here, zeros_else}
@@ -75,55 +76,69 @@ held_tallied t x k (r ∷ bag) =
           (holder_tallied t k r.holder),
     )
 
--- Nothing but the threads below the number holds the object.
+-- Of the threads, nothing but those below the number holds the object.
 pub record IsOfThreads (x n : ℕ) (bag : List Reference) : Type 0 where
-  pub cells : (y i : ℕ) → held (cell_reference y i x) bag ≡ 0
   pub beyond : (t : ℕ) → n ≤ t → (k : Holding) → held (reference_of t k x) bag ≡ 0
 
 -- What holds of a bag holds of the bag without its first reference.
 of_rest : (x n : ℕ) (q : Reference) (bag : List Reference) → IsOfThreads x n (q ∷ bag) → IsOfThreads x n bag
 of_rest x n q bag are = record {
-  cells = λ y i. omega (arith, are.cells y i, held-cons (cell_reference y i x) q bag);
   beyond = λ t past k. omega (arith, are.beyond t past k, held-cons (reference_of t k x) q bag);
 }
 
--- A reference is of one thread, once.
+-- A reference is of one thread, once, or a cell's.
 holder_once : (x n : ℕ) (h : Holder) (bag : List Reference) → IsOfThreads x n (record { holder = h; object = x } ∷ bag)
-    → over_threads (λ t. length (codes_of t h)) n ≡ 1
-holder_once x n (ByCell y i) bag are =
-    absurd (omega (arith, are.cells y i, held_itself (cell_reference y i x) bag))
+    → over_threads (λ t. length (codes_of t h)) n + one_if (is_in_cell h) ≡ 1
+holder_once x n (ByCell y i) bag are = let none = over_none n in omega (arith, none)
 holder_once x n (ByThread u k) bag are =
     let low : u < n = elim (cases_lt u n) [
       | inl low ↦ low
       | inr past ↦ absurd (omega (arith, are.beyond u past k, held_itself (reference_of u k x) bag))
     ] in
+    let one =
     over_one (λ t. length (code_if (t == u) k)) u n low
     (λ t ne. ap (λ (b : Bool). length (code_if b k)) (ne_eqb t u ne))
-    ∙ ap (λ (b : Bool). length (code_if b k)) (eq-eqb u u refl)
+    ∙ ap (λ (b : Bool). length (code_if b k)) (eq-eqb u u refl) in
+    omega (arith, one)
 
 reference_once : (x n : ℕ) (q : Reference) (bag : List Reference) → IsOfThreads x n (q ∷ bag)
-    → over_threads (λ t. length (code_in t x q)) n ≡ one_if (q.object == x)
+    → over_threads (λ t. length (code_in t x q)) n + one_if (is_in_cell q.holder && (q.object == x))
+    ≡ one_if (q.object == x)
 reference_once x n q bag are = elim (eqb_tells q.object x) [
   | inl this ↦
       let here : IsOfThreads x n (record { holder = q.holder; object = x } ∷ bag) =
       subst (λ (y : ℕ). IsOfThreads x n (record { holder = q.holder; object = y } ∷ bag)) this.1 are in
+      let all =
       over_each (λ t. length (code_in t x q)) (λ t. length (codes_of t q.holder)) n
-      (λ t low. ap (λ (b : Bool). length (cond b (codes_of t q.holder) [])) (eq-eqb x q.object (sym this.1)))
-      ∙ (holder_once x n q.holder bag here ∙ sym (ap one_if this.0))
+      (λ t low. ap (λ (b : Bool). length (cond b (codes_of t q.holder) [])) (eq-eqb x q.object (sym this.1))) in
+      omega (
+        arith,
+        all,
+        holder_once x n q.holder bag here,
+        ap one_if this.0,
+        this_object (is_in_cell q.holder) (q.object == x) this.0,
+      )
   | inr apart ↦
+      let all =
       over_each (λ t. length (code_in t x q)) (λ t. 0) n
-      (λ t low. ap (λ (b : Bool). length (cond b (codes_of t q.holder) [])) (ne_eqb x q.object (λ e. apart.1 (sym e))))
-      ∙ (over_none n ∙ sym (ap one_if apart.0))
+      (λ t low. ap (λ (b : Bool). length (cond b (codes_of t q.holder) [])) (ne_eqb x q.object (λ e. apart.1 (sym e)))) in
+      omega (
+        arith,
+        all,
+        over_none n,
+        ap one_if apart.0,
+        no_object (is_in_cell q.holder) (q.object == x) apart.0,
+      )
 ]
 
 -- the number of the thread's references to the object
 abbrev pub share : ℕ → List Reference → ℕ → ℕ
 share x bag t = length (codes_in t x bag)
 
--- The references to an object are those of the threads.
+-- The references to an object are those of the threads, and those that cells hold.
 pub share_all : (x n : ℕ) (bag : List Reference) → IsOfThreads x n bag
-    → references_to x bag ≡ over_threads (share x bag) n
-share_all x n [] are = sym (over_none n)
+    → references_to x bag ≡ over_threads (share x bag) n + in_cells x bag
+share_all x n [] are = let none = over_none n in omega (arith, none)
 share_all x n (q ∷ bag) are =
     let both =
     over_each (share x (q ∷ bag)) (λ t. length (code_in t x q) + share x bag t) n
@@ -134,6 +149,7 @@ share_all x n (q ∷ bag) are =
       references_to-cons x q bag,
       share_all x n bag (of_rest x n q bag are),
       reference_once x n q bag are,
+      in_cells-cons x q bag,
       both,
     )
 

@@ -6,7 +6,11 @@ use Rattle.brc_word.specs.Words.{local_part, biased_part, phase_part, bias}
 use Rattle.brc_model.specs.declared.duty.Reason.TheVariants.{Own}
 use Rattle.brc_model.specs.declared.duty.Duty.{Duty}
 use Rattle.brc_model.specs.declared.duty.Duty.TheVariants.{RetainLoad, RetainStore, RetainAdd, ReleaseLoad, ReleaseStore, SharedLoad, SharedExchange, BirthKind, BirthSlot, BirthLocal, CellSwap}
-use Rattle.brc_model.specs.declared.address.Address.TheVariants.{Local, Shared, Mark}
+use Rattle.brc_model.specs.declared.address.Address.TheVariants.{Local, Shared, Mark, Cell}
+use Rattle.brc_model.specs.declared.layout.Layout.{Layout}
+use Rattle.brc_model.specs.Layout.{row_count}
+use Rattle.brc_model.specs.References.{word_holds}
+use Rattle.brc_model.specs.CountingLaws.{over_cells}
 use Rattle.brc_model.specs.Agreement.{at_row, awaits, carries, IsPhase}
 use Rattle.brc_table.specs.declared.view.View.{View}
 use Rattle.brc_table.specs.Places.{place}
@@ -63,34 +67,40 @@ counted words views x = local_part (local_at words x) + biased_part (shared_at w
 abbrev pub listed : List View → ℕ → ℕ
 listed views x = sum_by (λ v. holds v x) views
 
+-- the references that cells hold
+abbrev pub in_cells : Layout → List ℕ → ℕ → ℕ
+in_cells layout words x =
+    over_cells (λ y i. word_holds (slice_index words (place (Cell y i))) x) (row_count layout)
+
 -- the decrements that are pending: one if the mark is set, and those of the hands' work
 abbrev pub pending : List ℕ → List View → ℕ → ℕ
 pending words views x = mark_at words x + over_work (awaits x) views
 
 -- The object has a reference or a pending decrement. Then it lives: it is born, and it isn't dying or closed. A hand
 -- lists a reference that it makes, and at a birth there is no other, so those that are being made don't count.
-abbrev pub IsInUse : List ℕ → List View → ℕ → Type 0
-IsInUse words views x =
-    over_work (makes x) views < listed views x + over_work (gives_up x) views + pending words views x
+abbrev pub IsInUse : Layout → List ℕ → List View → ℕ → Type 0
+IsInUse layout words views x =
+    over_work (makes x) views
+    < listed views x + in_cells layout words x + over_work (gives_up x) views + pending words views x
 
 -- ---- agreement
 
 -- The words and all hands agree about the object's references. The total and the first clauses hold of every row, also
 -- before a birth and after a death, when the object has no reference. Whether an object lives can't be read off its words,
 -- so the other clauses ask that it is in use.
-pub record AgreesInTable (words : List ℕ) (views : List View) (x : ℕ) : Type 0 where
-  -- the counts add up to the references and the pending decrements; the references are those that hands list, without
-  -- those that hands are making, and with those that hands are giving up
+pub record AgreesInTable (layout : Layout) (words : List ℕ) (views : List View) (x : ℕ) : Type 0 where
+  -- the counts add up to the references and the pending decrements; the references are those that hands list and those
+  -- that cells hold, without those that hands are making, and with those that hands are giving up
   pub total : counted words views x + over_work (makes x) views
-      ≡ listed views x + over_work (gives_up x) views + pending words views x + bias
+      ≡ listed views x + in_cells layout words x + over_work (gives_up x) views + pending words views x + bias
   -- no object has two pending decrements
   pub one_pending : pending words views x ≤ 1
   -- default: no decrement is pending, and the shared count isn't negative
   pub default_none : phase_at words x ≡ 0 → pending words views x ≡ 0
   pub default_counts : phase_at words x ≡ 0 → bias ≤ biased_part (shared_at words x)
   -- queued: one decrement is pending
-  pub queued_one : IsInUse words views x → phase_at words x ≡ 2 → pending words views x ≡ 1
+  pub queued_one : IsInUse layout words views x → phase_at words x ≡ 2 → pending words views x ≡ 1
   -- merged: nobody owns the object, and the shared count is above 0
-  pub merged_free : IsInUse words views x → phase_at words x ≡ 3 → local_at words x ≡ 0
-  pub merged_counts : IsInUse words views x → phase_at words x ≡ 3 → bias < biased_part (shared_at words x)
-  pub phase : IsInUse words views x → IsPhase (phase_at words x)
+  pub merged_free : IsInUse layout words views x → phase_at words x ≡ 3 → local_at words x ≡ 0
+  pub merged_counts : IsInUse layout words views x → phase_at words x ≡ 3 → bias < biased_part (shared_at words x)
+  pub phase : IsInUse layout words views x → IsPhase (phase_at words x)

@@ -9,17 +9,18 @@ ghost use Rattle.brc_table.specs.Agreeing.{AgreesInTable};
 ghost use Rattle.brc_table.specs.Guarding.{SetMarksAreWatched, OnlyHoldersChangeCells, OnlyRunningOwnersCount, GoneHandsHoldNothing};
 
 use brc_model::{
-    cells_are_guarded, counts_agree, gone_threads_hold_nothing, owners_count_alone,
+    cells_are_guarded, cells_hold, counts_agree, gone_threads_hold_nothing, owners_count_alone,
     queued_marks_are_watched,
 };
 
 /// States that in each table, between any two steps of any threads, the counts of every counted object add up to the
-/// references that the hands hold and the decrements that are pending, and what each state of the object implies.
+/// references that the hands and the cells of lists hold and the decrements that are pending, and what each state of the object implies.
 pub fn counts_agree_in_every_table()
     ensures { (layout : Layout) (words : List ℕ) (views : List View) (x : ℕ) → Stands layout words views
-        → IsCounted layout x → x < row_count layout → AgreesInTable words views x }
+        → IsCounted layout x → x < row_count layout → AgreesInTable layout words views x }
 {
     counts_agree();
+    cells_hold();
 }
 
 /// States that each mark that is set is watched: by the thread of its block while that runs, by its exit, or by a hand

@@ -90,7 +90,7 @@ same-other_holder r q other = ap (λ (b : Bool). b && (r.object == q.object)) ot
 
 -- ---- counting in the bag
 
-count_by-cons : (p : Reference → Bool) (q : Reference) (bag : List Reference)
+pub count_by-cons : (p : Reference → Bool) (q : Reference) (bag : List Reference)
     → count_by p (q ∷ bag) ≡ one_if (p q) + count_by p bag
 count_by-cons p q bag = sum_by-cons (λ (x : Reference). cond (p x) 1 0) q bag
 

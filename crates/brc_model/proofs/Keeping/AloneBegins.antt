@@ -18,13 +18,12 @@ use Rattle.brc_model.specs.Knowledge.{ByReference, HeadFits}
 use Rattle.brc_model.specs.OpenWork.{is_about, is_finalising, has_leave, Agenda, IsSettled}
 use Rattle.brc_model.specs.Gates.{LocksFit}
 use Rattle.brc_model.specs.Invariant.{looks, Invariant}
-use Rattle.brc_model.specs.Ranges.{IsSmall, swaps}
+use Rattle.brc_model.specs.Ranges.{IsSmall}
 use Rattle.brc_model.specs.Counting.{Counts, working, IsReady}
 use Rattle.brc_model.specs.CountingLaws.{SettlesBegin, ClaimsBegin, ExitsBegin, KindsAreAsked, ChainsAreThere}
 use Rattle.brc_model.proofs.Basics.Bag.{one_if_low}
 use Rattle.brc_model.proofs.Limits.Ranges.{row_small, head_small}
 use Rattle.brc_model.proofs.Objects.Weights.{agenda_weight-le}
-use Rattle.brc_model.proofs.Keeping.NoSwaps.{replaced_swaps}
 use Rattle.brc_model.proofs.Keeping.Rearranging.{still_wait}
 use Rattle.brc_model.proofs.Keeping.Replaced.{with_account_itself}
 use Rattle.brc_model.proofs.Keeping.Sits.{Sits}
@@ -48,7 +47,6 @@ pub record BeginsAlone (d : Duty) : Type 0 where
   pub merges : (y : ℕ) → merges y d ≡ 0
   pub decides : (y : ℕ) → decides y d ≡ 0
   pub looks : (y : ℕ) → looks y d ≡ 0
-  pub swaps : swaps d ≡ 0
 
 -- What the thread has to show besides.
 pub record TakesAlone (p : Accounts) (m : Machine) (t : ℕ) (a : Actor) (d : Duty) : Type 0 where
@@ -117,15 +115,7 @@ alone_begins p n m t a d counts ready none new =
       ranges =
           working_ranges n m t a (d ∷ []) a.aside counts.ranges ready.found (new.small, tt)
           (counts.ranges.aside t a ready.found);
-      no_cells = counts.no_cells;
       no_flight = counts.no_flight;
-      no_swaps = replaced_swaps m.actors t a (working a (d ∷ []) a.aside) ready.found counts.no_swaps (omega (
-        arith,
-        sum_by-cons swaps d [],
-        begins.swaps,
-        agenda_weight-le swaps m.actors t a ready.found,
-        counts.no_swaps,
-      ));
     }
 
 settle_begins : BeginsAlone Settle
@@ -138,7 +128,6 @@ settle_begins = record {
   merges = λ y. refl;
   decides = λ y. refl;
   looks = λ y. refl;
-  swaps = refl;
 }
 
 claim_begins : (x : ℕ) → BeginsAlone (ClaimMark x)
@@ -151,7 +140,6 @@ claim_begins x = record {
   merges = λ y. refl;
   decides = λ y. refl;
   looks = λ y. refl;
-  swaps = refl;
 }
 
 leave_begins : (i k : ℕ) → BeginsAlone (Leave i k)
@@ -164,7 +152,6 @@ leave_begins i k = record {
   merges = λ y. refl;
   decides = λ y. refl;
   looks = λ y. refl;
-  swaps = refl;
 }
 
 -- The invariant and the ranges hold after a ready thread begins to settle its chain.

@@ -8,7 +8,6 @@ use Rattle.brc_model.specs.declared.layout.Layout.{Layout}
 use Rattle.brc_model.specs.Layout.{root_row}
 use Rattle.brc_model.specs.References.{held, one_if, reference_of}
 use Rattle.brc_model.specs.StepMachine.{callers_below}
-use Rattle.brc_model.specs.Ranges.{swaps}
 use Rattle.brc_model.specs.Counting.{Counts, IsPlainLayout, hands_machine, hands_accounts}
 use Rattle.brc_model.specs.AbstractState.{same_holding}
 use Rattle.brc_model.proofs.Basics.Bag.{eqb_swapped}
@@ -52,7 +51,5 @@ hands_begin layout plain = record {
       rooted_kept hands_accounts layout 1 (hands_rooted layout plain)
       (record { each = λ t le k object. hands_hold t k object });
   ranges = rooted_ranges layout 1;
-  no_cells = λ x i. refl;
-  no_swaps = no_weight swaps layout.workers;
   no_flight = hands_flight;
 }

@@ -233,8 +233,6 @@ immortals_are_free p n m t a x counts ready alone immortal = record {
     each = counts.ranges.each;
     aside = counts.ranges.aside;
   };
-  no_cells = counts.no_cells;
-  no_swaps = counts.no_swaps;
   no_flight =
       flight_with p t (with_one_more (p t) AsCaller x) counts.no_flight
       (λ object. omega (arith, counts.no_flight t object));

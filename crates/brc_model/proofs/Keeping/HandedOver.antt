@@ -200,8 +200,6 @@ handed_over p n m t u a b x counts giver taker apart giver_free taker_free taker
     each = counts.ranges.each;
     aside = counts.ranges.aside;
   };
-  no_cells = counts.no_cells;
-  no_swaps = counts.no_swaps;
   no_flight =
       flight_with (with_account p t (with_one_less (p t) AsCaller x)) u (with_one_more (p u) AsCaller x)
       (flight_with p t (with_one_less (p t) AsCaller x) counts.no_flight

@@ -6,13 +6,12 @@ use Rattle.std.proofs.lemmas.List.Sums.{sum_by-cons}
 use Rattle.brc_model.specs.declared.duty.Duty.{Duty}
 use Rattle.brc_model.specs.Machine.{Actor, Machine, with_actor}
 use Rattle.brc_model.specs.Layout.{row_count}
-use Rattle.brc_model.specs.Ranges.{IsSmall, AreSmall, swaps, Ranges}
+use Rattle.brc_model.specs.Ranges.{IsSmall, AreSmall, Ranges}
 use Rattle.brc_model.specs.Counting.{working}
 use Rattle.brc_model.specs.CountingLaws.{WorkIsPutAside, WorkIsTakenBack}
 use Rattle.brc_model.proofs.Basics.Lists.{written_actor}
 use Rattle.brc_model.proofs.Frame.Aside.{waiting_piece}
 use Rattle.brc_model.proofs.Objects.Weights.{agenda_weight-le}
-use Rattle.brc_model.proofs.Keeping.NoSwaps.{piece_swaps, replaced_swaps}
 use Rattle.brc_model.proofs.Keeping.Rearranging.{put_aside, take_back, sum_split}
 
 -- A thread's new work keeps the ranges, if its rows and cells exist.
@@ -38,15 +37,7 @@ work_put_aside p n m t a d counts found is waits =
       kept = put_aside p n m t a d counts.kept found is waits;
       ranges =
           working_ranges n m t a [] (d ∷ a.aside) counts.ranges found tt (small.0, counts.ranges.aside t a found);
-      no_cells = counts.no_cells;
       no_flight = counts.no_flight;
-      no_swaps = replaced_swaps m.actors t a (working a [] (d ∷ a.aside)) found counts.no_swaps (omega (
-        arith,
-        sum_by-cons swaps d a.aside,
-        piece_swaps d (waiting_piece d waits),
-        agenda_weight-le swaps m.actors t a found,
-        counts.no_swaps,
-      ));
     }
 
 -- The duty that the thread takes back is small, and so are those that stay aside.
@@ -66,14 +57,5 @@ work_taken_back p n m t a before after d counts found none is =
       kept = take_back p n m t a before after d counts.kept found none is;
       ranges =
           working_ranges n m t a (d ∷ []) (before ++ after) counts.ranges found (small.0, tt) small.1;
-      no_cells = counts.no_cells;
       no_flight = counts.no_flight;
-      no_swaps = replaced_swaps m.actors t a (working a (d ∷ []) (before ++ after)) found counts.no_swaps (omega (
-        arith,
-        ap (sum_by swaps) is,
-        sum_split swaps before after d,
-        sum_by-cons swaps d [],
-        agenda_weight-le swaps m.actors t a found,
-        counts.no_swaps,
-      ));
     }

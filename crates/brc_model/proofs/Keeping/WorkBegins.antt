@@ -20,7 +20,7 @@ use Rattle.brc_model.specs.Knowledge.{ByReference, HeadFits}
 use Rattle.brc_model.specs.OpenWork.{is_about, is_piece, is_finalising, has_leave, Agenda, IsSettled}
 use Rattle.brc_model.specs.Gates.{LocksFit}
 use Rattle.brc_model.specs.Invariant.{looks, CoreInvariant}
-use Rattle.brc_model.specs.Ranges.{IsSmall, swaps}
+use Rattle.brc_model.specs.Ranges.{IsSmall}
 use Rattle.brc_model.specs.Counting.{Counts, with_account, with_one_more, with_one_less, working, IsReady, HasNoneAbout}
 use Rattle.brc_model.proofs.Keeping.Locks.{more_locks, less_locks}
 use Rattle.brc_model.specs.CountingLaws.{RetainsBegin, ReleasesBegin}
@@ -28,7 +28,6 @@ use Rattle.brc_model.proofs.Basics.Bag.{one_if_low, held-le-references_to}
 use Rattle.brc_model.proofs.Frame.Aside.{lacks_counted, extra_counted, gives_counted}
 use Rattle.brc_model.proofs.Limits.Ranges.{row_small, referenced_small}
 use Rattle.brc_model.proofs.Objects.Weights.{agenda_weight-le}
-use Rattle.brc_model.proofs.Keeping.NoSwaps.{piece_swaps, replaced_swaps}
 use Rattle.brc_model.proofs.Keeping.Rearranging.{still_wait}
 use Rattle.brc_model.proofs.Keeping.Replaced.{flight_with}
 use Rattle.brc_model.proofs.Keeping.Sits.{AtRest, Sits}
@@ -157,15 +156,7 @@ work_begins p n m t a x d account counts ready alone new =
       ranges =
           working_ranges n m t a (d ∷ []) a.aside counts.ranges ready.found (new.small, tt)
           (counts.ranges.aside t a ready.found);
-      no_cells = counts.no_cells;
       no_flight = flight_with p t account counts.no_flight new.no_flight;
-      no_swaps = replaced_swaps m.actors t a (working a (d ∷ []) a.aside) ready.found counts.no_swaps (omega (
-        arith,
-        sum_by-cons swaps d [],
-        piece_swaps d begins.piece,
-        agenda_weight-le swaps m.actors t a ready.found,
-        counts.no_swaps,
-      ));
     }
 
 -- ---- accounts

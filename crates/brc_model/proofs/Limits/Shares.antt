@@ -1,4 +1,5 @@
--- The references to an object are those of the threads: each reference in the bag is counted for one thread, once.
+-- The references to an object are those of the threads, and those that cells hold: each reference in the bag is counted
+-- for one thread or for one cell, once.
 use Rattle.std.proofs.Common.{◌≡◌, ℕ, zero, suc, ◌+◌, ◌<◌, ◌≤◌, Bool, true, false, List, [], ◌∷◌, inl, inr, refl, sym, ap, ◌∙◌, subst, arith}
 use Rattle.std.specs.Prelude.{◌==◌, ◌&&◌}
 use Rattle.std.proofs.lemmas.Bool.{eq-eqb, ne_eqb, cases_lt}
@@ -10,18 +11,11 @@ use Rattle.brc_model.specs.References.{held, one_if, reference_of, word_holds, c
 use Rattle.brc_model.specs.Machine.{Machine}
 use Rattle.brc_model.specs.Accounts.{Accounts}
 use Rattle.brc_model.specs.Counting.{Counts}
-use Rattle.brc_model.specs.CountingLaws.{over_threads, thread_references, HasNoVariables}
+use Rattle.brc_model.specs.CountingLaws.{over_threads, is_in_cell, in_cells, SharesOfThreads}
 use Rattle.brc_model.proofs.Basics.Bag.{held-cons, held_itself, references_to-cons}
+use Rattle.brc_model.proofs.Limits.CellShares.{over_each, over_sum, this_object, no_object, in_cells-cons, cells_hold}
 
 -- ---- sums over the threads
-
-over_each : (f g : ℕ → ℕ) (n : ℕ) → ((t : ℕ) → f t ≡ g t) → over_threads f n ≡ over_threads g n
-over_each f g zero each = refl
-over_each f g (suc t) each = omega (arith, over_each f g t each, each t)
-
-over_sum : (f g : ℕ → ℕ) (n : ℕ) → over_threads (λ t. f t + g t) n ≡ over_threads f n + over_threads g n
-over_sum f g zero = refl
-over_sum f g (suc t) = omega (arith, over_sum f g t)
 
 over_none : (n : ℕ) → over_threads (λ t. 0) n ≡ 0
 over_none zero = refl
@@ -56,10 +50,9 @@ share x q t = one_if (same (reference_of t AsCaller x) q) + one_if (same (refere
 abbrev shares : ℕ → List Reference → ℕ → ℕ
 shares x bag t = held (reference_of t AsCaller x) bag + held (reference_of t InFlight x) bag
 
--- Nothing but the threads below the number holds the object, each as the caller or in flight.
+-- Of the threads, nothing but those below the number holds the object, each as the caller or in flight.
 record IsOfThreads (x n : ℕ) (bag : List Reference) : Type 0 where
   variables : (t v : ℕ) → held (reference_of t (ByVariable v) x) bag ≡ 0
-  cells : (y i : ℕ) → held (cell_reference y i x) bag ≡ 0
   beyond : (t : ℕ) → n ≤ t → (k : Holding) → held (reference_of t k x) bag ≡ 0
 
 other_row : (holders : Bool) (a b : ℕ) → (a ≡ b → ⊥) → one_if (holders && (a == b)) ≡ 0
@@ -105,15 +98,20 @@ holder_low x n u k bag of = elim (cases_lt u n) [
   | inr past ↦ absurd (omega (arith, of.beyond u past k, held_itself (reference_of u k x) bag))
 ]
 
+-- A reference is one thread's, once, or a cell's.
 share_here : (x n : ℕ) (h : Holder) (bag : List Reference)
     → IsOfThreads x n (record { holder = h; object = x } ∷ bag)
-    → over_threads (share x (record { holder = h; object = x })) n ≡ 1
+    → over_threads (share x (record { holder = h; object = x })) n + one_if (is_in_cell h) ≡ 1
 share_here x n (ByCell y i) bag of =
-    absurd (omega (arith, of.cells y i, held_itself (cell_reference y i x) bag))
+    let none : over_threads (share x (cell_reference y i x)) n ≡ 0 =
+    over_each (share x (cell_reference y i x)) (λ t. 0) n (λ t. refl) ∙ over_none n in
+    omega (arith, none)
 share_here x n (ByThread u (ByVariable v)) bag of =
     absurd (omega (arith, of.variables u v, held_itself (reference_of u (ByVariable v) x) bag))
-share_here x n (ByThread u AsCaller) bag of = caller_share x n u (holder_low x n u AsCaller bag of)
-share_here x n (ByThread u InFlight) bag of = flight_share x n u (holder_low x n u InFlight bag of)
+share_here x n (ByThread u AsCaller) bag of =
+    let one = caller_share x n u (holder_low x n u AsCaller bag of) in omega (arith, one)
+share_here x n (ByThread u InFlight) bag of =
+    let one = flight_share x n u (holder_low x n u InFlight bag of) in omega (arith, one)
 
 -- ---- all references
 
@@ -121,7 +119,6 @@ share_here x n (ByThread u InFlight) bag of = flight_share x n u (holder_low x n
 of_rest : (x n : ℕ) (q : Reference) (bag : List Reference) → IsOfThreads x n (q ∷ bag) → IsOfThreads x n bag
 of_rest x n q bag of = record {
   variables = λ t v. omega (arith, of.variables t v, held-cons (reference_of t (ByVariable v) x) q bag);
-  cells = λ y i. omega (arith, of.cells y i, held-cons (cell_reference y i x) q bag);
   beyond = λ t past k. omega (arith, of.beyond t past k, held-cons (reference_of t k x) q bag);
 }
 
@@ -134,18 +131,27 @@ shares_more x n q bag =
     ∙ over_sum (share x q) (shares x bag) n
 
 shares_in : (x n : ℕ) (bag : List Reference) → IsOfThreads x n bag
-    → references_to x bag ≡ over_threads (shares x bag) n
-shares_in x n [] of = sym (over_none n)
+    → references_to x bag ≡ over_threads (shares x bag) n + in_cells x bag
+shares_in x n [] of = omega (arith, over_none n)
 shares_in x n (q ∷ bag) of =
     let rest = shares_in x n bag (of_rest x n q bag of) in
     elim (eqb_tells q.object x) [
       | inl this ↦
           let here : IsOfThreads x n (record { holder = q.holder; object = x } ∷ bag) =
           subst (λ (y : ℕ). IsOfThreads x n (record { holder = q.holder; object = y } ∷ bag)) this.1 of in
-          let one : over_threads (share x q) n ≡ 1 =
-          subst (λ (y : ℕ). over_threads (share x (record { holder = q.holder; object = y })) n ≡ 1) (sym this.1)
-          (share_here x n q.holder bag here) in
-          omega (arith, references_to-cons x q bag, ap one_if this.0, one, shares_more x n q bag, rest)
+          let one : over_threads (share x q) n + one_if (is_in_cell q.holder) ≡ 1 =
+          subst (λ (y : ℕ). over_threads (share x (record { holder = q.holder; object = y })) n
+          + one_if (is_in_cell q.holder) ≡ 1) (sym this.1) (share_here x n q.holder bag here) in
+          omega (
+            arith,
+            references_to-cons x q bag,
+            ap one_if this.0,
+            one,
+            shares_more x n q bag,
+            rest,
+            in_cells-cons x q bag,
+            this_object (is_in_cell q.holder) (q.object == x) this.0,
+          )
       | inr apart ↦
           omega (
             arith,
@@ -154,14 +160,17 @@ shares_in x n (q ∷ bag) of =
             share_elsewhere x n q (λ e. apart.1 (sym e)),
             shares_more x n q bag,
             rest,
+            in_cells-cons x q bag,
+            no_object (is_in_cell q.holder) (q.object == x) apart.0,
           )
     ]
 
--- The references to an object are those of the threads, if no thread holds the object by a variable.
-pub shares_of_threads : (p : Accounts) (n : ℕ) (m : Machine) (x : ℕ) → Counts p n m → HasNoVariables m x
-    → references_to x m.abstract.references ≡ over_threads (thread_references m x) n
-shares_of_threads p n m x counts none = shares_in x n m.abstract.references (record {
-  variables = none;
-  cells = λ y i. counts.kept.core.cells_hold y i x ∙ ap (λ (w : ℕ). word_holds w x) (counts.no_cells y i);
-  beyond = λ t past k. counts.kept.core.beyond t past k x;
-})
+-- The references to an object are those of the threads, and those that cells hold, if no thread holds the object by a
+-- variable.
+pub shares_of_threads : SharesOfThreads
+shares_of_threads p n m x counts none =
+    let all = shares_in x n m.abstract.references (record {
+      variables = none;
+      beyond = λ t past k. counts.kept.core.beyond t past k x;
+    }) in
+    omega (arith, all, cells_hold p n m x counts)

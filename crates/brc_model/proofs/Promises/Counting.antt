@@ -22,13 +22,12 @@ use Rattle.brc_model.specs.Machine.{Actor, Machine}
 use Rattle.brc_model.specs.Accounts.{Accounts, lacks_of}
 use Rattle.brc_model.specs.Counting.{Counts}
 use Rattle.brc_model.specs.CountingLaws.{ComesNext, DutiesAreKept, DutiesAreWithin, AccountsAreThere, CountsAgree, HandedMergesLive}
-use Rattle.brc_model.specs.Ranges.{AreSmall, swaps}
+use Rattle.brc_model.specs.Ranges.{AreSmall}
 use Rattle.brc_model.proofs.Keeping.Kept.{Doing, duty_kept}
 use Rattle.brc_model.proofs.Frame.Alive.{first_weighs}
 use Rattle.brc_model.proofs.Frame.Leaves.{merge_alive}
 use Rattle.brc_model.proofs.Objects.RowSteps.{shared_merged}
 use Rattle.brc_model.proofs.Work.MergesOnce.{carried_is}
-use Rattle.brc_model.proofs.Keeping.NoSwaps.{swaps_after, cells_after}
 use Rattle.brc_model.proofs.Limits.Ranges.{head_small, duty_ranges, referenced_small}
 use Rattle.brc_model.proofs.Limits.StepsAreWithin.{duty_within}
 use Rattle.brc_model.proofs.Promises.Agreeing.{agrees_at}
@@ -49,15 +48,13 @@ next_small p n m t a d rest counts next =
 pub duties_kept : DutiesAreKept
 duties_kept p n m t a d rest counts next =
     let kept = duty_kept p n m t a d rest (doing_next p n m t a d rest counts next) in
-    let weighs = first_weighs swaps m.actors t a d rest next.found next.agenda in (
+    (
       kept.0,
       record {
         kept = kept.1;
         ranges = duty_ranges p n m t a a d rest counts.kept.core counts.ranges next.found
             (head_small p n m t a counts.kept.core next.found) (next_small p n m t a d rest counts next)
             (counts.ranges.aside t a next.found);
-        no_cells = cells_after m t a d rest (omega (arith, weighs, counts.no_swaps)) counts.no_cells;
-        no_swaps = swaps_after m t a d rest next.found next.agenda counts.no_swaps;
         no_flight = counts.no_flight;
       },
     )
