@@ -8,7 +8,7 @@ use Rattle.std.proofs.lemmas.List.{length-append}
 use Rattle.brc_model.specs.declared.duty.Holding.{Holding}
 use Rattle.brc_model.specs.declared.duty.Holding.TheVariants.{ByVariable, AsCaller, InFlight}
 use Rattle.brc_model.specs.AbstractState.{Holder, ByThread, ByCell, Reference, same_holding, same_holder, references_to}
-use Rattle.brc_model.specs.References.{held, one_if, reference_of, cell_reference}
+use Rattle.brc_model.specs.References.{held, one_if, reference_of}
 use Rattle.brc_model.specs.Machine.{Actor}
 use Rattle.brc_model.specs.Accounts.{Account, HoldsAt}
 use Rattle.brc_model.specs.OpenWork.{AgendaFits}

@@ -3,7 +3,6 @@
 use Rattle.std.proofs.Common.{◌≡◌, ℕ, Bool, cond, true, false, [], ◌∷◌, inl, refl, ap, subst, arith}
 use Rattle.std.specs.Prelude.{count_by}
 use Rattle.std.proofs.lemmas.Bool.{false≢true}
-use Rattle.std.proofs.lemmas.List.Sums.{sum_by-cons}
 use Rattle.brc_model.specs.declared.duty.Holding.{Holding}
 use Rattle.brc_model.specs.declared.duty.Holding.TheVariants.{AsCaller}
 use Rattle.brc_model.specs.declared.duty.Duty.{Duty}
@@ -23,7 +22,6 @@ use Rattle.brc_model.specs.Counting.{Counts, working, IsReady}
 use Rattle.brc_model.specs.CountingLaws.{SettlesBegin, ClaimsBegin, ExitsBegin, KindsAreAsked, ChainsAreThere}
 use Rattle.brc_model.proofs.Basics.Bag.{one_if_low}
 use Rattle.brc_model.proofs.Limits.Ranges.{row_small, head_small}
-use Rattle.brc_model.proofs.Objects.Weights.{agenda_weight-le}
 use Rattle.brc_model.proofs.Keeping.Rearranging.{still_wait}
 use Rattle.brc_model.proofs.Keeping.Replaced.{with_account_itself}
 use Rattle.brc_model.proofs.Keeping.Sits.{Sits}

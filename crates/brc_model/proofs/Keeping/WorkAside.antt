@@ -1,8 +1,7 @@
 -- A running thread puts its only duty aside, or takes back a duty that it has put aside. The invariant holds as before,
 -- and so do the ranges.
-use Rattle.std.proofs.Common.{◌≡◌, ℕ, List, [], ◌∷◌, ◌++◌, Some, ap, subst, arith}
-use Rattle.std.specs.Prelude.{slice_get, sum_by}
-use Rattle.std.proofs.lemmas.List.Sums.{sum_by-cons}
+use Rattle.std.proofs.Common.{◌≡◌, ℕ, List, [], ◌∷◌, ◌++◌, Some, subst}
+use Rattle.std.specs.Prelude.{slice_get}
 use Rattle.brc_model.specs.declared.duty.Duty.{Duty}
 use Rattle.brc_model.specs.Machine.{Actor, Machine, with_actor}
 use Rattle.brc_model.specs.Layout.{row_count}
@@ -10,9 +9,7 @@ use Rattle.brc_model.specs.Ranges.{IsSmall, AreSmall, Ranges}
 use Rattle.brc_model.specs.Counting.{working}
 use Rattle.brc_model.specs.CountingLaws.{WorkIsPutAside, WorkIsTakenBack}
 use Rattle.brc_model.proofs.Basics.Lists.{written_actor}
-use Rattle.brc_model.proofs.Frame.Aside.{waiting_piece}
-use Rattle.brc_model.proofs.Objects.Weights.{agenda_weight-le}
-use Rattle.brc_model.proofs.Keeping.Rearranging.{put_aside, take_back, sum_split}
+use Rattle.brc_model.proofs.Keeping.Rearranging.{put_aside, take_back}
 
 -- A thread's new work keeps the ranges, if its rows and cells exist.
 pub working_ranges : (n : ℕ) (m : Machine) (t : ℕ) (a : Actor) (agenda aside : List Duty) → Ranges n m

@@ -27,7 +27,6 @@ use Rattle.brc_model.specs.CountingLaws.{RetainsBegin, ReleasesBegin}
 use Rattle.brc_model.proofs.Basics.Bag.{one_if_low, held-le-references_to}
 use Rattle.brc_model.proofs.Frame.Aside.{lacks_counted, extra_counted, gives_counted}
 use Rattle.brc_model.proofs.Limits.Ranges.{row_small, referenced_small}
-use Rattle.brc_model.proofs.Objects.Weights.{agenda_weight-le}
 use Rattle.brc_model.proofs.Keeping.Rearranging.{still_wait}
 use Rattle.brc_model.proofs.Keeping.Replaced.{flight_with}
 use Rattle.brc_model.proofs.Keeping.Sits.{AtRest, Sits}

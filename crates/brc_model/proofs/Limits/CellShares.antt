@@ -3,7 +3,7 @@ use Rattle.std.proofs.Common.{◌≡◌, ◌≢◌, ◌⊎◌, ℕ, zero, suc, �
 use Rattle.std.specs.Prelude.{◌==◌, ◌&&◌}
 use Rattle.std.proofs.lemmas.Bool.{eq-eqb, ne_eqb, cases_lt}
 use Rattle.std.proofs.lemmas.Bool.Decides.{eqb_tells}
-use Rattle.brc_model.specs.declared.address.Address.TheVariants.{KindOf, Cell}
+use Rattle.brc_model.specs.declared.address.Address.TheVariants.{Cell}
 use Rattle.brc_model.specs.Layout.{row_count}
 use Rattle.brc_model.specs.Limits.{cell_limit}
 use Rattle.brc_model.specs.AbstractState.{Holder, ByThread, ByCell, Reference, same, same_holder}
@@ -12,7 +12,7 @@ use Rattle.brc_model.specs.Machine.{Machine, Life, Unborn, Live, Dying, Closed}
 use Rattle.brc_model.specs.Accounts.{Accounts}
 use Rattle.brc_model.specs.Invariant.{CellFits}
 use Rattle.brc_model.specs.Counting.{Counts}
-use Rattle.brc_model.specs.CountingLaws.{over_threads, over_cells, cell_references, is_in_cell, in_cells, CellsHold}
+use Rattle.brc_model.specs.CountingLaws.{over_threads, over_cells, is_in_cell, in_cells, CellsHold}
 use Rattle.brc_model.proofs.Basics.Bag.{held-cons, held_itself, count_by-cons}
 use Rattle.brc_model.proofs.Basics.Blocks.{born_within}
 

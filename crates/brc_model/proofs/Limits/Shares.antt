@@ -7,10 +7,7 @@ use Rattle.std.proofs.lemmas.Bool.Decides.{eqb_tells}
 use Rattle.brc_model.specs.declared.duty.Holding.{Holding}
 use Rattle.brc_model.specs.declared.duty.Holding.TheVariants.{ByVariable, AsCaller, InFlight}
 use Rattle.brc_model.specs.AbstractState.{Holder, ByThread, ByCell, Reference, same, same_holder, references_to}
-use Rattle.brc_model.specs.References.{held, one_if, reference_of, word_holds, cell_reference}
-use Rattle.brc_model.specs.Machine.{Machine}
-use Rattle.brc_model.specs.Accounts.{Accounts}
-use Rattle.brc_model.specs.Counting.{Counts}
+use Rattle.brc_model.specs.References.{held, one_if, reference_of, cell_reference}
 use Rattle.brc_model.specs.CountingLaws.{over_threads, is_in_cell, in_cells, SharesOfThreads}
 use Rattle.brc_model.proofs.Basics.Bag.{held-cons, held_itself, references_to-cons}
 use Rattle.brc_model.proofs.Limits.CellShares.{over_each, over_sum, this_object, no_object, in_cells-cons, cells_hold}

@@ -47,8 +47,7 @@ next_small p n m t a d rest counts next =
 -- Doing a thread's next duty isn't bad, and keeps the invariant.
 pub duties_kept : DutiesAreKept
 duties_kept p n m t a d rest counts next =
-    let kept = duty_kept p n m t a d rest (doing_next p n m t a d rest counts next) in
-    (
+    let kept = duty_kept p n m t a d rest (doing_next p n m t a d rest counts next) in (
       kept.0,
       record {
         kept = kept.1;

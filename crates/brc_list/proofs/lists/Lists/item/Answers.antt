@@ -1,8 +1,7 @@
-use Rattle.std.proofs.Common.{◌≡◌, ◌≤◌, ◌+◌, ◌*◌, ap, ◌∙◌, subst, arith}
+use Rattle.std.proofs.Common.{◌≡◌, ◌≤◌, ap, ◌∙◌, subst, arith}
 use Rattle.std.proofs.Math.Nat.{mul-le-mul}
 use Rattle.brc_model.specs.declared.layout.Layout.{Layout}
-use Rattle.brc_model.specs.Layout.{front_rows, row_count}
-use Rattle.brc_model.specs.Limits.{worker_limit, row_limit}
+use Rattle.brc_model.specs.Layout.{row_count}
 use Rattle.brc_model.specs.Counting.{IsPlainLayout}
 use Rattle.brc_table.specs.Hands.{TableState}
 use Rattle.brc_list.proofs.lists.Lists.item.Goals as goal
