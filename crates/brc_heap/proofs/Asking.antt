@@ -13,7 +13,7 @@ use Rattle.brc_table.specs.Hands.{HasNoWork}
 use Rattle.brc_heap.specs.Calls.{Leaves}
 use Rattle.brc_heap.proofs.Sight.{same_sight}
 use Rattle.brc_heap.proofs.Bearing.{or_true}
-use Rattle.brc_heap.proofs.Leaving.{begun_works, done_works, works_leave}
+use Rattle.brc_heap.proofs.Leaving.{plain_keeps, begun_works, done_works, works_leave}
 
 ready_none : (head : ℕ) → ready head ([] ++ []) ≡ []
 ready_none zero = refl
@@ -21,8 +21,9 @@ ready_none (suc head) = refl
 
 pub ask_leaves : (v : View) (x word : ℕ) → HasNoWork v x → Leaves x [] v (done (asking v x) word)
 ask_leaves v x word none =
-    let begun = begun_works x v (asking v x) none refl refl refl refl refl (same_sight x v (asking v x) refl refl refl) refl in
-    let works = done_works x v (asking v x) (KindLoad x ∷ []) word begun refl ((λ s. refl), (λ n. refl), record { locked = λ l k. refl; lent = λ l k. refl; cells = λ l t k y i ne. refl; gates = λ l t k y ne. refl }) in
+    let begun = begun_works x v (asking v x) none refl refl refl refl refl (same_sight x v (asking v x) refl refl refl)
+    refl in
+    let works = done_works x v (asking v x) (KindLoad x ∷ []) word begun refl (plain_keeps x (KindLoad x) [] refl) in
     works_leave x v (done (asking v x) word) [] works (ready_none v.head) tt tt
 
 pub ask_seen : (v : View) (x word : ℕ) → has_seen_kind x word (done (asking v x) word) ≡ true

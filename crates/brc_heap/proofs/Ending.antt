@@ -20,7 +20,7 @@ use Rattle.brc_heap.specs.declared.merge.MergeStep.TheVariants as merge
 use Rattle.brc_heap.specs.Calls.{retained, counts_here, released_locally, local_answer, chained_by, chained, decided, zero_answer, released_shared, shared_answer, merge_tried, merge_answer, Leaves, local_left, zero_left, shared_left, merge_left}
 use Rattle.brc_heap.proofs.Exchanges.{exchange_ready, release_steps, merge_list, merge_next, merge_exchanges}
 use Rattle.brc_heap.proofs.Sight.{same_sight}
-use Rattle.brc_heap.proofs.Leaving.{AllAbout, WorksAt, turned_works, begun_works, KeepsStatus, done_works, works_leave}
+use Rattle.brc_heap.proofs.Leaving.{AllAbout, WorksAt, turned_works, begun_works, KeepsStatus, plain_keeps, done_works, works_leave}
 
 -- ---- references
 
@@ -59,8 +59,8 @@ retain_next (suc head) x word false false = refl
 
 retain_keeps : (x word : ℕ) (immortal counts : Bool) → KeepsStatus x (retain_list x word immortal counts)
 retain_keeps x word true counts = tt
-retain_keeps x word false true = ((λ s. refl), (λ n. refl), record { locked = λ l k. refl; lent = λ l k. refl; cells = λ l t k y i ne. refl; gates = λ l t k y ne. refl })
-retain_keeps x word false false = ((λ s. refl), (λ n. refl), record { locked = λ l k. refl; lent = λ l k. refl; cells = λ l t k y i ne. refl; gates = λ l t k y ne. refl })
+retain_keeps x word false true = plain_keeps x (RetainStore x AsCaller word) [] refl
+retain_keeps x word false false = plain_keeps x (RetainAdd x AsCaller) [] refl
 
 retain_ends : (u : View) (x word found : ℕ) (immortal counts : Bool) → u.agenda ≡ retain_list x word immortal counts
     → (did u (retain_list x word immortal counts) found).agenda ≡ []
@@ -71,9 +71,11 @@ retain_ends u x word found false false is = refl
 -- A retain leaves nothing to do.
 pub retain_leaves : (v : View) (x word found : ℕ) → HasNoWork v x → Leaves x [] v (retained v x word found)
 retain_leaves v x word found none =
-    let begun = begun_works x v (retaining v x) none refl refl refl refl refl (same_sight x v (retaining v x) refl refl refl) refl in
+    let begun = begun_works x v (retaining v x) none refl refl refl refl refl (same_sight x v (retaining v x) refl refl
+    refl) refl in
     let loaded = done (retaining v x) word in
-    let works = done_works x v (retaining v x) (RetainLoad x AsCaller ∷ []) word begun refl ((λ s. refl), (λ n. refl), record { locked = λ l k. refl; lent = λ l k. refl; cells = λ l t k y i ne. refl; gates = λ l t k y ne. refl }) in
+    let works = done_works x v (retaining v x) (RetainLoad x AsCaller ∷ []) word begun refl (plain_keeps x (RetainLoad
+    x AsCaller) [] refl) in
     let immortal = is_immortal_word word in
     let counts = counts_locally v.thread (is_running v.status) word && nat_lt (local_part word) most_local in
     let next : loaded.agenda ≡ retain_list x word immortal counts = retain_next v.head x word immortal counts in
@@ -100,8 +102,8 @@ release_next (suc head) x word false false = refl
 
 release_keeps : (x word : ℕ) (immortal counts : Bool) → KeepsStatus x (release_list x word immortal counts)
 release_keeps x word true counts = tt
-release_keeps x word false true = ((λ s. refl), (λ n. refl), record { locked = λ l k. refl; lent = λ l k. refl; cells = λ l t k y i ne. refl; gates = λ l t k y ne. refl })
-release_keeps x word false false = ((λ s. refl), (λ n. refl), record { locked = λ l k. refl; lent = λ l k. refl; cells = λ l t k y i ne. refl; gates = λ l t k y ne. refl })
+release_keeps x word false true = plain_keeps x (ReleaseStore x word) [] refl
+release_keeps x word false false = plain_keeps x (SharedLoad x Own) [] refl
 
 -- what the answer says is left
 abbrev release_left : ℕ → Bool → Bool → Bool → List Duty
@@ -146,10 +148,12 @@ release_about x false false last = ((eq-eqb x x refl, tt), refl)
 pub release_leaves : (v : View) (x word : ℕ) → HasNoWork v x
     → Leaves x (local_left x (local_answer v word)) v (released_locally v x word)
 release_leaves v x word none =
-    let begun = begun_works x v (releasing v x) none refl refl refl refl refl (same_sight x v (releasing v x) refl refl refl) refl in
+    let begun = begun_works x v (releasing v x) none refl refl refl refl refl (same_sight x v (releasing v x) refl refl
+    refl) refl in
     let loaded = done (releasing v x) word in
     let works =
-    done_works x v (releasing v x) (ReleaseLoad x AsCaller ∷ []) word begun refl ((λ s. refl), (λ n. refl), record { locked = λ l k. refl; lent = λ l k. refl; cells = λ l t k y i ne. refl; gates = λ l t k y ne. refl }) in
+    done_works x v (releasing v x) (ReleaseLoad x AsCaller ∷ []) word begun refl (plain_keeps x (ReleaseLoad x
+    AsCaller) [] refl) in
     let immortal = is_immortal_word word in
     let counts = counts_here v word in
     let last = local_part word == 1 in
@@ -228,7 +232,8 @@ pub decide_leaves : (v : View) (x word : ℕ) → work_about x v ≡ DecideAtZer
     → Leaves x (zero_left x (zero_answer word)) v (decided v x word)
 decide_leaves v x word is =
     let loaded = done (turned v x) word in
-    let works = done_works x v (turned v x) (DecideAtZero x ∷ []) word (turned_works x v) is ((λ s. refl), (λ n. refl), record { locked = λ l k. refl; lent = λ l k. refl; cells = λ l t k y i ne. refl; gates = λ l t k y ne. refl }) in
+    let works = done_works x v (turned v x) (DecideAtZero x ∷ []) word (turned_works x v) is (plain_keeps x
+    (DecideAtZero x) [] refl) in
     let next = ap (λ (ds : List Duty). (did (turned v x) ds word).agenda) is ∙ decide_next v.head x (word == fresh_word) in
     decide_ends x v loaded (word == fresh_word) works next
 
@@ -239,10 +244,12 @@ exchange_works : (v : View) (x word found : ℕ) (r : Reason) → work_about x v
 exchange_works v x word found r is =
     let loaded = done (turned v x) word in
     let works =
-    done_works x v (turned v x) (SharedLoad x r ∷ []) word (turned_works x v) is ((λ s. refl), (λ n. refl), record { locked = λ l k. refl; lent = λ l k. refl; cells = λ l t k y i ne. refl; gates = λ l t k y ne. refl }) in
+    done_works x v (turned v x) (SharedLoad x r ∷ []) word (turned_works x v) is (plain_keeps x (SharedLoad x r) []
+    refl) in
     let next =
     ap (λ (ds : List Duty). (did (turned v x) ds word).agenda) is ∙ exchange_ready v.head x word r in
-    done_works x v loaded (SharedExchange x r word ∷ []) found works next ((λ s. refl), (λ n. refl), record { locked = λ l k. refl; lent = λ l k. refl; cells = λ l t k y i ne. refl; gates = λ l t k y ne. refl })
+    done_works x v loaded (SharedExchange x r word ∷ []) found works next (plain_keeps x (SharedExchange x r word) []
+    refl)
 
 abbrev shared_list : ℕ → Reason → Bool → Bool → Bool → List Duty
 shared_list x r same fresh dead =
@@ -287,8 +294,10 @@ merge_works : (v : View) (x c word found : ℕ) (r : Reason) → work_about x v 
     → WorksAt x v (resumed (turned v x) (word ∷ found ∷ []))
 merge_works v x c word found r is =
     let loaded = done (turned v x) word in
-    let works = done_works x v (turned v x) (MergeLoad x c r ∷ []) word (turned_works x v) is ((λ s. refl), (λ n. refl), record { locked = λ l k. refl; lent = λ l k. refl; cells = λ l t k y i ne. refl; gates = λ l t k y ne. refl }) in
-    done_works x v loaded (MergeExchange x c word r ∷ []) found works (merge_exchanges v x c word r is) ((λ s. refl), (λ n. refl), record { locked = λ l k. refl; lent = λ l k. refl; cells = λ l t k y i ne. refl; gates = λ l t k y ne. refl })
+    let works = done_works x v (turned v x) (MergeLoad x c r ∷ []) word (turned_works x v) is (plain_keeps x (MergeLoad
+    x c r) [] refl) in
+    done_works x v loaded (MergeExchange x c word r ∷ []) found works (merge_exchanges v x c word r is) (plain_keeps x
+    (MergeExchange x c word r) [] refl)
 
 own_ends : (x c : ℕ) (v u : View) (same dead : Bool) → WorksAt x v u → u.agenda ≡ merge_list x c Own same dead
     → Leaves x (merge_left x c Own (if same then (if dead then merge.Dying else merge.Kept) else merge.Again)) v

@@ -148,6 +148,57 @@ abbrev pub KeepsStatus : ℕ → List Duty → Type 0
 KeepsStatus x [] = Unit {0}
 KeepsStatus x (d ∷ ds) = ((s : Status) → status_by s d ≡ s) × ((n : ℕ) → used_by n d ≡ n) × StaysAt x d
 
+-- Says whether the duty is about a word that counts, that says the kind, or that is a mark's or a thread's, and changes
+-- neither its thread's status nor how many rows it has used.
+abbrev pub is_plain : Duty → Bool
+is_plain (RetainLoad x h) = true
+is_plain (RetainStore x h w) = true
+is_plain (RetainAdd x h) = true
+is_plain (ReleaseLoad x h) = true
+is_plain (ReleaseStore x w) = true
+is_plain (DecideAtZero x) = true
+is_plain (SharedLoad x r) = true
+is_plain (SharedExchange x r w) = true
+is_plain (SetMark x) = true
+is_plain (Look x) = true
+is_plain (TakeMark x) = true
+is_plain (MergeSwap x r) = true
+is_plain (MergeLoad x c r) = true
+is_plain (MergeExchange x c w r) = true
+is_plain (KindLoad x) = true
+is_plain _ = false
+
+-- Such a duty stays at any row.
+plain_stays : (x : ℕ) (d : Duty) → is_plain d ≡ true → StaysAt x d
+plain_stays x (LockGate y) is = absurd cc
+plain_stays x (UnlockGate y) is = absurd cc
+plain_stays x (LendSlot y) is = absurd cc
+plain_stays x (ReturnSlot y) is = absurd cc
+plain_stays x (Die y) is = absurd cc
+plain_stays x Settle is = absurd cc
+plain_stays x (SettleCell y i n) is = absurd cc
+plain_stays x (SettleEnd y) is = absurd cc
+plain_stays x (CellLoad y i) is = absurd cc
+plain_stays x (CellSwap y i z h) is = absurd cc
+plain_stays x _ is = record {
+  locked = λ locked found. refl;
+  lent = λ lent found. refl;
+  cells = λ layout t head y i ne. refl;
+  gates = λ layout t head y ne. refl;
+}
+
+plain_status : (d : Duty) (s : Status) → is_plain d ≡ true → status_by s d ≡ s
+plain_status (Leave i n) s is = absurd cc
+plain_status Finish s is = absurd cc
+plain_status _ s is = refl
+
+plain_used : (d : Duty) (n : ℕ) → is_plain d ≡ true → used_by n d ≡ n
+plain_used (BirthLocal x h) n is = absurd cc
+plain_used _ n is = refl
+
+pub plain_keeps : (x : ℕ) (d : Duty) (ds : List Duty) → is_plain d ≡ true → KeepsStatus x (d ∷ ds)
+plain_keeps x d ds is = ((λ s. plain_status d s is), (λ n. plain_used d n is), plain_stays x d is)
+
 did_works : (x : ℕ) (v u : View) (ds : List Duty) (found : ℕ) → WorksAt x v u → KeepsStatus x ds
     → WorksAt x v (did u ds found)
 did_works x v u [] found works keeps = works

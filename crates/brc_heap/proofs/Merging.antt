@@ -16,7 +16,7 @@ use Rattle.brc_table.specs.Hands.{MayWait}
 use Rattle.brc_heap.specs.declared.merge.MergeStep.TheVariants as merge
 use Rattle.brc_heap.specs.Calls.{Leaves, merge_begun, merge_tried, merge_answer, first_answer}
 use Rattle.brc_heap.proofs.Turning.{none_aside, turned_itself}
-use Rattle.brc_heap.proofs.Leaving.{AllAbout, WorksAt, turned_works, done_works, works_leave}
+use Rattle.brc_heap.proofs.Leaving.{AllAbout, WorksAt, turned_works, plain_keeps, done_works, works_leave}
 
 -- what follows the swap: what the merge leaves if nobody owned the object, else the load of the shared word
 abbrev swap_list : ℕ → ℕ → Reason → Bool → List Duty
@@ -40,7 +40,7 @@ swap_next v x local r is =
 swap_works : (v : View) (x local : ℕ) (r : Reason) → work_about x v ≡ MergeSwap x r ∷ []
     → WorksAt x v (done (turned v x) local)
 swap_works v x local r is =
-    done_works x v (turned v x) (MergeSwap x r ∷ []) local (turned_works x v) is ((λ s. refl), (λ n. refl), record { locked = λ l k. refl; lent = λ l k. refl; cells = λ l t k y i ne. refl; gates = λ l t k y ne. refl })
+    done_works x v (turned v x) (MergeSwap x r ∷ []) local (turned_works x v) is (plain_keeps x (MergeSwap x r) [] refl)
 
 merged_about : (x : ℕ) (r : Reason) → AllAbout x (once_merged x r) × MayWait (once_merged x r)
 merged_about x Own = (tt, tt)

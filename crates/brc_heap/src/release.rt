@@ -53,7 +53,8 @@ pub enum SharedRelease {
 impl<T: Drop> Heap<T> {
     /// Gives up a reference to an object (`Py_DECREF`), in the local word if the hand's thread owns the object.
     ///
-    /// The hand keeps a reference to the object that it has locked. `Zero` and `Share` leave a duty with the hand: to decide by `zero_step`, or to go on by `try_release_shared`.
+    /// The hand keeps a reference to the object that it has locked. `Zero` and `Share` leave a duty with the hand: to
+    /// decide by `zero_step`, or to go on by `try_release_shared`.
     pub fn release_local(&self, hand: &mut Hand<T>, row: u32) -> LocalRelease
         requires table { IsOf self.now hand.old }
         requires running { IsRunning hand.old.view }
@@ -143,8 +144,8 @@ impl<T: Drop> Heap<T> {
 
     /// Tries once to give up a reference in the shared word, as `release_local` answered `Share`, or this call `Again`.
     ///
-    /// A reference to an object at count 0 in the default state is handed to the owner's queue: `Queued` leaves the duty
-    /// to set the object's mark with the hand.
+    /// A reference to an object at count 0 in the default state is handed to the owner's queue: `Queued` leaves the
+    /// duty to set the object's mark with the hand.
     pub fn try_release_shared(&self, hand: &mut Hand<T>, row: u32) -> SharedRelease
         requires table { IsOf self.now hand.old }
         requires acts { CanAct hand.old.view }

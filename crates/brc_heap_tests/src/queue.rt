@@ -74,7 +74,11 @@ fn claims(heap: &Heap<u32>, hand: &mut Hand<u32>) -> Option<SharedRelease>
 
 /// A worker hands the root over, main leaves between the worker's mark and its look, and the worker looks. Returns what
 /// becomes of the root.
-fn between_mark_and_look(heap: &Heap<u32>, main: &mut Hand<u32>, hand: &mut Hand<u32>) -> Option<SharedRelease>
+fn between_mark_and_look(
+    heap: &Heap<u32>,
+    main: &mut Hand<u32>,
+    hand: &mut Hand<u32>,
+) -> Option<SharedRelease>
     requires alone { IsAlone heap.now main.old }
     requires ready { IsReady heap.now hand.old }
     requires carries { CarriesNothing hand.old }

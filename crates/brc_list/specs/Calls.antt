@@ -25,8 +25,8 @@ abbrev pub row_in : ℕ → Option ℕ
 row_in zero = None
 row_in (suc row) = Some row
 
--- The hand has loaded the list's cell. It has what the hand last saw or stored there since it locked the list, if it did,
--- and now the hand has seen it. What it has seen of the other cells is as before.
+-- The hand has loaded the list's cell. It has what the hand last saw or stored there since it locked the list, if it
+-- did, and now the hand has seen it. What it has seen of the other cells is as before.
 pub record SeesItem (x cell word : ℕ) (v u : View) : Type 0 where
   pub view_is : u ≡ done (loading_cell v x cell) word
   pub there : word ≤ row_count v.layout

@@ -1,5 +1,5 @@
-//! Lists under real threads: a hand locks a list, and then loads its cells (Python/C API manual, Python Critical Section
-//! API and List Objects).
+//! Lists under real threads: a hand locks a list, and then loads its cells (Python/C API manual, Python Critical
+//! Section API and List Objects).
 //!
 //! Each call tries once. It never waits, and takes no memory.
 #![tactic(auto)]

@@ -42,8 +42,8 @@ impl<'h, T: Drop> Lists<'h, T> {
         Lists { heap }
     }
 
-    /// Tries once to lock a list to which the hand holds a reference, as it has locked none. Returns whether the hand has
-    /// locked it: not if another thread has locked it just now.
+    /// Tries once to lock a list to which the hand holds a reference, as it has locked none. Returns whether the hand
+    /// has locked it: not if another thread has locked it just now.
     pub fn try_lock(&self, hand: &mut Hand<T>, row: u32) -> bool
         requires table { IsOf self.now hand.old }
         requires running { IsRunning hand.old.view }

@@ -2,15 +2,16 @@
 -- work keeps the invariant if the work meets its condition (`Kept.kept_sits`).
 --
 -- In order: `NotBad` and `KeepsDuty` (a duty), `Replaced`, `Sits`, `SilentMoves` and `SilentSteps` (work that a thread
--- takes up), and `Kept`, which has both parts. `Rearranging` puts a duty aside and takes it back. `WorkAside`, `WorkBegins`,
--- `NextRows`, `BirthsBegin` and `FreeReferences` are the laws of what a running thread does between two duties,
--- `AloneBegins` those of what it does in one go, `LocksBegin` those of locks and of a look at a cell, and `Locks` says of
--- each that the thread still holds the list that it has locked. `Moved`, `OneReference` and `HandedOver` hand a
--- reference over to another thread. None of these knows code. `Callers` and `FirstCounts` show the invariant of a machine in which some threads hold the root,
--- `FirstHands` and `FirstMachine` that the first machines are such. `CodeInvariant` adds the second layer, about
--- accepted code, `StepCases` splits an event by its action, `KindsHold` shows over it that variables keep their kinds
--- `ItemsHold` that borrowed items stay in the locked list and `RoomsHold` that a thread that awaits a birth has room
--- for it, and `CodeEvents` carries both layers through every list of events.
+-- takes up), and `Kept`, which has both parts. `Rearranging` puts a duty aside and takes it back. `WorkAside`,
+-- `WorkBegins`, `NextRows`, `BirthsBegin` and `FreeReferences` are the laws of what a running thread does between two
+-- duties, `AloneBegins` those of what it does in one go, `LocksBegin` those of locks and of a look at a cell, and
+-- `Locks` says of each that the thread still holds the list that it has locked. `Moved`, `OneReference` and
+-- `HandedOver` hand a reference over to another thread. None of these knows code. `Callers` and `FirstCounts` show the
+-- invariant of a machine in which some threads hold the root, `FirstHands` and `FirstMachine` that the first machines
+-- are such. `CodeInvariant` adds the second layer, about accepted code, `StepCases` splits an event by its action,
+-- `KindsHold` shows over it that variables keep their kinds `ItemsHold` that borrowed items stay in the locked list and
+-- `RoomsHold` that a thread that awaits a birth has room for it, and `CodeEvents` carries both layers through every
+-- list of events.
 
 pub mod NotBad
 pub mod KeepsDuty

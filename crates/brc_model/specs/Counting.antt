@@ -21,8 +21,8 @@ use Rattle.brc_model.specs.Ranges.{Ranges}
 abbrev pub HasNothingInFlight : Accounts → Type 0
 HasNothingInFlight p = (t object : ℕ) → p t InFlight object ≡ 0
 
--- What holds between any two steps of running threads with these accounts: the invariant, and the rows of all duties are
--- rows of the machine, and no account has a reference in flight.
+-- What holds between any two steps of running threads with these accounts: the invariant, and the rows of all duties
+-- are rows of the machine, and no account has a reference in flight.
 pub record Counts (p : Accounts) (n : ℕ) (m : Machine) : Type 0 where
   pub kept : Invariant p n m
   pub ranges : Ranges n m

@@ -1,5 +1,5 @@
--- What holds between any two steps of running threads beside the counts: marks that are set are watched, cells and slots
--- are guarded by their row's gate, owners alone count in local words, and a thread that is gone holds nothing.
+-- What holds between any two steps of running threads beside the counts: marks that are set are watched, cells and
+-- slots are guarded by their row's gate, owners alone count in local words, and a thread that is gone holds nothing.
 use Rattle.std.specs.Prelude.{true, ◌≡◌, ◌≢◌, ◌⊎◌, ℕ, List, [], None, Some, slice_get}
 use Rattle.brc_word.specs.Words.{locked_word}
 use Rattle.brc_model.specs.declared.duty.Duty.{Duty}

@@ -9,7 +9,8 @@ pub fn duties_are_kept()
 {}
 
 /// States what a thread can rely on at its next duty: its word is there, the value that it finds suits the duty, a
-/// store knows the value that it overwrites, and a load of a local word finds no owner or the thread of the row's block.
+/// store knows the value that it overwrites, and a load of a local word finds no owner or the thread of the row's
+/// block.
 pub fn duties_are_within()
     ensures { DutiesAreWithin }
 {}

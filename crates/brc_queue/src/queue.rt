@@ -76,9 +76,9 @@ impl<'h, T: Drop> Queue<'h, T> {
         self.heap.words().mark_store(hand, row);
     }
 
-    /// Looks after an object whose mark the hand has set. An owner that runs will find the mark. If the owner is leaving
-    /// or gone, its exit may have scanned the mark before it was set: the hand then takes the mark back, and merges the
-    /// object if the mark was still set.
+    /// Looks after an object whose mark the hand has set. An owner that runs will find the mark. If the owner is
+    /// leaving or gone, its exit may have scanned the mark before it was set: the hand then takes the mark back, and
+    /// merges the object if the mark was still set.
     pub fn look(&self, hand: &mut Hand<T>, row: u32) -> Looked
         requires table { IsOf self.now hand.old }
         requires acts { CanAct hand.old.view }

@@ -120,7 +120,8 @@ pub record Knows (v : View) (d : Duty) (found : ℕ) : Type 0 where
   pub finds : FindsKnown v (d ∷ []) found
 
 -- The hand's first duty finds what the hand knows of it.
-finds_known : HandedMergesLive → (layout : Layout) (words : List ℕ) (views : List View) (id : ℕ) (v : View) (d : Duty) (found : ℕ)
+finds_known : HandedMergesLive
+    → (layout : Layout) (words : List ℕ) (views : List View) (id : ℕ) (v : View) (d : Duty) (found : ℕ)
     → (stands : Stands layout words views) → get_elem? views id ≡ some v → (rest : List Duty) → v.agenda ≡ d ∷ rest
     → v.status ≢ Gone → stands.machine.memory (address_of v.layout v.thread v.head d) ≡ found
     → FindsKnown v (d ∷ []) found
@@ -130,7 +131,8 @@ finds_known live layout words views id v (CellLoad x i) found stands here rest a
     λ word locked seen. sym is ∙ stands.cells_seen id x i word v here locked seen
 finds_known live layout words views id v (MergeExchange x c w Handed) found stands here rest agenda alive is =
     λ same.
-    live stands.accounts (1 + stands.machine.layout.workers) stands.machine v.thread (actor_of v) x c w rest stands.counts
+    live stands.accounts (1 + stands.machine.layout.workers) stands.machine v.thread (actor_of v) x c w rest
+    stands.counts
     (record { found = stands.acts id v here; agenda = agenda; alive = alive }) (is ∙ same)
 finds_known live layout words views id v _ found stands here rest agenda alive is = tt
 
@@ -242,7 +244,8 @@ module _ (kept : DutiesAreKept) (within : DutiesAreWithin) (law : AccountsAreThe
       → ((found : ℕ) → Learns u d rest found → then found (did u (d ∷ rest) found, me.1))
       → Allows (λ (s : State S View). Stands layout s.words s.views) slots id me index f then
   object_allows slots id me f then is_me leaves goes =
-      allows kept within law chains stay live layout v u d rest index becomes (object_next u d rest index is_at) slots id me f then is_me
+      allows kept within law chains stay live layout v u d rest index becomes (object_next u d rest index is_at) slots
+      id me f then is_me
       (λ found known.
       itself (f found) ∙ (leaves found (subst (Knows u d) (itself found) known)
       ∙ ap (new_word u.thread u.head d) (sym (itself found))))
@@ -290,7 +293,8 @@ module _ (kept : DutiesAreKept) (within : DutiesAreWithin) (law : AccountsAreThe
   step_allowed f makes_there =
       let makes : Makes (begins me.0) index f =
       subst (λ (v : View). Makes (begins v) index f) (sym seen.view_is) makes_there in
-      object_allows kept within law chains stay live layout me.0 (begins me.0) makes.duty makes.rest index becomes_here makes.at slots id me
+      object_allows kept within law chains stay live layout me.0 (begins me.0) makes.duty makes.rest index becomes_here
+      makes.at slots id me
       f (λ found after. Continues begins me found after) refl
       (λ found known. makes.leaves found known.suits)
       (λ found learned. continues makes.duty makes.rest found makes.at.agenda learned)
@@ -304,7 +308,8 @@ module _ (kept : DutiesAreKept) (within : DutiesAreWithin) (law : AccountsAreThe
       subst (λ (v : View). StoresWord (begins v) index word) (sym seen.view_is) stores_there in
       let u = begins me.0 in
       let makes = stores.makes in
-      object_allows kept within law chains stay live layout me.0 u makes.duty makes.rest index becomes_here makes.at slots id me
+      object_allows kept within law chains stay live layout me.0 u makes.duty makes.rest index becomes_here makes.at
+      slots id me
       (λ found. word) (λ found after. Stores begins me after) refl
       (λ found known. makes.leaves found known.suits)
       (λ found learned.
@@ -338,7 +343,8 @@ module _ (kept : DutiesAreKept) (within : DutiesAreWithin) (law : AccountsAreThe
       subst (λ (v : View). MakesAtThread (begins v) index f) (sym seen.view_is) makes_there in
       let u = begins me.0 in
       let says = thread_says index f makes in
-      allows kept within law chains stay live layout me.0 u makes.duty makes.rest index becomes_here (thread_next index f makes)
+      allows kept within law chains stay live layout me.0 u makes.duty makes.rest index becomes_here (thread_next index
+      f makes)
       slots id me f (λ found after. Looks begins me found after) refl
       (λ found known.
       says (f found) ∙ (makes.leaves found ∙ ap (new_word u.thread u.head makes.duty) (sym (says found))))

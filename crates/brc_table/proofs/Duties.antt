@@ -177,11 +177,13 @@ module _ (u : View) (x : ℕ) (alive : u.status ≢ Gone) where
   pub shared_exchange_makes : (old new : ℕ) (ds : List Duty) → u.agenda ≡ ds → ExchangesShared x old new ds
       → MakesQuietly u (in_tile 1 x) (λ found. either (found == old) new found)
   shared_exchange_makes old new (SharedExchange y r w ∷ rest) is same =
-      at_line 1 (λ found. either (found == old) new found) (SharedExchange y r w) rest is tt (ap (in_tile 1) (sym same.0))
+      at_line 1 (λ found. either (found == old) new found) (SharedExchange y r w) rest is tt (ap (in_tile 1) (sym
+      same.0))
       (record { status = λ s. refl; head = λ head found. refl; used = λ used. refl })
       (λ found suits. either_is found old new w (released_word w) same.1 same.2)
   shared_exchange_makes old new (MergeExchange y c w r ∷ rest) is same =
-      at_line 1 (λ found. either (found == old) new found) (MergeExchange y c w r) rest is tt (ap (in_tile 1) (sym same.0))
+      at_line 1 (λ found. either (found == old) new found) (MergeExchange y c w r) rest is tt (ap (in_tile 1) (sym
+      same.0))
       (record { status = λ s. refl; head = λ head found. refl; used = λ used. refl })
       (λ found suits. either_is found old new w (merged_word w c) same.1 same.2)
   shared_exchange_makes old new _ is same = absurd same
@@ -281,7 +283,8 @@ birth_stores v word runs = record {
 pub own_stores : (u : View) (x word : ℕ) → u.status ≢ Gone → (ds : List Duty) → u.agenda ≡ ds → OwnsFirst x ds
     → word ≡ local_word u.thread 1 → StoresWord u (in_tile 0 x) word
 own_stores u x word alive (BirthLocal y h ∷ []) is same first = record {
-  makes = line_makes u x alive 0 (λ found. word) (BirthLocal y h) [] is tt (ap (in_tile 0) (sym same)) (λ found suits. first);
+  makes = line_makes u x alive 0 (λ found. word) (BirthLocal y h) [] is tt (ap (in_tile 0) (sym same)) (λ found suits.
+      first);
   knows = λ found over. over ∙ sym (ap (overwritten_by u.thread) is);
 }
 own_stores u x word alive _ is same first = absurd same

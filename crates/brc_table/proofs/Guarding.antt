@@ -79,7 +79,11 @@ module _ (layout : Layout) (words : List ℕ) (views : List View) (s : Stands la
       → ((h : HandOf views t) × (a ≡ actor_of h.view)) ⊎ (a ≡ idle_actor 0)
   thread_is t a found = elim (hand_of views t) [
     | inl h ↦
-        inl (h, some_is a (actor_of h.view) (sym found ∙ (ap (slice_get m.actors) (sym h.thread) ∙ s.acts h.id h.view h.here)))
+        inl (
+          h,
+          some_is a (actor_of h.view) (sym found ∙ (ap (slice_get m.actors) (sym h.thread)
+              ∙ s.acts h.id h.view h.here)),
+        )
     | inr none ↦
         let low = slice_get_within m.actors t a found in
         let idle = s.idle t (omega (arith, low, s.counts.kept.core.threads)) none in
@@ -117,7 +121,8 @@ module _ (layout : Layout) (words : List ℕ) (views : List View) (s : Stands la
         (list_any-append (looks_at x) hand.0.view.agenda hand.0.view.aside
         ∙ (ap (λ (b : Actor). list_any (looks_at x) b.agenda || list_any (looks_at x) b.aside) (sym hand.1) ∙ looks))
     | inr idle ↦
-        absurd (false≢true (ap (λ (b : Actor). list_any (looks_at x) b.agenda || list_any (looks_at x) b.aside) (sym idle)
+        absurd (false≢true (ap (λ (b : Actor). list_any (looks_at x) b.agenda || list_any (looks_at x) b.aside) (sym
+        idle)
         ∙ looks))
   ]
 
@@ -171,7 +176,8 @@ holders_change law layout words views v d x i it =
     (next layout words views v d (Cell x i) it) (changed layout words views v d (Cell x i) it (λ word. refl))) [
       | inl holds ↦
           let there = has layout words views v d (Cell x i) it in
-          let mine : holds.actor ≡ actor_of v = some_is holds.actor (actor_of v) (sym holds.found ∙ s.acts it.id v it.here) in
+          let mine : holds.actor ≡ actor_of v = some_is holds.actor (actor_of v) (sym holds.found
+          ∙ s.acts it.id v it.here) in
           inl (
             ap (λ (b : Actor). b.locked) (sym mine) ∙ holds.locked,
             sym (s.reads (Gate x) there.0) ∙ holds.gate,
@@ -194,10 +200,12 @@ owners_count law layout words views v d x it says =
 
 pub gone_hold : guard.GoneThreadsHoldNothing → GoneHandsHoldNothing
 gone_hold law layout words views id v s here gone =
-    let it = law s.accounts (1 + s.machine.layout.workers) s.machine v.thread (actor_of v) s.counts (s.acts id v here) gone in
+    let it = law s.accounts (1 + s.machine.layout.workers) s.machine v.thread (actor_of v) s.counts (s.acts id v here)
+    gone in
     record {
       none = λ x counted.
-          sym (s.holding id v x here (subst (λ (l : Layout). IsCounted l x) (sym s.layout_is) counted)) ∙ it.none AsCaller x;
+          sym (s.holding id v x here (subst (λ (l : Layout). IsCounted l x) (sym s.layout_is) counted))
+          ∙ it.none AsCaller x;
       agenda = it.agenda;
       aside = it.aside;
       settled = it.settled;

@@ -22,7 +22,8 @@ use Rattle.brc_table.proofs.Lists.{and_first, and_second}
 -- ---- one word
 
 -- A load of a word leaves all words as they are.
-load_leaves : (memory : Address → ℕ) (x y : ℕ) → written memory (KindOf y) (memory (KindOf y)) (KindOf x) ≡ memory (KindOf x)
+load_leaves : (memory : Address → ℕ) (x y : ℕ)
+    → written memory (KindOf y) (memory (KindOf y)) (KindOf x) ≡ memory (KindOf x)
 load_leaves memory x y = elim (cases_Bool (y == x)) [
   | inl same ↦
       ap (λ (b : Bool). cond b (memory (KindOf y)) (memory (KindOf x))) same

@@ -121,7 +121,8 @@ reference_once x n q bag are = elim (eqb_tells q.object x) [
   | inr apart ↦
       let all =
       over_each (λ t. length (code_in t x q)) (λ t. 0) n
-      (λ t low. ap (λ (b : Bool). length (cond b (codes_of t q.holder) [])) (ne_eqb x q.object (λ e. apart.1 (sym e)))) in
+      (λ t low. ap (λ (b : Bool). length (cond b (codes_of t q.holder) [])) (ne_eqb x q.object (λ e. apart.1 (sym e))))
+      in
       omega (
         arith,
         all,

@@ -120,7 +120,8 @@ place_of v d = place (address_of v.layout v.thread v.head d)
 abbrev pub read_of : View → Duty → ℕ → ℕ
 read_of v d word = reading (address_of v.layout v.thread v.head d) word
 
-module _ (kept : DutiesAreKept) (within : DutiesAreWithin) (stay : LockedCellsStay) (layout : Layout) (words : List ℕ) (views : List View) (id : ℕ)
+module _ (kept : DutiesAreKept) (within : DutiesAreWithin) (stay : LockedCellsStay) (layout : Layout) (words : List ℕ)
+    (views : List View) (id : ℕ)
     (v : View) (d : Duty) (rest : List Duty) (does : Does layout words views id v d rest) where
   abbrev m : Machine
   m = does.stands.machine

@@ -86,8 +86,8 @@ IsInUse layout words views x =
 -- ---- agreement
 
 -- The words and all hands agree about the object's references. The total and the first clauses hold of every row, also
--- before a birth and after a death, when the object has no reference. Whether an object lives can't be read off its words,
--- so the other clauses ask that it is in use.
+-- before a birth and after a death, when the object has no reference. Whether an object lives can't be read off its
+-- words, so the other clauses ask that it is in use.
 pub record AgreesInTable (layout : Layout) (words : List ℕ) (views : List View) (x : ℕ) : Type 0 where
   -- the counts add up to the references and the pending decrements; the references are those that hands list and those
   -- that cells hold, without those that hands are making, and with those that hands are giving up

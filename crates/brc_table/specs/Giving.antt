@@ -5,8 +5,8 @@ use Rattle.brc_table.specs.declared.view.View.{View}
 use Rattle.brc_table.specs.Views.{holds, is_given}
 use Rattle.brc_table.specs.Hands.{HasNoWork, KeepsLock}
 
--- Main has a reference to the root to hand over, another one if it has locked the root, and nothing to do about the root.
--- The thread is a worker of the table whose hand main hasn't given out yet.
+-- Main has a reference to the root to hand over, another one if it has locked the root, and nothing to do about the
+-- root. The thread is a worker of the table whose hand main hasn't given out yet.
 pub record MayGive (main : View) (thread : ℕ) : Type 0 where
   pub is_main : main.thread ≡ 0
   pub holds_root : 1 ≤ holds main root_row

@@ -25,8 +25,8 @@ abbrev pub FirstFindsOwner : View → List Duty → ℕ → Type 0
 FirstFindsOwner v [] found = Unit {0}
 FirstFindsOwner v (d ∷ rest) found = FindsOwner v.layout d found
 
--- What a hand knows of what its first duty finds. A load of a kind word finds what the hand has seen there, and so does a load of a cell of the locked list. A merge for
--- a handed reference that wins leaves that reference counted.
+-- What a hand knows of what its first duty finds. A load of a kind word finds what the hand has seen there, and so does
+-- a load of a cell of the locked list. A merge for a handed reference that wins leaves that reference counted.
 abbrev pub FindsKnown : View → List Duty → ℕ → Type 0
 FindsKnown v (KindLoad x ∷ rest) found = (word : ℕ) → 0 < word → has_seen_kind x word v ≡ true → found ≡ word
 FindsKnown v (CellLoad x i ∷ rest) found = (word : ℕ) → v.locked ≡ Some x → cell_seen x i v ≡ Some word → found ≡ word

@@ -26,8 +26,8 @@ pub record KnowsCell (v : View) (x cell : ℕ) : Type 0 where
 
 -- ---- cells
 
--- what the hand knows of the cell after a step of its own: a step on the cell shows what it left there, and a step on the
--- row's gate begins or ends a lock
+-- what the hand knows of the cell after a step of its own: a step on the cell shows what it left there, and a step on
+-- the row's gate begins or ends a lock
 abbrev pub cell_known : ℕ → ℕ → Option ℕ → Event → Option ℕ
 cell_known x i known e =
     if same_address e.address (Cell x i) then Some e.left

@@ -37,8 +37,8 @@ NamesFewCells [] = Unit {0}
 NamesFewCells (d ∷ rest) = cells_named d ≤ cell_limit
 
 -- The hand's thread is main or a worker, and the objects to which the hand holds references, those of its duties, the
--- one that it has locked and the first one of its chain have rows. No kind word that it has seen names more cells than a
--- list has.
+-- one that it has locked and the first one of its chain have rows. No kind word that it has seen names more cells than
+-- a list has.
 pub record RowsAreThere (v : View) : Type 0 where
   pub thread : v.thread ≤ v.layout.workers
   pub used : v.used ≤ block_size v.layout v.thread

@@ -12,8 +12,8 @@ use brc_model::{cell_loads_begin, immortals_are_free, work_is_put_aside};
 use std::marker::Brand;
 
 impl<T: Drop> Words<T> {
-    /// Loads a cell of the list that the hand has locked. Returns what is there: a row plus 1, or 0 if the cell is empty.
-    /// Since the hand locked the list, no other thread has changed the cell.
+    /// Loads a cell of the list that the hand has locked. Returns what is there: a row plus 1, or 0 if the cell is
+    /// empty. Since the hand locked the list, no other thread has changed the cell.
     pub fn cell_load(&self, hand: &mut Hand<T>, row: u32, cell: u32) -> u64
         requires table { IsOf self.now hand.old }
         requires running { IsRunning hand.old.view }

@@ -1,5 +1,5 @@
-//! The step by which a hand asks for the kind of an object that it holds (Python/C API manual, Common Object Structures:
-//! `Py_IS_TYPE`).
+//! The step by which a hand asks for the kind of an object that it holds (Python/C API manual, Common Object
+//! Structures: `Py_IS_TYPE`).
 
 ghost use Rattle.std.specs.Prelude.{◌≡◌, ◌<◌, ℕ, true};
 ghost use Rattle.brc_table.specs.Views.{done, asking};

@@ -14,7 +14,8 @@ use brc_model::{
 };
 
 /// States that in each table, between any two steps of any threads, the counts of every counted object add up to the
-/// references that the hands and the cells of lists hold and the decrements that are pending, and what each state of the object implies.
+/// references that the hands and the cells of lists hold and the decrements that are pending, and what each state of
+/// the object implies.
 pub fn counts_agree_in_every_table()
     ensures { (layout : Layout) (words : List ℕ) (views : List View) (x : ℕ) → Stands layout words views
         → IsCounted layout x → x < row_count layout → AgreesInTable layout words views x }

@@ -1,5 +1,5 @@
-//! The words of all objects in one table that threads share (PEP 703, Biased Reference Counting), and the hands by which
-//! threads change them, one atomic step at a time.
+//! The words of all objects in one table that threads share (PEP 703, Biased Reference Counting), and the hands by
+//! which threads change them, one atomic step at a time.
 #![tactic(auto)]
 
 mod carried;

@@ -18,8 +18,8 @@ use std::marker::Brand;
 const FREE: u64 = 1;
 
 impl<T: Drop> Words<T> {
-    /// Tries once to lock an object that the hand holds: exchanges its gate, if it is free, for one that names the hand's
-    /// thread. Returns the gate found, 1 if it was free.
+    /// Tries once to lock an object that the hand holds: exchanges its gate, if it is free, for one that names the
+    /// hand's thread. Returns the gate found, 1 if it was free.
     pub fn gate_lock(&self, hand: &mut Hand<T>, row: u32) -> u64
         requires table { IsOf self.now hand.old }
         requires running { IsRunning hand.old.view }

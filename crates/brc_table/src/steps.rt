@@ -126,8 +126,8 @@ impl<T: Drop> Words<T> {
         self.add::<Brand>(hand, SHARED, row, ONE_REFERENCE)
     }
 
-    /// Does the next duty: exchanges the row's shared word, if it is still `old`. Returns the value found. A merge for a
-    /// handed reference leaves that reference counted.
+    /// Does the next duty: exchanges the row's shared word, if it is still `old`. Returns the value found. A merge for
+    /// a handed reference leaves that reference counted.
     pub fn shared_exchange(&self, hand: &mut Hand<T>, row: u32, old: u64, new: u64) -> u64
         requires table { IsOf self.now hand.old }
         requires alive { hand.old.view.status ≢ Gone }

@@ -10,9 +10,12 @@ pub returns-clause-left : goal.returns-clause-left
 returns-clause-left g c = λ r duty.
     let (word, found, view, answer, lives) = c.merge_steps.ensures.events in
     let v = c.args.hand.now.view in
-    subst (λ (s : MergeStep). Leaves c.args.row (merge_left c.args.row c.args.carried r s) v c.merge_steps.new.hand.view) (sym answer)
-    (subst (Leaves c.args.row (merge_left c.args.row c.args.carried r (merge_answer c.args.carried word found)) v) (sym view)
-    (merge_leaves v c.args.row c.args.carried word found r duty (lives_by r c.args.carried word found v c.args.row duty lives)))
+    subst (λ (s : MergeStep). Leaves c.args.row (merge_left c.args.row c.args.carried r s) v
+    c.merge_steps.new.hand.view) (sym answer)
+    (subst (Leaves c.args.row (merge_left c.args.row c.args.carried r (merge_answer c.args.carried word found)) v) (sym
+    view)
+    (merge_leaves v c.args.row c.args.carried word found r duty (lives_by r c.args.carried word found v c.args.row duty
+    lives)))
 
 pub returns-clause-references : goal.returns-clause-references
 returns-clause-references g c =

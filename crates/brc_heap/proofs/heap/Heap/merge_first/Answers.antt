@@ -69,7 +69,8 @@ returns-clause-left g c = λ r first.
       leaves_then c.args.row (MergeLoad c.args.row (local_part local) r ∷ [])
           (merge_left c.args.row c.local_count.result r c.merge_carried.result) v c.local_swap-local.new.hand.view
           c.merge_carried.new.hand.view
-          (subst (Leaves c.args.row (MergeLoad c.args.row (local_part local) r ∷ []) v) (sym c.local_swap-local.ensures.view)
+          (subst (Leaves c.args.row (MergeLoad c.args.row (local_part local) r ∷ []) v) (sym
+          c.local_swap-local.ensures.view)
           leaves)
           (c.merge_carried.ensures.left r (left_by v c.local_swap-local.new.hand.view c.args.row local
           c.local_count.result r first.duty some c.local_swap-local.ensures.view c.local_count.ensures.word)),

@@ -44,7 +44,8 @@ gate_store-requires-clause-duty g c =
     c.shared_load-word.ensures.view c.shared_exchange.ensures.finds in
     let dies = merge_ends c.args.hand.now.view c.args.row c.args.carried word found r duty
     (eq-eqb found word c.if-shared_exchange-word.false)
-    (ap (λ (w : ℕ). w == dead_word) (sym c.merged-next.ensures.word) ∙ (sym c.is_dead.ensures.word ∙ c.if-is_dead.true)) lives in
+    (ap (λ (w : ℕ). w == dead_word) (sym c.merged-next.ensures.word) ∙ (sym c.is_dead.ensures.word
+    ∙ c.if-is_dead.true)) lives in
     chains_row c.remember-2.new.self.view c.args.row (ap (λ (v : View). v.agenda) view ∙ dies)
 
 pub returns-then-is_dead-clause-events : goal.returns-then-is_dead-clause-events

@@ -9,7 +9,8 @@ pub mark_take-found-requires-clause-duty : goal.mark_take-found-requires-clause-
 mark_take-found-requires-clause-duty g c =
     subst (λ (ds : List Duty). TakesMark c.args.row ds)
     (sym (takes_work c.args.hand.now.view c.thread_load-said.new.hand.view c.args.row c.thread_load-said.result
-    c.thread_load-said.ensures.view c.requires.duty (ne_eqb c.thread_load-said.result 1 c.if-said-eq-RUNNING.false))) refl
+    c.thread_load-said.ensures.view c.requires.duty (ne_eqb c.thread_load-said.result 1 c.if-said-eq-RUNNING.false)))
+    refl
 
 pub returns-then-found-eq-QUEUED-clause-events : goal.returns-then-found-eq-QUEUED-clause-events
 returns-then-found-eq-QUEUED-clause-events g c =
@@ -18,7 +19,8 @@ returns-then-found-eq-QUEUED-clause-events g c =
       said,
       found,
       claim_answer said found true other (eq-eqb found 1 c.if-found-eq-QUEUED.true),
-      claim_view c.args.hand.now.view c.thread_load-said.new.hand.view c.mark_take-found.new.hand.view c.args.row said found
+      claim_view c.args.hand.now.view c.thread_load-said.new.hand.view c.mark_take-found.new.hand.view c.args.row said
+          found
           c.thread_load-said.ensures.view c.mark_take-found.ensures.view c.requires.duty other,
     )
 
@@ -29,6 +31,7 @@ returns-else-found-eq-QUEUED-clause-events g c =
       said,
       found,
       claim_answer said found false other (ne_eqb found 1 c.if-found-eq-QUEUED.false),
-      claim_view c.args.hand.now.view c.thread_load-said.new.hand.view c.mark_take-found.new.hand.view c.args.row said found
+      claim_view c.args.hand.now.view c.thread_load-said.new.hand.view c.mark_take-found.new.hand.view c.args.row said
+          found
           c.thread_load-said.ensures.view c.mark_take-found.ensures.view c.requires.duty other,
     )
