@@ -6,7 +6,7 @@ use Rattle.std.proofs.lemmas.Bool.{cases_Bool, eq-eqb}
 use prog.Atomic.{either}
 use Rattle.brc_model.specs.declared.duty.Duty.{Duty}
 use Rattle.brc_model.specs.declared.duty.Duty.TheVariants.{RetainLoad, RetainStore, RetainAdd, ReleaseLoad, ReleaseStore, DecideAtZero, SharedLoad, SharedExchange, MergeSwap, MergeLoad, MergeExchange, Die, BirthKind, BirthLocal}
-use Rattle.brc_model.specs.declared.duty.Holding.TheVariants.{AsCaller}
+use Rattle.brc_model.specs.declared.duty.Holding.TheVariants.{AsCaller, InFlight}
 use Rattle.brc_model.specs.declared.actor.Status.TheVariants.{Running, Gone}
 use Rattle.brc_model.specs.declared.layout.Layout.{Layout}
 use Rattle.brc_model.specs.Layout.{front_rows, row_count}
@@ -25,7 +25,7 @@ use Rattle.brc_table.specs.Views.{RowsAreThere, did, work_about, retaining, rele
 use Rattle.brc_table.specs.Hands.{HoldsOne}
 use Rattle.brc_table.specs.Begins.{IsQuiet, Makes, MakesQuietly, StoresWord, KeepsThread}
 use Rattle.brc_table.specs.Plays.{overwritten_by}
-use Rattle.brc_table.specs.Calls.{LoadsShared, SwapsLocal, StoresLocal, AddsShared, ExchangesShared, ChainsRow, OwnsFirst}
+use Rattle.brc_table.specs.Calls.{ReleasesItem, LoadsShared, SwapsLocal, StoresLocal, AddsShared, ExchangesShared, ChainsRow, OwnsFirst}
 use Rattle.brc_table.proofs.Allowed.{immortal_there}
 
 pub runs_on : (v : View) → v.status ≡ Running → v.status ≢ Gone
@@ -75,6 +75,20 @@ release_makes v x runs = record {
   };
   quiet = record { status = λ s. refl; head = λ head found. refl; used = λ used. refl };
 }
+
+-- The hand's next duty is to give up a reference that came out of a cell.
+pub item_release_makes : (u : View) (x : ℕ) → u.status ≢ Gone → (ds : List Duty) → u.agenda ≡ ds → ReleasesItem x ds
+    → MakesQuietly u (in_tile 0 x) (λ found. found)
+item_release_makes u x alive (ReleaseLoad y InFlight ∷ rest) is same = record {
+  makes = record {
+    duty = ReleaseLoad y InFlight;
+    rest = rest;
+    at = record { agenda = is; alive = alive; object = tt; index_is = ap (in_tile 0) (sym same) };
+    leaves = λ found suits. refl;
+  };
+  quiet = record { status = λ s. refl; head = λ head found. refl; used = λ used. refl };
+}
+item_release_makes u x alive _ is same = absurd same
 
 -- ---- the row of a duty
 
@@ -190,14 +204,14 @@ module _ (u : View) (x : ℕ) (alive : u.status ≢ Gone) where
 
   pub local_store_makes : (word : ℕ) (ds : List Duty) → u.agenda ≡ ds → StoresLocal x word ds
       → StoresWord u (in_tile 0 x) word
-  local_store_makes word (RetainStore y h w ∷ []) is same = record {
+  local_store_makes word (RetainStore y h w ∷ rest) is same = record {
     makes =
-        line_makes 0 (λ found. word) (RetainStore y h w) [] is tt (ap (in_tile 0) (sym same.0)) (λ found suits. same.1);
+        line_makes 0 (λ found. word) (RetainStore y h w) rest is tt (ap (in_tile 0) (sym same.0)) (λ found suits. same.1);
     knows = λ found over. over ∙ sym (ap (overwritten_by u.thread) is);
   }
-  local_store_makes word (ReleaseStore y w ∷ []) is same = record {
+  local_store_makes word (ReleaseStore y w ∷ rest) is same = record {
     makes =
-        line_makes 0 (λ found. word) (ReleaseStore y w) [] is tt (ap (in_tile 0) (sym same.0)) (λ found suits. same.1);
+        line_makes 0 (λ found. word) (ReleaseStore y w) rest is tt (ap (in_tile 0) (sym same.0)) (λ found suits. same.1);
     knows = λ found over. over ∙ sym (ap (overwritten_by u.thread) is);
   }
   local_store_makes word _ is same = absurd same
@@ -205,9 +219,9 @@ module _ (u : View) (x : ℕ) (alive : u.status ≢ Gone) where
 -- A store in the local word leaves status, chain and used rows as they are.
 pub local_store_keeps : (v : View) (x word : ℕ) (ds : List Duty) (found : ℕ) → StoresLocal x word ds
     → KeepsThread v (did v ds found)
-local_store_keeps v x word (RetainStore y h w ∷ []) found same =
+local_store_keeps v x word (RetainStore y h w ∷ rest) found same =
     record { layout = refl; thread = refl; status = refl; head = refl; used = refl; given = refl }
-local_store_keeps v x word (ReleaseStore y w ∷ []) found same =
+local_store_keeps v x word (ReleaseStore y w ∷ rest) found same =
     record { layout = refl; thread = refl; status = refl; head = refl; used = refl; given = refl }
 local_store_keeps v x word _ found same = absurd same
 
@@ -238,10 +252,10 @@ shared_exchange_there v x old new _ rows is same = absurd same
 
 pub local_store_there : (v : View) (x word : ℕ) (ds : List Duty) → RowsAreThere v → v.agenda ≡ ds
     → StoresLocal x word ds → x < row_count v.layout
-local_store_there v x word (RetainStore y h w ∷ []) rows is same =
-    next_there v x (RetainStore y h w) rows is (eq-eqb y x same.0)
-local_store_there v x word (ReleaseStore y w ∷ []) rows is same =
-    next_there v x (ReleaseStore y w) rows is (eq-eqb y x same.0)
+local_store_there v x word (RetainStore y h w ∷ rest) rows is same =
+    first_there v x (RetainStore y h w) rest rows is (eq-eqb y x same.0)
+local_store_there v x word (ReleaseStore y w ∷ rest) rows is same =
+    first_there v x (ReleaseStore y w) rest rows is (eq-eqb y x same.0)
 local_store_there v x word _ rows is same = absurd same
 
 pub shared_load_next_there : (v : View) (x : ℕ) (ds : List Duty) → RowsAreThere v → v.agenda ≡ ds → LoadsShared x ds
@@ -253,6 +267,12 @@ shared_load_next_there v x (SharedLoad y r ∷ rest) rows is same =
 shared_load_next_there v x (MergeLoad y c r ∷ rest) rows is same =
     first_there v x (MergeLoad y c r) rest rows is (eq-eqb y x same)
 shared_load_next_there v x _ rows is same = absurd same
+
+pub item_release_there : (v : View) (x : ℕ) (ds : List Duty) → RowsAreThere v → v.agenda ≡ ds → ReleasesItem x ds
+    → x < row_count v.layout
+item_release_there v x (ReleaseLoad y InFlight ∷ rest) rows is same =
+    first_there v x (ReleaseLoad y InFlight) rest rows is (eq-eqb y x same)
+item_release_there v x _ rows is same = absurd same
 
 pub local_swap_next_there : (v : View) (x : ℕ) (ds : List Duty) → RowsAreThere v → v.agenda ≡ ds → SwapsLocal x ds
     → x < row_count v.layout

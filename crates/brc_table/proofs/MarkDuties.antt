@@ -1,5 +1,6 @@
 -- The duties about an object's mark, and where its word is.
 use Rattle.std.proofs.Common.{◌≡◌, ◌≢◌, ℕ, ◌<◌, List, [], ◌∷◌, refl, sym, ap, ◌∙◌}
+use Rattle.std.proofs.lemmas.Bool.{eq-eqb}
 use Rattle.brc_model.specs.declared.duty.Duty.{Duty}
 use Rattle.brc_model.specs.declared.duty.Duty.TheVariants.{SetMark, Look, TakeMark}
 use Rattle.brc_model.specs.declared.address.Address.TheVariants.{ThreadWord}
@@ -11,30 +12,30 @@ use Rattle.brc_table.specs.Views.{RowsAreThere, did, work_about}
 use Rattle.brc_table.specs.Begins.{MakesQuietly, MakesAtThreadQuietly, StoresWord, KeepsThread}
 use Rattle.brc_table.specs.Plays.{overwritten_by}
 use Rattle.brc_table.specs.Calls.{SetsMark, LooksAtOwner, TakesMark}
-use Rattle.brc_table.proofs.Duties.{line_makes, at_line, work_there}
+use Rattle.brc_table.proofs.Duties.{line_makes, at_line, first_there, work_there}
 
 module _ (u : View) (x : ℕ) (alive : u.status ≢ Gone) where
   pub mark_store_makes : (ds : List Duty) → u.agenda ≡ ds → SetsMark x ds → StoresWord u (in_tile 4 x) 1
-  mark_store_makes (SetMark y ∷ []) is same = record {
+  mark_store_makes (SetMark y ∷ rest) is same = record {
     makes =
-        line_makes u x alive 4 (λ found. 1) (SetMark y) [] is tt (ap (in_tile 4) (sym same)) (λ found suits. refl);
+        line_makes u x alive 4 (λ found. 1) (SetMark y) rest is tt (ap (in_tile 4) (sym same)) (λ found suits. refl);
     knows = λ found over. over ∙ sym (ap (overwritten_by u.thread) is);
   }
   mark_store_makes _ is same = absurd same
 
   pub mark_take_makes : (ds : List Duty) → u.agenda ≡ ds → TakesMark x ds
       → MakesQuietly u (in_tile 4 x) (λ found. 0)
-  mark_take_makes (TakeMark y ∷ []) is same =
-      at_line u x alive 4 (λ found. 0) (TakeMark y) [] is tt (ap (in_tile 4) (sym same))
+  mark_take_makes (TakeMark y ∷ rest) is same =
+      at_line u x alive 4 (λ found. 0) (TakeMark y) rest is tt (ap (in_tile 4) (sym same))
       (record { status = λ s. refl; head = λ head found. refl; used = λ used. refl }) (λ found suits. refl)
   mark_take_makes _ is same = absurd same
 
   pub look_makes : (ds : List Duty) → u.agenda ≡ ds → LooksAtOwner x ds
       → MakesAtThreadQuietly u (block_of u.layout x) (λ found. found)
-  look_makes (Look y ∷ []) is same = record {
+  look_makes (Look y ∷ rest) is same = record {
     makes = record {
       duty = Look y;
-      rest = [];
+      rest = rest;
       agenda = is;
       alive = alive;
       address = ap (λ (z : ℕ). ThreadWord (block_of u.layout z)) same;
@@ -46,12 +47,12 @@ module _ (u : View) (x : ℕ) (alive : u.status ≢ Gone) where
 
 -- The mark that is set was not set before.
 pub mark_store_overwrites : (t x : ℕ) (ds : List Duty) → SetsMark x ds → overwritten_by t ds ≡ 0
-mark_store_overwrites t x (SetMark y ∷ []) same = refl
+mark_store_overwrites t x (SetMark y ∷ rest) same = refl
 mark_store_overwrites t x _ same = absurd same
 
 -- Setting a mark leaves status, chain and used rows as they are.
 pub mark_store_keeps : (v : View) (x : ℕ) (ds : List Duty) (found : ℕ) → SetsMark x ds → KeepsThread v (did v ds found)
-mark_store_keeps v x (SetMark y ∷ []) found same =
+mark_store_keeps v x (SetMark y ∷ rest) found same =
     record { layout = refl; thread = refl; status = refl; head = refl; used = refl; given = refl }
 mark_store_keeps v x _ found same = absurd same
 
@@ -66,3 +67,15 @@ pub mark_take_there : (v : View) (x : ℕ) (ds : List Duty) → RowsAreThere v �
     → x < row_count v.layout
 mark_take_there v x (d ∷ rest) rows is same = work_there v x d rest rows is
 mark_take_there v x [] rows is same = absurd same
+
+-- ---- the same of duties behind which others come
+
+pub mark_store_next_there : (v : View) (x : ℕ) (ds : List Duty) → RowsAreThere v → v.agenda ≡ ds → SetsMark x ds
+    → x < row_count v.layout
+mark_store_next_there v x (SetMark y ∷ rest) rows is same = first_there v x (SetMark y) rest rows is (eq-eqb y x same)
+mark_store_next_there v x _ rows is same = absurd same
+
+pub mark_take_next_there : (v : View) (x : ℕ) (ds : List Duty) → RowsAreThere v → v.agenda ≡ ds → TakesMark x ds
+    → x < row_count v.layout
+mark_take_next_there v x (TakeMark y ∷ rest) rows is same = first_there v x (TakeMark y) rest rows is (eq-eqb y x same)
+mark_take_next_there v x _ rows is same = absurd same

@@ -2,7 +2,8 @@
 use Rattle.std.specs.Prelude.{◌≡◌, ◌≢◌, ℕ, ◌+◌, ◌-◌, ◌<◌, List, [], ◌∷◌}
 use Rattle.brc_word.specs.Words.{released_word, merged_word}
 use Rattle.brc_model.specs.declared.duty.Duty.{Duty}
-use Rattle.brc_model.specs.declared.duty.Duty.TheVariants.{RetainStore, RetainAdd, ReleaseStore, DecideAtZero, SharedLoad, SharedExchange, SetMark, Look, TakeMark, MergeSwap, MergeLoad, MergeExchange, Die, Settle, SettleKind, SettleCell, SettleEnd, Scan, Finish, BirthLocal}
+use Rattle.brc_model.specs.declared.duty.Duty.TheVariants.{RetainStore, RetainAdd, ReleaseLoad, ReleaseStore, DecideAtZero, SharedLoad, SharedExchange, SetMark, Look, TakeMark, MergeSwap, MergeLoad, MergeExchange, Die, Settle, SettleKind, SettleCell, SettleEnd, Scan, Finish, BirthLocal}
+use Rattle.brc_model.specs.declared.duty.Holding.TheVariants.{InFlight}
 use Rattle.brc_model.specs.declared.actor.Status.TheVariants.{Running, Gone}
 use Rattle.brc_table.specs.declared.view.View.{View}
 use Rattle.brc_table.specs.Hands.{MayWait}
@@ -23,10 +24,10 @@ abbrev pub SwapsLocal : ℕ → List Duty → Type 0
 SwapsLocal x (MergeSwap y r ∷ rest) = y ≡ x
 SwapsLocal x _ = ⊥
 
--- The one duty is to store this word as the row's local word.
+-- The first duty is to store this word as the row's local word.
 abbrev pub StoresLocal : ℕ → ℕ → List Duty → Type 0
-StoresLocal x word (RetainStore y h w ∷ []) = (y ≡ x) × (word ≡ w + 1)
-StoresLocal x word (ReleaseStore y w ∷ []) = (y ≡ x) × (word ≡ w - 1)
+StoresLocal x word (RetainStore y h w ∷ rest) = (y ≡ x) × (word ≡ w + 1)
+StoresLocal x word (ReleaseStore y w ∷ rest) = (y ≡ x) × (word ≡ w - 1)
 StoresLocal x word _ = ⊥
 
 -- The one duty is to count a reference more in the row's shared word.
@@ -50,20 +51,25 @@ abbrev pub OwnsFirst : ℕ → List Duty → Type 0
 OwnsFirst x (BirthLocal y h ∷ []) = y ≡ x
 OwnsFirst x _ = ⊥
 
--- The one duty is to set the row's mark.
+-- The first duty is to set the row's mark.
 abbrev pub SetsMark : ℕ → List Duty → Type 0
-SetsMark x (SetMark y ∷ []) = y ≡ x
+SetsMark x (SetMark y ∷ rest) = y ≡ x
 SetsMark x _ = ⊥
 
--- The one duty is to take the row's mark back.
+-- The first duty is to take the row's mark back.
 abbrev pub TakesMark : ℕ → List Duty → Type 0
-TakesMark x (TakeMark y ∷ []) = y ≡ x
+TakesMark x (TakeMark y ∷ rest) = y ≡ x
 TakesMark x _ = ⊥
 
--- The one duty is to look whether the thread of the row's block still runs.
+-- The first duty is to look whether the thread of the row's block still runs.
 abbrev pub LooksAtOwner : ℕ → List Duty → Type 0
-LooksAtOwner x (Look y ∷ []) = y ≡ x
+LooksAtOwner x (Look y ∷ rest) = y ≡ x
 LooksAtOwner x _ = ⊥
+
+-- The first duty is to give up a reference to the row's object that came out of a cell.
+abbrev pub ReleasesItem : ℕ → List Duty → Type 0
+ReleasesItem x (ReleaseLoad y InFlight ∷ rest) = y ≡ x
+ReleasesItem x _ = ⊥
 
 -- ---- settling: what else there is to do comes behind
 

@@ -99,10 +99,10 @@ impl<T: Drop> Words<T> {
         self.swap::<Brand>(hand, LOCAL, row, NOBODY)
     }
 
-    /// Does the next duty: counts in the row's local word, as the owner.
+    /// Does the next duty, behind which others may come: counts in the row's local word, as the owner.
     pub fn local_store(&self, hand: &mut Hand<T>, row: u32, word: u64)
         requires table { IsOf self.now hand.old }
-        requires acts { CanAct hand.old.view }
+        requires alive { hand.old.view.status ≢ Gone }
         requires duty { StoresLocal row word hand.old.view.agenda }
         ensures table { hand.new.table ≡ hand.old.table }
         ensures carried { hand.new.carried ≡ hand.old.carried }

@@ -16,4 +16,4 @@ store-requires-clause-there g c =
 
 pub store-requires-clause-stores : goal.store-requires-clause-stores
 store-requires-clause-stores g c =
-    local_store_makes c.args.hand.now.view c.args.row c.requires.acts.0 c.args.word c.args.hand.now.view.agenda refl c.requires.duty
+    local_store_makes c.args.hand.now.view c.args.row c.requires.alive c.args.word c.args.hand.now.view.agenda refl c.requires.duty
