@@ -1,2 +1,3 @@
 pub mod Readiness
+mod Claiming
 mod Marking

@@ -6,6 +6,8 @@ mod births;
 #[cfg(test)]
 mod calls;
 #[cfg(test)]
+mod claims;
+#[cfg(test)]
 mod hands;
 #[cfg(test)]
 mod kinds;

@@ -31,7 +31,7 @@ fn hands_over(heap: &Heap<u32>, hand: &mut Hand<u32>) -> bool
 }
 
 /// Posts the root as a worker. Returns what the hand found.
-fn posts(heap: &Heap<u32>, hand: &mut Hand<u32>) -> Option<Looked>
+pub fn posts(heap: &Heap<u32>, hand: &mut Hand<u32>) -> Option<Looked>
     requires ready { IsReady heap.now hand.old }
 {
     if hands_over(heap, hand) {
