@@ -32,6 +32,8 @@ pub mod LocksBegin
 pub mod Moved
 pub mod OneReference
 pub mod HandedOver
+pub mod CellChanges
+pub mod CellsSwapped
 pub mod Callers
 pub mod FirstCounts
 pub mod FirstHands

@@ -35,6 +35,7 @@ pub mod Ranges
 pub mod Stores
 pub mod Counting
 pub mod CountingLaws
+pub mod CellLaws
 pub mod Progress
 pub mod Watched
 pub mod GuardLaws

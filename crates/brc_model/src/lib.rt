@@ -8,6 +8,7 @@
 mod actor;
 mod address;
 mod call_laws;
+mod cell_laws;
 mod code;
 mod counting_laws;
 mod duty;
@@ -27,6 +28,7 @@ mod world_laws;
 pub use actor::{Counters, Place, Stage, Status};
 pub use address::Address;
 pub use call_laws::calls_are_bounded;
+pub use cell_laws::cells_are_swapped;
 pub use code::CheckCode;
 pub use counting_laws::{
     accounts_are_there, chains_are_there, counts_agree, duties_are_kept, duties_are_within,

@@ -67,8 +67,11 @@ module _ (p : Accounts) (n : ℕ) (m : Machine) (t : ℕ) (a : Actor) where
     merged = λ was.
         ap phase_part (written_apart m.memory _ (Shared x) _ (other_shared m.layout t a.head d x apart)) ∙ was;
     references = λ k.
-        moved_keeps (λ q. held (reference_of t k x) q.references) (IsOfOther x) (move_elsewhere (reference_of t k x))
-        m.abstract _ (effects_elsewhere m.memory t d (found_by m t a d) x apart (piece_no_cell d piece));
+        omega (
+          arith,
+          moved_keeps (λ q. held (reference_of t k x) q.references) (IsOfOther x) (move_elsewhere (reference_of t k x))
+              m.abstract _ (effects_elsewhere m.memory t d (found_by m t a d) x apart (piece_no_cell d piece)),
+        );
     stopped = λ u was. stopped_left m t a d u was;
     born = λ was. born_left m.life t d (next_of m t a d) x was;
   }

@@ -165,7 +165,7 @@ flip_eqb x y =
       | inr other ↦ ne_eqb x y (λ e. other.1 (sym e)) ∙ sym other.0
     ]
 
-same_cell : (x i object y : ℕ)
+pub same_cell : (x i object y : ℕ)
     → one_if (same (cell_reference x i object) (cell_reference x i y)) ≡ one_if (y == object)
 same_cell x i object y =
     ap (λ (b : Bool). one_if ((b && (i == i)) && (object == y))) (eq-eqb x x refl)

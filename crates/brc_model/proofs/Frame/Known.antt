@@ -1,5 +1,5 @@
 -- A duty that may wait keeps what it knows, if a step leaves what the duty relies on at its row.
-use Rattle.std.proofs.Common.{◌≡◌, ◌≢◌, ℕ, ◌<◌, true, inl, inr, Some, refl, sym, ap, ◌∙◌, subst, arith}
+use Rattle.std.proofs.Common.{◌≡◌, ◌≢◌, ℕ, ◌<◌, ◌≤◌, true, inl, inr, Some, refl, sym, ap, ◌∙◌, subst, arith}
 use Rattle.std.specs.Prelude.{◌==◌, List}
 use Rattle.std.proofs.lemmas.Bool.{eq-eqb}
 use Rattle.brc_word.specs.Words.{immortal_local, owner_part, local_part, phase_part}
@@ -22,8 +22,9 @@ pub record LeavesRow (m new : Machine) (t : ℕ) (a after : Actor) (x : ℕ) : T
   pub status : after.status ≡ a.status
   pub local : OwnsLocally m t a x → new.memory (Local x) ≡ m.memory (Local x)
   pub merged : phase_part (m.memory (Shared x)) ≡ 3 → phase_part (new.memory (Shared x)) ≡ 3
+  -- the thread holds as many references to the object as before, or more
   pub references : (k : Holding)
-      → held (reference_of t k x) new.abstract.references ≡ held (reference_of t k x) m.abstract.references
+      → held (reference_of t k x) m.abstract.references ≤ held (reference_of t k x) new.abstract.references
   pub stopped : (u : ℕ) → m.memory (ThreadWord u) ≢ 1 → new.memory (ThreadWord u) ≢ 1
   pub born : m.life x ≢ Unborn → new.life x ≢ Unborn
 
@@ -43,11 +44,11 @@ module _ (m new : Machine) (t : ℕ) (a after : Actor) where
   abbrev Leaves : ℕ → Type 0
   Leaves x = LeavesRow m new t a after x
 
-  -- What keeps an object alive is left by a step that leaves the thread's references to it and the list that the thread
-  -- has locked.
+  -- What keeps an object alive is left by a step that takes none of the thread's references to it and leaves the list
+  -- that the thread has locked.
   pub still_backed : (x : ℕ)
       → ((k : Holding)
-      → held (reference_of t k x) new.abstract.references ≡ held (reference_of t k x) m.abstract.references)
+      → held (reference_of t k x) m.abstract.references ≤ held (reference_of t k x) new.abstract.references)
       → KeepsList m new a after → IsBacked m t a x → IsBacked new t after x
   still_backed x references keeps (ByReference by some) = ByReference by (omega (arith, references by, some))
   still_backed x references keeps (ByItem list i locked word) =

@@ -67,7 +67,7 @@ row_left m new t u b leaves ne found x = record {
   status = refl;
   local = leaves.locals u x b ne found;
   merged = leaves.merged x;
-  references = λ k. leaves.bag u k x ne;
+  references = λ k. omega (arith, leaves.bag u k x ne);
   stopped = leaves.stopped;
   born = leaves.born x;
 }

@@ -99,8 +99,11 @@ leaves_row m t a x y ne = record {
   local = λ owns. refl;
   merged = λ was. was;
   references = λ k.
-      one_more_elsewhere (reference_of t k y) (reference_of t AsCaller x) m.abstract.references
-      (ne_eqb x y (λ e. ne (sym e)));
+      omega (
+        arith,
+        one_more_elsewhere (reference_of t k y) (reference_of t AsCaller x) m.abstract.references
+            (ne_eqb x y (λ e. ne (sym e))),
+      );
   stopped = λ u was. was;
   born = λ was. was;
 }

@@ -95,7 +95,11 @@ module _ (m : Machine) (moves : List Move) (t : ℕ) (a : Actor) (x : ℕ) (else
     status = refl;
     local = λ owns. refl;
     merged = λ was. was;
-    references = λ k. elsewhere k y (λ e. false≢true (sym other ∙ ap (λ (z : ℕ). is_about z d) (sym e) ∙ about));
+    references = λ k.
+        omega (
+          arith,
+          elsewhere k y (λ e. false≢true (sym other ∙ ap (λ (z : ℕ). is_about z d) (sym e) ∙ about)),
+        );
     stopped = λ u was. was;
     born = λ was. was;
   }

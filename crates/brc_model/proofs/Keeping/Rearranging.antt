@@ -76,7 +76,7 @@ all_left m t a agenda aside x = record {
   status = refl;
   local = λ owns. refl;
   merged = λ was. was;
-  references = λ k. refl;
+  references = λ k. omega arith;
   stopped = λ u was. was;
   born = λ was. was;
 }

@@ -99,7 +99,7 @@ thread_after_retain_counted p n m t a x h rest pos here alive =
     let bag = retain_bag m t a x h mortal in
     let new = done_by m t a (RetainLoad x h) rest in
     let backed : (b : Actor) → b.locked ≡ a.locked → IsBacked new t b x =
-    λ b locked. still_backed m new t a b x (λ k. ap (held (reference_of t k x)) bag)
+    λ b locked. still_backed m new t a b x (λ k. omega (arith, ap (held (reference_of t k x)) bag))
     (λ y e. (locked ∙ e, record { kind = refl; cells = λ i. refl })) fits in
     let first : continuation m.layout t (is_running a.status) a.head (RetainLoad x h) word
     ≡ cond (counts_locally t (is_running a.status) word && nat_lt (local_part word) most_local)
