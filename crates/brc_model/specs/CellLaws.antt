@@ -5,7 +5,7 @@ use Rattle.std.specs.Prelude.{◌≡◌, ℕ, zero, suc, ◌<◌, ◌≤◌, Lis
 use Rattle.brc_model.specs.declared.duty.Holding.TheVariants.{AsCaller}
 use Rattle.brc_model.specs.declared.address.Address.TheVariants.{KindOf, Cell}
 use Rattle.brc_model.specs.declared.layout.Layout.{Layout}
-use Rattle.brc_model.specs.Layout.{IsCounted}
+use Rattle.brc_model.specs.Layout.{row_count, IsCounted}
 use Rattle.brc_model.specs.AbstractState.{Move, PassOn, ByThread, ByCell, moved}
 use Rattle.brc_model.specs.References.{reference_of, cell_reference}
 use Rattle.brc_model.specs.Duties.{cells_of}
@@ -58,6 +58,11 @@ MayPut account a (suc y) = HasNoneAbout a y × (1 ≤ account AsCaller y) × May
 abbrev pub HasRoomFor : Layout → Account → ℕ → Type 0
 HasRoomFor layout account zero = Unit {0}
 HasRoomFor layout account (suc y) = IsCounted layout y → account AsCaller y < most_lent
+
+-- A cell names a row of the machine.
+abbrev pub ItemsAreThere : Type 0
+ItemsAreThere = (p : Accounts) (n : ℕ) (m : Machine) (x i y : ℕ) → Counts p n m → m.memory (Cell x i) ≡ suc y
+    → y < row_count m.layout
 
 -- A ready thread that retains nothing swaps a cell of the list that it has locked.
 abbrev pub CellsAreSwapped : Type 0

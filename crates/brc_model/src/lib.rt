@@ -28,7 +28,7 @@ mod world_laws;
 pub use actor::{Counters, Place, Stage, Status};
 pub use address::Address;
 pub use call_laws::calls_are_bounded;
-pub use cell_laws::cells_are_swapped;
+pub use cell_laws::{cells_are_swapped, items_are_there};
 pub use code::CheckCode;
 pub use counting_laws::{
     accounts_are_there, chains_are_there, counts_agree, duties_are_kept, duties_are_within,

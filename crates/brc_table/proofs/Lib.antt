@@ -11,6 +11,7 @@ mod Duties
 mod MarkDuties
 mod KindLoads
 mod Locking
+mod Swapping
 mod FreeDropped
 mod ExitDuties
 mod DyingDuties

@@ -34,6 +34,12 @@ set_view [] i x y is = absurd (some-ne-none x (sym is))
 set_view (z ∷ zs) zero x y is = refl
 set_view (z ∷ zs) (suc i) x y is = set_view zs i x y is
 
+-- An element that is replaced by itself.
+pub set_itself : {A : Type 0} (xs : List A) (i : ℕ) (x : A) → slice_get xs i ≡ Some x → set xs i x ≡ xs
+set_itself [] i x is = refl
+set_itself (y ∷ ys) zero x is = let same : y ≡ x = cc in ap (λ z. z ∷ ys) (sym same)
+set_itself (y ∷ ys) (suc i) x is = ap (λ zs. y ∷ zs) (set_itself ys i x is)
+
 pub and_first : (a b : Bool) → (a && b) ≡ true → a ≡ true
 and_first true b e = refl
 and_first false b e = absurd cc

@@ -52,7 +52,7 @@ unlocking_becomes put law free layout v x running none holding locked retains re
     (is_ready layout words views id v s here running.0) (alone v x none) one.more locked retains returned))
 
 -- The kind word of an object with a cell is above 0.
-kind_some : (word i : ℕ) → i < cells_of word → 0 < word
+pub kind_some : (word i : ℕ) → i < cells_of word → 0 < word
 kind_some word i low = elim (cases_lt 0 word) [
   | inl more ↦ more
   | inr none ↦

@@ -79,7 +79,7 @@ same_is (ThreadWord t) (ThreadWord u) e = ap ThreadWord (eqb-true t u e)
 same_is _ _ e = absurd cc
 
 -- Writing a word in the table is writing in the machine what it says.
-written_reads : (layout : Layout) (words : List ℕ) (memory : Address → ℕ) (a : Address) (left word : ℕ)
+pub written_reads : (layout : Layout) (words : List ℕ) (memory : Address → ℕ) (a : Address) (left word : ℕ)
     → layout.workers ≤ worker_limit → length words ≡ word_count layout → reading a left ≡ word → HasWord layout a
     → ((b : Address) → HasWord layout b → memory b ≡ reading b (slice_index words (place b)))
     → (b : Address) → HasWord layout b

@@ -4,6 +4,7 @@ pub mod Seen
 pub mod Rule
 pub mod Plays
 pub mod Hands
+pub mod Swaps
 pub mod Begins
 pub mod Calls
 pub mod Opening

@@ -1,10 +1,11 @@
 //! The steps of a hand on the cells of the list that it has locked (Python/C API manual, List Objects).
 
-ghost use Rattle.std.specs.Prelude.{◌≡◌, ◌≤◌, ℕ, Some};
+ghost use Rattle.std.specs.Prelude.{◌≡◌, ◌<◌, ◌≤◌, ℕ, Some, length};
 ghost use Rattle.brc_model.specs.Layout.{row_count};
 ghost use Rattle.brc_table.specs.Views.{done, loading_cell};
 ghost use Rattle.brc_table.specs.Seen.{KnowsCell, cell_seen};
-ghost use Rattle.brc_table.specs.Hands.{IsOf, IsRunning, HoldsOne, HasNoWork};
+ghost use Rattle.brc_table.specs.Swaps.{swapped, MayPut};
+ghost use Rattle.brc_table.specs.Hands.{most_references, IsOf, IsRunning, HoldsOne, HasNoWork, HasNoRetain};
 
 use crate::hand::Hand;
 use crate::words::Words;
@@ -32,5 +33,25 @@ impl<T: Drop> Words<T> {
         immortals_are_free();
         hand.rows_are_there();
         self.load_cell::<Brand>(hand, row, cell)
+    }
+    /// Swaps a cell of the list that the hand has locked for `item`, a row plus 1, or 0 for an empty cell. The hand's
+    /// reference to the new item goes into the cell. Returns what was there, also a row plus 1 or 0: the reference to
+    /// it is the hand's from then on. Since the hand locked the list, no other thread has changed the cell.
+    pub fn cell_swap(&self, hand: &mut Hand<T>, row: u32, cell: u32, item: u64) -> u64
+        requires table { IsOf self.now hand.old }
+        requires running { IsRunning hand.old.view }
+        requires locked { hand.old.view.locked ≡ Some row }
+        requires knows { KnowsCell hand.old.view row cell }
+        requires retains { HasNoRetain hand.old.view }
+        requires puts { MayPut hand.old.view item }
+        requires few { length hand.old.view.references < most_references }
+        ensures table { hand.new.table ≡ hand.old.table }
+        ensures carried { hand.new.carried ≡ hand.old.carried }
+        ensures view { hand.new.view ≡ swapped hand.old.view row cell item result }
+        ensures there { result ≤ row_count hand.old.view.layout }
+        ensures stays { (word : ℕ) → cell_seen row cell hand.old.view ≡ Some word → result ≡ word }
+    {
+        hand.rows_are_there();
+        self.swap_item::<Brand>(hand, row, cell, item)
     }
 }

@@ -1,5 +1,6 @@
 //! The table's rule, and what each step makes of the hand that takes it.
 
+ghost use Rattle.std.specs.Prelude.{ℕ};
 ghost use Rattle.brc_table.specs.declared.view.View.{View};
 
 use crate::view::View;
@@ -59,4 +60,32 @@ impl<S, B: Begins> Play<S, View> for Looked<B> {
     ghost use Rattle.brc_table.specs.Plays.{Looks};
 
     ghost then = { λ s me found after. Looks B.begins me found after };
+}
+
+/// Which cell a swap is of, and which word it stores.
+pub(crate) trait Swap {
+    ghost list: { ℕ };
+
+    ghost cell: { ℕ };
+
+    ghost item: { ℕ };
+}
+
+impl Swap for Brand {
+    ghost list = { 0 };
+
+    ghost cell = { 0 };
+
+    ghost item = { 0 };
+}
+
+/// A swap of a cell.
+pub(crate) struct Swapped<B> {
+    marker: PhantomData<B>,
+}
+
+impl<S, B: Swap> Play<S, View> for Swapped<B> {
+    ghost use Rattle.brc_table.specs.Swaps.{Swaps};
+
+    ghost then = { λ s me found after. Swaps B.list B.cell B.item me found after };
 }

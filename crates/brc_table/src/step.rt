@@ -1,6 +1,6 @@
 //! One atomic step of a hand, of any kind. Each is sequentially consistent, and may first turn the hand to other work.
 
-ghost use Rattle.std.specs.Prelude.{◌≡◌, ◌+◌, ◌%◌, ◌^◌, ◌<◌, ◌≤◌, ◌==◌, false};
+ghost use Rattle.std.specs.Prelude.{◌≡◌, ◌+◌, ◌%◌, ◌^◌, ◌<◌, ◌≤◌, ◌==◌, ℕ, Some, false};
 ghost use prog.Atomic.{either};
 ghost use Rattle.brc_model.specs.Layout.{row_count, block_of};
 ghost use Rattle.brc_model.specs.Limits.{cell_limit};
@@ -8,17 +8,19 @@ ghost use Rattle.brc_model.specs.Machine.{is_running};
 ghost use Rattle.brc_table.specs.Places.{in_tile, cell_place};
 ghost use Rattle.brc_table.specs.Views.{done};
 ghost use Rattle.brc_table.specs.Plays.{SuitsFirst, FirstFindsOwner, FindsKnown, overwritten};
+ghost use Rattle.brc_table.specs.Seen.{cell_seen};
+ghost use Rattle.brc_table.specs.Swaps.{MaySwap, swapped};
 ghost use Rattle.brc_table.specs.Hands.{IsOf};
 ghost use Rattle.brc_table.specs.Begins.{Becomes, KeepsThread, SettlesNext, MakesQuietly, MakesAtThreadQuietly, StoresThreadWord, StoresWord};
 
 use crate::hand::Hand;
 use crate::place::{GATE, in_cell, in_line};
-use crate::rule::{Begins, Continued, Looked, Stored};
+use crate::rule::{Begins, Continued, Looked, Stored, Swap, Swapped};
 use crate::size::block_of;
 use crate::words::Words;
 use brc_model::{
-    accounts_are_there, chains_are_there, duties_are_kept, duties_are_within, handed_merges_live,
-    locked_cells_stay,
+    accounts_are_there, cells_are_swapped, chains_are_there, duties_are_kept, duties_are_within,
+    handed_merges_live, immortals_are_free, items_are_there, locked_cells_stay, work_is_put_aside,
 };
 use brc_word::next_of_dying;
 
@@ -217,6 +219,40 @@ impl<T: Drop> Words<T> {
         self.table
             .shared
             .swap::<Continued<B>>(&mut hand.seat, index, new)
+    }
+
+    /// Swaps a cell of the list that the hand has locked. A reference of the hand goes in, and what the cell held is the
+    /// hand's from then on.
+    pub(crate) fn swap_item<B: Swap>(
+        &self,
+        hand: &mut Hand<T>,
+        row: u32,
+        cell: u32,
+        item: u64,
+    ) -> u64
+        requires table { IsOf self.now hand.old }
+        requires list { row ≡ B.list }
+        requires index { cell ≡ B.cell }
+        requires item { item ≡ B.item }
+        requires cell { cell < cell_limit }
+        requires there { row < row_count self.now.layout }
+        requires may { MaySwap hand.old.view row cell item }
+        ensures table { hand.new.table ≡ hand.old.table }
+        ensures carried { hand.new.carried ≡ hand.old.carried }
+        ensures view { hand.new.view ≡ swapped hand.old.view row cell item result }
+        ensures there { result ≤ row_count hand.old.view.layout }
+        ensures stays { (seen : ℕ) → cell_seen row cell hand.old.view ≡ Some seen → result ≡ seen }
+    {
+        work_is_put_aside();
+        immortals_are_free();
+        accounts_are_there();
+        chains_are_there();
+        items_are_there();
+        cells_are_swapped();
+        let index = in_cell(row, cell);
+        self.table
+            .shared
+            .swap::<Swapped<B>>(&mut hand.seat, index, item)
     }
 
     /// Adds to a word.
