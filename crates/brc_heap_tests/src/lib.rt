@@ -19,3 +19,5 @@ mod queue;
 mod root;
 #[cfg(test)]
 mod single;
+#[cfg(test)]
+mod swaps;

@@ -4,6 +4,7 @@ use Rattle.brc_model.specs.Layout.{row_count}
 use Rattle.brc_table.specs.declared.view.View.{View}
 use Rattle.brc_table.specs.Views.{done, open_work, loading_cell}
 use Rattle.brc_table.specs.Seen.{has_seen_kind, cell_seen}
+use Rattle.brc_table.specs.Swaps.{swapped, with_item, without_item}
 use Rattle.brc_table.specs.Hands.{MayWait}
 
 -- The hand's thread, its references, its lent resource and its other work are as before, and so are its used rows and
@@ -25,6 +26,15 @@ abbrev pub row_in : ℕ → Option ℕ
 row_in zero = None
 row_in (suc row) = Some row
 
+-- the word of a cell with this item
+abbrev pub word_of : Option ℕ → ℕ
+word_of None = 0
+word_of (Some row) = suc row
+
+-- Beside the hand's references everything is kept.
+abbrev pub KeepsBesides : View → View → Type 0
+KeepsBesides v u = Keeps (record v { references = u.references }) u
+
 -- The hand has loaded the list's cell. It has what the hand last saw or stored there since it locked the list, if it
 -- did, and now the hand has seen it. What it has seen of the other cells is as before.
 pub record SeesItem (x cell word : ℕ) (v u : View) : Type 0 where
@@ -33,3 +43,14 @@ pub record SeesItem (x cell word : ℕ) (v u : View) : Type 0 where
   pub stays : (before : ℕ) → cell_seen x cell v ≡ Some before → word ≡ before
   pub seen : cell_seen x cell u ≡ Some word
   pub others : (i : ℕ) → i ≢ cell → cell_seen x i u ≡ cell_seen x i v
+
+-- The hand has put the word into the list's cell. It finds what it last saw or stored there, and now it has seen the new
+-- word. The reference to the item that was in the cell is its own, and that to the new item is the cell's. What it has
+-- seen of the other cells is as before.
+pub record SwapsItem (x cell word found : ℕ) (v u : View) : Type 0 where
+  pub view_is : u ≡ swapped v x cell word found
+  pub there : found ≤ row_count v.layout
+  pub stays : (before : ℕ) → cell_seen x cell v ≡ Some before → found ≡ before
+  pub seen : cell_seen x cell u ≡ Some word
+  pub others : (i : ℕ) → i ≢ cell → cell_seen x i u ≡ cell_seen x i v
+  pub references : u.references ≡ with_item v.layout found (without_item v.layout word v.references)

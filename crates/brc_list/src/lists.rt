@@ -1,14 +1,15 @@
 //! The calls of a hand on the lists of a heap.
 
-ghost use Rattle.std.specs.Prelude.{◌≡◌, ◌<◌, ◌==◌, if◌then◌else◌, ℕ, true, None, Some};
+ghost use Rattle.std.specs.Prelude.{◌≡◌, ◌<◌, ◌==◌, if◌then◌else◌, ℕ, true, None, Some, length};
 ghost use Rattle.brc_word.specs.Words.{free_word};
 ghost use Rattle.brc_model.specs.Duties.{cells_of};
 ghost use Rattle.brc_model.specs.Layout.{IsCounted};
 ghost use Rattle.brc_table.specs.Views.{done, asking, locking, unlocking};
 ghost use Rattle.brc_table.specs.Plays.{overwritten};
 ghost use Rattle.brc_table.specs.Seen.{has_seen_kind, KnowsCell};
-ghost use Rattle.brc_table.specs.Hands.{IsOf, IsRunning, HoldsOne, HasNoWork, HasNoRetain};
-ghost use Rattle.brc_list.specs.Calls.{Keeps, SeesItem, row_in};
+ghost use Rattle.brc_table.specs.Swaps.{MayPut};
+ghost use Rattle.brc_table.specs.Hands.{most_references, IsOf, IsRunning, HoldsOne, HasNoWork, HasNoRetain};
+ghost use Rattle.brc_list.specs.Calls.{Keeps, KeepsBesides, SeesItem, SwapsItem, row_in, word_of};
 
 use brc_heap::{Hand, Heap};
 use brc_word::{kind_argument, kind_number};
@@ -126,6 +127,43 @@ impl<'h, T: Drop> Lists<'h, T> {
             None
         } else {
             Some((word - 1) as u32)
+        }
+    }
+    /// Puts an object into a cell of the list that the hand has locked, or empties the cell with `None`. The hand's
+    /// reference to the new item goes into the cell (`PyList_SetItem` steals it). Returns what was there: the reference
+    /// to it is the hand's from then on.
+    pub fn swap_item(
+        &self,
+        hand: &mut Hand<T>,
+        row: u32,
+        cell: u32,
+        item: Option<u32>,
+    ) -> Option<u32>
+        requires table { IsOf self.now hand.old }
+        requires running { IsRunning hand.old.view }
+        requires locked { hand.old.view.locked ≡ Some row }
+        requires knows { KnowsCell hand.old.view row cell }
+        requires retains { HasNoRetain hand.old.view }
+        requires puts { MayPut hand.old.view (word_of item) }
+        requires few { length hand.old.view.references < most_references }
+        ensures table { IsOf self.now hand.new }
+        ensures carried { hand.new.carried ≡ hand.old.carried }
+        ensures swaps { (found : ℕ) × SwapsItem row cell (word_of item) found hand.old.view hand.new.view
+            × (result ≡ row_in found) }
+        ensures locked { hand.new.view.locked ≡ Some row }
+        ensures keeps { KeepsBesides hand.old.view hand.new.view }
+    {
+        let words = self.heap.words();
+        words.layout_is_plain();
+        let new = match item {
+            None => 0,
+            Some(other) => other as u64 + 1,
+        };
+        let old = words.cell_swap(hand, row, cell, new);
+        if old == 0 {
+            None
+        } else {
+            Some((old - 1) as u32)
         }
     }
 }

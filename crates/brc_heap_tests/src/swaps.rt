@@ -1,0 +1,49 @@
+//! Objects that go into a cell of a locked list, and out of it.
+
+ghost use Rattle.std.specs.Prelude.{◌≡◌, ◌≤◌, None, Some, if◌then◌else◌, length};
+ghost use Rattle.brc_model.specs.Layout.{root_row};
+ghost use Rattle.brc_table.specs.Views.{next_row};
+ghost use Rattle.brc_heap_tests.specs.Ready.{IsResting};
+
+use crate::calls::{ROOT, opened, worker};
+use brc_heap::{Hand, Heap};
+use brc_lang::Kind;
+use brc_list::Lists;
+use std::test::*;
+
+/// The value of the number.
+const VALUE: u32 = 7;
+
+/// The cells of the root.
+const CELLS: u32 = 8;
+
+/// Puts a new number into the root's last cell, and takes it out again. Returns what each of the two swaps found, and
+/// what the cell had after each.
+fn put_and_taken(heap: &Heap<u32>, hand: &mut Hand<u32>) -> Option<[Option<u32>; 4]>
+    requires resting { IsResting heap.now hand.old (Some root_row) }
+    requires few { length hand.old.view.references ≤ 1 }
+    requires next { next_row hand.old.view ≡ 2 }
+{
+    let lists = Lists::new(heap);
+    if !heap.room(hand) || lists.size(hand, ROOT) < CELLS {
+        return None;
+    }
+    let number = heap.birth(hand, Kind::Num, VALUE, None);
+    let before = lists.swap_item(hand, ROOT, CELLS - 1, Some(number));
+    let put = lists.item(hand, ROOT, CELLS - 1);
+    let taken = lists.swap_item(hand, ROOT, CELLS - 1, None);
+    Some([before, put, taken, lists.item(hand, ROOT, CELLS - 1)])
+}
+
+#[test]
+fn a_number_goes_in_and_out(rt: HostRuntime) -> Result<(), Fail> {
+    let (heap, mut main) = opened(rt.alloc(), 1, 1)?;
+    let mut hand = worker(&heap, &mut main, 1)?;
+    let locked = Lists::new(&heap).try_lock(&mut hand, ROOT);
+    assert!(rt; locked);
+    assert_eq!(rt;
+        put_and_taken(&heap, &mut hand),
+        Some([None, Some(2), Some(2), None])
+    );
+    Ok(())
+}
