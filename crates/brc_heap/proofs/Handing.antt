@@ -1,15 +1,20 @@
--- Main may give out a worker's hand once it has retained the root for it.
-use Rattle.std.proofs.Common.{◌≡◌, ℕ, ◌+◌, ◌<◌, ◌≤◌, Bool, false, [], ◌∷◌, sym, ap, ◌∙◌, subst, arith}
-use Rattle.std.specs.Prelude.{◌==◌, ◌&&◌, cond, count_by, nat_lt, if◌then◌else◌}
+-- Main may start a worker and give out its hand once it has retained the root for it.
+use Rattle.std.proofs.Common.{◌≡◌, ℕ, ◌+◌, ◌<◌, ◌≤◌, Bool, true, false, [], ◌∷◌, None, refl, sym, ap, ◌∙◌, subst, arith}
+use Rattle.std.specs.Prelude.{◌==◌, ◌&&◌, ◌||◌, cond, count_by, nat_lt, if◌then◌else◌}
 use Rattle.std.specs.List.{list_any}
 use Rattle.std.proofs.lemmas.Bool.{lt-leb}
-use Rattle.std.proofs.lemmas.List.Sums.{sum_by-cons}
+use Rattle.std.proofs.lemmas.List.Folds.{list_any-append}
+use Rattle.std.proofs.lemmas.List.Sums.{sum_by-cons, fold-append}
+use Rattle.brc_model.specs.declared.address.Address.TheVariants.{ThreadWord}
 use Rattle.brc_model.specs.declared.layout.Layout.{Layout}
 use Rattle.brc_model.specs.Layout.{root_row, first_immortal_list, is_immortal_row}
 use Rattle.brc_table.specs.declared.view.View.{View}
 use Rattle.brc_table.specs.Views.{holds, is_given, with_reference}
-use Rattle.brc_table.specs.Giving.{MayGive}
-use Rattle.brc_heap.specs.Calls.{Leaves}
+use Rattle.brc_table.specs.Seen.{has_started, started_word, shows_kind, cell_known}
+use Rattle.brc_table.specs.Giving.{MayGive, MayStart, starting}
+use Rattle.brc_table.specs.declared.view.Event.{Event}
+use Rattle.brc_heap.specs.Calls.{KeepsSight, Leaves}
+use Rattle.brc_heap.proofs.Sight.{sight_then}
 
 -- The root is counted.
 root_counted : (l : Layout) → is_immortal_row l root_row ≡ false
@@ -27,17 +32,60 @@ two_held v u is held =
     ap (count_by (λ y. y == root_row)) more ∙ sum_by-cons (λ (y : ℕ). cond (y == root_row) 1 0) root_row v.references in
     omega (arith, all, held)
 
+-- So it may start the worker,
+pub may_start : (v u : View) (thread : ℕ) → v.thread ≡ 0 → Leaves root_row [] v u → 0 < thread
+    → thread ≤ v.layout.workers → is_given thread v ≡ false → MayStart u thread
+may_start v u thread main leaves some known not_given = record {
+  is_main = leaves.thread ∙ main;
+  some_worker = some;
+  known_worker = subst (λ (l : Layout). thread ≤ l.workers) (sym leaves.layout) known;
+  not_given = ap (list_any (λ t. t == thread)) leaves.given ∙ not_given;
+}
+
+-- and then give out its hand.
 pub may_give : (v u : View) (thread : ℕ) → v.thread ≡ 0 → 1 ≤ holds v root_row → Leaves root_row [] v u
-    → u.references ≡ with_reference v.layout root_row v.references → 0 < thread → thread ≤ v.layout.workers
-    → is_given thread v ≡ false → MayGive u thread
-may_give v u thread main held leaves more some known not_given =
+    → u.references ≡ with_reference v.layout root_row v.references → MayStart u thread
+    → has_started thread (starting u thread) ≡ true → MayGive (starting u thread) thread
+may_give v u thread main held leaves more start started =
     let two = two_held v u more held in
     record {
-      is_main = leaves.thread ∙ main;
+      is_main = start.is_main;
       holds_root = omega (arith, two);
       no_work = leaves.left_is;
       keeps = λ e. two;
-      some_worker = some;
-      known_worker = subst (λ (l : Layout). thread ≤ l.workers) (sym leaves.layout) known;
-      not_given = ap (list_any (λ t. t == thread)) leaves.given ∙ not_given;
+      some_worker = start.some_worker;
+      known_worker = start.known_worker;
+      not_given = start.not_given;
+      started = started;
     }
+
+-- The start of a worker leaves what main has seen of objects,
+started_sight : (x : ℕ) (u : View) (thread : ℕ) → KeepsSight x u (starting u thread)
+started_sight x u thread =
+    let event : Event = record { address = ThreadWord thread; found = started_word thread u; left = 1 } in
+    record {
+      locked = refl;
+      lent = refl;
+      kinds = λ y word seen.
+          list_any-append (shows_kind y word) u.trace (event ∷ [])
+          ∙ ap (λ (b : Bool). b || list_any (shows_kind y word) (event ∷ [])) seen;
+      cells = λ y i ne. fold-append (cell_known y i) None u.trace (event ∷ []);
+    }
+
+-- and its work.
+pub started_leaves : (v u w : View) (thread : ℕ) → Leaves root_row [] v u → w ≡ starting u thread
+    → Leaves root_row [] v w
+started_leaves v u w thread leaves is =
+    subst (Leaves root_row [] v) (sym is) (record {
+      layout = leaves.layout;
+      thread = leaves.thread;
+      status = leaves.status;
+      used = leaves.used;
+      given = leaves.given;
+      sight = sight_then root_row v u (starting u thread) leaves.sight (started_sight root_row u thread);
+      waits = leaves.waits;
+      agenda = leaves.agenda;
+      aside = leaves.aside;
+      left_is = leaves.left_is;
+      others = leaves.others;
+    })

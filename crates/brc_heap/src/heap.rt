@@ -4,6 +4,7 @@ ghost use Rattle.std.specs.Prelude.{◌≡◌, ◌<◌, ◌≤◌, ◌⊎◌, �
 ghost use Rattle.brc_model.specs.Limits.{worker_limit, row_limit};
 ghost use Rattle.brc_model.specs.Layout.{root_row};
 ghost use Rattle.brc_model.specs.Machine.{has_room};
+ghost use Rattle.brc_table.specs.Giving.{starting};
 ghost use Rattle.brc_table.specs.Hands.{IsOf, IsRunning, HasNoWork, most_references, CarriesNothing};
 ghost use Rattle.brc_table.specs.Opening.{plain_layout};
 ghost use Rattle.brc_table.specs.Views.{holds, is_given, main_view, worker_view, giving};
@@ -69,11 +70,12 @@ impl<T: Drop> Heap<T> {
         hand.used() < self.words.block_size(hand.thread())
     }
 
-    /// Gives out the thread's hand, with a reference to the root that main's hand retains for it.
+    /// Starts the thread, and gives out its hand, with a reference to the root that main's hand retains for it.
     ///
     /// # Errors
     ///
     /// H2 if the thread's hand was given out before, or if the heap has no worker of this number.
+    #[tactic(auto, using(crate::proofs::Handing::started_leaves))]
     pub fn hand_out(&self, main: &mut Hand<T>, thread: u8) -> Result<Hand<T>, Taken>
         requires table { IsOf self.now main.old }
         requires main { main.old.view.thread ≡ 0 }
@@ -86,7 +88,7 @@ impl<T: Drop> Heap<T> {
         ensures worker { IfOk result (λ hand. hand.view ≡ worker_view self.now.layout thread) }
         ensures table { IfOk result (λ hand. IsOf self.now hand × IsOf self.now main.new) }
         ensures main { OnOk result ((word : ℕ) × (found : ℕ)
-            × (main.new.view ≡ giving (retained main.old.view root_row word found) thread)) }
+            × (main.new.view ≡ giving (starting (retained main.old.view root_row word found) thread) thread)) }
         ensures left { OnOk result (HasGiven thread main.old.view main.new.view) }
         ensures carried { main.new.carried ≡ main.old.carried }
         ensures none { IfOk result CarriesNothing }
@@ -96,6 +98,7 @@ impl<T: Drop> Heap<T> {
             return Err(Taken);
         }
         self.retain(main, ROOT);
+        self.words.thread_start(main, thread);
         Ok(self.words.split(main, thread))
     }
 }

@@ -34,6 +34,7 @@ use Rattle.brc_table.specs.Begins.{Becomes}
 use Rattle.brc_table.proofs.Lists.{set_view}
 use Rattle.brc_table.proofs.Accounts.{with_account_same, with_account_other, with_account_itself, one_more_else, immortal_apart, count_with_reference, count_without_reference}
 use Rattle.brc_table.proofs.Changing.{changed}
+use Rattle.brc_table.proofs.ThreadsKept.{threads_same}
 use Rattle.brc_table.proofs.Picked.{PassesNone, PassesOne, passes_one, count_more}
 
 -- ---- two changes in a row
@@ -94,6 +95,7 @@ module _ (layout : Layout) (words : List ℕ) (views : List View) (id : ℕ) (v 
         cells_stay = λ other y i w apart is locked. refl;
         kinds_here = λ y word more seen. old.kinds_seen id y word v here more seen;
         cells_here = λ y i word locked seen. old.cells_seen id y i word v here locked seen;
+        threads = λ i there. threads_same layout words views i v u old there refl refl refl;
       })
 
   -- The same of a hand that keeps its references.
@@ -228,6 +230,7 @@ gains_one law layout words views id v x rests immortal =
               subst HoldsNone (sym (with_account_other p t more u (λ e. none id (rested v) rests.here (sym e)))) rest.1,
             );
         given = old.given;
+        threads = old.threads;
       };
       more =
           subst (λ (a : Account). 1 ≤ a AsCaller x) (sym (with_account_same p t more))

@@ -18,6 +18,7 @@ use Rattle.brc_table.specs.Places.{place, HasWord, word_count}
 use Rattle.brc_table.specs.Views.{actor_of, holds}
 use Rattle.brc_table.specs.Seen.{has_seen_kind, cell_seen}
 use Rattle.brc_table.specs.Rule.{reading, Stands}
+use Rattle.brc_table.specs.Threads.{ThreadsStand}
 use Rattle.brc_table.specs.Views.{is_given}
 use Rattle.brc_table.specs.Begins.{Becomes}
 use Rattle.brc_table.proofs.Lists.{slice_get-set_same, slice_get-set_other, set_view}
@@ -49,6 +50,8 @@ pub record Changes (layout : Layout) (words : List ℕ) (views : List View) (v u
   pub kinds_here : (x word : ℕ) → 0 < word → has_seen_kind x word u ≡ true → machine.memory (KindOf x) ≡ word
   pub cells_here : (x i word : ℕ) → u.locked ≡ Some x → cell_seen x i u ≡ Some word
       → machine.memory (Cell x i) ≡ word
+  -- the words of threads say what they should
+  pub threads : (id : ℕ) → get_elem? views id ≡ some v → ThreadsStand old.machine.layout after (set views id u)
 
 module _ (layout : Layout) (words : List ℕ) (views : List View) (id : ℕ) (v u : View) (old : Stands layout words views)
     (here : get_elem? views id ≡ some v) (after : List ℕ) (new : Changes layout words views v u old after) where
@@ -175,6 +178,7 @@ module _ (layout : Layout) (words : List ℕ) (views : List View) (id : ℕ) (v 
     apart = apart_after;
     idle = idle_after;
     given = given_after;
+    threads = subst (λ (l : Layout). ThreadsStand l after (set views id u)) (sym new.layout_same) (new.threads id here);
   }
 
   -- Its accounts are the new ones.

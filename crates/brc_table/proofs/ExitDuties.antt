@@ -91,6 +91,7 @@ leave_stores v may = record {
     address = refl;
     leaves = λ found. refl;
   };
+  some = omega arith;
   knows = λ found over. over;
 }
 
@@ -107,6 +108,7 @@ gone_stores v (Finish ∷ []) is alive same = record {
     address = refl;
     leaves = λ found. refl;
   };
+  some = omega arith;
   knows = λ found over. over ∙ sym (ap (overwritten_by v.thread) is);
 }
 gone_stores v _ is alive same = absurd same

@@ -69,6 +69,13 @@ module _ (layout : Layout) (few : layout.workers ≤ worker_limit) where
   rest_low : (x : ℕ) → x % line < line
   rest_low x = mod-lt x (omega arith)
 
+  -- The first word of main says that it runs, and those of the workers are 0.
+  pub thread_first : (t : ℕ) → HasWord layout (ThreadWord t) → first_word t ≡ (if t == 0 then 1 else 0)
+  thread_first t has =
+      let in_front : nat_lt t front ≡ true = lt-ltb t front (omega (arith, few, has)) in
+      first_apart (ThreadWord t) has refl refl refl refl
+      ∙ ap (λ (b : Bool). if b then (if t == 0 then 1 else 0) else blank_line ((t - front) % tile / line)) in_front
+
   -- ---- addresses
 
   -- The table's first words say what the first machine's are.
@@ -106,11 +113,8 @@ module _ (layout : Layout) (few : layout.workers ≤ worker_limit) where
   first_reads (ThreadWord zero) has =
       ap (λ (b : Bool). if b then 1 else 0) (le-leb 0 layout.workers (omega arith))
   first_reads (ThreadWord (suc t)) has =
-      let in_front : nat_lt (suc t) front ≡ true = lt-ltb (suc t) front (omega (arith, few, has)) in
       let word : first_word (suc t) ≡ 0 =
-      first_apart (ThreadWord (suc t)) has refl refl refl refl
-      ∙ ap (λ (b : Bool). if b then (if suc t == 0 then 1 else 0) else blank_line ((suc t - front) % tile / line))
-      in_front
+      thread_first (suc t) has
       ∙ ap (λ (b : Bool). if b then 1 else 0) (ne_eqb (suc t) 0 (λ e. omega (arith, e))) in
       ap (λ (b : Bool). if b then 1 else 0) (le-leb (suc t) layout.workers (omega (arith, has)))
       ∙ sym (ap (reading (ThreadWord (suc t))) word)

@@ -30,6 +30,7 @@ use Rattle.brc_table.specs.Calls.{IsFree}
 use Rattle.brc_table.proofs.Lists.{and_first, and_second, slice_get-set_same}
 use Rattle.brc_table.proofs.Accounts.{with_account_same, with_account_other, immortal_apart}
 use Rattle.brc_table.proofs.Stepping.{same_is}
+use Rattle.brc_table.proofs.ThreadsKept.{threads_same}
 use Rattle.brc_table.proofs.Changing.{Changes, changed, changed_accounts}
 use Rattle.brc_table.proofs.Duties.{runs_on}
 
@@ -167,6 +168,7 @@ module _ (kept : DutiesAreKept) (law : ReleasesBegin) (layout : Layout) (words :
           unwritten m.memory (Local none_row) (KindOf x) ∙ s.kinds_seen id x word v here more seen;
       cells_here = λ x i word locked seen.
           unwritten m.memory (Local none_row) (Cell x i) ∙ s.cells_seen id x i word v here locked seen;
+      threads = λ i there. threads_same layout words views i v v s there refl refl refl;
     }
 
     -- The thread has one reference to none less.

@@ -1,6 +1,7 @@
 mod Lists
 mod Places
 mod Changing
+mod ThreadsKept
 mod SeenWords
 mod Stepping
 mod Allowed
@@ -12,6 +13,7 @@ mod MarkDuties
 mod KindLoads
 mod Locking
 mod Swapping
+mod Starting
 mod FreeDropped
 mod ExitDuties
 mod DyingDuties

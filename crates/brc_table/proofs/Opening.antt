@@ -1,6 +1,6 @@
 -- A table stands on its first words, with main's hand alone.
-use Rattle.std.proofs.Common.{◌≡◌, ℕ, zero, suc, ◌+◌, ◌<◌, Bool, true, false, cond, ◌&&◌, List, [], ◌∷◌, Some, refl, sym, ap, ◌∙◌, subst, arith, None}
-use Rattle.std.specs.Prelude.{◌==◌, slice_get}
+use Rattle.std.proofs.Common.{◌≡◌, ℕ, zero, suc, ◌+◌, ◌<◌, ◌≤◌, Bool, true, false, cond, ◌&&◌, List, [], ◌∷◌, Some, refl, sym, ap, ◌∙◌, subst, arith, None}
+use Rattle.std.specs.Prelude.{◌==◌, if◌then◌else◌, slice_get}
 use Rattle.std.proofs.lemmas.Bool.{ne_eqb, false≢true}
 use Rattle.std.proofs.lemmas.List.Sums.{sum_by-cons}
 use mathlib.Core.Option.{some, some-injective, some-ne-none}
@@ -16,11 +16,13 @@ use Rattle.brc_model.specs.Counting.{IsPlainLayout, hands_machine, hands_account
 use Rattle.brc_model.specs.CountingLaws.{HandsBegin}
 use Rattle.brc_table.specs.declared.view.View.{View}
 use Rattle.brc_table.specs.Views.{actor_of, holds, main_view}
-use Rattle.brc_table.specs.Seen.{has_seen_kind, cell_seen}
+use Rattle.brc_table.specs.Seen.{has_seen_kind, cell_seen, has_started, started_word, has_seen_gone}
 use Rattle.brc_table.specs.Rule.{Stands}
+use Rattle.brc_table.specs.Threads.{thread_word}
 use Rattle.brc_table.specs.Opening.{AreFirst}
 use Rattle.brc_table.proofs.Lists.{slice_get-replicate}
-use Rattle.brc_table.proofs.FirstWords.{words_read}
+use Rattle.brc_table.proofs.ThreadWords.{thread_within}
+use Rattle.brc_table.proofs.FirstWords.{thread_first, words_read}
 
 -- The only element of a list of one.
 only_one : {A : Type 0} (x y : A) (i : ℕ) → get_elem? (x ∷ []) i ≡ some y → (i ≡ 0) × (x ≡ y)
@@ -57,6 +59,18 @@ module _ (begin : HandsBegin) (layout : Layout) (plain : IsPlainLayout layout) (
   idle_workers (suc t) low none =
       (slice_get-replicate layout.workers t (idle_actor 0) (omega (arith, low)), worker_holds t)
 
+  -- Main runs, and no worker is started.
+  main_runs : thread_word words 0 ≡ 1
+  main_runs =
+      first.each 0 (thread_within layout 0 plain (omega arith)) ∙ thread_first layout plain.few_workers 0 (omega arith)
+
+  worker_waits : (t : ℕ) → 0 < t → t ≤ layout.workers → thread_word words t ≡ 0
+  worker_waits zero pos low = absurd (omega (arith, pos))
+  worker_waits (suc t) pos low =
+      first.each (suc t) (thread_within layout (suc t) plain low)
+      ∙ (thread_first layout plain.few_workers (suc t) (omega (arith, low))
+      ∙ ap (λ (b : Bool). if b then 1 else 0) (ne_eqb (suc t) 0 (λ e. omega (arith, e))))
+
   pub opening : Stands layout words hands
   opening = record {
     accounts = hands_accounts;
@@ -83,4 +97,13 @@ module _ (begin : HandsBegin) (layout : Layout) (plain : IsPlainLayout layout) (
     given = λ id other main v is first_thread that later.
         let none = ap (λ (w : View). w.thread) (only_one (main_view layout) v other that).1 in
         absurd (omega (arith, later, none));
+    threads = record {
+      started = λ id v is. of_main (λ w. 0 < thread_word words w.thread) id v is (omega (arith, main_runs));
+      started_seen = λ id t v is low seen.
+          absurd (false≢true (sym (of_main (λ w. has_started t w ≡ false) id v is refl) ∙ seen));
+      gone_seen = λ id t v is low seen.
+          absurd (false≢true (sym (of_main (λ w. has_seen_gone t w ≡ false) id v is refl) ∙ seen));
+      unstarted = λ id t v is first_thread pos low none.
+          worker_waits t pos low ∙ sym (of_main (λ w. started_word t w ≡ 0) id v is refl);
+    };
   }

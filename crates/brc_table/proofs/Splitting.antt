@@ -1,7 +1,7 @@
 -- Main gives out a worker's hand, with one of its references to the root, and the rule holds again.
 use Rattle.std.proofs.Common.{◌≡◌, ◌≢◌, ◌⊎◌, ℕ, zero, suc, ◌+◌, ◌<◌, ◌≤◌, Bool, true, false, cond, List, [], ◌∷◌, ◌++◌, length, set, inl, inr, Some, refl, sym, ap, ◌∙◌, subst, arith, None}
 use Rattle.std.specs.Prelude.{◌==◌, ◌||◌, ◌&&◌, nat_lt, count_by, slice_get}
-use Rattle.std.proofs.lemmas.Bool.{eq-eqb, lt-leb, false≢true}
+use Rattle.std.proofs.lemmas.Bool.{cases_Bool, eq-eqb, lt-leb, false≢true}
 use Rattle.std.proofs.lemmas.Bool.Decides.{eqb_tells}
 use Rattle.std.proofs.lemmas.List.{length-set}
 use Rattle.std.proofs.lemmas.List.Sums.{sum_by-append, sum_by-cons, length-filter}
@@ -24,7 +24,8 @@ use Rattle.brc_model.specs.CountingLaws.{ReferencesAreHandedOver}
 use Rattle.brc_table.specs.declared.view.View.{View}
 use Rattle.brc_table.specs.Views.{actor_of, holds, is_given, giving, worker_view}
 use Rattle.brc_table.specs.Rule.{Stands}
-use Rattle.brc_table.specs.Seen.{has_seen_kind, cell_seen}
+use Rattle.brc_table.specs.Seen.{has_seen_kind, cell_seen, has_started, started_word, has_seen_gone}
+use Rattle.brc_table.specs.Threads.{thread_word, ThreadsStand}
 use Rattle.brc_table.specs.Hands.{HasNoWork}
 use Rattle.brc_table.specs.Giving.{MayGive}
 use Rattle.brc_table.proofs.Lists.{set_view}
@@ -286,6 +287,50 @@ module _ (law : ReferencesAreHandedOver) (layout : Layout) (words : List ℕ) (v
   given_after one other main z (New same is) first whose_z later =
       absurd (omega (arith, first, worker_thread main is, may.some_worker))
 
+  -- No thread's word changes.
+  not_given_before : (k : ℕ) → is_given k main_after ≡ false → is_given k v ≡ false
+  not_given_before k none = elim (cases_Bool (is_given k v)) [
+    | inl given ↦ absurd (false≢true (sym none ∙ still_given k given))
+    | inr not ↦ not
+  ]
+
+  threads_after : ThreadsStand machine.layout words hands
+  threads_after =
+      let threads = old.threads in
+      record {
+        started = λ other z is. elim (whose other z is) [
+          | Mains same this ↦
+              subst (λ (w : View). 0 < thread_word words w.thread) this (threads.started id v here)
+          | Another apart there ↦ threads.started other z there
+          | New same this ↦
+              subst (λ (w : View). 0 < thread_word words w.thread) this
+              (threads.started_seen id t v here
+              (subst (λ (l : Layout). t ≤ l.workers) (old.told id v here) may.known_worker) may.started)
+        ];
+        started_seen = λ other k z is low seen. elim (whose other z is) [
+          | Mains same this ↦
+              threads.started_seen id k v here low (subst (λ (w : View). has_started k w ≡ true) (sym this) seen)
+          | Another apart there ↦ threads.started_seen other k z there low seen
+          | New same this ↦
+              absurd (false≢true (subst (λ (w : View). has_started k w ≡ true) (sym this) seen))
+        ];
+        gone_seen = λ other k z is low seen. elim (whose other z is) [
+          | Mains same this ↦
+              threads.gone_seen id k v here low (subst (λ (w : View). has_seen_gone k w ≡ true) (sym this) seen)
+          | Another apart there ↦ threads.gone_seen other k z there low seen
+          | New same this ↦
+              absurd (false≢true (subst (λ (w : View). has_seen_gone k w ≡ true) (sym this) seen))
+        ];
+        unstarted = λ other k z is first pos low none. elim (whose other z is) [
+          | Mains same this ↦
+              threads.unstarted id k v here may.is_main pos low
+              (not_given_before k (subst (λ (w : View). is_given k w ≡ false) (sym this) none))
+              ∙ ap (started_word k) this
+          | Another apart there ↦ threads.unstarted other k z there first pos low none
+          | New same this ↦ absurd (omega (arith, first, worker_thread z this, may.some_worker))
+        ];
+      }
+
   pub given_out : Stands layout words hands
   given_out = record {
     accounts = after;
@@ -306,6 +351,7 @@ module _ (law : ReferencesAreHandedOver) (layout : Layout) (words : List ℕ) (v
     idle = idle_after;
     given = λ one other main z is first that later.
         given_after one other main z (whose one main is) first (whose other z that) later;
+    threads = threads_after;
   }
 
 -- What a table asks of main's seat that is cut in two.

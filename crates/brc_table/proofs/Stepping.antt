@@ -24,6 +24,7 @@ use Rattle.brc_table.specs.Rule.{reading, Stands}
 use Rattle.brc_table.proofs.Lists.{and_first, and_second}
 use Rattle.brc_table.proofs.Places.{place_apart, place_within}
 use Rattle.brc_table.proofs.Changing.{Changes, changed}
+use Rattle.brc_table.proofs.ThreadsKept.{KeepsThreads, threads_kept}
 use Rattle.brc_table.proofs.SeenWords.{kind_stays, IsStep, kind_here, cell_here}
 
 -- ---- words and addresses
@@ -138,7 +139,7 @@ module _ (kept : DutiesAreKept) (within : DutiesAreWithin) (stay : LockedCellsSt
   pub relies : DutyWithin (1 + m.layout.workers) m v.thread (actor_of v) d
   relies = within does.stands.accounts (1 + m.layout.workers) m v.thread (actor_of v) d rest does.stands.counts comes
 
-  has : HasWord m.layout (address_of v.layout v.thread v.head d)
+  pub has : HasWord m.layout (address_of v.layout v.thread v.head d)
   has =
       table_has m.layout (1 + m.layout.workers) (address_of v.layout v.thread v.head d) does.word refl
       (subst (λ (l : Layout). IsThere (row_count m.layout) (1 + m.layout.workers) (address_of l v.thread v.head d))
@@ -148,7 +149,8 @@ module _ (kept : DutiesAreKept) (within : DutiesAreWithin) (stay : LockedCellsSt
   pub finds : m.memory (address_of v.layout v.thread v.head d) ≡ found
   finds = does.stands.reads (address_of v.layout v.thread v.head d) has
 
-  module _ (left : ℕ) (leaves : read_of v d left ≡ new_word v.thread v.head d found) where
+  module _ (left : ℕ) (leaves : read_of v d left ≡ new_word v.thread v.head d found)
+      (keeps : KeepsThreads m.layout words (set words (place_of v d) left) v (did v (d ∷ rest) found)) where
     changes : Changes layout words views v (did v (d ∷ rest) found) does.stands (set words (place_of v d) left)
     changes =
         let old = does.stands in
@@ -194,6 +196,9 @@ module _ (kept : DutiesAreKept) (within : DutiesAreWithin) (stay : LockedCellsSt
               cell_here m.layout m.memory t v.head d (event_of v d found) is_step v.trace x i word v.locked
               (λ before known. old.cells_seen id x i word v does.here before known)
               (ap (locked_by v.locked d) seen ∙ locked) shown;
+          threads = λ i there.
+              threads_kept layout words (set words (place_of v d) left) views i v (did v (d ∷ rest) found) old there
+              keeps;
         }
 
     -- The rule holds after the step.

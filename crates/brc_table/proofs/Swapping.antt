@@ -4,6 +4,7 @@ use Rattle.std.proofs.Common.{◌≡◌, ◌≢◌, ℕ, zero, suc, ◌+◌, ◌
 use Rattle.std.specs.Prelude.{◌==◌, ◌&&◌, slice_index, count_by}
 use Rattle.std.proofs.lemmas.Bool.{ne_eqb}
 use Rattle.std.proofs.lemmas.Bool.Decides.{eqb_tells}
+use Rattle.std.proofs.lemmas.Option.{slice_get_within}
 use Rattle.std.proofs.lemmas.List.{length-set, set-set}
 use Rattle.std.proofs.lemmas.List.Sums.{count_by-le-length}
 use mathlib.Core.Option.{some}
@@ -38,6 +39,7 @@ use Rattle.brc_table.proofs.Changing.{Changes, changed}
 use Rattle.brc_table.proofs.Lists.{set_view, set_itself}
 use Rattle.brc_table.proofs.Locking.{kind_some, known_low}
 use Rattle.brc_table.proofs.Stepping.{written_reads}
+use Rattle.brc_table.proofs.ThreadsKept.{object_step, threads_kept}
 use Rattle.brc_table.proofs.SeenWords.{IsStep, kind_here, cell_here}
 
 -- ---- a duty that stores the word
@@ -262,6 +264,16 @@ module _ (put : WorkIsPutAside) (free : ImmortalsAreFree) (there : AccountsAreTh
           (is_storing m.layout m.memory v.thread v.head x i word found) v.trace y j w v.locked
           (λ before known. s.cells_seen id y j w (rested v) here before known)
           (leaves_lock v.locked x i word _ ∙ locked) shown;
+      threads = λ k there_k.
+          threads_kept layout words (set words (cell_place x i) word) views k (rested v) after s there_k
+          (object_step m.layout words (rested v) after (record { address = Cell x i; found = found; left = word }) word
+          s.plain.few_workers
+          (omega (
+            arith,
+            slice_get_within m.actors v.thread (actor_of (rested v)) (s.acts id (rested v) here),
+            s.counts.kept.core.threads,
+          ))
+          (record { thread = refl; given = refl; trace = refl }) tt cell_has);
     }
 
     -- The rule holds after the swap.

@@ -1,5 +1,5 @@
 -- Changes of a hand's view at which no word changes: taking work up, and turning to other work.
-use Rattle.std.specs.Prelude.{◌≡◌, ◌≢◌, ℕ, List, ◌∷◌}
+use Rattle.std.specs.Prelude.{◌≡◌, ◌≢◌, ℕ, ◌<◌, List, ◌∷◌}
 use Rattle.std.specs.Prelude.{slice_set}
 use mathlib.Core.Option.{some}
 use lib.ListN.{get_elem?}
@@ -72,6 +72,7 @@ pub record MakesAtThreadQuietly (v : View) (thread : ℕ) (f : ℕ → ℕ) : Ty
 -- The hand's first duty stores this thread's word, and knows what that word said.
 pub record StoresThreadWord (v : View) (thread word : ℕ) : Type 0 where
   pub makes : MakesAtThread v thread (λ found. word)
+  pub some : 0 < word
   pub knows : (found : ℕ) → Overwrites v.thread makes.duty found → found ≡ overwritten v
 
 -- The hand's first duty is to settle its chain.

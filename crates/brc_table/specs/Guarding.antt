@@ -19,6 +19,7 @@ use Rattle.brc_table.specs.declared.view.View.{View}
 use Rattle.brc_table.specs.Places.{place, HasWord}
 use Rattle.brc_table.specs.Views.{holds, open_work}
 use Rattle.brc_table.specs.Rule.{thread_reading, Stands}
+use Rattle.brc_table.specs.Threads.{thread_word}
 use Rattle.brc_table.specs.Agreeing.{mark_at}
 
 -- what the word of a thread says of it
@@ -80,3 +81,8 @@ pub record HoldsNothing (layout : Layout) (v : View) : Type 0 where
 abbrev pub GoneHandsHoldNothing : Type 0
 GoneHandsHoldNothing = (layout : Layout) (words : List ℕ) (views : List View) (id : ℕ) (v : View)
     → Stands layout words views → get_elem? views id ≡ some v → v.status ≡ Gone → HoldsNothing layout v
+
+-- A thread that has a hand is started.
+abbrev pub HandsAreStarted : Type 0
+HandsAreStarted = (layout : Layout) (words : List ℕ) (views : List View) (id : ℕ) (v : View)
+    → Stands layout words views → get_elem? views id ≡ some v → 0 < thread_word words v.thread

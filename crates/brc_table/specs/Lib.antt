@@ -1,6 +1,7 @@
 pub mod Places
 pub mod Views
 pub mod Seen
+pub mod Threads
 pub mod Rule
 pub mod Plays
 pub mod Hands

@@ -14,6 +14,7 @@ use Rattle.brc_table.specs.declared.view.View.{View}
 use Rattle.brc_table.specs.Places.{place, HasWord, word_count}
 use Rattle.brc_table.specs.Views.{actor_of, holds, is_given}
 use Rattle.brc_table.specs.Seen.{has_seen_kind, cell_seen}
+use Rattle.brc_table.specs.Threads.{ThreadsStand}
 
 -- what a thread word says of the thread: one that isn't started yet counts as running
 abbrev pub thread_reading : ℕ → ℕ
@@ -58,3 +59,5 @@ pub record Stands (layout : Layout) (words : List ℕ) (views : List View) : Typ
   -- the other hands are those that main has given out
   pub given : (id other : ℕ) (main v : View) → get_elem? views id ≡ some main → main.thread ≡ 0
       → get_elem? views other ≡ some v → 0 < v.thread → is_given v.thread main ≡ true
+  -- what the words of threads say
+  pub threads : ThreadsStand machine.layout words views

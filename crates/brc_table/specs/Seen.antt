@@ -1,8 +1,8 @@
--- What a hand has seen of kind words and of the cells of its locked list. Its trace has each step that it made with the
+-- What a hand has seen of kind words, of the cells of its locked list and of threads. Its trace has each step that it made with the
 -- value that the step left.
 use Rattle.std.specs.Prelude.{◌≡◌, ℕ, ◌<◌, Bool, true, ◌==◌, ◌&&◌, if◌then◌else◌, Option, None, Some, fold}
 use Rattle.std.specs.List.{list_any}
-use Rattle.brc_model.specs.declared.address.Address.TheVariants.{Gate, KindOf, Cell}
+use Rattle.brc_model.specs.declared.address.Address.TheVariants.{Gate, KindOf, Cell, ThreadWord}
 use Rattle.brc_model.specs.Duties.{cells_of}
 use Rattle.brc_model.specs.Machine.{same_address}
 use Rattle.brc_table.specs.declared.view.View.{View}
@@ -37,3 +37,25 @@ cell_known x i known e =
 -- the word that the hand last saw or stored in the cell since it locked the list
 abbrev pub cell_seen : ℕ → ℕ → View → Option ℕ
 cell_seen x i v = fold (cell_known x i) None v.trace
+
+-- ---- threads
+
+-- Says whether the step started the thread: its word said that it isn't started, and then that it runs.
+abbrev pub starts : ℕ → Event → Bool
+starts t e = same_address e.address (ThreadWord t) && ((e.found == 0) && (e.left == 1))
+
+-- Says whether the hand has started the thread.
+abbrev pub has_started : ℕ → View → Bool
+has_started t v = list_any (starts t) v.trace
+
+-- the word of a thread whose hand isn't given out: 1 if main has started the thread
+abbrev pub started_word : ℕ → View → ℕ
+started_word t v = if has_started t v then 1 else 0
+
+-- Says whether the step left the word of a thread that is gone.
+abbrev pub shows_gone : ℕ → Event → Bool
+shows_gone t e = same_address e.address (ThreadWord t) && (e.left == 3)
+
+-- Says whether the hand has seen that the thread is gone.
+abbrev pub has_seen_gone : ℕ → View → Bool
+has_seen_gone t v = list_any (shows_gone t) v.trace

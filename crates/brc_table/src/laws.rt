@@ -6,7 +6,7 @@ ghost use Rattle.brc_model.specs.Layout.{row_count, IsCounted};
 ghost use Rattle.brc_table.specs.declared.view.View.{View};
 ghost use Rattle.brc_table.specs.Rule.{Stands};
 ghost use Rattle.brc_table.specs.Agreeing.{AgreesInTable};
-ghost use Rattle.brc_table.specs.Guarding.{SetMarksAreWatched, OnlyHoldersChangeCells, OnlyRunningOwnersCount, GoneHandsHoldNothing};
+ghost use Rattle.brc_table.specs.Guarding.{SetMarksAreWatched, OnlyHoldersChangeCells, OnlyRunningOwnersCount, GoneHandsHoldNothing, HandsAreStarted};
 
 use brc_model::{
     cells_are_guarded, cells_hold, counts_agree, gone_threads_hold_nothing, owners_count_alone,
@@ -52,3 +52,8 @@ pub fn gone_hands_hold_nothing()
 {
     gone_threads_hold_nothing();
 }
+
+/// States that a thread whose word says that it isn't started has no hand, so that it holds nothing either.
+pub fn hands_are_started()
+    ensures { HandsAreStarted }
+{}

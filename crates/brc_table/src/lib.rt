@@ -25,8 +25,8 @@ mod words;
 
 pub use hand::Hand;
 pub use laws::{
-    counts_agree_in_every_table, gone_hands_hold_nothing, only_holders_change_cells,
-    only_running_owners_count, set_marks_are_watched,
+    counts_agree_in_every_table, gone_hands_hold_nothing, hands_are_started,
+    only_holders_change_cells, only_running_owners_count, set_marks_are_watched,
 };
 pub use rule::Counting;
 pub use view::{Event, View};

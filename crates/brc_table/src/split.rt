@@ -1,17 +1,21 @@
-//! Main gives out the hands of the workers.
+//! Main starts the workers, and gives out their hands.
 
-ghost use Rattle.std.specs.Prelude.{◌≡◌, ℕ};
+ghost use Rattle.std.specs.Prelude.{◌≡◌, ℕ, true};
+ghost use Rattle.brc_table.specs.Seen.{has_started};
 ghost use Rattle.brc_table.specs.Views.{giving, worker_view};
 ghost use Rattle.brc_table.specs.Hands.{IsOf, CarriesNothing};
-ghost use Rattle.brc_table.specs.Giving.{MayGive};
+ghost use Rattle.brc_table.specs.Giving.{MayGive, MayStart, starting};
 
 use crate::carried::take_spare;
 use crate::hand::Hand;
 use crate::view::View;
 use crate::words::Words;
-use atomic_table::Split;
-use brc_model::references_are_handed_over;
+use atomic_table::{Play, Split};
+use brc_model::{accounts_are_there, chains_are_there, references_are_handed_over};
 use std::marker::{Brand, PhantomData};
+
+/// The word of a running thread.
+const RUNNING: u64 = 1;
 
 /// The worker whose hand main gives out.
 pub(crate) trait Worker {
@@ -33,7 +37,48 @@ impl<W: Worker> Split<View> for GivesOut<W> {
     ghost right = { λ v. worker_view v.layout W.number };
 }
 
+/// A store by which main starts the worker.
+pub(crate) struct Started<W> {
+    marker: PhantomData<W>,
+}
+
+impl<S, W: Worker> Play<S, View> for Started<W> {
+    ghost use Rattle.brc_table.specs.Giving.{Starts};
+
+    ghost then = { λ s me stored after. Starts W.number me after };
+}
+
 impl<T: Drop> Words<T> {
+    /// Starts a worker whose hand main hasn't given out: stores that its thread runs.
+    pub fn thread_start(&self, main: &mut Hand<T>, thread: u8)
+        requires table { IsOf self.now main.old }
+        requires may_start { MayStart main.old.view thread }
+        ensures table { main.new.table ≡ main.old.table }
+        ensures carried { main.new.carried ≡ main.old.carried }
+        ensures view { main.new.view ≡ starting main.old.view thread }
+        ensures started { has_started thread main.new.view ≡ true }
+    {
+        self.start::<Brand>(main, thread);
+    }
+
+    /// Does the same for the worker that the type names.
+    fn start<W: Worker>(&self, main: &mut Hand<T>, thread: u8)
+        requires number { thread ≡ W.number }
+        requires table { IsOf self.now main.old }
+        requires may_start { MayStart main.old.view thread }
+        ensures table { main.new.table ≡ main.old.table }
+        ensures carried { main.new.carried ≡ main.old.carried }
+        ensures view { main.new.view ≡ starting main.old.view thread }
+    {
+        accounts_are_there();
+        chains_are_there();
+        self.layout_is_plain();
+        let place = thread as usize;
+        self.table
+            .shared
+            .store::<Started<W>>(&mut main.seat, place, RUNNING);
+    }
+
     /// Returns the hand of a worker, which holds one of main's references to the root.
     pub fn split(&self, main: &mut Hand<T>, thread: u8) -> Hand<T>
         requires table { IsOf self.now main.old }

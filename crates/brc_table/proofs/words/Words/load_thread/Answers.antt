@@ -1,4 +1,4 @@
-use Rattle.std.proofs.Common.{◌≡◌, ℕ, ◌<◌, ap, sym, ◌∙◌, subst}
+use Rattle.std.proofs.Common.{◌≡◌, ℕ, ◌<◌, refl, ap, sym, ◌∙◌, subst}
 use Rattle.brc_model.specs.declared.layout.Layout.{Layout}
 use Rattle.brc_model.specs.Layout.{block_of}
 use Rattle.brc_table.specs.Hands.{TableState, HandState}
@@ -29,7 +29,7 @@ load-word-requires g c =
           c.locked_cells_stay.ensures c.handed_merges_live.ensures c.args.self.now
           c.args.hand.now begins shared.key shared.table_id.slots hand.seat.id c.block_of-thread.result hand.seat.me
           (record { layout_is = layout_is; view_is = ap (λ (h : HandState). h.view) c.hand.view_is }) c.requires.begins
-          (λ found. found)
+          (λ found. found) (λ k. refl)
           (subst (λ (i : ℕ). MakesAtThread (begins c.args.hand.now.view) i (λ found. found)) (sym at)
           c.requires.makes.makes),
     )

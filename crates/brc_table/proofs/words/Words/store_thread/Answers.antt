@@ -28,6 +28,6 @@ store-requires g c =
           c.args.hand.now begins shared.key shared.table_id.slots hand.seat.id
           hand.thread hand.seat.me
           (record { layout_is = layout_is; view_is = ap (λ (h : HandState). h.view) c.hand.view_is }) c.requires.begins
-          c.args.word
+          c.args.word (at ∙ sym c.requires.thread.thread)
           (subst (λ (i : ℕ). StoresThreadWord (begins v) i c.args.word) (sym at) c.requires.stores),
     )
