@@ -8,6 +8,7 @@
 -- `Rules` proves that the named rules are the steps. `Worked` computes three schedules.
 
 pub mod Agreeing
+pub mod AtTheEnd
 pub mod Safe
 pub mod Counting
 pub mod StatesRise
@@ -39,3 +40,4 @@ pub mod Faults
 pub mod HostCalls
 pub mod Rules
 pub mod Worked
+pub mod Ending

@@ -152,6 +152,8 @@ pub record CoreInvariant (p : Accounts) (n : ℕ) (m : Machine) : Type 0 where
   pub once : AllPairs (λ x y. x ≢ y) m.abstract.closed
   -- the kind word of a row that was born names its kind
   pub kinds : (x : ℕ) → m.life x ≢ Unborn → kind_part (m.memory (KindOf x)) ≡ kind_number (m.abstract.kinds x)
+  -- it isn't 0
+  pub kind_words : (x : ℕ) → m.life x ≢ Unborn → 0 < m.memory (KindOf x)
   -- and their local word stays the immortal one
   pub immortal_words : (x : ℕ) → is_immortal_row m.layout x ≡ true → m.memory (Local x) ≡ local_word 0 immortal_local
   -- the resource of each file or socket is in one place

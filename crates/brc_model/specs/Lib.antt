@@ -39,6 +39,7 @@ pub mod CellLaws
 pub mod Progress
 pub mod Watched
 pub mod GuardLaws
+pub mod Ending
 pub mod ResourceLaws
 pub mod Trace
 pub mod Bounded

@@ -1,6 +1,7 @@
 //! Laws of the counting machine as running threads use it: how it begins, how a thread hands a reference over to
-//! another, and which references there are.
+//! another, which references there are, and what is left at the end.
 
+ghost use Rattle.brc_model.specs.Ending.{RowsEnd};
 ghost use Rattle.brc_model.specs.CountingLaws.{HandsBegin, ReferencesAreHandedOver, SharesOfThreads, CellsHold};
 
 /// States that the first machine of hands has the invariant: main holds the root, and no worker holds anything.
@@ -23,4 +24,10 @@ pub fn references_are_the_threads()
 /// States that the references that cells hold are those that their words name.
 pub fn cells_hold()
     ensures { CellsHold }
+{}
+
+/// States that at the end, when each thread is gone or was never started, exactly the counted objects that no cell of an
+/// open list names are closed.
+pub fn rows_end()
+    ensures { RowsEnd }
 {}

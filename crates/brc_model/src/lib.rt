@@ -40,7 +40,7 @@ pub use guard_laws::{
     queued_marks_are_watched, slots_are_guarded,
 };
 pub use hand_laws::{
-    cells_hold, hands_begin, references_are_handed_over, references_are_the_threads,
+    cells_hold, hands_begin, references_are_handed_over, references_are_the_threads, rows_end,
 };
 pub use host_laws::{calls_use_what_is_lent, faults_are_counted};
 pub use laws::accepted_is_safe;

@@ -276,6 +276,7 @@ module _ (p : Accounts) (n : ℕ) (m : Machine) (t : ℕ) (a : Actor) (x i word 
     closed_has = core.closed_has;
     once = core.once;
     kinds = core.kinds;
+    kind_words = core.kind_words;
     immortal_words = core.immortal_words;
     resources = core.resources;
   }

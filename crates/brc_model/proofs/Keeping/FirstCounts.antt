@@ -243,6 +243,11 @@ rooted_kinds workers callers zero born = omega arith
 rooted_kinds workers callers (suc zero) born = omega arith
 rooted_kinds workers callers (suc (suc x)) born = absurd (born refl)
 
+rooted_words : (workers callers x : ℕ) → first_life x ≢ Unborn → 0 < rooted_memory workers callers (KindOf x)
+rooted_words workers callers zero born = omega arith
+rooted_words workers callers (suc zero) born = omega arith
+rooted_words workers callers (suc (suc x)) born = absurd (born refl)
+
 one_root : (x : ℕ) → count_by (λ y. y == x) (root_row ∷ []) ≤ 1
 one_root x = omega (arith, sum_by-cons (λ (y : ℕ). cond (y == x) 1 0) root_row [], one_if_low (root_row == x))
 
@@ -367,6 +372,7 @@ rooted_core p layout callers is hold = record {
   closed_has = λ x closed. absurd (life_not_closed x closed);
   once = λ i j d lt within. absurd (omega arith);
   kinds = rooted_kinds layout.workers callers;
+  kind_words = rooted_words layout.workers callers;
   immortal_words =
       λ x immortal. ap (λ (y : ℕ). rooted_memory layout.workers callers (Local y))
       (only_none layout x is.no_lists immortal);

@@ -220,6 +220,7 @@ gained_core p n m t a x core ready alone immortal = record {
   closed_has = core.closed_has;
   once = core.once;
   kinds = core.kinds;
+  kind_words = core.kind_words;
   immortal_words = core.immortal_words;
   resources = core.resources;
 }

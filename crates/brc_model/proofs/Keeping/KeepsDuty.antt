@@ -19,7 +19,7 @@ use Rattle.brc_model.proofs.Stepping.Neutral.{ThreadFits, found_by}
 use Rattle.brc_model.proofs.Objects.RowsAfter.{rows_after}
 use Rattle.brc_model.proofs.Objects.ClosedAfter.{closed_is_after, closed_has_after, closed_once_after, immortals_live_after, dying_after}
 use Rattle.brc_model.proofs.Objects.UsesAfter.{uses_after, born_is_after, born_has_after, born_once_after}
-use Rattle.brc_model.proofs.Objects.KindsAfter.{kinds_after}
+use Rattle.brc_model.proofs.Objects.KindsAfter.{kinds_after, kind_words_after}
 use Rattle.brc_model.proofs.Stepping.Nones.{immortal_word_left}
 use Rattle.brc_model.proofs.Objects.GatesAfter.{gates_after}
 use Rattle.brc_model.proofs.Objects.BlanksAfter.{blanks_after}
@@ -78,6 +78,7 @@ keeps_by p n m t a d rest here alive own marks =
       closed_has = λ x is. closed_has_after p n m t a d rest x here is;
       once = closed_once_after p n m t a d rest here;
       kinds = λ x born. kinds_after p n m t a d rest here x born;
+      kind_words = λ x born. kind_words_after p n m t a d rest here x born;
       immortal_words =
           λ x immortal. immortal_word_left p n m t a d rest x here immortal ∙ here.core.immortal_words x immortal;
       resources = λ x. resources_after p n m t a d rest x here;

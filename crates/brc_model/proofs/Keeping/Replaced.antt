@@ -194,6 +194,7 @@ replaced_core p n m t a b account core found new = record {
   closed_has = core.closed_has;
   once = core.once;
   kinds = core.kinds;
+  kind_words = core.kind_words;
   immortal_words = core.immortal_words;
   resources = λ x.
       subst (ResourcesFit (m.life x))

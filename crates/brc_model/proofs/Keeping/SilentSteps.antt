@@ -254,6 +254,7 @@ silent_core p n m t a moves account rest taken =
       kinds = λ x born.
           rest.core.kinds x born ∙ ap (λ (k : ℕ → Kind). kind_number (k x))
           (sym (silent_kinds m.abstract t moves silent));
+      kind_words = rest.core.kind_words;
       immortal_words = rest.core.immortal_words;
       resources = λ x.
           subst (ResourcesFit (m.life x))

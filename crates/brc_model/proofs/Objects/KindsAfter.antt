@@ -1,5 +1,5 @@
 -- After each step too, a born object is of the kind that its kind word names.
-use Rattle.std.proofs.Common.{◌≡◌, ◌≢◌, ℕ, Bool, true, false, cond, List, None, Some, inl, inr, refl, sym, ap, ◌∙◌}
+use Rattle.std.proofs.Common.{◌≡◌, ◌≢◌, ℕ, ◌<◌, Bool, true, false, cond, List, None, Some, inl, inr, refl, sym, ap, ◌∙◌, subst, arith}
 use Rattle.std.proofs.lemmas.Bool.{ne_eqb, eq-eqb}
 use Rattle.std.proofs.lemmas.Bool.Decides.{eqb_tells}
 use Rattle.brc_lang.specs.declared.kind.Kind.{Kind}
@@ -94,4 +94,32 @@ kinds_after p n m t a d rest here x born =
           ∙ here.core.kinds x was
           ∙ ap kind_number (sym (kind_stays p n m t a d rest x here was))
       | inr now ↦ kind_is_said p n m t a d rest x here now
+    ]
+
+-- The kind word of a row that this step gives birth to isn't 0.
+counted_word : (word : ℕ) → is_counted_kind (kind_of_word word) ≡ true → 0 < word
+counted_word word said = elim (eqb_tells word 0) [
+  | inl none ↦
+      let zero_said : is_counted_kind (kind_of_word 0) ≡ true =
+      subst (λ (w : ℕ). is_counted_kind (kind_of_word w) ≡ true) none.1 said in
+      absurd (let wrong : false ≡ true = zero_said in cc)
+  | inr some ↦ omega (arith, some.1)
+]
+
+word_is_said : (p : Accounts) (n : ℕ) (m : Machine) (t : ℕ) (a : Actor) (d : Duty) (rest : List Duty) (x : ℕ)
+    → AtDuty p n m t a d rest → born_row d ≡ Some x → 0 < memory_by m t a d (KindOf x)
+word_is_said p n m t a (BirthLocal y h) rest x here is =
+    let same : y ≡ x = some_is y x is in
+    subst (λ (z : ℕ). 0 < m.memory (KindOf z)) same
+    (counted_word (m.memory (KindOf y)) (head_of p n m t a (BirthLocal y h) rest here).2)
+word_is_said p n m t a _ rest x here is = absurd (let wrong : None ≡ Some x = is in cc)
+
+-- After a thread's step the kind word of no born row is 0.
+pub kind_words_after : (p : Accounts) (n : ℕ) (m : Machine) (t : ℕ) (a : Actor) (d : Duty) (rest : List Duty)
+    → AtDuty p n m t a d rest → (x : ℕ) → (done_by m t a d rest).life x ≢ Unborn
+    → 0 < (done_by m t a d rest).memory (KindOf x)
+kind_words_after p n m t a d rest here x born =
+    elim (before_or_now p n m t a d rest x here born) [
+      | inl was ↦ omega (arith, word_stays p n m t a d rest x here was, here.core.kind_words x was)
+      | inr now ↦ word_is_said p n m t a d rest x here now
     ]

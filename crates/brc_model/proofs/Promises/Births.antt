@@ -8,7 +8,7 @@ use Rattle.brc_model.specs.Progress.{Always, BornOnce, BornListed, BornAreThere,
 use Rattle.brc_model.proofs.Keeping.CodeInvariant.{CodeInvariant}
 use Rattle.brc_model.proofs.Basics.Blocks.{born_within}
 use Rattle.brc_model.proofs.Dispatch.Counting.{its_found}
-use Rattle.brc_model.proofs.Promises.Safe.{closed_born}
+use Rattle.brc_model.proofs.Promises.AtTheEnd.{closed_born}
 use Rattle.brc_model.proofs.Promises.RowLaws.{always}
 use Rattle.brc_model.specs.Layout.{block_of}
 
