@@ -3,7 +3,7 @@ use Rattle.std.proofs.Common.{◌≤◌, ◌≡◌, ◌≢◌, ℕ, ◌+◌, ◌
 use Rattle.std.specs.Prelude.{◌==◌, ◌||◌, ◌&&◌, ◌⊎◌, slice_index, nat_le, nat_lt}
 use Rattle.std.specs.List.{list_any}
 use Rattle.std.proofs.lemmas.List.{set-set}
-use Rattle.std.proofs.lemmas.Bool.{cases_Bool, cases_lt, eqb-true, ltb-true}
+use Rattle.std.proofs.lemmas.Bool.{cases_Bool, cases_lt, eqb-true, ne_eqb, ltb-true}
 use Rattle.std.proofs.lemmas.Option.{slice_get_within}
 use mathlib.Core.Option.{some}
 use lib.ListN.{get_elem?}
@@ -39,7 +39,7 @@ use Rattle.brc_table.specs.Begins.{Becomes, IsAt, Makes, MakesAtThread, StoresTh
 use Rattle.brc_table.specs.Places.{place, IsTableWord}
 use Rattle.brc_table.proofs.Lists.{set_view, and_second}
 use Rattle.brc_table.proofs.Places.{place_within}
-use Rattle.brc_table.proofs.ThreadsKept.{KeepsThreads, reading_some, object_step, thread_step}
+use Rattle.brc_table.proofs.ThreadsKept.{KeepsThreads, reading_some, says_three, object_step, thread_step}
 use Rattle.brc_table.proofs.Stepping.{Does, place_of, read_of, finds, has, relies, stands_after, object_in_table, object_reads}
 
 -- ---- rows
@@ -398,8 +398,12 @@ module _ (kept : DutiesAreKept) (within : DutiesAreWithin) (law : AccountsAreThe
       (event_of u d (read_of u d raw)) thread (f raw) there (record { thread = refl; given = refl; trace = refl })
       (record {
         address = makes.address;
-        found = subst (λ (k : ℕ). 0 < k) (sym (says raw)) (reading_some raw);
-        says = ap (new_word u.thread u.head d) (says raw) ∙ sym (makes.leaves raw);
+        quiet =
+            ap (λ (b : Bool). b && (new_word u.thread u.head d (read_of u d raw) == 1))
+            (ne_eqb (read_of u d raw) 0 (λ none. omega (arith, none, says raw, reading_some raw)));
+        gone = λ three.
+            says_three (f raw)
+            (makes.leaves raw ∙ (ap (new_word u.thread u.head d) (sym (says raw)) ∙ three));
         whose = elim whose [
           | inl mine ↦ inl mine
           | inr kept_so ↦ inr (ap f same ∙ kept_so)

@@ -14,6 +14,7 @@ mod KindLoads
 mod Locking
 mod Swapping
 mod Starting
+mod Peeking
 mod FreeDropped
 mod ExitDuties
 mod DyingDuties

@@ -15,7 +15,7 @@ use Rattle.brc_model.specs.Machine.{idle_actor}
 use Rattle.brc_model.specs.Counting.{IsPlainLayout, hands_machine, hands_accounts}
 use Rattle.brc_model.specs.CountingLaws.{HandsBegin}
 use Rattle.brc_table.specs.declared.view.View.{View}
-use Rattle.brc_table.specs.Views.{actor_of, holds, main_view}
+use Rattle.brc_table.specs.Views.{actor_of, holds, is_given, main_view}
 use Rattle.brc_table.specs.Seen.{has_seen_kind, cell_seen, has_started, started_word, has_seen_gone}
 use Rattle.brc_table.specs.Rule.{Stands}
 use Rattle.brc_table.specs.Threads.{thread_word}
@@ -101,6 +101,8 @@ module _ (begin : HandsBegin) (layout : Layout) (plain : IsPlainLayout layout) (
       started = λ id v is. of_main (λ w. 0 < thread_word words w.thread) id v is (omega (arith, main_runs));
       started_seen = λ id t v is low seen.
           absurd (false≢true (sym (of_main (λ w. has_started t w ≡ false) id v is refl) ∙ seen));
+      given_started = λ id t v is given.
+          absurd (false≢true (sym (of_main (λ w. is_given t w ≡ false) id v is refl) ∙ given));
       gone_seen = λ id t v is low seen.
           absurd (false≢true (sym (of_main (λ w. has_seen_gone t w ≡ false) id v is refl) ∙ seen));
       unstarted = λ id t v is first_thread pos low none.

@@ -294,6 +294,13 @@ module _ (law : ReferencesAreHandedOver) (layout : Layout) (words : List ℕ) (v
     | inr not ↦ not
   ]
 
+  main_started : (k : ℕ) → is_given k main_after ≡ true → has_started k v ≡ true
+  main_started k given = elim (eqb_tells t k) [
+    | inl same ↦ ap (λ (j : ℕ). has_started j v) (sym same.1) ∙ may.started
+    | inr apart ↦
+        old.threads.given_started id k v here (sym (ap (λ (b : Bool). b || is_given k v) apart.0) ∙ given)
+  ]
+
   threads_after : ThreadsStand machine.layout words hands
   threads_after =
       let threads = old.threads in
@@ -313,6 +320,13 @@ module _ (law : ReferencesAreHandedOver) (layout : Layout) (words : List ℕ) (v
           | Another apart there ↦ threads.started_seen other k z there low seen
           | New same this ↦
               absurd (false≢true (subst (λ (w : View). has_started k w ≡ true) (sym this) seen))
+        ];
+        given_started = λ other k z is given. elim (whose other z is) [
+          | Mains same this ↦
+              subst (λ (w : View). has_started k w ≡ true) this
+              (main_started k (subst (λ (w : View). is_given k w ≡ true) (sym this) given))
+          | Another apart there ↦ threads.given_started other k z there given
+          | New same this ↦ absurd (false≢true (subst (λ (w : View). is_given k w ≡ true) (sym this) given))
         ];
         gone_seen = λ other k z is low seen. elim (whose other z is) [
           | Mains same this ↦

@@ -26,11 +26,11 @@ use Rattle.brc_table.proofs.Allowed.{rows_there}
 use Rattle.brc_table.proofs.Changing.{Changes, changed}
 use Rattle.brc_table.proofs.Lists.{set_view, set_itself}
 use Rattle.brc_table.proofs.Stepping.{same_is, written_reads}
-use Rattle.brc_table.proofs.ThreadsKept.{KeepsThreads, threads_kept, any_same, any_more}
+use Rattle.brc_table.proofs.ThreadsKept.{KeepsThreads, threads_kept, any_same, any_still, any_more}
 use Rattle.brc_table.proofs.ThreadWords.{thread_within}
 
 -- Storing what a word is leaves all words as they are.
-unwritten : (memory : Address → ℕ) (a b : Address) (word : ℕ) → memory a ≡ word → written memory a word b ≡ memory b
+pub unwritten : (memory : Address → ℕ) (a b : Address) (word : ℕ) → memory a ≡ word → written memory a word b ≡ memory b
 unwritten memory a b word is = elim (cases_Bool (same_address a b)) [
   | inl same ↦ ap (λ (e : Bool). cond e word (memory b)) same ∙ (sym is ∙ ap memory (same_is a b same))
   | inr other ↦ ap (λ (e : Bool). cond e word (memory b)) other
@@ -103,7 +103,8 @@ module _ (accounts : AccountsAreThere) (chains : ChainsAreThere) (layout : Layou
     keeps_threads : KeepsThreads m.layout words (set words (place (ThreadWord t)) 1) v after
     keeps_threads = record {
       thread = refl;
-      given = λ k is. is;
+      given = λ k. refl;
+      still_started = λ k is. any_still (starts k) v.trace event is;
       others = λ k below apart. elim (eqb_tells k t) [
         | inl same ↦ inr (record {
           main = may.is_main;

@@ -2,7 +2,7 @@
 use Rattle.std.proofs.Common.{◌≡◌, ◌≢◌, ◌⊎◌, ℕ, ◌<◌, ◌≤◌, Bool, true, false, List, [], ◌∷◌, ◌++◌, length, set, ⊎_elim, inl, inr, refl, sym, ap, ◌∙◌, subst, arith}
 use Rattle.std.specs.Prelude.{◌==◌, ◌&&◌, ◌||◌, if◌then◌else◌}
 use Rattle.std.specs.List.{list_any}
-use Rattle.std.proofs.lemmas.Bool.{cases_Bool, eqb-true, ne_eqb, false≢true}
+use Rattle.std.proofs.lemmas.Bool.{cases_Bool, eqb-true, false≢true}
 use Rattle.std.proofs.lemmas.Bool.Decides.{eqb_tells}
 use Rattle.std.proofs.lemmas.List.{get_or-set_same, get_or-set_other}
 use Rattle.std.proofs.lemmas.List.Folds.{list_any-append}
@@ -42,7 +42,8 @@ pub record LeavesThread (words after : List ℕ) (v u : View) (t : ℕ) : Type 0
 -- What a step of the hand has to show.
 pub record KeepsThreads (layout : Layout) (words after : List ℕ) (v u : View) : Type 0 where
   pub thread : u.thread ≡ v.thread
-  pub given : (t : ℕ) → is_given t v ≡ true → is_given t u ≡ true
+  pub given : (t : ℕ) → is_given t u ≡ is_given t v
+  pub still_started : (t : ℕ) → has_started t v ≡ true → has_started t u ≡ true
   pub others : (t : ℕ) → t ≤ layout.workers → t ≢ v.thread
       → LeavesThread words after v u t ⊎ StartsThread words after v u t
   pub own : 0 < thread_word words v.thread → 0 < thread_word after v.thread
@@ -105,7 +106,7 @@ module _ (layout : Layout) (words after : List ℕ) (views : List View) (id : �
 
   not_given_before : (t : ℕ) → is_given t u ≡ false → is_given t v ≡ false
   not_given_before t none = elim (cases_Bool (is_given t v)) [
-    | inl given ↦ absurd (false≢true (sym none ∙ keeps.given t given))
+    | inl given ↦ absurd (false≢true (sym none ∙ (keeps.given t ∙ given)))
     | inr not ↦ not
   ]
 
@@ -145,6 +146,13 @@ module _ (layout : Layout) (words after : List ℕ) (views : List View) (id : �
         (λ e. seen_here t low (ap (has_started t) e.1 ∙ seen))
         (λ e. more t low (old.threads.started_seen other t w e.1 low seen))
         (at_set views id other u w is);
+    given_started = λ other t w is given.
+        ⊎_elim
+        (λ e. ap (has_started t) (sym e.1)
+        ∙ keeps.still_started t (old.threads.given_started id t v here (sym (keeps.given t)
+        ∙ (ap (is_given t) e.1 ∙ given))))
+        (λ e. old.threads.given_started other t w e.1 given)
+        (at_set views id other u w is);
     gone_seen = λ other t w is low seen.
         ⊎_elim
         (λ e. gone_here t low (ap (has_seen_gone t) e.1 ∙ seen))
@@ -168,7 +176,8 @@ pub threads_same : (layout : Layout) (words : List ℕ) (views : List View) (id 
 threads_same layout words views id v u old here thread given trace =
     threads_kept layout words words views id v u old here (record {
       thread = thread;
-      given = λ t is. ap (list_any (λ k. k == t)) given ∙ is;
+      given = λ t. ap (list_any (λ k. k == t)) given;
+      still_started = λ t is. ap (list_any (starts t)) trace ∙ is;
       others = λ t low apart. inl (record { word = refl; seen = ap (list_any (starts t)) trace });
       own = λ pos. pos;
       own_gone = λ is. is;
@@ -184,6 +193,11 @@ or_false false = refl
 -- Says whether the list has such an element, with one more at its end.
 pub any_more : {A : Type 0} (p : A → Bool) (xs : List A) (x : A) → list_any p (xs ++ x ∷ []) ≡ (list_any p xs || p x)
 any_more p xs x = list_any-append p xs (x ∷ []) ∙ ap (λ (b : Bool). list_any p xs || b) (or_false (p x))
+
+-- A list that has such an element still has one.
+pub any_still : {A : Type 0} (p : A → Bool) (xs : List A) (x : A) → list_any p xs ≡ true
+    → list_any p (xs ++ x ∷ []) ≡ true
+any_still p xs x is = any_more p xs x ∙ ap (λ (b : Bool). b || p x) is
 
 -- An element that isn't such adds none.
 pub any_same : {A : Type 0} (p : A → Bool) (xs : List A) (x : A) → p x ≡ false → list_any p (xs ++ x ∷ []) ≡ list_any p xs
@@ -220,7 +234,8 @@ object_step layout words v u e left few known steps object has =
     (sym same)) in
     record {
       thread = steps.thread;
-      given = λ t is. ap (list_any (λ k. k == t)) steps.given ∙ is;
+      given = λ t. ap (list_any (λ k. k == t)) steps.given;
+      still_started = λ t is. ap (list_any (starts t)) steps.trace ∙ any_still (starts t) v.trace e is;
       others = λ t low apart. inl (record {
         word = stays t low;
         seen =
@@ -236,12 +251,12 @@ object_step layout words v u e left few known steps object has =
           (ap (λ (b : Bool). b && (e.left == 3)) (object_apart e.address t object))) ∙ seen);
     }
 
--- What a step on the word of the thread `t` shows: it finds that the thread runs, is leaving or is gone, and leaves the
--- word, unless it is the hand's own thread's.
+-- What a step on the word of the thread `t` shows: it doesn't start the thread, and leaves the word, unless it is the
+-- hand's own thread's.
 pub record StepsOnThread (words : List ℕ) (v : View) (e : Event) (t left : ℕ) : Type 0 where
   pub address : e.address ≡ ThreadWord t
-  pub found : 0 < e.found
-  pub says : e.left ≡ thread_reading left
+  pub quiet : ((e.found == 0) && (e.left == 1)) ≡ false
+  pub gone : e.left ≡ 3 → left ≡ 3
   pub whose : (t ≡ v.thread) ⊎ (left ≡ thread_word words t)
   pub stays : 0 < thread_word words t → 0 < left
   pub stays_gone : thread_word words t ≡ 3 → left ≡ 3
@@ -256,7 +271,7 @@ reading_some word = elim (eqb_tells word 0) [
       omega (arith, same, pos.1)
 ]
 
-says_three : (word : ℕ) → thread_reading word ≡ 3 → word ≡ 3
+pub says_three : (word : ℕ) → thread_reading word ≡ 3 → word ≡ 3
 says_three word is = elim (eqb_tells word 0) [
   | inl none ↦
       let one : thread_reading word ≡ 1 = ap (λ (b : Bool). if b then 1 else word) none.0 in
@@ -266,9 +281,9 @@ says_three word is = elim (eqb_tells word 0) [
       sym same ∙ is
 ]
 
-and_none : (b c : Bool) → (b && (false && c)) ≡ false
-and_none true c = refl
-and_none false c = refl
+and_none : (b c : Bool) → c ≡ false → (b && c) ≡ false
+and_none true c e = e
+and_none false c e = refl
 
 -- A step on a thread's word keeps what the words of threads say.
 pub thread_step : (layout : Layout) (words : List ℕ) (v u : View) (e : Event) (t left : ℕ) → t < length words
@@ -280,13 +295,11 @@ thread_step layout words v u e t left there steps on =
     let elsewhere : (k : ℕ) → k ≢ t → thread_word after k ≡ thread_word words k =
     λ k apart. get_or-set_other words t k left 0 apart in
     let none : (k : ℕ) → starts k e ≡ false =
-    λ k.
-    ap (λ (b : Bool). same_address e.address (ThreadWord k) && (b && (e.left == 1)))
-    (ne_eqb e.found 0 (λ z. omega (arith, z, on.found)))
-    ∙ and_none (same_address e.address (ThreadWord k)) (e.left == 1) in
+    λ k. and_none (same_address e.address (ThreadWord k)) ((e.found == 0) && (e.left == 1)) on.quiet in
     record {
       thread = steps.thread;
-      given = λ k is. ap (list_any (λ j. j == k)) steps.given ∙ is;
+      given = λ k. ap (list_any (λ j. j == k)) steps.given;
+      still_started = λ k is. ap (list_any (starts k)) steps.trace ∙ any_still (starts k) v.trace e is;
       others = λ k low apart. inl (record {
         word = elim (eqb_tells k t) [
           | inl same ↦ elim on.whose [
@@ -323,6 +336,6 @@ thread_step layout words v u e t left there steps on =
                 let left_is =
                 eqb-true e.left 3 (and_second (same_address e.address (ThreadWord k)) (e.left == 3) now) in
                 inr (ap (thread_word after) (sym (eqb-true t k at))
-                ∙ (here ∙ says_three left (sym on.says ∙ left_is)))
+                ∙ (here ∙ on.gone left_is))
           ];
     }

@@ -11,5 +11,6 @@ pub mod Calls
 pub mod Opening
 pub mod Agreeing
 pub mod Giving
+pub mod Peeks
 pub mod Guarding
 pub mod Spares

@@ -16,6 +16,9 @@ thread_word words t = slice_index words (place (ThreadWord t))
 -- gone stays gone.
 pub record ThreadsStand (layout : Layout) (words : List ℕ) (views : List View) : Type 0 where
   pub started : (id : ℕ) (v : View) → get_elem? views id ≡ some v → 0 < thread_word words v.thread
+  -- main starts a worker before it gives out the worker's hand
+  pub given_started : (id t : ℕ) (v : View) → get_elem? views id ≡ some v → is_given t v ≡ true
+      → has_started t v ≡ true
   -- what hands have seen of threads is so
   pub started_seen : (id t : ℕ) (v : View) → get_elem? views id ≡ some v → t ≤ layout.workers
       → has_started t v ≡ true → 0 < thread_word words t

@@ -14,6 +14,7 @@ mod laws;
 mod lives;
 mod locks;
 mod marks;
+mod peeks;
 mod place;
 mod rule;
 mod size;

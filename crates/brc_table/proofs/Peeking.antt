@@ -1,0 +1,184 @@
+-- A hand looks what a thread's word says, and the rule holds again: no word changes.
+use Rattle.std.proofs.Common.{◌≡◌, ℕ, ◌<◌, ◌≤◌, Bool, false, cond, List, [], ◌∷◌, length, set, None, inl, inr, refl, sym, ap, ◌∙◌, subst, arith}
+use Rattle.std.specs.Prelude.{◌==◌, ◌&&◌, slice_index}
+use Rattle.std.proofs.lemmas.Bool.{cases_Bool, cases_lt, false≢true}
+use Rattle.std.proofs.lemmas.Bool.Decides.{eqb_tells}
+use Rattle.std.proofs.lemmas.List.{length-set}
+use Rattle.std.proofs.lemmas.List.Sums.{fold-append}
+use Rattle.std.proofs.lemmas.Option.{slice_get_cases}
+use mathlib.Core.Option.{some}
+use lib.ListN.{get_elem?}
+use Rattle.atomic_table.specs.Table.{State, keeps, Me, Allows}
+use Rattle.brc_model.specs.declared.actor.Status.{Status}
+use Rattle.brc_model.specs.declared.actor.Status.TheVariants.{Running, Leaving, Gone}
+use Rattle.brc_model.specs.declared.address.Address.TheVariants.{ThreadWord}
+use Rattle.brc_model.specs.declared.layout.Layout.{Layout}
+use Rattle.brc_model.specs.Knowledge.{status_word}
+use Rattle.brc_model.specs.Machine.{Machine}
+use Rattle.brc_model.specs.CountingLaws.{AccountsAreThere, ChainsAreThere}
+use Rattle.brc_table.specs.declared.view.View.{View}
+use Rattle.brc_table.specs.declared.view.Event.{Event}
+use Rattle.brc_table.specs.Places.{place, HasWord}
+use Rattle.brc_table.specs.Views.{actor_of, is_given, RowsAreThere}
+use Rattle.brc_table.specs.Seen.{shows_kind, cell_known, has_started}
+use Rattle.brc_table.specs.Threads.{thread_word}
+use Rattle.brc_table.specs.Rule.{thread_reading, Stands}
+use Rattle.brc_table.specs.Peeks.{peeked, NeverStarted, Peeks}
+use Rattle.brc_table.proofs.Allowed.{rows_there}
+use Rattle.brc_table.proofs.Changing.{Changes, changed}
+use Rattle.brc_table.proofs.Lists.{set_view, set_itself}
+use Rattle.brc_table.proofs.Starting.{unwritten}
+use Rattle.brc_table.proofs.Stepping.{written_reads}
+use Rattle.brc_table.proofs.ThreadsKept.{KeepsThreads, threads_kept, thread_step, any_same}
+use Rattle.brc_table.proofs.ThreadWords.{thread_within}
+
+-- ---- what a thread's word may say
+
+status_low : (s : Status) → status_word s ≤ 3
+status_low Running = omega arith
+status_low Leaving = omega arith
+status_low Gone = omega arith
+
+says_low : (word : ℕ) → thread_reading word ≤ 3 → word ≤ 3
+says_low word low = elim (eqb_tells word 0) [
+  | inl none ↦ omega (arith, none.1)
+  | inr pos ↦
+      let same : thread_reading word ≡ word = ap (λ (b : Bool). cond b 1 word) pos.0 in omega (arith, same, low)
+]
+
+-- A word isn't 0 and 1.
+not_both : (word : ℕ) → ((word == 0) && (word == 1)) ≡ false
+not_both word = elim (eqb_tells word 0) [
+  | inl none ↦ ap (λ (w : ℕ). (w == 0) && (w == 1)) none.1
+  | inr pos ↦ ap (λ (b : Bool). b && (word == 1)) pos.0
+]
+
+module _ (accounts : AccountsAreThere) (chains : ChainsAreThere) (layout : Layout) (v : View) (t : ℕ)
+    (known : t ≤ v.layout.workers) where
+  module _ (words : List ℕ) (views : List View) (id : ℕ) (s : Stands layout words views)
+      (here : get_elem? views id ≡ some v) where
+    abbrev m : Machine
+    m = s.machine
+
+    abbrev found : ℕ
+    found = thread_word words t
+
+    abbrev after : View
+    after = peeked v t found
+
+    abbrev event : Event
+    event = record { address = ThreadWord t; found = found; left = found }
+
+    low : t ≤ m.layout.workers
+    low = subst (λ (l : Layout). t ≤ l.workers) (s.told id v here) known
+
+    has : HasWord m.layout (ThreadWord t)
+    has = omega (arith, low)
+
+    there : t < length words
+    there = omega (arith, thread_within m.layout t s.plain low, s.length_is)
+
+    keeps_threads : KeepsThreads m.layout words (set words (place (ThreadWord t)) found) v after
+    keeps_threads =
+        thread_step m.layout words v after event t found there (record { thread = refl; given = refl; trace = refl })
+        (record {
+          address = refl;
+          quiet = not_both found;
+          gone = λ three. three;
+          whose = inr refl;
+          stays = λ pos. pos;
+          stays_gone = λ is. is;
+        })
+
+    changes : Changes layout words views v after s (set words (place (ThreadWord t)) found)
+    changes = record {
+      accounts = s.accounts;
+      machine = m;
+      counts = s.counts;
+      layout_same = refl;
+      length_is = length-set words t found;
+      reads = λ b there_b.
+          sym (unwritten m.memory (ThreadWord t) b (thread_reading found) (s.reads (ThreadWord t) has))
+          ∙ written_reads m.layout words m.memory (ThreadWord t) found (thread_reading found) s.plain.few_workers
+          s.length_is refl has s.reads b there_b;
+      actors = sym (set_itself m.actors v.thread (actor_of v) (s.acts id v here));
+      thread_same = refl;
+      told_same = refl;
+      given_more = λ k is. is;
+      holding = λ x counted. s.holding id v x here counted;
+      others = λ k apart. refl;
+      no_variables = s.no_variables;
+      kinds_stay = λ x word more is. is;
+      cells_stay = λ other x i w apart is locked. refl;
+      kinds_here = λ x word more seen.
+          s.kinds_seen id x word v here more (sym (any_same (shows_kind x word) v.trace event refl) ∙ seen);
+      cells_here = λ x i word locked seen.
+          s.cells_seen id x i word v here locked (sym (fold-append (cell_known x i) None v.trace (event ∷ [])) ∙ seen);
+      threads = λ k there_k.
+          threads_kept layout words (set words (place (ThreadWord t)) found) views k v after s there_k keeps_threads;
+    }
+
+    pub stands_peeked : Stands layout (set words (place (ThreadWord t)) found) (set views id after)
+    stands_peeked = changed layout words views id v after s here (set words (place (ThreadWord t)) found) changes
+
+    -- The word is that of a thread's status, or 0.
+    pub found_low : found ≤ 3
+    found_low = elim (slice_get_cases m.actors t).1 [
+      | inl actor ↦
+          let word = (s.counts.kept.core.each t actor.0 actor.2).0.word in
+          let says : thread_reading found ≡ status_word actor.0.status = sym (s.reads (ThreadWord t) has) ∙ word in
+          says_low found (omega (arith, says, status_low actor.0.status))
+      | inr past ↦ absurd (omega (arith, past.0, low, s.counts.kept.core.threads))
+    ]
+
+    -- If it is 0, main has neither started the thread nor given out its hand.
+    pub never_started : v.thread ≡ 0 → found ≡ 0 → NeverStarted v t
+    never_started first none =
+        let threads = s.threads in
+        let not_started : has_started t v ≡ false = elim (cases_Bool (has_started t v)) [
+          | inl started ↦ absurd (omega (arith, none, threads.started_seen id t v here low started))
+          | inr not ↦ not
+        ] in
+        record {
+          some_worker = elim (cases_lt 0 t) [
+            | inl pos ↦ pos
+            | inr main ↦
+                let same : v.thread ≡ t = omega (arith, first, main) in
+                absurd (omega (arith, none, subst (λ (k : ℕ). 0 < thread_word words k) same (threads.started id v here)))
+          ];
+          not_given = elim (cases_Bool (is_given t v)) [
+            | inl given ↦
+                absurd (false≢true (sym not_started ∙ threads.given_started id t v here given))
+            | inr not ↦ not
+          ];
+          not_started = not_started;
+        }
+
+  -- The look is allowed.
+  pub peek_allowed : {S : Type 0} (slots id index : ℕ) (me : Me S View) → me.0 ≡ v → index ≡ t
+      → Allows (λ (s : State S View). Stands layout s.words s.views) slots id me index (λ found. found)
+      (λ found after. Peeks t me found after)
+  peek_allowed slots id index me is_me at s holds homes here below =
+      let mine : get_elem? s.views id ≡ some v = here ∙ ap some is_me in
+      let found = slice_index s.words index in
+      let same : thread_word s.words t ≡ found = ap (slice_index s.words) (sym at) in
+      let w = peeked v t found in
+      let now : Stands layout (set s.words index found) (set s.views id w) =
+      subst (λ (k : ℕ). Stands layout (set s.words k found) (set s.views id w)) (sym at)
+      (subst (λ (k : ℕ). Stands layout (set s.words t k) (set s.views id (peeked v t k))) same
+      (stands_peeked s.words s.views id holds mine)) in
+      let rows : RowsAreThere w =
+      rows_there accounts chains layout (set s.words index found) (set s.views id w) id w now
+      (set_view s.views id v w mine) in (
+        w,
+        keeps,
+        tt,
+        now,
+        subst (λ (u : View). Peeks t (u, me.1) found (w, me.1)) (sym is_me) (
+          refl,
+          refl,
+          omega (arith, same, found_low s.words s.views id holds mine),
+          λ first none. never_started s.words s.views id holds mine first (same ∙ none),
+          rows,
+        ),
+      )
