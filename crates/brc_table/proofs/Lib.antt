@@ -15,6 +15,7 @@ mod Locking
 mod Swapping
 mod Starting
 mod Peeking
+mod Ending
 mod FreeDropped
 mod ExitDuties
 mod DyingDuties

@@ -1,7 +1,7 @@
 -- Lists with one element changed.
 use Rattle.std.proofs.Common.{◌≡◌, ◌≢◌, ℕ, zero, suc, ◌<◌, Bool, true, false, ◌&&◌, List, [], ◌∷◌, length, replicate, set, Some, refl, sym, ap, arith}
-use Rattle.std.specs.Prelude.{slice_get, slice_index_or}
-use mathlib.Core.Option.{some, some-ne-none}
+use Rattle.std.specs.Prelude.{slice_get, slice_index, slice_index_or}
+use mathlib.Core.Option.{some, some-injective, some-ne-none}
 use lib.ListN.{get_elem?}
 
 pub slice_get-set_same : {A : Type 0} (xs : List A) (i : ℕ) (x : A) → i < length xs → slice_get (set xs i x) i ≡ Some x
@@ -39,6 +39,12 @@ pub set_itself : {A : Type 0} (xs : List A) (i : ℕ) (x : A) → slice_get xs i
 set_itself [] i x is = refl
 set_itself (y ∷ ys) zero x is = let same : y ≡ x = cc in ap (λ z. z ∷ ys) (sym same)
 set_itself (y ∷ ys) (suc i) x is = ap (λ zs. y ∷ zs) (set_itself ys i x is)
+
+-- What is there is what the index reads.
+pub index_found : (xs : List ℕ) (i x : ℕ) → get_elem? xs i ≡ some x → x ≡ slice_index xs i
+index_found [] i x is = absurd (some-ne-none x (sym is))
+index_found (y ∷ ys) zero x is = sym (some-injective y x is)
+index_found (y ∷ ys) (suc i) x is = index_found ys i x is
 
 pub and_first : (a b : Bool) → (a && b) ≡ true → a ≡ true
 and_first true b e = refl

@@ -12,5 +12,6 @@ pub mod Opening
 pub mod Agreeing
 pub mod Giving
 pub mod Peeks
+pub mod Ending
 pub mod Guarding
 pub mod Spares

@@ -6,11 +6,12 @@ ghost use Rattle.brc_model.specs.Layout.{row_count, IsCounted};
 ghost use Rattle.brc_table.specs.declared.view.View.{View};
 ghost use Rattle.brc_table.specs.Rule.{Stands};
 ghost use Rattle.brc_table.specs.Agreeing.{AgreesInTable};
+ghost use Rattle.brc_table.specs.Ending.{RowsEnd, SeenEndsAreSo};
 ghost use Rattle.brc_table.specs.Guarding.{SetMarksAreWatched, OnlyHoldersChangeCells, OnlyRunningOwnersCount, GoneHandsHoldNothing, HandsAreStarted};
 
 use brc_model::{
     cells_are_guarded, cells_hold, counts_agree, gone_threads_hold_nothing, owners_count_alone,
-    queued_marks_are_watched,
+    queued_marks_are_watched, rows_end,
 };
 
 /// States that in each table, between any two steps of any threads, the counts of every counted object add up to the
@@ -56,4 +57,17 @@ pub fn gone_hands_hold_nothing()
 /// States that a thread whose word says that it isn't started has no hand, so that it holds nothing either.
 pub fn hands_are_started()
     ensures { HandsAreStarted }
+{}
+
+/// States that once each thread is gone or was never started, exactly the born objects that no cell of an open list
+/// names are closed, and the cells of closed lists are empty.
+pub fn rows_end_in_every_table()
+    ensures { RowsEnd }
+{
+    rows_end();
+}
+
+/// States that when a table is closed, what main's hand has seen of the ends of threads is so.
+pub fn seen_ends_are_so()
+    ensures { SeenEndsAreSo }
 {}

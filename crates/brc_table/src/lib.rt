@@ -4,6 +4,7 @@
 
 mod carried;
 mod cells;
+mod closed;
 mod dying;
 mod exits;
 mod first_words;
@@ -24,10 +25,12 @@ mod steps;
 mod view;
 mod words;
 
+pub use closed::Closed;
 pub use hand::Hand;
 pub use laws::{
     counts_agree_in_every_table, gone_hands_hold_nothing, hands_are_started,
-    only_holders_change_cells, only_running_owners_count, set_marks_are_watched,
+    only_holders_change_cells, only_running_owners_count, rows_end_in_every_table,
+    seen_ends_are_so, set_marks_are_watched,
 };
 pub use rule::Counting;
 pub use view::{Event, View};

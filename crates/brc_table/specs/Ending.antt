@@ -1,0 +1,77 @@
+-- What is left when no thread shares a table any more.
+use Rattle.std.specs.Prelude.{◌≡◌, ◌≢◌, ◌⊎◌, ℕ, ◌+◌, ◌<◌, ◌≤◌, true, List, slice_index}
+use mathlib.Core.Option.{some}
+use lib.ListN.{get_elem?}
+use Rattle.brc_word.specs.Words.{closed_word}
+use Rattle.brc_model.specs.declared.address.Address.TheVariants.{Gate, KindOf, Cell}
+use Rattle.brc_model.specs.declared.layout.Layout.{Layout}
+use Rattle.brc_model.specs.Layout.{row_count, IsCounted}
+use Rattle.brc_model.specs.Limits.{cell_limit}
+use Rattle.brc_table.specs.declared.view.View.{View}
+use Rattle.brc_table.specs.Places.{place}
+use Rattle.brc_table.specs.Rule.{Stands}
+use Rattle.brc_table.specs.Seen.{has_seen_gone}
+use Rattle.brc_table.specs.Threads.{thread_word}
+use Rattle.brc_table.specs.Peeks.{NeverStarted}
+
+-- A closed table, as contracts see it: its size, and its last words.
+pub record EndState : Type 0 where
+  pub layout : Layout
+  pub words : List ℕ
+
+-- The table was closed with this hand: its last words meet the rule, beside this view and those of the other hands.
+pub record EndsWith (v : View) (end : EndState) : Type 0 where
+  pub views : List View
+  pub id : ℕ
+  pub here : get_elem? views id ≡ some v
+  pub stands : Stands end.layout end.words views
+
+-- ---- threads
+
+-- The hand has seen that the thread is gone; or it is main's, and has never started the thread.
+abbrev pub SeesEnd : View → ℕ → Type 0
+SeesEnd v t = (has_seen_gone t v ≡ true) ⊎ NeverStarted v t
+
+-- Each thread is gone, or was never started.
+abbrev pub HaveEnded : Layout → List ℕ → Type 0
+HaveEnded layout words =
+    (t : ℕ) → t ≤ layout.workers → (thread_word words t ≡ 3) ⊎ (thread_word words t ≡ 0)
+
+-- What main's hand has seen of the ends of threads is so when the table is closed.
+abbrev pub SeenEndsAreSo : Type 0
+SeenEndsAreSo = (v : View) (end : EndState) → EndsWith v end → v.thread ≡ 0
+    → ((t : ℕ) → t ≤ end.layout.workers → SeesEnd v t) → HaveEnded end.layout end.words
+
+-- ---- rows
+
+abbrev pub kind_at : List ℕ → ℕ → ℕ
+kind_at words x = slice_index words (place (KindOf x))
+
+abbrev pub gate_at : List ℕ → ℕ → ℕ
+gate_at words x = slice_index words (place (Gate x))
+
+abbrev pub cell_at : List ℕ → ℕ → ℕ → ℕ
+cell_at words x i = slice_index words (place (Cell x i))
+
+-- A cell of a list that isn't closed names the row.
+pub record IsNamed (layout : Layout) (words : List ℕ) (x : ℕ) : Type 0 where
+  pub list : ℕ
+  pub cell : ℕ
+  pub there : list < row_count layout
+  pub low : cell < cell_limit
+  pub names : cell_at words list cell ≡ x + 1
+  pub not_closed : gate_at words list ≢ closed_word
+
+-- What the words say of a row. Its kind word isn't 0 exactly if it was born, and its gate says whether it is closed.
+-- Exactly the born rows that no cell of an open list names are closed, and the cells of a closed one are empty.
+pub record RowEnds (layout : Layout) (words : List ℕ) (x : ℕ) : Type 0 where
+  pub left : 0 < kind_at words x → gate_at words x ≢ closed_word → IsNamed layout words x
+  pub closed_born : gate_at words x ≡ closed_word → 0 < kind_at words x
+  pub closed_unnamed : gate_at words x ≡ closed_word → (y i : ℕ) → y < row_count layout → i < cell_limit
+      → cell_at words y i ≢ x + 1
+  pub closed_empty : gate_at words x ≡ closed_word → (i : ℕ) → i < cell_limit → cell_at words x i ≡ 0
+
+-- Once each thread is gone or was never started, this holds of each counted row.
+abbrev pub RowsEnd : Type 0
+RowsEnd = (layout : Layout) (words : List ℕ) (views : List View) (x : ℕ) → Stands layout words views
+    → HaveEnded layout words → IsCounted layout x → x < row_count layout → RowEnds layout words x

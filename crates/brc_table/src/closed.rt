@@ -1,0 +1,104 @@
+//! A table that no thread shares any more.
+
+ghost use Rattle.std.specs.Prelude.{◌≡◌, ◌<◌};
+ghost use Rattle.brc_model.specs.Layout.{row_count};
+ghost use Rattle.brc_model.specs.Limits.{cell_limit};
+ghost use Rattle.brc_table.specs.Hands.{IsOf};
+ghost use Rattle.brc_table.specs.Ending.{EndsWith, kind_at, gate_at, cell_at};
+
+use crate::hand::Hand;
+use crate::place::{GATE, KIND, in_cell, in_line};
+use crate::words::Words;
+use atomic_table::Closed as ClosedTable;
+use brc_model::Layout;
+use std::alloc::Global;
+use std::marker::Model;
+
+/// A table that no thread shares any more: its last words, and what is left in its slots.
+pub struct Closed<T: Drop> {
+    table: ClosedTable<Option<T>, Global>,
+    layout: Layout,
+}
+
+impl<T: Drop> Model for Closed<T> {
+    ghost use Rattle.std.specs.Prelude.{◌≡◌};
+    ghost use Rattle.std.specs.Slots.{slots_items, slots_len, IsFull};
+    ghost use Rattle.brc_model.specs.Counting.{IsPlainLayout};
+    ghost use Rattle.brc_table.specs.Places.{word_count};
+    ghost use Rattle.brc_table.specs.Ending.{EndState};
+
+    ghost Value = { EndState };
+
+    ghost view = { λ c. record { layout = c.layout; words = slots_items c.table.words } };
+
+    ghost invariant = { λ c. IsFull c.table.words × IsFull c.table.slots
+        × (slots_len c.table.words ≡ word_count c.layout) × IsPlainLayout c.layout };
+}
+
+impl<T: Drop> Words<T> {
+    /// Closes the table, with a hand of it. Its words no longer change.
+    pub fn close(self, hand: Hand<T>) -> Closed<T>
+        requires table { IsOf self hand }
+        ensures layout { result.layout ≡ self.layout }
+        ensures ends { EndsWith hand.view result }
+    {
+        let Hand {
+            seat,
+            thread: _,
+            running: _,
+            head: _,
+            used: _,
+            spares,
+            carried,
+        } = hand;
+        drop(spares);
+        drop(carried);
+        let Words { table, layout } = self;
+        Closed {
+            table: table.close_with(seat),
+            layout,
+        }
+    }
+}
+
+impl<T: Drop> Closed<T> {
+    /// Returns the kind word of a row: 0 if no object was born there.
+    pub fn kind_word(&self, row: u32) -> u64
+        requires there { row < row_count self.now.layout }
+        ensures { result ≡ kind_at self.now.words row }
+    {
+        self.table.word(in_line(KIND, row))
+    }
+
+    /// Returns the gate of a row, which says whether its object is closed.
+    pub fn gate_word(&self, row: u32) -> u64
+        requires there { row < row_count self.now.layout }
+        ensures { result ≡ gate_at self.now.words row }
+    {
+        self.table.word(in_line(GATE, row))
+    }
+
+    /// Returns what a cell has: a row plus 1, or 0.
+    pub fn cell_word(&self, row: u32, cell: u32) -> u64
+        requires there { row < row_count self.now.layout }
+        requires cell { cell < cell_limit }
+        ensures { result ≡ cell_at self.now.words row cell }
+    {
+        self.table.word(in_cell(row, cell))
+    }
+}
+
+impl<T: Drop> Drop for Closed<T> {
+    fn drop(self) {
+        let Closed {
+            mut table,
+            layout: _,
+        } = self;
+        let mut i = 0;
+        while i < table.slot_count() {
+            drop(table.take(i));
+            i += 1;
+        }
+        table.free();
+    }
+}
