@@ -1,5 +1,5 @@
 -- What the last words of a table say, by the model's law of the end.
-use Rattle.std.proofs.Common.{◌≡◌, ℕ, ◌+◌, ◌<◌, ◌≤◌, Bool, cond, List, inl, inr, Some, refl, sym, ap, ◌∙◌, subst, arith}
+use Rattle.std.proofs.Common.{◌≡◌, ℕ, zero, suc, ◌+◌, ◌<◌, ◌≤◌, Bool, cond, List, inl, inr, Some, refl, sym, ap, ◌∙◌, subst, arith}
 use Rattle.std.proofs.lemmas.Option.{slice_get_within}
 use mathlib.Core.Option.{some}
 use lib.ListN.{get_elem?}
@@ -12,11 +12,12 @@ use Rattle.brc_model.specs.Knowledge.{status_word}
 use Rattle.brc_model.specs.Layout.{row_count, IsCounted}
 use Rattle.brc_model.specs.Limits.{cell_limit}
 use Rattle.brc_model.specs.Machine.{idle_actor}
+use Rattle.brc_model.specs.CellLaws.{ItemsAreThere}
 use Rattle.brc_model.specs.Ending as model
 use Rattle.brc_table.specs.declared.view.View.{View}
 use Rattle.brc_table.specs.Rule.{thread_reading, Stands}
 use Rattle.brc_table.specs.Threads.{thread_word}
-use Rattle.brc_table.specs.Ending.{HaveEnded, SeenEndsAreSo, RowsEnd, kind_at, gate_at, cell_at}
+use Rattle.brc_table.specs.Ending.{HaveEnded, SeenEndsAreSo, CellsNameRows, RowsEnd, kind_at, gate_at, cell_at}
 
 -- ---- threads
 
@@ -97,3 +98,20 @@ seen_ends v end ends first all t below =
           inr (s.threads.unstarted ends.id t v ends.here first never.some_worker below' never.not_given
           ∙ ap (λ (b : Bool). cond b 1 0) never.not_started)
     ]
+
+-- ---- cells
+
+named_there : (rows word : ℕ) → ((y : ℕ) → word ≡ suc y → y < rows) → word ≤ rows
+named_there rows zero low = omega arith
+named_there rows (suc y) low = omega (arith, low y refl)
+
+-- The cells of a table name rows.
+pub cells_name_rows : ItemsAreThere → (layout : Layout) (words : List ℕ) (views : List View)
+    → Stands layout words views → CellsNameRows layout words
+cells_name_rows law layout words views s y i there low_cell =
+    let m = s.machine in
+    let there' : y < row_count m.layout = subst (λ (l : Layout). y < row_count l) (sym s.layout_is) there in
+    let cell : m.memory (Cell y i) ≡ cell_at words y i = s.reads (Cell y i) (there', low_cell) in
+    subst (λ (l : Layout). cell_at words y i ≤ row_count l) s.layout_is
+    (named_there (row_count m.layout) (cell_at words y i)
+    (λ z is. law s.accounts (1 + m.layout.workers) m y i z s.counts (cell ∙ is)))

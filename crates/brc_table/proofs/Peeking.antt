@@ -1,7 +1,8 @@
 -- A hand looks what a thread's word says, and the rule holds again: no word changes.
-use Rattle.std.proofs.Common.{◌≡◌, ℕ, ◌<◌, ◌≤◌, Bool, false, cond, List, [], ◌∷◌, length, set, None, inl, inr, refl, sym, ap, ◌∙◌, subst, arith}
-use Rattle.std.specs.Prelude.{◌==◌, ◌&&◌, slice_index}
-use Rattle.std.proofs.lemmas.Bool.{cases_Bool, cases_lt, false≢true}
+use Rattle.std.proofs.Common.{◌≡◌, ◌⊎◌, ℕ, ◌<◌, ◌≤◌, Bool, true, false, cond, List, [], ◌∷◌, length, set, None, inl, inr, refl, sym, ap, ◌∙◌, subst, arith}
+use Rattle.std.specs.Prelude.{◌==◌, ◌&&◌, ◌||◌, slice_index}
+use Rattle.std.specs.List.{list_any}
+use Rattle.std.proofs.lemmas.Bool.{cases_Bool, cases_lt, eq-eqb, false≢true}
 use Rattle.std.proofs.lemmas.Bool.Decides.{eqb_tells}
 use Rattle.std.proofs.lemmas.List.{length-set}
 use Rattle.std.proofs.lemmas.List.Sums.{fold-append}
@@ -20,16 +21,17 @@ use Rattle.brc_table.specs.declared.view.View.{View}
 use Rattle.brc_table.specs.declared.view.Event.{Event}
 use Rattle.brc_table.specs.Places.{place, HasWord}
 use Rattle.brc_table.specs.Views.{actor_of, is_given, RowsAreThere}
-use Rattle.brc_table.specs.Seen.{shows_kind, cell_known, has_started}
+use Rattle.brc_table.specs.Seen.{shows_kind, cell_known, starts, has_started, shows_gone}
 use Rattle.brc_table.specs.Threads.{thread_word}
 use Rattle.brc_table.specs.Rule.{thread_reading, Stands}
+use Rattle.brc_table.specs.Ending.{SeesEnd}
 use Rattle.brc_table.specs.Peeks.{peeked, NeverStarted, Peeks}
 use Rattle.brc_table.proofs.Allowed.{rows_there}
 use Rattle.brc_table.proofs.Changing.{Changes, changed}
 use Rattle.brc_table.proofs.Lists.{set_view, set_itself}
 use Rattle.brc_table.proofs.Starting.{unwritten}
 use Rattle.brc_table.proofs.Stepping.{written_reads}
-use Rattle.brc_table.proofs.ThreadsKept.{KeepsThreads, threads_kept, thread_step, any_same}
+use Rattle.brc_table.proofs.ThreadsKept.{KeepsThreads, threads_kept, thread_step, any_same, any_still, any_more, and_none}
 use Rattle.brc_table.proofs.ThreadWords.{thread_within}
 
 -- ---- what a thread's word may say
@@ -45,6 +47,10 @@ says_low word low = elim (eqb_tells word 0) [
   | inr pos ↦
       let same : thread_reading word ≡ word = ap (λ (b : Bool). cond b 1 word) pos.0 in omega (arith, same, low)
 ]
+
+or_true : (b : Bool) → (b || true) ≡ true
+or_true true = refl
+or_true false = refl
 
 -- A word isn't 0 and 1.
 not_both : (word : ℕ) → ((word == 0) && (word == 1)) ≡ false
@@ -182,3 +188,30 @@ module _ (accounts : AccountsAreThere) (chains : ChainsAreThere) (layout : Layou
           rows,
         ),
       )
+
+-- ---- what the hand has seen
+
+-- It still has seen what it had seen,
+pub still_sees : (v : View) (t word k : ℕ) → SeesEnd v k → SeesEnd (peeked v t word) k
+still_sees v t word k (inl gone) =
+    inl (any_still (shows_gone k) v.trace (record { address = ThreadWord t; found = word; left = word }) gone)
+still_sees v t word k (inr never) =
+    inr (record {
+      some_worker = never.some_worker;
+      not_given = never.not_given;
+      not_started =
+          any_same (starts k) v.trace (record { address = ThreadWord t; found = word; left = word })
+          (and_none (t == k) ((word == 0) && (word == 1)) (not_both word))
+          ∙ never.not_started;
+    })
+
+-- and now also whether the thread is gone, or was never started.
+pub sees_now : (v : View) (t word : ℕ) → (word ≡ 0 → NeverStarted v t) → (word ≡ 0) ⊎ (word ≡ 3)
+    → SeesEnd (peeked v t word) t
+sees_now v t word never (inl none) = still_sees v t word t (inr (never none))
+sees_now v t word never (inr three) =
+    let event : Event = record { address = ThreadWord t; found = word; left = word } in
+    let shows : shows_gone t event ≡ true =
+    ap (λ (b : Bool). b && (word == 3)) (eq-eqb t t refl) ∙ eq-eqb word 3 three in
+    inl (any_more (shows_gone t) v.trace event
+    ∙ (ap (λ (b : Bool). list_any (shows_gone t) v.trace || b) shows ∙ or_true (list_any (shows_gone t) v.trace)))

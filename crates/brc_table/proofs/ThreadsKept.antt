@@ -281,7 +281,7 @@ says_three word is = elim (eqb_tells word 0) [
       sym same ∙ is
 ]
 
-and_none : (b c : Bool) → c ≡ false → (b && c) ≡ false
+pub and_none : (b c : Bool) → c ≡ false → (b && c) ≡ false
 and_none true c e = e
 and_none false c e = refl
 

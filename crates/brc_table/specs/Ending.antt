@@ -53,6 +53,11 @@ gate_at words x = slice_index words (place (Gate x))
 abbrev pub cell_at : List ℕ → ℕ → ℕ → ℕ
 cell_at words x i = slice_index words (place (Cell x i))
 
+-- What a cell has is 0, or the number of a row plus 1.
+abbrev pub CellsNameRows : Layout → List ℕ → Type 0
+CellsNameRows layout words =
+    (y i : ℕ) → y < row_count layout → i < cell_limit → cell_at words y i ≤ row_count layout
+
 -- A cell of a list that isn't closed names the row.
 pub record IsNamed (layout : Layout) (words : List ℕ) (x : ℕ) : Type 0 where
   pub list : ℕ

@@ -1,16 +1,18 @@
 //! A table that no thread shares any more.
 
-ghost use Rattle.std.specs.Prelude.{◌≡◌, ◌<◌};
+ghost use Rattle.std.specs.Prelude.{◌≡◌, ◌<◌, ◌≤◌};
 ghost use Rattle.brc_model.specs.Layout.{row_count};
+ghost use Rattle.brc_model.specs.Counting.{IsPlainLayout};
 ghost use Rattle.brc_model.specs.Limits.{cell_limit};
 ghost use Rattle.brc_table.specs.Hands.{IsOf};
 ghost use Rattle.brc_table.specs.Ending.{EndsWith, kind_at, gate_at, cell_at};
 
 use crate::hand::Hand;
 use crate::place::{GATE, KIND, in_cell, in_line};
+use crate::size::row_count;
 use crate::words::Words;
 use atomic_table::Closed as ClosedTable;
-use brc_model::Layout;
+use brc_model::{Layout, items_are_there};
 use std::alloc::Global;
 use std::marker::Model;
 
@@ -25,14 +27,15 @@ impl<T: Drop> Model for Closed<T> {
     ghost use Rattle.std.specs.Slots.{slots_items, slots_len, IsFull};
     ghost use Rattle.brc_model.specs.Counting.{IsPlainLayout};
     ghost use Rattle.brc_table.specs.Places.{word_count};
-    ghost use Rattle.brc_table.specs.Ending.{EndState};
+    ghost use Rattle.brc_table.specs.Ending.{EndState, CellsNameRows};
 
     ghost Value = { EndState };
 
     ghost view = { λ c. record { layout = c.layout; words = slots_items c.table.words } };
 
     ghost invariant = { λ c. IsFull c.table.words × IsFull c.table.slots
-        × (slots_len c.table.words ≡ word_count c.layout) × IsPlainLayout c.layout };
+        × (slots_len c.table.words ≡ word_count c.layout) × IsPlainLayout c.layout
+        × CellsNameRows c.layout (slots_items c.table.words) };
 }
 
 impl<T: Drop> Words<T> {
@@ -42,6 +45,7 @@ impl<T: Drop> Words<T> {
         ensures layout { result.layout ≡ self.layout }
         ensures ends { EndsWith hand.view result }
     {
+        items_are_there();
         let Hand {
             seat,
             thread: _,
@@ -62,6 +66,20 @@ impl<T: Drop> Words<T> {
 }
 
 impl<T: Drop> Closed<T> {
+    /// Returns the number of rows.
+    pub fn rows(&self) -> u32
+        ensures { result ≡ row_count self.now.layout }
+    {
+        row_count(self.layout) as u32
+    }
+
+    /// States that the table has 1 to 32 workers with 1 to 1024 rows each.
+    pub fn layout_is_plain(&self)
+        ensures { IsPlainLayout self.now.layout }
+    {
+        let _opened = self.layout;
+    }
+
     /// Returns the kind word of a row: 0 if no object was born there.
     pub fn kind_word(&self, row: u32) -> u64
         requires there { row < row_count self.now.layout }
@@ -82,7 +100,8 @@ impl<T: Drop> Closed<T> {
     pub fn cell_word(&self, row: u32, cell: u32) -> u64
         requires there { row < row_count self.now.layout }
         requires cell { cell < cell_limit }
-        ensures { result ≡ cell_at self.now.words row cell }
+        ensures word { result ≡ cell_at self.now.words row cell }
+        ensures names { result ≤ row_count self.now.layout }
     {
         self.table.word(in_cell(row, cell))
     }

@@ -1,8 +1,9 @@
 //! The step by which a hand looks what a thread's word says.
 
-ghost use Rattle.std.specs.Prelude.{◌≡◌, ◌≤◌, ℕ};
+ghost use Rattle.std.specs.Prelude.{◌≡◌, ◌≤◌, ◌⊎◌, ℕ};
 ghost use Rattle.brc_table.specs.Hands.{IsOf};
 ghost use Rattle.brc_table.specs.Peeks.{peeked, NeverStarted};
+ghost use Rattle.brc_table.specs.Ending.{SeesEnd};
 
 use crate::hand::Hand;
 use crate::split::Worker;
@@ -34,6 +35,8 @@ impl<T: Drop> Words<T> {
         ensures view { hand.new.view ≡ peeked hand.old.view thread result }
         ensures says { result ≤ 3 }
         ensures unstarted { hand.old.view.thread ≡ 0 → result ≡ 0 → NeverStarted hand.old.view thread }
+        ensures keeps { (t : ℕ) → SeesEnd hand.old.view t → SeesEnd hand.new.view t }
+        ensures sees { hand.old.view.thread ≡ 0 → (result ≡ 0) ⊎ (result ≡ 3) → SeesEnd hand.new.view thread }
     {
         self.peek::<Brand>(hand, thread)
     }
