@@ -23,7 +23,7 @@ pub(crate) const ROOT: u32 = 1;
 /// Threads share the heap by reference, and change it by their hands.
 #[derive(Drop)]
 pub struct Heap<T: Drop> {
-    words: Words<T>,
+    pub(crate) words: Words<T>,
 }
 
 impl<T: Drop> Model for Heap<T> {

@@ -14,7 +14,7 @@ use brc_table::Hand;
 use brc_word::{kind_argument, kind_number};
 
 /// Returns the kind that the number of a kind word names, or `Any` if it names none.
-fn kind_numbered(number: u32) -> Kind
+pub(crate) fn kind_numbered(number: u32) -> Kind
     ensures { result ≡ kind_numbered number }
 {
     match number {

@@ -6,6 +6,7 @@
 
 mod birth;
 mod error;
+mod finish;
 mod heap;
 mod kinds;
 mod merge;
@@ -14,6 +15,7 @@ mod retain;
 
 pub use brc_table::{Hand, Words};
 pub use error::{NoMemory, Taken};
+pub use finish::{Final, StillRunning};
 pub use heap::Heap;
 pub use merge::MergeStep;
 pub use release::{LocalRelease, SharedRelease, ZeroStep};

@@ -8,6 +8,8 @@ mod calls;
 #[cfg(test)]
 mod claims;
 #[cfg(test)]
+mod finish;
+#[cfg(test)]
 mod hands;
 #[cfg(test)]
 mod kinds;

@@ -1,0 +1,127 @@
+//! The end of a heap: once every thread is gone, it tells what was closed, and what is left.
+
+ghost use Rattle.std.specs.Prelude.{◌≡◌, ◌<◌, IfOk, IfErr};
+ghost use Rattle.brc_model.specs.Kinds.{kind_of_word};
+ghost use Rattle.brc_model.specs.Layout.{row_count};
+ghost use Rattle.brc_model.specs.Limits.{cell_limit};
+ghost use Rattle.brc_table.specs.Hands.{IsOf};
+ghost use Rattle.brc_table.specs.Ending.{kind_at, cell_at};
+ghost use Rattle.brc_heap.specs.Ends.{was_born, is_closed, named_row, HasEnded, FoundRunning};
+
+use crate::heap::Heap;
+use crate::kinds::kind_numbered;
+use brc_lang::Kind;
+use brc_table::{Closed, Hand, rows_end_in_every_table, seen_ends_are_so};
+use brc_word::{closed, kind_number};
+use std::marker::Model;
+
+/// The word of a running thread.
+const RUNNING: u64 = 1;
+
+/// The word of a thread that is leaving.
+const LEAVING: u64 = 2;
+
+/// H3: a thread that was started, main or a worker, isn't gone. Let it leave, and finish then.
+#[derive(Drop)]
+pub struct StillRunning<T: Drop> {
+    /// The heap, as it was.
+    pub heap: Heap<T>,
+    /// Main's hand.
+    pub main: Hand<T>,
+}
+
+/// What is left of a heap.
+#[derive(Drop)]
+pub struct Final<T: Drop> {
+    closed: Closed<T>,
+}
+
+impl<T: Drop> Model for Final<T> {
+    ghost use Rattle.brc_table.specs.Ending.{EndState};
+
+    ghost Value = { EndState };
+
+    ghost view = { λ f. f.closed };
+}
+
+impl<T: Drop> Heap<T> {
+    /// Ends the heap, with main's hand: asks each thread's word in turn, by rising number. No worker's hand is needed.
+    ///
+    /// # Errors
+    ///
+    /// H3 if a thread that was started isn't gone. The heap and the hand come back.
+    pub fn finish(self, main: Hand<T>) -> Result<Final<T>, StillRunning<T>>
+        requires table { IsOf self main }
+        requires main { main.view.thread ≡ 0 }
+        ensures layout { IfOk result (λ end. end.layout ≡ self.layout) }
+        ensures ended { IfOk result HasEnded }
+        ensures back { IfErr result (λ back. IsOf back.heap back.main × (back.heap ≡ self)) }
+        ensures running { IfErr result (λ back. FoundRunning back.main.view) }
+    {
+        rows_end_in_every_table();
+        seen_ends_are_so();
+        let mut main = main;
+        let workers = self.words().workers();
+        self.words().layout_is_plain();
+        let mut thread = 0;
+        while thread <= workers {
+            let word = self.words().thread_peek(&mut main, thread);
+            if word == RUNNING || word == LEAVING {
+                return Err(StillRunning { heap: self, main });
+            }
+            thread += 1;
+        }
+        let Heap { words } = self;
+        Ok(Final {
+            closed: words.close(main),
+        })
+    }
+}
+
+impl<T: Drop> Final<T> {
+    /// Returns the number of rows. Those from 2 on are the workers', block by block.
+    pub fn rows(&self) -> u32
+        ensures { result ≡ row_count self.now.layout }
+    {
+        self.closed.rows()
+    }
+
+    /// Returns whether an object was born in the row.
+    pub fn born(&self, row: u32) -> bool
+        requires there { row < row_count self.now.layout }
+        ensures { result ≡ was_born self.now row }
+    {
+        self.closed.kind_word(row) > 0
+    }
+
+    /// Returns the kind of the row's object, or `Any` if none was born there.
+    pub fn kind(&self, row: u32) -> Kind
+        requires there { row < row_count self.now.layout }
+        ensures { result ≡ kind_of_word (kind_at self.now.words row) }
+    {
+        kind_numbered(kind_number(self.closed.kind_word(row)))
+    }
+
+    /// Returns whether the row's object is closed.
+    pub fn closed(&self, row: u32) -> bool
+        requires there { row < row_count self.now.layout }
+        ensures { result ≡ is_closed self.now row }
+    {
+        self.closed.gate_word(row) == closed()
+    }
+
+    /// Returns what a cell of the row has: the row of an object, or `None` if the cell is empty.
+    pub fn cell(&self, row: u32, cell: u32) -> Option<u32>
+        requires there { row < row_count self.now.layout }
+        requires cell { cell < cell_limit }
+        ensures { result ≡ named_row (cell_at self.now.words row cell) }
+    {
+        self.closed.layout_is_plain();
+        let word = self.closed.cell_word(row, cell);
+        if word == 0 {
+            None
+        } else {
+            Some((word - 1) as u32)
+        }
+    }
+}
