@@ -1,6 +1,7 @@
 -- Hands stay ready to retain and release the root.
 use Rattle.std.proofs.Common.{◌≡◌, ◌≢◌, ◌≤◌, ◌<◌, ℕ, ◌+◌, Bool, true, false, List, [], ◌∷◌, ◌++◌, ◌%◌, length, Option, None, Some, inl, inr, refl, sym, ap, ◌∙◌, subst, arith}
-use Rattle.std.specs.Prelude.{◌==◌, ◌⊎◌, cond, count_by, slice_index_or, if◌then◌else◌}
+use Rattle.std.specs.Prelude.{◌==◌, ◌⊎◌, not, cond, count_by, slice_index_or, if◌then◌else◌}
+use Rattle.std.proofs.lemmas.Bool.{cases_Bool, eq-eqb}
 use Rattle.std.proofs.lemmas.List.Sums.{sum_by-cons}
 use Rattle.brc_model.specs.declared.actor.Status.TheVariants.{Running, Gone}
 use Rattle.brc_model.specs.declared.duty.Duty.{Duty}
@@ -8,7 +9,7 @@ use Rattle.brc_model.specs.declared.layout.Layout.{Layout}
 use Rattle.brc_model.specs.Limits.{row_limit}
 use Rattle.brc_model.specs.Layout.{root_row, is_immortal_row}
 use Rattle.brc_table.specs.declared.view.View.{View}
-use Rattle.brc_table.specs.Views.{work_about, open_work, with_reference, without_reference, without_one, worker_view, next_row}
+use Rattle.brc_table.specs.Views.{holds, work_about, open_work, with_reference, without_reference, without_one, worker_view, next_row}
 use Rattle.brc_table.specs.Opening.{plain_layout}
 use Rattle.brc_model.specs.OpenWork.{is_about}
 use Rattle.std.specs.List.{filter}
@@ -16,7 +17,7 @@ use Rattle.brc_table.specs.Hands.{TableState, HandState, IsOf, IsRunning, HoldsO
 use Rattle.brc_table.specs.Calls.{CanAct}
 use Rattle.brc_heap.specs.Calls.{Leaves, HasGiven, HasBorn}
 use Rattle.brc_heap.proofs.Leaving.{leaves_then}
-use Rattle.brc_heap_tests.specs.Ready.{IsReady}
+use Rattle.brc_heap_tests.specs.Ready.{IsReady, IsReadyAt}
 
 -- What two calls about the same row leave.
 pub both_leave : {x : ℕ} {left next : List Duty} {v u w : View} → Leaves x left v u → Leaves x next u w
@@ -142,4 +143,71 @@ ready_after_release {heap} {before} {after} {x} {left} born first ready here bir
           ∙ (ap (filter (is_about root_row)) birth.work ∙ ready.idle);
       few = subst (λ (rows : List ℕ). length rows < most_references) (sym same) ready.few;
       unlocked = leaves.sight.locked ∙ (birth.sight.locked ∙ ready.unlocked);
+    }
+
+-- ---- another row
+
+-- With one more reference to a row's object, a hand holds it,
+pub holds_row : (x : ℕ) (v u : View) → u.references ≡ with_reference v.layout x v.references → 1 ≤ holds v x
+    → 1 ≤ holds u x
+holds_row x v u is held = elim (cases_Bool (is_immortal_row v.layout x)) [
+  | inl immortal ↦
+      let same : u.references ≡ v.references =
+      is ∙ ap (λ (b : Bool). if b then v.references else x ∷ v.references) immortal in
+      subst (λ (rows : List ℕ). 1 ≤ count_by (λ y. y == x) rows) (sym same) held
+  | inr counted ↦
+      let same : u.references ≡ x ∷ v.references =
+      is ∙ ap (λ (b : Bool). if b then v.references else x ∷ v.references) counted in
+      omega (
+        arith,
+        ap (count_by (λ y. y == x)) same,
+        sum_by-cons (λ (y : ℕ). cond (y == x) 1 0) x v.references,
+        held,
+      )
+]
+
+-- and once that is released, it holds what it held before.
+pub row_again : (x : ℕ) (v u w : View) → u.layout ≡ v.layout
+    → u.references ≡ with_reference v.layout x v.references
+    → w.references ≡ without_reference u.layout x u.references → w.references ≡ v.references
+row_again x v u w same is after =
+    after
+    ∙ (ap (λ (rows : List ℕ). without_reference u.layout x rows) is
+    ∙ (ap (λ (l : Layout). without_reference l x (with_reference v.layout x v.references)) same
+    ∙ elim (cases_Bool (is_immortal_row v.layout x)) [
+      | inl immortal ↦
+          ap (λ (b : Bool). if b then (if b then v.references else x ∷ v.references)
+          else without_one x (if b then v.references else x ∷ v.references)) immortal
+      | inr counted ↦
+          ap (λ (b : Bool). if b then (if b then v.references else x ∷ v.references)
+          else without_one x (if b then v.references else x ∷ v.references)) counted
+          ∙ ap (λ (b : Bool). if b then v.references else x ∷ without_one x v.references) (eq-eqb x x refl)
+    ]))
+
+-- A hand without other work has none after a call that leaves nothing to do about its row.
+pub rests_still : {x : ℕ} {v u : View} → open_work v ≡ [] → Leaves x [] v u → open_work u ≡ []
+rests_still {x} {v} {u} rests leaves =
+    ap (λ (ds : List Duty). ds ++ u.aside) leaves.agenda
+    ∙ (leaves.aside ∙ ap (filter (λ (d : Duty). not (is_about x d))) rests)
+
+-- A hand that has just given birth to an object is ready to retain and release it.
+pub ready_at_birth : {heap : TableState} {before after : HandState} {x : ℕ} → IsReady heap before
+    → length before.view.references ≤ 1 → open_work before.view ≡ [] → x ≡ next_row before.view → IsOf heap after
+    → HasBorn before.view after.view → IsReadyAt heap after x
+ready_at_birth {heap} {before} {after} {x} ready few rests is table born =
+    let refs : after.view.references ≡ x ∷ before.view.references =
+    born.references ∙ ap (λ (y : ℕ). y ∷ before.view.references) (sym is) in
+    record {
+      table = table;
+      running = (born.status ∙ ready.running.0, born.waits);
+      held =
+          omega (
+            arith,
+            ap (count_by (λ y. y == x)) refs,
+            sum_by-cons (λ (y : ℕ). cond (y == x) 1 0) x before.view.references,
+            ap {B = ℕ} (λ (b : Bool). cond b 1 0) (eq-eqb x x refl),
+          );
+      idle = ap (filter (is_about x)) (born.work ∙ rests);
+      few = omega (arith, few, ap length refs);
+      unlocked = born.sight.locked ∙ ready.unlocked;
     }

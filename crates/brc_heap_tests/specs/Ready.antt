@@ -17,6 +17,15 @@ pub record IsReady (heap : TableState) (hand : HandState) : Type 0 where
   pub few : length hand.view.references < most_references
   pub unlocked : hand.view.locked ≡ None
 
+-- The hand runs, holds a reference to the row's object, has nothing to do about it, and has locked nothing.
+pub record IsReadyAt (heap : TableState) (hand : HandState) (x : ℕ) : Type 0 where
+  pub table : IsOf heap hand
+  pub running : IsRunning hand.view
+  pub held : 1 ≤ holds hand.view x
+  pub idle : HasNoWork hand.view x
+  pub few : length hand.view.references < most_references
+  pub unlocked : hand.view.locked ≡ None
+
 -- The hand runs, holds a reference to the root, has no work at all, and has locked this row's object, or none.
 pub record IsResting (heap : TableState) (hand : HandState) (locked : Option ℕ) : Type 0 where
   pub table : IsOf heap hand

@@ -16,6 +16,8 @@ mod kinds;
 #[cfg(test)]
 mod lists;
 #[cfg(test)]
+mod no_big_lock;
+#[cfg(test)]
 mod queue;
 #[cfg(test)]
 mod root;

@@ -14,7 +14,7 @@ use std::test::*;
 const CELLS: u32 = 8;
 
 /// Tries to lock the root. Returns whether the hand has locked it.
-fn locks(heap: &Heap<u32>, hand: &mut Hand<u32>) -> bool
+pub fn locks(heap: &Heap<u32>, hand: &mut Hand<u32>) -> bool
     requires resting { IsResting heap.now hand.old None }
     ensures resting { IsResting heap.now hand.new (if result then Some root_row else None) }
 {
@@ -22,7 +22,7 @@ fn locks(heap: &Heap<u32>, hand: &mut Hand<u32>) -> bool
 }
 
 /// Unlocks the root.
-fn unlocks(heap: &Heap<u32>, hand: &mut Hand<u32>)
+pub fn unlocks(heap: &Heap<u32>, hand: &mut Hand<u32>)
     requires resting { IsResting heap.now hand.old (Some root_row) }
     ensures resting { IsResting heap.now hand.new None }
 {
