@@ -33,3 +33,8 @@ pub record FoundRunning (v : View) : Type 0 where
   pub word : ℕ
   pub last : v.trace ≡ before ++ record { address = ThreadWord thread; found = word; left = word } ∷ []
   pub runs : (word ≡ 1) ⊎ (word ≡ 2)
+
+-- The hand has looked at words and done nothing else: it is as it was, with these steps more in its trace.
+pub record HasLooked (v u : View) : Type 0 where
+  pub steps : List Event
+  pub view_is : u ≡ record v { trace = v.trace ++ steps }

@@ -6,7 +6,7 @@ ghost use Rattle.brc_model.specs.Layout.{row_count};
 ghost use Rattle.brc_model.specs.Limits.{cell_limit};
 ghost use Rattle.brc_table.specs.Hands.{IsOf};
 ghost use Rattle.brc_table.specs.Ending.{kind_at, cell_at};
-ghost use Rattle.brc_heap.specs.Ends.{was_born, is_closed, named_row, HasEnded, FoundRunning};
+ghost use Rattle.brc_heap.specs.Ends.{was_born, is_closed, named_row, HasEnded, HasLooked, FoundRunning};
 
 use crate::heap::Heap;
 use crate::kinds::kind_numbered;
@@ -21,7 +21,7 @@ const RUNNING: u64 = 1;
 /// The word of a thread that is leaving.
 const LEAVING: u64 = 2;
 
-/// H3: a thread that was started, main or a worker, isn't gone. Let it leave, and finish then.
+/// H3: a thread that was started, main or a worker, isn't gone. Let it leave, and finish then. The heap and the hand come back as they were.
 #[derive(Drop)]
 pub struct StillRunning<T: Drop> {
     /// The heap, as it was.
@@ -57,6 +57,7 @@ impl<T: Drop> Heap<T> {
         ensures ended { IfOk result HasEnded }
         ensures back { IfErr result (λ back. IsOf back.heap back.main × (back.heap ≡ self)) }
         ensures running { IfErr result (λ back. FoundRunning back.main.view) }
+        ensures kept { IfErr result (λ back. HasLooked main.view back.main.view × (back.main.carried ≡ main.carried)) }
     {
         rows_end_in_every_table();
         seen_ends_are_so();
