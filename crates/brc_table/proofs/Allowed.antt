@@ -1,9 +1,9 @@
 -- What a table asks of a step: whatever its words are, the hand can go on, and the rule holds again.
-use Rattle.std.proofs.Common.{◌≤◌, ◌≡◌, ◌≢◌, ℕ, ◌+◌, ◌<◌, Bool, true, List, [], ◌∷◌, length, set, inl, inr, refl, sym, ap, ◌∙◌, subst, arith}
-use Rattle.std.specs.Prelude.{◌==◌, ◌||◌, ◌&&◌, ◌⊎◌, slice_index, nat_le, nat_lt}
+use Rattle.std.proofs.Common.{◌≤◌, ◌≡◌, ◌≢◌, ℕ, ◌+◌, ◌<◌, Bool, true, List, [], ◌∷◌, set, inl, inr, refl, sym, ap, ◌∙◌, subst, arith}
+use Rattle.std.specs.Prelude.{◌==◌, ◌||◌, ◌&&◌, slice_index, nat_le, nat_lt}
 use Rattle.std.specs.List.{list_any}
 use Rattle.std.proofs.lemmas.List.{set-set}
-use Rattle.std.proofs.lemmas.Bool.{cases_Bool, cases_lt, eqb-true, ne_eqb, ltb-true}
+use Rattle.std.proofs.lemmas.Bool.{cases_Bool, cases_lt, eqb-true, ltb-true}
 use Rattle.std.proofs.lemmas.Option.{slice_get_within}
 use mathlib.Core.Option.{some}
 use lib.ListN.{get_elem?}
@@ -12,11 +12,7 @@ use Rattle.brc_model.specs.declared.duty.Duty.{Duty}
 use Rattle.brc_model.specs.declared.duty.Duty.TheVariants.{MergeExchange, KindLoad, CellLoad}
 use Rattle.brc_model.specs.declared.duty.Reason.TheVariants.{Handed}
 use Rattle.brc_model.specs.declared.duty.Holding.TheVariants.{AsCaller}
-use Rattle.brc_model.specs.declared.actor.Status.{Status}
-use Rattle.brc_model.specs.declared.actor.Status.TheVariants.{Running, Leaving, Gone}
-use Rattle.brc_model.specs.declared.address.Address.TheVariants.{ThreadWord}
-use Rattle.brc_model.specs.Knowledge.{status_word}
-use Rattle.brc_model.specs.declared.address.Address.{Address}
+use Rattle.brc_model.specs.declared.actor.Status.TheVariants.{Gone}
 use Rattle.brc_model.specs.declared.layout.Layout.{Layout}
 use Rattle.brc_model.specs.Limits.{cell_limit}
 use Rattle.brc_model.specs.Layout.{row_count, block_size, none_row, first_immortal_list, is_immortal_row}
@@ -31,15 +27,13 @@ use Rattle.brc_model.specs.CountingLaws.{DutiesAreKept, DutiesAreWithin, Account
 use Rattle.brc_model.specs.GuardLaws.{LockedCellsStay}
 use Rattle.brc_table.specs.declared.view.View.{View}
 use Rattle.brc_table.specs.Views.{actor_of, event_of, did, holds, NamesFewCells, RowsAreThere}
-use Rattle.brc_table.specs.Rule.{thread_reading, reading, Stands}
-use Rattle.brc_table.specs.Threads.{thread_word}
-use Rattle.brc_table.specs.Plays.{SuitsFirst, FirstFindsOwner, FindsKnown, Continues, overwritten, Stores, Looks}
+use Rattle.brc_table.specs.Rule.{Stands}
+use Rattle.brc_table.specs.Plays.{SuitsFirst, FirstFindsOwner, FindsKnown, Continues, overwritten, Stores}
 use Rattle.brc_table.specs.Hands.{TableState, HandState}
-use Rattle.brc_table.specs.Begins.{Becomes, IsAt, Makes, MakesAtThread, StoresThreadWord, StoresWord}
+use Rattle.brc_table.specs.Begins.{Becomes, IsAt, Makes, StoresWord}
 use Rattle.brc_table.specs.Places.{place, IsTableWord}
 use Rattle.brc_table.proofs.Lists.{set_view, and_second}
-use Rattle.brc_table.proofs.Places.{place_within}
-use Rattle.brc_table.proofs.ThreadsKept.{KeepsThreads, reading_some, says_three, object_step, thread_step}
+use Rattle.brc_table.proofs.ThreadsKept.{KeepsThreads, object_step}
 use Rattle.brc_table.proofs.Stepping.{Does, place_of, read_of, finds, has, relies, stands_after, object_in_table, object_reads}
 
 -- ---- rows
@@ -284,11 +278,6 @@ module _ (kept : DutiesAreKept) (within : DutiesAreWithin) (law : AccountsAreThe
 
 -- ---- kinds of steps
 
-alive_word : (s : Status) → s ≢ Gone → status_word s ≡ 3 → ⊥
-alive_word Running alive e = omega (arith, e)
-alive_word Leaving alive e = omega (arith, e)
-alive_word Gone alive e = alive refl
-
 -- What contracts see of the table and the hand is what the table's code has.
 pub record Seen {S : Type 0} (words : TableState) (hand : HandState) (layout : Layout) (me : Me S View) : Type 0 where
   pub layout_is : layout ≡ words.layout
@@ -312,7 +301,7 @@ module _ (kept : DutiesAreKept) (within : DutiesAreWithin) (law : AccountsAreThe
         subst (λ (ds : List Duty). FindsKnown u ds found) (sym agenda) (known_first u d rest found learned.known.finds),
       )
 
-  becomes_here : Becomes layout me.0 (begins me.0)
+  pub becomes_here : Becomes layout me.0 (begins me.0)
   becomes_here =
       subst (λ (l : Layout). Becomes l me.0 (begins me.0)) (sym seen.layout_is)
       (subst (λ (v : View). Becomes words.layout v (begins v)) (sym seen.view_is) becomes)
@@ -349,137 +338,4 @@ module _ (kept : DutiesAreKept) (within : DutiesAreWithin) (law : AccountsAreThe
             ∙ ap (λ (ds : List Duty). did u ds (overwritten u)) (sym makes.at.agenda),
         refl,
         learned.there,
-      ))
-
-  -- A duty about a thread's word is about a word of the table.
-  thread_next : (thread : ℕ) (f : ℕ → ℕ) (makes : MakesAtThread (begins me.0) thread f)
-      → IsNextAt (begins me.0) makes.duty makes.rest thread
-  thread_next thread f makes = record {
-    agenda = makes.agenda;
-    alive = makes.alive;
-    word = subst IsTableWord (sym makes.address) tt;
-    index_is = ap place (sym makes.address);
-  }
-
-  thread_says : (thread : ℕ) (f : ℕ → ℕ) (makes : MakesAtThread (begins me.0) thread f) (k : ℕ)
-      → read_of (begins me.0) makes.duty k ≡ thread_reading k
-  thread_says thread f makes k = ap (λ (a : Address). reading a k) makes.address
-
-  -- A step on a thread's word keeps what the words of threads say.
-  thread_keeps : (thread : ℕ) (f : ℕ → ℕ) (makes : MakesAtThread (begins me.0) thread f)
-      → (words : List ℕ) (views : List View) (i : ℕ)
-      → (does : Does layout words views i (begins me.0) makes.duty makes.rest)
-      → (thread ≡ (begins me.0).thread) ⊎ (f (thread_word words thread) ≡ thread_word words thread)
-      → (0 < thread_word words thread → 0 < f (thread_word words thread))
-      → (thread_word words thread ≡ 3 → f (thread_word words thread) ≡ 3)
-      → KeepsThreads does.stands.machine.layout words
-      (set words (place_of (begins me.0) makes.duty) (f (slice_index words (place_of (begins me.0) makes.duty))))
-      (begins me.0)
-      (did (begins me.0) (makes.duty ∷ makes.rest)
-      (read_of (begins me.0) makes.duty (slice_index words (place_of (begins me.0) makes.duty))))
-  thread_keeps thread f makes words views i does whose stays stays_gone =
-      let u = begins me.0 in
-      let d = makes.duty in
-      let raw = slice_index words (place_of u d) in
-      let at : place_of u d ≡ thread = ap place makes.address in
-      let same : raw ≡ thread_word words thread = ap (slice_index words) at in
-      let says = thread_says thread f makes in
-      let there : thread < length words =
-      subst (λ (k : ℕ). k < length words) at
-      (omega (
-        arith,
-        place_within does.stands.machine.layout (address_of u.layout u.thread u.head d) does.stands.plain.few_workers
-            (has kept within stay layout words views i u d makes.rest does),
-        does.stands.length_is,
-      )) in
-      subst (λ (k : ℕ). KeepsThreads does.stands.machine.layout words (set words k (f raw)) u
-      (did u (d ∷ makes.rest) (read_of u d raw))) (sym at)
-      (thread_step does.stands.machine.layout words u (did u (d ∷ makes.rest) (read_of u d raw))
-      (event_of u d (read_of u d raw)) thread (f raw) there (record { thread = refl; given = refl; trace = refl })
-      (record {
-        address = makes.address;
-        quiet =
-            ap (λ (b : Bool). b && (new_word u.thread u.head d (read_of u d raw) == 1))
-            (ne_eqb (read_of u d raw) 0 (λ none. omega (arith, none, says raw, reading_some raw)));
-        gone = λ three.
-            says_three (f raw)
-            (makes.leaves raw ∙ (ap (new_word u.thread u.head d) (sym (says raw)) ∙ three));
-        whose = elim whose [
-          | inl mine ↦ inl mine
-          | inr kept_so ↦ inr (ap f same ∙ kept_so)
-        ];
-        stays = λ pos. subst (λ (k : ℕ). 0 < f k) (sym same) (stays pos);
-        stays_gone = λ is. ap f same ∙ stays_gone is;
-      }))
-
-  -- The word of a thread that isn't gone doesn't say so.
-  not_gone : {f : ℕ → ℕ} (thread : ℕ) (makes : MakesAtThread (begins me.0) thread f) (words : List ℕ)
-      (views : List View) (i : ℕ)
-      → (does : Does layout words views i (begins me.0) makes.duty makes.rest) → thread ≡ (begins me.0).thread
-      → thread_word words thread ≡ 3 → ⊥
-  not_gone thread makes words views i does own is =
-      let u = begins me.0 in
-      let s = does.stands in
-      let word = (s.counts.kept.core.each u.thread (actor_of u) (s.acts i u does.here)).0.word in
-      let low : u.thread < 1 + s.machine.layout.workers =
-      omega (
-        arith,
-        slice_get_within s.machine.actors u.thread (actor_of u) (s.acts i u does.here),
-        s.counts.kept.core.threads,
-      ) in
-      let says : status_word u.status ≡ thread_reading (thread_word words u.thread) =
-      sym word ∙ s.reads (ThreadWord u.thread) low in
-      let three : thread_word words u.thread ≡ 3 = ap (thread_word words) (sym own) ∙ is in
-      alive_word u.status does.alive (says ∙ ap thread_reading three)
-
-  -- A step on a thread word is allowed that goes on with what the word says.
-  pub look_allowed : (f : ℕ → ℕ) → ((k : ℕ) → f k ≡ k) → MakesAtThread (begins hand.view) index f
-      → Allows (λ (s : State S View). Stands layout s.words s.views) slots id me index f
-      (λ found after. Looks begins me found after)
-  look_allowed f leaves makes_there =
-      let makes : MakesAtThread (begins me.0) index f =
-      subst (λ (v : View). MakesAtThread (begins v) index f) (sym seen.view_is) makes_there in
-      let u = begins me.0 in
-      let says = thread_says index f makes in
-      allows kept within law chains stay live layout me.0 u makes.duty makes.rest index becomes_here (thread_next index
-      f makes)
-      slots id me f (λ found after. Looks begins me found after) refl
-      (λ found known.
-      says (f found) ∙ (makes.leaves found ∙ ap (new_word u.thread u.head makes.duty) (sym (says found))))
-      (λ words views i does.
-      thread_keeps index f makes words views i does (inr (leaves (thread_word words index)))
-      (λ pos. omega (arith, leaves (thread_word words index), pos))
-      (λ is. leaves (thread_word words index) ∙ is))
-      (λ found known rows. (
-        ap (did u (makes.duty ∷ makes.rest)) (says found)
-            ∙ ap (λ (ds : List Duty). did u ds (thread_reading found)) (sym makes.agenda),
-        refl,
-        rows,
-      ))
-
-  -- A store of a thread word is allowed.
-  pub thread_allowed : (word : ℕ) → index ≡ (begins hand.view).thread → StoresThreadWord (begins hand.view) index word
-      → Allows (λ (s : State S View). Stands layout s.words s.views) slots id me index (λ found. word)
-      (λ found after. Stores begins me after)
-  thread_allowed word mine stores_there =
-      let stores : StoresThreadWord (begins me.0) index word =
-      subst (λ (v : View). StoresThreadWord (begins v) index word) (sym seen.view_is) stores_there in
-      let u = begins me.0 in
-      let makes = stores.makes in
-      let says = thread_says index (λ found. word) makes in
-      allows kept within law chains stay live layout me.0 u makes.duty makes.rest index becomes_here
-      (thread_next index (λ found. word) makes) slots id me (λ found. word) (λ found after. Stores begins me after) refl
-      (λ found known.
-      says word ∙ (makes.leaves found ∙ ap (new_word u.thread u.head makes.duty) (sym (says found))))
-      (λ words views i does.
-      let own : index ≡ u.thread = mine ∙ ap (λ (v : View). (begins v).thread) (sym seen.view_is) in
-      thread_keeps index (λ found. word) makes words views i does (inl own) (λ pos. stores.some)
-      (λ is. absurd (not_gone index makes words views i does own is)))
-      (λ found known rows.
-      let known' : read_of u makes.duty found ≡ overwritten u =
-      stores.knows (read_of u makes.duty found) known.overwrites in (
-        ap (did u (makes.duty ∷ makes.rest)) known'
-            ∙ ap (λ (ds : List Duty). did u ds (overwritten u)) (sym makes.agenda),
-        refl,
-        rows,
       ))

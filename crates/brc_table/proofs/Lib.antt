@@ -5,6 +5,7 @@ mod ThreadsKept
 mod SeenWords
 mod Stepping
 mod Allowed
+mod ThreadsAllowed
 mod Picked
 mod Accounts
 mod Becoming

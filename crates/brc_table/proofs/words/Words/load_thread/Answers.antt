@@ -4,7 +4,7 @@ use Rattle.brc_model.specs.Layout.{block_of}
 use Rattle.brc_table.specs.Hands.{TableState, HandState}
 use Rattle.brc_table.specs.Places.{word_count}
 use Rattle.brc_table.specs.Begins.{MakesAtThread}
-use Rattle.brc_table.proofs.Allowed.{look_allowed}
+use Rattle.brc_table.proofs.ThreadsAllowed.{look_allowed}
 use Rattle.brc_table.proofs.ThreadWords.{block_there, thread_within}
 use Rattle.brc_table.proofs.words.Words.load_thread.Goals as goal
 

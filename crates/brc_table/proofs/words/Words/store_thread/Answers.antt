@@ -3,7 +3,7 @@ use Rattle.brc_model.specs.declared.layout.Layout.{Layout}
 use Rattle.brc_table.specs.Hands.{TableState, HandState}
 use Rattle.brc_table.specs.Places.{word_count}
 use Rattle.brc_table.specs.Begins.{StoresThreadWord}
-use Rattle.brc_table.proofs.Allowed.{thread_allowed}
+use Rattle.brc_table.proofs.ThreadsAllowed.{thread_allowed}
 use Rattle.brc_table.proofs.ThreadWords.{thread_within}
 use Rattle.brc_table.proofs.words.Words.store_thread.Goals as goal
 
