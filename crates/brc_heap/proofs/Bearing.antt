@@ -9,23 +9,37 @@ use Rattle.brc_model.specs.declared.duty.Duty.TheVariants.{BirthKind, BirthSlot,
 use Rattle.brc_model.specs.declared.duty.Holding.TheVariants.{AsCaller}
 use Rattle.brc_model.specs.Duties.{ready, has_resource}
 use Rattle.brc_table.specs.declared.view.View.{View}
-use Rattle.brc_table.specs.Views.{did, done, event_of, bearing, next_row}
+use Rattle.brc_table.specs.Views.{did, done, event_of, bearing, next_row, slot_filled, slot_filled_by}
+use Rattle.brc_table.specs.Calls.{OwnsFirst}
+use Rattle.brc_model.specs.Duties.{cells_of}
+use Rattle.brc_model.specs.Kinds.{kind_of_word, is_counted_kind}
+use Rattle.brc_model.specs.Limits.{cell_limit}
 use Rattle.brc_table.specs.Seen.{shows_kind, has_seen_kind}
 use Rattle.brc_heap.specs.Calls.{KeepsSight, born, HasBorn}
 use Rattle.brc_heap.proofs.Sight.{StaysAt, same_sight, sight_then, did_sight}
 
-local_next : (head x : ℕ) (resource : Bool) → resource ≡ false
-    → ready head ((if resource then BirthSlot x AsCaller ∷ [] else BirthLocal x AsCaller ∷ []) ++ [])
-    ≡ BirthLocal x AsCaller ∷ []
-local_next head x true is = absurd cc
-local_next zero x false is = refl
-local_next (suc head) x false is = refl
+-- A hand whose next duty is to put the new object's resource into its slot, or to store its first local word, does the
+-- latter next once the resource is there.
+filled_next : (u : View) (x head : ℕ) (has : Bool)
+    → u.agenda ≡ ready head ((if has then BirthSlot x AsCaller ∷ [] else BirthLocal x AsCaller ∷ []) ++ [])
+    → slot_filled u ≡ record u { agenda = BirthLocal x AsCaller ∷ [] }
+filled_next u x zero true is = ap (λ (ds : List Duty). slot_filled_by ds u) is
+filled_next u x (suc head) true is = ap (λ (ds : List Duty). slot_filled_by ds u) is
+filled_next u x zero false is =
+    ap (λ (ds : List Duty). slot_filled_by ds u) is ∙ ap (λ (ds : List Duty). record u { agenda = ds }) is
+filled_next u x (suc head) false is =
+    ap (λ (ds : List Duty). slot_filled_by ds u) is ∙ ap (λ (ds : List Duty). record u { agenda = ds }) is
 
--- A birth of an object without a resource is two stores.
-pub born_is : (v : View) (word : ℕ) → has_resource word ≡ false
-    → born v word ≡ did (done (bearing v word) 0) (BirthLocal (next_row v) AsCaller ∷ []) 0
-born_is v word none =
-    ap (λ (ds : List Duty). did (done (bearing v word) 0) ds 0) (local_next v.head (next_row v) (has_resource word) none)
+-- the hand before it stores the first local word
+abbrev pub begun : View → ℕ → View
+begun v word = record (done (bearing v word) 0) { agenda = BirthLocal (next_row v) AsCaller ∷ [] }
+
+pub begun_is : (v : View) (word : ℕ) → slot_filled (done (bearing v word) 0) ≡ begun v word
+begun_is v word = filled_next (done (bearing v word) 0) (next_row v) v.head (has_resource word) refl
+
+-- A birth is two stores.
+pub born_is : (v : View) (word : ℕ) → born v word ≡ did (begun v word) (BirthLocal (next_row v) AsCaller ∷ []) 0
+born_is v word = ap (λ (u : View). done u 0) (begun_is v word)
 
 pub or_true : (b : Bool) → (b || true) ≡ true
 or_true true = refl
@@ -33,45 +47,52 @@ or_true false = refl
 
 -- A birth leaves what the hand has seen.
 birth_sight : (v : View) (word : ℕ)
-    → KeepsSight (next_row v) v (did (done (bearing v word) 0) (BirthLocal (next_row v) AsCaller ∷ []) 0)
+    → KeepsSight (next_row v) v (did (begun v word) (BirthLocal (next_row v) AsCaller ∷ []) 0)
 birth_sight v word =
     let x = next_row v in
-    let begun = bearing v word in
-    let stored = done begun 0 in
+    let bears = bearing v word in
+    let stored = done bears 0 in
+    let filled = begun v word in
     let stays : StaysAt x (BirthKind x AsCaller word) = record {
       locked = λ l k. refl;
       lent = λ l k. refl;
       cells = λ l t k y i ne. refl;
       gates = λ l t k y ne. refl;
     } in
-    sight_then x v stored (did stored (BirthLocal x AsCaller ∷ []) 0)
-    (sight_then x v begun stored (same_sight x v begun refl refl refl)
-    (did_sight x begun (BirthKind x AsCaller word) [] 0 stays))
-    (did_sight x stored (BirthLocal x AsCaller) [] 0 (record {
+    sight_then x v filled (did filled (BirthLocal x AsCaller ∷ []) 0)
+    (sight_then x v stored filled
+    (sight_then x v bears stored (same_sight x v bears refl refl refl refl)
+    (did_sight x bears (BirthKind x AsCaller word) [] 0 stays))
+    (same_sight x stored filled refl refl refl refl))
+    (did_sight x filled (BirthLocal x AsCaller) [] 0 (record {
       locked = λ l k. refl;
       lent = λ l k. refl;
       cells = λ l t k y i ne. refl;
       gates = λ l t k y ne. refl;
     }))
 
--- The hand has seen the kind word that it stored.
-pub birth_seen : (v : View) (word : ℕ) → has_resource word ≡ false
-    → has_seen_kind (next_row v) word (born v word) ≡ true
-birth_seen v word none =
+-- It sees the kind word that it stores,
+pub stored_seen : (v : View) (word : ℕ) → has_seen_kind (next_row v) word (done (bearing v word) 0) ≡ true
+stored_seen v word =
     let x = next_row v in
-    let stored = done (bearing v word) 0 in
-    let now : has_seen_kind x word stored ≡ true =
     list_any-append (shows_kind x word) v.trace (event_of (bearing v word) (BirthKind x AsCaller word) 0 ∷ [])
     ∙ (ap (λ (b : Bool). list_any (shows_kind x word) v.trace || ((b && (word == word)) || false)) (eq-eqb x x refl)
     ∙ (ap (λ (b : Bool). list_any (shows_kind x word) v.trace || (b || false)) (eq-eqb word word refl)
-    ∙ or_true (list_any (shows_kind x word) v.trace))) in
-    ap (has_seen_kind x word) (born_is v word none)
-    ∙ (list_any-append (shows_kind x word) stored.trace (event_of stored (BirthLocal x AsCaller) 0 ∷ [])
-    ∙ ap (λ (b : Bool). b || list_any (shows_kind x word) (event_of stored (BirthLocal x AsCaller) 0 ∷ [])) now)
+    ∙ or_true (list_any (shows_kind x word) v.trace)))
 
-pub has_born : (v : View) (word : ℕ) → has_resource word ≡ false → HasBorn v (born v word)
-has_born v word none =
-    subst (HasBorn v) (sym (born_is v word none)) (record {
+-- and still sees it at the end.
+pub birth_seen : (v : View) (word : ℕ) → has_seen_kind (next_row v) word (born v word) ≡ true
+birth_seen v word =
+    let x = next_row v in
+    let filled = begun v word in
+    ap (has_seen_kind x word) (born_is v word)
+    ∙ (list_any-append (shows_kind x word) filled.trace (event_of filled (BirthLocal x AsCaller) 0 ∷ [])
+    ∙ ap (λ (b : Bool). b || list_any (shows_kind x word) (event_of filled (BirthLocal x AsCaller) 0 ∷ []))
+    (stored_seen v word))
+
+pub has_born : (v : View) (word : ℕ) → HasBorn v (born v word)
+has_born v word =
+    subst (HasBorn v) (sym (born_is v word)) (record {
       layout = refl;
       thread = refl;
       status = refl;
@@ -82,3 +103,15 @@ has_born v word none =
       waits = tt;
       work = refl;
     })
+
+-- What comes next in a birth.
+owns_by : (x head : ℕ) (has : Bool)
+    → OwnsFirst x (ready head ((if has then BirthSlot x AsCaller ∷ [] else BirthLocal x AsCaller ∷ []) ++ []))
+owns_by x zero true = refl
+owns_by x (suc head) true = refl
+owns_by x zero false = refl
+owns_by x (suc head) false = refl
+
+-- Its last duty is to put the resource into the slot, or to store the first local word.
+pub owns_next : (v : View) (word : ℕ) → OwnsFirst (next_row v) (done (bearing v word) 0).agenda
+owns_next v word = owns_by (next_row v) v.head (has_resource word)

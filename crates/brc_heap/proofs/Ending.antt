@@ -72,7 +72,7 @@ retain_ends u x word found false false is = refl
 pub retain_leaves : (v : View) (x word found : ℕ) → HasNoWork v x → Leaves x [] v (retained v x word found)
 retain_leaves v x word found none =
     let begun = begun_works x v (retaining v x) none refl refl refl refl refl (same_sight x v (retaining v x) refl refl
-    refl) refl in
+    refl refl) refl in
     let loaded = done (retaining v x) word in
     let works = done_works x v (retaining v x) (RetainLoad x AsCaller ∷ []) word begun refl (plain_keeps x (RetainLoad
     x AsCaller) [] refl) in
@@ -149,7 +149,7 @@ pub release_leaves : (v : View) (x word : ℕ) → HasNoWork v x
     → Leaves x (local_left x (local_answer v word)) v (released_locally v x word)
 release_leaves v x word none =
     let begun = begun_works x v (releasing v x) none refl refl refl refl refl (same_sight x v (releasing v x) refl refl
-    refl) refl in
+    refl refl) refl in
     let loaded = done (releasing v x) word in
     let works =
     done_works x v (releasing v x) (ReleaseLoad x AsCaller ∷ []) word begun refl (plain_keeps x (ReleaseLoad x

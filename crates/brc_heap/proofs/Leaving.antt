@@ -125,7 +125,7 @@ turned_works x v =
       status = refl;
       used = refl;
       given = refl;
-      sight = same_sight x v (turned v x) refl refl refl;
+      sight = same_sight x v (turned v x) refl refl refl refl;
       aside = refl;
     }
 

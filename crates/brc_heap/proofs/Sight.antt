@@ -1,5 +1,5 @@
 -- A hand that works at a row keeps its lock, and what it has seen of kinds and of other rows' cells.
-use Rattle.std.proofs.Common.{◌≡◌, ◌≢◌, ℕ, Bool, false, List, [], ◌∷◌, Option, None, Some, ap, ◌∙◌}
+use Rattle.std.proofs.Common.{◌≡◌, ◌≢◌, ℕ, Bool, false, List, [], ◌∷◌, Option, None, Some, refl, ap, ◌∙◌}
 use Rattle.std.specs.Prelude.{◌||◌, if◌then◌else◌, fold}
 use Rattle.std.specs.List.{list_any}
 use Rattle.std.proofs.lemmas.List.Folds.{list_any-append}
@@ -24,10 +24,12 @@ pub record StaysAt (x : ℕ) (d : Duty) : Type 0 where
   pub gates : (layout : Layout) (t head y : ℕ) → y ≢ x → same_address (address_of layout t head d) (Gate y) ≡ false
 
 -- A hand whose lock and trace are the same.
-pub same_sight : (x : ℕ) (v u : View) → u.locked ≡ v.locked → u.lent ≡ v.lent → u.trace ≡ v.trace → KeepsSight x v u
-same_sight x v u locked lent trace = record {
+pub same_sight : (x : ℕ) (v u : View) → u.locked ≡ v.locked → u.lent ≡ v.lent → u.in_slot ≡ v.in_slot
+    → u.trace ≡ v.trace → KeepsSight x v u
+same_sight x v u locked lent in_slot trace = record {
   locked = locked;
   lent = lent;
+  in_slot = in_slot;
   kinds = λ y word seen. ap (list_any (shows_kind y word)) trace ∙ seen;
   cells = λ y i ne. ap (fold (cell_known y i) None) trace;
 }
@@ -37,6 +39,7 @@ pub sight_then : (x : ℕ) (v u w : View) → KeepsSight x v u → KeepsSight x 
 sight_then x v u w one other = record {
   locked = other.locked ∙ one.locked;
   lent = other.lent ∙ one.lent;
+  in_slot = other.in_slot ∙ one.in_slot;
   kinds = λ y word seen. other.kinds y word (one.kinds y word seen);
   cells = λ y i ne. other.cells y i ne ∙ one.cells y i ne;
 }
@@ -54,6 +57,7 @@ pub did_sight : (x : ℕ) (u : View) (d : Duty) (rest : List Duty) (found : ℕ)
 did_sight x u d rest found stays = record {
   locked = stays.locked u.locked found;
   lent = stays.lent u.lent found;
+  in_slot = refl;
   kinds = λ y word seen.
       list_any-append (shows_kind y word) u.trace (event_of u d found ∷ [])
       ∙ ap (λ (b : Bool). b || list_any (shows_kind y word) (event_of u d found ∷ [])) seen;

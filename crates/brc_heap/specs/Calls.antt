@@ -4,6 +4,8 @@ use Rattle.std.specs.Prelude.{◌≡◌, ◌≢◌, ◌⊎◌, ◌<◌, ◌≤�
 use Rattle.std.specs.List.{filter}
 use Rattle.brc_word.specs.Words.{owner_part, most_local, half, local_part, is_immortal_word, free_word, fresh_word, dead_word, released_word, merged_word}
 use Rattle.brc_lang.specs.declared.kind.Kind.{Kind}
+use Rattle.brc_lang.specs.declared.kind.Kind.TheVariants as kinds
+use Rattle.brc_model.specs.Limits.{cell_limit}
 use Rattle.brc_model.specs.declared.duty.Duty.{Duty}
 use Rattle.brc_model.specs.declared.duty.Reason.{Reason}
 use Rattle.brc_model.specs.declared.duty.Reason.TheVariants.{Own}
@@ -17,7 +19,7 @@ use Rattle.brc_model.specs.Layout.{root_row}
 use Rattle.brc_model.specs.declared.address.Address.TheVariants.{Local}
 use Rattle.brc_table.specs.declared.view.View.{View}
 use Rattle.brc_table.specs.declared.view.Event.{Event}
-use Rattle.brc_table.specs.Views.{done, resumed, turned, asking, retaining, releasing, bearing, work_about, open_work, next_row, is_given}
+use Rattle.brc_table.specs.Views.{done, resumed, turned, slot_filled, asking, retaining, releasing, bearing, work_about, open_work, next_row, is_given}
 use Rattle.brc_table.specs.Seen.{has_seen_kind, cell_seen}
 use Rattle.brc_table.specs.Hands.{HandState, MayWait, carried_of}
 use Rattle.brc_heap.specs.declared.release.LocalRelease.{LocalRelease}
@@ -127,11 +129,12 @@ Merges r hand x = MergeIsFirst r hand x ⊎ ((carried : ℕ) × MergeIsBegun r h
 
 -- ---- what a call keeps
 
--- The hand has locked and lent what it had, and knows of kinds and of cells what it has seen, but perhaps not of the
--- cells of the row x.
+-- The hand has locked and lent what it had, and knows of the locked object's slot what it knew, and of kinds and of
+-- cells what it has seen, but perhaps not of the cells of the row x.
 pub record KeepsSight (x : ℕ) (v u : View) : Type 0 where
   pub locked : u.locked ≡ v.locked
   pub lent : u.lent ≡ v.lent
+  pub in_slot : u.in_slot ≡ v.in_slot
   pub kinds : (y word : ℕ) → has_seen_kind y word v ≡ true → has_seen_kind y word u ≡ true
   pub cells : (y i : ℕ) → y ≢ x → cell_seen y i u ≡ cell_seen y i v
 
@@ -149,9 +152,19 @@ pub record SeesKind (x word : ℕ) (v u : View) : Type 0 where
 abbrev pub kind_word : Kind → ℕ → ℕ
 kind_word kind arg = kind_number kind * half + arg
 
--- the hand has stored the kind word and the first local word of a new object
+-- An object of this kind may be born with this argument: the value of a number, or how many cells a list has. Files and
+-- sockets have none.
+abbrev pub IsBornWith : Kind → ℕ → Type 0
+IsBornWith kinds.Num arg = Unit {0}
+IsBornWith kinds.List arg = arg ≤ cell_limit
+IsBornWith kinds.File arg = arg ≡ 0
+IsBornWith kinds.Sock arg = arg ≡ 0
+IsBornWith _ arg = ⊥
+
+-- the hand has stored the kind word of a new object, put its resource into its slot if the kind has one, and stored its
+-- first local word
 abbrev pub born : View → ℕ → View
-born v word = resumed (bearing v word) (0 ∷ 0 ∷ [])
+born v word = done (slot_filled (done (bearing v word) 0)) 0
 
 -- The hand has given birth to the next object of its block, and holds its only reference. Its other work is as it was.
 pub record HasBorn (v u : View) : Type 0 where

@@ -1,14 +1,15 @@
 //! Births of objects.
 
-ghost use Rattle.std.specs.Prelude.{◌≡◌, ◌≢◌, ◌≤◌, ◌⊎◌, true, false, ℕ, None};
-ghost use Rattle.brc_model.specs.Duties.{has_resource};
-ghost use Rattle.brc_model.specs.Kinds.{kind_number};
+ghost use Rattle.std.specs.Prelude.{◌≡◌, ◌<◌, ◌≤◌, true, ℕ};
+ghost use Rattle.brc_model.specs.Duties.{cells_of, resources_of};
+ghost use Rattle.brc_model.specs.Kinds.{kind_number, kind_of_word, is_counted_kind};
 ghost use Rattle.brc_model.specs.Limits.{cell_limit};
 ghost use Rattle.brc_model.specs.Machine.{has_room};
+ghost use Rattle.brc_table.specs.Homes.{resources};
 ghost use Rattle.brc_table.specs.Views.{next_row};
 ghost use Rattle.brc_table.specs.Seen.{has_seen_kind};
 ghost use Rattle.brc_table.specs.Hands.{IsOf, IsRunning};
-ghost use Rattle.brc_heap.specs.Calls.{kind_word, born, HasBorn};
+ghost use Rattle.brc_heap.specs.Calls.{kind_word, IsBornWith, born, HasBorn};
 
 use crate::heap::Heap;
 use brc_lang::Kind;
@@ -30,40 +31,48 @@ fn kind_number(kind: Kind) -> u32
 }
 
 impl<T: Drop> Heap<T> {
-    /// Gives birth to an object: a number of value `arg`, or a list of `arg` empty cells. Returns its row, the next of
-    /// the hand's block. The hand holds its only reference, which is local.
+    /// Gives birth to an object: a number of value `arg`, a list of `arg` empty cells (8 at most), or a file or a socket
+    /// with its resource (`arg` is 0). Returns its row, the next of the hand's block. The hand holds its only reference,
+    /// which is local.
     pub fn birth(&self, hand: &mut Hand<T>, kind: Kind, arg: u32, resource: Option<T>) -> u32
         requires table { IsOf self.now hand.old }
         requires running { IsRunning hand.old.view }
         requires room { has_room hand.old.view.layout hand.old.view.thread hand.old.view.used ≡ true }
-        requires kind { (kind ≡ Kind.Num) ⊎ ((kind ≡ Kind.List) × (arg ≤ cell_limit)) }
-        requires resource { resource ≡ None }
+        requires kind { IsBornWith kind arg }
+        requires resource { resources resource ≡ resources_of (kind_word kind arg) }
         ensures row { result ≡ next_row hand.old.view }
         ensures table { IsOf self.now hand.new }
         ensures carried { hand.new.carried ≡ hand.old.carried }
+        ensures slots { hand.new.slots ≡ hand.old.slots }
         ensures events { hand.new.view ≡ born hand.old.view (kind_word kind arg) }
         ensures born { HasBorn hand.old.view hand.new.view }
         ensures seen { has_seen_kind result (kind_word kind arg) hand.new.view ≡ true }
     {
-        drop(resource);
-        self.birth_steps(hand, kind, arg)
+        let word = kind_word(kind_number(kind), arg);
+        self.birth_steps(hand, word, resource)
     }
 
     /// Makes the steps of `birth`.
-    fn birth_steps(&self, hand: &mut Hand<T>, kind: Kind, arg: u32) -> u32
+    fn birth_steps(&self, hand: &mut Hand<T>, word: u64, resource: Option<T>) -> u32
         requires table { IsOf self.now hand.old }
         requires running { IsRunning hand.old.view }
         requires room { has_room hand.old.view.layout hand.old.view.thread hand.old.view.used ≡ true }
-        requires kind { (kind ≡ Kind.Num) ⊎ ((kind ≡ Kind.List) × (arg ≤ cell_limit)) }
+        requires kind { is_counted_kind (kind_of_word word) ≡ true }
+        requires cells { cells_of word ≤ cell_limit }
+        requires some { 0 < word }
+        requires resource { resources resource ≡ resources_of word }
         ensures row { result ≡ next_row hand.old.view }
         ensures table { hand.new.table ≡ hand.old.table }
         ensures carried { hand.new.carried ≡ hand.old.carried }
-        ensures view { (word : ℕ) × (word ≡ kind_word kind arg) × (has_resource word ≡ false)
-            × (hand.new.view ≡ born hand.old.view word) }
+        ensures slots { hand.new.slots ≡ hand.old.slots }
+        ensures view { hand.new.view ≡ born hand.old.view word }
     {
         hand.rows_are_there();
         let words = self.words();
-        let row = words.kind_store(hand, kind_word(kind_number(kind), arg));
+        let row = words.kind_store(hand, word);
+        if let Some(resource) = resource {
+            words.slot_put(hand, row, resource);
+        }
         words.first_local_store(hand, row);
         row
     }

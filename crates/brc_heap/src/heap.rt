@@ -91,6 +91,7 @@ impl<T: Drop> Heap<T> {
             × (main.new.view ≡ giving (starting (retained main.old.view root_row word found) thread) thread)) }
         ensures left { OnOk result (HasGiven thread main.old.view main.new.view) }
         ensures carried { main.new.carried ≡ main.old.carried }
+        ensures slots { main.new.slots ≡ main.old.slots }
         ensures none { IfOk result CarriesNothing }
     {
         self.words.layout_is_plain();

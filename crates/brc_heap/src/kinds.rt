@@ -37,6 +37,7 @@ impl<T: Drop> Heap<T> {
         requires idle { HasNoWork hand.old.view row }
         ensures table { IsOf self.now hand.new }
         ensures carried { hand.new.carried ≡ hand.old.carried }
+        ensures slots { hand.new.slots ≡ hand.old.slots }
         ensures sees { (word : ℕ) × SeesKind row word hand.old.view hand.new.view × (result ≡ kind_of_word word) }
         ensures left { Leaves row [] hand.old.view hand.new.view }
         ensures references { hand.new.view.references ≡ hand.old.view.references }
@@ -53,6 +54,7 @@ impl<T: Drop> Heap<T> {
         requires idle { HasNoWork hand.old.view row }
         ensures table { IsOf self.now hand.new }
         ensures carried { hand.new.carried ≡ hand.old.carried }
+        ensures slots { hand.new.slots ≡ hand.old.slots }
         ensures sees { (word : ℕ) × SeesKind row word hand.old.view hand.new.view × (result ≡ argument_part word) }
         ensures left { Leaves row [] hand.old.view hand.new.view }
         ensures references { hand.new.view.references ≡ hand.old.view.references }

@@ -38,6 +38,7 @@ impl<T: Drop> Heap<T> {
         requires acts { CanAct hand.old.view }
         requires duty { (r : Reason) × Merges r hand.old row }
         ensures table { IsOf self.now hand.new }
+        ensures slots { hand.new.slots ≡ hand.old.slots }
         ensures first { (r : Reason) → MergeIsFirst r hand.old row → (local : ℕ) × (word : ℕ) × (found : ℕ)
             × (hand.new.view ≡ merge_begun hand.old.view row local word found)
             × (result ≡ first_answer local word found) }
@@ -65,6 +66,7 @@ impl<T: Drop> Heap<T> {
         requires acts { CanAct hand.old.view }
         requires duty { (r : Reason) × MergeIsFirst r hand.old row }
         ensures table { IsOf self.now hand.new }
+        ensures slots { hand.new.slots ≡ hand.old.slots }
         ensures first { (local : ℕ) × (word : ℕ) × (found : ℕ)
             × (hand.new.view ≡ merge_begun hand.old.view row local word found)
             × (result ≡ first_answer local word found) }
@@ -90,6 +92,7 @@ impl<T: Drop> Heap<T> {
         requires acts { CanAct hand.old.view }
         requires duty { (r : Reason) × (work_about row hand.old.view ≡ MergeLoad row carried r ∷ []) }
         ensures table { IsOf self.now hand.new }
+        ensures slots { hand.new.slots ≡ hand.old.slots }
         ensures events { (word : ℕ) × (found : ℕ)
             × (hand.new.view ≡ merge_tried (turned hand.old.view row) word found)
             × (result ≡ merge_answer carried word found) }
@@ -111,6 +114,7 @@ impl<T: Drop> Heap<T> {
         requires acts { CanAct hand.old.view }
         requires duty { (r : Reason) × (work_about row hand.old.view ≡ MergeLoad row carried r ∷ []) }
         ensures table { hand.new.table ≡ hand.old.table }
+        ensures slots { hand.new.slots ≡ hand.old.slots }
         ensures events { (word : ℕ) × (found : ℕ)
             × (hand.new.view ≡ merge_tried (turned hand.old.view row) word found)
             × (result ≡ merge_answer carried word found)

@@ -63,6 +63,7 @@ impl<T: Drop> Heap<T> {
         requires idle { HasNoWork hand.old.view row }
         ensures table { IsOf self.now hand.new }
         ensures carried { hand.new.carried ≡ hand.old.carried }
+        ensures slots { hand.new.slots ≡ hand.old.slots }
         ensures events { (word : ℕ) × OwnerFits hand.old.view.layout row word
             × (result ≡ local_answer hand.old.view word)
             × (hand.new.view ≡ released_locally hand.old.view row word) }
@@ -84,6 +85,7 @@ impl<T: Drop> Heap<T> {
         requires idle { HasNoWork hand.old.view row }
         ensures table { hand.new.table ≡ hand.old.table }
         ensures carried { hand.new.carried ≡ hand.old.carried }
+        ensures slots { hand.new.slots ≡ hand.old.slots }
         ensures events { (word : ℕ) × OwnerFits hand.old.view.layout row word
             × (result ≡ local_answer hand.old.view word)
             × (hand.new.view ≡ released_locally hand.old.view row word) }
@@ -113,6 +115,7 @@ impl<T: Drop> Heap<T> {
         requires duty { work_about row hand.old.view ≡ DecideAtZero row ∷ [] }
         ensures table { IsOf self.now hand.new }
         ensures carried { hand.new.carried ≡ hand.old.carried }
+        ensures slots { hand.new.slots ≡ hand.old.slots }
         ensures events { (word : ℕ) × (result ≡ zero_answer word)
             × (hand.new.view ≡ decided hand.old.view row word) }
         ensures left { Leaves row (zero_left row result) hand.old.view hand.new.view }
@@ -128,6 +131,7 @@ impl<T: Drop> Heap<T> {
         requires duty { work_about row hand.old.view ≡ DecideAtZero row ∷ [] }
         ensures table { hand.new.table ≡ hand.old.table }
         ensures carried { hand.new.carried ≡ hand.old.carried }
+        ensures slots { hand.new.slots ≡ hand.old.slots }
         ensures events { (word : ℕ) × (result ≡ zero_answer word)
             × (hand.new.view ≡ decided hand.old.view row word) }
     {
@@ -152,6 +156,7 @@ impl<T: Drop> Heap<T> {
         requires duty { (r : Reason) × (work_about row hand.old.view ≡ SharedLoad row r ∷ []) }
         ensures table { IsOf self.now hand.new }
         ensures carried { hand.new.carried ≡ hand.old.carried }
+        ensures slots { hand.new.slots ≡ hand.old.slots }
         ensures events { (word : ℕ) × (found : ℕ) × (result ≡ shared_answer word found)
             × (hand.new.view ≡ released_shared hand.old.view row word found) }
         ensures left { (r : Reason) → work_about row hand.old.view ≡ SharedLoad row r ∷ []
@@ -168,6 +173,7 @@ impl<T: Drop> Heap<T> {
         requires duty { (r : Reason) × (work_about row hand.old.view ≡ SharedLoad row r ∷ []) }
         ensures table { hand.new.table ≡ hand.old.table }
         ensures carried { hand.new.carried ≡ hand.old.carried }
+        ensures slots { hand.new.slots ≡ hand.old.slots }
         ensures events { (word : ℕ) × (found : ℕ) × (result ≡ shared_answer word found)
             × (hand.new.view ≡ released_shared hand.old.view row word found) }
     {

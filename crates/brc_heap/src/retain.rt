@@ -23,6 +23,7 @@ impl<T: Drop> Heap<T> {
         requires few { length hand.old.view.references < most_references }
         ensures table { IsOf self.now hand.new }
         ensures carried { hand.new.carried ≡ hand.old.carried }
+        ensures slots { hand.new.slots ≡ hand.old.slots }
         ensures events { (word : ℕ) × (found : ℕ) × OwnerFits hand.old.view.layout row word
             × (hand.new.view ≡ retained hand.old.view row word found) }
         ensures own { block_of hand.old.view.layout row ≡ hand.old.view.thread → (word : ℕ) × (found : ℕ)
@@ -44,6 +45,7 @@ impl<T: Drop> Heap<T> {
         requires few { length hand.old.view.references < most_references }
         ensures table { hand.new.table ≡ hand.old.table }
         ensures carried { hand.new.carried ≡ hand.old.carried }
+        ensures slots { hand.new.slots ≡ hand.old.slots }
         ensures events { (word : ℕ) × (found : ℕ) × OwnerFits hand.old.view.layout row word
             × (hand.new.view ≡ retained hand.old.view row word found) }
     {

@@ -1,11 +1,12 @@
 -- What the tests' helpers require of a hand.
-use Rattle.std.specs.Prelude.{◌≡◌, ◌≤◌, ◌<◌, ℕ, Option, None, length, List, [], ◌∷◌}
+use Rattle.std.specs.Prelude.{◌≡◌, ◌≤◌, ◌<◌, ℕ, Option, None, Some, length, List, [], ◌∷◌}
 use Rattle.std.specs.Coded.{Unit-prop}
 use Rattle.std.proofs.Props.{props}
 use Rattle.brc_model.specs.declared.actor.Status.TheVariants.{Running}
 use Rattle.brc_model.specs.declared.duty.Duty.{Duty}
 use Rattle.brc_model.specs.Layout.{root_row}
 use Rattle.brc_table.specs.Views.{holds, open_work}
+use Rattle.brc_table.specs.Uses.{FirstSlot}
 use Rattle.brc_table.specs.Hands.{TableState, HandState, IsOf, IsRunning, HasNoWork, MayWait, most_references}
 
 -- The hand runs, holds a reference to the root, has nothing to do about it, and has locked nothing.
@@ -26,6 +27,11 @@ pub record IsReadyAt (heap : TableState) (hand : HandState) (x : ℕ) : Type 0 w
   pub few : length hand.view.references < most_references
   pub unlocked : hand.view.locked ≡ None
 
+-- If the hand has locked this row's object, then the slot that it took last is that one, with what it held.
+abbrev pub HasBack : HandState → Option ℕ → Type 0
+HasBack hand None = Unit {0}
+HasBack hand (Some x) = FirstSlot hand.slots x hand.view.in_slot
+
 -- The hand runs, holds a reference to the root, has no work at all, and has locked this row's object, or none.
 pub record IsResting (heap : TableState) (hand : HandState) (locked : Option ℕ) : Type 0 where
   pub table : IsOf heap hand
@@ -34,6 +40,7 @@ pub record IsResting (heap : TableState) (hand : HandState) (locked : Option ℕ
   pub rests : open_work hand.view ≡ []
   pub locked_is : hand.view.locked ≡ locked
   pub lent : hand.view.lent ≡ None
+  pub returned : HasBack hand locked
 
 -- The hand runs, has nothing to do, not even aside, and holds one reference, to the root.
 pub record IsAlone (heap : TableState) (hand : HandState) : Type 0 where

@@ -7,7 +7,8 @@ use Rattle.brc_table.specs.Seen.{has_seen_kind, cell_seen}
 use Rattle.brc_table.specs.Swaps.{swapped, with_item, without_item}
 use Rattle.brc_table.specs.Hands.{MayWait}
 
--- The hand's thread, its references, its lent resource and its other work are as before, and so are its used rows and
+-- The hand's thread, its references, its lent resource, what it knows of the slot of the object that it has locked, and
+-- its other work are as before, and so are its used rows and
 -- the hands that it has given out. It still knows the kinds that it has seen.
 pub record Keeps (v u : View) : Type 0 where
   pub layout : u.layout ≡ v.layout
@@ -17,6 +18,7 @@ pub record Keeps (v u : View) : Type 0 where
   pub used : u.used ≡ v.used
   pub given : u.given ≡ v.given
   pub lent : u.lent ≡ v.lent
+  pub taken_slot : u.in_slot ≡ v.in_slot
   pub waits : MayWait u.agenda
   pub work : open_work u ≡ open_work v
   pub kinds : (y word : ℕ) → has_seen_kind y word v ≡ true → has_seen_kind y word u ≡ true
@@ -34,6 +36,10 @@ word_of (Some row) = suc row
 -- Beside the hand's references everything is kept.
 abbrev pub KeepsBesides : View → View → Type 0
 KeepsBesides v u = Keeps (record v { references = u.references }) u
+
+-- Beside what the locked object's slot had everything is kept.
+abbrev pub KeepsButSlot : View → View → Type 0
+KeepsButSlot v u = Keeps (record v { in_slot = u.in_slot }) u
 
 -- The hand has loaded the list's cell. It has what the hand last saw or stored there since it locked the list, if it
 -- did, and now the hand has seen it. What it has seen of the other cells is as before.

@@ -1,6 +1,6 @@
 //! The calls of a hand on the lists of a heap.
 
-ghost use Rattle.std.specs.Prelude.{◌≡◌, ◌<◌, ◌==◌, if◌then◌else◌, ℕ, true, None, Some, length};
+ghost use Rattle.std.specs.Prelude.{◌≡◌, ◌<◌, ◌==◌, if◌then◌else◌, ℕ, true, None, Some, ◌∷◌, length};
 ghost use Rattle.brc_word.specs.Words.{free_word};
 ghost use Rattle.brc_model.specs.Duties.{cells_of};
 ghost use Rattle.brc_model.specs.Layout.{IsCounted};
@@ -8,8 +8,9 @@ ghost use Rattle.brc_table.specs.Views.{done, asking, locking, unlocking};
 ghost use Rattle.brc_table.specs.Plays.{overwritten};
 ghost use Rattle.brc_table.specs.Seen.{has_seen_kind, KnowsCell};
 ghost use Rattle.brc_table.specs.Swaps.{MayPut};
+ghost use Rattle.brc_table.specs.Uses.{FirstSlot, behind_slot};
 ghost use Rattle.brc_table.specs.Hands.{most_references, IsOf, IsRunning, HoldsOne, HasNoWork, HasNoRetain};
-ghost use Rattle.brc_list.specs.Calls.{Keeps, KeepsBesides, SeesItem, SwapsItem, row_in, word_of};
+ghost use Rattle.brc_list.specs.Calls.{Keeps, KeepsBesides, KeepsButSlot, SeesItem, SwapsItem, row_in, word_of};
 
 use brc_heap::{Hand, Heap};
 use brc_word::{kind_argument, kind_number};
@@ -44,7 +45,7 @@ impl<'h, T: Drop> Lists<'h, T> {
     }
 
     /// Tries once to lock a list to which the hand holds a reference, as it has locked none. Returns whether the hand
-    /// has locked it: not if another thread has locked it just now.
+    /// has locked it: not if another thread has locked it just now. The hand then has the list's slot too.
     pub fn try_lock(&self, hand: &mut Hand<T>, row: u32) -> bool
         requires table { IsOf self.now hand.old }
         requires running { IsRunning hand.old.view }
@@ -54,15 +55,17 @@ impl<'h, T: Drop> Lists<'h, T> {
         requires unlocked { hand.old.view.locked ≡ None }
         ensures table { IsOf self.now hand.new }
         ensures carried { hand.new.carried ≡ hand.old.carried }
-        ensures events { (found : ℕ) × (hand.new.view ≡ done (locking hand.old.view row) found)
+        ensures slots { hand.new.slots ≡ (if result then (row, hand.new.view.in_slot) ∷ hand.old.slots else hand.old.slots) }
+        ensures events { (found : ℕ) × (hand.new.view ≡ done (locking hand.old.view row hand.new.view.in_slot) found)
             × (result ≡ (found == free_word)) }
         ensures locked { hand.new.view.locked ≡ (if result then Some row else None) }
-        ensures keeps { Keeps hand.old.view hand.new.view }
+        ensures keeps { KeepsButSlot hand.old.view hand.new.view }
     {
         self.heap.words().gate_lock(hand, row) == FREE
     }
 
-    /// Unlocks the list that the hand has locked. The hand retains nothing meanwhile, and has lent no resource.
+    /// Unlocks the list that the hand has locked. The hand retains nothing meanwhile, and has lent no resource: the slot
+    /// has what it had when the hand locked the list.
     pub fn unlock(&self, hand: &mut Hand<T>, row: u32)
         requires table { IsOf self.now hand.old }
         requires running { IsRunning hand.old.view }
@@ -70,9 +73,11 @@ impl<'h, T: Drop> Lists<'h, T> {
         requires idle { HasNoWork hand.old.view row }
         requires locked { hand.old.view.locked ≡ Some row }
         requires retains { HasNoRetain hand.old.view }
-        requires returned { hand.old.view.lent ≡ None }
+        requires lent { hand.old.view.lent ≡ None }
+        requires returned { FirstSlot hand.old.slots row hand.old.view.in_slot }
         ensures table { IsOf self.now hand.new }
         ensures carried { hand.new.carried ≡ hand.old.carried }
+        ensures slots { hand.new.slots ≡ behind_slot hand.old.slots }
         ensures events { hand.new.view
             ≡ done (unlocking hand.old.view row) (overwritten (unlocking hand.old.view row)) }
         ensures unlocked { hand.new.view.locked ≡ None }
@@ -90,6 +95,7 @@ impl<'h, T: Drop> Lists<'h, T> {
         requires idle { HasNoWork hand.old.view row }
         ensures table { IsOf self.now hand.new }
         ensures carried { hand.new.carried ≡ hand.old.carried }
+        ensures slots { hand.new.slots ≡ hand.old.slots }
         ensures events { (word : ℕ) × (hand.new.view ≡ done (asking hand.old.view row) word)
             × (result ≡ cells_of word) × ((before : ℕ) → 0 < before → has_seen_kind row before hand.old.view ≡ true
             → word ≡ before) }
@@ -116,6 +122,7 @@ impl<'h, T: Drop> Lists<'h, T> {
         requires knows { KnowsCell hand.old.view row cell }
         ensures table { IsOf self.now hand.new }
         ensures carried { hand.new.carried ≡ hand.old.carried }
+        ensures slots { hand.new.slots ≡ hand.old.slots }
         ensures sees { (word : ℕ) × SeesItem row cell word hand.old.view hand.new.view × (result ≡ row_in word) }
         ensures locked { hand.new.view.locked ≡ Some row }
         ensures keeps { Keeps hand.old.view hand.new.view }
@@ -148,6 +155,7 @@ impl<'h, T: Drop> Lists<'h, T> {
         requires few { length hand.old.view.references < most_references }
         ensures table { IsOf self.now hand.new }
         ensures carried { hand.new.carried ≡ hand.old.carried }
+        ensures slots { hand.new.slots ≡ hand.old.slots }
         ensures swaps { (found : ℕ) × SwapsItem row cell (word_of item) found hand.old.view hand.new.view
             × (result ≡ row_in found) }
         ensures locked { hand.new.view.locked ≡ Some row }
@@ -165,5 +173,32 @@ impl<'h, T: Drop> Lists<'h, T> {
         } else {
             Some((old - 1) as u32)
         }
+    }
+    /// Takes the resource of the file or socket that the hand has locked out of its slot, for a call of the host. While
+    /// the resource is lent the hand can't unlock the object.
+    pub fn lend(&self, hand: &mut Hand<T>, row: u32) -> T
+        requires table { IsOf self.now hand.old }
+        requires locked { hand.old.view.locked ≡ Some row }
+        requires there { FirstSlot hand.old.slots row 1 }
+        ensures table { IsOf self.now hand.new }
+        ensures carried { hand.new.carried ≡ hand.old.carried }
+        ensures view { hand.new.view ≡ hand.old.view }
+        ensures slots { hand.new.slots ≡ (row, 0) ∷ behind_slot hand.old.slots }
+    {
+        self.heap.words().slot_take(hand, row)
+    }
+
+    /// Puts the lent resource of the file or socket that the hand has locked back into its slot.
+    pub fn give_back(&self, hand: &mut Hand<T>, row: u32, resource: T)
+        requires table { IsOf self.now hand.old }
+        requires locked { hand.old.view.locked ≡ Some row }
+        requires lent { FirstSlot hand.old.slots row 0 }
+        requires whole { hand.old.view.in_slot ≡ 1 }
+        ensures table { IsOf self.now hand.new }
+        ensures carried { hand.new.carried ≡ hand.old.carried }
+        ensures view { hand.new.view ≡ hand.old.view }
+        ensures slots { hand.new.slots ≡ (row, 1) ∷ behind_slot hand.old.slots }
+    {
+        self.heap.words().slot_put(hand, row, resource);
     }
 }

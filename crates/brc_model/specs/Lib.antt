@@ -41,5 +41,6 @@ pub mod Watched
 pub mod GuardLaws
 pub mod Ending
 pub mod ResourceLaws
+pub mod SlotLaws
 pub mod Trace
 pub mod Bounded

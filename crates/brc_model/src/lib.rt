@@ -21,6 +21,7 @@ mod resource_laws;
 mod row_laws;
 mod rule_laws;
 mod slot;
+mod slot_laws;
 mod thread;
 mod work_laws;
 mod world_laws;
@@ -56,6 +57,9 @@ pub use row_laws::{
 };
 pub use rule_laws::steps_go_by_rules;
 pub use slot::{Exit, Slot, State};
+pub use slot_laws::{
+    given_slots_are_unlocked, needed_slots_are_unlocked, slots_are_free, slots_are_known, slots_end,
+};
 pub use thread::{Call, Choice};
 pub use work_laws::{
     births_begin, cell_loads_begin, claims_begin, exits_begin, immortals_are_free, kinds_are_asked,

@@ -57,6 +57,7 @@ impl<'h, T: Drop> Queue<'h, T> {
         requires duty { work_about row hand.old.view ≡ SetMark row ∷ [] }
         ensures table { IsOf self.now hand.new }
         ensures carried { hand.new.carried ≡ hand.old.carried }
+        ensures slots { hand.new.slots ≡ hand.old.slots }
         ensures events { hand.new.view ≡ marked hand.old.view row }
         ensures left { Leaves row (Look row ∷ []) hand.old.view hand.new.view }
         ensures references { hand.new.view.references ≡ hand.old.view.references }
@@ -71,6 +72,7 @@ impl<'h, T: Drop> Queue<'h, T> {
         requires duty { work_about row hand.old.view ≡ SetMark row ∷ [] }
         ensures table { hand.new.table ≡ hand.old.table }
         ensures carried { hand.new.carried ≡ hand.old.carried }
+        ensures slots { hand.new.slots ≡ hand.old.slots }
         ensures events { hand.new.view ≡ marked hand.old.view row }
     {
         self.heap.words().mark_store(hand, row);
@@ -85,6 +87,7 @@ impl<'h, T: Drop> Queue<'h, T> {
         requires duty { work_about row hand.old.view ≡ Look row ∷ [] }
         ensures table { IsOf self.now hand.new }
         ensures carried { hand.new.carried ≡ hand.old.carried }
+        ensures slots { hand.new.slots ≡ hand.old.slots }
         ensures events { (said : ℕ) × (found : ℕ) × (result ≡ look_answer said found)
             × (hand.new.view ≡ looked hand.old.view row said found) }
         ensures left { Leaves row (look_left row result) hand.old.view hand.new.view }
@@ -100,6 +103,7 @@ impl<'h, T: Drop> Queue<'h, T> {
         requires duty { work_about row hand.old.view ≡ Look row ∷ [] }
         ensures table { hand.new.table ≡ hand.old.table }
         ensures carried { hand.new.carried ≡ hand.old.carried }
+        ensures slots { hand.new.slots ≡ hand.old.slots }
         ensures events { (said : ℕ) × (found : ℕ) × (result ≡ look_answer said found)
             × (hand.new.view ≡ looked hand.old.view row said found) }
     {
@@ -123,6 +127,7 @@ impl<'h, T: Drop> Queue<'h, T> {
         requires duty { work_about row hand.old.view ≡ SetMark row ∷ [] }
         ensures table { IsOf self.now hand.new }
         ensures carried { hand.new.carried ≡ hand.old.carried }
+        ensures slots { hand.new.slots ≡ hand.old.slots }
         ensures events { (said : ℕ) × (found : ℕ) × (result ≡ look_answer said found)
             × (hand.new.view ≡ looked (marked hand.old.view row) row said found) }
         ensures left { Leaves row (look_left row result) hand.old.view hand.new.view }

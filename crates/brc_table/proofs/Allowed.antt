@@ -1,5 +1,5 @@
 -- What a table asks of a step: whatever its words are, the hand can go on, and the rule holds again.
-use Rattle.std.proofs.Common.{◌≤◌, ◌≡◌, ◌≢◌, ℕ, ◌+◌, ◌<◌, Bool, true, List, [], ◌∷◌, set, inl, inr, refl, sym, ap, ◌∙◌, subst, arith}
+use Rattle.std.proofs.Common.{◌≤◌, ◌≡◌, ◌≢◌, ℕ, ◌+◌, ◌<◌, Bool, true, Option, None, List, [], ◌∷◌, set, inl, inr, refl, sym, ap, ◌∙◌, subst, arith}
 use Rattle.std.specs.Prelude.{◌==◌, ◌||◌, ◌&&◌, slice_index, nat_le, nat_lt}
 use Rattle.std.specs.List.{list_any}
 use Rattle.std.proofs.lemmas.List.{set-set}
@@ -13,6 +13,7 @@ use Rattle.brc_model.specs.declared.duty.Duty.TheVariants.{MergeExchange, KindLo
 use Rattle.brc_model.specs.declared.duty.Reason.TheVariants.{Handed}
 use Rattle.brc_model.specs.declared.duty.Holding.TheVariants.{AsCaller}
 use Rattle.brc_model.specs.declared.actor.Status.TheVariants.{Gone}
+use Rattle.brc_model.specs.declared.address.Address.TheVariants.{Slot}
 use Rattle.brc_model.specs.declared.layout.Layout.{Layout}
 use Rattle.brc_model.specs.Limits.{cell_limit}
 use Rattle.brc_model.specs.Layout.{row_count, block_size, none_row, first_immortal_list, is_immortal_row}
@@ -21,20 +22,24 @@ use Rattle.brc_model.specs.Machine.{is_running}
 use Rattle.brc_model.specs.OpenWork.{is_about}
 use Rattle.brc_model.specs.Ranges.{AreSmall}
 use Rattle.brc_model.specs.Within.{Suits, FindsOwner}
+use Rattle.brc_model.specs.SlotLaws.{Stays, Gives, use_of}
 use Rattle.brc_model.specs.Stores.{Overwrites}
 use Rattle.brc_model.specs.Counting.{IsPlainLayout}
 use Rattle.brc_model.specs.CountingLaws.{DutiesAreKept, DutiesAreWithin, AccountsAreThere, ChainsAreThere, HandedMergesLive}
 use Rattle.brc_model.specs.GuardLaws.{LockedCellsStay}
 use Rattle.brc_table.specs.declared.view.View.{View}
-use Rattle.brc_table.specs.Views.{actor_of, event_of, did, holds, NamesFewCells, RowsAreThere}
+use Rattle.brc_table.specs.Views.{actor_of, event_of, did, taken_after, holds, NamesFewCells, RowsAreThere}
 use Rattle.brc_table.specs.Rule.{Stands}
+use Rattle.brc_table.specs.Homes.{SlotsStand, TableStands}
 use Rattle.brc_table.specs.Plays.{SuitsFirst, FirstFindsOwner, FindsKnown, Continues, overwritten, Stores}
 use Rattle.brc_table.specs.Hands.{TableState, HandState}
-use Rattle.brc_table.specs.Begins.{Becomes, IsAt, Makes, StoresWord}
+use Rattle.brc_table.specs.Begins.{Passes, Becomes, IsAt, MakesWithoutSlot, StoresWord}
 use Rattle.brc_table.specs.Places.{place, IsTableWord}
 use Rattle.brc_table.proofs.Lists.{set_view, and_second}
 use Rattle.brc_table.proofs.ThreadsKept.{KeepsThreads, object_step}
-use Rattle.brc_table.proofs.Stepping.{Does, place_of, read_of, finds, has, relies, stands_after, object_in_table, object_reads}
+use Rattle.brc_table.proofs.Stepping.{Does, place_of, read_of, finds, has, relies, passes_after, object_in_table, object_reads}
+use Rattle.brc_table.proofs.SlotsKept.{slots_kept}
+use Rattle.brc_table.proofs.SlotsUsed.{lock_stays, used_left}
 
 -- ---- rows
 
@@ -177,51 +182,126 @@ module _ (kept : DutiesAreKept) (within : DutiesAreWithin) (law : AccountsAreThe
             (finds kept within stay layout words views id u d rest does);
       }
 
-  -- The step is allowed if it leaves the duty's new word and the hand learns no more than what it knows.
-  pub allows : {S : Type 0} (slots id : ℕ) (me : Me S View) (f : ℕ → ℕ) (then : ℕ → Me S View → Type 0)
-      → me.0 ≡ v
-      → ((found : ℕ) → Knows u d (read_of u d found)
+  -- What a table asks of the word that the step leaves.
+  abbrev pub Leaves : (ℕ → ℕ) → Type 0
+  Leaves f =
+      ((found : ℕ) → Knows u d (read_of u d found)
       → read_of u d (f found) ≡ new_word u.thread u.head d (read_of u d found))
-      → ((words : List ℕ) (views : List View) (id : ℕ) (does : Does layout words views id u d rest)
+      × ((words : List ℕ) (views : List View) (id : ℕ) (does : Does layout words views id u d rest)
       → KeepsThreads does.stands.machine.layout words
       (set words (place_of u d) (f (slice_index words (place_of u d)))) u
       (did u (d ∷ rest) (read_of u d (slice_index words (place_of u d)))))
+
+  module _ {T : Type 0} (s : State (Option T) View) (holds : TableStands layout s.words s.homes s.views) (id : ℕ)
+      (here : get_elem? s.views id ≡ some v) where
+    abbrev pub first : Passes layout s.words (set s.views id u) v.taken v.locked holds.stands.machine
+    first = becomes.passes s.words s.views id holds.stands here
+
+    abbrev pub does : Does layout s.words (set s.views id u) id u d rest
+    does = record {
+      stands = first.stands;
+      here = set_view s.views id v u here;
+      agenda = next.agenda;
+      alive = next.alive;
+      word = next.word;
+    }
+
+    -- the word that the step finds
+    abbrev pub word : ℕ
+    word = slice_index s.words index
+
+    same : slice_index s.words (place_of u d) ≡ word
+    same = ap (slice_index s.words) (sym next.index_is)
+
+    -- the hand after the step
+    abbrev pub w : View
+    w = did u (d ∷ rest) (read_of u d word)
+
+    pub known : Knows u d (read_of u d word)
+    known = subst (λ (k : ℕ). Knows u d (read_of u d k)) same (knows s.words (set s.views id u) id does)
+
+    -- The machine has what the step finds.
+    pub finds_word : first.stands.machine.memory (address_of first.stands.machine.layout u.thread u.head d)
+        ≡ read_of u d word
+    finds_word =
+        subst (λ (l : Layout). first.stands.machine.memory (address_of l u.thread u.head d) ≡ read_of u d word)
+        (first.stands.told id u (set_view s.views id v u here))
+        (finds kept within stay layout s.words (set s.views id u) id u d rest does ∙ ap (read_of u d) same)
+
+    module _ (f : ℕ → ℕ) (leaves : Leaves f) where
+      after : Passes layout (set s.words (place_of u d) (f word))
+          (set (set s.views id u) id (did u (d ∷ rest) (read_of u d (slice_index s.words (place_of u d))))) [] None
+          first.stands.machine
+      after =
+          passes_after kept within stay layout s.words (set s.views id u) id u d rest does (f word)
+          (leaves.0 word known ∙ ap (λ (k : ℕ). new_word u.thread u.head d (read_of u d k)) (sym same))
+          (subst (λ (k : ℕ). KeepsThreads does.stands.machine.layout s.words (set s.words (place_of u d) (f k)) u
+          (did u (d ∷ rest) (read_of u d (slice_index s.words (place_of u d))))) same
+          (leaves.1 s.words (set s.views id u) id does))
+
+      moved : Passes layout (set s.words index (f word)) (set s.views id w) [] None first.stands.machine
+      moved =
+          subst (λ (l : List View). Passes layout (set s.words index (f word)) l [] None first.stands.machine)
+          (set-set s.views id u w)
+          (subst (λ (k : ℕ). Passes layout (set s.words index (f word))
+          (set (set s.views id u) id (did u (d ∷ rest) (read_of u d k))) [] None first.stands.machine) same
+          (subst (λ (i : ℕ). Passes layout (set s.words i (f word))
+          (set (set s.views id u) id (did u (d ∷ rest) (read_of u d (slice_index s.words (place_of u d))))) [] None
+          first.stands.machine) (sym next.index_is) after))
+
+      pub now : Passes layout (set s.words index (f word)) (set s.views id w) v.taken v.locked holds.stands.machine
+      now =
+          record { stands = moved.stands; slots = λ x which. moved.slots x (inl refl) ∙ first.slots x which }
+
+      pub rows_now : RowsAreThere w
+      rows_now =
+          rows_there law chains layout (set s.words index (f word)) (set s.views id w) id w now.stands
+          (set_view s.views id v w here)
+
+      -- The step itself changes no slot.
+      pub slots_stay : (x : ℕ) → now.stands.machine.memory (Slot x) ≡ first.stands.machine.memory (Slot x)
+      unfolding now moved
+      slots_stay x = moved.slots x (inl refl)
+
+      -- The machine's size stays.
+      pub layout_stays : now.stands.machine.layout ≡ holds.stands.machine.layout
+      layout_stays = now.stands.layout_is ∙ sym holds.stands.layout_is
+
+      -- A duty that takes no slot and gives none back leaves slots as they are.
+      pub slots_now : use_of d (read_of u d word) ≡ Stays
+          → SlotsStand now.stands.machine s.homes (set s.views id w)
+      slots_now stays =
+          let keeps = becomes.slots in
+          slots_kept holds.stands.machine now.stands.machine s.homes s.views id v w holds.slots here layout_stays
+          (record {
+            taken = ap (taken_after u.taken) stays ∙ keeps.taken;
+            in_slot = keeps.in_slot;
+            locked = lock_stays u.locked d (read_of u d word) stays ∙ keeps.locked;
+            used = λ x uses.
+                used_left u d rest (read_of u d word) x next.agenda
+                (λ gives. let wrong : Stays ≡ Gives x = sym stays ∙ gives in absurd cc)
+                (λ locks. lock_stays u.locked d (read_of u d word) stays ∙ locks) (keeps.used x uses);
+          }) now.slots
+
+  -- The step is allowed if it leaves the duty's new word, and slots as they are, and the hand learns no more than what
+  -- it knows.
+  pub allows : {T : Type 0} (slots id : ℕ) (me : Me (Option T) View) (f : ℕ → ℕ)
+      (then : ℕ → Me (Option T) View → Type 0)
+      → me.0 ≡ v → ((found : ℕ) → use_of d found ≡ Stays) → Leaves f
       → ((found : ℕ) → Knows u d (read_of u d found) → RowsAreThere (did u (d ∷ rest) (read_of u d found))
       → then found (did u (d ∷ rest) (read_of u d found), me.1))
-      → Allows (λ (s : State S View). Stands layout s.words s.views) slots id me index f then
-  allows slots id me f then is_me leaves threads goes s holds homes here below =
-      let stands = becomes s.words s.views id holds (here ∙ ap some is_me) in
-      let there : get_elem? (set s.views id u) id ≡ some u = set_view s.views id me.0 u here in
-      let does : Does layout s.words (set s.views id u) id u d rest = record {
-        stands = stands;
-        here = there;
-        agenda = next.agenda;
-        alive = next.alive;
-        word = next.word;
-      } in
-      let found = slice_index s.words index in
-      let w = did u (d ∷ rest) (read_of u d found) in
-      let same : slice_index s.words (place_of u d) ≡ found = ap (slice_index s.words) (sym next.index_is) in
-      let known : Knows u d (read_of u d found) =
-      subst (λ (k : ℕ). Knows u d (read_of u d k)) same (knows s.words (set s.views id u) id does) in
-      let left : read_of u d (f found) ≡ new_word u.thread u.head d (read_of u d (slice_index s.words (place_of u d))) =
-      leaves found known ∙ ap (λ (k : ℕ). new_word u.thread u.head d (read_of u d k)) (sym same) in
-      let after =
-      stands_after kept within stay layout s.words (set s.views id u) id u d rest does (f found) left
-      (subst (λ (k : ℕ). KeepsThreads does.stands.machine.layout s.words (set s.words (place_of u d) (f k)) u
-      (did u (d ∷ rest) (read_of u d (slice_index s.words (place_of u d))))) same
-      (threads s.words (set s.views id u) id does)) in
-      let now : Stands layout (set s.words index (f found)) (set s.views id w) =
-      subst (λ (l : List View). Stands layout (set s.words index (f found)) l) (set-set s.views id u w)
-      (subst (λ (k : ℕ). Stands layout (set s.words index (f found))
-      (set (set s.views id u) id (did u (d ∷ rest) (read_of u d k)))) same
-      (subst (λ (i : ℕ). Stands layout (set s.words i (f found))
-      (set (set s.views id u) id (did u (d ∷ rest) (read_of u d (slice_index s.words (place_of u d))))))
-      (sym next.index_is) after)) in
-      let rows : RowsAreThere w =
-      rows_there law chains layout (set s.words index (f found)) (set s.views id w) id w now
-      (set_view s.views id me.0 w here) in
-      (w, keeps, tt, now, goes found known rows)
+      → Allows (λ (s : State (Option T) View). TableStands layout s.words s.homes s.views) slots id me index f then
+  allows slots id me f then is_me stays leaves goes s holds homes here below =
+      let mine = here ∙ ap some is_me in (
+        w s holds id mine,
+        keeps,
+        tt,
+        record {
+          stands = (now s holds id mine f leaves).stands;
+          slots = slots_now s holds id mine f leaves (stays (read_of u d (slice_index s.words index)));
+        },
+        goes (slice_index s.words index) (known s holds id mine) (rows_now s holds id mine f leaves),
+      )
 
 -- ---- a step on an object's word
 
@@ -231,7 +311,7 @@ pub record Learns (v : View) (d : Duty) (rest : List Duty) (found : ℕ) : Type 
   pub there : RowsAreThere (did v (d ∷ rest) found)
 
 -- A first duty about an object's word is about a word of the table.
-object_next : (v : View) (d : Duty) (rest : List Duty) (index : ℕ) → IsAt v d rest index → IsNextAt v d rest index
+pub object_next : (v : View) (d : Duty) (rest : List Duty) (index : ℕ) → IsAt v d rest index → IsNextAt v d rest index
 object_next v d rest index is_at = record {
   agenda = is_at.agenda;
   alive = is_at.alive;
@@ -243,32 +323,38 @@ module _ (kept : DutiesAreKept) (within : DutiesAreWithin) (law : AccountsAreThe
     (chains : ChainsAreThere) (stay : LockedCellsStay) (live : HandedMergesLive) (layout : Layout) (v u : View)
     (d : Duty) (rest : List Duty) (index : ℕ) (becomes : Becomes layout v u) (is_at : IsAt u d rest index) where
   -- An object's word says what it is.
-  itself : (word : ℕ) → read_of u d word ≡ word
+  pub itself : (word : ℕ) → read_of u d word ≡ word
   itself word = object_reads (address_of u.layout u.thread u.head d) word is_at.object
 
-  pub object_allows : {S : Type 0} (slots id : ℕ) (me : Me S View) (f : ℕ → ℕ) (then : ℕ → Me S View → Type 0)
-      → me.0 ≡ v
+  pub object_leaves : (f : ℕ → ℕ) → ((found : ℕ) → Knows u d found → f found ≡ new_word u.thread u.head d found)
+      → Leaves kept within law chains stay live layout v u d rest index becomes (object_next u d rest index is_at) f
+  object_leaves f leaves = (
+    λ found known.
+        itself (f found) ∙ (leaves found (subst (Knows u d) (itself found) known)
+        ∙ ap (new_word u.thread u.head d) (sym (itself found))),
+    λ words views i does.
+        let m = does.stands.machine in
+        let raw = slice_index words (place_of u d) in
+        object_step m.layout words u (did u (d ∷ rest) (read_of u d raw)) (event_of u d (read_of u d raw)) (f raw)
+        does.stands.plain.few_workers
+        (omega (
+          arith,
+          slice_get_within m.actors u.thread (actor_of u) (does.stands.acts i u does.here),
+          does.stands.counts.kept.core.threads,
+        ))
+        (record { thread = refl; given = refl; trace = refl }) is_at.object
+        (has kept within stay layout words views i u d rest does),
+  )
+
+  pub object_allows : {T : Type 0} (slots id : ℕ) (me : Me (Option T) View) (f : ℕ → ℕ)
+      (then : ℕ → Me (Option T) View → Type 0)
+      → me.0 ≡ v → ((found : ℕ) → use_of d found ≡ Stays)
       → ((found : ℕ) → Knows u d found → f found ≡ new_word u.thread u.head d found)
       → ((found : ℕ) → Learns u d rest found → then found (did u (d ∷ rest) found, me.1))
-      → Allows (λ (s : State S View). Stands layout s.words s.views) slots id me index f then
-  object_allows slots id me f then is_me leaves goes =
+      → Allows (λ (s : State (Option T) View). TableStands layout s.words s.homes s.views) slots id me index f then
+  object_allows slots id me f then is_me stays leaves goes =
       allows kept within law chains stay live layout v u d rest index becomes (object_next u d rest index is_at) slots
-      id me f then is_me
-      (λ found known.
-      itself (f found) ∙ (leaves found (subst (Knows u d) (itself found) known)
-      ∙ ap (new_word u.thread u.head d) (sym (itself found))))
-      (λ words views i does.
-      let m = does.stands.machine in
-      let raw = slice_index words (place_of u d) in
-      object_step m.layout words u (did u (d ∷ rest) (read_of u d raw)) (event_of u d (read_of u d raw)) (f raw)
-      does.stands.plain.few_workers
-      (omega (
-        arith,
-        slice_get_within m.actors u.thread (actor_of u) (does.stands.acts i u does.here),
-        does.stands.counts.kept.core.threads,
-      ))
-      (record { thread = refl; given = refl; trace = refl }) is_at.object
-      (has kept within stay layout words views i u d rest does))
+      id me f then is_me stays (object_leaves f leaves)
       (λ found known rows.
       subst (λ (k : ℕ). then found (did u (d ∷ rest) k, me.1)) (sym (itself found))
       (goes found (record {
@@ -285,13 +371,13 @@ pub record Seen {S : Type 0} (words : TableState) (hand : HandState) (layout : L
 
 module _ (kept : DutiesAreKept) (within : DutiesAreWithin) (law : AccountsAreThere)
     (chains : ChainsAreThere) (stay : LockedCellsStay) (live : HandedMergesLive) (words : TableState)
-    (hand : HandState) (begins : View → View) {S : Type 0} (layout : Layout) (slots id index : ℕ) (me : Me S View)
-    (seen : Seen words hand layout me) (becomes : Becomes words.layout hand.view (begins hand.view)) where
+    (hand : HandState) (begins : View → View) {T : Type 0} (layout : Layout) (slots id index : ℕ)
+    (me : Me (Option T) View) (seen : Seen words hand layout me) (becomes : Becomes words.layout hand.view (begins hand.view)) where
   -- What the hand learns is what a step that goes on says.
   continues : (d : Duty) (rest : List Duty) (found : ℕ) → (begins me.0).agenda ≡ d ∷ rest
-      → Learns (begins me.0) d rest found
+      → Learns (begins me.0) d rest found → taken_after (begins me.0).taken (use_of d found) ≡ me.0.taken
       → Continues begins me found (did (begins me.0) (d ∷ rest) found, me.1)
-  continues d rest found agenda learned =
+  continues d rest found agenda learned taken =
       let u = begins me.0 in (
         ap (λ (ds : List Duty). did u ds found) (sym agenda),
         refl,
@@ -299,6 +385,7 @@ module _ (kept : DutiesAreKept) (within : DutiesAreWithin) (law : AccountsAreThe
         subst (λ (ds : List Duty). FirstFindsOwner u ds found) (sym agenda) learned.known.owner,
         learned.there,
         subst (λ (ds : List Duty). FindsKnown u ds found) (sym agenda) (known_first u d rest found learned.known.finds),
+        taken,
       )
 
   pub becomes_here : Becomes layout me.0 (begins me.0)
@@ -307,21 +394,24 @@ module _ (kept : DutiesAreKept) (within : DutiesAreWithin) (law : AccountsAreThe
       (subst (λ (v : View). Becomes words.layout v (begins v)) (sym seen.view_is) becomes)
 
   -- A step that goes on with the value that it finds is allowed.
-  pub step_allowed : (f : ℕ → ℕ) → Makes (begins hand.view) index f
-      → Allows (λ (s : State S View). Stands layout s.words s.views) slots id me index f
+  pub step_allowed : (f : ℕ → ℕ) → MakesWithoutSlot (begins hand.view) index f
+      → Allows (λ (s : State (Option T) View). TableStands layout s.words s.homes s.views) slots id me index f
       (λ found after. Continues begins me found after)
   step_allowed f makes_there =
-      let makes : Makes (begins me.0) index f =
-      subst (λ (v : View). Makes (begins v) index f) (sym seen.view_is) makes_there in
+      let without : MakesWithoutSlot (begins me.0) index f =
+      subst (λ (v : View). MakesWithoutSlot (begins v) index f) (sym seen.view_is) makes_there in
+      let makes = without.makes in
       object_allows kept within law chains stay live layout me.0 (begins me.0) makes.duty makes.rest index becomes_here
       makes.at slots id me
-      f (λ found after. Continues begins me found after) refl
+      f (λ found after. Continues begins me found after) refl without.slots
       (λ found known. makes.leaves found known.suits)
-      (λ found learned. continues makes.duty makes.rest found makes.at.agenda learned)
+      (λ found learned.
+      continues makes.duty makes.rest found makes.at.agenda learned
+      (ap (taken_after (begins me.0).taken) (without.slots found) ∙ becomes_here.slots.taken))
 
   -- A store is allowed.
   pub store_allowed : (word : ℕ) → StoresWord (begins hand.view) index word
-      → Allows (λ (s : State S View). Stands layout s.words s.views) slots id me index (λ found. word)
+      → Allows (λ (s : State (Option T) View). TableStands layout s.words s.homes s.views) slots id me index (λ found. word)
       (λ found after. Stores begins me after)
   store_allowed word stores_there =
       let stores : StoresWord (begins me.0) index word =
@@ -330,7 +420,7 @@ module _ (kept : DutiesAreKept) (within : DutiesAreWithin) (law : AccountsAreThe
       let makes = stores.makes in
       object_allows kept within law chains stay live layout me.0 u makes.duty makes.rest index becomes_here makes.at
       slots id me
-      (λ found. word) (λ found after. Stores begins me after) refl
+      (λ found. word) (λ found after. Stores begins me after) refl stores.slots
       (λ found known. makes.leaves found known.suits)
       (λ found learned.
       let known : found ≡ overwritten u = stores.knows found learned.known.overwrites in (
@@ -338,4 +428,5 @@ module _ (kept : DutiesAreKept) (within : DutiesAreWithin) (law : AccountsAreThe
             ∙ ap (λ (ds : List Duty). did u ds (overwritten u)) (sym makes.at.agenda),
         refl,
         learned.there,
+        ap (taken_after u.taken) (stores.slots found) ∙ becomes_here.slots.taken,
       ))

@@ -1,18 +1,17 @@
 -- Changes of a hand's view at which no word changes: the hand turns to other work, or it begins a retain, a release or
 -- a birth. First it puts its next duty aside, which may wait.
-use Rattle.std.proofs.Common.{◌≡◌, ◌⊎◌, ℕ, ◌+◌, ◌<◌, ◌≤◌, true, List, [], ◌∷◌, ◌++◌, length, set, inl, inr, refl, sym, ap, ◌∙◌, subst, arith}
-use Rattle.std.specs.Prelude.{◌==◌, not, count_by}
-use Rattle.std.specs.List.{filter}
-use Rattle.std.proofs.lemmas.Bool.{cases_Bool, eq-eqb}
+use Rattle.std.proofs.Common.{◌≡◌, ◌⊎◌, ℕ, ◌+◌, ◌<◌, ◌≤◌, Bool, true, false, Option, Some, List, [], ◌∷◌, ◌++◌, length, set, inl, inr, refl, sym, ap, ◌∙◌, subst, arith}
+use Rattle.std.specs.Prelude.{◌==◌, ◌||◌, not, count_by}
+use Rattle.std.specs.List.{filter, list_any}
+use Rattle.std.proofs.lemmas.Bool.{cases_Bool, eq-eqb, false≢true}
 use Rattle.std.proofs.lemmas.Bool.Decides.{eqb_tells}
 use Rattle.std.proofs.lemmas.List.{set-set}
 use Rattle.std.proofs.lemmas.List.Sums.{count_by-le-length, length-filter}
 use mathlib.Core.Option.{some}
 use lib.ListN.{get_elem?}
-use Rattle.atomic_table.proofs.Lists.{set_again}
 use Rattle.brc_model.specs.declared.duty.Holding.TheVariants.{ByVariable, AsCaller}
 use Rattle.brc_model.specs.declared.duty.Duty.{Duty}
-use Rattle.brc_model.specs.declared.duty.Duty.TheVariants.{RetainLoad, ReleaseLoad, BirthKind}
+use Rattle.brc_model.specs.declared.duty.Duty.TheVariants.{RetainLoad, ReleaseLoad, BirthKind, BirthSlot, BirthLocal, SettleCell, TakeSlot, CloseResource, SettleEnd}
 use Rattle.brc_model.specs.declared.actor.Status.TheVariants.{Running}
 use Rattle.brc_model.specs.declared.layout.Layout.{Layout}
 use Rattle.brc_model.specs.Layout.{row_at, is_immortal_row, IsCounted}
@@ -21,35 +20,94 @@ use Rattle.brc_model.specs.Kinds.{kind_of_word, is_counted_kind}
 use Rattle.brc_model.specs.References.{one_if}
 use Rattle.brc_model.specs.Duties.{cells_of}
 use Rattle.brc_model.specs.Moves.{gain}
-use Rattle.brc_model.specs.Machine.{has_room, with_actor, with_moves}
+use Rattle.brc_model.specs.Machine.{Machine, has_room, with_actor, with_moves}
 use Rattle.brc_model.specs.Accounts.{Account, Accounts, HoldsNone}
-use Rattle.brc_model.specs.OpenWork.{is_about}
+use Rattle.brc_model.specs.OpenWork.{is_about, may_wait}
+use Rattle.brc_model.specs.SlotLaws.{needs_slot}
+use Rattle.brc_model.specs.declared.address.Address.TheVariants.{Slot}
 use Rattle.brc_model.specs.Counting.{Counts, with_account, with_one_more, with_one_less, working, IsReady, HasNoneAbout}
 use Rattle.brc_model.specs.CountingLaws.{WorkIsPutAside, WorkIsTakenBack, RetainsBegin, ReleasesBegin, BirthsBegin, ImmortalsAreFree}
 use Rattle.brc_table.specs.declared.view.View.{View}
 use Rattle.brc_table.specs.Views.{actor_of, open_work, turned, with_reference, without_reference, retaining, releasing, next_row, bearing}
 use Rattle.brc_table.specs.Rule.{Stands}
 use Rattle.brc_table.specs.Hands.{most_references, HoldsOne, KeepsLock, HasNoWork, MayWait, IsRunning}
-use Rattle.brc_table.specs.Begins.{Becomes}
+use Rattle.brc_table.specs.Homes.{times_in}
+use Rattle.brc_table.specs.Begins.{Passes, KeepsSlots, Becomes}
 use Rattle.brc_table.proofs.Lists.{set_view}
 use Rattle.brc_table.proofs.Accounts.{with_account_same, with_account_other, with_account_itself, one_more_else, immortal_apart, count_with_reference, count_without_reference}
-use Rattle.brc_table.proofs.Changing.{changed}
+use Rattle.brc_table.proofs.Changing.{passes, itself_becomes}
 use Rattle.brc_table.proofs.ThreadsKept.{threads_same}
 use Rattle.brc_table.proofs.Picked.{PassesNone, PassesOne, passes_one, count_more}
 
 -- ---- two changes in a row
 
+-- What is passed from one machine to a second, and from there to a third, is passed from the first to the third.
+pub passes_on : {layout : Layout} {words : List ℕ} {views : List View} {taken : List ℕ} {locked : Option ℕ}
+    (first second : Machine)
+    → ((x : ℕ) → (times_in x taken ≡ 0) ⊎ (locked ≡ Some x) → second.memory (Slot x) ≡ first.memory (Slot x))
+    → Passes layout words views taken locked second → Passes layout words views taken locked first
+passes_on first second same next =
+    record { stands = next.stands; slots = λ x which. next.slots x which ∙ same x which }
+
 -- Two changes of a hand's view, one after the other, are one change.
 pub becomes_then : (layout : Layout) (v w u : View) → Becomes layout v w → Becomes layout w u → Becomes layout v u
-becomes_then layout v w u first second words views id stands here =
-    subst (Stands layout words) (set-set views id w u)
-    (second words (set views id w) id (first words views id stands here) (set_view views id v w here))
+becomes_then layout v w u first second = record {
+  passes = λ words views id stands here.
+      let one = first.passes words views id stands here in
+      let two = second.passes words (set views id w) id one.stands (set_view views id v w here) in
+      let both =
+      subst (λ (l : List View). Passes layout words l w.taken w.locked one.stands.machine) (set-set views id w u) two in
+      record {
+        stands = both.stands;
+        slots = λ x which.
+            both.slots x (elim which [
+              | inl none ↦ inl (ap (times_in x) first.slots.taken ∙ none)
+              | inr locks ↦ inr (first.slots.locked ∙ locks)
+            ]) ∙ one.slots x which;
+      };
+  slots = record {
+    taken = second.slots.taken ∙ first.slots.taken;
+    in_slot = λ x locks. second.slots.in_slot x (first.slots.locked ∙ locks) ∙ first.slots.in_slot x locks;
+    locked = second.slots.locked ∙ first.slots.locked;
+    used = λ x uses. second.slots.used x (first.slots.used x uses);
+  };
+}
 
 -- A hand may keep its view.
 pub becomes_same : (layout : Layout) (v u : View) → v ≡ u → Becomes layout v u
-becomes_same layout v u same words views id stands here =
-    subst (λ (w : View). Stands layout words (set views id w)) same
-    (subst (Stands layout words) (sym (set_again views id v here)) stands)
+becomes_same layout v u same = subst (Becomes layout v) same (itself_becomes layout v)
+
+-- A duty that may wait needs no slot,
+waits_free : (x : ℕ) (d : Duty) → may_wait d ≡ true → needs_slot x d ≡ false
+waits_free x (BirthSlot y h) may = absurd cc
+waits_free x (BirthLocal y h) may = absurd cc
+waits_free x (SettleCell y i n) may = absurd cc
+waits_free x (TakeSlot y) may = absurd cc
+waits_free x (CloseResource y) may = absurd cc
+waits_free x (SettleEnd y) may = absurd cc
+waits_free x _ may = refl
+
+none_used : (x : ℕ) (ds : List Duty) → MayWait ds → list_any (needs_slot x) ds ≡ false
+none_used x [] may = refl
+none_used x (d ∷ []) may = ap (λ (b : Bool). b || false) (waits_free x d may)
+none_used x (d ∷ e ∷ ds) may = absurd may
+
+-- The hand has the slots and the lock that it had.
+abbrev pub SameSlots : View → View → Type 0
+SameSlots v u =
+    (u.taken ≡ v.taken) × ((x : ℕ) → v.locked ≡ Some x → u.in_slot ≡ v.in_slot) × (u.locked ≡ v.locked)
+
+-- so a hand whose next duty may wait uses the slot of no object but the one that it has locked.
+pub waiting_keeps : (v u : View) → MayWait v.agenda → SameSlots v u → KeepsSlots v u
+waiting_keeps v u may same = record {
+  taken = same.0;
+  in_slot = same.1;
+  locked = same.2;
+  used = λ x uses. elim uses [
+    | inl locks ↦ inl (same.2 ∙ locks)
+    | inr needs ↦ absurd (false≢true (sym (none_used x v.agenda may) ∙ needs))
+  ];
+}
 
 -- ---- other work
 
@@ -57,18 +115,20 @@ module _ (layout : Layout) (words : List ℕ) (views : List View) (id : ℕ) (v 
     (here : get_elem? views id ≡ some v) where
   -- The rule holds again if the machine with the hand's new work has the invariant, and the new account has the
   -- references that the hand lists.
-  begun : (agenda aside : List Duty) (references : List ℕ) (account : Account)
+  pub begun : (agenda aside : List Duty) (references : List ℕ) (in_slot : ℕ) (account : Account)
       → Counts (with_account old.accounts v.thread account) (1 + old.machine.layout.workers)
       (with_actor old.machine v.thread (working (actor_of v) agenda aside))
       → ((y : ℕ) → IsCounted v.layout y → account AsCaller y ≡ count_by (λ z. z == y) references)
       → ((i y : ℕ) → account (ByVariable i) y ≡ 0)
-      → Stands layout words (set views id (record v { agenda = agenda; aside = aside; references = references }))
-  begun agenda aside references account counts holding none =
+      → Passes layout words
+      (set views id (record v { agenda = agenda; aside = aside; references = references; in_slot = in_slot })) v.taken
+      v.locked old.machine
+  begun agenda aside references in_slot account counts holding none =
       let p = old.accounts in
       let t = v.thread in
-      let u : View = record v { agenda = agenda; aside = aside; references = references } in
+      let u : View = record v { agenda = agenda; aside = aside; references = references; in_slot = in_slot } in
       let own = with_account_same p t account in
-      changed layout words views id v u old here words (record {
+      passes layout words views id v u old here words (record {
         accounts = with_account p t account;
         machine = with_actor old.machine t (actor_of u);
         counts = counts;
@@ -96,20 +156,28 @@ module _ (layout : Layout) (words : List ℕ) (views : List View) (id : ℕ) (v 
         kinds_here = λ y word more seen. old.kinds_seen id y word v here more seen;
         cells_here = λ y i word locked seen. old.cells_seen id y i word v here locked seen;
         threads = λ i there. threads_same layout words views i v u old there refl refl refl;
-      })
+      }) v.taken v.locked (λ x which. refl)
 
-  -- The same of a hand that keeps its references.
-  pub rearranged : (agenda aside : List Duty)
+  -- The same of a hand that keeps its references, and hears what a slot holds.
+  pub rearranged_with : (agenda aside : List Duty) (in_slot : ℕ)
       → Counts old.accounts (1 + old.machine.layout.workers)
       (with_actor old.machine v.thread (working (actor_of v) agenda aside))
-      → Stands layout words (set views id (record v { agenda = agenda; aside = aside }))
-  rearranged agenda aside counts =
-      begun agenda aside v.references (old.accounts v.thread)
+      → Passes layout words (set views id (record v { agenda = agenda; aside = aside; in_slot = in_slot })) v.taken
+      v.locked old.machine
+  rearranged_with agenda aside in_slot counts =
+      begun agenda aside v.references in_slot (old.accounts v.thread)
       (subst (λ (p : Accounts). Counts p (1 + old.machine.layout.workers)
       (with_actor old.machine v.thread (working (actor_of v) agenda aside)))
       (sym (with_account_itself old.accounts v.thread)) counts)
       (λ y counted. old.holding id v y here (subst (λ (l : Layout). IsCounted l y) (old.told id v here) counted))
       (old.no_variables v.thread)
+
+  -- The same of a hand that keeps its references.
+  pub rearranged : (agenda aside : List Duty)
+      → Counts old.accounts (1 + old.machine.layout.workers)
+      (with_actor old.machine v.thread (working (actor_of v) agenda aside))
+      → Passes layout words (set views id (record v { agenda = agenda; aside = aside })) v.taken v.locked old.machine
+  rearranged agenda aside counts = rearranged_with agenda aside v.in_slot counts
 
 -- ---- all work put aside
 
@@ -122,45 +190,66 @@ rested_from : WorkIsPutAside → (layout : Layout) (v : View) (ds : List Duty) �
 rested_from law layout v [] is may =
     becomes_same layout v (record v { agenda = [] }) (ap (λ (ds : List Duty). record v { agenda = ds }) is)
 rested_from law layout v (d ∷ []) is may =
-    λ words views id stands here.
-    rearranged layout words views id v stands here [] (d ∷ v.aside)
-    (law stands.accounts (1 + stands.machine.layout.workers) stands.machine v.thread (actor_of v) d stands.counts
-    (stands.acts id v here) is may)
+    record {
+      passes = λ words views id stands here.
+          rearranged layout words views id v stands here [] (d ∷ v.aside)
+          (law stands.accounts (1 + stands.machine.layout.workers) stands.machine v.thread (actor_of v) d stands.counts
+          (stands.acts id v here) is may);
+      slots =
+          waiting_keeps v (record v { agenda = []; aside = d ∷ v.aside }) (subst MayWait (sym is) may)
+          (refl, (λ y locks. refl), refl);
+    }
 rested_from law layout v (d ∷ e ∷ ds) is may = absurd may
 
 -- A hand whose next duty may wait puts all its work aside.
 pub rested_becomes : WorkIsPutAside → (layout : Layout) (v : View) → MayWait v.agenda → Becomes layout v (rested v)
 rested_becomes law layout v may = rested_from law layout v v.agenda refl may
 
+-- A hand that has put all its work aside may go on to other work.
+pub then_begins : WorkIsPutAside → (layout : Layout) (v u : View) → MayWait v.agenda → SameSlots v u
+    → ((words : List ℕ) (views : List View) (id : ℕ) (stands : Stands layout words views)
+    → get_elem? views id ≡ some (rested v)
+    → Passes layout words (set views id u) v.taken v.locked stands.machine)
+    → Becomes layout v u
+then_begins law layout v u may same next = record {
+  passes = λ words views id stands here.
+      let rest = (rested_becomes law layout v may).passes words views id stands here in
+      passes_on stands.machine rest.stands.machine rest.slots
+      (subst (λ (l : List View). Passes layout words l v.taken v.locked rest.stands.machine)
+      (set-set views id (rested v) u)
+      (next words (set views id (rested v)) id rest.stands (set_view views id v (rested v) here)));
+  slots = waiting_keeps v u may same;
+}
+
 -- ---- turning to other work
 
 turned_at : WorkIsTakenBack → (layout : Layout) (v : View) (x : ℕ) (words : List ℕ) (views : List View) (id : ℕ)
-    → Stands layout words views → get_elem? views id ≡ some (rested v)
+    → (stands : Stands layout words views) → get_elem? views id ≡ some (rested v)
     → PassesNone (is_about x) (open_work v) ⊎ PassesOne (is_about x) (open_work v)
-    → Stands layout words (set views id (turned v x))
+    → Passes layout words (set views id (turned v x)) v.taken v.locked stands.machine
 turned_at law layout v x words views id stands here (inl none) =
-    becomes_same layout (rested v) (turned v x)
+    (becomes_same layout (rested v) (turned v x)
     (ap (λ (ds : List Duty). record v { agenda = []; aside = ds }) (sym none.left)
     ∙ ap (λ (ds : List Duty). record v { agenda = ds; aside = filter (λ d. not (is_about x d)) (open_work v) })
-    (sym none.passed)) words views id stands here
+    (sym none.passed))).passes words views id stands here
 turned_at law layout v x words views id stands here (inr one) =
     let taken =
     rearranged layout words views id (rested v) stands here (one.found ∷ []) (one.before ++ one.after)
     (law stands.accounts (1 + stands.machine.layout.workers) stands.machine v.thread (actor_of (rested v)) one.before
     one.after one.found stands.counts (stands.acts id (rested v) here) refl one.whole) in
-    subst (λ (ds : List Duty). Stands layout words (set views id (record v {
+    subst (λ (ds : List Duty). Passes layout words (set views id (record v {
       agenda = ds;
       aside = filter (λ d. not (is_about x d)) (open_work v);
-    }))) (sym one.passed)
-    (subst (λ (ds : List Duty). Stands layout words (set views id (record v { agenda = one.found ∷ []; aside = ds })))
-    (sym one.left) taken)
+    })) v.taken v.locked stands.machine) (sym one.passed)
+    (subst (λ (ds : List Duty). Passes layout words (set views id (record v { agenda = one.found ∷ []; aside = ds }))
+    v.taken v.locked stands.machine) (sym one.left) taken)
 
 -- A hand turns to its work about a row: it puts its next duty aside, and takes back the one about the row, if there is
 -- one.
 pub turned_becomes : WorkIsPutAside → WorkIsTakenBack → (layout : Layout) (v : View) (x : ℕ) → MayWait v.agenda
     → Becomes layout v (turned v x)
 turned_becomes put take layout v x may =
-    becomes_then layout v (rested v) (turned v x) (rested_becomes put layout v may) (λ words views id stands here.
+    then_begins put layout v (turned v x) may (refl, (λ y locks. refl), refl) (λ words views id stands here.
     let fits =
     (stands.counts.kept.core.each v.thread (actor_of (rested v)) (stands.acts id (rested v) here)).2 in
     let few : count_by (is_about x) (open_work v) ≤ 1 = omega (arith, fits.apart x) in
@@ -189,13 +278,15 @@ alone v x free = omega (arith, ap length free, length-filter (is_about x) (open_
 -- ---- free references
 
 -- The rule holds with accounts in which the thread has a reference to the object.
-pub record HasOne (layout : Layout) (words : List ℕ) (views : List View) (t x : ℕ) : Type 0 where
+pub record HasOne (layout : Layout) (words : List ℕ) (views : List View) (t x : ℕ) (before : Machine) : Type 0 where
   pub stands : Stands layout words views
+  pub slots : (y : ℕ) → stands.machine.memory (Slot y) ≡ before.memory (Slot y)
   pub more : 1 ≤ stands.accounts t AsCaller x
 
 -- The rule holds as well with one reference more to an immortal object: views don't list it, and no word changes.
 gains_one : ImmortalsAreFree → (layout : Layout) (words : List ℕ) (views : List View) (id : ℕ) (v : View) (x : ℕ)
-    → Rests layout words views id v x → is_immortal_row v.layout x ≡ true → HasOne layout words views v.thread x
+    → (rests : Rests layout words views id v x) → is_immortal_row v.layout x ≡ true
+    → HasOne layout words views v.thread x rests.stands.machine
 gains_one law layout words views id v x rests immortal =
     let old = rests.stands in
     let m = old.machine in
@@ -232,6 +323,7 @@ gains_one law layout words views id v x rests immortal =
         given = old.given;
         threads = old.threads;
       };
+      slots = λ y. refl;
       more =
           subst (λ (a : Account). 1 ≤ a AsCaller x) (sym (with_account_same p t more))
           (let one : one_if (x == x) ≡ 1 = ap one_if (eq-eqb x x refl) in omega (arith, one));
@@ -239,7 +331,8 @@ gains_one law layout words views id v x rests immortal =
 
 -- If the hand holds the object, the rule holds with accounts in which its thread has a reference to it.
 pub has_one : ImmortalsAreFree → (layout : Layout) (words : List ℕ) (views : List View) (id : ℕ) (v : View) (x : ℕ)
-    → Rests layout words views id v x → HoldsOne v x → HasOne layout words views v.thread x
+    → (rests : Rests layout words views id v x) → HoldsOne v x
+    → HasOne layout words views v.thread x rests.stands.machine
 has_one law layout words views id v x rests (inl immortal) = gains_one law layout words views id v x rests immortal
 has_one law layout words views id v x rests (inr one) =
     elim (cases_Bool (is_immortal_row v.layout x)) [
@@ -248,8 +341,18 @@ has_one law layout words views id v x rests (inr one) =
           let old = rests.stands in
           let counted' : IsCounted old.machine.layout x =
           subst (λ (l : Layout). IsCounted l x) (old.told id (rested v) rests.here) counted in
-          record { stands = old; more = omega (arith, one, old.holding id (rested v) x rests.here counted') }
+          record {
+            stands = old;
+            slots = λ y. refl;
+            more = omega (arith, one, old.holding id (rested v) x rests.here counted');
+          }
     ]
+
+-- What is passed on from there is passed on.
+pub with_one : {layout : Layout} {words : List ℕ} {views after : List View} {t x : ℕ} {before : Machine}
+    {taken : List ℕ} {locked : Option ℕ} (one : HasOne layout words views t x before)
+    → Passes layout words after taken locked one.stands.machine → Passes layout words after taken locked before
+with_one {before = before} one next = passes_on before one.stands.machine (λ y which. one.slots y) next
 
 -- ---- new work
 
@@ -258,7 +361,7 @@ pub retaining_becomes : WorkIsPutAside → RetainsBegin → ImmortalsAreFree →
     → IsRunning v → HasNoWork v x → HoldsOne v x → length v.references < most_references
     → Becomes layout v (retaining v x)
 retaining_becomes put law free layout v x running none holding few =
-    becomes_then layout v (rested v) (retaining v x) (rested_becomes put layout v running.1)
+    then_begins put layout v (retaining v x) running.1 (refl, (λ y locks. refl), refl)
     (λ words views id stands here.
     let one =
     has_one free layout words views id v x
@@ -266,8 +369,9 @@ retaining_becomes put law free layout v x running none holding few =
     let s = one.stands in
     let t = v.thread in
     let told = s.told id (rested v) here in
-    begun layout words views id (rested v) s here (RetainLoad x AsCaller ∷ []) (open_work v)
-    (with_reference v.layout x v.references) (with_one_more (s.accounts t) AsCaller x)
+    with_one one
+    (begun layout words views id (rested v) s here (RetainLoad x AsCaller ∷ []) (open_work v)
+    (with_reference v.layout x v.references) v.in_slot (with_one_more (s.accounts t) AsCaller x)
     (law s.accounts (1 + s.machine.layout.workers) s.machine t (actor_of (rested v)) x s.counts
     (is_ready layout words views id v s here running.0) (alone v x none) one.more
     (λ counted. omega (
@@ -281,13 +385,13 @@ retaining_becomes put law free layout v x running none holding few =
       s.holding id (rested v) y here (subst (λ (l : Layout). IsCounted l y) told counted),
       count_with_reference v.layout x y v.references counted,
     ))
-    (λ i y. omega (arith, s.no_variables t i y)))
+    (λ i y. omega (arith, s.no_variables t i y))))
 
 -- A hand begins to give up a reference that it holds.
 pub releasing_becomes : WorkIsPutAside → ReleasesBegin → ImmortalsAreFree → (layout : Layout) (v : View) (x : ℕ)
     → IsRunning v → HasNoWork v x → HoldsOne v x → KeepsLock v x → Becomes layout v (releasing v x)
 releasing_becomes put law free layout v x running none holding keeps =
-    becomes_then layout v (rested v) (releasing v x) (rested_becomes put layout v running.1)
+    then_begins put layout v (releasing v x) running.1 (refl, (λ y locks. refl), refl)
     (λ words views id stands here.
     let one =
     has_one free layout words views id v x
@@ -295,8 +399,9 @@ releasing_becomes put law free layout v x running none holding keeps =
     let s = one.stands in
     let t = v.thread in
     let told = s.told id (rested v) here in
-    begun layout words views id (rested v) s here (ReleaseLoad x AsCaller ∷ []) (open_work v)
-    (without_reference v.layout x v.references) (with_one_less (s.accounts t) AsCaller x)
+    with_one one
+    (begun layout words views id (rested v) s here (ReleaseLoad x AsCaller ∷ []) (open_work v)
+    (without_reference v.layout x v.references) v.in_slot (with_one_less (s.accounts t) AsCaller x)
     (law s.accounts (1 + s.machine.layout.workers) s.machine t (actor_of (rested v)) x s.counts
     (is_ready layout words views id v s here running.0) (alone v x none) one.more
     (λ e.
@@ -307,21 +412,21 @@ releasing_becomes put law free layout v x running none holding keeps =
       s.holding id (rested v) y here (subst (λ (l : Layout). IsCounted l y) told counted),
       count_without_reference v.layout x y v.references counted,
     ))
-    (λ i y. omega (arith, s.no_variables t i y)))
+    (λ i y. omega (arith, s.no_variables t i y))))
 
 -- A worker's hand with a row left begins the birth of an object.
 pub bearing_becomes : WorkIsPutAside → BirthsBegin → (layout : Layout) (v : View) (word : ℕ) → IsRunning v
     → 0 < v.thread → has_room v.layout v.thread v.used ≡ true → is_counted_kind (kind_of_word word) ≡ true
     → cells_of word ≤ cell_limit → Becomes layout v (bearing v word)
 bearing_becomes put law layout v word running worker room kind few =
-    becomes_then layout v (rested v) (bearing v word) (rested_becomes put layout v running.1)
+    then_begins put layout v (bearing v word) running.1 (refl, (λ y locks. refl), refl)
     (λ words views id stands here.
     let s = stands in
     let m = s.machine in
     let t = v.thread in
     let told = s.told id (rested v) here in
     begun layout words views id (rested v) s here (BirthKind (next_row v) AsCaller word ∷ []) (open_work v)
-    (next_row v ∷ v.references) (with_one_more (s.accounts t) AsCaller (next_row v))
+    (next_row v ∷ v.references) v.in_slot (with_one_more (s.accounts t) AsCaller (next_row v))
     (subst (λ (l : Layout).
     Counts (with_account s.accounts t (with_one_more (s.accounts t) AsCaller (row_at l t v.used)))
     (1 + m.layout.workers)

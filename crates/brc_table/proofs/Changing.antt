@@ -1,5 +1,5 @@
 -- One hand's view changes, and with it the machine, so that the rule holds again.
-use Rattle.std.proofs.Common.{◌≡◌, ◌≢◌, ℕ, ◌+◌, ◌<◌, true, List, length, set, Some, ⊎_elim, refl, sym, ap, ◌∙◌, subst}
+use Rattle.std.proofs.Common.{◌≡◌, ◌≢◌, ℕ, ◌+◌, ◌<◌, true, List, length, set, Option, Some, ◌⊎◌, ⊎_elim, refl, sym, ap, ◌∙◌, subst}
 use Rattle.std.specs.Prelude.{slice_get, slice_index}
 use Rattle.std.proofs.lemmas.Option.{slice_get_within}
 use mathlib.Core.Option.{some, some-injective}
@@ -7,7 +7,7 @@ use lib.ListN.{get_elem?}
 use Rattle.atomic_table.proofs.Lists.{at_set, set_else, set_again}
 use Rattle.brc_model.specs.declared.duty.Holding.TheVariants.{ByVariable, AsCaller}
 use Rattle.brc_model.specs.declared.address.Address.{Address}
-use Rattle.brc_model.specs.declared.address.Address.TheVariants.{KindOf, Cell}
+use Rattle.brc_model.specs.declared.address.Address.TheVariants.{KindOf, Cell, Slot}
 use Rattle.brc_model.specs.declared.layout.Layout.{Layout}
 use Rattle.brc_model.specs.Layout.{IsCounted}
 use Rattle.brc_model.specs.Machine.{Actor, Machine, idle_actor}
@@ -20,7 +20,8 @@ use Rattle.brc_table.specs.Seen.{has_seen_kind, cell_seen}
 use Rattle.brc_table.specs.Rule.{reading, Stands}
 use Rattle.brc_table.specs.Threads.{ThreadsStand}
 use Rattle.brc_table.specs.Views.{is_given}
-use Rattle.brc_table.specs.Begins.{Becomes}
+use Rattle.brc_table.specs.Homes.{times_in}
+use Rattle.brc_table.specs.Begins.{Passes, KeepsSlots, Becomes}
 use Rattle.brc_table.proofs.Lists.{slice_get-set_same, slice_get-set_other, set_view}
 
 -- ---- what the change has to show
@@ -186,7 +187,34 @@ module _ (layout : Layout) (words : List ℕ) (views : List View) (id : ℕ) (v 
   unfolding changed
   changed_accounts = refl
 
+  -- Its machine is the new one.
+  pub changed_machine : changed.machine ≡ new.machine
+  unfolding changed
+  changed_machine = refl
+
+  -- No slot changes but those that the hand has taken.
+  pub passes : (taken : List ℕ) (locked : Option ℕ)
+      → ((x : ℕ) → (times_in x taken ≡ 0) ⊎ (locked ≡ Some x)
+      → new.machine.memory (Slot x) ≡ old.machine.memory (Slot x))
+      → Passes layout after (set views id u) taken locked old.machine
+  passes taken locked same = record {
+    stands = changed;
+    slots = λ x which. ap (λ (m : Machine). m.memory (Slot x)) changed_machine ∙ same x which;
+  }
+
 -- A hand that stays as it is.
+pub itself_keeps : (v : View) → KeepsSlots v v
+itself_keeps v = record {
+  taken = refl;
+  in_slot = λ x locks. refl;
+  locked = refl;
+  used = λ x uses. uses;
+}
+
 pub itself_becomes : (layout : Layout) (v : View) → Becomes layout v v
-itself_becomes layout v words views id stands here =
-    subst (λ (l : List View). Stands layout words l) (sym (set_again views id v here)) stands
+itself_becomes layout v = record {
+  passes = λ words views id stands here.
+      subst (λ (l : List View). Passes layout words l v.taken v.locked stands.machine) (sym (set_again views id v here))
+      (record { stands = stands; slots = λ x which. refl });
+  slots = itself_keeps v;
+}

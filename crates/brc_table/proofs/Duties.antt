@@ -1,11 +1,11 @@
 -- The duty of each kind of step, and where its word is.
-use Rattle.std.proofs.Common.{◌≡◌, ◌≢◌, ℕ, ◌+◌, ◌%◌, ◌*◌, ◌^◌, ◌<◌, ◌≤◌, ◌⊎◌, true, Bool, List, [], ◌∷◌, ◌++◌, inl, inr, refl, sym, ap, ◌∙◌, arith}
+use Rattle.std.proofs.Common.{◌≡◌, ◌≢◌, ℕ, ◌+◌, ◌%◌, ◌*◌, ◌^◌, ◌<◌, ◌≤◌, ◌⊎◌, true, Bool, List, [], ◌∷◌, ◌++◌, inl, inr, refl, sym, ap, ◌∙◌, subst, arith}
 use Rattle.std.specs.Prelude.{◌==◌, ◌||◌, cond}
 use Rattle.std.specs.List.{filter, list_any}
 use Rattle.std.proofs.lemmas.Bool.{cases_Bool, eq-eqb}
 use prog.Atomic.{either}
 use Rattle.brc_model.specs.declared.duty.Duty.{Duty}
-use Rattle.brc_model.specs.declared.duty.Duty.TheVariants.{RetainLoad, RetainStore, RetainAdd, ReleaseLoad, ReleaseStore, DecideAtZero, SharedLoad, SharedExchange, MergeSwap, MergeLoad, MergeExchange, Die, BirthKind, BirthLocal}
+use Rattle.brc_model.specs.declared.duty.Duty.TheVariants.{RetainLoad, RetainStore, RetainAdd, ReleaseLoad, ReleaseStore, DecideAtZero, SharedLoad, SharedExchange, MergeSwap, MergeLoad, MergeExchange, Die, BirthKind, BirthSlot, BirthLocal}
 use Rattle.brc_model.specs.declared.duty.Holding.TheVariants.{AsCaller, InFlight}
 use Rattle.brc_model.specs.declared.actor.Status.TheVariants.{Running, Gone}
 use Rattle.brc_model.specs.declared.layout.Layout.{Layout}
@@ -13,7 +13,7 @@ use Rattle.brc_model.specs.Layout.{front_rows, row_count}
 use Rattle.brc_model.specs.Limits.{worker_limit, row_limit}
 use Rattle.std.proofs.Math.Nat.{div-add-mod, mod-lt, mod-eq_of_lt}
 use Rattle.brc_word.specs.Words.{biased_part, bias, local_word, released_word, merged_word, dying_word}
-use Rattle.brc_model.specs.Duties.{address_of, new_word}
+use Rattle.brc_model.specs.Duties.{address_of, new_word, resources_of}
 use Rattle.brc_model.specs.Machine.{is_running}
 use Rattle.brc_model.specs.Within.{Suits}
 use Rattle.brc_model.specs.OpenWork.{is_about}
@@ -21,11 +21,15 @@ use Rattle.brc_model.specs.Counting.{IsPlainLayout}
 use Rattle.std.proofs.Math.Nat.{mul-le-mul}
 use Rattle.brc_table.specs.declared.view.View.{View}
 use Rattle.brc_table.specs.Places.{in_tile, place, IsObjectWord}
-use Rattle.brc_table.specs.Views.{RowsAreThere, did, work_about, retaining, releasing, bearing, next_row}
+use Rattle.brc_table.specs.Seen.{has_seen_kind}
+use Rattle.brc_table.specs.Uses.{IsDue}
+use Rattle.brc_model.specs.declared.duty.Holding.{Holding}
+use Rattle.brc_table.specs.Views.{RowsAreThere, slot_filled_by, done, did, work_about, retaining, releasing, bearing, next_row}
 use Rattle.brc_table.specs.Hands.{HoldsOne}
-use Rattle.brc_table.specs.Begins.{IsQuiet, Makes, MakesQuietly, StoresWord, KeepsThread}
+use Rattle.brc_table.specs.Begins.{IsQuiet, Makes, MakesQuietly, StoresWord, StoresWithSlot, KeepsThread}
 use Rattle.brc_table.specs.Plays.{overwritten_by}
 use Rattle.brc_table.specs.Calls.{ReleasesItem, LoadsShared, SwapsLocal, StoresLocal, AddsShared, ExchangesShared, ChainsRow, OwnsFirst}
+use Rattle.brc_model.specs.SlotLaws.{Takes, Gives}
 use Rattle.brc_table.proofs.Allowed.{immortal_there}
 
 pub runs_on : (v : View) → v.status ≡ Running → v.status ≢ Gone
@@ -61,7 +65,7 @@ retain_makes v x runs = record {
     at = record { agenda = refl; alive = runs_on v runs; object = tt; index_is = refl };
     leaves = λ found suits. refl;
   };
-  quiet = record { status = λ s. refl; head = λ head found. refl; used = λ used. refl };
+  quiet = record { status = λ s. refl; head = λ head found. refl; used = λ used. refl; slots = λ found. refl };
 }
 
 pub release_makes : (v : View) (x : ℕ) → v.status ≡ Running
@@ -73,7 +77,7 @@ release_makes v x runs = record {
     at = record { agenda = refl; alive = runs_on v runs; object = tt; index_is = refl };
     leaves = λ found suits. refl;
   };
-  quiet = record { status = λ s. refl; head = λ head found. refl; used = λ used. refl };
+  quiet = record { status = λ s. refl; head = λ head found. refl; used = λ used. refl; slots = λ found. refl };
 }
 
 -- The hand's next duty is to give up a reference that came out of a cell.
@@ -86,7 +90,7 @@ item_release_makes u x alive (ReleaseLoad y InFlight ∷ rest) is same = record 
     at = record { agenda = is; alive = alive; object = tt; index_is = ap (in_tile 0) (sym same) };
     leaves = λ found suits. refl;
   };
-  quiet = record { status = λ s. refl; head = λ head found. refl; used = λ used. refl };
+  quiet = record { status = λ s. refl; head = λ head found. refl; used = λ used. refl; slots = λ found. refl };
 }
 item_release_makes u x alive _ is same = absurd same
 
@@ -164,27 +168,27 @@ module _ (u : View) (x : ℕ) (alive : u.status ≢ Gone) where
       → MakesQuietly u (in_tile 1 x) (λ found. found)
   shared_load_makes (DecideAtZero y ∷ rest) is same =
       at_line 1 (λ found. found) (DecideAtZero y) rest is tt (ap (in_tile 1) (sym same))
-      (record { status = λ s. refl; head = λ head found. refl; used = λ used. refl }) (λ found suits. refl)
+      (record { status = λ s. refl; head = λ head found. refl; used = λ used. refl; slots = λ found. refl }) (λ found suits. refl)
   shared_load_makes (SharedLoad y r ∷ rest) is same =
       at_line 1 (λ found. found) (SharedLoad y r) rest is tt (ap (in_tile 1) (sym same))
-      (record { status = λ s. refl; head = λ head found. refl; used = λ used. refl }) (λ found suits. refl)
+      (record { status = λ s. refl; head = λ head found. refl; used = λ used. refl; slots = λ found. refl }) (λ found suits. refl)
   shared_load_makes (MergeLoad y c r ∷ rest) is same =
       at_line 1 (λ found. found) (MergeLoad y c r) rest is tt (ap (in_tile 1) (sym same))
-      (record { status = λ s. refl; head = λ head found. refl; used = λ used. refl }) (λ found suits. refl)
+      (record { status = λ s. refl; head = λ head found. refl; used = λ used. refl; slots = λ found. refl }) (λ found suits. refl)
   shared_load_makes _ is same = absurd same
 
   pub local_swap_makes : (ds : List Duty) → u.agenda ≡ ds → SwapsLocal x ds
       → MakesQuietly u (in_tile 0 x) (λ found. 0)
   local_swap_makes (MergeSwap y r ∷ rest) is same =
       at_line 0 (λ found. 0) (MergeSwap y r) rest is tt (ap (in_tile 0) (sym same))
-      (record { status = λ s. refl; head = λ head found. refl; used = λ used. refl }) (λ found suits. refl)
+      (record { status = λ s. refl; head = λ head found. refl; used = λ used. refl; slots = λ found. refl }) (λ found suits. refl)
   local_swap_makes _ is same = absurd same
 
   pub shared_add_makes : (ds : List Duty) → u.agenda ≡ ds → AddsShared x ds
       → MakesQuietly u (in_tile 1 x) (λ found. (found + 4) % 2 ^ 64)
   shared_add_makes (RetainAdd y h ∷ []) is same =
       at_line 1 (λ found. (found + 4) % 2 ^ 64) (RetainAdd y h) [] is tt (ap (in_tile 1) (sym same))
-      (record { status = λ s. refl; head = λ head found. refl; used = λ used. refl })
+      (record { status = λ s. refl; head = λ head found. refl; used = λ used. refl; slots = λ found. refl })
       (λ found suits. mod-eq_of_lt (low_word found suits.0.low))
   shared_add_makes _ is same = absurd same
 
@@ -193,12 +197,12 @@ module _ (u : View) (x : ℕ) (alive : u.status ≢ Gone) where
   shared_exchange_makes old new (SharedExchange y r w ∷ rest) is same =
       at_line 1 (λ found. either (found == old) new found) (SharedExchange y r w) rest is tt (ap (in_tile 1) (sym
       same.0))
-      (record { status = λ s. refl; head = λ head found. refl; used = λ used. refl })
+      (record { status = λ s. refl; head = λ head found. refl; used = λ used. refl; slots = λ found. refl })
       (λ found suits. either_is found old new w (released_word w) same.1 same.2)
   shared_exchange_makes old new (MergeExchange y c w r ∷ rest) is same =
       at_line 1 (λ found. either (found == old) new found) (MergeExchange y c w r) rest is tt (ap (in_tile 1) (sym
       same.0))
-      (record { status = λ s. refl; head = λ head found. refl; used = λ used. refl })
+      (record { status = λ s. refl; head = λ head found. refl; used = λ used. refl; slots = λ found. refl })
       (λ found suits. either_is found old new w (merged_word w c) same.1 same.2)
   shared_exchange_makes old new _ is same = absurd same
 
@@ -208,11 +212,13 @@ module _ (u : View) (x : ℕ) (alive : u.status ≢ Gone) where
     makes =
         line_makes 0 (λ found. word) (RetainStore y h w) rest is tt (ap (in_tile 0) (sym same.0)) (λ found suits. same.1);
     knows = λ found over. over ∙ sym (ap (overwritten_by u.thread) is);
+    slots = λ found. refl;
   }
   local_store_makes word (ReleaseStore y w ∷ rest) is same = record {
     makes =
         line_makes 0 (λ found. word) (ReleaseStore y w) rest is tt (ap (in_tile 0) (sym same.0)) (λ found suits. same.1);
     knows = λ found over. over ∙ sym (ap (overwritten_by u.thread) is);
+    slots = λ found. refl;
   }
   local_store_makes word _ is same = absurd same
 
@@ -289,7 +295,7 @@ rows_few layout plain =
     omega (arith, most, plain.immortals)
 
 pub birth_stores : (v : View) (word : ℕ) → v.status ≡ Running
-    → StoresWord (bearing v word) (in_tile 3 (next_row v)) word
+    → StoresWithSlot (bearing v word) (in_tile 3 (next_row v)) word (Takes (next_row v))
 birth_stores v word runs = record {
   makes = record {
     duty = BirthKind (next_row v) AsCaller word;
@@ -298,27 +304,71 @@ birth_stores v word runs = record {
     leaves = λ found suits. refl;
   };
   knows = λ found over. over;
+  uses = λ found. refl;
 }
 
 pub own_stores : (u : View) (x word : ℕ) → u.status ≢ Gone → (ds : List Duty) → u.agenda ≡ ds → OwnsFirst x ds
-    → word ≡ local_word u.thread 1 → StoresWord u (in_tile 0 x) word
+    → word ≡ local_word u.thread 1 → StoresWithSlot (slot_filled_by ds u) (in_tile 0 x) word (Gives x)
+own_stores u x word alive (BirthSlot y h ∷ []) is same first =
+    let v : View = record u { agenda = BirthLocal y h ∷ [] } in
+    record {
+      makes =
+          line_makes v x alive 0 (λ found. word) (BirthLocal y h) [] refl tt (ap (in_tile 0) (sym same))
+          (λ found suits. first);
+      knows = λ found over. over;
+      uses = λ found. ap Gives same;
+    }
 own_stores u x word alive (BirthLocal y h ∷ []) is same first = record {
   makes = line_makes u x alive 0 (λ found. word) (BirthLocal y h) [] is tt (ap (in_tile 0) (sym same)) (λ found suits.
       first);
   knows = λ found over. over ∙ sym (ap (overwritten_by u.thread) is);
+  uses = λ found. ap Gives same;
 }
 own_stores u x word alive _ is same first = absurd same
+
+-- What the store of a first local word leaves of its thread.
+pub record Owned (u : View) (found : ℕ) : Type 0 where
+  pub status : (done u found).status ≡ u.status
+  pub head : (done u found).head ≡ u.head
+  pub used : (done u found).used ≡ u.used + 1
+
+owned_by : (u : View) (y : ℕ) (h : Holding) (found : ℕ) → u.agenda ≡ BirthLocal y h ∷ [] → Owned u found
+owned_by u y h found is = record {
+  status = subst (λ (ds : List Duty). (did u ds found).status ≡ u.status) (sym is) refl;
+  head = subst (λ (ds : List Duty). (did u ds found).head ≡ u.head) (sym is) refl;
+  used = subst (λ (ds : List Duty). (did u ds found).used ≡ u.used + 1) (sym is) refl;
+}
+
+pub own_leaves : (v : View) (x found : ℕ) (ds : List Duty) → v.agenda ≡ ds → OwnsFirst x ds
+    → Owned (slot_filled_by ds v) found
+own_leaves v x found (BirthSlot y h ∷ []) is same =
+    owned_by (record v { agenda = BirthLocal y h ∷ [] }) y h found refl
+own_leaves v x found (BirthLocal y h ∷ []) is same = owned_by v y h found is
+own_leaves v x found _ is same = absurd same
+
+-- What is due in the slot.
+pub own_due : (v : View) (x word : ℕ) (ds : List Duty) → v.agenda ≡ ds → OwnsFirst x ds → 0 < word
+    → has_seen_kind x word v ≡ true
+    → IsDue (slot_filled_by ds v) (slot_filled_by ds v).agenda (resources_of word)
+own_due v x word (BirthSlot y h ∷ []) is same some seen =
+    (word, some, subst (λ (z : ℕ). has_seen_kind z word v ≡ true) (sym same) seen, refl)
+own_due v x word (BirthLocal y h ∷ []) is same some seen =
+    subst (λ (ds : List Duty). IsDue v ds (resources_of word)) (sym is)
+    (word, some, subst (λ (z : ℕ). has_seen_kind z word v ≡ true) (sym same) seen, refl)
+own_due v x word _ is same some seen = absurd same
 
 pub chain_stores : (u : View) (x word : ℕ) → u.status ≢ Gone → (ds : List Duty) → u.agenda ≡ ds → ChainsRow x ds
     → word ≡ dying_word u.thread u.head → StoresWord u (in_tile 2 x) word
 chain_stores u x word alive (Die y ∷ rest) is same dies = record {
   makes = line_makes u x alive 2 (λ found. word) (Die y) rest is tt (ap (in_tile 2) (sym same)) (λ found suits. dies);
   knows = λ found over. over ∙ sym (ap (overwritten_by u.thread) is);
+  slots = λ found. refl;
 }
 chain_stores u x word alive _ is same dies = absurd same
 
 pub owns_first_there : (v : View) (x : ℕ) (ds : List Duty) → RowsAreThere v → v.agenda ≡ ds → OwnsFirst x ds
     → x < row_count v.layout
+owns_first_there v x (BirthSlot y h ∷ []) rows is same = next_there v x (BirthSlot y h) rows is (eq-eqb y x same)
 owns_first_there v x (BirthLocal y h ∷ []) rows is same = next_there v x (BirthLocal y h) rows is (eq-eqb y x same)
 owns_first_there v x _ rows is same = absurd same
 

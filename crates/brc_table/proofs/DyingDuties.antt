@@ -2,7 +2,7 @@
 use Rattle.std.proofs.Common.{◌≡◌, ◌≢◌, ℕ, ◌+◌, ◌-◌, ◌<◌, ◌≤◌, List, [], ◌∷◌, refl, sym, ap, ◌∙◌, subst, arith}
 use Rattle.std.proofs.lemmas.Bool.{eq-eqb}
 use Rattle.brc_model.specs.declared.duty.Duty.{Duty}
-use Rattle.brc_model.specs.declared.duty.Duty.TheVariants.{Settle, SettleKind, SettleCell, SettleEnd}
+use Rattle.brc_model.specs.declared.duty.Duty.TheVariants.{TakeSlot, Settle, SettleKind, SettleCell, SettleEnd}
 use Rattle.brc_model.specs.declared.actor.Status.TheVariants.{Gone}
 use Rattle.brc_model.specs.declared.layout.Layout.{Layout}
 use Rattle.brc_model.specs.Layout.{row_count}
@@ -11,10 +11,13 @@ use Rattle.brc_word.specs.Words.{closed_word}
 use Rattle.brc_model.specs.CountingLaws.{SettlesBegin}
 use Rattle.brc_table.specs.declared.view.View.{View}
 use Rattle.brc_table.specs.Places.{in_tile, cell_place}
-use Rattle.brc_table.specs.Views.{actor_of, settle_first, settling, NamesFewCells, RowsAreThere}
-use Rattle.brc_table.specs.Begins.{Becomes, Makes, MakesQuietly, SettlesNext}
+use Rattle.brc_table.specs.Views.{slot_emptied_by, actor_of, settle_first, settling, NamesFewCells, RowsAreThere}
+use Rattle.brc_table.specs.Hands.{MayWait}
+use Rattle.brc_table.specs.Begins.{Becomes, MakesWithoutSlot, MakesQuietly, MakesWithSlot, SettlesNext}
+use Rattle.brc_model.specs.SlotLaws.{Takes, Gives}
+use Rattle.brc_table.specs.Uses.{IsDue}
 use Rattle.brc_table.specs.Calls.{SettlesFrom, LoadsDyingKind, EmptiesCell, ClosesRow}
-use Rattle.brc_table.proofs.Becoming.{becomes_same, rearranged}
+use Rattle.brc_table.proofs.Becoming.{becomes_same, rearranged, waiting_keeps}
 use Rattle.brc_table.proofs.Duties.{runs_on, first_there}
 
 -- ---- the beginning
@@ -22,10 +25,14 @@ use Rattle.brc_table.proofs.Duties.{runs_on, first_there}
 settling_from : SettlesBegin → (layout : Layout) (v : View) (ds : List Duty) → v.agenda ≡ ds → SettlesFrom v ds
     → 0 < v.head → Becomes layout v (record v { agenda = settle_first ds })
 settling_from law layout v [] is may some =
-    λ words views id stands here.
-    rearranged layout words views id v stands here (Settle ∷ []) v.aside
-    (law stands.accounts (1 + stands.machine.layout.workers) stands.machine v.thread (actor_of v) stands.counts
-    (record { found = stands.acts id v here; running = may.0; agenda = is }) may.1 some)
+    record {
+      passes = λ words views id stands here.
+          rearranged layout words views id v stands here (Settle ∷ []) v.aside
+          (law stands.accounts (1 + stands.machine.layout.workers) stands.machine v.thread (actor_of v) stands.counts
+          (record { found = stands.acts id v here; running = may.0; agenda = is }) may.1 some);
+      slots =
+          waiting_keeps v (record v { agenda = Settle ∷ [] }) (subst MayWait (sym is) tt) (refl, (λ y locks. refl), refl);
+    }
 settling_from law layout v (Settle ∷ rest) is may some =
     becomes_same layout v (record v { agenda = Settle ∷ rest }) (ap (λ (ds : List Duty). record v { agenda = ds }) is)
 settling_from law layout v _ is may some = absurd may
@@ -41,17 +48,21 @@ settles_next v (Settle ∷ rest) may = record { rest = rest; agenda = refl; aliv
 settles_next v _ may = absurd may
 
 -- To settle loads the gate of the chain's first row.
-pub settle_makes : (v u : View) → u.head ≡ v.head → SettlesNext u → Makes u (in_tile 2 (v.head - 1)) (λ found. found)
+pub settle_makes : (v u : View) → u.head ≡ v.head → SettlesNext u
+    → MakesWithoutSlot u (in_tile 2 (v.head - 1)) (λ found. found)
 settle_makes v u same next = record {
-  duty = Settle;
-  rest = next.rest;
-  at = record {
-    agenda = next.agenda;
-    alive = next.alive;
-    object = tt;
-    index_is = ap (λ (k : ℕ). in_tile 2 (k - 1)) (sym same);
+  makes = record {
+    duty = Settle;
+    rest = next.rest;
+    at = record {
+      agenda = next.agenda;
+      alive = next.alive;
+      object = tt;
+      index_is = ap (λ (k : ℕ). in_tile 2 (k - 1)) (sym same);
+    };
+    leaves = λ found suits. refl;
   };
-  leaves = λ found suits. refl;
+  slots = λ found. refl;
 }
 
 -- ---- the rows of these duties
@@ -76,6 +87,7 @@ dying_cell_low v x i _ rows is same = absurd same
 
 pub gate_close_there : (v : View) (x : ℕ) (ds : List Duty) → RowsAreThere v → v.agenda ≡ ds → ClosesRow x ds
     → x < row_count v.layout
+gate_close_there v x (TakeSlot y ∷ rest) rows is same = first_there v x (TakeSlot y) rest rows is (eq-eqb y x same)
 gate_close_there v x (SettleEnd y ∷ rest) rows is same = first_there v x (SettleEnd y) rest rows is (eq-eqb y x same)
 gate_close_there v x _ rows is same = absurd same
 
@@ -83,7 +95,7 @@ gate_close_there v x _ rows is same = absurd same
 
 module _ (u : View) (x : ℕ) (alive : u.status ≢ Gone) where
   pub dying_kind_makes : (ds : List Duty) → u.agenda ≡ ds → LoadsDyingKind x ds
-      → MakesQuietly u (in_tile 3 x) (λ found. found)
+      → MakesWithSlot u (in_tile 3 x) (λ found. found) (λ found. Takes x)
   dying_kind_makes (SettleKind y ∷ rest) is same = record {
     makes = record {
       duty = SettleKind y;
@@ -91,7 +103,10 @@ module _ (u : View) (x : ℕ) (alive : u.status ≢ Gone) where
       at = record { agenda = is; alive = alive; object = tt; index_is = ap (in_tile 3) (sym same) };
       leaves = λ found suits. refl;
     };
-    quiet = record { status = λ s. refl; head = λ head found. refl; used = λ used. refl };
+    status = λ s. refl;
+    head = λ head found. refl;
+    used = λ used. refl;
+    uses = λ found. ap Takes same;
   }
   dying_kind_makes _ is same = absurd same
 
@@ -109,12 +124,24 @@ module _ (u : View) (x : ℕ) (alive : u.status ≢ Gone) where
       };
       leaves = λ found suits. refl;
     };
-    quiet = record { status = λ s. refl; head = λ head found. refl; used = λ used. refl };
+    quiet = record { status = λ s. refl; head = λ head found. refl; used = λ used. refl; slots = λ found. refl };
   }
   dying_cell_makes i _ is same = absurd same
 
   pub gate_close_makes : (word : ℕ) (ds : List Duty) → u.agenda ≡ ds → ClosesRow x ds → word ≡ closed_word
-      → MakesQuietly u (in_tile 2 x) (λ found. word)
+      → MakesWithSlot (slot_emptied_by ds u) (in_tile 2 x) (λ found. word) (λ found. Gives x)
+  gate_close_makes word (TakeSlot y ∷ rest) is same closed = record {
+    makes = record {
+      duty = SettleEnd y;
+      rest = rest;
+      at = record { agenda = refl; alive = alive; object = tt; index_is = ap (in_tile 2) (sym same) };
+      leaves = λ found suits. closed;
+    };
+    status = λ s. refl;
+    head = λ head found. refl;
+    used = λ used. refl;
+    uses = λ found. ap Gives same;
+  }
   gate_close_makes word (SettleEnd y ∷ rest) is same closed = record {
     makes = record {
       duty = SettleEnd y;
@@ -122,6 +149,16 @@ module _ (u : View) (x : ℕ) (alive : u.status ≢ Gone) where
       at = record { agenda = is; alive = alive; object = tt; index_is = ap (in_tile 2) (sym same) };
       leaves = λ found suits. closed;
     };
-    quiet = record { status = λ s. refl; head = λ head found. refl; used = λ used. refl };
+    status = λ s. refl;
+    head = λ head found. refl;
+    used = λ used. refl;
+    uses = λ found. ap Gives same;
   }
   gate_close_makes word _ is same closed = absurd same
+
+-- Nothing is due in the slot of an object that is closed.
+pub close_due : (v : View) (x : ℕ) (ds : List Duty) → v.agenda ≡ ds → ClosesRow x ds
+    → IsDue (slot_emptied_by ds v) (slot_emptied_by ds v).agenda 0
+close_due v x (TakeSlot y ∷ rest) is same = refl
+close_due v x (SettleEnd y ∷ rest) is same = subst (λ (ds : List Duty). IsDue v ds 0) (sym is) refl
+close_due v x _ is same = absurd same

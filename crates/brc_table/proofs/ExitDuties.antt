@@ -14,11 +14,12 @@ use Rattle.brc_model.specs.CountingLaws.{DutiesAreKept, ReleasesBegin, ClaimsBeg
 use Rattle.brc_table.specs.declared.view.View.{View}
 use Rattle.brc_table.specs.Places.{in_tile}
 use Rattle.brc_table.specs.Views.{actor_of, RowsAreThere, claiming, leaving}
-use Rattle.brc_table.specs.Rule.{Stands}
-use Rattle.brc_table.specs.Begins.{Becomes, MakesQuietly, StoresThreadWord}
+use Rattle.brc_table.specs.Begins.{Passes, Becomes, MakesQuietly, StoresThreadWord}
+use Rattle.brc_table.specs.Hands.{MayWait}
+use Rattle.brc_model.specs.Machine.{Machine}
 use Rattle.brc_table.specs.Calls.{IsFree, MayLeave, ScansRow, Finishes}
 use Rattle.brc_table.specs.Plays.{overwritten_by}
-use Rattle.brc_table.proofs.Becoming.{rearranged}
+use Rattle.brc_table.proofs.Becoming.{rearranged, passes_on, waiting_keeps}
 use Rattle.brc_table.proofs.FreeDropped.{HasJust, drops_all, plain_immortal}
 use Rattle.brc_table.proofs.Duties.{runs_on}
 use mathlib.Core.Option.{some}
@@ -29,12 +30,16 @@ use lib.ListN.{get_elem?}
 -- A hand begins to claim the mark of a row of its block.
 pub claiming_becomes : ClaimsBegin → (layout : Layout) (v : View) (x : ℕ) → IsFree v → block_of v.layout x ≡ v.thread
     → x < row_count v.layout → Becomes layout v (claiming v x)
-claiming_becomes law layout v x free own there words views id stands here =
-    let told = stands.told id v here in
-    rearranged layout words views id v stands here (ClaimMark x ∷ []) v.aside
-    (law stands.accounts (1 + stands.machine.layout.workers) stands.machine v.thread (actor_of v) x stands.counts
-    (record { found = stands.acts id v here; running = free.running; agenda = free.agenda }) free.aside
-    (subst (λ (l : Layout). block_of l x ≡ v.thread) told own) (subst (λ (l : Layout). x < row_count l) told there))
+claiming_becomes law layout v x free own there = record {
+  passes = λ words views id stands here.
+      let told = stands.told id v here in
+      rearranged layout words views id v stands here (ClaimMark x ∷ []) v.aside
+      (law stands.accounts (1 + stands.machine.layout.workers) stands.machine v.thread (actor_of v) x stands.counts
+      (record { found = stands.acts id v here; running = free.running; agenda = free.agenda }) free.aside
+      (subst (λ (l : Layout). block_of l x ≡ v.thread) told own)
+      (subst (λ (l : Layout). x < row_count l) told there));
+  slots = waiting_keeps v (claiming v x) (subst MayWait (sym free.agenda) tt) (refl, (λ y locks. refl), refl);
+}
 
 pub claim_makes : (v : View) (x : ℕ) → IsFree v → MakesQuietly (claiming v x) (in_tile 4 x) (λ found. 0)
 claim_makes v x free = record {
@@ -44,15 +49,15 @@ claim_makes v x free = record {
     at = record { agenda = refl; alive = runs_on v free.running; object = tt; index_is = refl };
     leaves = λ found suits. refl;
   };
-  quiet = record { status = λ s. refl; head = λ head found. refl; used = λ used. refl };
+  quiet = record { status = λ s. refl; head = λ head found. refl; used = λ used. refl; slots = λ found. refl };
 }
 
 -- ---- the beginning of an exit
 
 module _ (kept : DutiesAreKept) (release : ReleasesBegin) (layout : Layout) (words : List ℕ) (views : List View) (id : ℕ)
-    (v : View) (may : MayLeave v) (here : get_elem? views id ≡ some v) where
+    (v : View) (may : MayLeave v) (here : get_elem? views id ≡ some v) (before : Machine) where
   -- A hand that lists no reference holds none, apart from those to none.
-  holds_none : (has : HasJust kept release layout words id v may.free views 0) → HoldsNone (has.stands.accounts v.thread)
+  holds_none : (has : HasJust kept release layout words id v may.free before views 0) → HoldsNone (has.stands.accounts v.thread)
   holds_none has (ByVariable i) object = has.stands.no_variables v.thread i object
   holds_none has InFlight object = has.stands.counts.no_flight v.thread object
   holds_none has AsCaller object =
@@ -64,22 +69,26 @@ module _ (kept : DutiesAreKept) (release : ReleasesBegin) (layout : Layout) (wor
             has.stands.holding id v object here counted ∙ ap (count_by (λ y. y == object)) may.holds_none
       ]
 
-  leaves_from : ExitsBegin → HasJust kept release layout words id v may.free views 0
-      → Stands layout words (set views id (leaving v))
+  leaves_from : ExitsBegin → HasJust kept release layout words id v may.free before views 0
+      → Passes layout words (set views id (leaving v)) v.taken v.locked before
   leaves_from law has =
       let s = has.stands in
-      rearranged layout words views id v s here (Leave 0 v.used ∷ []) v.aside
+      passes_on before s.machine (λ x which. has.slots x)
+      (rearranged layout words views id v s here (Leave 0 v.used ∷ []) v.aside
       (law s.accounts (1 + s.machine.layout.workers) s.machine v.thread (actor_of v) s.counts
       (record { found = s.acts id v here; running = may.free.running; agenda = may.free.agenda }) may.free.aside
-      may.settled (holds_none has))
+      may.settled (holds_none has)))
 
 -- A hand begins to leave.
 pub leaving_becomes : DutiesAreKept → ReleasesBegin → ExitsBegin → (layout : Layout) (v : View) → MayLeave v
     → Becomes layout v (leaving v)
-leaving_becomes kept release law layout v may words views id stands here =
-    leaves_from kept release layout words views id v may here law
-    (drops_all kept release layout words id v may.free views here (stands.accounts v.thread AsCaller 0)
-    (record { stands = stands; just = refl }))
+leaving_becomes kept release law layout v may = record {
+  passes = λ words views id stands here.
+      leaves_from kept release layout words views id v may here stands.machine law
+      (drops_all kept release layout words id v may.free stands.machine views here (stands.accounts v.thread AsCaller 0)
+      (record { stands = stands; slots = λ x. refl; just = refl }));
+  slots = waiting_keeps v (leaving v) (subst MayWait (sym may.free.agenda) tt) (refl, (λ y locks. refl), refl);
+}
 
 pub leave_stores : (v : View) → MayLeave v → StoresThreadWord (leaving v) v.thread 2
 leave_stores v may = record {
@@ -133,7 +142,7 @@ scan_makes u i alive (Scan j n ∷ rest) is same = record {
     };
     leaves = λ found suits. refl;
   };
-  quiet = record { status = λ s. refl; head = λ head found. refl; used = λ used. refl };
+  quiet = record { status = λ s. refl; head = λ head found. refl; used = λ used. refl; slots = λ found. refl };
 }
 scan_makes u i alive _ is same = absurd same
 

@@ -13,7 +13,7 @@ use Rattle.brc_model.specs.declared.duty.Holding.TheVariants.{ByVariable, AsCall
 use Rattle.brc_model.specs.declared.duty.Duty.{Duty}
 use Rattle.brc_model.specs.declared.duty.Duty.TheVariants.{ReleaseLoad}
 use Rattle.brc_model.specs.declared.address.Address.{Address}
-use Rattle.brc_model.specs.declared.address.Address.TheVariants.{Local, KindOf, Cell}
+use Rattle.brc_model.specs.declared.address.Address.TheVariants.{Local, KindOf, Cell, Slot}
 use Rattle.brc_model.specs.declared.layout.Layout.{Layout}
 use Rattle.brc_model.specs.Layout.{none_row, first_immortal_list, is_immortal_row}
 use Rattle.brc_model.specs.Duties.{continuation, ready}
@@ -31,7 +31,7 @@ use Rattle.brc_table.proofs.Lists.{and_first, and_second, slice_get-set_same}
 use Rattle.brc_table.proofs.Accounts.{with_account_same, with_account_other, immortal_apart}
 use Rattle.brc_table.proofs.Stepping.{same_is}
 use Rattle.brc_table.proofs.ThreadsKept.{threads_same}
-use Rattle.brc_table.proofs.Changing.{Changes, changed, changed_accounts}
+use Rattle.brc_table.proofs.Changing.{Changes, changed, changed_accounts, changed_machine}
 use Rattle.brc_table.proofs.Duties.{runs_on}
 
 -- The only immortal object of a table is none.
@@ -58,10 +58,11 @@ unwritten memory a b =
     ]
 
 module _ (kept : DutiesAreKept) (law : ReleasesBegin) (layout : Layout) (words : List ℕ) (id : ℕ) (v : View)
-    (free : IsFree v) where
-  -- The rule holds with accounts in which the thread has so many references to none.
+    (free : IsFree v) (before : Machine) where
+  -- The rule holds with accounts in which the thread has so many references to none, and slots are as before.
   pub record HasJust (views : List View) (k : ℕ) : Type 0 where
     pub stands : Stands layout words views
+    pub slots : (y : ℕ) → stands.machine.memory (Slot y) ≡ before.memory (Slot y)
     pub just : stands.accounts v.thread AsCaller none_row ≡ k
 
   module _ (views : List View) (here : get_elem? views id ≡ some v) (k : ℕ) (has : HasJust views (suc k)) where
@@ -176,6 +177,9 @@ module _ (kept : DutiesAreKept) (law : ReleasesBegin) (layout : Layout) (words :
     drops_one =
         subst (λ (l : List View). HasJust l k) (set_again views id v here) (record {
           stands = changed layout words views id v v s here words changes;
+          slots = λ y.
+              ap (λ (n : Machine). n.memory (Slot y)) (changed_machine layout words views id v v s here words changes)
+              ∙ has.slots y;
           just =
               ap (λ (q : Accounts). q t AsCaller none_row)
               (changed_accounts layout words views id v v s here words changes)

@@ -1,6 +1,6 @@
 -- A hand locks an object, unlocks it, or loads a cell of it.
-use Rattle.std.proofs.Common.{◌≡◌, ℕ, ◌+◌, ◌<◌, [], ◌∷◌, None, Some, refl, sym, subst, arith, inl, inr}
-use Rattle.std.specs.Prelude.{◌==◌}
+use Rattle.std.proofs.Common.{◌≡◌, ℕ, ◌+◌, ◌<◌, [], ◌∷◌, None, Some, refl, sym, ◌∙◌, subst, arith, inl, inr}
+use Rattle.std.specs.Prelude.{◌==◌, if◌then◌else◌}
 use Rattle.std.proofs.lemmas.Bool.{cases_lt}
 use prog.Atomic.{either}
 use Rattle.brc_word.specs.Words.{free_word, locked_word}
@@ -16,40 +16,47 @@ use Rattle.brc_table.specs.Places.{in_tile, cell_place}
 use Rattle.brc_table.specs.Views.{RowsAreThere, actor_of, open_work, locking, unlocking, loading_cell}
 use Rattle.brc_table.specs.Seen.{KnowsCell}
 use Rattle.brc_table.specs.Hands.{HoldsOne, HasNoWork, HasNoRetain, IsRunning}
-use Rattle.brc_table.specs.Begins.{Becomes, MakesQuietly, StoresWord}
-use Rattle.brc_table.proofs.Becoming.{becomes_then, rested, rested_becomes, rearranged, is_ready, alone, has_one}
+use Rattle.brc_table.specs.Begins.{Becomes, MakesQuietly, MakesWithSlot, StoresWithSlot}
+use Rattle.brc_model.specs.SlotLaws.{Stays, Takes, Gives}
+use Rattle.brc_table.proofs.Becoming.{then_begins, rested, rearranged, rearranged_with, is_ready, alone, has_one, with_one}
 use Rattle.brc_table.proofs.Duties.{runs_on, either_is}
 
 -- A hand begins to lock an object that it holds.
-pub locking_becomes : WorkIsPutAside → LocksBegin → ImmortalsAreFree → (layout : Layout) (v : View) (x : ℕ)
+pub locking_becomes : WorkIsPutAside → LocksBegin → ImmortalsAreFree → (layout : Layout) (v : View) (x n : ℕ)
     → IsRunning v → IsCounted v.layout x → HasNoWork v x → HoldsOne v x → v.locked ≡ None
-    → Becomes layout v (locking v x)
-locking_becomes put law free layout v x running counted none holding unlocked =
-    becomes_then layout v (rested v) (locking v x) (rested_becomes put layout v running.1)
+    → Becomes layout v (locking v x n)
+locking_becomes put law free layout v x n running counted none holding unlocked =
+    then_begins put layout v (locking v x n) running.1 (
+      refl,
+      (λ y locks. let wrong : None ≡ Some y = sym unlocked ∙ locks in absurd cc),
+      refl,
+    )
     (λ words views id stands here.
     let one =
     has_one free layout words views id v x
     (record { stands = stands; here = here; running = running.0; free = none }) holding in
     let s = one.stands in
-    rearranged layout words views id (rested v) s here (LockGate x ∷ []) (open_work v)
+    with_one one
+    (rearranged_with layout words views id (rested v) s here (LockGate x ∷ []) (open_work v) n
     (law s.accounts (1 + s.machine.layout.workers) s.machine v.thread (actor_of (rested v)) x s.counts
     (is_ready layout words views id v s here running.0) (alone v x none)
-    (subst (λ (l : Layout). IsCounted l x) (s.told id (rested v) here) counted) one.more unlocked))
+    (subst (λ (l : Layout). IsCounted l x) (s.told id (rested v) here) counted) one.more unlocked)))
 
 -- A hand begins to unlock the object that it has locked.
 pub unlocking_becomes : WorkIsPutAside → UnlocksBegin → ImmortalsAreFree → (layout : Layout) (v : View) (x : ℕ)
     → IsRunning v → HasNoWork v x → HoldsOne v x → v.locked ≡ Some x → HasNoRetain v → v.lent ≡ None
     → Becomes layout v (unlocking v x)
 unlocking_becomes put law free layout v x running none holding locked retains returned =
-    becomes_then layout v (rested v) (unlocking v x) (rested_becomes put layout v running.1)
+    then_begins put layout v (unlocking v x) running.1 (refl, (λ y locks. refl), refl)
     (λ words views id stands here.
     let one =
     has_one free layout words views id v x
     (record { stands = stands; here = here; running = running.0; free = none }) holding in
     let s = one.stands in
-    rearranged layout words views id (rested v) s here (UnlockGate x ∷ []) (open_work v)
+    with_one one
+    (rearranged layout words views id (rested v) s here (UnlockGate x ∷ []) (open_work v)
     (law s.accounts (1 + s.machine.layout.workers) s.machine v.thread (actor_of (rested v)) x s.counts
-    (is_ready layout words views id v s here running.0) (alone v x none) one.more locked retains returned))
+    (is_ready layout words views id v s here running.0) (alone v x none) one.more locked retains returned)))
 
 -- The kind word of an object with a cell is above 0.
 pub kind_some : (word i : ℕ) → i < cells_of word → 0 < word
@@ -66,7 +73,7 @@ pub loading_becomes : WorkIsPutAside → CellLoadsBegin → ImmortalsAreFree →
     → IsRunning v → HasNoWork v x → HoldsOne v x → v.locked ≡ Some x → KnowsCell v x i
     → Becomes layout v (loading_cell v x i)
 loading_becomes put law free layout v x i running none holding locked knows =
-    becomes_then layout v (rested v) (loading_cell v x i) (rested_becomes put layout v running.1)
+    then_begins put layout v (loading_cell v x i) running.1 (refl, (λ y locks. refl), refl)
     (λ words views id stands here.
     let one =
     has_one free layout words views id v x
@@ -74,27 +81,17 @@ loading_becomes put law free layout v x i running none holding locked knows =
     let s = one.stands in
     let more : 0 < knows.word = kind_some knows.word i knows.low in
     let kind = s.kinds_seen id x knows.word (rested v) here more knows.seen in
-    rearranged layout words views id (rested v) s here (CellLoad x i ∷ []) (open_work v)
+    with_one one
+    (rearranged layout words views id (rested v) s here (CellLoad x i ∷ []) (open_work v)
     (law s.accounts (1 + s.machine.layout.workers) s.machine v.thread (actor_of (rested v)) x i s.counts
     (is_ready layout words views id v s here running.0) (alone v x none) one.more locked
-    (subst (λ (w : ℕ). i < cells_of w) (sym kind) knows.low)))
+    (subst (λ (w : ℕ). i < cells_of w) (sym kind) knows.low))))
 
 -- ---- the steps
 
--- Its first duty then is to exchange the object's gate, to store it, or to load the cell.
-pub locking_makes : (v : View) (x gate : ℕ) → v.status ≡ Running → gate ≡ locked_word v.thread
-    → MakesQuietly (locking v x) (in_tile 2 x) (λ found. either (found == free_word) gate found)
-locking_makes v x gate runs names = record {
-  makes = record {
-    duty = LockGate x;
-    rest = [];
-    at = record { agenda = refl; alive = runs_on v runs; object = tt; index_is = refl };
-    leaves = λ found suits. either_is found free_word gate free_word (locked_word v.thread) refl names;
-  };
-  quiet = record { status = λ s. refl; head = λ head found. refl; used = λ used. refl };
-}
-
-pub unlocking_stores : (v : View) (x : ℕ) → v.status ≡ Running → StoresWord (unlocking v x) (in_tile 2 x) free_word
+-- Its first duty then is to store the object's gate, or to load the cell.
+pub unlocking_stores : (v : View) (x : ℕ) → v.status ≡ Running
+    → StoresWithSlot (unlocking v x) (in_tile 2 x) free_word (Gives x)
 unlocking_stores v x runs = record {
   makes = record {
     duty = UnlockGate x;
@@ -103,6 +100,7 @@ unlocking_stores v x runs = record {
     leaves = λ found suits. refl;
   };
   knows = λ found over. over;
+  uses = λ found. refl;
 }
 
 pub loading_makes : (v : View) (x i : ℕ) → v.status ≡ Running
@@ -114,7 +112,7 @@ loading_makes v x i runs = record {
     at = record { agenda = refl; alive = runs_on v runs; object = tt; index_is = refl };
     leaves = λ found suits. refl;
   };
-  quiet = record { status = λ s. refl; head = λ head found. refl; used = λ used. refl };
+  quiet = record { status = λ s. refl; head = λ head found. refl; used = λ used. refl; slots = λ found. refl };
 }
 
 -- A list's cell is one of those that a list may have.

@@ -20,6 +20,7 @@ module _ (u : View) (x : ℕ) (alive : u.status ≢ Gone) where
     makes =
         line_makes u x alive 4 (λ found. 1) (SetMark y) rest is tt (ap (in_tile 4) (sym same)) (λ found suits. refl);
     knows = λ found over. over ∙ sym (ap (overwritten_by u.thread) is);
+    slots = λ found. refl;
   }
   mark_store_makes _ is same = absurd same
 
@@ -27,7 +28,7 @@ module _ (u : View) (x : ℕ) (alive : u.status ≢ Gone) where
       → MakesQuietly u (in_tile 4 x) (λ found. 0)
   mark_take_makes (TakeMark y ∷ rest) is same =
       at_line u x alive 4 (λ found. 0) (TakeMark y) rest is tt (ap (in_tile 4) (sym same))
-      (record { status = λ s. refl; head = λ head found. refl; used = λ used. refl }) (λ found suits. refl)
+      (record { status = λ s. refl; head = λ head found. refl; used = λ used. refl; slots = λ found. refl }) (λ found suits. refl)
   mark_take_makes _ is same = absurd same
 
   pub look_makes : (ds : List Duty) → u.agenda ≡ ds → LooksAtOwner x ds
@@ -41,7 +42,7 @@ module _ (u : View) (x : ℕ) (alive : u.status ≢ Gone) where
       address = ap (λ (z : ℕ). ThreadWord (block_of u.layout z)) same;
       leaves = λ found. refl;
     };
-    quiet = record { status = λ s. refl; head = λ head found. refl; used = λ used. refl };
+    quiet = record { status = λ s. refl; head = λ head found. refl; used = λ used. refl; slots = λ found. refl };
   }
   look_makes _ is same = absurd same
 

@@ -10,6 +10,7 @@ use Rattle.brc_model.specs.Machine.{is_running}
 use Rattle.brc_model.specs.Counting.{IsPlainLayout}
 use Rattle.brc_table.specs.declared.view.View.{View}
 use Rattle.brc_table.specs.Views.{RowsAreThere, HasSpares, IsGivenBy, main_view, worker_view}
+use Rattle.brc_table.specs.Homes.{rows_of}
 use Rattle.brc_table.specs.Spares.{is_spent}
 use Rattle.brc_table.proofs.Spares.{none_spent, room}
 
@@ -56,17 +57,18 @@ worker_rows layout thread some known = record {
 
 -- What the plain fields of a new hand say of its seat: its thread runs, its chain is empty, it has given out no hand,
 -- and it carries nothing.
-abbrev pub NewFits : {S A : Type 0} → ℕ → ℕ → List (Option A) → List (Option ℕ) → Me S View → Type 0
+abbrev pub NewFits : {T A : Type 0} → ℕ → ℕ → List (Option A) → List (Option ℕ) → Me (Option T) View → Type 0
 NewFits thread used spares counts me =
-    (me.1 ≡ []) × (thread ≡ me.0.thread) × (true ≡ is_running me.0.status) × (0 ≡ me.0.head) × (used ≡ me.0.used)
+    (rows_of me.1 ≡ me.0.taken) × (thread ≡ me.0.thread) × (true ≡ is_running me.0.status) × (0 ≡ me.0.head) × (used ≡ me.0.used)
     × RowsAreThere me.0 × HasSpares spares me.0 × IsGivenBy spares me.0 × (length counts ≡ row_limit)
 
-pub main_fits : {S A : Type 0} (layout : Layout) (spares : List (Option A)) (counts : List (Option ℕ)) (me : Me S View)
+pub main_fits : {T A : Type 0} (layout : Layout) (spares : List (Option A)) (counts : List (Option ℕ))
+    (me : Me (Option T) View)
     → IsPlainLayout layout → length spares ≡ layout.workers
     → ((worker : ℕ) → is_spent (slice_get spares worker) ≡ false) → counts ≡ replicate row_limit None
     → me ≡ (main_view layout, []) → NewFits 0 front_rows spares counts me
-main_fits {S} layout spares counts me plain long left none is =
-    subst (λ (it : Me S View). NewFits 0 front_rows spares counts it) (sym is) (
+main_fits {T} layout spares counts me plain long left none is =
+    subst (λ (it : Me (Option T) View). NewFits 0 front_rows spares counts it) (sym is) (
       refl,
       refl,
       refl,
@@ -78,11 +80,11 @@ main_fits {S} layout spares counts me plain long left none is =
       room counts none,
     )
 
-pub worker_fits : {S A : Type 0} (layout : Layout) (thread : ℕ) (spares : List (Option A)) (counts : List (Option ℕ))
-    (me : Me S View) → 0 < thread → thread ≤ layout.workers → spares ≡ [] → counts ≡ replicate row_limit None
+pub worker_fits : {T A : Type 0} (layout : Layout) (thread : ℕ) (spares : List (Option A)) (counts : List (Option ℕ))
+    (me : Me (Option T) View) → 0 < thread → thread ≤ layout.workers → spares ≡ [] → counts ≡ replicate row_limit None
     → me ≡ (worker_view layout thread, []) → NewFits thread 0 spares counts me
-worker_fits {S} layout thread spares counts me some known empty none is =
-    subst (λ (it : Me S View). NewFits thread 0 spares counts it) (sym is) (
+worker_fits {T} layout thread spares counts me some known empty none is =
+    subst (λ (it : Me (Option T) View). NewFits thread 0 spares counts it) (sym is) (
       refl,
       refl,
       refl,

@@ -1,13 +1,14 @@
 -- A table stands on its first words, with main's hand alone.
-use Rattle.std.proofs.Common.{◌≡◌, ℕ, zero, suc, ◌+◌, ◌<◌, ◌≤◌, Bool, true, false, cond, ◌&&◌, List, [], ◌∷◌, Some, refl, sym, ap, ◌∙◌, subst, arith, None}
+use Rattle.std.proofs.Common.{◌≡◌, ℕ, zero, suc, ◌+◌, ◌<◌, ◌≤◌, Bool, true, false, cond, ◌&&◌, Option, List, [], ◌∷◌, length, map, replicate, Some, refl, sym, ap, ◌∙◌, subst, arith, None}
 use Rattle.std.specs.Prelude.{◌==◌, if◌then◌else◌, slice_get}
 use Rattle.std.proofs.lemmas.Bool.{ne_eqb, false≢true}
 use Rattle.std.proofs.lemmas.List.Sums.{sum_by-cons}
+use mathlib.Core.Option as home
 use mathlib.Core.Option.{some, some-injective, some-ne-none}
 use lib.ListN.{get_elem?}
 use Rattle.brc_model.specs.declared.duty.Holding.TheVariants.{AsCaller}
 use Rattle.brc_model.specs.declared.layout.Layout.{Layout}
-use Rattle.brc_model.specs.Layout.{root_row}
+use Rattle.brc_model.specs.Layout.{root_row, row_count}
 use Rattle.brc_model.specs.AbstractState.{same_holding}
 use Rattle.brc_model.specs.References.{one_if}
 use Rattle.brc_model.specs.Accounts.{HoldsNone}
@@ -18,6 +19,7 @@ use Rattle.brc_table.specs.declared.view.View.{View}
 use Rattle.brc_table.specs.Views.{actor_of, holds, is_given, main_view}
 use Rattle.brc_table.specs.Seen.{has_seen_kind, cell_seen, has_started, started_word, has_seen_gone}
 use Rattle.brc_table.specs.Rule.{Stands}
+use Rattle.brc_table.specs.Homes.{times_taken, TableStands}
 use Rattle.brc_table.specs.Threads.{thread_word}
 use Rattle.brc_table.specs.Opening.{AreFirst}
 use Rattle.brc_table.proofs.Lists.{slice_get-replicate}
@@ -42,6 +44,17 @@ worker_holds : (t : ℕ) → HoldsNone (hands_accounts (suc t))
 worker_holds t k object =
     ap (λ (b : Bool). one_if (b && (same_holding AsCaller k && (root_row == object))))
     (ne_eqb (suc t) 0 (λ e. omega (arith, e)))
+
+-- As many slots as rows are empty.
+empty_count : (T : Type 0) (n : ℕ) → length (map home.some (replicate {A = Option T} n None)) ≡ n
+empty_count T zero = refl
+empty_count T (suc n) = ap suc (empty_count T n)
+
+empty_there : (T : Type 0) (n x : ℕ) → x < n
+    → get_elem? (map home.some (replicate {A = Option T} n None)) x ≡ home.some (home.some None)
+empty_there T zero x low = absurd (omega (arith, low))
+empty_there T (suc n) zero low = refl
+empty_there T (suc n) (suc x) low = empty_there T n x (omega (arith, low))
 
 module _ (begin : HandsBegin) (layout : Layout) (plain : IsPlainLayout layout) (words : List ℕ)
     (first : AreFirst layout words) where
@@ -107,5 +120,24 @@ module _ (begin : HandsBegin) (layout : Layout) (plain : IsPlainLayout layout) (
           absurd (false≢true (sym (of_main (λ w. has_seen_gone t w ≡ false) id v is refl) ∙ seen));
       unstarted = λ id t v is first_thread pos low none.
           worker_waits t pos low ∙ sym (of_main (λ w. started_word t w ≡ 0) id v is refl);
+    };
+  }
+
+  -- Each slot is at home, and empty.
+  pub slots_open : {T : Type 0} → TableStands layout words (map home.some (replicate {A = Option T} (row_count layout) None)) hands
+  unfolding opening
+  slots_open {T} = record {
+    stands = opening;
+    slots = record {
+      rows = empty_count T (row_count layout);
+      at_home = λ x low is. record { slot = None; there = empty_there T (row_count layout) x low; holds = refl };
+      once = λ id x v is. of_main (λ w. times_taken x w ≤ 1) id v is (omega arith);
+      alone = λ id other x v w is that first second.
+          (only_one (main_view layout) v id is).0 ∙ sym (only_one (main_view layout) w other that).0;
+      used = λ id x v is taken.
+          absurd (omega (arith, taken, of_main (λ w. times_taken x w ≡ 0) id v is refl));
+      locked = λ id x v is locks.
+          absurd (let none = of_main (λ w. w.locked ≡ None) id v is refl in
+          let wrong : None ≡ Some x = sym none ∙ locks in cc);
     };
   }

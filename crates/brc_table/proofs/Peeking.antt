@@ -1,5 +1,5 @@
 -- A hand looks what a thread's word says, and the rule holds again: no word changes.
-use Rattle.std.proofs.Common.{◌≡◌, ◌⊎◌, ℕ, ◌<◌, ◌≤◌, Bool, true, false, cond, List, [], ◌∷◌, length, set, None, inl, inr, refl, sym, ap, ◌∙◌, subst, arith}
+use Rattle.std.proofs.Common.{◌≡◌, ◌⊎◌, ℕ, ◌<◌, ◌≤◌, Bool, true, false, cond, Option, List, [], ◌∷◌, length, set, None, inl, inr, refl, sym, ap, ◌∙◌, subst, arith}
 use Rattle.std.specs.Prelude.{◌==◌, ◌&&◌, ◌||◌, slice_index}
 use Rattle.std.specs.List.{list_any}
 use Rattle.std.proofs.lemmas.Bool.{cases_Bool, cases_lt, eq-eqb, false≢true}
@@ -23,11 +23,14 @@ use Rattle.brc_table.specs.Places.{place, HasWord}
 use Rattle.brc_table.specs.Views.{actor_of, is_given, RowsAreThere}
 use Rattle.brc_table.specs.Seen.{shows_kind, cell_known, starts, has_started, shows_gone}
 use Rattle.brc_table.specs.Threads.{thread_word}
+use Rattle.brc_table.specs.Homes.{TableStands}
+use Rattle.brc_table.specs.Begins.{Passes}
 use Rattle.brc_table.specs.Rule.{thread_reading, Stands}
 use Rattle.brc_table.specs.Ending.{SeesEnd}
 use Rattle.brc_table.specs.Peeks.{peeked, NeverStarted, Peeks}
 use Rattle.brc_table.proofs.Allowed.{rows_there}
-use Rattle.brc_table.proofs.Changing.{Changes, changed}
+use Rattle.brc_table.proofs.Changing.{Changes, passes}
+use Rattle.brc_table.proofs.SlotsKept.{slots_kept}
 use Rattle.brc_table.proofs.Lists.{set_view, set_itself}
 use Rattle.brc_table.proofs.Starting.{unwritten}
 use Rattle.brc_table.proofs.Stepping.{written_reads}
@@ -124,8 +127,10 @@ module _ (accounts : AccountsAreThere) (chains : ChainsAreThere) (layout : Layou
           threads_kept layout words (set words (place (ThreadWord t)) found) views k v after s there_k keeps_threads;
     }
 
-    pub stands_peeked : Stands layout (set words (place (ThreadWord t)) found) (set views id after)
-    stands_peeked = changed layout words views id v after s here (set words (place (ThreadWord t)) found) changes
+    pub passes_peeked : Passes layout (set words (place (ThreadWord t)) found) (set views id after) v.taken v.locked m
+    unfolding changes
+    passes_peeked =
+        passes layout words views id v after s here (set words (place (ThreadWord t)) found) changes v.taken v.locked (λ x which. refl)
 
     -- The word is that of a thread's status, or 0.
     pub found_low : found ≤ 3
@@ -161,30 +166,36 @@ module _ (accounts : AccountsAreThere) (chains : ChainsAreThere) (layout : Layou
         }
 
   -- The look is allowed.
-  pub peek_allowed : {S : Type 0} (slots id index : ℕ) (me : Me S View) → me.0 ≡ v → index ≡ t
-      → Allows (λ (s : State S View). Stands layout s.words s.views) slots id me index (λ found. found)
+  pub peek_allowed : {T : Type 0} (slots id index : ℕ) (me : Me (Option T) View) → me.0 ≡ v → index ≡ t
+      → Allows (λ (s : State (Option T) View). TableStands layout s.words s.homes s.views) slots id me index (λ found. found)
       (λ found after. Peeks t me found after)
   peek_allowed slots id index me is_me at s holds homes here below =
       let mine : get_elem? s.views id ≡ some v = here ∙ ap some is_me in
       let found = slice_index s.words index in
       let same : thread_word s.words t ≡ found = ap (slice_index s.words) (sym at) in
       let w = peeked v t found in
-      let now : Stands layout (set s.words index found) (set s.views id w) =
-      subst (λ (k : ℕ). Stands layout (set s.words k found) (set s.views id w)) (sym at)
-      (subst (λ (k : ℕ). Stands layout (set s.words t k) (set s.views id (peeked v t k))) same
-      (stands_peeked s.words s.views id holds mine)) in
+      let before = holds.stands.machine in
+      let moved : Passes layout (set s.words index found) (set s.views id w) v.taken v.locked before =
+      subst (λ (k : ℕ). Passes layout (set s.words k found) (set s.views id w) v.taken v.locked before) (sym at)
+      (subst (λ (k : ℕ). Passes layout (set s.words t k) (set s.views id (peeked v t k)) v.taken v.locked before) same
+      (passes_peeked s.words s.views id holds.stands mine)) in
       let rows : RowsAreThere w =
-      rows_there accounts chains layout (set s.words index found) (set s.views id w) id w now
+      rows_there accounts chains layout (set s.words index found) (set s.views id w) id w moved.stands
       (set_view s.views id v w mine) in (
         w,
         keeps,
         tt,
-        now,
+        record {
+          stands = moved.stands;
+          slots =
+              slots_kept before moved.stands.machine s.homes s.views id v w holds.slots mine
+              (moved.stands.layout_is ∙ sym holds.stands.layout_is) (record { taken = refl; in_slot = λ x locks. refl; locked = refl; used = λ x uses. uses }) moved.slots;
+        },
         subst (λ (u : View). Peeks t (u, me.1) found (w, me.1)) (sym is_me) (
           refl,
           refl,
-          omega (arith, same, found_low s.words s.views id holds mine),
-          λ first none. never_started s.words s.views id holds mine first (same ∙ none),
+          omega (arith, same, found_low s.words s.views id holds.stands mine),
+          λ first none. never_started s.words s.views id holds.stands mine first (same ∙ none),
           rows,
         ),
       )

@@ -1,5 +1,5 @@
 -- Main gives out a worker's hand, with one of its references to the root, and the rule holds again.
-use Rattle.std.proofs.Common.{◌≡◌, ◌≢◌, ◌⊎◌, ℕ, zero, suc, ◌+◌, ◌<◌, ◌≤◌, Bool, true, false, cond, List, [], ◌∷◌, ◌++◌, length, set, inl, inr, Some, refl, sym, ap, ◌∙◌, subst, arith, None}
+use Rattle.std.proofs.Common.{◌≡◌, ◌≢◌, ◌⊎◌, ℕ, zero, suc, ◌+◌, ◌<◌, ◌≤◌, Bool, true, false, cond, Option, List, [], ◌∷◌, ◌++◌, length, set, inl, inr, Some, refl, sym, ap, ◌∙◌, subst, arith, None}
 use Rattle.std.specs.Prelude.{◌==◌, ◌||◌, ◌&&◌, nat_lt, count_by, slice_get}
 use Rattle.std.proofs.lemmas.Bool.{cases_Bool, eq-eqb, lt-leb, false≢true}
 use Rattle.std.proofs.lemmas.Bool.Decides.{eqb_tells}
@@ -11,7 +11,7 @@ use Rattle.atomic_table.specs.Table.{State, Splits}
 use Rattle.atomic_table.proofs.Lists.{at_set, set_else, at_longer, at_last}
 use Rattle.brc_model.specs.declared.duty.Holding.TheVariants.{ByVariable, AsCaller}
 use Rattle.brc_model.specs.declared.duty.Duty.{Duty}
-use Rattle.brc_model.specs.declared.address.Address.TheVariants.{KindOf, Cell}
+use Rattle.brc_model.specs.declared.address.Address.TheVariants.{KindOf, Cell, Slot}
 use Rattle.brc_model.specs.declared.layout.Layout.{Layout}
 use Rattle.brc_model.specs.Layout.{first_immortal_list, IsCounted, root_row}
 use Rattle.brc_model.specs.AbstractState.{PassOn, ByThread}
@@ -24,6 +24,8 @@ use Rattle.brc_model.specs.CountingLaws.{ReferencesAreHandedOver}
 use Rattle.brc_table.specs.declared.view.View.{View}
 use Rattle.brc_table.specs.Views.{actor_of, holds, is_given, giving, worker_view}
 use Rattle.brc_table.specs.Rule.{Stands}
+use Rattle.brc_table.specs.Homes.{TableStands}
+use Rattle.brc_table.proofs.SlotsKept.{slots_kept, slots_longer}
 use Rattle.brc_table.specs.Seen.{has_seen_kind, cell_seen, has_started, started_word, has_seen_gone}
 use Rattle.brc_table.specs.Threads.{thread_word, ThreadsStand}
 use Rattle.brc_table.specs.Hands.{HasNoWork}
@@ -368,7 +370,24 @@ module _ (law : ReferencesAreHandedOver) (layout : Layout) (words : List ℕ) (v
     threads = threads_after;
   }
 
+  -- Its machine has the slots of the old one.
+  pub same_slots : (x : ℕ) → given_out.machine.memory (Slot x) ≡ old.machine.memory (Slot x)
+  unfolding given_out
+  same_slots x = refl
+
 -- What a table asks of main's seat that is cut in two.
-pub splits : {S : Type 0} → ReferencesAreHandedOver → (layout : Layout) (id : ℕ) (v : View) (t : ℕ) → MayGive v t
-    → Splits (λ (s : State S View). Stands layout s.words s.views) id v (giving v t) (worker_view v.layout t)
-splits law layout id v t may = λ s stands here. given_out law layout s.words s.views id v t may stands here
+pub splits : {T : Type 0} → ReferencesAreHandedOver → (layout : Layout) (id : ℕ) (v : View) (t : ℕ) → MayGive v t
+    → Splits (λ (s : State (Option T) View). TableStands layout s.words s.homes s.views) id v (giving v t)
+    (worker_view v.layout t)
+splits law layout id v t may = λ s holds here.
+    let old = holds.stands in
+    let now = given_out law layout s.words s.views id v t may old here in
+    let mains =
+    slots_kept old.machine old.machine s.homes s.views id v (giving v t) holds.slots here refl
+    (record { taken = refl; in_slot = λ x locks. refl; locked = refl; used = λ x uses. uses }) (λ x which. refl) in
+    record {
+      stands = now;
+      slots =
+          slots_longer old.machine now.machine s.homes (set s.views id (giving v t)) (worker_view v.layout t) mains refl
+          refl (now.layout_is ∙ sym old.layout_is) (same_slots law layout s.words s.views id v t may old here);
+    }

@@ -1,6 +1,6 @@
 -- Main starts a worker: it stores that the worker's thread runs. The machine stays as it is, since a thread that isn't
 -- started counts as running.
-use Rattle.std.proofs.Common.{◌≡◌, ◌≢◌, ℕ, ◌<◌, ◌≤◌, Bool, true, false, cond, List, [], ◌∷◌, length, set, None, inl, inr, refl, sym, ap, ◌∙◌, subst, arith}
+use Rattle.std.proofs.Common.{◌≡◌, ◌≢◌, ℕ, ◌<◌, ◌≤◌, Bool, true, false, cond, Option, List, [], ◌∷◌, length, set, None, inl, inr, refl, sym, ap, ◌∙◌, subst, arith}
 use Rattle.std.specs.Prelude.{◌==◌, ◌&&◌, ◌||◌}
 use Rattle.std.proofs.lemmas.Bool.{cases_Bool, eq-eqb, ne_eqb}
 use Rattle.std.proofs.lemmas.Bool.Decides.{eqb_tells}
@@ -20,10 +20,13 @@ use Rattle.brc_table.specs.Places.{place, HasWord}
 use Rattle.brc_table.specs.Views.{actor_of, RowsAreThere}
 use Rattle.brc_table.specs.Seen.{shows_kind, cell_known, starts, has_started, started_word, shows_gone}
 use Rattle.brc_table.specs.Threads.{thread_word}
+use Rattle.brc_table.specs.Homes.{TableStands}
+use Rattle.brc_table.specs.Begins.{Passes}
 use Rattle.brc_table.specs.Rule.{thread_reading, Stands}
 use Rattle.brc_table.specs.Giving.{MayStart, starting, Starts}
 use Rattle.brc_table.proofs.Allowed.{rows_there}
-use Rattle.brc_table.proofs.Changing.{Changes, changed}
+use Rattle.brc_table.proofs.Changing.{Changes, passes}
+use Rattle.brc_table.proofs.SlotsKept.{slots_kept}
 use Rattle.brc_table.proofs.Lists.{set_view, set_itself}
 use Rattle.brc_table.proofs.Stepping.{same_is, written_reads}
 use Rattle.brc_table.proofs.ThreadsKept.{KeepsThreads, threads_kept, any_same, any_still, any_more}
@@ -153,25 +156,33 @@ module _ (accounts : AccountsAreThere) (chains : ChainsAreThere) (layout : Layou
           threads_kept layout words (set words (place (ThreadWord t)) 1) views k v after s there_k keeps_threads;
     }
 
-    pub stands_started : Stands layout (set words (place (ThreadWord t)) 1) (set views id after)
-    stands_started = changed layout words views id v after s here (set words (place (ThreadWord t)) 1) changes
+    pub passes_started : Passes layout (set words (place (ThreadWord t)) 1) (set views id after) v.taken v.locked m
+    unfolding changes
+    passes_started =
+        passes layout words views id v after s here (set words (place (ThreadWord t)) 1) changes v.taken v.locked (λ x which. refl)
 
   -- The store is allowed.
-  pub start_allowed : {S : Type 0} (slots id index : ℕ) (me : Me S View) → me.0 ≡ v → index ≡ t
-      → Allows (λ (s : State S View). Stands layout s.words s.views) slots id me index (λ found. 1)
+  pub start_allowed : {T : Type 0} (slots id index : ℕ) (me : Me (Option T) View) → me.0 ≡ v → index ≡ t
+      → Allows (λ (s : State (Option T) View). TableStands layout s.words s.homes s.views) slots id me index (λ found. 1)
       (λ found after. Starts t me after)
   start_allowed slots id index me is_me at s holds homes here below =
       let mine : get_elem? s.views id ≡ some v = here ∙ ap some is_me in
       let w = starting v t in
-      let now : Stands layout (set s.words index 1) (set s.views id w) =
-      subst (λ (k : ℕ). Stands layout (set s.words k 1) (set s.views id w)) (sym at)
-      (stands_started s.words s.views id holds mine) in
+      let before = holds.stands.machine in
+      let moved : Passes layout (set s.words index 1) (set s.views id w) v.taken v.locked before =
+      subst (λ (k : ℕ). Passes layout (set s.words k 1) (set s.views id w) v.taken v.locked before) (sym at)
+      (passes_started s.words s.views id holds.stands mine) in
       let rows : RowsAreThere w =
-      rows_there accounts chains layout (set s.words index 1) (set s.views id w) id w now
+      rows_there accounts chains layout (set s.words index 1) (set s.views id w) id w moved.stands
       (set_view s.views id v w mine) in (
         w,
         keeps,
         tt,
-        now,
+        record {
+          stands = moved.stands;
+          slots =
+              slots_kept before moved.stands.machine s.homes s.views id v w holds.slots mine
+              (moved.stands.layout_is ∙ sym holds.stands.layout_is) (record { taken = refl; in_slot = λ x locks. refl; locked = refl; used = λ x uses. uses }) moved.slots;
+        },
         subst (λ (u : View). Starts t (u, me.1) (w, me.1)) (sym is_me) (refl, refl, rows),
       )

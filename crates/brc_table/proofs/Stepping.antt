@@ -1,5 +1,5 @@
 -- A hand does its first duty, which is one step on a word, and the rule holds again.
-use Rattle.std.proofs.Common.{◌≡◌, ◌≢◌, ℕ, ◌+◌, ◌≤◌, Bool, true, cond, List, ◌∷◌, length, set, inl, inr, refl, sym, ap, ◌∙◌, subst, arith}
+use Rattle.std.proofs.Common.{◌≡◌, ◌≢◌, ℕ, ◌+◌, ◌≤◌, Bool, true, cond, None, List, [], ◌∷◌, length, set, inl, inr, refl, sym, ap, ◌∙◌, subst, arith}
 use Rattle.std.specs.Prelude.{◌==◌, slice_index}
 use Rattle.std.proofs.lemmas.List.{length-set, get_or-set_same, get_or-set_other}
 use Rattle.std.proofs.lemmas.Bool.{eqb-true, cases_Bool}
@@ -21,9 +21,10 @@ use Rattle.brc_table.specs.declared.view.View.{View}
 use Rattle.brc_table.specs.Places.{place, HasWord, IsObjectWord, IsTableWord, word_count}
 use Rattle.brc_table.specs.Views.{actor_of, event_of, did}
 use Rattle.brc_table.specs.Rule.{reading, Stands}
+use Rattle.brc_table.specs.Begins.{Passes}
 use Rattle.brc_table.proofs.Lists.{and_first, and_second}
 use Rattle.brc_table.proofs.Places.{place_apart, place_within}
-use Rattle.brc_table.proofs.Changing.{Changes, changed}
+use Rattle.brc_table.proofs.Changing.{Changes, passes}
 use Rattle.brc_table.proofs.ThreadsKept.{KeepsThreads, threads_kept}
 use Rattle.brc_table.proofs.SeenWords.{kind_stays, IsStep, kind_here, cell_here}
 
@@ -201,8 +202,25 @@ module _ (kept : DutiesAreKept) (within : DutiesAreWithin) (stay : LockedCellsSt
               keeps;
         }
 
-    -- The rule holds after the step.
-    pub stands_after : Stands layout (set words (place_of v d) left) (set views id (did v (d ∷ rest) found))
-    stands_after =
-        changed layout words views id v (did v (d ∷ rest) found) does.stands does.here (set words (place_of v d) left)
-        changes
+    -- The word that the step changes is no slot.
+    no_slot : (a : Address) (word x : ℕ) → IsTableWord a → written m.memory a word (Slot x) ≡ m.memory (Slot x)
+    no_slot (Local y) word x table = refl
+    no_slot (Shared y) word x table = refl
+    no_slot (Gate y) word x table = refl
+    no_slot (KindOf y) word x table = refl
+    no_slot (Mark y) word x table = refl
+    no_slot (Cell y i) word x table = refl
+    no_slot (Slot y) word x table = absurd table
+    no_slot (Resource y) word x table = absurd table
+    no_slot (ThreadWord t) word x table = refl
+
+    -- The rule holds after the step, which changes no slot.
+    pub passes_after : Passes layout (set words (place_of v d) left) (set views id (did v (d ∷ rest) found)) [] None m
+    unfolding changes
+    passes_after =
+        passes layout words views id v (did v (d ∷ rest) found) does.stands does.here (set words (place_of v d) left)
+        changes [] None (λ x which.
+        let a = actor_of v in
+        let address = address_of m.layout v.thread a.head d in
+        no_slot address (new_word v.thread a.head d (m.memory address)) x
+        (subst (λ (l : Layout). IsTableWord (address_of l v.thread v.head d)) told does.word))

@@ -14,7 +14,7 @@ use Rattle.brc_model.specs.declared.duty.Holding.TheVariants.{ByVariable, AsCall
 use Rattle.brc_model.specs.declared.duty.Duty.{Duty}
 use Rattle.brc_model.specs.declared.duty.Duty.TheVariants.{SettleCell, CellSwap}
 use Rattle.brc_model.specs.declared.address.Address.{Address}
-use Rattle.brc_model.specs.declared.address.Address.TheVariants.{Gate, KindOf, Cell}
+use Rattle.brc_model.specs.declared.address.Address.TheVariants.{Gate, KindOf, Cell, Slot}
 use Rattle.brc_model.specs.declared.layout.Layout.{Layout}
 use Rattle.brc_model.specs.Layout.{row_count, IsCounted}
 use Rattle.brc_model.specs.References.{one_if}
@@ -31,11 +31,14 @@ use Rattle.brc_table.specs.Places.{HasWord, cell_place}
 use Rattle.brc_table.specs.Views.{actor_of, holds, RowsAreThere, without_reference}
 use Rattle.brc_table.specs.Seen.{cell_seen}
 use Rattle.brc_table.specs.Rule.{Stands}
+use Rattle.brc_table.specs.Homes.{SlotsStand, TableStands}
+use Rattle.brc_table.specs.Begins.{Passes}
 use Rattle.brc_table.specs.Swaps.{with_item, without_item, swapped, MayPut, MaySwap, Swaps}
 use Rattle.brc_table.proofs.Accounts.{with_account_same, with_account_other, count_with_reference, count_without_reference}
 use Rattle.brc_table.proofs.Allowed.{rows_there}
-use Rattle.brc_table.proofs.Becoming.{rested, rested_becomes, is_ready, alone, has_one}
-use Rattle.brc_table.proofs.Changing.{Changes, changed}
+use Rattle.brc_table.proofs.Becoming.{rested, rested_becomes, waiting_keeps, is_ready, alone, has_one}
+use Rattle.brc_table.proofs.Changing.{Changes, passes}
+use Rattle.brc_table.proofs.SlotsKept.{slots_kept}
 use Rattle.brc_table.proofs.Lists.{set_view, set_itself}
 use Rattle.brc_table.proofs.Locking.{kind_some, known_low}
 use Rattle.brc_table.proofs.Stepping.{written_reads}
@@ -100,14 +103,16 @@ lists_account layout account rows (suc z) (suc w) y counted same has =
 module _ (put : WorkIsPutAside) (free : ImmortalsAreFree) (there : AccountsAreThere) (chains : ChainsAreThere)
     (items : ItemsAreThere) (swap : CellsAreSwapped) (layout : Layout) (v : View) (x i word : ℕ) (may : MaySwap v x i word) where
   -- The rule holds with accounts from which the thread may put the item.
-  pub record Puts (words : List ℕ) (views : List View) : Type 0 where
+  pub record Puts (words : List ℕ) (views : List View) (before : Machine) : Type 0 where
     pub stands : Stands layout words views
+    pub slots : (y : ℕ) → stands.machine.memory (Slot y) ≡ before.memory (Slot y)
     pub may_put : law.MayPut (stands.accounts v.thread) (actor_of (rested v)) word
 
   has_item : (words : List ℕ) (views : List View) (id w : ℕ) → (stands : Stands layout words views)
-      → get_elem? views id ≡ some (rested v) → word ≡ w → MayPut v w → Puts words views
+      → get_elem? views id ≡ some (rested v) → word ≡ w → MayPut v w → Puts words views stands.machine
   has_item words views id zero stands here is puts = record {
     stands = stands;
+    slots = λ y. refl;
     may_put = subst (law.MayPut (stands.accounts v.thread) (actor_of (rested v))) (sym is) tt;
   }
   has_item words views id (suc y) stands here is puts =
@@ -117,6 +122,7 @@ module _ (put : WorkIsPutAside) (free : ImmortalsAreFree) (there : AccountsAreTh
       let s = one.stands in
       record {
         stands = s;
+        slots = one.slots;
         may_put =
             subst (law.MayPut (s.accounts v.thread) (actor_of (rested v))) (sym is) (
               alone v y puts.1,
@@ -128,7 +134,7 @@ module _ (put : WorkIsPutAside) (free : ImmortalsAreFree) (there : AccountsAreTh
             );
       }
 
-  module _ (words : List ℕ) (views : List View) (id : ℕ) (puts : Puts words views)
+  module _ (words : List ℕ) (views : List View) (id : ℕ) (before : Machine) (puts : Puts words views before)
       (here : get_elem? views id ≡ some (rested v)) where
     abbrev s : Stands layout words views
     s = puts.stands
@@ -277,8 +283,11 @@ module _ (put : WorkIsPutAside) (free : ImmortalsAreFree) (there : AccountsAreTh
     }
 
     -- The rule holds after the swap.
-    pub stands_swapped : Stands layout (set words (cell_place x i) word) (set views id after)
-    stands_swapped = changed layout words views id (rested v) after s here (set words (cell_place x i) word) changes
+    pub passes_swapped : Passes layout (set words (cell_place x i) word) (set views id after) v.taken v.locked s.machine
+    unfolding changes
+    passes_swapped =
+        passes layout words views id (rested v) after s here (set words (cell_place x i) word) changes v.taken v.locked
+        (λ y which. refl)
 
     -- The hand finds what it has last seen or stored there.
     pub finds_seen : (seen : ℕ) → cell_seen x i v ≡ Some seen → found ≡ seen
@@ -295,34 +304,45 @@ module _ (put : WorkIsPutAside) (free : ImmortalsAreFree) (there : AccountsAreTh
     found_there = item_there found refl
 
   -- The swap is allowed.
-  pub swap_allowed : {S : Type 0} (slots id index : ℕ) (me : Me S View) → me.0 ≡ v → index ≡ cell_place x i
-      → Allows (λ (s : State S View). Stands layout s.words s.views) slots id me index (λ found. word)
+  pub swap_allowed : {T : Type 0} (slots id index : ℕ) (me : Me (Option T) View) → me.0 ≡ v → index ≡ cell_place x i
+      → Allows (λ (s : State (Option T) View). TableStands layout s.words s.homes s.views) slots id me index
+      (λ found. word)
       (λ found after. Swaps x i word me found after)
   swap_allowed slots id index me is_me at s holds homes here below =
       let mine : get_elem? s.views id ≡ some v = here ∙ ap some is_me in
       let resting = set s.views id (rested v) in
-      let stands = rested_becomes put layout v may.running.1 s.words s.views id holds mine in
+      let rest = rested_becomes put layout v may.running.1 in
+      let first = rest.passes s.words s.views id holds.stands mine in
+      let stands = first.stands in
       let there_now : get_elem? resting id ≡ some (rested v) = set_view s.views id v (rested v) mine in
       let puts = has_item s.words resting id word stands there_now refl may.puts in
       let found = slice_index s.words index in
       let same : slice_index s.words (cell_place x i) ≡ found = ap (slice_index s.words) (sym at) in
       let w = swapped v x i word found in
-      let after = stands_swapped s.words resting id puts there_now in
-      let now : Stands layout (set s.words index word) (set s.views id w) =
-      subst (λ (l : List View). Stands layout (set s.words index word) l) (set-set s.views id (rested v) w)
-      (subst (λ (k : ℕ). Stands layout (set s.words index word) (set resting id (swapped v x i word k))) same
-      (subst (λ (j : ℕ). Stands layout (set s.words j word)
-      (set resting id (swapped v x i word (slice_index s.words (cell_place x i))))) (sym at) after)) in
+      let after = passes_swapped s.words resting id stands.machine puts there_now in
+      let moved : Passes layout (set s.words index word) (set s.views id w) v.taken v.locked puts.stands.machine =
+      subst (λ (l : List View). Passes layout (set s.words index word) l v.taken v.locked puts.stands.machine)
+      (set-set s.views id (rested v) w)
+      (subst (λ (k : ℕ). Passes layout (set s.words index word) (set resting id (swapped v x i word k)) v.taken v.locked
+      puts.stands.machine) same
+      (subst (λ (j : ℕ). Passes layout (set s.words j word)
+      (set resting id (swapped v x i word (slice_index s.words (cell_place x i)))) v.taken v.locked puts.stands.machine)
+      (sym at) after)) in
+      let now = moved.stands in
+      let held_slots : SlotsStand now.machine s.homes (set s.views id w) =
+      slots_kept holds.stands.machine now.machine s.homes s.views id v w holds.slots mine
+      (now.layout_is ∙ sym holds.stands.layout_is) (waiting_keeps v w may.running.1 (refl, (λ y locks. refl), refl))
+      (λ y which. moved.slots y which ∙ (puts.slots y ∙ first.slots y which)) in
       let rows_now : RowsAreThere w =
       rows_there there chains layout (set s.words index word) (set s.views id w) id w now
       (set_view s.views id v w mine) in
       let low : found ≤ row_count v.layout =
-      subst (λ (k : ℕ). k ≤ row_count v.layout) same (found_there s.words resting id puts there_now) in
+      subst (λ (k : ℕ). k ≤ row_count v.layout) same (found_there s.words resting id stands.machine puts there_now) in
       let seen : (k : ℕ) → cell_seen x i v ≡ Some k → found ≡ k =
-      λ k is. sym same ∙ finds_seen s.words resting id puts there_now k is in (
+      λ k is. sym same ∙ finds_seen s.words resting id stands.machine puts there_now k is in (
         w,
         keeps,
         tt,
-        now,
+        record { stands = now; slots = held_slots },
         subst (λ (u : View). Swaps x i word (u, me.1) found (w, me.1)) (sym is_me) (refl, refl, low, rows_now, seen),
       )

@@ -1,11 +1,13 @@
 -- What a table asks of a step on a thread's word: a look at it goes on with what the word says, and a store is of the
 -- hand's own thread.
-use Rattle.std.proofs.Common.{◌≡◌, ◌≢◌, ℕ, ◌+◌, ◌<◌, Bool, List, ◌∷◌, length, set, inl, inr, refl, sym, ap, ◌∙◌, subst, arith}
+use Rattle.std.proofs.Common.{◌≡◌, ◌≢◌, ℕ, ◌+◌, ◌<◌, Bool, Option, List, ◌∷◌, length, set, inl, inr, refl, sym, ap, ◌∙◌, subst, arith}
 use Rattle.std.specs.Prelude.{◌==◌, ◌&&◌, ◌⊎◌, slice_index}
 use Rattle.std.proofs.lemmas.Bool.{ne_eqb}
 use Rattle.std.proofs.lemmas.Option.{slice_get_within}
 use Rattle.atomic_table.specs.Table.{State, Me, Allows}
 use Rattle.brc_model.specs.declared.duty.Duty.{Duty}
+use Rattle.brc_model.specs.declared.duty.Duty.TheVariants.{LockGate, UnlockGate, BirthKind, BirthLocal, SettleKind, SettleEnd}
+use Rattle.brc_model.specs.SlotLaws.{Stays, use_of}
 use Rattle.brc_model.specs.declared.actor.Status.{Status}
 use Rattle.brc_model.specs.declared.actor.Status.TheVariants.{Running, Leaving, Gone}
 use Rattle.brc_model.specs.declared.address.Address.TheVariants.{ThreadWord}
@@ -16,8 +18,9 @@ use Rattle.brc_model.specs.Duties.{address_of, new_word}
 use Rattle.brc_model.specs.CountingLaws.{DutiesAreKept, DutiesAreWithin, AccountsAreThere, ChainsAreThere, HandedMergesLive}
 use Rattle.brc_model.specs.GuardLaws.{LockedCellsStay}
 use Rattle.brc_table.specs.declared.view.View.{View}
-use Rattle.brc_table.specs.Views.{actor_of, event_of, did}
-use Rattle.brc_table.specs.Rule.{thread_reading, reading, Stands}
+use Rattle.brc_table.specs.Views.{actor_of, event_of, did, taken_after}
+use Rattle.brc_table.specs.Rule.{thread_reading, reading}
+use Rattle.brc_table.specs.Homes.{TableStands}
 use Rattle.brc_table.specs.Threads.{thread_word}
 use Rattle.brc_table.specs.Plays.{overwritten, Stores, Looks}
 use Rattle.brc_table.specs.Hands.{TableState, HandState}
@@ -34,10 +37,21 @@ alive_word Running alive e = omega (arith, e)
 alive_word Leaving alive e = omega (arith, e)
 alive_word Gone alive e = alive refl
 
+-- A duty about a thread's word takes no slot and gives none back.
+thread_stays : (layout : Layout) (t head : ℕ) (d : Duty) (u : ℕ) → address_of layout t head d ≡ ThreadWord u
+    → (found : ℕ) → use_of d found ≡ Stays
+thread_stays layout t head (LockGate x) u is found = absurd cc
+thread_stays layout t head (UnlockGate x) u is found = absurd cc
+thread_stays layout t head (BirthKind x h w) u is found = absurd cc
+thread_stays layout t head (BirthLocal x h) u is found = absurd cc
+thread_stays layout t head (SettleKind x) u is found = absurd cc
+thread_stays layout t head (SettleEnd x) u is found = absurd cc
+thread_stays layout t head _ u is found = refl
+
 module _ (kept : DutiesAreKept) (within : DutiesAreWithin) (law : AccountsAreThere)
     (chains : ChainsAreThere) (stay : LockedCellsStay) (live : HandedMergesLive) (words : TableState)
-    (hand : HandState) (begins : View → View) {S : Type 0} (layout : Layout) (slots id index : ℕ) (me : Me S View)
-    (seen : Seen words hand layout me) (becomes : Becomes words.layout hand.view (begins hand.view)) where
+    (hand : HandState) (begins : View → View) {T : Type 0} (layout : Layout) (slots id index : ℕ)
+    (me : Me (Option T) View) (seen : Seen words hand layout me) (becomes : Becomes words.layout hand.view (begins hand.view)) where
   becoming : Becomes layout me.0 (begins me.0)
   becoming =
       becomes_here kept within law chains stay live words hand begins layout slots id index me seen becomes
@@ -125,7 +139,7 @@ module _ (kept : DutiesAreKept) (within : DutiesAreWithin) (law : AccountsAreThe
 
   -- A step on a thread word is allowed that goes on with what the word says.
   pub look_allowed : (f : ℕ → ℕ) → ((k : ℕ) → f k ≡ k) → MakesAtThread (begins hand.view) index f
-      → Allows (λ (s : State S View). Stands layout s.words s.views) slots id me index f
+      → Allows (λ (s : State (Option T) View). TableStands layout s.words s.homes s.views) slots id me index f
       (λ found after. Looks begins me found after)
   look_allowed f leaves makes_there =
       let makes : MakesAtThread (begins me.0) index f =
@@ -135,22 +149,26 @@ module _ (kept : DutiesAreKept) (within : DutiesAreWithin) (law : AccountsAreThe
       allows kept within law chains stay live layout me.0 u makes.duty makes.rest index becoming (thread_next index
       f makes)
       slots id me f (λ found after. Looks begins me found after) refl
-      (λ found known.
-      says (f found) ∙ (makes.leaves found ∙ ap (new_word u.thread u.head makes.duty) (sym (says found))))
-      (λ words views i does.
-      thread_keeps index f makes words views i does (inr (leaves (thread_word words index)))
-      (λ pos. omega (arith, leaves (thread_word words index), pos))
-      (λ is. leaves (thread_word words index) ∙ is))
+      (thread_stays u.layout u.thread u.head makes.duty index makes.address) (
+        λ found known.
+            says (f found) ∙ (makes.leaves found ∙ ap (new_word u.thread u.head makes.duty) (sym (says found))),
+        λ words views i does.
+            thread_keeps index f makes words views i does (inr (leaves (thread_word words index)))
+            (λ pos. omega (arith, leaves (thread_word words index), pos))
+            (λ is. leaves (thread_word words index) ∙ is),
+      )
       (λ found known rows. (
         ap (did u (makes.duty ∷ makes.rest)) (says found)
             ∙ ap (λ (ds : List Duty). did u ds (thread_reading found)) (sym makes.agenda),
         refl,
         rows,
+        ap (taken_after u.taken) (thread_stays u.layout u.thread u.head makes.duty index makes.address
+        (read_of u makes.duty found)) ∙ becoming.slots.taken,
       ))
 
   -- A store of a thread word is allowed.
   pub thread_allowed : (word : ℕ) → index ≡ (begins hand.view).thread → StoresThreadWord (begins hand.view) index word
-      → Allows (λ (s : State S View). Stands layout s.words s.views) slots id me index (λ found. word)
+      → Allows (λ (s : State (Option T) View). TableStands layout s.words s.homes s.views) slots id me index (λ found. word)
       (λ found after. Stores begins me after)
   thread_allowed word mine stores_there =
       let stores : StoresThreadWord (begins me.0) index word =
@@ -160,12 +178,14 @@ module _ (kept : DutiesAreKept) (within : DutiesAreWithin) (law : AccountsAreThe
       let says = thread_says index (λ found. word) makes in
       allows kept within law chains stay live layout me.0 u makes.duty makes.rest index becoming
       (thread_next index (λ found. word) makes) slots id me (λ found. word) (λ found after. Stores begins me after) refl
-      (λ found known.
-      says word ∙ (makes.leaves found ∙ ap (new_word u.thread u.head makes.duty) (sym (says found))))
-      (λ words views i does.
-      let own : index ≡ u.thread = mine ∙ ap (λ (v : View). (begins v).thread) (sym seen.view_is) in
-      thread_keeps index (λ found. word) makes words views i does (inl own) (λ pos. stores.some)
-      (λ is. absurd (not_gone index makes words views i does own is)))
+      (thread_stays u.layout u.thread u.head makes.duty index makes.address) (
+        λ found known.
+            says word ∙ (makes.leaves found ∙ ap (new_word u.thread u.head makes.duty) (sym (says found))),
+        λ words views i does.
+            let own : index ≡ u.thread = mine ∙ ap (λ (v : View). (begins v).thread) (sym seen.view_is) in
+            thread_keeps index (λ found. word) makes words views i does (inl own) (λ pos. stores.some)
+            (λ is. absurd (not_gone index makes words views i does own is)),
+      )
       (λ found known rows.
       let known' : read_of u makes.duty found ≡ overwritten u =
       stores.knows (read_of u makes.duty found) known.overwrites in (
@@ -173,4 +193,6 @@ module _ (kept : DutiesAreKept) (within : DutiesAreWithin) (law : AccountsAreThe
             ∙ ap (λ (ds : List Duty). did u ds (overwritten u)) (sym makes.agenda),
         refl,
         rows,
+        ap (taken_after u.taken) (thread_stays u.layout u.thread u.head makes.duty index makes.address
+        (read_of u makes.duty found)) ∙ becoming.slots.taken,
       ))

@@ -1,28 +1,47 @@
 -- Changes of a hand's view at which no word changes: taking work up, and turning to other work.
-use Rattle.std.specs.Prelude.{◌≡◌, ◌≢◌, ℕ, ◌<◌, List, ◌∷◌}
-use Rattle.std.specs.Prelude.{slice_set}
+use Rattle.std.specs.Prelude.{◌≡◌, ◌≢◌, ◌⊎◌, ℕ, ◌<◌, Option, List, ◌∷◌, Some, slice_set}
 use mathlib.Core.Option.{some}
 use lib.ListN.{get_elem?}
 use Rattle.brc_model.specs.declared.duty.Duty.{Duty}
 use Rattle.brc_model.specs.declared.duty.Duty.TheVariants.{Settle}
 use Rattle.brc_model.specs.declared.actor.Status.{Status}
 use Rattle.brc_model.specs.declared.actor.Status.TheVariants.{Gone}
-use Rattle.brc_model.specs.declared.address.Address.TheVariants.{ThreadWord}
+use Rattle.brc_model.specs.declared.address.Address.TheVariants.{Slot, ThreadWord}
 use Rattle.brc_model.specs.declared.layout.Layout.{Layout}
 use Rattle.brc_model.specs.Duties.{address_of, new_word, new_head}
 use Rattle.brc_model.specs.Layout.{row_count}
-use Rattle.brc_model.specs.Machine.{status_by, used_by, is_running}
+use Rattle.brc_model.specs.Machine.{Machine, status_by, used_by, is_running}
+use Rattle.brc_model.specs.SlotLaws.{SlotUse, Stays, use_of, UsesSlot}
 use Rattle.brc_model.specs.Within.{Suits}
 use Rattle.brc_model.specs.Stores.{Overwrites}
 use Rattle.brc_table.specs.declared.view.View.{View}
 use Rattle.brc_table.specs.Places.{place, IsObjectWord}
+use Rattle.brc_table.specs.Views.{actor_of}
 use Rattle.brc_table.specs.Rule.{thread_reading, Stands}
+use Rattle.brc_table.specs.Homes.{times_in}
 use Rattle.brc_table.specs.Plays.{overwritten}
 
+-- The rule holds with these words and views, and no slot changes but those that the hand has taken for a birth or a
+-- deallocation.
+pub record Passes (layout : Layout) (words : List ℕ) (views : List View) (taken : List ℕ) (locked : Option ℕ)
+    (before : Machine)
+    : Type 0 where
+  pub stands : Stands layout words views
+  pub slots : (x : ℕ) → (times_in x taken ≡ 0) ⊎ (locked ≡ Some x)
+      → stands.machine.memory (Slot x) ≡ before.memory (Slot x)
+
+-- The hand has the slots that it had, and uses each that it used.
+pub record KeepsSlots (v u : View) : Type 0 where
+  pub taken : u.taken ≡ v.taken
+  pub in_slot : (x : ℕ) → v.locked ≡ Some x → u.in_slot ≡ v.in_slot
+  pub locked : u.locked ≡ v.locked
+  pub used : (x : ℕ) → UsesSlot (actor_of v) x → UsesSlot (actor_of u) x
+
 -- In each table that meets the rule, a hand with the one view may have the other.
-abbrev pub Becomes : Layout → View → View → Type 0
-Becomes layout v u = (words : List ℕ) (views : List View) (id : ℕ) → Stands layout words views
-    → get_elem? views id ≡ some v → Stands layout words (slice_set views id u)
+pub record Becomes (layout : Layout) (v u : View) : Type 0 where
+  pub passes : (words : List ℕ) (views : List View) (id : ℕ) (stands : Stands layout words views)
+      → get_elem? views id ≡ some v → Passes layout words (slice_set views id u) v.taken v.locked stands.machine
+  pub slots : KeepsSlots v u
 
 -- The hand's first duty is about the object's word at this place.
 pub record IsAt (v : View) (d : Duty) (rest : List Duty) (index : ℕ) : Type 0 where
@@ -31,11 +50,12 @@ pub record IsAt (v : View) (d : Duty) (rest : List Duty) (index : ℕ) : Type 0 
   pub object : IsObjectWord (address_of v.layout v.thread v.head d)
   pub index_is : index ≡ place (address_of v.layout v.thread v.head d)
 
--- The duty leaves the thread's status, the head of its chain and its used rows as they are.
+-- The duty leaves the thread's status, the head of its chain, its used rows and its slots as they are.
 pub record IsQuiet (d : Duty) : Type 0 where
   pub status : (s : Status) → status_by s d ≡ s
   pub head : (head found : ℕ) → new_head head d found ≡ head
   pub used : (used : ℕ) → used_by used d ≡ used
+  pub slots : (found : ℕ) → use_of d found ≡ Stays
 
 -- The hand's first duty is about the object's word at this place, and makes f of each value that it may find there.
 pub record Makes (v : View) (index : ℕ) (f : ℕ → ℕ) : Type 0 where
@@ -45,15 +65,35 @@ pub record Makes (v : View) (index : ℕ) (f : ℕ → ℕ) : Type 0 where
   pub leaves : (found : ℕ) → Suits v.thread (is_running v.status) (row_count v.layout) duty found
       → f found ≡ new_word v.thread v.head duty found
 
--- The same of a duty that leaves status, chain and used rows as they are.
+-- The same of a duty that takes no slot and gives none back.
+pub record MakesWithoutSlot (v : View) (index : ℕ) (f : ℕ → ℕ) : Type 0 where
+  pub makes : Makes v index f
+  pub slots : (found : ℕ) → use_of makes.duty found ≡ Stays
+
+-- The same of a duty that leaves status, chain, used rows and slots as they are.
 pub record MakesQuietly (v : View) (index : ℕ) (f : ℕ → ℕ) : Type 0 where
   pub makes : Makes v index f
   pub quiet : IsQuiet makes.duty
 
--- The same of a store, which knows the value that it overwrites.
+-- The same of a duty that leaves status, chain and used rows as they are, and takes a slot or gives one back.
+pub record MakesWithSlot (v : View) (index : ℕ) (f : ℕ → ℕ) (slot_use : ℕ → SlotUse) : Type 0 where
+  pub makes : Makes v index f
+  pub status : (s : Status) → status_by s makes.duty ≡ s
+  pub head : (head found : ℕ) → new_head head makes.duty found ≡ head
+  pub used : (used : ℕ) → used_by used makes.duty ≡ used
+  pub uses : (found : ℕ) → use_of makes.duty found ≡ slot_use found
+
+-- The same of a store, which knows the value that it overwrites, and leaves slots as they are.
 pub record StoresWord (v : View) (index word : ℕ) : Type 0 where
   pub makes : Makes v index (λ found. word)
   pub knows : (found : ℕ) → Overwrites v.thread makes.duty found → found ≡ overwritten v
+  pub slots : (found : ℕ) → use_of makes.duty found ≡ Stays
+
+-- The same of a store that takes a slot or gives one back.
+pub record StoresWithSlot (v : View) (index word : ℕ) (slot_use : SlotUse) : Type 0 where
+  pub makes : Makes v index (λ found. word)
+  pub knows : (found : ℕ) → Overwrites v.thread makes.duty found → found ≡ overwritten v
+  pub uses : (found : ℕ) → use_of makes.duty found ≡ slot_use
 
 -- The hand's first duty is about this thread's word, and makes f of what it finds there.
 pub record MakesAtThread (v : View) (thread : ℕ) (f : ℕ → ℕ) : Type 0 where

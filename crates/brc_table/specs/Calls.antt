@@ -2,7 +2,7 @@
 use Rattle.std.specs.Prelude.{◌≡◌, ◌≢◌, ℕ, ◌+◌, ◌-◌, ◌<◌, List, [], ◌∷◌}
 use Rattle.brc_word.specs.Words.{released_word, merged_word}
 use Rattle.brc_model.specs.declared.duty.Duty.{Duty}
-use Rattle.brc_model.specs.declared.duty.Duty.TheVariants.{RetainStore, RetainAdd, ReleaseLoad, ReleaseStore, DecideAtZero, SharedLoad, SharedExchange, SetMark, Look, TakeMark, MergeSwap, MergeLoad, MergeExchange, Die, Settle, SettleKind, SettleCell, SettleEnd, Scan, Finish, BirthLocal}
+use Rattle.brc_model.specs.declared.duty.Duty.TheVariants.{RetainStore, RetainAdd, ReleaseLoad, ReleaseStore, DecideAtZero, SharedLoad, SharedExchange, SetMark, Look, TakeMark, MergeSwap, MergeLoad, MergeExchange, Die, Settle, SettleKind, SettleCell, TakeSlot, SettleEnd, Scan, Finish, BirthSlot, BirthLocal}
 use Rattle.brc_model.specs.declared.duty.Holding.TheVariants.{InFlight}
 use Rattle.brc_model.specs.declared.actor.Status.TheVariants.{Running, Gone}
 use Rattle.brc_table.specs.declared.view.View.{View}
@@ -46,8 +46,9 @@ abbrev pub ChainsRow : ℕ → List Duty → Type 0
 ChainsRow x (Die y ∷ rest) = y ≡ x
 ChainsRow x _ = ⊥
 
--- The one duty is to store the new row's first local word.
+-- The one duty is to store the new row's first local word, or to put its resource into its slot before that.
 abbrev pub OwnsFirst : ℕ → List Duty → Type 0
+OwnsFirst x (BirthSlot y h ∷ []) = y ≡ x
 OwnsFirst x (BirthLocal y h ∷ []) = y ≡ x
 OwnsFirst x _ = ⊥
 
@@ -92,8 +93,9 @@ abbrev pub EmptiesCell : ℕ → ℕ → List Duty → Type 0
 EmptiesCell x i (SettleCell y j n ∷ rest) = (y ≡ x) × (j ≡ i) × (i < n)
 EmptiesCell x i _ = ⊥
 
--- The first duty is to close the dying row.
+-- The first duty is to close the dying row, or to take its resource out of its slot before that.
 abbrev pub ClosesRow : ℕ → List Duty → Type 0
+ClosesRow x (TakeSlot y ∷ rest) = y ≡ x
 ClosesRow x (SettleEnd y ∷ rest) = y ≡ x
 ClosesRow x _ = ⊥
 

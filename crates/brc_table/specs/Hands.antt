@@ -23,6 +23,8 @@ pub record HandState : Type 0 where
   -- of each begun merge of a row of the thread's own block, the local count that was swapped out, by the row modulo
   -- the most rows of a block
   pub carried : List (Option ℕ)
+  -- the rows whose slots the hand has taken, the last one first, and how many resources each slot holds
+  pub slots : List (ℕ × ℕ)
 
 -- the local count that the hand carries from the row, if it has begun a merge of it
 abbrev pub carried_of : HandState → ℕ → Option ℕ

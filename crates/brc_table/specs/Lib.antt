@@ -3,10 +3,12 @@ pub mod Views
 pub mod Seen
 pub mod Threads
 pub mod Rule
+pub mod Homes
 pub mod Plays
 pub mod Hands
 pub mod Swaps
 pub mod Begins
+pub mod Uses
 pub mod Calls
 pub mod Opening
 pub mod Agreeing

@@ -52,14 +52,16 @@ abbrev pub Continues : {S : Type 0} → (View → View) → Me S View → ℕ �
 Continues begins me found after =
     (after.0 ≡ done (begins me.0) found) × (after.1 ≡ me.1) × SuitsFirst (begins me.0) (begins me.0).agenda found
     × FirstFindsOwner (begins me.0) (begins me.0).agenda found × RowsAreThere after.0
-    × FindsKnown (begins me.0) (begins me.0).agenda found
+    × FindsKnown (begins me.0) (begins me.0).agenda found × (after.0.taken ≡ me.0.taken)
 
 -- The same of a store, which knows the value that it overwrites.
 abbrev pub Stores : {S : Type 0} → (View → View) → Me S View → Me S View → Type 0
 Stores begins me after =
     (after.0 ≡ done (begins me.0) (overwritten (begins me.0))) × (after.1 ≡ me.1) × RowsAreThere after.0
+    × (after.0.taken ≡ me.0.taken)
 
 -- The same of a step on a thread word, which goes on with what the word says of the thread.
 abbrev pub Looks : {S : Type 0} → (View → View) → Me S View → ℕ → Me S View → Type 0
 Looks begins me found after =
     (after.0 ≡ done (begins me.0) (thread_reading found)) × (after.1 ≡ me.1) × RowsAreThere after.0
+    × (after.0.taken ≡ me.0.taken)

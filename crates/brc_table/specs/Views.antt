@@ -3,7 +3,7 @@ use Rattle.std.specs.Prelude.{Bool, ◌≡◌, ℕ, ◌<◌, ◌≤◌, true, �
 use Rattle.std.specs.List.{filter, list_any}
 use Rattle.brc_model.specs.declared.duty.Holding.TheVariants.{AsCaller}
 use Rattle.brc_model.specs.declared.duty.Duty.{Duty}
-use Rattle.brc_model.specs.declared.duty.Duty.TheVariants.{RetainLoad, ReleaseLoad, BirthKind, KindLoad, LockGate, UnlockGate, CellLoad, Settle, ClaimMark, Leave}
+use Rattle.brc_model.specs.declared.duty.Duty.TheVariants.{RetainLoad, ReleaseLoad, BirthKind, BirthSlot, BirthLocal, KindLoad, LockGate, UnlockGate, CellLoad, Settle, TakeSlot, SettleEnd, ClaimMark, Leave}
 use Rattle.brc_model.specs.declared.actor.Status.TheVariants.{Running}
 use Rattle.brc_model.specs.declared.layout.Layout.{Layout}
 use Rattle.brc_model.specs.Layout.{row_count, block_size, front_rows, root_row, row_at, is_immortal_row}
@@ -11,6 +11,7 @@ use Rattle.brc_model.specs.Duties.{address_of, new_word, continuation, new_head,
 use Rattle.brc_model.specs.Machine.{Actor, is_running, status_by, used_by, locked_by, lent_by}
 use Rattle.brc_model.specs.OpenWork.{is_about}
 use Rattle.brc_model.specs.Limits.{cell_limit}
+use Rattle.brc_model.specs.SlotLaws.{SlotUse, Stays, Takes, Gives, use_of}
 use Rattle.brc_model.specs.Ranges.{cells_named}
 use Rattle.brc_table.specs.declared.view.View.{View}
 use Rattle.brc_table.specs.declared.view.Event.{Event}
@@ -77,6 +78,17 @@ event_of v d found = record {
   left = new_word v.thread v.head d found;
 }
 
+-- the rows without the first
+abbrev pub behind_first : List ℕ → List ℕ
+behind_first [] = []
+behind_first (x ∷ rows) = rows
+
+-- the rows whose slots the hand has taken, after a duty of its own
+abbrev pub taken_after : List ℕ → SlotUse → List ℕ
+taken_after rows Stays = rows
+taken_after rows (Takes x) = x ∷ rows
+taken_after rows (Gives x) = behind_first rows
+
 abbrev pub did : View → List Duty → ℕ → View
 did v [] found = v
 did v (d ∷ rest) found = record v {
@@ -87,6 +99,7 @@ did v (d ∷ rest) found = record v {
   used = used_by v.used d;
   locked = locked_by v.locked d found;
   lent = lent_by v.lent d found;
+  taken = taken_after v.taken (use_of d found);
   trace = v.trace ++ event_of v d found ∷ [];
 }
 
@@ -147,9 +160,11 @@ asking v x = record v {
   aside = open_work v;
 }
 
--- the hand begins to lock the row's object, to unlock it, or to load a cell of it
-abbrev pub locking : View → ℕ → View
-locking v x = record v { agenda = LockGate x ∷ []; aside = open_work v }
+-- the hand begins to lock the row's object, whose slot holds so many resources
+abbrev pub locking : View → ℕ → ℕ → View
+locking v x n = record v { agenda = LockGate x ∷ []; aside = open_work v; in_slot = n }
+
+-- the hand begins to unlock the row's object, or to load a cell of it
 
 abbrev pub unlocking : View → ℕ → View
 unlocking v x = record v { agenda = UnlockGate x ∷ []; aside = open_work v }
@@ -173,6 +188,24 @@ claiming v x = record v { agenda = ClaimMark x ∷ [] }
 -- the hand begins to leave
 abbrev pub leaving : View → View
 leaving v = record v { agenda = Leave 0 v.used ∷ [] }
+
+-- ---- slots
+
+-- The hand has put the resource into the slot of the new object, if that has one: by this no word changes.
+abbrev pub slot_filled_by : List Duty → View → View
+slot_filled_by (BirthSlot x h ∷ rest) v = record v { agenda = BirthLocal x h ∷ rest }
+slot_filled_by _ v = v
+
+abbrev pub slot_filled : View → View
+slot_filled v = slot_filled_by v.agenda v
+
+-- The hand has taken the resource out of the slot of the dying object, if that has one, and the host has closed it.
+abbrev pub slot_emptied_by : List Duty → View → View
+slot_emptied_by (TakeSlot x ∷ rest) v = record v { agenda = SettleEnd x ∷ rest }
+slot_emptied_by _ v = v
+
+abbrev pub slot_emptied : View → View
+slot_emptied v = slot_emptied_by v.agenda v
 
 -- ---- the hands that main has given out
 
@@ -203,6 +236,8 @@ main_view layout = record {
   used = front_rows;
   locked = None;
   lent = None;
+  taken = [];
+  in_slot = 0;
   given = [];
   trace = [];
 }
@@ -227,6 +262,8 @@ worker_view layout thread = record {
   used = 0;
   locked = None;
   lent = None;
+  taken = [];
+  in_slot = 0;
   given = [];
   trace = [];
 }

@@ -24,6 +24,7 @@ impl<T: Drop> Words<T> {
         requires knows { KnowsCell hand.old.view row cell }
         ensures table { hand.new.table ≡ hand.old.table }
         ensures carried { hand.new.carried ≡ hand.old.carried }
+        ensures slots { hand.new.slots ≡ hand.old.slots }
         ensures view { hand.new.view ≡ done (loading_cell hand.old.view row cell) result }
         ensures there { result ≤ row_count hand.old.view.layout }
         ensures stays { (word : ℕ) → cell_seen row cell hand.old.view ≡ Some word → result ≡ word }
@@ -47,6 +48,7 @@ impl<T: Drop> Words<T> {
         requires few { length hand.old.view.references < most_references }
         ensures table { hand.new.table ≡ hand.old.table }
         ensures carried { hand.new.carried ≡ hand.old.carried }
+        ensures slots { hand.new.slots ≡ hand.old.slots }
         ensures view { hand.new.view ≡ swapped hand.old.view row cell item result }
         ensures there { result ≤ row_count hand.old.view.layout }
         ensures stays { (word : ℕ) → cell_seen row cell hand.old.view ≡ Some word → result ≡ word }

@@ -2,16 +2,18 @@
 //! without a reference is deallocated by the thread that gave up the last one). Each object is taken off the chain, its
 //! kind is asked for, a list's cells are emptied, and its gate says at the end that it is closed.
 
-ghost use Rattle.std.specs.Prelude.{◌≡◌, ◌≢◌, ◌<◌};
+ghost use Rattle.std.specs.Prelude.{◌≡◌, ◌≢◌, ◌<◌, ◌∷◌};
 ghost use Rattle.brc_model.specs.declared.actor.Status.TheVariants.{Gone};
-ghost use Rattle.brc_table.specs.Views.{done, settling};
+ghost use Rattle.brc_table.specs.Views.{done, settling, slot_emptied};
+ghost use Rattle.brc_model.specs.Duties.{resources_of};
 ghost use Rattle.brc_table.specs.Hands.{IsOf};
+ghost use Rattle.brc_table.specs.Uses.{FirstSlot, behind_slot};
 ghost use Rattle.brc_table.specs.Calls.{MaySettle, LoadsDyingKind, EmptiesCell, ClosesRow};
 
 use crate::hand::Hand;
 use crate::place::{GATE, KIND};
 use crate::words::Words;
-use brc_model::settles_begin;
+use brc_model::{duties_are_kept, needed_slots_are_unlocked, settles_begin};
 use brc_word::closed;
 use std::marker::Brand;
 
@@ -26,13 +28,15 @@ impl<T: Drop> Words<T> {
         requires settles { MaySettle hand.old.view }
         ensures table { hand.new.table ≡ hand.old.table }
         ensures carried { hand.new.carried ≡ hand.old.carried }
+        ensures slots { hand.new.slots ≡ hand.old.slots }
         ensures view { hand.new.view ≡ done (settling hand.old.view) result }
     {
         settles_begin();
         self.load_chain::<Brand>(hand)
     }
 
-    /// Does the next duty: loads the kind word of the dying object.
+    /// Does the next duty: loads the kind word of the dying object, and takes its slot, which holds a resource if the kind
+    /// has one.
     pub fn dying_kind_load(&self, hand: &mut Hand<T>, row: u32) -> u64
         requires table { IsOf self.now hand.old }
         requires alive { hand.old.view.status ≢ Gone }
@@ -40,9 +44,10 @@ impl<T: Drop> Words<T> {
         ensures table { hand.new.table ≡ hand.old.table }
         ensures carried { hand.new.carried ≡ hand.old.carried }
         ensures view { hand.new.view ≡ done hand.old.view result }
+        ensures slots { hand.new.slots ≡ (row, resources_of result) ∷ hand.old.slots }
     {
         hand.rows_are_there();
-        self.load::<Brand>(hand, KIND, row)
+        self.load_taking::<Brand>(hand, KIND, row)
     }
 
     /// Does the next duty: empties a cell of the dying list. Returns what was there: a row plus 1, or 0.
@@ -52,24 +57,31 @@ impl<T: Drop> Words<T> {
         requires duty { EmptiesCell row cell hand.old.view.agenda }
         ensures table { hand.new.table ≡ hand.old.table }
         ensures carried { hand.new.carried ≡ hand.old.carried }
+        ensures slots { hand.new.slots ≡ hand.old.slots }
         ensures view { hand.new.view ≡ done hand.old.view result }
     {
         hand.rows_are_there();
         self.swap_cell::<Brand>(hand, row, cell, EMPTY)
     }
 
-    /// Does the next duty: closes the dying object. Returns the gate found, which says who deallocates the object.
+    /// Does the next duty: closes the dying object, and gives its slot back, which has to be empty. Returns the gate found,
+    /// which says who deallocates the object.
     ///
     /// The step is a swap, since no duty knows what the gate said of the rest of the chain.
     pub fn gate_close(&self, hand: &mut Hand<T>, row: u32) -> u64
         requires table { IsOf self.now hand.old }
         requires alive { hand.old.view.status ≢ Gone }
         requires duty { ClosesRow row hand.old.view.agenda }
+        requires slot { FirstSlot hand.old.slots row 0 }
         ensures table { hand.new.table ≡ hand.old.table }
         ensures carried { hand.new.carried ≡ hand.old.carried }
-        ensures view { hand.new.view ≡ done hand.old.view result }
+        ensures view { hand.new.view ≡ done (slot_emptied hand.old.view) result }
+        ensures slots { hand.new.slots ≡ behind_slot hand.old.slots }
     {
+        duties_are_kept();
+        needed_slots_are_unlocked();
+        hand.slots_are_taken();
         hand.rows_are_there();
-        self.swap::<Brand>(hand, GATE, row, closed())
+        self.swap_giving::<Brand>(hand, GATE, row, closed())
     }
 }

@@ -53,6 +53,7 @@ impl<T: Drop> Words<T> {
         requires there { row < row_count hand.old.view.layout }
         ensures table { hand.new.table ≡ hand.old.table }
         ensures carried { hand.new.carried ≡ hand.old.carried }
+        ensures slots { hand.new.slots ≡ hand.old.slots }
         ensures view { hand.new.view ≡ done (claiming hand.old.view row) result }
     {
         claims_begin();
@@ -65,6 +66,7 @@ impl<T: Drop> Words<T> {
         requires may_leave { MayLeave hand.old.view }
         ensures table { hand.new.table ≡ hand.old.table }
         ensures carried { hand.new.carried ≡ hand.old.carried }
+        ensures slots { hand.new.slots ≡ hand.old.slots }
         ensures view { hand.new.view ≡ done (leaving hand.old.view) 1 }
     {
         releases_begin();
@@ -81,6 +83,7 @@ impl<T: Drop> Words<T> {
         requires duty { ScansRow index hand.old.view.agenda }
         ensures table { hand.new.table ≡ hand.old.table }
         ensures carried { hand.new.carried ≡ hand.old.carried }
+        ensures slots { hand.new.slots ≡ hand.old.slots }
         ensures view { hand.new.view ≡ done hand.old.view result }
     {
         self.layout_is_plain();
@@ -96,6 +99,7 @@ impl<T: Drop> Words<T> {
         requires duty { Finishes hand.old.view.agenda }
         ensures table { hand.new.table ≡ hand.old.table }
         ensures carried { hand.new.carried ≡ hand.old.carried }
+        ensures slots { hand.new.slots ≡ hand.old.slots }
         ensures view { hand.new.view ≡ done hand.old.view 2 }
     {
         self.store_thread::<Brand>(hand, GONE);

@@ -4,6 +4,7 @@ ghost use Rattle.std.specs.Prelude.{◌≡◌, ◌<◌, ◌%◌, slice_set};
 ghost use Rattle.brc_model.specs.Limits.{row_limit};
 ghost use Rattle.brc_model.specs.Machine.{is_running};
 ghost use Rattle.brc_table.specs.Hands.{carried_of};
+ghost use Rattle.brc_table.specs.Uses.{slot_rows};
 ghost use Rattle.brc_table.specs.Views.{RowsAreThere, is_given};
 
 use crate::carried::{BLOCK, Carried, Spare, is_spent};
@@ -31,17 +32,23 @@ pub struct Hand<T> {
 }
 
 impl<T> Model for Hand<T> {
-    ghost use Rattle.std.specs.Prelude.{◌≡◌, [], length};
+    ghost use Rattle.std.specs.Prelude.{◌≡◌, length};
     ghost use Rattle.brc_model.specs.Limits.{row_limit};
     ghost use Rattle.brc_model.specs.Machine.{is_running};
     ghost use Rattle.brc_table.specs.Hands.{HandState};
+    ghost use Rattle.brc_table.specs.Homes.{rows_of, held_in};
     ghost use Rattle.brc_table.specs.Views.{RowsAreThere, HasSpares, IsGivenBy};
 
     ghost Value = { HandState };
 
-    ghost view = { λ h. record { table = h.seat.table_id; view = h.seat.me.0; carried = h.carried.value } };
+    ghost view = { λ h. record {
+        table = h.seat.table_id;
+        view = h.seat.me.0;
+        carried = h.carried.value;
+        slots = held_in h.seat.me.1;
+    } };
 
-    ghost invariant = { λ h. (h.seat.me.1 ≡ [])
+    ghost invariant = { λ h. (rows_of h.seat.me.1 ≡ h.seat.me.0.taken)
         × (h.thread ≡ h.seat.me.0.thread)
         × (h.running ≡ is_running h.seat.me.0.status)
         × (h.head ≡ h.seat.me.0.head)
@@ -99,9 +106,16 @@ impl<T> Hand<T> {
     pub fn remember(&mut self, row: u32, carried: Option<u32>)
         ensures carried { self.new.carried ≡ slice_set self.old.carried (row % row_limit) carried }
         ensures row { carried_of self.new row ≡ carried }
-        ensures same { (self.new.table ≡ self.old.table) × (self.new.view ≡ self.old.view) }
+        ensures same { (self.new.table ≡ self.old.table) × (self.new.view ≡ self.old.view) × (self.new.slots ≡ self.old.slots) }
     {
         self.carried[row as usize % BLOCK] = carried;
+    }
+
+    /// States that the hand has taken the slots that its view lists.
+    pub fn slots_are_taken(&self)
+        ensures { slot_rows self.now.slots ≡ self.now.view.taken }
+    {
+        let _opened = self.thread;
     }
 
     /// States that the objects to which the hand holds references, and those of its duties, have rows.

@@ -31,6 +31,7 @@ impl<T: Drop> Words<T> {
         requires duty { LoadsShared row hand.old.view.agenda }
         ensures table { hand.new.table ≡ hand.old.table }
         ensures carried { hand.new.carried ≡ hand.old.carried }
+        ensures slots { hand.new.slots ≡ hand.old.slots }
         ensures view { hand.new.view ≡ done hand.old.view result }
         ensures suits { SuitsFirst hand.old.view hand.old.view.agenda result }
     {
@@ -45,6 +46,7 @@ impl<T: Drop> Words<T> {
         requires duty { SwapsLocal row hand.old.view.agenda }
         ensures table { hand.new.table ≡ hand.old.table }
         ensures carried { hand.new.carried ≡ hand.old.carried }
+        ensures slots { hand.new.slots ≡ hand.old.slots }
         ensures view { hand.new.view ≡ done hand.old.view result }
     {
         hand.rows_are_there();
@@ -59,6 +61,7 @@ impl<T: Drop> Words<T> {
         requires duty { ReleasesItem row hand.old.view.agenda }
         ensures table { hand.new.table ≡ hand.old.table }
         ensures carried { hand.new.carried ≡ hand.old.carried }
+        ensures slots { hand.new.slots ≡ hand.old.slots }
         ensures view { hand.new.view ≡ done hand.old.view result }
     {
         hand.rows_are_there();
@@ -73,6 +76,7 @@ impl<T: Drop> Words<T> {
         requires duty { SetsMark row hand.old.view.agenda }
         ensures table { hand.new.table ≡ hand.old.table }
         ensures carried { hand.new.carried ≡ hand.old.carried }
+        ensures slots { hand.new.slots ≡ hand.old.slots }
         ensures view { hand.new.view ≡ done hand.old.view 0 }
     {
         hand.rows_are_there();
@@ -88,6 +92,7 @@ impl<T: Drop> Words<T> {
         requires duty { LooksAtOwner row hand.old.view.agenda }
         ensures table { hand.new.table ≡ hand.old.table }
         ensures carried { hand.new.carried ≡ hand.old.carried }
+        ensures slots { hand.new.slots ≡ hand.old.slots }
         ensures view { hand.new.view ≡ done hand.old.view result }
     {
         self.load_thread::<Brand>(hand, row)
@@ -100,6 +105,7 @@ impl<T: Drop> Words<T> {
         requires duty { TakesMark row hand.old.view.agenda }
         ensures table { hand.new.table ≡ hand.old.table }
         ensures carried { hand.new.carried ≡ hand.old.carried }
+        ensures slots { hand.new.slots ≡ hand.old.slots }
         ensures view { hand.new.view ≡ done hand.old.view result }
     {
         hand.rows_are_there();

@@ -22,6 +22,7 @@ impl<T: Drop> Words<T> {
         requires idle { HasNoWork hand.old.view row }
         ensures table { hand.new.table ≡ hand.old.table }
         ensures carried { hand.new.carried ≡ hand.old.carried }
+        ensures slots { hand.new.slots ≡ hand.old.slots }
         ensures view { hand.new.view ≡ done (asking hand.old.view row) result }
         ensures stays { (word : ℕ) → 0 < word → has_seen_kind row word hand.old.view ≡ true → result ≡ word }
     {

@@ -19,6 +19,8 @@ mod peeks;
 mod place;
 mod rule;
 mod size;
+mod slot_steps;
+mod slots;
 mod split;
 mod step;
 mod steps;

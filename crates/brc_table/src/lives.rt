@@ -1,22 +1,23 @@
 //! The steps by which a hand gives birth to an object and chains a dying one (PEP 703, Biased Reference Counting: a new
 //! object has one local reference and the default state).
 
-ghost use Rattle.std.specs.Prelude.{◌≡◌, ◌≢◌, ◌<◌, ◌≤◌, true};
+ghost use Rattle.std.specs.Prelude.{◌≡◌, ◌≢◌, ◌<◌, ◌≤◌, true, ◌∷◌};
 ghost use Rattle.brc_model.specs.declared.actor.Status.TheVariants.{Gone};
 ghost use Rattle.brc_model.specs.Duties.{cells_of};
 ghost use Rattle.brc_model.specs.Kinds.{kind_of_word, is_counted_kind};
 ghost use Rattle.brc_model.specs.Limits.{cell_limit};
 ghost use Rattle.brc_model.specs.Layout.{row_at};
 ghost use Rattle.brc_model.specs.Machine.{has_room};
-ghost use Rattle.brc_table.specs.Views.{done, bearing, next_row};
+ghost use Rattle.brc_table.specs.Views.{done, bearing, next_row, slot_filled};
 ghost use Rattle.brc_table.specs.Plays.{overwritten};
 ghost use Rattle.brc_table.specs.Hands.{IsOf, IsRunning};
+ghost use Rattle.brc_table.specs.Uses.{HoldsItsOwn, behind_slot};
 ghost use Rattle.brc_table.specs.Calls.{ChainsRow, OwnsFirst};
 
 use crate::hand::Hand;
 use crate::place::{GATE, KIND, LOCAL};
 use crate::words::Words;
-use brc_model::{births_begin, work_is_put_aside};
+use brc_model::{births_begin, duties_are_kept, needed_slots_are_unlocked, work_is_put_aside};
 use brc_word::{dying, local_word};
 use std::marker::Brand;
 
@@ -24,7 +25,8 @@ use std::marker::Brand;
 const FRONT_ROWS: u32 = 2;
 
 impl<T: Drop> Words<T> {
-    /// Begins the birth of an object: stores its kind word. Returns the object's row, the next of the hand's block.
+    /// Begins the birth of an object: stores its kind word, and takes its slot, which is empty. Returns the object's row,
+    /// the next of the hand's block.
     pub fn kind_store(&self, hand: &mut Hand<T>, word: u64) -> u32
         requires table { IsOf self.now hand.old }
         requires running { IsRunning hand.old.view }
@@ -36,14 +38,14 @@ impl<T: Drop> Words<T> {
         ensures table { hand.new.table ≡ hand.old.table }
         ensures carried { hand.new.carried ≡ hand.old.carried }
         ensures view { hand.new.view ≡ done (bearing hand.old.view word) 0 }
+        ensures slots { hand.new.slots ≡ (result, 0) ∷ hand.old.slots }
     {
         work_is_put_aside();
         births_begin();
         self.layout_is_plain();
         hand.rows_are_there();
-        let (head, used) = (hand.head, hand.used);
-        let row = self.row_at(hand.thread, used);
-        self.store::<Brand>(hand, KIND, row, word, head, used);
+        let row = self.row_at(hand.thread, hand.used);
+        self.store_taking::<Brand>(hand, KIND, row, word);
         row
     }
 
@@ -59,20 +61,26 @@ impl<T: Drop> Words<T> {
         FRONT_ROWS + u32::from(thread - 1) * rows + index
     }
 
-    /// Does the next duty: stores the new object's owner and its first reference. The object is born.
+    /// Does the next duty: stores the new object's owner and its first reference, and gives its slot back, which has to
+    /// hold a resource if the object's kind has one. The object is born.
     pub fn first_local_store(&self, hand: &mut Hand<T>, row: u32)
         requires table { IsOf self.now hand.old }
         requires alive { hand.old.view.status ≢ Gone }
         requires duty { OwnsFirst row hand.old.view.agenda }
+        requires slot { HoldsItsOwn hand.old row }
         ensures table { hand.new.table ≡ hand.old.table }
         ensures carried { hand.new.carried ≡ hand.old.carried }
-        ensures view { hand.new.view ≡ done hand.old.view (overwritten hand.old.view) }
+        ensures view { hand.new.view ≡ done (slot_filled hand.old.view) (overwritten (slot_filled hand.old.view)) }
+        ensures slots { hand.new.slots ≡ behind_slot hand.old.slots }
     {
+        duties_are_kept();
+        needed_slots_are_unlocked();
+        hand.slots_are_taken();
         self.layout_is_plain();
         hand.rows_are_there();
-        let (head, used) = (hand.head, hand.used + 1);
+        let used = hand.used + 1;
         let word = local_word(Some(hand.thread), 1);
-        self.store::<Brand>(hand, LOCAL, row, word, head, used);
+        self.store_giving::<Brand>(hand, LOCAL, row, word, used);
     }
 
     /// Does the next duty: puts the object, which has no reference left, at the head of the hand's dying chain.
@@ -82,6 +90,7 @@ impl<T: Drop> Words<T> {
         requires duty { ChainsRow row hand.old.view.agenda }
         ensures table { hand.new.table ≡ hand.old.table }
         ensures carried { hand.new.carried ≡ hand.old.carried }
+        ensures slots { hand.new.slots ≡ hand.old.slots }
         ensures view { hand.new.view ≡ done hand.old.view (overwritten hand.old.view) }
     {
         self.layout_is_plain();

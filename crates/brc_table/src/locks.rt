@@ -1,16 +1,18 @@
 //! The steps by which a hand enters and leaves the critical section of an object (Python/C API manual, Python Critical
 //! Section API). The gate of an object says whether it is free, or which thread has locked it.
 
-ghost use Rattle.std.specs.Prelude.{◌≡◌, None, Some};
+ghost use Rattle.std.specs.Prelude.{◌≡◌, ◌==◌, None, Some, ◌∷◌, if◌then◌else◌};
+ghost use Rattle.brc_word.specs.Words.{free_word};
 ghost use Rattle.brc_model.specs.Layout.{IsCounted};
 ghost use Rattle.brc_table.specs.Views.{done, locking, unlocking};
 ghost use Rattle.brc_table.specs.Plays.{overwritten};
+ghost use Rattle.brc_table.specs.Uses.{FirstSlot, behind_slot};
 ghost use Rattle.brc_table.specs.Hands.{IsOf, IsRunning, HoldsOne, HasNoWork, HasNoRetain};
 
 use crate::hand::Hand;
 use crate::place::GATE;
 use crate::words::Words;
-use brc_model::{immortals_are_free, locks_begin, unlocks_begin, work_is_put_aside};
+use brc_model::{immortals_are_free, unlocks_begin, work_is_put_aside};
 use brc_word::locked;
 use std::marker::Brand;
 
@@ -19,7 +21,7 @@ const FREE: u64 = 1;
 
 impl<T: Drop> Words<T> {
     /// Tries once to lock an object that the hand holds: exchanges its gate, if it is free, for one that names the
-    /// hand's thread. Returns the gate found, 1 if it was free.
+    /// hand's thread, and takes the object's slot with it. Returns the gate found, 1 if it was free.
     pub fn gate_lock(&self, hand: &mut Hand<T>, row: u32) -> u64
         requires table { IsOf self.now hand.old }
         requires running { IsRunning hand.old.view }
@@ -29,18 +31,17 @@ impl<T: Drop> Words<T> {
         requires unlocked { hand.old.view.locked ≡ None }
         ensures table { hand.new.table ≡ hand.old.table }
         ensures carried { hand.new.carried ≡ hand.old.carried }
-        ensures view { hand.new.view ≡ done (locking hand.old.view row) result }
+        ensures view { hand.new.view ≡ done (locking hand.old.view row hand.new.view.in_slot) result }
+        ensures slots { hand.new.slots ≡ (if result == free_word then (row, hand.new.view.in_slot) ∷ hand.old.slots else hand.old.slots) }
     {
-        work_is_put_aside();
-        locks_begin();
-        immortals_are_free();
         self.layout_is_plain();
         hand.rows_are_there();
         let gate = locked(hand.thread);
-        self.exchange::<Brand>(hand, GATE, row, FREE, gate)
+        self.lock_gate::<Brand>(hand, row, gate)
     }
 
-    /// Unlocks the object that the hand has locked: stores that its gate is free.
+    /// Unlocks the object that the hand has locked: stores that its gate is free, and gives the object's slot back, which
+    /// has to hold what it held when the hand took it.
     pub fn gate_unlock(&self, hand: &mut Hand<T>, row: u32)
         requires table { IsOf self.now hand.old }
         requires running { IsRunning hand.old.view }
@@ -49,16 +50,18 @@ impl<T: Drop> Words<T> {
         requires locked { hand.old.view.locked ≡ Some row }
         requires retains { HasNoRetain hand.old.view }
         requires returned { hand.old.view.lent ≡ None }
+        requires slot { FirstSlot hand.old.slots row hand.old.view.in_slot }
         ensures table { hand.new.table ≡ hand.old.table }
         ensures carried { hand.new.carried ≡ hand.old.carried }
         ensures view { hand.new.view ≡ done (unlocking hand.old.view row) (overwritten (unlocking hand.old.view row)) }
+        ensures slots { hand.new.slots ≡ behind_slot hand.old.slots }
     {
         work_is_put_aside();
         unlocks_begin();
         immortals_are_free();
         self.layout_is_plain();
         hand.rows_are_there();
-        let (head, used) = (hand.head, hand.used);
-        self.store::<Brand>(hand, GATE, row, FREE, head, used);
+        let used = hand.used;
+        self.store_giving::<Brand>(hand, GATE, row, FREE, used);
     }
 }

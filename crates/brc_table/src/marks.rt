@@ -26,6 +26,7 @@ impl<T: Drop> Words<T> {
         requires duty { SetsMark row (work_about row hand.old.view) }
         ensures table { hand.new.table ≡ hand.old.table }
         ensures carried { hand.new.carried ≡ hand.old.carried }
+        ensures slots { hand.new.slots ≡ hand.old.slots }
         ensures view { hand.new.view ≡ done (turned hand.old.view row) 0 }
     {
         work_is_put_aside();
@@ -43,6 +44,7 @@ impl<T: Drop> Words<T> {
         requires duty { LooksAtOwner row (work_about row hand.old.view) }
         ensures table { hand.new.table ≡ hand.old.table }
         ensures carried { hand.new.carried ≡ hand.old.carried }
+        ensures slots { hand.new.slots ≡ hand.old.slots }
         ensures view { hand.new.view ≡ done (turned hand.old.view row) result }
     {
         work_is_put_aside();
@@ -58,6 +60,7 @@ impl<T: Drop> Words<T> {
         requires duty { TakesMark row (work_about row hand.old.view) }
         ensures table { hand.new.table ≡ hand.old.table }
         ensures carried { hand.new.carried ≡ hand.old.carried }
+        ensures slots { hand.new.slots ≡ hand.old.slots }
         ensures view { hand.new.view ≡ done (turned hand.old.view row) result }
     {
         work_is_put_aside();

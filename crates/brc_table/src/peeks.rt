@@ -32,6 +32,7 @@ impl<T: Drop> Words<T> {
         requires known { thread ≤ hand.old.view.layout.workers }
         ensures table { hand.new.table ≡ hand.old.table }
         ensures carried { hand.new.carried ≡ hand.old.carried }
+        ensures slots { hand.new.slots ≡ hand.old.slots }
         ensures view { hand.new.view ≡ peeked hand.old.view thread result }
         ensures says { result ≤ 3 }
         ensures unstarted { hand.old.view.thread ≡ 0 → result ≡ 0 → NeverStarted hand.old.view thread }
@@ -48,6 +49,7 @@ impl<T: Drop> Words<T> {
         requires known { thread ≤ hand.old.view.layout.workers }
         ensures table { hand.new.table ≡ hand.old.table }
         ensures carried { hand.new.carried ≡ hand.old.carried }
+        ensures slots { hand.new.slots ≡ hand.old.slots }
         ensures view { hand.new.view ≡ peeked hand.old.view thread result }
         ensures says { result ≤ 3 }
         ensures unstarted { hand.old.view.thread ≡ 0 → result ≡ 0 → NeverStarted hand.old.view thread }

@@ -8,14 +8,15 @@ use atomic_table::{Play, TableRule};
 use brc_model::Layout;
 use std::marker::{Brand, PhantomData};
 
-/// The rule of biased reference counting: words and views are those of a counting machine with the invariant.
+/// The rule of biased reference counting: words and views are those of a counting machine with the invariant, and a
+/// row's slot is with the one hand that uses it, or at home with the resource of the row's object.
 pub struct Counting;
 
-impl<S> TableRule<S, View, Layout> for Counting {
-    ghost use Rattle.brc_table.specs.Rule.{Stands};
+impl<T> TableRule<Option<T>, View, Layout> for Counting {
+    ghost use Rattle.brc_table.specs.Homes.{TableStands};
     ghost use Rattle.brc_table.specs.Views.{main_view};
 
-    ghost holds = { λ layout s. Stands layout s.words s.views };
+    ghost holds = { λ layout s. TableStands layout s.words s.homes s.views };
 
     ghost first = { main_view };
 }
@@ -88,4 +89,46 @@ impl<S, B: Swap> Play<S, View> for Swapped<B> {
     ghost use Rattle.brc_table.specs.Swaps.{Swaps};
 
     ghost then = { λ s me found after. Swaps B.list B.cell B.item me found after };
+}
+
+/// A step that takes a slot out of the table or gives one back.
+pub(crate) struct Used<B> {
+    marker: PhantomData<B>,
+}
+
+impl<T, B: Begins> Play<Option<T>, View> for Used<B> {
+    ghost use Rattle.brc_table.specs.Uses.{Uses};
+
+    ghost then = { λ s me found after. Uses B.begins me found after };
+}
+
+/// A store that does so.
+pub(crate) struct UsedStored<B> {
+    marker: PhantomData<B>,
+}
+
+impl<T, B: Begins> Play<Option<T>, View> for UsedStored<B> {
+    ghost use Rattle.brc_table.specs.Uses.{UsesStored};
+
+    ghost then = { λ s me stored after. UsesStored B.begins me after };
+}
+
+/// Which row a hand tries to lock.
+pub(crate) trait OfRow {
+    ghost target: { ℕ };
+}
+
+impl OfRow for Brand {
+    ghost target = { 0 };
+}
+
+/// A try to lock a row.
+pub(crate) struct Locked<R> {
+    marker: PhantomData<R>,
+}
+
+impl<T, R: OfRow> Play<Option<T>, View> for Locked<R> {
+    ghost use Rattle.brc_table.specs.Uses.{Locks};
+
+    ghost then = { λ s me found after. Locks R.target me found after };
 }

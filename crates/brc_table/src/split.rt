@@ -1,6 +1,6 @@
 //! Main starts the workers, and gives out their hands.
 
-ghost use Rattle.std.specs.Prelude.{◌≡◌, ℕ, true};
+ghost use Rattle.std.specs.Prelude.{◌≡◌, ℕ, true, []};
 ghost use Rattle.brc_table.specs.Seen.{has_started};
 ghost use Rattle.brc_table.specs.Views.{giving, worker_view};
 ghost use Rattle.brc_table.specs.Hands.{IsOf, CarriesNothing};
@@ -55,6 +55,7 @@ impl<T: Drop> Words<T> {
         requires may_start { MayStart main.old.view thread }
         ensures table { main.new.table ≡ main.old.table }
         ensures carried { main.new.carried ≡ main.old.carried }
+        ensures slots { main.new.slots ≡ main.old.slots }
         ensures view { main.new.view ≡ starting main.old.view thread }
         ensures started { has_started thread main.new.view ≡ true }
     {
@@ -68,6 +69,7 @@ impl<T: Drop> Words<T> {
         requires may_start { MayStart main.old.view thread }
         ensures table { main.new.table ≡ main.old.table }
         ensures carried { main.new.carried ≡ main.old.carried }
+        ensures slots { main.new.slots ≡ main.old.slots }
         ensures view { main.new.view ≡ starting main.old.view thread }
     {
         accounts_are_there();
@@ -88,7 +90,9 @@ impl<T: Drop> Words<T> {
         ensures main_view { main.new.view ≡ giving main.old.view thread }
         ensures worker_view { result.view ≡ worker_view self.now.layout thread }
         ensures carried { main.new.carried ≡ main.old.carried }
+        ensures slots { main.new.slots ≡ main.old.slots }
         ensures none { CarriesNothing result }
+        ensures no_slot { result.slots ≡ [] }
     {
         self.give_out::<Brand>(main, thread)
     }
@@ -103,7 +107,9 @@ impl<T: Drop> Words<T> {
         ensures main_view { main.new.view ≡ giving main.old.view thread }
         ensures worker_view { result.view ≡ worker_view self.now.layout thread }
         ensures carried { main.new.carried ≡ main.old.carried }
+        ensures slots { main.new.slots ≡ main.old.slots }
         ensures none { CarriesNothing result }
+        ensures no_slot { result.slots ≡ [] }
     {
         references_are_handed_over();
         self.layout_is_plain();

@@ -41,6 +41,7 @@ impl<T: Drop> Words<T> {
         requires makes { MakesQuietly (B.begins hand.old.view) (in_tile line row) (λ found. found) }
         ensures table { hand.new.table ≡ hand.old.table }
         ensures carried { hand.new.carried ≡ hand.old.carried }
+        ensures slots { hand.new.slots ≡ hand.old.slots }
         ensures view { hand.new.view ≡ done (B.begins hand.old.view) result }
         ensures suits { SuitsFirst (B.begins hand.old.view) (B.begins hand.old.view).agenda result }
         ensures owner { FirstFindsOwner (B.begins hand.old.view) (B.begins hand.old.view).agenda result }
@@ -68,6 +69,7 @@ impl<T: Drop> Words<T> {
         requires makes { MakesQuietly (B.begins hand.old.view) (cell_place row cell) (λ found. found) }
         ensures table { hand.new.table ≡ hand.old.table }
         ensures carried { hand.new.carried ≡ hand.old.carried }
+        ensures slots { hand.new.slots ≡ hand.old.slots }
         ensures view { hand.new.view ≡ done (B.begins hand.old.view) result }
         ensures suits { SuitsFirst (B.begins hand.old.view) (B.begins hand.old.view).agenda result }
         ensures finds { FindsKnown (B.begins hand.old.view) (B.begins hand.old.view).agenda result }
@@ -93,6 +95,7 @@ impl<T: Drop> Words<T> {
         requires makes { MakesAtThreadQuietly (B.begins hand.old.view) (block_of self.now.layout row) (λ found. found) }
         ensures table { hand.new.table ≡ hand.old.table }
         ensures carried { hand.new.carried ≡ hand.old.carried }
+        ensures slots { hand.new.slots ≡ hand.old.slots }
         ensures view { hand.new.view ≡ done (B.begins hand.old.view) result }
     {
         duties_are_kept();
@@ -116,6 +119,7 @@ impl<T: Drop> Words<T> {
         requires settles { SettlesNext (B.begins hand.old.view) }
         ensures table { hand.new.table ≡ hand.old.table }
         ensures carried { hand.new.carried ≡ hand.old.carried }
+        ensures slots { hand.new.slots ≡ hand.old.slots }
         ensures view { hand.new.view ≡ done (B.begins hand.old.view) result }
     {
         duties_are_kept();
@@ -148,6 +152,7 @@ impl<T: Drop> Words<T> {
             ≡ hand.old.view.used }
         ensures table { hand.new.table ≡ hand.old.table }
         ensures carried { hand.new.carried ≡ hand.old.carried }
+        ensures slots { hand.new.slots ≡ hand.old.slots }
         ensures view { hand.new.view ≡ done (B.begins hand.old.view) (overwritten (B.begins hand.old.view)) }
     {
         duties_are_kept();
@@ -175,6 +180,7 @@ impl<T: Drop> Words<T> {
         requires makes { MakesQuietly (B.begins hand.old.view) (in_tile line row) (λ found. new) }
         ensures table { hand.new.table ≡ hand.old.table }
         ensures carried { hand.new.carried ≡ hand.old.carried }
+        ensures slots { hand.new.slots ≡ hand.old.slots }
         ensures view { hand.new.view ≡ done (B.begins hand.old.view) result }
         ensures suits { SuitsFirst (B.begins hand.old.view) (B.begins hand.old.view).agenda result }
     {
@@ -206,6 +212,7 @@ impl<T: Drop> Words<T> {
         requires makes { MakesQuietly (B.begins hand.old.view) (cell_place row cell) (λ found. new) }
         ensures table { hand.new.table ≡ hand.old.table }
         ensures carried { hand.new.carried ≡ hand.old.carried }
+        ensures slots { hand.new.slots ≡ hand.old.slots }
         ensures view { hand.new.view ≡ done (B.begins hand.old.view) result }
         ensures suits { SuitsFirst (B.begins hand.old.view) (B.begins hand.old.view).agenda result }
     {
@@ -239,6 +246,7 @@ impl<T: Drop> Words<T> {
         requires may { MaySwap hand.old.view row cell item }
         ensures table { hand.new.table ≡ hand.old.table }
         ensures carried { hand.new.carried ≡ hand.old.carried }
+        ensures slots { hand.new.slots ≡ hand.old.slots }
         ensures view { hand.new.view ≡ swapped hand.old.view row cell item result }
         ensures there { result ≤ row_count hand.old.view.layout }
         ensures stays { (seen : ℕ) → cell_seen row cell hand.old.view ≡ Some seen → result ≡ seen }
@@ -265,6 +273,7 @@ impl<T: Drop> Words<T> {
         requires makes { MakesQuietly (B.begins hand.old.view) (in_tile line row) (λ found. (found + more) % 2 ^ 64) }
         ensures table { hand.new.table ≡ hand.old.table }
         ensures carried { hand.new.carried ≡ hand.old.carried }
+        ensures slots { hand.new.slots ≡ hand.old.slots }
         ensures view { hand.new.view ≡ done (B.begins hand.old.view) result }
         ensures suits { SuitsFirst (B.begins hand.old.view) (B.begins hand.old.view).agenda result }
     {
@@ -297,6 +306,7 @@ impl<T: Drop> Words<T> {
         requires makes { MakesQuietly (B.begins hand.old.view) (in_tile line row) (λ found. either (found == old) new found) }
         ensures table { hand.new.table ≡ hand.old.table }
         ensures carried { hand.new.carried ≡ hand.old.carried }
+        ensures slots { hand.new.slots ≡ hand.old.slots }
         ensures view { hand.new.view ≡ done (B.begins hand.old.view) result }
         ensures suits { SuitsFirst (B.begins hand.old.view) (B.begins hand.old.view).agenda result }
         ensures finds { FindsKnown (B.begins hand.old.view) (B.begins hand.old.view).agenda result }
@@ -335,6 +345,7 @@ impl<T: Drop> Words<T> {
         requires used { (done (B.begins hand.old.view) (overwritten (B.begins hand.old.view))).used ≡ used }
         ensures table { hand.new.table ≡ hand.old.table }
         ensures carried { hand.new.carried ≡ hand.old.carried }
+        ensures slots { hand.new.slots ≡ hand.old.slots }
         ensures view { hand.new.view ≡ done (B.begins hand.old.view) (overwritten (B.begins hand.old.view)) }
     {
         duties_are_kept();

@@ -36,6 +36,7 @@ impl<T: Drop> Words<T> {
         requires few { length hand.old.view.references < most_references }
         ensures table { hand.new.table ≡ hand.old.table }
         ensures carried { hand.new.carried ≡ hand.old.carried }
+        ensures slots { hand.new.slots ≡ hand.old.slots }
         ensures view { hand.new.view ≡ done (retaining hand.old.view row) result }
         ensures owner { OwnerFits hand.old.view.layout row result }
     {
@@ -56,6 +57,7 @@ impl<T: Drop> Words<T> {
         requires idle { HasNoWork hand.old.view row }
         ensures table { hand.new.table ≡ hand.old.table }
         ensures carried { hand.new.carried ≡ hand.old.carried }
+        ensures slots { hand.new.slots ≡ hand.old.slots }
         ensures view { hand.new.view ≡ done (releasing hand.old.view row) result }
         ensures owner { OwnerFits hand.old.view.layout row result }
         ensures counted { owner_part result ≡ hand.old.view.thread + 1 → 1 ≤ local_part result }
@@ -75,6 +77,7 @@ impl<T: Drop> Words<T> {
         requires duty { LoadsShared row (work_about row hand.old.view) }
         ensures table { hand.new.table ≡ hand.old.table }
         ensures carried { hand.new.carried ≡ hand.old.carried }
+        ensures slots { hand.new.slots ≡ hand.old.slots }
         ensures view { hand.new.view ≡ done (turned hand.old.view row) result }
         ensures suits { SuitsFirst (turned hand.old.view row) (work_about row hand.old.view) result }
     {
@@ -91,6 +94,7 @@ impl<T: Drop> Words<T> {
         requires duty { SwapsLocal row (work_about row hand.old.view) }
         ensures table { hand.new.table ≡ hand.old.table }
         ensures carried { hand.new.carried ≡ hand.old.carried }
+        ensures slots { hand.new.slots ≡ hand.old.slots }
         ensures view { hand.new.view ≡ done (turned hand.old.view row) result }
     {
         work_is_put_aside();
@@ -106,6 +110,7 @@ impl<T: Drop> Words<T> {
         requires duty { StoresLocal row word hand.old.view.agenda }
         ensures table { hand.new.table ≡ hand.old.table }
         ensures carried { hand.new.carried ≡ hand.old.carried }
+        ensures slots { hand.new.slots ≡ hand.old.slots }
         ensures view { hand.new.view ≡ done hand.old.view (overwritten hand.old.view) }
     {
         hand.rows_are_there();
@@ -120,6 +125,7 @@ impl<T: Drop> Words<T> {
         requires duty { AddsShared row hand.old.view.agenda }
         ensures table { hand.new.table ≡ hand.old.table }
         ensures carried { hand.new.carried ≡ hand.old.carried }
+        ensures slots { hand.new.slots ≡ hand.old.slots }
         ensures view { hand.new.view ≡ done hand.old.view result }
     {
         hand.rows_are_there();
@@ -134,6 +140,7 @@ impl<T: Drop> Words<T> {
         requires duty { ExchangesShared row old new hand.old.view.agenda }
         ensures table { hand.new.table ≡ hand.old.table }
         ensures carried { hand.new.carried ≡ hand.old.carried }
+        ensures slots { hand.new.slots ≡ hand.old.slots }
         ensures view { hand.new.view ≡ done hand.old.view result }
         ensures finds { FindsKnown hand.old.view hand.old.view.agenda result }
     {

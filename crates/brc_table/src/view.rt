@@ -25,6 +25,10 @@ pub struct View {
     pub locked: Option<u32>,
     /// The row whose resource the hand has lent. No call lends yet.
     pub lent: Option<u32>,
+    /// The rows whose slots the hand has taken out of the table, the last one first.
+    pub taken: LinkedList<u32>,
+    /// How many resources the slot of the object that the hand has locked had, when the hand took it.
+    pub in_slot: u32,
     /// Of main's hand, the threads whose hands it has given out.
     pub given: LinkedList<u8>,
     /// The hand's own steps so far, in order.

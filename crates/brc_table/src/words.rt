@@ -1,6 +1,6 @@
 //! The words of all objects.
 
-ghost use Rattle.std.specs.Prelude.{◌≡◌, ◌<◌, ◌≤◌, IfOk};
+ghost use Rattle.std.specs.Prelude.{◌≡◌, ◌<◌, ◌≤◌, [], IfOk};
 ghost use Rattle.brc_model.specs.Layout.{block_size};
 ghost use Rattle.brc_model.specs.Limits.{worker_limit, row_limit};
 ghost use Rattle.brc_model.specs.Counting.{IsPlainLayout};
@@ -51,6 +51,7 @@ impl<T: Drop> Words<T> {
         ensures table { IfOk result (λ made. IsOf made.0 made.1) }
         ensures view { IfOk result (λ made. made.1.view ≡ main_view (plain_layout workers rows)) }
         ensures none { IfOk result (λ made. CarriesNothing made.1) }
+        ensures no_slot { IfOk result (λ made. made.1.slots ≡ []) }
     {
         hands_begin();
         let layout = Layout {

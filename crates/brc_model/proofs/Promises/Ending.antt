@@ -6,7 +6,7 @@ use Rattle.std.proofs.lemmas.Bool.Decides.{eqb_tells}
 use Rattle.std.proofs.lemmas.Option.{slice_get_within, slice_get-get_or}
 use Rattle.brc_word.specs.Words.{closed_word}
 use Rattle.brc_model.specs.declared.duty.Duty.{Duty}
-use Rattle.brc_model.specs.declared.address.Address.TheVariants.{Gate, KindOf, Cell, ThreadWord}
+use Rattle.brc_model.specs.declared.address.Address.TheVariants.{Gate, KindOf, Cell, Slot, ThreadWord}
 use Rattle.brc_model.specs.AbstractState.{Holder, ByThread, ByCell, Reference, references_to}
 use Rattle.brc_model.specs.References.{held, one_if, word_holds, cell_reference}
 use Rattle.brc_model.specs.Layout.{block_of, index_of, IsCounted}
@@ -16,7 +16,7 @@ use Rattle.brc_model.specs.Machine.{Actor, Life, Unborn, Live, Dying, Closed, Ma
 use Rattle.brc_model.specs.RowInvariant.{IsLive, RowInvariant}
 use Rattle.brc_model.specs.Accounts.{Accounts}
 use Rattle.brc_model.specs.Gates.{LiveGate, IsFree, IsLocked, GateFits}
-use Rattle.brc_model.specs.Invariant.{numbers_of, CellFits, kind_stored, CoreInvariant}
+use Rattle.brc_model.specs.Invariant.{numbers_of, CellFits, kind_stored, slot_stored, CoreInvariant}
 use Rattle.brc_model.specs.Counting.{Counts}
 use Rattle.brc_model.specs.Ending.{HaveEnded, IsNamed, RowsEnd}
 use Rattle.brc_model.proofs.Basics.Bag.{held-cons, held_itself, held-le-references_to, one_if_true, references_to-cons}
@@ -68,7 +68,7 @@ module _ (p : Accounts) (n : ℕ) (m : Machine) (counts : Counts p n m) (ended :
   core : CoreInvariant p n m
   core = counts.kept.core
 
-  at_end : AreAtEnd p m
+  pub at_end : AreAtEnd p m
   at_end t a found = elim (ended t a found) [
     | inl gone ↦
         let nothing = gone_hold_nothing p n m t a counts found gone in
@@ -102,7 +102,7 @@ module _ (p : Accounts) (n : ℕ) (m : Machine) (counts : Counts p n m) (ended :
   closed_life x (Dying t) is fits closed = absurd (none_dying p n m x t core at_end is)
   closed_life x Closed is fits closed = refl
 
-  is_closed : (x : ℕ) → m.memory (Gate x) ≡ closed_word → m.life x ≡ Closed
+  pub is_closed : (x : ℕ) → m.memory (Gate x) ≡ closed_word → m.life x ≡ Closed
   is_closed x closed = closed_life x (m.life x) refl (core.gates x) closed
 
   -- A cell that names a row is that of a list that isn't closed.
@@ -138,9 +138,9 @@ module _ (p : Accounts) (n : ℕ) (m : Machine) (counts : Counts p n m) (ended :
       let one = some_reference x m.abstract.references (live_referenced p n m x core at_end live) in
       held_in x one.holder one.has
 
-  -- The kind word of a row that isn't born is 0.
-  blank_kind : (x : ℕ) → m.life x ≡ Unborn → m.memory (KindOf x) ≡ 0
-  blank_kind x unborn =
+  -- The kind word of a row that isn't born is 0, and so is its slot.
+  pub blank_row : (x : ℕ) → m.life x ≡ Unborn → (m.memory (KindOf x) ≡ 0) × (m.memory (Slot x) ≡ 0)
+  blank_row x unborn =
       let t = block_of m.layout x in
       let within = block_within m.layout x core.some_rows in
       let a = get_or m.actors t (idle_actor 0) in
@@ -148,13 +148,16 @@ module _ (p : Accounts) (n : ℕ) (m : Machine) (counts : Counts p n m) (ended :
       elim (cases_lt (index_of m.layout t x) a.used) [
         | inl low ↦ absurd ((core.uses t a found).born x refl low unborn)
         | inr past ↦
-            (core.blanks t a found).kinds x refl past
-            (ap (λ (l : List Duty). kind_stored l x) (at_end t a found).agenda)
+            let blank = core.blanks t a found in
+            let idle = (at_end t a found).agenda in (
+              blank.kinds x refl past (ap (λ (l : List Duty). kind_stored l x) idle),
+              blank.slots x refl past (ap (λ (l : List Duty). slot_stored l x) idle),
+            )
       ]
 
   left_by : (x : ℕ) (l : Life) → m.life x ≡ l → IsCounted m.layout x → 0 < m.memory (KindOf x)
       → m.memory (Gate x) ≢ closed_word → IsNamed m x
-  left_by x Unborn is counted some open_still = absurd (omega (arith, some, blank_kind x is))
+  left_by x Unborn is counted some open_still = absurd (omega (arith, some, (blank_row x is).0))
   left_by x Live is counted some open_still =
       live_named x (subst (λ (l : Life). RowInvariant (block_of m.layout x) l (numbers_of m x)) is (core.rows x counted))
   left_by x (Dying t) is counted some open_still = absurd (none_dying p n m x t core at_end is)

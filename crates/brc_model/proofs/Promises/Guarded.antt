@@ -32,7 +32,7 @@ use Rattle.brc_model.proofs.Stepping.Neutral.{memory_by}
 use Rattle.brc_model.proofs.Promises.MarksWatched.{mark_watched}
 
 -- The premise of the lemmas about one duty.
-at_next : {p : Accounts} {n : ℕ} {m : Machine} {t : ℕ} {a : Actor} {d : Duty} {rest : List Duty} → Counts p n m
+pub at_next : {p : Accounts} {n : ℕ} {m : Machine} {t : ℕ} {a : Actor} {d : Duty} {rest : List Duty} → Counts p n m
     → ComesNext m t a d rest → AtDuty p n m t a d rest
 at_next counts next = record { core = counts.kept.core; found = next.found; agenda = next.agenda }
 

@@ -19,5 +19,5 @@ invariant_of-result g c =
       subst IsPlainLayout (sym is) c.self.invariant.2,
       subst (λ (l : Layout). CellsNameRows l (slots_items c.close_with.result.words)) (sym is)
           (subst (CellsNameRows key) last.2
-          (cells_name_rows c.items_are_there.ensures key last.0.words last.0.views last.1.0)),
+          (cells_name_rows c.items_are_there.ensures key last.0.words last.0.views last.1.0.stands)),
     )

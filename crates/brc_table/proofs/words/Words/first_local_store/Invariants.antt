@@ -1,4 +1,5 @@
+use Rattle.brc_table.specs.Views.{slot_filled}
 use Rattle.brc_table.proofs.words.Words.first_local_store.Given as goal
 
-abbrev pub ghosts-store : goal.ghosts-store
-ghosts-store g a = record { begins = λ v. v }
+abbrev pub ghosts-store_giving : goal.ghosts-store_giving
+ghosts-store_giving g a = record { begins = slot_filled }

@@ -5,6 +5,7 @@ use Rattle.brc_table.specs.declared.view.View.{View}
 use Rattle.brc_table.specs.declared.carried.Spare.{Spare}
 use Rattle.brc_table.specs.Views.{RowsAreThere, HasSpares, IsGivenBy, giving, worker_view}
 use Rattle.brc_table.specs.Hands.{TableState, HandState}
+use Rattle.brc_table.specs.Homes.{rows_of}
 use Rattle.brc_table.specs.Giving.{MayGive}
 use Rattle.brc_table.proofs.Spares.{given_by, nothing}
 use Rattle.brc_table.proofs.Splitting.{splits}
@@ -51,7 +52,7 @@ invariant_of-main g c =
     let view_is = ap (λ (h : HandState). h.view) c.main.view_is in
     let may = subst (λ (v : View). MayGive v t) (sym view_is) c.requires.may_give in
     let left = sym {A = List (Option Spare)} c.take_spare-spare.ensures in (
-      after.1 ∙ fits.0,
+      ap rows_of after.1 ∙ (fits.0 ∙ sym (ap (λ (v : View). v.taken) view)),
       fits.1 ∙ sym (ap (λ (v : View). v.thread) view),
       fits.2 ∙ sym (ap (λ (v : View). is_running v.status) view),
       fits.3 ∙ sym (ap (λ (v : View). v.head) view),

@@ -4,23 +4,24 @@ use Rattle.brc_model.specs.Layout.{row_at}
 use Rattle.brc_table.specs.Hands.{HandState}
 use Rattle.brc_table.specs.Views.{bearing, next_row}
 use Rattle.brc_table.specs.Places.{in_tile}
-use Rattle.brc_table.specs.Begins.{StoresWord}
+use Rattle.brc_model.specs.SlotLaws.{Takes}
+use Rattle.brc_table.specs.Begins.{StoresWithSlot}
 use Rattle.brc_table.proofs.Becoming.{bearing_becomes}
 use Rattle.brc_table.proofs.Duties.{birth_stores}
 use Rattle.brc_table.proofs.words.Words.kind_store.Goals as goal
 
-pub store-requires-clause-begins : goal.store-requires-clause-begins
-store-requires-clause-begins g c =
+pub store_taking-requires-clause-begins : goal.store_taking-requires-clause-begins
+store_taking-requires-clause-begins g c =
     bearing_becomes c.work_is_put_aside.ensures c.births_begin.ensures c.args.self.now.layout c.args.hand.now.view
     c.args.word c.requires.running c.requires.worker c.requires.room c.requires.kind c.requires.cells
 
-pub store-requires-clause-stores : goal.store-requires-clause-stores
-store-requires-clause-stores g c =
+pub store_taking-requires-clause-stores : goal.store_taking-requires-clause-stores
+store_taking-requires-clause-stores g c =
     let v = c.args.hand.now.view in
     let thread : c.hand.inside.thread ≡ v.thread = c.hand.invariant.1 ∙ ap (λ (h : HandState). h.view.thread) c.hand.view_is in
     let used : c.hand.inside.used ≡ v.used = c.hand.invariant.4 ∙ ap (λ (h : HandState). h.view.used) c.hand.view_is in
     let row_is : c.row_at-row.result ≡ next_row v =
     c.row_at-row.ensures ∙ (ap (λ (t : ℕ). row_at c.args.self.now.layout t c.hand.inside.used) thread
     ∙ (ap (row_at c.args.self.now.layout v.thread) used ∙ ap (λ (l : Layout). row_at l v.thread v.used) (sym c.requires.table.1))) in
-    subst (λ (row : ℕ). StoresWord (bearing v c.args.word) (in_tile 3 row) c.args.word) (sym row_is)
+    subst (λ (row : ℕ). StoresWithSlot (bearing v c.args.word) (in_tile 3 row) c.args.word (Takes row)) (sym row_is)
     (birth_stores v c.args.word c.requires.running.0)

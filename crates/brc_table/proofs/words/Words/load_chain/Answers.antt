@@ -1,9 +1,9 @@
-use Rattle.std.proofs.Common.{◌≡◌, ℕ, ◌-◌, ◌<◌, ◌≤◌, ap, sym, ◌∙◌, subst, arith}
+use Rattle.std.proofs.Common.{◌≡◌, ℕ, ◌-◌, ◌<◌, ◌≤◌, refl, ap, sym, ◌∙◌, subst, arith}
 use Rattle.brc_model.specs.declared.layout.Layout.{Layout}
 use Rattle.brc_model.specs.Layout.{row_count}
 use Rattle.brc_table.specs.Hands.{TableState, HandState}
 use Rattle.brc_table.specs.Places.{word_count, in_tile}
-use Rattle.brc_table.specs.Begins.{Makes}
+use Rattle.brc_table.specs.Begins.{MakesWithoutSlot}
 use Rattle.brc_table.proofs.Places.{header_within}
 use Rattle.brc_table.proofs.Allowed.{step_allowed}
 use Rattle.brc_table.proofs.DyingDuties.{settle_makes}
@@ -32,6 +32,6 @@ load-word-requires g c =
           c.args.hand.now begins shared.key shared.table_id.slots hand.seat.id c.in_line-index.result hand.seat.me
           (record { layout_is = layout_is; view_is = ap (λ (h : HandState). h.view) c.hand.view_is }) c.requires.begins
           (λ found. found)
-          (subst (λ (i : ℕ). Makes (begins v) i (λ found. found)) (sym at)
+          (subst (λ (i : ℕ). MakesWithoutSlot (begins v) i (λ found. found)) (sym at)
           (settle_makes v (begins v) c.requires.thread.head c.requires.settles)),
     )

@@ -1,8 +1,11 @@
-use Rattle.std.proofs.Common.{ℕ, ◌<◌, ◌≤◌, refl, sym, subst}
+use Rattle.std.proofs.Common.{ℕ, ◌<◌, ◌≤◌, None, [], ◌∷◌, map, replicate, refl, sym, subst}
+use mathlib.Core.Option.{some}
+use Rattle.brc_table.specs.Homes.{TableStands}
+use Rattle.brc_table.specs.Views.{main_view}
 use Rattle.brc_model.specs.Limits.{worker_limit, row_limit}
 use Rattle.brc_model.specs.Counting.{IsPlainLayout}
 use Rattle.brc_table.specs.Opening.{AreFirst, plain_layout}
-use Rattle.brc_table.proofs.Opening.{opening}
+use Rattle.brc_table.proofs.Opening.{slots_open}
 use Rattle.brc_table.proofs.Spares.{nothing}
 use Rattle.brc_table.proofs.NewHands.{main_fits}
 use Rattle.brc_table.proofs.words.Words.new.Goals as goal
@@ -21,8 +24,11 @@ is_plain workers rows some_workers some_rows = record {
 pub vacant-requires : goal.vacant-requires
 vacant-requires g c =
     let layout = plain_layout c.args.workers c.args.rows in
-    opening c.hands_begin.ensures layout (is_plain c.args.workers c.args.rows c.requires.workers c.requires.rows)
-    c.as_slice.result.now (subst (AreFirst layout) (sym c.as_slice.ensures.value) c.in_ok-words.ensures)
+    let open_now =
+    slots_open c.hands_begin.ensures layout (is_plain c.args.workers c.args.rows c.requires.workers c.requires.rows)
+    c.as_slice.result.now (subst (AreFirst layout) (sym c.as_slice.ensures.value) c.in_ok-words.ensures) in
+    subst (λ (n : ℕ). TableStands layout c.as_slice.result.now (map some (replicate n None)) (main_view layout ∷ []))
+    (sym c.row_count-slots.ensures) open_now
 
 pub invariant_of-main : goal.invariant_of-main
 invariant_of-main g c =

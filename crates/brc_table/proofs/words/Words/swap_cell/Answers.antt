@@ -1,7 +1,7 @@
 use Rattle.std.proofs.Common.{◌≡◌, ℕ, ◌<◌, ap, sym, ◌∙◌, subst}
 use Rattle.brc_table.specs.Hands.{TableState, HandState}
 use Rattle.brc_table.specs.Places.{word_count, cell_place}
-use Rattle.brc_table.specs.Begins.{Makes}
+use Rattle.brc_table.specs.Begins.{MakesWithoutSlot}
 use Rattle.brc_table.proofs.Places.{cell_within}
 use Rattle.brc_table.proofs.Allowed.{step_allowed}
 use Rattle.brc_table.proofs.words.Words.swap_cell.Goals as goal
@@ -24,5 +24,6 @@ swap-requires g c =
           c.args.hand.now begins shared.key shared.table_id.slots hand.seat.id c.in_cell-index.result hand.seat.me
           (record { layout_is = layout_is; view_is = ap (λ (h : HandState). h.view) c.hand.view_is }) c.requires.begins
           (λ found. c.args.new)
-          (subst (λ (i : ℕ). Makes (begins c.args.hand.now.view) i (λ found. c.args.new)) (sym at) c.requires.makes.makes),
+          (subst (λ (i : ℕ). MakesWithoutSlot (begins c.args.hand.now.view) i (λ found. c.args.new)) (sym at)
+          (record { makes = c.requires.makes.makes; slots = c.requires.makes.quiet.slots })),
     )

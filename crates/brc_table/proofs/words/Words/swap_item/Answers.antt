@@ -1,6 +1,6 @@
 use Rattle.std.proofs.Common.{◌≡◌, ℕ, ◌<◌, Option, refl, ap, sym, ◌∙◌, subst}
 use Rattle.atomic_table.specs.Table.{State, Allows}
-use Rattle.brc_table.specs.Rule.{Stands}
+use Rattle.brc_table.specs.Homes.{TableStands}
 use Rattle.brc_table.specs.Hands.{TableState, HandState}
 use Rattle.brc_table.specs.Places.{word_count, cell_place}
 use Rattle.brc_table.specs.Swaps.{MaySwap, Swaps}
@@ -28,7 +28,7 @@ swap-requires g c =
       ap (λ (h : HandState). h.table) c.hand.view_is ∙ (c.requires.table.0 ∙ sym table_is),
       subst (λ (i : ℕ). i < shared.table_id.words) (sym at) (subst (λ (k : ℕ). cell_place c.args.row c.args.cell < k)
           (sym (c.self.invariant.1 ∙ ap word_count layout_is)) there),
-      subst (λ (w : ℕ). Allows (λ (s : State (Option _) View). Stands shared.key s.words s.views) shared.table_id.slots hand.seat.id hand.seat.me c.in_cell-index.result (λ found. w) (λ found after. Swaps g.B.Swap.list g.B.Swap.cell g.B.Swap.item hand.seat.me found after)) (sym c.requires.item)
+      subst (λ (w : ℕ). Allows (λ (s : State (Option _) View). TableStands shared.key s.words s.homes s.views) shared.table_id.slots hand.seat.id hand.seat.me c.in_cell-index.result (λ found. w) (λ found after. Swaps g.B.Swap.list g.B.Swap.cell g.B.Swap.item hand.seat.me found after)) (sym c.requires.item)
           (swap_allowed c.work_is_put_aside.ensures c.immortals_are_free.ensures c.accounts_are_there.ensures
           c.chains_are_there.ensures c.items_are_there.ensures c.cells_are_swapped.ensures shared.key hand.seat.me.0
           g.B.Swap.list g.B.Swap.cell g.B.Swap.item may shared.table_id.slots hand.seat.id c.in_cell-index.result

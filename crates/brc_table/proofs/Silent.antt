@@ -1,0 +1,254 @@
+-- A hand does a duty about a slot or a resource, which changes no word of the table: a new object's resource goes into its
+-- slot, or a dying object's one is taken out and closed. The hand has the slot meanwhile.
+use Rattle.std.proofs.Common.{◌≡◌, ◌≢◌, ◌⊎◌, ℕ, zero, suc, ◌+◌, ◌≤◌, Bool, true, false, cond, Option, Some, List, [], ◌∷◌, ◌++◌, set, inl, inr, refl, sym, ap, ◌∙◌, subst, arith}
+use Rattle.std.specs.Prelude.{◌==◌, ◌||◌}
+use Rattle.std.specs.List.{list_any}
+use Rattle.std.proofs.lemmas.Bool.{eq-eqb, ne_eqb, cases_Bool}
+use Rattle.std.proofs.lemmas.Bool.Decides.{eqb_tells}
+use Rattle.std.proofs.lemmas.List.{set-set}
+use mathlib.Core.Option.{some}
+use lib.ListN.{get_elem?}
+use Rattle.brc_model.specs.declared.address.Address.{Address}
+use Rattle.brc_model.specs.declared.address.Address.TheVariants.{Local, Shared, Gate, KindOf, Mark, Cell, Slot, Resource, ThreadWord}
+use Rattle.brc_model.specs.declared.actor.Status.{Status}
+use Rattle.brc_model.specs.declared.actor.Status.TheVariants.{Gone}
+use Rattle.brc_model.specs.declared.duty.Holding.{Holding}
+use Rattle.brc_model.specs.declared.duty.Duty.{Duty}
+use Rattle.brc_model.specs.declared.duty.Duty.TheVariants.{BirthSlot, BirthLocal, TakeSlot, CloseResource, SettleEnd}
+use Rattle.brc_model.specs.declared.layout.Layout.{Layout}
+use Rattle.brc_model.specs.Duties.{address_of, new_word, continuation, new_head, ready}
+use Rattle.brc_model.specs.Machine.{Actor, Machine, same_address, written, is_running, status_by, used_by, locked_by, lent_by, actor_by, done_by}
+use Rattle.brc_model.specs.CountingLaws.{ComesNext, DutiesAreKept}
+use Rattle.brc_model.specs.SlotLaws.{needs_slot, UsesSlot, NeededSlotsAreUnlocked}
+use Rattle.brc_table.specs.declared.view.View.{View}
+use Rattle.brc_table.specs.Places.{HasWord}
+use Rattle.brc_table.specs.Views.{actor_of, slot_filled_by, slot_emptied_by}
+use Rattle.brc_table.specs.Homes.{times_in}
+use Rattle.brc_table.specs.Rule.{Stands}
+use Rattle.brc_table.specs.Begins.{Passes, KeepsSlots, KeepsThread, Becomes}
+use Rattle.brc_table.specs.Calls.{OwnsFirst, ClosesRow}
+use Rattle.brc_table.proofs.Becoming.{becomes_then}
+use Rattle.brc_table.proofs.SlotsUsed.{or_true}
+use Rattle.brc_table.proofs.Changing.{passes, itself_becomes}
+use Rattle.brc_table.proofs.ThreadsKept.{threads_same}
+
+-- ---- duties about slots and resources
+
+-- The address is the row's slot or its resource.
+data IsSilent (x : ℕ) : Address → Type 0 where
+  AtSlot : IsSilent x (Slot x)
+  AtResource : IsSilent x (Resource x)
+
+-- A word that is written there is no word of the table,
+away : (x : ℕ) (a : Address) → IsSilent x a → (memory : Address → ℕ) (word : ℕ) (layout : Layout) (b : Address)
+    → HasWord layout b → written memory a word b ≡ memory b
+away x _ AtSlot memory word layout (Local y) has = refl
+away x _ AtSlot memory word layout (Shared y) has = refl
+away x _ AtSlot memory word layout (Gate y) has = refl
+away x _ AtSlot memory word layout (KindOf y) has = refl
+away x _ AtSlot memory word layout (Mark y) has = refl
+away x _ AtSlot memory word layout (Cell y i) has = refl
+away x _ AtSlot memory word layout (Slot y) has = absurd has
+away x _ AtSlot memory word layout (Resource y) has = absurd has
+away x _ AtSlot memory word layout (ThreadWord t) has = refl
+away x _ AtResource memory word layout (Local y) has = refl
+away x _ AtResource memory word layout (Shared y) has = refl
+away x _ AtResource memory word layout (Gate y) has = refl
+away x _ AtResource memory word layout (KindOf y) has = refl
+away x _ AtResource memory word layout (Mark y) has = refl
+away x _ AtResource memory word layout (Cell y i) has = refl
+away x _ AtResource memory word layout (Slot y) has = absurd has
+away x _ AtResource memory word layout (Resource y) has = absurd has
+away x _ AtResource memory word layout (ThreadWord t) has = refl
+
+-- no kind word, no cell,
+kind_away : (x : ℕ) (a : Address) → IsSilent x a → (memory : Address → ℕ) (word y : ℕ)
+    → written memory a word (KindOf y) ≡ memory (KindOf y)
+kind_away x _ AtSlot memory word y = refl
+kind_away x _ AtResource memory word y = refl
+
+cell_away : (x : ℕ) (a : Address) → IsSilent x a → (memory : Address → ℕ) (word y i : ℕ)
+    → written memory a word (Cell y i) ≡ memory (Cell y i)
+cell_away x _ AtSlot memory word y i = refl
+cell_away x _ AtResource memory word y i = refl
+
+-- and no other row's slot.
+slot_apart : (x : ℕ) (a : Address) → IsSilent x a → (memory : Address → ℕ) (word y : ℕ) → y ≢ x
+    → written memory a word (Slot y) ≡ memory (Slot y)
+slot_apart x _ AtSlot memory word y apart =
+    ap (λ (b : Bool). cond b word (memory (Slot y))) (ne_eqb x y (λ e. apart (sym e)))
+slot_apart x _ AtResource memory word y apart = refl
+
+-- The duty is about the row's slot or resource, and another one takes its place. It changes nothing else of its thread.
+record Silent (x : ℕ) (d next : Duty) : Type 0 where
+  at : (layout : Layout) (t head : ℕ) → IsSilent x (address_of layout t head d)
+  needs : needs_slot x d ≡ true
+  on : (y : ℕ) → needs_slot y d ≡ true → needs_slot y next ≡ true
+  actor : (layout : Layout) (t found : ℕ) (v : View) (rest : List Duty)
+      → actor_by layout t (actor_of v) d rest found ≡ actor_of (record v { agenda = next ∷ rest })
+
+birth_actor : (layout : Layout) (t found x : ℕ) (h : Holding) (v : View) (rest : List Duty) (head : ℕ) → v.head ≡ head
+    → actor_by layout t (actor_of v) (BirthSlot x h) rest found ≡ actor_of (record v { agenda = BirthLocal x h ∷ rest })
+birth_actor layout t found x h v rest zero is =
+    ap (λ (k : ℕ). record (actor_of v) { agenda = ready k (BirthLocal x h ∷ rest) }) is
+birth_actor layout t found x h v rest (suc head) is =
+    ap (λ (k : ℕ). record (actor_of v) { agenda = ready k (BirthLocal x h ∷ rest) }) is
+
+take_actor : (layout : Layout) (t found x : ℕ) (v : View) (rest : List Duty) (head : ℕ) → v.head ≡ head
+    → actor_by layout t (actor_of v) (TakeSlot x) rest found ≡ actor_of (record v { agenda = CloseResource x ∷ rest })
+take_actor layout t found x v rest zero is =
+    ap (λ (k : ℕ). record (actor_of v) { agenda = ready k (CloseResource x ∷ rest) }) is
+take_actor layout t found x v rest (suc head) is =
+    ap (λ (k : ℕ). record (actor_of v) { agenda = ready k (CloseResource x ∷ rest) }) is
+
+close_actor : (layout : Layout) (t found x : ℕ) (v : View) (rest : List Duty) (head : ℕ) → v.head ≡ head
+    → actor_by layout t (actor_of v) (CloseResource x) rest found ≡ actor_of (record v { agenda = SettleEnd x ∷ rest })
+close_actor layout t found x v rest zero is =
+    ap (λ (k : ℕ). record (actor_of v) { agenda = ready k (SettleEnd x ∷ rest) }) is
+close_actor layout t found x v rest (suc head) is =
+    ap (λ (k : ℕ). record (actor_of v) { agenda = ready k (SettleEnd x ∷ rest) }) is
+
+same_row : (x : ℕ) → (x == x) ≡ true
+same_row x = eq-eqb x x refl
+
+birth_silent : (x : ℕ) (h : Holding) → Silent x (BirthSlot x h) (BirthLocal x h)
+birth_silent x h = record {
+  at = λ layout t head. AtSlot;
+  needs = same_row x;
+  on = λ y is. is;
+  actor = λ layout t found v rest. birth_actor layout t found x h v rest v.head refl;
+}
+
+take_silent : (x : ℕ) → Silent x (TakeSlot x) (CloseResource x)
+take_silent x = record {
+  at = λ layout t head. AtSlot;
+  needs = same_row x;
+  on = λ y is. is;
+  actor = λ layout t found v rest. take_actor layout t found x v rest v.head refl;
+}
+
+close_silent : (x : ℕ) → Silent x (CloseResource x) (SettleEnd x)
+close_silent x = record {
+  at = λ layout t head. AtResource;
+  needs = same_row x;
+  on = λ y is. is;
+  actor = λ layout t found v rest. close_actor layout t found x v rest v.head refl;
+}
+
+-- ---- the change
+
+module _ (kept : DutiesAreKept) (unlocked : NeededSlotsAreUnlocked) (layout : Layout) (x : ℕ) where
+  module _ (v : View) (d next : Duty) (rest : List Duty) (silent : Silent x d next) (agenda : v.agenda ≡ d ∷ rest)
+      (alive : v.status ≢ Gone) (taken : 1 ≤ times_in x v.taken) where
+    abbrev u : View
+    u = record v { agenda = next ∷ rest }
+
+    keeps_used : (y : ℕ) → UsesSlot (actor_of v) y → UsesSlot (actor_of u) y
+    keeps_used y (inl locks) = inl locks
+    keeps_used y (inr needs) =
+        let first : (needs_slot y d || list_any (needs_slot y) rest) ≡ true =
+        sym (ap (list_any (needs_slot y)) agenda) ∙ needs in
+        elim (cases_Bool (needs_slot y d)) [
+          | inl this ↦ inr (ap (λ (b : Bool). b || list_any (needs_slot y) rest) (silent.on y this))
+          | inr other ↦
+              let later : list_any (needs_slot y) rest ≡ true =
+              sym (ap (λ (b : Bool). b || list_any (needs_slot y) rest) other) ∙ first in
+              inr (ap (λ (b : Bool). needs_slot y next || b) later ∙ or_true (needs_slot y next))
+        ]
+
+    module _ (words : List ℕ) (views : List View) (id : ℕ) (s : Stands layout words views)
+        (here : get_elem? views id ≡ some v) where
+      abbrev m : Machine
+      m = s.machine
+
+      abbrev t : ℕ
+      t = v.thread
+
+      abbrev a : Actor
+      a = actor_of v
+
+      comes : ComesNext m t a d rest
+      comes = record { found = s.acts id v here; agenda = agenda; alive = alive }
+
+      abbrev address : Address
+      address = address_of m.layout t a.head d
+
+      -- The row is not the one that the hand has locked, and its slot is with the hand.
+      other_row : (y : ℕ) → (times_in y v.taken ≡ 0) ⊎ (v.locked ≡ Some y) → y ≢ x
+      other_row y (inl none) same = omega (arith, none, taken, ap (λ (z : ℕ). times_in z v.taken) same)
+      other_row y (inr locks) same =
+          unlocked s.accounts (1 + m.layout.workers) m t a d rest x s.counts comes silent.needs (locks ∙ ap Some same)
+
+      passed : Passes layout words (set views id u) v.taken v.locked m
+      passed =
+          let at = silent.at m.layout t a.head in
+          let word = new_word t a.head d (m.memory address) in
+          passes layout words views id v u s here words (record {
+            accounts = s.accounts;
+            machine = done_by m t a d rest;
+            counts = (kept s.accounts (1 + m.layout.workers) m t a d rest s.counts comes).1;
+            layout_same = refl;
+            length_is = refl;
+            reads = λ b has. away x address at m.memory word m.layout b has ∙ s.reads b has;
+            actors =
+                ap (set m.actors t) (silent.actor m.layout t (m.memory address) v rest);
+            thread_same = refl;
+            told_same = refl;
+            given_more = λ k is. is;
+            holding = λ y counted. s.holding id v y here counted;
+            others = λ k apart. refl;
+            no_variables = s.no_variables;
+            kinds_stay = λ y w more is. kind_away x address at m.memory word y ∙ is;
+            cells_stay = λ other y i w apart is locked. cell_away x address at m.memory word y i;
+            kinds_here = λ y w more seen.
+                kind_away x address at m.memory word y ∙ s.kinds_seen id y w v here more seen;
+            cells_here = λ y i w locked seen.
+                cell_away x address at m.memory word y i ∙ s.cells_seen id y i w v here locked seen;
+            threads = λ i there. threads_same layout words views i v u s there refl refl refl;
+          }) v.taken v.locked
+          (λ y which. slot_apart x address at m.memory word y (other_row y which))
+
+    silent_becomes : Becomes layout v u
+    silent_becomes = record {
+      passes = passed;
+      slots = record { taken = refl; in_slot = λ y locks. refl; locked = refl; used = keeps_used };
+    }
+
+  -- A hand that gives birth to an object puts its resource into its slot.
+  pub filled_becomes : (v : View) (ds : List Duty) → v.agenda ≡ ds → OwnsFirst x ds → v.status ≢ Gone
+      → 1 ≤ times_in x v.taken → Becomes layout v (slot_filled_by ds v)
+  filled_becomes v (BirthSlot y h ∷ []) is same alive taken =
+      let is_x : v.agenda ≡ BirthSlot x h ∷ [] = is ∙ ap (λ (z : ℕ). BirthSlot z h ∷ []) same in
+      subst (λ (z : ℕ). Becomes layout v (record v { agenda = BirthLocal z h ∷ [] })) (sym same)
+      (silent_becomes v (BirthSlot x h) (BirthLocal x h) [] (birth_silent x h) is_x alive taken)
+  filled_becomes v (BirthLocal y h ∷ []) is same alive taken = itself_becomes layout v
+  filled_becomes v _ is same alive taken = absurd same
+
+  -- A hand that deallocates an object takes its resource out, and the host closes it.
+  pub emptied_becomes : (v : View) (ds : List Duty) → v.agenda ≡ ds → ClosesRow x ds → v.status ≢ Gone
+      → 1 ≤ times_in x v.taken → Becomes layout v (slot_emptied_by ds v)
+  emptied_becomes v (TakeSlot y ∷ rest) is same alive taken =
+      let is_x : v.agenda ≡ TakeSlot x ∷ rest = is ∙ ap (λ (z : ℕ). TakeSlot z ∷ rest) same in
+      let w : View = record v { agenda = CloseResource x ∷ rest } in
+      subst (λ (z : ℕ). Becomes layout v (record v { agenda = SettleEnd z ∷ rest })) (sym same)
+      (becomes_then layout v w (record v { agenda = SettleEnd x ∷ rest })
+      (silent_becomes v (TakeSlot x) (CloseResource x) rest (take_silent x) is_x alive taken)
+      (silent_becomes w (CloseResource x) (SettleEnd x) rest (close_silent x) refl alive taken))
+  emptied_becomes v (SettleEnd y ∷ rest) is same alive taken = itself_becomes layout v
+  emptied_becomes v _ is same alive taken = absurd same
+
+-- ---- what stays
+
+pub filled_keeps : (v : View) (x : ℕ) (ds : List Duty) → OwnsFirst x ds → KeepsThread v (slot_filled_by ds v)
+filled_keeps v x (BirthSlot y h ∷ []) same =
+    record { layout = refl; thread = refl; status = refl; head = refl; used = refl; given = refl }
+filled_keeps v x (BirthLocal y h ∷ []) same =
+    record { layout = refl; thread = refl; status = refl; head = refl; used = refl; given = refl }
+filled_keeps v x _ same = absurd same
+
+pub emptied_keeps : (v : View) (x : ℕ) (ds : List Duty) → ClosesRow x ds → KeepsThread v (slot_emptied_by ds v)
+emptied_keeps v x (TakeSlot y ∷ rest) same =
+    record { layout = refl; thread = refl; status = refl; head = refl; used = refl; given = refl }
+emptied_keeps v x (SettleEnd y ∷ rest) same =
+    record { layout = refl; thread = refl; status = refl; head = refl; used = refl; given = refl }
+emptied_keeps v x _ same = absurd same

@@ -1,0 +1,210 @@
+-- A hand gives back the slot that it took last by its first duty, and the rule holds again.
+use Rattle.std.proofs.Common.{◌≡◌, ◌≢◌, ◌⊎◌, ℕ, ◌+◌, ◌<◌, true, Option, Some, List, [], ◌∷◌, cond, set, inl, inr, refl, sym, ap, ◌∙◌, subst, arith}
+use Rattle.std.specs.Prelude.{◌==◌, slice_index}
+use Rattle.std.proofs.lemmas.Bool.{cases_Bool}
+use mathlib.Core.Option as home
+use mathlib.Core.Option.{some}
+use lib.ListN.{get_elem?}
+use Rattle.atomic_table.specs.Table.{State, gives, Me, Allows}
+use Rattle.brc_word.specs.Words.{free_word}
+use Rattle.brc_model.specs.declared.address.Address.TheVariants.{KindOf, Slot}
+use Rattle.brc_model.specs.declared.duty.Duty.{Duty}
+use Rattle.brc_model.specs.declared.duty.Duty.TheVariants.{LockGate, UnlockGate, BirthLocal, SettleEnd}
+use Rattle.brc_model.specs.declared.layout.Layout.{Layout}
+use Rattle.brc_model.specs.Layout.{row_count}
+use Rattle.brc_model.specs.Duties.{address_of, resources_of}
+use Rattle.brc_model.specs.Machine.{Machine, locked_by}
+use Rattle.brc_model.specs.Within.{IsThere}
+use Rattle.brc_model.specs.CountingLaws.{ComesNext, DutiesAreKept, DutiesAreWithin, AccountsAreThere, ChainsAreThere, HandedMergesLive}
+use Rattle.brc_model.specs.GuardLaws.{LockedCellsStay}
+use Rattle.brc_model.specs.SlotLaws.{SlotUse, Stays, Takes, Gives, use_of, Unlocks, GivenSlotsAreUnlocked, SlotsAreKnown}
+use Rattle.brc_table.specs.declared.view.View.{View}
+use Rattle.brc_table.specs.Views.{actor_of, did, behind_first, taken_after, RowsAreThere}
+use Rattle.brc_table.specs.Seen.{has_seen_kind}
+use Rattle.brc_model.specs.Knowledge.{HeadOf}
+use Rattle.brc_table.specs.Homes.{resources, rows_of, held_in, SlotsStand, TableStands}
+use Rattle.brc_table.specs.Begins.{Becomes}
+use Rattle.brc_table.specs.Uses.{FirstSlot, IsDue, first_use, first_due, behind_slot, held_after, Uses}
+use Rattle.brc_table.proofs.Stepping.{Does, read_of, relies}
+use Rattle.brc_table.proofs.SlotLists.{last_of}
+use Rattle.brc_table.proofs.SlotsKept.{slots_given}
+use Rattle.brc_table.proofs.SlotsUsed.{used_left}
+use Rattle.brc_table.proofs.Allowed as allowed
+use Rattle.brc_table.proofs.Allowed.{Knows, IsNextAt}
+
+-- ---- duties that give a slot back
+
+gives_row : (x y : ℕ) → Gives y ≡ Gives x → y ≡ x
+gives_row x y is = cc
+
+given_there : (layout : Layout) (t head k threads : ℕ) (d : Duty) (found x : ℕ) → use_of d found ≡ Gives x
+    → IsThere k threads (address_of layout t head d) → x < k
+given_there layout t head k threads (LockGate y) found x is there = elim (cases_Bool (found == free_word)) [
+  | inl free ↦
+      absurd (let wrong : Takes y ≡ Gives x = sym (ap (λ b. cond b (Takes y) Stays) free) ∙ is in cc)
+  | inr other ↦
+      absurd (let wrong : Stays ≡ Gives x = sym (ap (λ b. cond b (Takes y) Stays) other) ∙ is in cc)
+]
+given_there layout t head k threads (UnlockGate y) found x is there =
+    subst (λ (z : ℕ). z < k) (gives_row x y is) there
+given_there layout t head k threads (BirthLocal y h) found x is there =
+    subst (λ (z : ℕ). z < k) (gives_row x y is) there
+given_there layout t head k threads (SettleEnd y) found x is there =
+    subst (λ (z : ℕ). z < k) (gives_row x y is) there
+given_there layout t head k threads _ found x is there = absurd cc
+
+-- What is due is what the machine says that the slot holds, after the hand has turned to the duty.
+due_is : SlotsAreKnown → (layout : Layout) (words : List ℕ) (views : List View) (id : ℕ) (v u : View) (d : Duty)
+    (rest : List Duty) (does : Does layout words views id u d rest) (found x n : ℕ) → use_of d found ≡ Gives x
+    → v.locked ≡ u.locked → ((y : ℕ) → v.locked ≡ Some y → u.in_slot ≡ v.in_slot)
+    → ((y : ℕ) → v.locked ≡ Some y → does.stands.machine.memory (Slot y) ≡ v.in_slot)
+    → IsDue u (d ∷ rest) n → n ≡ does.stands.machine.memory (Slot x)
+due_is law layout words views id v u (LockGate y) rest does found x n is same in_slot locked due = absurd due
+due_is law layout words views id v u (UnlockGate y) rest does found x n is same in_slot locked due =
+    let s = does.stands in
+    let fits = (s.counts.kept.core.each u.thread (actor_of u) (s.acts id u does.here)).0.head_fits in
+    let head = subst (HeadOf s.machine u.thread (actor_of u)) does.agenda fits in
+    let mine : v.locked ≡ Some x = same ∙ (head.2 ∙ ap Some (gives_row x y is)) in
+    due ∙ (in_slot x mine ∙ sym (locked x mine))
+due_is law layout words views id v u (BirthLocal y h) rest does found x n is same in_slot locked due =
+    let s = does.stands in
+    let filled =
+    law.born s.accounts (1 + s.machine.layout.workers) s.machine u.thread (actor_of u) y h rest s.counts
+    (record { found = s.acts id u does.here; agenda = does.agenda; alive = does.alive }) in
+    let row = gives_row x y is in
+    let seen : s.machine.memory (KindOf x) ≡ due.0 = s.kinds_seen id x due.0 u does.here due.1 (subst (λ (z : ℕ). has_seen_kind z due.0 u ≡ true) row due.2) in
+    due.3 ∙ (ap resources_of (sym seen ∙ ap (λ (z : ℕ). s.machine.memory (KindOf z)) (sym row))
+    ∙ (sym filled ∙ ap (λ (z : ℕ). s.machine.memory (Slot z)) row))
+due_is law layout words views id v u (SettleEnd y) rest does found x n is same in_slot locked due =
+    let s = does.stands in
+    let none =
+    law.closing s.accounts (1 + s.machine.layout.workers) s.machine u.thread (actor_of u) y rest s.counts
+    (record { found = s.acts id u does.here; agenda = does.agenda; alive = does.alive }) in
+    due ∙ (sym none ∙ ap (λ (z : ℕ). s.machine.memory (Slot z)) (gives_row x y is))
+due_is law layout words views id v u _ rest does found x n is same in_slot locked due = absurd due
+
+-- ---- the step
+
+module _ (kept : DutiesAreKept) (within : DutiesAreWithin) (law : AccountsAreThere) (chains : ChainsAreThere)
+    (stay : LockedCellsStay) (live : HandedMergesLive) (unlocked : GivenSlotsAreUnlocked) (known : SlotsAreKnown)
+    (layout : Layout) (v u : View) (d : Duty) (rest : List Duty) (index : ℕ) (becomes : Becomes layout v u)
+    (next : IsNextAt u d rest index) (x : ℕ) where
+  module _ {T : Type 0} (s : State (Option T) View) (holds : TableStands layout s.words s.homes s.views) (id : ℕ)
+      (here : get_elem? s.views id ≡ some v) (gives_it : use_of d (read_of u d (slice_index s.words index)) ≡ Gives x)
+      (rows : List ℕ) (taken : v.taken ≡ x ∷ rows) (slot : Option T) (due : IsDue u (d ∷ rest) (resources slot)) where
+    abbrev it : Does layout s.words (set s.views id u) id u d rest
+    it = allowed.does kept within law chains stay live layout v u d rest index becomes next s holds id here
+
+    abbrev m : Machine
+    m = holds.stands.machine
+
+    abbrev k : Machine
+    k = it.stands.machine
+
+    abbrev found : ℕ
+    found = read_of u d (slice_index s.words index)
+
+    -- What becomes of the hand's lock.
+    lock : Unlocks (actor_of u) d found x
+    lock =
+        unlocked it.stands.accounts (1 + k.layout.workers) k u.thread (actor_of u) d rest found x it.stands.counts
+        (record { found = it.stands.acts id u it.here; agenda = next.agenda; alive = next.alive }) gives_it
+
+    row_low : x < row_count m.layout
+    row_low =
+        let relied = relies kept within stay layout s.words (set s.views id u) id u d rest it in
+        let same : k.layout ≡ m.layout = it.stands.layout_is ∙ sym holds.stands.layout_is in
+        subst (λ (l : Layout). x < row_count l) same
+        (given_there k.layout u.thread u.head (row_count k.layout) (1 + k.layout.workers) d found x gives_it relied.there)
+
+    -- What the slot holds is what the machine says.
+    holds_due : resources slot ≡ k.memory (Slot x)
+    holds_due =
+        let first = allowed.first kept within law chains stay live layout v u d rest index becomes next s holds id here in
+        due_is known layout s.words (set s.views id u) id v u d rest it found x (resources slot) gives_it
+        (sym becomes.slots.locked) becomes.slots.in_slot
+        (λ y locks. first.slots y (inr locks) ∙ (holds.slots.locked id y v here locks).1) due
+
+    module _ (f : ℕ → ℕ)
+        (leaves : allowed.Leaves kept within law chains stay live layout v u d rest index becomes next f) where
+      -- The rule holds after the step.
+      pub stands_now : TableStands layout (set s.words index (f (slice_index s.words index)))
+          (set s.homes x (home.some slot)) (set s.views id (did u (d ∷ rest) found))
+      stands_now =
+          let now =
+          allowed.now kept within law chains stay live layout v u d rest index becomes next s holds id here f leaves in
+          let stays =
+          allowed.slots_stay kept within law chains stay live layout v u d rest index becomes next s holds id here f
+          leaves in
+          record {
+            stands = now.stands;
+            slots =
+                slots_given m now.stands.machine s.homes s.views id v (did u (d ∷ rest) found) holds.slots here
+                (allowed.layout_stays kept within law chains stay live layout v u d rest index becomes next s holds id
+                here f leaves) x rows taken
+                (ap (taken_after u.taken) gives_it ∙ ap behind_first (becomes.slots.taken ∙ taken)) slot row_low
+                (holds_due ∙ sym (stays x))
+                (λ y apart uses.
+                used_left u d rest found y next.agenda
+                (λ same. apart (sym (gives_row y x (sym gives_it ∙ same))))
+                (λ locks. lock.kept y apart locks) (becomes.slots.used y uses)) now.slots
+                (λ y locks.
+                let before = lock.left y locks in
+                let mine : v.locked ≡ Some y = sym becomes.slots.locked ∙ before.1 in
+                (before.0, mine, becomes.slots.in_slot y mine));
+          }
+
+  -- A step is allowed whose duty gives the slot back, if it holds what is due.
+  given_allows : {T : Type 0} (slots id : ℕ) (seat : View) (slot : Option T) (ps : List (ℕ × Option T)) (f : ℕ → ℕ)
+      (begins : View → View) (then : ℕ → Me (Option T) View → Type 0)
+      → seat ≡ v → begins v ≡ u → x ∷ rows_of ps ≡ v.taken → IsDue u (d ∷ rest) (resources slot)
+      → (all : (found : ℕ) → use_of d found ≡ Gives x)
+      → allowed.Leaves kept within law chains stay live layout v u d rest index becomes next f
+      → ((found : ℕ) (after : Me (Option T) View) → Knows u d (read_of u d found)
+      → Uses begins (seat, (x, slot) ∷ ps) (read_of u d found) after → then found after)
+      → Allows (λ (s : State (Option T) View). TableStands layout s.words s.homes s.views) slots id
+      (seat, (x, slot) ∷ ps) index f then
+  given_allows slots id seat slot ps f begins then is_me becomes_is follows due all leaves goes s holds homes here below =
+      let mine = here ∙ ap some is_me in
+      let word = slice_index s.words index in
+      let found_now = read_of u d word in
+      let gives_it = all found_now in
+      let w = did u (d ∷ rest) found_now in
+      let now = stands_now s holds id mine gives_it (rows_of ps) (sym follows) slot due f leaves in
+      let is_u : begins seat ≡ u = ap begins is_me ∙ becomes_is in (
+        w,
+        gives,
+        tt,
+        now,
+        goes word (w, ps)
+            (allowed.known kept within law chains stay live layout v u d rest index becomes next s holds id mine) (
+          ap (λ (ds : List Duty). did u ds found_now) (sym next.agenda)
+              ∙ ap (λ (z : View). did z z.agenda found_now) (sym is_u),
+          allowed.rows_now kept within law chains stay live layout v u d rest index becomes next s holds id mine f
+              leaves,
+          λ same.
+              ap behind_first (follows ∙ sym becomes.slots.taken) ∙ sym (ap (taken_after u.taken) gives_it),
+          sym (ap (λ (z : SlotUse). held_after ((x, resources slot) ∷ held_in ps) z (first_due (d ∷ rest) found_now)) gives_it)
+              ∙ ap (λ (ds : List Duty). held_after ((x, resources slot) ∷ held_in ps) (first_use ds found_now) (first_due ds found_now))
+              (sym next.agenda ∙ ap (λ (z : View). z.agenda) (sym is_u)),
+        ),
+      )
+
+  pub gives_allows : {T : Type 0} (slots id n : ℕ) (me : Me (Option T) View) (f : ℕ → ℕ) (begins : View → View)
+      (then : ℕ → Me (Option T) View → Type 0)
+      → me.0 ≡ v → begins v ≡ u → rows_of me.1 ≡ v.taken → FirstSlot (held_in me.1) x n → IsDue u (d ∷ rest) n
+      → (all : (found : ℕ) → use_of d found ≡ Gives x)
+      → allowed.Leaves kept within law chains stay live layout v u d rest index becomes next f
+      → ((found : ℕ) (after : Me (Option T) View) → Knows u d (read_of u d found)
+      → Uses begins me (read_of u d found) after → then found after)
+      → Allows (λ (s : State (Option T) View). TableStands layout s.words s.homes s.views) slots id me index f then
+  gives_allows {T} slots id n me f begins then is_me becomes_is follows first due all leaves goes =
+      let l = last_of me.1 x n first in
+      let whole : me ≡ (me.0, (x, l.slot) ∷ l.ps) = ap (λ (c : List (ℕ × Option T)). (me.0, c)) l.is in
+      subst (λ (it : Me (Option T) View).
+      Allows (λ (s : State (Option T) View). TableStands layout s.words s.homes s.views) slots id it index f then)
+      (sym whole)
+      (given_allows slots id me.0 l.slot l.ps f begins then is_me becomes_is (sym (ap rows_of l.is) ∙ follows)
+      (subst (IsDue u (d ∷ rest)) (sym l.count) due) all leaves
+      (λ found after knows uses.
+      goes found after knows (subst (λ (it : Me (Option T) View). Uses begins it (read_of u d found) after) (sym whole) uses)))
