@@ -11,9 +11,6 @@ use Rattle.brc_model.specs.Duties.{ready, has_resource}
 use Rattle.brc_table.specs.declared.view.View.{View}
 use Rattle.brc_table.specs.Views.{did, done, event_of, bearing, next_row, slot_filled, slot_filled_by}
 use Rattle.brc_table.specs.Calls.{OwnsFirst}
-use Rattle.brc_model.specs.Duties.{cells_of}
-use Rattle.brc_model.specs.Kinds.{kind_of_word, is_counted_kind}
-use Rattle.brc_model.specs.Limits.{cell_limit}
 use Rattle.brc_table.specs.Seen.{shows_kind, has_seen_kind}
 use Rattle.brc_heap.specs.Calls.{KeepsSight, born, HasBorn}
 use Rattle.brc_heap.proofs.Sight.{StaysAt, same_sight, sight_then, did_sight}

@@ -66,7 +66,7 @@ started_sight x u thread =
     record {
       locked = refl;
       lent = refl;
-  in_slot = refl;
+      in_slot = refl;
       kinds = λ y word seen.
           list_any-append (shows_kind y word) u.trace (event ∷ [])
           ∙ ap (λ (b : Bool). b || list_any (shows_kind y word) (event ∷ [])) seen;

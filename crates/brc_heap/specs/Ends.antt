@@ -5,7 +5,7 @@ use Rattle.brc_model.specs.declared.address.Address.TheVariants.{ThreadWord}
 use Rattle.brc_model.specs.Layout.{row_count, IsCounted}
 use Rattle.brc_table.specs.declared.view.View.{View}
 use Rattle.brc_table.specs.declared.view.Event.{Event}
-use Rattle.brc_table.specs.Ending.{EndState, HaveEnded, RowEnds, kind_at, gate_at}
+use Rattle.brc_table.specs.Ending.{EndState, HaveEnded, RowEnds, SlotEnds, kind_at, gate_at}
 
 -- Says whether an object was born in the row.
 abbrev pub was_born : EndState → ℕ → Bool
@@ -21,10 +21,12 @@ named_row zero = None
 named_row (suc row) = Some row
 
 -- Each thread is gone, or was never started. Exactly the born counted objects that no cell of an open list names are
--- closed, and the cells of closed lists are empty.
+-- closed, and the cells of closed lists are empty. The slots of closed objects are empty too, and the other counted
+-- objects have their resources.
 pub record HasEnded (end : EndState) : Type 0 where
   pub threads : HaveEnded end.layout end.words
   pub rows : (x : ℕ) → IsCounted end.layout x → x < row_count end.layout → RowEnds end.layout end.words x
+  pub slots : (x : ℕ) → IsCounted end.layout x → x < row_count end.layout → SlotEnds end x
 
 -- The last step of the hand loaded the word of a thread that runs or is leaving.
 pub record FoundRunning (v : View) : Type 0 where

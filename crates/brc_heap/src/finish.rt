@@ -5,13 +5,16 @@ ghost use Rattle.brc_model.specs.Kinds.{kind_of_word};
 ghost use Rattle.brc_model.specs.Layout.{row_count};
 ghost use Rattle.brc_model.specs.Limits.{cell_limit};
 ghost use Rattle.brc_table.specs.Hands.{IsOf};
-ghost use Rattle.brc_table.specs.Ending.{kind_at, cell_at};
+ghost use Rattle.brc_table.specs.Ending.{kind_at, cell_at, slot_at};
+ghost use Rattle.brc_table.specs.Homes.{resources};
 ghost use Rattle.brc_heap.specs.Ends.{was_born, is_closed, named_row, HasEnded, HasLooked, FoundRunning};
 
 use crate::heap::Heap;
 use crate::kinds::kind_numbered;
 use brc_lang::Kind;
-use brc_table::{Closed, Hand, rows_end_in_every_table, seen_ends_are_so};
+use brc_table::{
+    Closed, Hand, rows_end_in_every_table, seen_ends_are_so, slots_end_in_every_table,
+};
 use brc_word::{closed, kind_number};
 use std::marker::Model;
 
@@ -60,6 +63,7 @@ impl<T: Drop> Heap<T> {
         ensures kept { IfErr result (λ back. HasLooked main.view back.main.view × (back.main.carried ≡ main.carried)) }
     {
         rows_end_in_every_table();
+        slots_end_in_every_table();
         seen_ends_are_so();
         let mut main = main;
         let workers = self.words().workers();
@@ -124,5 +128,13 @@ impl<T: Drop> Final<T> {
         } else {
             Some((word - 1) as u32)
         }
+    }
+
+    /// Returns the resource in the home slot of the row: that of a file or a socket that isn't closed.
+    pub fn slot(&self, row: u32) -> Option<&T>
+        requires there { row < row_count self.now.layout }
+        ensures { resources result ≡ slot_at self.now.slots row }
+    {
+        self.closed.slot(row)
     }
 }

@@ -1,1 +1,2 @@
 mod Posting
+mod Posted

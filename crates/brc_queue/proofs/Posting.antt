@@ -13,8 +13,9 @@ use Rattle.brc_table.specs.Views.{did, done, turned, work_about, open_work}
 use Rattle.brc_heap.specs.Calls.{Leaves}
 use Rattle.brc_heap.proofs.Turning.{none_aside, work_next, turned_itself}
 use Rattle.brc_heap.proofs.Leaving.{WorksAt, turned_works, plain_keeps, done_works, works_leave}
-use Rattle.brc_queue.specs.declared.queue.Looked.TheVariants as looks
-use Rattle.brc_queue.specs.Calls.{marked, looked, look_answer, look_left}
+use Rattle.brc_heap.specs.declared.marker.Looked.TheVariants as looks
+use Rattle.brc_heap.specs.Marks.{look_answer}
+use Rattle.brc_queue.specs.Calls.{marked, looked, look_left}
 
 -- ---- the mark
 

@@ -7,8 +7,8 @@ use Rattle.brc_model.specs.Knowledge.{status_word}
 use Rattle.brc_model.specs.declared.actor.Status.TheVariants.{Running}
 use Rattle.brc_table.specs.declared.view.View.{View}
 use Rattle.brc_table.specs.Views.{done, turned}
-use Rattle.brc_queue.specs.declared.queue.Looked.{Looked}
-use Rattle.brc_queue.specs.declared.queue.Looked.TheVariants as looks
+use Rattle.brc_heap.specs.declared.marker.Looked.{Looked}
+use Rattle.brc_heap.specs.declared.marker.Looked.TheVariants as looks
 
 -- the hand has set the object's mark
 abbrev pub marked : View → ℕ → View
@@ -18,11 +18,6 @@ marked v x = done (turned v x) 0
 abbrev pub looked : View → ℕ → ℕ → ℕ → View
 looked v x said found =
     let saw = done (turned v x) said in if said == status_word Running then saw else done saw found
-
--- A thread that runs will find the mark itself, and so may the exit of one that doesn't.
-abbrev pub look_answer : ℕ → ℕ → Looked
-look_answer said found =
-    if said == status_word Running then looks.Left else if found == 1 then looks.Claimed else looks.Left
 
 -- what a look leaves: the hand that has claimed the mark merges the object
 abbrev pub look_left : ℕ → Looked → List Duty

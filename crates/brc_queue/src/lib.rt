@@ -4,6 +4,8 @@
 //! Each call tries once. It never waits, and takes no memory.
 #![tactic(auto)]
 
+mod marker;
 mod queue;
 
-pub use queue::{Looked, Queue};
+pub use brc_heap::Looked;
+pub use queue::Queue;

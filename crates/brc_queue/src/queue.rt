@@ -6,31 +6,22 @@ ghost use Rattle.brc_table.specs.Views.{work_about};
 ghost use Rattle.brc_table.specs.Hands.{IsOf};
 ghost use Rattle.brc_table.specs.Calls.{CanAct};
 ghost use Rattle.brc_heap.specs.Calls.{Leaves};
-ghost use Rattle.brc_queue.specs.Calls.{marked, looked, look_answer, look_left};
+ghost use Rattle.brc_heap.specs.Marks.{look_answer};
+ghost use Rattle.brc_queue.specs.Calls.{marked, looked, look_left};
 
-use brc_heap::{Hand, Heap};
+use brc_heap::{Hand, Heap, Looked};
 use std::marker::Model;
 
 /// What the thread word of a running thread says.
-const RUNNING: u64 = 1;
+pub(crate) const RUNNING: u64 = 1;
 
 /// The mark of an object that is in its owner's queue.
-const QUEUED: u64 = 1;
-
-/// What a hand has found that looked after an object in its owner's queue.
-#[derive(Clone, Copy, Debug, PartialEq, Eq)]
-pub enum Looked {
-    /// The owner runs, and finds the object in its queue; or the owner's exit has found it already.
-    Left,
-    /// The owner doesn't run any more. The hand has taken the object out of the queue, and has to merge it, by
-    /// `merge_step`.
-    Claimed,
-}
+pub(crate) const QUEUED: u64 = 1;
 
 /// The queues of a heap's threads. `T` is the resource of a file or a socket.
 #[derive(Drop)]
 pub struct Queue<'h, T: Drop> {
-    heap: &'h Heap<T>,
+    pub(crate) heap: &'h Heap<T>,
 }
 
 impl<'h, T: Drop> Model for Queue<'h, T> {

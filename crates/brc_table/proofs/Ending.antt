@@ -1,7 +1,11 @@
--- What the last words of a table say, by the model's law of the end.
-use Rattle.std.proofs.Common.{◌≡◌, ℕ, zero, suc, ◌+◌, ◌<◌, ◌≤◌, Bool, cond, List, inl, inr, Some, refl, sym, ap, ◌∙◌, subst, arith}
+-- What the last words and slots of a table say, by the model's laws of the end.
+use Rattle.std.proofs.Common.{◌≡◌, ℕ, zero, suc, ◌+◌, ◌<◌, ◌≤◌, Bool, true, false, cond, Option, List, [], ◌∷◌, inl, inr, None, Some, refl, sym, ap, ◌∙◌, subst, arith}
+use Rattle.std.specs.Prelude.{slice_get, ◌==◌, if◌then◌else◌}
+use Rattle.std.specs.List.{list_any}
+use Rattle.std.proofs.lemmas.Bool.{cases_lt}
 use Rattle.std.proofs.lemmas.Option.{slice_get_within}
-use mathlib.Core.Option.{some}
+use mathlib.Core.Option as home
+use mathlib.Core.Option.{some, some-injective, some-ne-none}
 use lib.ListN.{get_elem?}
 use Rattle.brc_word.specs.Words.{closed_word}
 use Rattle.brc_model.specs.declared.actor.Status.{Status}
@@ -11,13 +15,21 @@ use Rattle.brc_model.specs.declared.layout.Layout.{Layout}
 use Rattle.brc_model.specs.Knowledge.{status_word}
 use Rattle.brc_model.specs.Layout.{row_count, IsCounted}
 use Rattle.brc_model.specs.Limits.{cell_limit}
-use Rattle.brc_model.specs.Machine.{idle_actor}
+use Rattle.brc_model.specs.Machine.{Actor, Machine, idle_actor}
+use Rattle.brc_model.specs.Accounts.{Accounts}
+use Rattle.brc_model.specs.Counting.{Counts}
 use Rattle.brc_model.specs.CellLaws.{ItemsAreThere}
+use Rattle.brc_model.specs.Duties.{resources_of}
+use Rattle.brc_model.specs.GuardLaws.{GoneThreadsHoldNothing}
+use Rattle.brc_model.specs.SlotLaws as slot_laws
+use Rattle.brc_model.specs.SlotLaws.{UsesSlot, needs_slot}
 use Rattle.brc_model.specs.Ending as model
 use Rattle.brc_table.specs.declared.view.View.{View}
+use Rattle.brc_table.specs.Views.{actor_of}
 use Rattle.brc_table.specs.Rule.{thread_reading, Stands}
 use Rattle.brc_table.specs.Threads.{thread_word}
-use Rattle.brc_table.specs.Ending.{HaveEnded, SeenEndsAreSo, CellsNameRows, RowsEnd, kind_at, gate_at, cell_at}
+use Rattle.brc_table.specs.Homes.{resources, times_taken, IsHome, TableStands}
+use Rattle.brc_table.specs.Ending.{EndState, EndsWith, HaveEnded, SeenEndsAreSo, CellsNameRows, RowsEnd, SlotsEnd, kind_at, gate_at, cell_at, slot_at, resources_in}
 
 -- ---- threads
 
@@ -115,3 +127,75 @@ cells_name_rows law layout words views s y i there low_cell =
     subst (λ (l : Layout). cell_at words y i ≤ row_count l) s.layout_is
     (named_there (row_count m.layout) (cell_at words y i)
     (λ z is. law s.accounts (1 + m.layout.workers) m y i z s.counts (cell ∙ is)))
+
+-- ---- slots
+
+-- The same gate and kind leave the same in a slot.
+same_left : (gate gate' kind kind' : ℕ) → gate ≡ gate' → kind ≡ kind'
+    → (if gate == closed_word then 0 else resources_of kind) ≡ (if gate' == closed_word then 0 else resources_of kind')
+same_left gate gate' kind kind' e f = cc
+
+-- A thread that is gone, or was never started, uses no slot.
+unused_at_end : GoneThreadsHoldNothing → (p : Accounts) (n : ℕ) (m : Machine) (t : ℕ) (a : Actor) (x : ℕ)
+    → Counts p n m → model.HaveEnded p m → slice_get m.actors t ≡ Some a → UsesSlot a x → ⊥
+unused_at_end law p n m t a x counts ended found uses =
+    let none : (a.agenda ≡ []) × (a.locked ≡ None) = elim (ended t a found) [
+      | inl gone ↦ let held = law p n m t a counts found gone in (held.agenda, held.unlocked)
+      | inr idle ↦ (ap (λ (b : Actor). b.agenda) idle.0, ap (λ (b : Actor). b.locked) idle.0)
+    ] in
+    elim uses [
+      | inl locked ↦ let wrong : None ≡ Some x = sym none.1 ∙ locked in absurd cc
+      | inr some_duty ↦ let wrong : false ≡ true = sym (ap (list_any (needs_slot x)) none.0) ∙ some_duty in absurd cc
+    ]
+
+-- At the end each slot is at home.
+all_home : GoneThreadsHoldNothing → (v : View) (end : EndState) (ends : EndsWith v end) (x : ℕ)
+    → HaveEnded end.layout end.words → IsHome ends.views x
+all_home law v end ends x ended other w there = elim (cases_lt 0 (times_taken x w)) [
+  | inl some_times ↦
+      let s = ends.stands in
+      absurd (unused_at_end law s.accounts (1 + s.machine.layout.workers) s.machine w.thread (actor_of w) x s.counts
+      (machine_ended end.layout end.words ends.views s ended) (s.acts other w there)
+      (ends.used other x w there (omega (arith, some_times))))
+  | inr not ↦ omega (arith, not)
+]
+
+-- So it holds what the model's law says.
+pub slots_ended : slot_laws.SlotsEnd → GoneThreadsHoldNothing → SlotsEnd
+slots_ended law gone v end x ends ended counted there =
+    let s = ends.stands in
+    let m = s.machine in
+    let there' : x < row_count m.layout = subst (λ (k : Layout). x < row_count k) (sym s.layout_is) there in
+    let counted' : IsCounted m.layout x = subst (λ (k : Layout). IsCounted k x) (sym s.layout_is) counted in
+    ends.homes x there (all_home gone v end ends x ended)
+    ∙ (law s.accounts (1 + m.layout.workers) m x s.counts
+    (machine_ended end.layout end.words ends.views s ended) counted'
+    ∙ same_left (m.memory (Gate x)) (gate_at end.words x) (m.memory (KindOf x)) (kind_at end.words x)
+    (s.reads (Gate x) there') (s.reads (KindOf x) there'))
+
+-- The last slots hold what the homes held.
+slot_found : {T : Type 0} (slots : List (Option T)) (x : ℕ) (slot : Option T) → get_elem? slots x ≡ some slot
+    → slot_at (resources_in slots) x ≡ resources slot
+slot_found [] x slot is = absurd (some-ne-none slot (sym is))
+slot_found (s ∷ ss) zero slot is = ap resources (some-injective s slot is)
+slot_found (s ∷ ss) (suc x) slot is = slot_found ss x slot is
+
+-- A table whose last words and views meet the rule was closed with each of its hands.
+pub ends_with : {T : Type 0} (layout : Layout) (words : List ℕ) (homes : List (home.Option (Option T)))
+    (views : List View) (slots : List (Option T)) (v : View) (id : ℕ)
+    → TableStands layout words homes views → get_elem? views id ≡ some v
+    → ((k : ℕ) (slot : Option T) → get_elem? homes k ≡ some (some slot) → get_elem? slots k ≡ some slot)
+    → EndsWith v (record { layout = layout; words = words; slots = resources_in slots })
+ends_with layout words homes views slots v id holds here same =
+    let s = holds.stands in
+    record {
+      views = views;
+      id = id;
+      here = here;
+      stands = s;
+      homes = λ x there at_home.
+          let it =
+          holds.slots.at_home x (subst (λ (k : Layout). x < row_count k) (sym s.layout_is) there) at_home in
+          slot_found slots x it.slot (same x it.slot it.there) ∙ it.holds;
+      used = holds.slots.used;
+    }

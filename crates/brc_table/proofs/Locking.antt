@@ -1,9 +1,7 @@
 -- A hand locks an object, unlocks it, or loads a cell of it.
 use Rattle.std.proofs.Common.{◌≡◌, ℕ, ◌+◌, ◌<◌, [], ◌∷◌, None, Some, refl, sym, ◌∙◌, subst, arith, inl, inr}
-use Rattle.std.specs.Prelude.{◌==◌, if◌then◌else◌}
 use Rattle.std.proofs.lemmas.Bool.{cases_lt}
-use prog.Atomic.{either}
-use Rattle.brc_word.specs.Words.{free_word, locked_word}
+use Rattle.brc_word.specs.Words.{free_word}
 use Rattle.brc_model.specs.declared.duty.Duty.TheVariants.{LockGate, UnlockGate, CellLoad}
 use Rattle.brc_model.specs.declared.actor.Status.TheVariants.{Running}
 use Rattle.brc_model.specs.declared.layout.Layout.{Layout}
@@ -16,10 +14,10 @@ use Rattle.brc_table.specs.Places.{in_tile, cell_place}
 use Rattle.brc_table.specs.Views.{RowsAreThere, actor_of, open_work, locking, unlocking, loading_cell}
 use Rattle.brc_table.specs.Seen.{KnowsCell}
 use Rattle.brc_table.specs.Hands.{HoldsOne, HasNoWork, HasNoRetain, IsRunning}
-use Rattle.brc_table.specs.Begins.{Becomes, MakesQuietly, MakesWithSlot, StoresWithSlot}
-use Rattle.brc_model.specs.SlotLaws.{Stays, Takes, Gives}
+use Rattle.brc_table.specs.Begins.{Becomes, MakesQuietly, StoresWithSlot}
+use Rattle.brc_model.specs.SlotLaws.{Gives}
 use Rattle.brc_table.proofs.Becoming.{then_begins, rested, rearranged, rearranged_with, is_ready, alone, has_one, with_one}
-use Rattle.brc_table.proofs.Duties.{runs_on, either_is}
+use Rattle.brc_table.proofs.Duties.{runs_on}
 
 -- A hand begins to lock an object that it holds.
 pub locking_becomes : WorkIsPutAside → LocksBegin → ImmortalsAreFree → (layout : Layout) (v : View) (x n : ℕ)

@@ -1,23 +1,20 @@
 -- A hand does a duty about a slot or a resource, which changes no word of the table: a new object's resource goes into its
 -- slot, or a dying object's one is taken out and closed. The hand has the slot meanwhile.
-use Rattle.std.proofs.Common.{◌≡◌, ◌≢◌, ◌⊎◌, ℕ, zero, suc, ◌+◌, ◌≤◌, Bool, true, false, cond, Option, Some, List, [], ◌∷◌, ◌++◌, set, inl, inr, refl, sym, ap, ◌∙◌, subst, arith}
+use Rattle.std.proofs.Common.{◌≡◌, ◌≢◌, ◌⊎◌, ℕ, zero, suc, ◌+◌, ◌≤◌, Bool, true, cond, Some, List, [], ◌∷◌, set, inl, inr, refl, sym, ap, ◌∙◌, subst, arith}
 use Rattle.std.specs.Prelude.{◌==◌, ◌||◌}
 use Rattle.std.specs.List.{list_any}
 use Rattle.std.proofs.lemmas.Bool.{eq-eqb, ne_eqb, cases_Bool}
-use Rattle.std.proofs.lemmas.Bool.Decides.{eqb_tells}
-use Rattle.std.proofs.lemmas.List.{set-set}
 use mathlib.Core.Option.{some}
 use lib.ListN.{get_elem?}
 use Rattle.brc_model.specs.declared.address.Address.{Address}
 use Rattle.brc_model.specs.declared.address.Address.TheVariants.{Local, Shared, Gate, KindOf, Mark, Cell, Slot, Resource, ThreadWord}
-use Rattle.brc_model.specs.declared.actor.Status.{Status}
 use Rattle.brc_model.specs.declared.actor.Status.TheVariants.{Gone}
 use Rattle.brc_model.specs.declared.duty.Holding.{Holding}
 use Rattle.brc_model.specs.declared.duty.Duty.{Duty}
 use Rattle.brc_model.specs.declared.duty.Duty.TheVariants.{BirthSlot, BirthLocal, TakeSlot, CloseResource, SettleEnd}
 use Rattle.brc_model.specs.declared.layout.Layout.{Layout}
-use Rattle.brc_model.specs.Duties.{address_of, new_word, continuation, new_head, ready}
-use Rattle.brc_model.specs.Machine.{Actor, Machine, same_address, written, is_running, status_by, used_by, locked_by, lent_by, actor_by, done_by}
+use Rattle.brc_model.specs.Duties.{address_of, new_word, ready}
+use Rattle.brc_model.specs.Machine.{Actor, Machine, written, actor_by, done_by}
 use Rattle.brc_model.specs.CountingLaws.{ComesNext, DutiesAreKept}
 use Rattle.brc_model.specs.SlotLaws.{needs_slot, UsesSlot, NeededSlotsAreUnlocked}
 use Rattle.brc_table.specs.declared.view.View.{View}
@@ -25,7 +22,7 @@ use Rattle.brc_table.specs.Places.{HasWord}
 use Rattle.brc_table.specs.Views.{actor_of, slot_filled_by, slot_emptied_by}
 use Rattle.brc_table.specs.Homes.{times_in}
 use Rattle.brc_table.specs.Rule.{Stands}
-use Rattle.brc_table.specs.Begins.{Passes, KeepsSlots, KeepsThread, Becomes}
+use Rattle.brc_table.specs.Begins.{Passes, KeepsThread, Becomes}
 use Rattle.brc_table.specs.Calls.{OwnsFirst, ClosesRow}
 use Rattle.brc_table.proofs.Becoming.{becomes_then}
 use Rattle.brc_table.proofs.SlotsUsed.{or_true}

@@ -1,5 +1,5 @@
 -- A hand gives back the slot that it took last by its first duty, and the rule holds again.
-use Rattle.std.proofs.Common.{◌≡◌, ◌≢◌, ◌⊎◌, ℕ, ◌+◌, ◌<◌, true, Option, Some, List, [], ◌∷◌, cond, set, inl, inr, refl, sym, ap, ◌∙◌, subst, arith}
+use Rattle.std.proofs.Common.{◌≡◌, ℕ, ◌+◌, ◌<◌, true, Option, Some, List, ◌∷◌, cond, set, inl, inr, sym, ap, ◌∙◌, subst}
 use Rattle.std.specs.Prelude.{◌==◌, slice_index}
 use Rattle.std.proofs.lemmas.Bool.{cases_Bool}
 use mathlib.Core.Option as home
@@ -13,18 +13,18 @@ use Rattle.brc_model.specs.declared.duty.Duty.TheVariants.{LockGate, UnlockGate,
 use Rattle.brc_model.specs.declared.layout.Layout.{Layout}
 use Rattle.brc_model.specs.Layout.{row_count}
 use Rattle.brc_model.specs.Duties.{address_of, resources_of}
-use Rattle.brc_model.specs.Machine.{Machine, locked_by}
+use Rattle.brc_model.specs.Machine.{Machine}
 use Rattle.brc_model.specs.Within.{IsThere}
-use Rattle.brc_model.specs.CountingLaws.{ComesNext, DutiesAreKept, DutiesAreWithin, AccountsAreThere, ChainsAreThere, HandedMergesLive}
+use Rattle.brc_model.specs.CountingLaws.{DutiesAreKept, DutiesAreWithin, AccountsAreThere, ChainsAreThere, HandedMergesLive}
 use Rattle.brc_model.specs.GuardLaws.{LockedCellsStay}
 use Rattle.brc_model.specs.SlotLaws.{SlotUse, Stays, Takes, Gives, use_of, Unlocks, GivenSlotsAreUnlocked, SlotsAreKnown}
 use Rattle.brc_table.specs.declared.view.View.{View}
-use Rattle.brc_table.specs.Views.{actor_of, did, behind_first, taken_after, RowsAreThere}
+use Rattle.brc_table.specs.Views.{actor_of, did, behind_first, taken_after}
 use Rattle.brc_table.specs.Seen.{has_seen_kind}
 use Rattle.brc_model.specs.Knowledge.{HeadOf}
-use Rattle.brc_table.specs.Homes.{resources, rows_of, held_in, SlotsStand, TableStands}
+use Rattle.brc_table.specs.Homes.{resources, rows_of, held_in, TableStands}
 use Rattle.brc_table.specs.Begins.{Becomes}
-use Rattle.brc_table.specs.Uses.{FirstSlot, IsDue, first_use, first_due, behind_slot, held_after, Uses}
+use Rattle.brc_table.specs.Uses.{FirstSlot, IsDue, first_use, first_due, held_after, Uses}
 use Rattle.brc_table.proofs.Stepping.{Does, read_of, relies}
 use Rattle.brc_table.proofs.SlotLists.{last_of}
 use Rattle.brc_table.proofs.SlotsKept.{slots_given}
@@ -178,16 +178,16 @@ module _ (kept : DutiesAreKept) (within : DutiesAreWithin) (law : AccountsAreThe
         now,
         goes word (w, ps)
             (allowed.known kept within law chains stay live layout v u d rest index becomes next s holds id mine) (
-          ap (λ (ds : List Duty). did u ds found_now) (sym next.agenda)
-              ∙ ap (λ (z : View). did z z.agenda found_now) (sym is_u),
-          allowed.rows_now kept within law chains stay live layout v u d rest index becomes next s holds id mine f
-              leaves,
-          λ same.
-              ap behind_first (follows ∙ sym becomes.slots.taken) ∙ sym (ap (taken_after u.taken) gives_it),
-          sym (ap (λ (z : SlotUse). held_after ((x, resources slot) ∷ held_in ps) z (first_due (d ∷ rest) found_now)) gives_it)
-              ∙ ap (λ (ds : List Duty). held_after ((x, resources slot) ∷ held_in ps) (first_use ds found_now) (first_due ds found_now))
-              (sym next.agenda ∙ ap (λ (z : View). z.agenda) (sym is_u)),
-        ),
+              ap (λ (ds : List Duty). did u ds found_now) (sym next.agenda)
+                  ∙ ap (λ (z : View). did z z.agenda found_now) (sym is_u),
+              allowed.rows_now kept within law chains stay live layout v u d rest index becomes next s holds id mine f
+                  leaves,
+              λ same.
+                  ap behind_first (follows ∙ sym becomes.slots.taken) ∙ sym (ap (taken_after u.taken) gives_it),
+              sym (ap (λ (z : SlotUse). held_after ((x, resources slot) ∷ held_in ps) z (first_due (d ∷ rest) found_now)) gives_it)
+                  ∙ ap (λ (ds : List Duty). held_after ((x, resources slot) ∷ held_in ps) (first_use ds found_now) (first_due ds found_now))
+                  (sym next.agenda ∙ ap (λ (z : View). z.agenda) (sym is_u)),
+            ),
       )
 
   pub gives_allows : {T : Type 0} (slots id n : ℕ) (me : Me (Option T) View) (f : ℕ → ℕ) (begins : View → View)

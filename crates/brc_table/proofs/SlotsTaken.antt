@@ -1,5 +1,5 @@
 -- A hand takes a slot by its first duty, and the rule holds again: the slot was at home, and is the hand's from then on.
-use Rattle.std.proofs.Common.{◌≡◌, ◌≢◌, ◌⊎◌, ℕ, ◌+◌, ◌<◌, Option, Some, List, [], ◌∷◌, cond, set, inl, inr, refl, sym, ap, ◌∙◌, subst, arith}
+use Rattle.std.proofs.Common.{◌≡◌, ◌⊎◌, ℕ, ◌+◌, ◌<◌, Option, Some, List, ◌∷◌, cond, set, inl, inr, refl, sym, ap, ◌∙◌, subst, arith}
 use Rattle.std.specs.Prelude.{◌==◌, slice_get, slice_index}
 use Rattle.std.proofs.lemmas.Bool.{cases_Bool, cases_lt}
 use Rattle.std.proofs.lemmas.Bool.Decides.{eqb_tells}
@@ -17,13 +17,12 @@ use Rattle.brc_model.specs.Layout.{row_count}
 use Rattle.brc_model.specs.Duties.{address_of}
 use Rattle.brc_model.specs.Machine.{Machine, locked_by}
 use Rattle.brc_model.specs.Within.{IsThere}
-use Rattle.brc_model.specs.CountingLaws.{ComesNext, DutiesAreKept, DutiesAreWithin, AccountsAreThere, ChainsAreThere, HandedMergesLive}
+use Rattle.brc_model.specs.CountingLaws.{DutiesAreKept, DutiesAreWithin, AccountsAreThere, ChainsAreThere, HandedMergesLive}
 use Rattle.brc_model.specs.GuardLaws.{LockedCellsStay}
 use Rattle.brc_model.specs.SlotLaws.{SlotUse, Stays, Takes, Gives, use_of, UsesSlot, SlotsAreFree, SlotsAreKnown}
 use Rattle.brc_table.specs.declared.view.View.{View}
-use Rattle.brc_table.specs.Views.{actor_of, did, taken_after, RowsAreThere}
-use Rattle.brc_table.specs.Rule.{Stands}
-use Rattle.brc_table.specs.Homes.{resources, rows_of, held_in, times_taken, IsHome, HoldsHome, SlotsStand, TableStands}
+use Rattle.brc_table.specs.Views.{actor_of, did, taken_after}
+use Rattle.brc_table.specs.Homes.{resources, held_in, times_taken, IsHome, HoldsHome, TableStands}
 use Rattle.brc_table.specs.Begins.{Becomes}
 use Rattle.brc_table.specs.Uses.{first_use, first_due, held_after, Uses}
 use Rattle.brc_table.proofs.Stepping.{Does, read_of, relies}
@@ -95,88 +94,88 @@ module _ (kept : DutiesAreKept) (within : DutiesAreWithin) (law : AccountsAreThe
     (rest : List Duty) (index : ℕ) (becomes : Becomes layout v u) (next : IsNextAt u d rest index) (x : ℕ) where
   module _ {T : Type 0} (s : State (Option T) View) (holds : TableStands layout s.words s.homes s.views) (id : ℕ)
       (here : get_elem? s.views id ≡ some v) (takes_it : use_of d (read_of u d (slice_index s.words index)) ≡ Takes x)
-      where
-    abbrev it : Does layout s.words (set s.views id u) id u d rest
-    it = allowed.does kept within law chains stay live layout v u d rest index becomes next s holds id here
+    where
+      abbrev it : Does layout s.words (set s.views id u) id u d rest
+      it = allowed.does kept within law chains stay live layout v u d rest index becomes next s holds id here
 
-    abbrev m : Machine
-    m = holds.stands.machine
+      abbrev m : Machine
+      m = holds.stands.machine
 
-    abbrev k : Machine
-    k = it.stands.machine
+      abbrev k : Machine
+      k = it.stands.machine
 
-    abbrev found : ℕ
-    found = read_of u d (slice_index s.words index)
+      abbrev found : ℕ
+      found = read_of u d (slice_index s.words index)
 
-    pub finds_found : k.memory (address_of k.layout u.thread u.head d) ≡ found
-    finds_found =
-        allowed.finds_word kept within law chains stay live layout v u d rest index becomes next s holds id here
+      pub finds_found : k.memory (address_of k.layout u.thread u.head d) ≡ found
+      finds_found =
+          allowed.finds_word kept within law chains stay live layout v u d rest index becomes next s holds id here
 
-    -- Nobody uses the slot,
-    free_of : (z : View) → slice_get k.actors z.thread ≡ Some (actor_of z) → UsesSlot (actor_of z) x → ⊥
-    free_of z acts uses =
-        free it.stands.accounts (1 + k.layout.workers) k u.thread (actor_of u) d rest z.thread (actor_of z) x
-        it.stands.counts
-        (record { found = it.stands.acts id u it.here; agenda = next.agenda; alive = next.alive })
-        (ap (use_of d) finds_found ∙ takes_it) acts uses
+      -- Nobody uses the slot,
+      free_of : (z : View) → slice_get k.actors z.thread ≡ Some (actor_of z) → UsesSlot (actor_of z) x → ⊥
+      free_of z acts uses =
+          free it.stands.accounts (1 + k.layout.workers) k u.thread (actor_of u) d rest z.thread (actor_of z) x
+          it.stands.counts
+          (record { found = it.stands.acts id u it.here; agenda = next.agenda; alive = next.alive })
+          (ap (use_of d) finds_found ∙ takes_it) acts uses
 
-    uses_none : (other : ℕ) (z : View) → get_elem? s.views other ≡ some z → UsesSlot (actor_of z) x → ⊥
-    uses_none other z there uses = elim (eqb_tells other id) [
-      | inl this ↦
-          let mine : z ≡ v = some-injective z v (sym there ∙ (ap (get_elem? s.views) this.1 ∙ here)) in
-          free_of u (it.stands.acts id u it.here)
-          (becomes.slots.used x (subst (λ (w : View). UsesSlot (actor_of w) x) mine uses))
-      | inr apart ↦ free_of z (it.stands.acts other z (set_else s.views id other u apart.1 ∙ there)) uses
-    ]
+      uses_none : (other : ℕ) (z : View) → get_elem? s.views other ≡ some z → UsesSlot (actor_of z) x → ⊥
+      uses_none other z there uses = elim (eqb_tells other id) [
+        | inl this ↦
+            let mine : z ≡ v = some-injective z v (sym there ∙ (ap (get_elem? s.views) this.1 ∙ here)) in
+            free_of u (it.stands.acts id u it.here)
+            (becomes.slots.used x (subst (λ (w : View). UsesSlot (actor_of w) x) mine uses))
+        | inr apart ↦ free_of z (it.stands.acts other z (set_else s.views id other u apart.1 ∙ there)) uses
+      ]
 
-    -- so it is at home.
-    pub is_home : IsHome s.views x
-    is_home other z there = elim (cases_lt 0 (times_taken x z)) [
-      | inl some_times ↦
-          absurd (uses_none other z there (holds.slots.used other x z there (omega (arith, some_times))))
-      | inr not ↦ omega (arith, not)
-    ]
+      -- so it is at home.
+      pub is_home : IsHome s.views x
+      is_home other z there = elim (cases_lt 0 (times_taken x z)) [
+        | inl some_times ↦
+            absurd (uses_none other z there (holds.slots.used other x z there (omega (arith, some_times))))
+        | inr not ↦ omega (arith, not)
+      ]
 
-    row_low : x < row_count m.layout
-    row_low =
-        let relied = relies kept within stay layout s.words (set s.views id u) id u d rest it in
-        let same : k.layout ≡ m.layout = it.stands.layout_is ∙ sym holds.stands.layout_is in
-        subst (λ (l : Layout). x < row_count l) same
-        (taken_there k.layout u.thread u.head (row_count k.layout) (1 + k.layout.workers) d found x takes_it relied.there)
+      row_low : x < row_count m.layout
+      row_low =
+          let relied = relies kept within stay layout s.words (set s.views id u) id u d rest it in
+          let same : k.layout ≡ m.layout = it.stands.layout_is ∙ sym holds.stands.layout_is in
+          subst (λ (l : Layout). x < row_count l) same
+          (taken_there k.layout u.thread u.head (row_count k.layout) (1 + k.layout.workers) d found x takes_it relied.there)
 
-    pub slot_home : HoldsHome m s.homes x
-    slot_home = holds.slots.at_home x row_low is_home
+      pub slot_home : HoldsHome m s.homes x
+      slot_home = holds.slots.at_home x row_low is_home
 
-    -- The hand's turning to this duty has not changed it.
-    pub slot_then : k.memory (Slot x) ≡ m.memory (Slot x)
-    slot_then =
-        (allowed.first kept within law chains stay live layout v u d rest index becomes next s holds id here).slots x
-        (inl (is_home id v here))
+      -- The hand's turning to this duty has not changed it.
+      pub slot_then : k.memory (Slot x) ≡ m.memory (Slot x)
+      slot_then =
+          (allowed.first kept within law chains stay live layout v u d rest index becomes next s holds id here).slots x
+          (inl (is_home id v here))
 
-    module _ (f : ℕ → ℕ)
-        (leaves : allowed.Leaves kept within law chains stay live layout v u d rest index becomes next f)
-        (lock : (y : ℕ) → u.locked ≡ Some y → locked_by u.locked d found ≡ Some y)
-        (locks : (y : ℕ) → locked_by u.locked d found ≡ Some y
-        → ((y ≡ x) × (m.memory (Slot x) ≡ u.in_slot)) ⊎ ((v.locked ≡ Some y) × (u.in_slot ≡ v.in_slot))) where
-      -- The rule holds after the step.
-      pub stands_now : TableStands layout (set s.words index (f (slice_index s.words index))) (set s.homes x home.none)
-          (set s.views id (did u (d ∷ rest) found))
-      stands_now =
-          let now =
-          allowed.now kept within law chains stay live layout v u d rest index becomes next s holds id here f leaves in
-          record {
-            stands = now.stands;
-            slots =
-                slots_taken m now.stands.machine s.homes s.views id v (did u (d ∷ rest) found) holds.slots here
-                (allowed.layout_stays kept within law chains stay live layout v u d rest index becomes next s holds id
-                here f leaves) x
-                (ap (taken_after u.taken) takes_it ∙ ap (λ (rows : List ℕ). x ∷ rows) becomes.slots.taken) is_home
-                (used_now u d rest found x takes_it)
-                (λ y uses.
-                used_left u d rest found y next.agenda
-                (λ gives. let wrong : Takes x ≡ Gives y = sym takes_it ∙ gives in absurd cc) (lock y)
-                (becomes.slots.used y uses)) now.slots locks;
-          }
+      module _ (f : ℕ → ℕ)
+          (leaves : allowed.Leaves kept within law chains stay live layout v u d rest index becomes next f)
+          (lock : (y : ℕ) → u.locked ≡ Some y → locked_by u.locked d found ≡ Some y)
+          (locks : (y : ℕ) → locked_by u.locked d found ≡ Some y
+          → ((y ≡ x) × (m.memory (Slot x) ≡ u.in_slot)) ⊎ ((v.locked ≡ Some y) × (u.in_slot ≡ v.in_slot))) where
+        -- The rule holds after the step.
+        pub stands_now : TableStands layout (set s.words index (f (slice_index s.words index))) (set s.homes x home.none)
+            (set s.views id (did u (d ∷ rest) found))
+        stands_now =
+            let now =
+            allowed.now kept within law chains stay live layout v u d rest index becomes next s holds id here f leaves in
+            record {
+              stands = now.stands;
+              slots =
+                  slots_taken m now.stands.machine s.homes s.views id v (did u (d ∷ rest) found) holds.slots here
+                  (allowed.layout_stays kept within law chains stay live layout v u d rest index becomes next s holds id
+                  here f leaves) x
+                  (ap (taken_after u.taken) takes_it ∙ ap (λ (rows : List ℕ). x ∷ rows) becomes.slots.taken) is_home
+                  (used_now u d rest found x takes_it)
+                  (λ y uses.
+                  used_left u d rest found y next.agenda
+                  (λ gives. let wrong : Takes x ≡ Gives y = sym takes_it ∙ gives in absurd cc) (lock y)
+                  (becomes.slots.used y uses)) now.slots locks;
+            }
 
   -- A step is allowed whose duty takes the slot whatever it finds.
   pub takes_allows : {T : Type 0} (slots id : ℕ) (me : Me (Option T) View) (f : ℕ → ℕ) (begins : View → View)
@@ -211,16 +210,16 @@ module _ (kept : DutiesAreKept) (within : DutiesAreWithin) (law : AccountsAreThe
         now,
         goes word after
             (allowed.known kept within law chains stay live layout v u d rest index becomes next s holds id mine) (
-          ap (λ (ds : List Duty). did u ds found_now) (sym next.agenda)
-              ∙ ap (λ (z : View). did z z.agenda found_now) (sym is_u),
-          allowed.rows_now kept within law chains stay live layout v u d rest index becomes next s holds id mine f
-              leaves,
-          λ follows.
-              ap (λ (rows : List ℕ). x ∷ rows) (follows ∙ (ap (λ (z : View). z.taken) is_me ∙ sym becomes.slots.taken))
-              ∙ sym (ap (taken_after u.taken) takes_it),
-          ap (λ (n : ℕ). (x, n) ∷ held_in me.1) due
-              ∙ (sym (ap (λ (w : SlotUse). held_after (held_in me.1) w (first_due (d ∷ rest) found_now)) takes_it)
-              ∙ ap (λ (ds : List Duty). held_after (held_in me.1) (first_use ds found_now) (first_due ds found_now))
-              (sym next.agenda ∙ ap (λ (z : View). z.agenda) (sym is_u))),
-        ),
+              ap (λ (ds : List Duty). did u ds found_now) (sym next.agenda)
+                  ∙ ap (λ (z : View). did z z.agenda found_now) (sym is_u),
+              allowed.rows_now kept within law chains stay live layout v u d rest index becomes next s holds id mine f
+                  leaves,
+              λ follows.
+                  ap (λ (rows : List ℕ). x ∷ rows) (follows ∙ (ap (λ (z : View). z.taken) is_me ∙ sym becomes.slots.taken))
+                  ∙ sym (ap (taken_after u.taken) takes_it),
+              ap (λ (n : ℕ). (x, n) ∷ held_in me.1) due
+                  ∙ (sym (ap (λ (w : SlotUse). held_after (held_in me.1) w (first_due (d ∷ rest) found_now)) takes_it)
+                  ∙ ap (λ (ds : List Duty). held_after (held_in me.1) (first_use ds found_now) (first_due ds found_now))
+                  (sym next.agenda ∙ ap (λ (z : View). z.agenda) (sym is_u))),
+            ),
       )

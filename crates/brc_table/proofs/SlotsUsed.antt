@@ -1,13 +1,12 @@
 -- Which slots a hand uses after a duty of its own.
-use Rattle.std.proofs.Common.{◌≡◌, ℕ, zero, suc, ◌+◌, Bool, true, false, cond, Option, Some, List, [], ◌∷◌, ◌++◌, inl, inr, refl, sym, ap, ◌∙◌, subst}
+use Rattle.std.proofs.Common.{◌≡◌, ℕ, zero, suc, ◌+◌, Bool, true, false, cond, Option, Some, List, [], ◌∷◌, ◌++◌, inl, inr, refl, sym, ap, ◌∙◌}
 use Rattle.std.specs.Prelude.{◌==◌, ◌||◌, nat_lt}
 use Rattle.std.specs.List.{list_any}
 use Rattle.std.proofs.lemmas.Bool.{cases_Bool, eq-eqb, eqb-true}
 use Rattle.std.proofs.lemmas.List.Folds.{list_any-append}
 use Rattle.brc_word.specs.Words.{free_word}
 use Rattle.brc_model.specs.declared.duty.Duty.{Duty}
-use Rattle.brc_model.specs.declared.duty.Duty.TheVariants.{LockGate, UnlockGate, BirthKind, BirthSlot, BirthLocal, Settle, SettleKind, SettleCell, TakeSlot, CloseResource, SettleEnd, Scan, ReleaseLoad}
-use Rattle.brc_model.specs.declared.duty.Holding.TheVariants.{InFlight}
+use Rattle.brc_model.specs.declared.duty.Duty.TheVariants.{LockGate, UnlockGate, BirthKind, BirthSlot, BirthLocal, Settle, SettleKind, SettleCell, TakeSlot, CloseResource, SettleEnd, Scan}
 use Rattle.brc_model.specs.declared.layout.Layout.{Layout}
 use Rattle.brc_model.specs.Duties.{continuation, new_head, ready, has_resource, cells_of, cells_from, release_found}
 use Rattle.brc_model.specs.Machine.{is_running, locked_by}
@@ -99,7 +98,7 @@ lock_stays locked _ found stays = refl
 
 -- A hand that takes a slot uses it.
 takes_same : (x y : ℕ) → Takes y ≡ Takes x → y ≡ x
-takes_same x y is = let row : SlotUse → ℕ = λ u. elim u [ | Stays ↦ 0 | Takes z ↦ z | Gives z ↦ 0 ] in ap row is
+takes_same x y is = let row : SlotUse → ℕ = λ u. elim u [ Stays ↦ 0 | Takes z ↦ z | Gives z ↦ 0 ] in ap row is
 
 pub used_now : (v : View) (d : Duty) (rest : List Duty) (found x : ℕ) → use_of d found ≡ Takes x
     → UsesSlot (actor_of (did v (d ∷ rest) found)) x

@@ -163,7 +163,7 @@ module _ (kept : DutiesAreKept) (within : DutiesAreWithin) (law : AccountsAreThe
         refl,
         rows,
         ap (taken_after u.taken) (thread_stays u.layout u.thread u.head makes.duty index makes.address
-        (read_of u makes.duty found)) ∙ becoming.slots.taken,
+            (read_of u makes.duty found)) ∙ becoming.slots.taken,
       ))
 
   -- A store of a thread word is allowed.
@@ -194,5 +194,5 @@ module _ (kept : DutiesAreKept) (within : DutiesAreWithin) (law : AccountsAreThe
         refl,
         rows,
         ap (taken_after u.taken) (thread_stays u.layout u.thread u.head makes.duty index makes.address
-        (read_of u makes.duty found)) ∙ becoming.slots.taken,
+            (read_of u makes.duty found)) ∙ becoming.slots.taken,
       ))

@@ -1,23 +1,36 @@
 -- What is left when no thread shares a table any more.
-use Rattle.std.specs.Prelude.{◌≡◌, ◌≢◌, ◌⊎◌, ℕ, ◌+◌, ◌<◌, ◌≤◌, true, List, slice_index}
+use Rattle.std.specs.Prelude.{◌≡◌, ◌≢◌, ◌⊎◌, ℕ, ◌+◌, ◌<◌, ◌≤◌, true, ◌==◌, if◌then◌else◌, Option, List, map, slice_index}
 use mathlib.Core.Option.{some}
 use lib.ListN.{get_elem?}
 use Rattle.brc_word.specs.Words.{closed_word}
-use Rattle.brc_model.specs.declared.address.Address.TheVariants.{Gate, KindOf, Cell}
+use Rattle.brc_model.specs.declared.address.Address.TheVariants.{Gate, KindOf, Cell, Slot}
 use Rattle.brc_model.specs.declared.layout.Layout.{Layout}
+use Rattle.brc_model.specs.Duties.{resources_of}
 use Rattle.brc_model.specs.Layout.{row_count, IsCounted}
 use Rattle.brc_model.specs.Limits.{cell_limit}
+use Rattle.brc_model.specs.SlotLaws.{UsesSlot}
 use Rattle.brc_table.specs.declared.view.View.{View}
+use Rattle.brc_table.specs.Homes.{resources, times_taken, IsHome}
 use Rattle.brc_table.specs.Places.{place}
 use Rattle.brc_table.specs.Rule.{Stands}
 use Rattle.brc_table.specs.Seen.{has_seen_gone}
 use Rattle.brc_table.specs.Threads.{thread_word}
 use Rattle.brc_table.specs.Peeks.{NeverStarted}
+use Rattle.brc_table.specs.Views.{actor_of}
 
--- A closed table, as contracts see it: its size, and its last words.
+-- A closed table, as contracts see it: its size, its last words, and how many resources each row's slot holds.
 pub record EndState : Type 0 where
   pub layout : Layout
   pub words : List ℕ
+  pub slots : List ℕ
+
+-- how many resources each of these slots holds
+abbrev pub resources_in : {T : Type 0} → List (Option T) → List ℕ
+resources_in slots = map resources slots
+
+-- how many the row's slot holds
+abbrev pub slot_at : List ℕ → ℕ → ℕ
+slot_at slots x = slice_index slots x
 
 -- The table was closed with this hand: its last words meet the rule, beside this view and those of the other hands.
 pub record EndsWith (v : View) (end : EndState) : Type 0 where
@@ -25,6 +38,11 @@ pub record EndsWith (v : View) (end : EndState) : Type 0 where
   pub id : ℕ
   pub here : get_elem? views id ≡ some v
   pub stands : Stands end.layout end.words views
+  -- a slot that no hand has taken holds as many resources as the counting machine says
+  pub homes : (x : ℕ) → x < row_count end.layout → IsHome views x
+      → slot_at end.slots x ≡ stands.machine.memory (Slot x)
+  -- a hand that has taken a slot uses it
+  pub used : (other x : ℕ) (w : View) → get_elem? views other ≡ some w → 1 ≤ times_taken x w → UsesSlot (actor_of w) x
 
 -- ---- threads
 
@@ -80,3 +98,15 @@ pub record RowEnds (layout : Layout) (words : List ℕ) (x : ℕ) : Type 0 where
 abbrev pub RowsEnd : Type 0
 RowsEnd = (layout : Layout) (words : List ℕ) (views : List View) (x : ℕ) → Stands layout words views
     → HaveEnded layout words → IsCounted layout x → x < row_count layout → RowEnds layout words x
+
+-- ---- slots
+
+-- The row's slot is empty if the row is closed, and else it has the resource of the row's object, if the kind has one.
+abbrev pub SlotEnds : EndState → ℕ → Type 0
+SlotEnds end x =
+    slot_at end.slots x ≡ (if gate_at end.words x == closed_word then 0 else resources_of (kind_at end.words x))
+
+-- Once each thread is gone or was never started, this holds of each counted row.
+abbrev pub SlotsEnd : Type 0
+SlotsEnd = (v : View) (end : EndState) (x : ℕ) → EndsWith v end → HaveEnded end.layout end.words
+    → IsCounted end.layout x → x < row_count end.layout → SlotEnds end x

@@ -5,7 +5,8 @@ ghost use Rattle.brc_model.specs.Layout.{row_count};
 ghost use Rattle.brc_model.specs.Counting.{IsPlainLayout};
 ghost use Rattle.brc_model.specs.Limits.{cell_limit};
 ghost use Rattle.brc_table.specs.Hands.{IsOf};
-ghost use Rattle.brc_table.specs.Ending.{EndsWith, kind_at, gate_at, cell_at};
+ghost use Rattle.brc_table.specs.Ending.{EndsWith, kind_at, gate_at, cell_at, slot_at};
+ghost use Rattle.brc_table.specs.Homes.{resources};
 
 use crate::hand::Hand;
 use crate::place::{GATE, KIND, in_cell, in_line};
@@ -26,16 +27,22 @@ impl<T: Drop> Model for Closed<T> {
     ghost use Rattle.std.specs.Prelude.{◌≡◌};
     ghost use Rattle.std.specs.Slots.{slots_items, slots_len, IsFull};
     ghost use Rattle.brc_model.specs.Counting.{IsPlainLayout};
+    ghost use Rattle.brc_model.specs.Layout.{row_count};
     ghost use Rattle.brc_table.specs.Places.{word_count};
-    ghost use Rattle.brc_table.specs.Ending.{EndState, CellsNameRows};
+    ghost use Rattle.brc_table.specs.Ending.{EndState, CellsNameRows, resources_in};
 
     ghost Value = { EndState };
 
-    ghost view = { λ c. record { layout = c.layout; words = slots_items c.table.words } };
+    ghost view = { λ c. record {
+      layout = c.layout;
+      words = slots_items c.table.words;
+      slots = resources_in (slots_items c.table.slots);
+    } };
 
     ghost invariant = { λ c. IsFull c.table.words × IsFull c.table.slots
         × (slots_len c.table.words ≡ word_count c.layout) × IsPlainLayout c.layout
-        × CellsNameRows c.layout (slots_items c.table.words) };
+        × CellsNameRows c.layout (slots_items c.table.words)
+        × (slots_len c.table.slots ≡ row_count c.layout) };
 }
 
 impl<T: Drop> Words<T> {
@@ -104,6 +111,14 @@ impl<T: Drop> Closed<T> {
         ensures names { result ≤ row_count self.now.layout }
     {
         self.table.word(in_cell(row, cell))
+    }
+
+    /// Returns the resource in the row's slot, or `None` if the slot is empty.
+    pub fn slot(&self, row: u32) -> Option<&T>
+        requires there { row < row_count self.now.layout }
+        ensures { resources result ≡ slot_at self.now.slots row }
+    {
+        self.table.slots.get(row as usize).as_ref()
     }
 }
 

@@ -42,10 +42,10 @@ impl<T> Model for Hand<T> {
     ghost Value = { HandState };
 
     ghost view = { λ h. record {
-        table = h.seat.table_id;
-        view = h.seat.me.0;
-        carried = h.carried.value;
-        slots = held_in h.seat.me.1;
+      table = h.seat.table_id;
+      view = h.seat.me.0;
+      carried = h.carried.value;
+      slots = held_in h.seat.me.1;
     } };
 
     ghost invariant = { λ h. (rows_of h.seat.me.1 ≡ h.seat.me.0.taken)

@@ -6,12 +6,12 @@ ghost use Rattle.brc_model.specs.Layout.{row_count, IsCounted};
 ghost use Rattle.brc_table.specs.declared.view.View.{View};
 ghost use Rattle.brc_table.specs.Rule.{Stands};
 ghost use Rattle.brc_table.specs.Agreeing.{AgreesInTable};
-ghost use Rattle.brc_table.specs.Ending.{RowsEnd, SeenEndsAreSo};
+ghost use Rattle.brc_table.specs.Ending.{RowsEnd, SeenEndsAreSo, SlotsEnd};
 ghost use Rattle.brc_table.specs.Guarding.{SetMarksAreWatched, OnlyHoldersChangeCells, OnlyRunningOwnersCount, GoneHandsHoldNothing, HandsAreStarted};
 
 use brc_model::{
     cells_are_guarded, cells_hold, counts_agree, gone_threads_hold_nothing, owners_count_alone,
-    queued_marks_are_watched, rows_end,
+    queued_marks_are_watched, rows_end, slots_end,
 };
 
 /// States that in each table, between any two steps of any threads, the counts of every counted object add up to the
@@ -71,3 +71,12 @@ pub fn rows_end_in_every_table()
 pub fn seen_ends_are_so()
     ensures { SeenEndsAreSo }
 {}
+
+/// States that once each thread is gone or was never started, the slot of a closed object is empty, and that of each
+/// other row has its object's resource, if its kind has one.
+pub fn slots_end_in_every_table()
+    ensures { SlotsEnd }
+{
+    slots_end();
+    gone_threads_hold_nothing();
+}

@@ -24,4 +24,6 @@ returns-clause-ended g c =
       threads = ended;
       rows = λ x counted there.
           c.rows_end_in_every_table.ensures end.layout end.words ends.views x ends.stands ended counted there;
+      slots = λ x counted there.
+          c.slots_end_in_every_table.ensures c.loop-thread.main.view end x ends ended counted there;
     }

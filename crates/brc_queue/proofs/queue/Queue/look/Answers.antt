@@ -1,7 +1,8 @@
 use Rattle.std.proofs.Common.{sym, subst}
 use Rattle.brc_heap.specs.Calls.{Leaves}
-use Rattle.brc_queue.specs.declared.queue.Looked.{Looked}
-use Rattle.brc_queue.specs.Calls.{look_answer, look_left}
+use Rattle.brc_heap.specs.declared.marker.Looked.{Looked}
+use Rattle.brc_heap.specs.Marks.{look_answer}
+use Rattle.brc_queue.specs.Calls.{look_left}
 use Rattle.brc_queue.proofs.Posting.{look_leaves}
 use Rattle.brc_queue.proofs.queue.Queue.look.Goals as goal
 

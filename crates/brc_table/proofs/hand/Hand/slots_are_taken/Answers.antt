@@ -1,4 +1,4 @@
-use Rattle.std.proofs.Common.{◌≡◌, ℕ, List, ap, sym, ◌∙◌}
+use Rattle.std.proofs.Common.{ap, sym, ◌∙◌}
 use Rattle.brc_table.specs.Hands.{HandState}
 use Rattle.brc_table.specs.Uses.{slot_rows}
 use Rattle.brc_table.proofs.SlotLists.{rows_are}

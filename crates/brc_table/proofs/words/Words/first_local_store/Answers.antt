@@ -1,4 +1,4 @@
-use Rattle.std.proofs.Common.{◌≡◌, ℕ, ◌+◌, ◌<◌, ◌≤◌, List, refl, sym, ap, ◌∙◌, subst, arith}
+use Rattle.std.proofs.Common.{◌≡◌, ℕ, ◌<◌, refl, ap, ◌∙◌, subst, arith}
 use Rattle.brc_word.specs.Words.{local_word}
 use Rattle.brc_table.specs.Hands.{HandState}
 use Rattle.brc_model.specs.declared.layout.Layout.{Layout}

@@ -1,4 +1,4 @@
-use Rattle.std.proofs.Common.{◌≡◌, ℕ, List, sym, ap, ◌∙◌, subst}
+use Rattle.std.proofs.Common.{ℕ, List, sym, ap, ◌∙◌, subst}
 use Rattle.brc_table.specs.Hands.{TableState, HandState}
 use Rattle.brc_table.specs.Uses.{FirstSlot}
 use Rattle.brc_table.proofs.SlotLists.{first_is}
