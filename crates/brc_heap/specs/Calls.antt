@@ -11,7 +11,7 @@ use Rattle.brc_model.specs.declared.duty.Reason.{Reason}
 use Rattle.brc_model.specs.declared.duty.Reason.TheVariants.{Own}
 use Rattle.brc_model.specs.declared.duty.Duty.TheVariants.{DecideAtZero, SharedLoad, SetMark, MergeSwap, MergeLoad, Die}
 use Rattle.brc_model.specs.Kinds.{kind_number}
-use Rattle.brc_model.specs.Duties.{counts_locally, once_merged}
+use Rattle.brc_model.specs.Duties.{counts_locally, once_merged, resources_of}
 use Rattle.brc_model.specs.Machine.{is_running}
 use Rattle.brc_model.specs.OpenWork.{is_about}
 use Rattle.brc_model.specs.declared.layout.Layout.{Layout}
@@ -140,11 +140,13 @@ pub record KeepsSight (x : ℕ) (v u : View) : Type 0 where
 
 -- ---- kinds
 
--- The hand has loaded the row's kind word. It is the word that the hand has seen there before, if it has.
+-- The hand has loaded the row's kind word. It is the word that the hand has seen there before, if it has. If the hand
+-- has locked the object, and has lent no resource, the word tells whether the object's slot has one.
 pub record SeesKind (x word : ℕ) (v u : View) : Type 0 where
   pub view_is : u ≡ done (asking v x) word
   pub seen : has_seen_kind x word u ≡ true
   pub stays : (before : ℕ) → 0 < before → has_seen_kind x before v ≡ true → word ≡ before
+  pub slot : v.locked ≡ Some x → v.lent ≡ None → v.in_slot ≡ resources_of word
 
 -- ---- births
 

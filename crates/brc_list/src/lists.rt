@@ -2,7 +2,7 @@
 
 ghost use Rattle.std.specs.Prelude.{◌≡◌, ◌<◌, ◌==◌, if◌then◌else◌, ℕ, true, None, Some, ◌∷◌, length};
 ghost use Rattle.brc_word.specs.Words.{free_word};
-ghost use Rattle.brc_model.specs.Duties.{cells_of};
+ghost use Rattle.brc_model.specs.Duties.{cells_of, resources_of};
 ghost use Rattle.brc_model.specs.Layout.{IsCounted};
 ghost use Rattle.brc_table.specs.Views.{done, asking, locking, unlocking};
 ghost use Rattle.brc_table.specs.Plays.{overwritten};
@@ -45,7 +45,8 @@ impl<'h, T: Drop> Lists<'h, T> {
     }
 
     /// Tries once to lock a list to which the hand holds a reference, as it has locked none. Returns whether the hand
-    /// has locked it: not if another thread has locked it just now. The hand then has the list's slot too.
+    /// has locked it: not if another thread has locked it just now. The hand then has the list's slot too. If it has seen
+    /// the object's kind, and has lent no resource, it knows whether the slot has one.
     pub fn try_lock(&self, hand: &mut Hand<T>, row: u32) -> bool
         requires table { IsOf self.now hand.old }
         requires running { IsRunning hand.old.view }
@@ -56,6 +57,8 @@ impl<'h, T: Drop> Lists<'h, T> {
         ensures table { IsOf self.now hand.new }
         ensures carried { hand.new.carried ≡ hand.old.carried }
         ensures slots { hand.new.slots ≡ (if result then (row, hand.new.view.in_slot) ∷ hand.old.slots else hand.old.slots) }
+        ensures kind { (word : ℕ) → result ≡ true → hand.old.view.lent ≡ None → 0 < word
+            → has_seen_kind row word hand.old.view ≡ true → hand.new.view.in_slot ≡ resources_of word }
         ensures events { (found : ℕ) × (hand.new.view ≡ done (locking hand.old.view row hand.new.view.in_slot) found)
             × (result ≡ (found == free_word)) }
         ensures locked { hand.new.view.locked ≡ (if result then Some row else None) }

@@ -1,7 +1,7 @@
 -- Which thread uses a row's slot alone. A running thread takes the slot out of the table that threads share, uses it with
 -- plain reads and writes, and gives it back: it does so while it has locked the row, while it gives birth to the row's
 -- object, and while it deallocates the object.
-use Rattle.std.specs.Prelude.{◌≡◌, ◌≢◌, ◌⊎◌, ℕ, Bool, true, false, ◌==◌, if◌then◌else◌, List, Some, slice_get}
+use Rattle.std.specs.Prelude.{◌≡◌, ◌≢◌, ◌⊎◌, ℕ, Bool, true, false, ◌==◌, if◌then◌else◌, List, None, Some, slice_get}
 use Rattle.std.specs.List.{list_any}
 use Rattle.brc_word.specs.Words.{free_word, closed_word}
 use Rattle.brc_model.specs.declared.duty.Holding.{Holding}
@@ -91,6 +91,13 @@ pub record SlotsAreKnown : Type 0 where
   -- at the end of that the slot is empty
   pub closing : (p : Accounts) (n : ℕ) (m : Machine) (t : ℕ) (a : Actor) (x : ℕ) (rest : List Duty)
       → Counts p n m → ComesNext m t a (SettleEnd x) rest → m.memory (Slot x) ≡ 0
+
+-- The slot of an object that a thread has locked has the object's resource, if its kind has one, unless the thread has
+-- lent it.
+abbrev pub LockedSlotsAreFull : Type 0
+LockedSlotsAreFull =
+    (p : Accounts) (n : ℕ) (m : Machine) (t : ℕ) (a : Actor) (x : ℕ) → Counts p n m → slice_get m.actors t ≡ Some a
+    → a.locked ≡ Some x → a.lent ≡ None → m.memory (Slot x) ≡ resources_of (m.memory (KindOf x))
 
 -- At the end a slot has its row's resource, unless the row is closed.
 abbrev pub SlotsEnd : Type 0

@@ -58,7 +58,8 @@ pub use row_laws::{
 pub use rule_laws::steps_go_by_rules;
 pub use slot::{Exit, Slot, State};
 pub use slot_laws::{
-    given_slots_are_unlocked, needed_slots_are_unlocked, slots_are_free, slots_are_known, slots_end,
+    given_slots_are_unlocked, locked_slots_are_full, needed_slots_are_unlocked, slots_are_free,
+    slots_are_known, slots_end,
 };
 pub use thread::{Call, Choice};
 pub use work_laws::{

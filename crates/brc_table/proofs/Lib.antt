@@ -19,6 +19,7 @@ mod Duties
 mod MarkDuties
 mod KindLoads
 mod Locking
+mod LockedSlots
 mod SlotSteps
 mod Swapping
 mod Starting

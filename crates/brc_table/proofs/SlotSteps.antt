@@ -1,10 +1,10 @@
 -- What a table asks of a step that takes a slot or gives one back: whatever the table's words are, the hand can go on,
 -- and the rule holds again.
-use Rattle.std.proofs.Common.{◌≡◌, ◌≢◌, ℕ, ◌<◌, Bool, true, cond, Option, None, Some, List, [], ◌∷◌, set, inl, inr, refl, sym, ap, ◌∙◌, subst}
+use Rattle.std.proofs.Common.{◌≡◌, ℕ, Bool, true, cond, Option, None, Some, List, [], ◌∷◌, set, inl, inr, refl, sym, ap, ◌∙◌, subst}
 use Rattle.std.specs.Prelude.{◌==◌, slice_index}
-use Rattle.std.proofs.lemmas.Bool.{cases_Bool}
+use Rattle.std.proofs.lemmas.Bool.{cases_Bool, eq-eqb, false≢true}
+use mathlib.Core.Option as home
 use mathlib.Core.Option.{some}
-use lib.ListN.{get_elem?}
 use prog.Atomic.{either}
 use Rattle.atomic_table.specs.Table.{State, keeps, takes, Me, Allows}
 use Rattle.brc_word.specs.Words.{free_word, locked_word}
@@ -14,21 +14,22 @@ use Rattle.brc_model.specs.declared.duty.Duty.TheVariants.{LockGate}
 use Rattle.brc_model.specs.declared.layout.Layout.{Layout}
 use Rattle.brc_model.specs.Layout.{IsCounted}
 use Rattle.brc_model.specs.Duties.{new_word}
-use Rattle.brc_model.specs.Machine.{locked_by}
 use Rattle.brc_model.specs.CountingLaws.{WorkIsPutAside, LocksBegin, ImmortalsAreFree, DutiesAreKept, DutiesAreWithin, AccountsAreThere, ChainsAreThere, HandedMergesLive}
 use Rattle.brc_model.specs.GuardLaws.{LockedCellsStay}
-use Rattle.brc_model.specs.SlotLaws.{SlotUse, Stays, Takes, Gives, use_of, GivenSlotsAreUnlocked, SlotsAreFree, SlotsAreKnown}
+use Rattle.brc_model.specs.SlotLaws.{Stays, Takes, Gives, use_of, GivenSlotsAreUnlocked, LockedSlotsAreFull, SlotsAreFree, SlotsAreKnown}
 use Rattle.brc_table.specs.declared.view.View.{View}
-use Rattle.brc_table.specs.Views.{RowsAreThere, done, did, taken_after, locking}
+use Rattle.brc_table.specs.Views.{done, did, taken_after, locking}
+use Rattle.brc_table.specs.Seen.{has_seen_kind}
 use Rattle.brc_table.specs.Places.{in_tile}
 use Rattle.brc_table.specs.Hands.{TableState, HandState, HoldsOne, HasNoWork, IsRunning}
-use Rattle.brc_table.specs.Homes.{resources, rows_of, held_in, TableStands}
-use Rattle.brc_table.specs.Plays.{overwritten}
+use Rattle.brc_table.specs.Homes.{rows_of, held_in, TableStands}
 use Rattle.brc_table.specs.Begins.{Becomes, IsAt, MakesWithSlot, StoresWithSlot}
-use Rattle.brc_table.specs.Uses.{FirstSlot, IsDue, Follows, Uses, UsesStored, Locks}
-use Rattle.brc_table.proofs.Stepping.{read_of, object_reads}
+use Rattle.brc_table.specs.Uses.{FirstSlot, IsDue, Uses, UsesStored, Locks}
+use Rattle.brc_table.proofs.Lists.{set_view}
+use Rattle.brc_table.proofs.Stepping.{read_of}
 use Rattle.brc_table.proofs.Duties.{runs_on, either_is}
 use Rattle.brc_table.proofs.Locking.{locking_becomes}
+use Rattle.brc_table.proofs.LockedSlots.{still_seen, slot_seen}
 use Rattle.brc_table.proofs.Allowed as allowed
 use Rattle.brc_table.proofs.Allowed.{Knows, IsNextAt, Seen, object_next}
 use Rattle.brc_table.proofs.SlotsTaken as taken
@@ -132,8 +133,8 @@ module _ (kept : DutiesAreKept) (within : DutiesAreWithin) (law : AccountsAreThe
   -- ---- trying to lock
 
   module _ (put : WorkIsPutAside) (locks_begin : LocksBegin) (immortals : ImmortalsAreFree) (free : SlotsAreFree)
-      (layout : Layout) (v : View) (x gate : ℕ) (running : IsRunning v) (counted : IsCounted v.layout x)
-      (idle : HasNoWork v x) (holding : HoldsOne v x) (unlocked : v.locked ≡ None)
+      (full : LockedSlotsAreFull) (layout : Layout) (v : View) (x gate : ℕ) (running : IsRunning v)
+      (counted : IsCounted v.layout x) (idle : HasNoWork v x) (holding : HoldsOne v x) (unlocked : v.locked ≡ None)
       (names : gate ≡ locked_word v.thread) where
     abbrev f : ℕ → ℕ
     f found = either (found == free_word) gate found
@@ -180,13 +181,21 @@ module _ (kept : DutiesAreKept) (within : DutiesAreWithin) (law : AccountsAreThe
                 takes x slot.slot,
                 slot.there,
                 now,
-                (ap (λ (z : View). done (locking z x n) word) (sym is_me),
-                rows,
-                λ follows.
-                    ap (λ (l : List ℕ). x ∷ l) (follows ∙ ap (λ (z : View). z.taken) is_me)
-                    ∙ sym (ap (taken_after u.taken) takes_it),
-                ap (λ (k : ℕ). (x, k) ∷ held_in me.1) slot.holds
-                    ∙ sym (ap (λ (b : Bool). cond b ((x, n) ∷ held_in me.1) (held_in me.1)) is_free)),
+                (
+                  ap (λ (z : View). done (locking z x n) word) (sym is_me),
+                  rows,
+                  λ follows.
+                      ap (λ (l : List ℕ). x ∷ l) (follows ∙ ap (λ (z : View). z.taken) is_me)
+                      ∙ sym (ap (taken_after u.taken) takes_it),
+                  ap (λ (k : ℕ). (x, k) ∷ held_in me.1) slot.holds
+                      ∙ sym (ap (λ (b : Bool). cond b ((x, n) ∷ held_in me.1) (held_in me.1)) is_free),
+                  λ kind found_free unlent more seen.
+                      slot_seen full layout (set s.words index (f word)) (set s.homes x home.none) (set s.views id w)
+                      now id x w (set_view s.views id v w mine) (ap (λ (b : Bool). cond b (Some x) v.locked) is_free)
+                      (sym (ap (λ (z : View). z.lent) is_me) ∙ unlent) kind more
+                      (still_seen x kind u (LockGate x) [] word
+                      (subst (λ (z : View). has_seen_kind x kind z ≡ true) is_me seen)),
+                ),
               )
           | inr other ↦
               let stays : use_of (LockGate x) word ≡ Stays = ap (λ (b : Bool). cond b (Takes x) Stays) other in
@@ -202,10 +211,14 @@ module _ (kept : DutiesAreKept) (within : DutiesAreWithin) (law : AccountsAreThe
                       allowed.slots_now kept within law chains stay live layout v u (LockGate x) [] index becomes next s
                       holds id mine f leaves stays;
                 },
-                (ap (λ (z : View). done (locking z x n) word) (sym is_me),
-                rows,
-                λ follows.
-                    follows ∙ (ap (λ (z : View). z.taken) is_me ∙ sym (ap (taken_after u.taken) stays)),
-                sym (ap (λ (b : Bool). cond b ((x, n) ∷ held_in me.1) (held_in me.1)) other)),
+                (
+                  ap (λ (z : View). done (locking z x n) word) (sym is_me),
+                  rows,
+                  λ follows.
+                      follows ∙ (ap (λ (z : View). z.taken) is_me ∙ sym (ap (taken_after u.taken) stays)),
+                  sym (ap (λ (b : Bool). cond b ((x, n) ∷ held_in me.1) (held_in me.1)) other),
+                  λ kind found_free unlent more seen.
+                      absurd (false≢true (sym other ∙ eq-eqb word free_word found_free)),
+                ),
               )
         ]

@@ -1,20 +1,28 @@
 //! The step by which a hand asks for the kind of an object that it holds (Python/C API manual, Common Object
 //! Structures: `Py_IS_TYPE`).
 
-ghost use Rattle.std.specs.Prelude.{◌≡◌, ◌<◌, ℕ, true};
+ghost use Rattle.std.specs.Prelude.{◌≡◌, ◌<◌, ℕ, true, None, Some};
+ghost use Rattle.brc_model.specs.Duties.{resources_of};
+ghost use Rattle.brc_model.specs.Layout.{row_count};
 ghost use Rattle.brc_table.specs.Views.{done, asking};
 ghost use Rattle.brc_table.specs.Seen.{has_seen_kind};
 ghost use Rattle.brc_table.specs.Hands.{IsOf, IsRunning, HoldsOne, HasNoWork};
 
 use crate::hand::Hand;
-use crate::place::KIND;
+use crate::place::{KIND, in_line};
+use crate::rule::{Asked, OfRow};
 use crate::words::Words;
-use brc_model::{immortals_are_free, kinds_are_asked, work_is_put_aside};
+use brc_model::{
+    accounts_are_there, chains_are_there, duties_are_kept, duties_are_within, handed_merges_live,
+    immortals_are_free, kinds_are_asked, locked_cells_stay, locked_slots_are_full,
+    work_is_put_aside,
+};
 use std::marker::Brand;
 
 impl<T: Drop> Words<T> {
     /// Asks for the kind of an object that the hand holds: loads its kind word, which its birth stored. The word is the
-    /// one that the hand has seen there before, if it has.
+    /// one that the hand has seen there before, if it has. If the hand has locked the object, and has lent no resource,
+    /// the kind tells whether the object's slot has one.
     pub fn kind_load(&self, hand: &mut Hand<T>, row: u32) -> u64
         requires table { IsOf self.now hand.old }
         requires running { IsRunning hand.old.view }
@@ -25,12 +33,41 @@ impl<T: Drop> Words<T> {
         ensures slots { hand.new.slots ≡ hand.old.slots }
         ensures view { hand.new.view ≡ done (asking hand.old.view row) result }
         ensures stays { (word : ℕ) → 0 < word → has_seen_kind row word hand.old.view ≡ true → result ≡ word }
+        ensures slot { hand.old.view.locked ≡ Some row → hand.old.view.lent ≡ None
+            → hand.old.view.in_slot ≡ resources_of result }
+    {
+        self.layout_is_plain();
+        hand.rows_are_there();
+        self.load_kind::<Brand>(hand, row)
+    }
+
+    /// Loads the kind word of the row that the type names.
+    fn load_kind<R: OfRow>(&self, hand: &mut Hand<T>, row: u32) -> u64
+        requires row { row ≡ R.target }
+        requires table { IsOf self.now hand.old }
+        requires running { IsRunning hand.old.view }
+        requires held { HoldsOne hand.old.view row }
+        requires idle { HasNoWork hand.old.view row }
+        requires there { row < row_count self.now.layout }
+        ensures table { hand.new.table ≡ hand.old.table }
+        ensures carried { hand.new.carried ≡ hand.old.carried }
+        ensures slots { hand.new.slots ≡ hand.old.slots }
+        ensures view { hand.new.view ≡ done (asking hand.old.view row) result }
+        ensures stays { (word : ℕ) → 0 < word → has_seen_kind row word hand.old.view ≡ true → result ≡ word }
+        ensures slot { hand.old.view.locked ≡ Some row → hand.old.view.lent ≡ None
+            → hand.old.view.in_slot ≡ resources_of result }
     {
         work_is_put_aside();
         kinds_are_asked();
         immortals_are_free();
-        self.layout_is_plain();
-        hand.rows_are_there();
-        self.load::<Brand>(hand, KIND, row)
+        duties_are_kept();
+        duties_are_within();
+        accounts_are_there();
+        chains_are_there();
+        locked_cells_stay();
+        handed_merges_live();
+        locked_slots_are_full();
+        let index = in_line(KIND, row);
+        self.table.shared.load::<Asked<R>>(&mut hand.seat, index)
     }
 }

@@ -1,10 +1,12 @@
 //! The steps by which a hand enters and leaves the critical section of an object (Python/C API manual, Python Critical
 //! Section API). The gate of an object says whether it is free, or which thread has locked it.
 
-ghost use Rattle.std.specs.Prelude.{◌≡◌, ◌==◌, None, Some, ◌∷◌, if◌then◌else◌};
+ghost use Rattle.std.specs.Prelude.{◌≡◌, ◌<◌, ◌==◌, ℕ, true, None, Some, ◌∷◌, if◌then◌else◌};
 ghost use Rattle.brc_word.specs.Words.{free_word};
+ghost use Rattle.brc_model.specs.Duties.{resources_of};
 ghost use Rattle.brc_model.specs.Layout.{IsCounted};
 ghost use Rattle.brc_table.specs.Views.{done, locking, unlocking};
+ghost use Rattle.brc_table.specs.Seen.{has_seen_kind};
 ghost use Rattle.brc_table.specs.Plays.{overwritten};
 ghost use Rattle.brc_table.specs.Uses.{FirstSlot, behind_slot};
 ghost use Rattle.brc_table.specs.Hands.{IsOf, IsRunning, HoldsOne, HasNoWork, HasNoRetain};
@@ -21,7 +23,8 @@ const FREE: u64 = 1;
 
 impl<T: Drop> Words<T> {
     /// Tries once to lock an object that the hand holds: exchanges its gate, if it is free, for one that names the
-    /// hand's thread, and takes the object's slot with it. Returns the gate found, 1 if it was free.
+    /// hand's thread, and takes the object's slot with it. Returns the gate found, 1 if it was free. If the hand has
+    /// seen the object's kind, and has lent no resource, it knows whether the slot has one.
     pub fn gate_lock(&self, hand: &mut Hand<T>, row: u32) -> u64
         requires table { IsOf self.now hand.old }
         requires running { IsRunning hand.old.view }
@@ -33,6 +36,8 @@ impl<T: Drop> Words<T> {
         ensures carried { hand.new.carried ≡ hand.old.carried }
         ensures view { hand.new.view ≡ done (locking hand.old.view row hand.new.view.in_slot) result }
         ensures slots { hand.new.slots ≡ (if result == free_word then (row, hand.new.view.in_slot) ∷ hand.old.slots else hand.old.slots) }
+        ensures kind { (word : ℕ) → result ≡ free_word → hand.old.view.lent ≡ None → 0 < word
+            → has_seen_kind row word hand.old.view ≡ true → hand.new.view.in_slot ≡ resources_of word }
     {
         self.layout_is_plain();
         hand.rows_are_there();

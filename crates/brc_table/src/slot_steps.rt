@@ -1,13 +1,15 @@
 //! One atomic step of a hand that takes a row's slot out of the table, or gives it back. While a slot is out, only its
 //! hand reads and writes it, by plain reads and writes.
 
-ghost use Rattle.std.specs.Prelude.{◌≡◌, ◌<◌, ◌==◌, None, ℕ, ◌∷◌, if◌then◌else◌};
+ghost use Rattle.std.specs.Prelude.{◌≡◌, ◌<◌, ◌==◌, None, ℕ, true, ◌∷◌, if◌then◌else◌};
 ghost use prog.Atomic.{either};
 ghost use Rattle.brc_word.specs.Words.{free_word, locked_word};
+ghost use Rattle.brc_model.specs.Duties.{resources_of};
 ghost use Rattle.brc_model.specs.Layout.{row_count, IsCounted};
 ghost use Rattle.brc_model.specs.SlotLaws.{Takes, Gives};
 ghost use Rattle.brc_table.specs.Places.{in_tile};
 ghost use Rattle.brc_table.specs.Views.{done, locking};
+ghost use Rattle.brc_table.specs.Seen.{has_seen_kind};
 ghost use Rattle.brc_table.specs.Plays.{overwritten};
 ghost use Rattle.brc_table.specs.Hands.{IsOf, IsRunning, HoldsOne, HasNoWork};
 ghost use Rattle.brc_table.specs.Begins.{Becomes, KeepsThread, MakesWithSlot, StoresWithSlot};
@@ -20,7 +22,7 @@ use crate::words::Words;
 use brc_model::{
     accounts_are_there, chains_are_there, duties_are_kept, duties_are_within,
     given_slots_are_unlocked, handed_merges_live, immortals_are_free, locked_cells_stay,
-    locks_begin, slots_are_free, slots_are_known, work_is_put_aside,
+    locked_slots_are_full, locks_begin, slots_are_free, slots_are_known, work_is_put_aside,
 };
 
 /// The gate of an object that no thread has locked.
@@ -28,7 +30,8 @@ const FREE: u64 = 1;
 
 impl<T: Drop> Words<T> {
     /// Tries to lock the row that the type names: exchanges its gate, if it is free, for one that names the hand's thread,
-    /// and then takes the row's slot. Returns the gate found.
+    /// and then takes the row's slot. Returns the gate found. If the hand has seen the object's kind, and has lent no
+    /// resource, it knows whether the slot has one.
     pub(crate) fn lock_gate<R: OfRow>(&self, hand: &mut Hand<T>, row: u32, gate: u64) -> u64
         requires row { row ≡ R.target }
         requires table { IsOf self.now hand.old }
@@ -43,6 +46,8 @@ impl<T: Drop> Words<T> {
         ensures carried { hand.new.carried ≡ hand.old.carried }
         ensures view { hand.new.view ≡ done (locking hand.old.view row hand.new.view.in_slot) result }
         ensures slots { hand.new.slots ≡ (if result == free_word then (row, hand.new.view.in_slot) ∷ hand.old.slots else hand.old.slots) }
+        ensures kind { (word : ℕ) → result ≡ free_word → hand.old.view.lent ≡ None → 0 < word
+            → has_seen_kind row word hand.old.view ≡ true → hand.new.view.in_slot ≡ resources_of word }
     {
         work_is_put_aside();
         locks_begin();
@@ -54,6 +59,7 @@ impl<T: Drop> Words<T> {
         locked_cells_stay();
         handed_merges_live();
         slots_are_free();
+        locked_slots_are_full();
         let index = in_line(GATE, row);
         self.table
             .shared
@@ -116,7 +122,9 @@ impl<T: Drop> Words<T> {
         given_slots_are_unlocked();
         slots_are_known();
         let index = in_line(line, row);
-        self.table.shared.swap::<Used<B>>(&mut hand.seat, index, new)
+        self.table
+            .shared
+            .swap::<Used<B>>(&mut hand.seat, index, new)
     }
 
     /// Stores a word, and takes the row's slot. `head` and `used` are those of the thread after the step.

@@ -1,6 +1,7 @@
 -- What a slot holds: nothing before its row is born, the object's resource at the end of the birth and where the thread
--- begins to deallocate the object, and nothing at the end of that. At the end of all threads each slot holds its row's
--- resource, unless the row is closed.
+-- begins to deallocate the object, and nothing at the end of that. While a thread has locked the object, the resource
+-- is there too, unless the thread has lent it. At the end of all threads each slot holds its row's resource, unless the
+-- row is closed.
 use Rattle.std.proofs.Common.{◌≡◌, ◌≢◌, ℕ, Bool, cond, List, inl, inr, None, Some, refl, sym, ap, ◌∙◌, subst, arith}
 use Rattle.std.specs.Prelude.{◌==◌, slice_get}
 use Rattle.std.proofs.lemmas.Bool.{eq-eqb}
@@ -20,12 +21,12 @@ use Rattle.brc_model.specs.Resources.{lends, lenders, closing, ending, resources
 use Rattle.brc_model.specs.Invariant.{CoreInvariant, AtDuty}
 use Rattle.brc_model.specs.Counting.{Counts}
 use Rattle.brc_model.specs.Ending.{HaveEnded}
-use Rattle.brc_model.specs.SlotLaws.{SlotsAreKnown, SlotsEnd}
+use Rattle.brc_model.specs.SlotLaws.{LockedSlotsAreFull, SlotsAreKnown, SlotsEnd}
 use Rattle.brc_model.proofs.Basics.Blocks.{next_block, next_index}
-use Rattle.brc_model.proofs.Frame.Leaves.{head_of}
+use Rattle.brc_model.proofs.Frame.Leaves.{head_of, locked_alive}
 use Rattle.brc_model.proofs.Objects.BlanksAfter.{blanks_here}
 use Rattle.brc_model.proofs.Objects.Finalisers.{unfinalised, finalised_alone}
-use Rattle.brc_model.proofs.Objects.Lenders.{none_named, none_lent}
+use Rattle.brc_model.proofs.Objects.Lenders.{none_named, none_lent, locker_alone}
 use Rattle.brc_model.proofs.Objects.SettlingWeights.{finalises, of_closing, of_ending}
 use Rattle.brc_model.proofs.Work.Deciders.{sum_zero}
 use Rattle.brc_model.proofs.Promises.AtTheEnd.{none_dying}
@@ -85,6 +86,21 @@ slots_known = record {
   dying = λ p n m t a x rest counts next. dying_slot p n m t a x rest (at_next counts next);
   closing = λ p n m t a x rest counts next. closing_slot p n m t a x rest (at_next counts next);
 }
+
+-- ---- locks
+
+-- The slot of an object that a thread has locked has the object's resource, unless the thread has lent it.
+pub locked_full : LockedSlotsAreFull
+locked_full p n m t a x counts found locked unlent =
+    let core = counts.kept.core in
+    let lives = (locked_alive p n m t a x core found locked).life in
+    let fit : ResourcesFit Live (resources_at m x) =
+    subst (λ (l : Life). ResourcesFit l (resources_at m x)) lives (core.resources x) in
+    let none_closing =
+    unfinalised p n m x (closing x) (finalises x (closing x) (of_closing x)) core
+    (λ u. ap (λ (l : Life). dies_by l u) lives) in
+    let none_lent = locker_alone p n m x t a core found locked unlent in
+    omega (arith, fit.0, fit.1, none_closing, none_lent)
 
 -- ---- the end
 

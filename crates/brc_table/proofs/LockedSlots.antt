@@ -1,0 +1,41 @@
+-- A hand that has locked an object, and has lent no resource, knows from the object's kind what the slot holds.
+use Rattle.std.proofs.Common.{◌≡◌, ℕ, ◌+◌, ◌<◌, true, Option, None, Some, List, [], ◌∷◌, sym, ap, ◌∙◌}
+use Rattle.std.specs.Prelude.{◌||◌}
+use Rattle.std.specs.List.{list_any}
+use Rattle.std.proofs.lemmas.List.Folds.{list_any-append}
+use mathlib.Core.Option as home
+use mathlib.Core.Option.{some}
+use lib.ListN.{get_elem?}
+use Rattle.brc_model.specs.declared.address.Address.TheVariants.{KindOf}
+use Rattle.brc_model.specs.declared.duty.Duty.{Duty}
+use Rattle.brc_model.specs.declared.layout.Layout.{Layout}
+use Rattle.brc_model.specs.Duties.{resources_of}
+use Rattle.brc_model.specs.SlotLaws.{LockedSlotsAreFull}
+use Rattle.brc_table.specs.declared.view.View.{View}
+use Rattle.brc_table.specs.Views.{actor_of, event_of, did}
+use Rattle.brc_table.specs.Seen.{shows_kind, has_seen_kind}
+use Rattle.brc_table.specs.Homes.{TableStands}
+
+-- A kind word that the hand has seen is still seen after its first duty.
+pub still_seen : (x word : ℕ) (v : View) (d : Duty) (rest : List Duty) (found : ℕ) → has_seen_kind x word v ≡ true
+    → has_seen_kind x word (did v (d ∷ rest) found) ≡ true
+still_seen x word v d rest found seen =
+    let behind = event_of v d found ∷ [] in
+    list_any-append (shows_kind x word) v.trace behind
+    ∙ ap (λ b. b || list_any (shows_kind x word) behind) seen
+
+module _ (full : LockedSlotsAreFull) {T : Type 0} (layout : Layout) (words : List ℕ)
+    (homes : List (home.Option (Option T))) (views : List View) (holds : TableStands layout words homes views)
+    (id x : ℕ) (v : View) (here : get_elem? views id ≡ some v) (locked : v.locked ≡ Some x) (unlent : v.lent ≡ None)
+  where
+    -- The slot holds as many resources as the machine's kind word says.
+    pub slot_full : v.in_slot ≡ resources_of (holds.stands.machine.memory (KindOf x))
+    slot_full =
+        let s = holds.stands in
+        sym ((holds.slots.locked id x v here locked).1)
+        ∙ full s.accounts (1 + s.machine.layout.workers) s.machine v.thread (actor_of v) x s.counts (s.acts id v here)
+        locked unlent
+
+    -- So it does by the kind word that the hand has seen.
+    pub slot_seen : (word : ℕ) → 0 < word → has_seen_kind x word v ≡ true → v.in_slot ≡ resources_of word
+    slot_seen word more seen = slot_full ∙ ap resources_of (holds.stands.kinds_seen id x word v here more seen)

@@ -1,0 +1,33 @@
+use Rattle.std.proofs.Common.{◌≡◌, ℕ, ◌<◌, arith, ap, sym, ◌∙◌, subst}
+use Rattle.brc_model.specs.Layout.{row_count}
+use Rattle.brc_table.specs.Hands.{TableState, HandState, HasNoWork, HoldsOne}
+use Rattle.brc_table.specs.Places.{word_count, in_tile}
+use Rattle.brc_table.proofs.Places.{header_within}
+use Rattle.brc_table.proofs.KindLoads.{asks_allowed}
+use Rattle.brc_table.proofs.words.Words.load_kind.Goals as goal
+
+pub load-requires : goal.load-requires
+load-requires g c =
+    let hand = c.hand.inside in
+    let now = c.args.hand.now in
+    let x = g.R.OfRow.target in
+    let same = c.requires.row in
+    let shared = c.self.inside.table.shared in
+    let table_is = ap (λ (w : TableState). w.table) c.self.view_is in
+    let layout_is = ap (λ (w : TableState). w.layout) c.self.view_is in
+    let at : c.in_line-index.result ≡ in_tile 3 c.args.row = c.in_line-index.ensures in
+    let there = header_within c.args.self.now.layout 3 c.args.row (omega arith) c.requires.there in (
+      ap (λ (h : HandState). h.table) c.hand.view_is ∙ (c.requires.table.0 ∙ sym table_is),
+      subst (λ (i : ℕ). i < shared.table_id.words) (sym at) (subst (λ (k : ℕ). in_tile 3 c.args.row < k)
+          (sym (c.self.invariant.1 ∙ ap word_count layout_is)) there),
+      asks_allowed c.duties_are_kept.ensures c.duties_are_within.ensures
+          c.accounts_are_there.ensures c.chains_are_there.ensures
+          c.locked_cells_stay.ensures c.handed_merges_live.ensures c.work_is_put_aside.ensures
+          c.kinds_are_asked.ensures c.immortals_are_free.ensures c.locked_slots_are_full.ensures c.args.self.now now x
+          c.requires.running (subst (HasNoWork now.view) same c.requires.idle)
+          (subst (HoldsOne now.view) same c.requires.held)
+          (subst (λ (y : ℕ). y < row_count c.args.self.now.layout) same c.requires.there) shared.key
+          shared.table_id.slots hand.seat.id c.in_line-index.result hand.seat.me
+          (record { layout_is = layout_is; view_is = ap (λ (h : HandState). h.view) c.hand.view_is })
+          (at ∙ ap (in_tile 3) same),
+    )
