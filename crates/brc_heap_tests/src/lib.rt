@@ -8,6 +8,8 @@ mod calls;
 #[cfg(test)]
 mod claims;
 #[cfg(test)]
+mod files;
+#[cfg(test)]
 mod finish;
 #[cfg(test)]
 mod hands;
