@@ -8,7 +8,6 @@ use Rattle.brc_table.specs.declared.view.View.{View}
 use Rattle.brc_table.specs.Views.{did, done}
 use Rattle.brc_table.specs.Calls.{SetsMark, TakesMark}
 use Rattle.brc_heap.specs.declared.marker.Looked.TheVariants as looks
-use Rattle.brc_heap.specs.declared.marker.Looked.{Looked}
 use Rattle.brc_heap.specs.Marks.{posted, look_answer}
 
 -- ---- the duties

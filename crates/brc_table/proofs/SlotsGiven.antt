@@ -72,7 +72,8 @@ due_is law layout words views id v u (BirthLocal y h) rest does found x n is sam
     law.born s.accounts (1 + s.machine.layout.workers) s.machine u.thread (actor_of u) y h rest s.counts
     (record { found = s.acts id u does.here; agenda = does.agenda; alive = does.alive }) in
     let row = gives_row x y is in
-    let seen : s.machine.memory (KindOf x) ≡ due.0 = s.kinds_seen id x due.0 u does.here due.1 (subst (λ (z : ℕ). has_seen_kind z due.0 u ≡ true) row due.2) in
+    let seen : s.machine.memory (KindOf x) ≡ due.0 =
+    s.kinds_seen id x due.0 u does.here due.1 (subst (λ (z : ℕ). has_seen_kind z due.0 u ≡ true) row due.2) in
     due.3 ∙ (ap resources_of (sym seen ∙ ap (λ (z : ℕ). s.machine.memory (KindOf z)) (sym row))
     ∙ (sym filled ∙ ap (λ (z : ℕ). s.machine.memory (Slot z)) row))
 due_is law layout words views id v u (SettleEnd y) rest does found x n is same in_slot locked due =

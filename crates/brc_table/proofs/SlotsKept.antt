@@ -212,10 +212,14 @@ module _ {T : Type 0} (m n : Machine) (homes : List (home.Option (Option T))) (v
           elim (is_more one y a (whose one a is) first) [
             | inl mine ↦ elim (is_more other y b (whose other b that) second) [
               | inl too ↦ mine.1 ∙ sym too.1
-              | inr theirs ↦ absurd (omega (arith, is_home other theirs.0 theirs.1, ap (λ (k : ℕ). times_taken k theirs.0) mine.0, theirs.2))
+              | inr theirs ↦
+                  let same_row = ap (λ (k : ℕ). times_taken k theirs.0) mine.0 in
+                  absurd (omega (arith, is_home other theirs.0 theirs.1, same_row, theirs.2))
             ]
             | inr theirs ↦ elim (is_more other y b (whose other b that) second) [
-              | inl mine ↦ absurd (omega (arith, is_home one theirs.0 theirs.1, ap (λ (k : ℕ). times_taken k theirs.0) mine.0, theirs.2))
+              | inl mine ↦
+                  let same_row = ap (λ (k : ℕ). times_taken k theirs.0) mine.0 in
+                  absurd (omega (arith, is_home one theirs.0 theirs.1, same_row, theirs.2))
               | inr too ↦ old.alone one other y theirs.0 too.0 theirs.1 too.1 theirs.2 too.2
             ]
           ];

@@ -182,7 +182,8 @@ module _ (accounts : AccountsAreThere) (chains : ChainsAreThere) (layout : Layou
           stands = moved.stands;
           slots =
               slots_kept before moved.stands.machine s.homes s.views id v w holds.slots mine
-              (moved.stands.layout_is ∙ sym holds.stands.layout_is) (record { taken = refl; in_slot = λ x locks. refl; locked = refl; used = λ x uses. uses }) moved.slots;
+              (moved.stands.layout_is ∙ sym holds.stands.layout_is)
+              (record { taken = refl; in_slot = λ x locks. refl; locked = refl; used = λ x uses. uses }) moved.slots;
         },
         subst (λ (u : View). Starts t (u, me.1) (w, me.1)) (sym is_me) (refl, refl, rows),
       )
