@@ -1,0 +1,55 @@
+//! Merging an object's two counts in the midst of other work.
+
+ghost use Rattle.std.specs.Prelude.{◌≡◌, ◌≢◌, IsTrue, IsFalse};
+ghost use Rattle.brc_model.specs.declared.actor.Status.TheVariants.{Gone};
+ghost use Rattle.brc_table.specs.Hands.{IsOf};
+ghost use Rattle.brc_free.specs.Works.{Stands, MergesNext, merge_left};
+
+use brc_heap::{Hand, Words};
+use brc_word::{is_dead, merged};
+use crossbeam_utils::Backoff;
+use std::sync::Wait;
+
+/// Does the next duties, behind which others come: adds the carried local count to the row's shared word and makes its
+/// state merged, and tries again until no other thread has changed the word in between. An object without a reference
+/// goes to the head of the hand's dying chain. A merge for a handed reference leaves the duty to give that up.
+pub fn merge<T: Drop, R: Wait>(rt: &R, words: &Words<T>, hand: &mut Hand<T>, row: u32, carried: u32)
+    requires table { IsOf words.now hand.old }
+    requires alive { hand.old.view.status ≢ Gone }
+    requires duty { MergesNext row carried hand.old.view.agenda }
+    ensures table { hand.new.table ≡ hand.old.table }
+    ensures carried { hand.new.carried ≡ hand.old.carried }
+    ensures slots { hand.new.slots ≡ hand.old.slots }
+    ensures work { Stands hand.old.view (merge_left hand.old.view.agenda) hand.new.view }
+{
+    let backoff = Backoff::new();
+    for _ in rt.forever() {
+        if try_merge(words, hand, row, carried) {
+            return;
+        }
+        backoff.spin();
+    }
+    unreachable!()
+}
+
+/// Tries once to do what `merge` does, and returns whether it has.
+fn try_merge<T: Drop>(words: &Words<T>, hand: &mut Hand<T>, row: u32, carried: u32) -> bool
+    requires table { IsOf words.now hand.old }
+    requires alive { hand.old.view.status ≢ Gone }
+    requires duty { MergesNext row carried hand.old.view.agenda }
+    ensures table { hand.new.table ≡ hand.old.table }
+    ensures carried { hand.new.carried ≡ hand.old.carried }
+    ensures slots { hand.new.slots ≡ hand.old.slots }
+    ensures won { IsTrue result → Stands hand.old.view (merge_left hand.old.view.agenda) hand.new.view }
+    ensures lost { IsFalse result → Stands hand.old.view hand.old.view.agenda hand.new.view }
+{
+    let word = words.shared_load_next(hand, row);
+    let next = merged(word, carried);
+    if words.shared_exchange(hand, row, word, next) != word {
+        return false;
+    }
+    if is_dead(next) {
+        words.gate_store(hand, row);
+    }
+    true
+}
