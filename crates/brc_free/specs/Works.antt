@@ -22,7 +22,7 @@ pub record Stands (v : View) (ds : List Duty) (u : View) : Type 0 where
 abbrev pub NeedSteps : List Duty → Type 0
 NeedSteps ds = (head : ℕ) → ready head ds ≡ ds
 
--- The first duty is to load the row's shared word, to which so many local references are to be added. What comes behind
+-- The first duty is to load the shared word of row x, to which c local references are to be added. What comes behind
 -- needs steps.
 pub record MergesNext (x c : ℕ) (ds : List Duty) : Type 0 where
   pub reason : Reason

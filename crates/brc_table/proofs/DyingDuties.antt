@@ -17,7 +17,8 @@ use Rattle.brc_table.specs.Begins.{Becomes, MakesWithoutSlot, MakesQuietly, Make
 use Rattle.brc_model.specs.SlotLaws.{Takes, Gives}
 use Rattle.brc_table.specs.Uses.{IsDue}
 use Rattle.brc_table.specs.Calls.{SettlesFrom, LoadsDyingKind, EmptiesCell, ClosesRow}
-use Rattle.brc_table.proofs.Becoming.{becomes_same, rearranged, waiting_keeps}
+use Rattle.brc_table.proofs.Passing.{becomes_same, waiting_keeps}
+use Rattle.brc_table.proofs.Becoming.{rearranged}
 use Rattle.brc_table.proofs.Duties.{runs_on, first_there}
 
 -- ---- the beginning

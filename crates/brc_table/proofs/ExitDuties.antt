@@ -19,7 +19,8 @@ use Rattle.brc_table.specs.Hands.{MayWait}
 use Rattle.brc_model.specs.Machine.{Machine}
 use Rattle.brc_table.specs.Calls.{IsFree, MayLeave, ScansRow, Finishes}
 use Rattle.brc_table.specs.Plays.{overwritten_by}
-use Rattle.brc_table.proofs.Becoming.{rearranged, passes_on, waiting_keeps}
+use Rattle.brc_table.proofs.Passing.{passes_on, waiting_keeps}
+use Rattle.brc_table.proofs.Becoming.{rearranged}
 use Rattle.brc_table.proofs.FreeDropped.{HasJust, drops_all, plain_immortal}
 use Rattle.brc_table.proofs.Duties.{runs_on}
 use mathlib.Core.Option.{some}

@@ -59,7 +59,7 @@ unwritten memory a b =
 
 module _ (kept : DutiesAreKept) (law : ReleasesBegin) (layout : Layout) (words : List ℕ) (id : ℕ) (v : View)
     (free : IsFree v) (before : Machine) where
-  -- The rule holds with accounts in which the thread has so many references to none, and slots are as before.
+  -- The rule holds with accounts in which the thread has k references to none, and slots are as before.
   pub record HasJust (views : List View) (k : ℕ) : Type 0 where
     pub stands : Stands layout words views
     pub slots : (y : ℕ) → stands.machine.memory (Slot y) ≡ before.memory (Slot y)

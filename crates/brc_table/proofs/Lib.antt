@@ -13,6 +13,7 @@ mod SlotsTaken
 mod SlotsGiven
 mod Picked
 mod Accounts
+mod Passing
 mod Becoming
 mod Silent
 mod Duties

@@ -24,7 +24,7 @@ use Rattle.brc_table.specs.Homes.{times_in}
 use Rattle.brc_table.specs.Rule.{Stands}
 use Rattle.brc_table.specs.Begins.{Passes, KeepsThread, Becomes}
 use Rattle.brc_table.specs.Calls.{OwnsFirst, ClosesRow}
-use Rattle.brc_table.proofs.Becoming.{becomes_then}
+use Rattle.brc_table.proofs.Passing.{becomes_then}
 use Rattle.brc_table.proofs.SlotsUsed.{or_true}
 use Rattle.brc_table.proofs.Changing.{passes, itself_becomes}
 use Rattle.brc_table.proofs.ThreadsKept.{threads_same}

@@ -12,7 +12,7 @@ use Rattle.brc_table.specs.Uses.{FirstSlot, slot_rows}
 heads : (p q : ℕ × ℕ) (ps qs : List (ℕ × ℕ)) → p ∷ ps ≡ q ∷ qs → p ≡ q
 heads p q ps qs e = cc
 
--- A seat that has taken the row's slot last, which holds so many resources.
+-- A seat that has taken the row's slot last, which holds n resources.
 pub record Last {T : Type 0} (c : List (ℕ × Option T)) (x n : ℕ) : Type 0 where
   pub slot : Option T
   pub ps : List (ℕ × Option T)

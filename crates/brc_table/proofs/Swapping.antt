@@ -36,7 +36,8 @@ use Rattle.brc_table.specs.Begins.{Passes}
 use Rattle.brc_table.specs.Swaps.{with_item, without_item, swapped, MayPut, MaySwap, Swaps}
 use Rattle.brc_table.proofs.Accounts.{with_account_same, with_account_other, count_with_reference, count_without_reference}
 use Rattle.brc_table.proofs.Allowed.{rows_there}
-use Rattle.brc_table.proofs.Becoming.{rested, rested_becomes, waiting_keeps, is_ready, alone, has_one}
+use Rattle.brc_table.proofs.Passing.{waiting_keeps}
+use Rattle.brc_table.proofs.Becoming.{rested, rested_becomes, is_ready, alone, has_one}
 use Rattle.brc_table.proofs.Changing.{Changes, passes}
 use Rattle.brc_table.proofs.SlotsKept.{slots_kept}
 use Rattle.brc_table.proofs.Lists.{set_view, set_itself}

@@ -24,12 +24,12 @@ abbrev pub slot_rows : List (ℕ × ℕ) → List ℕ
 slot_rows [] = []
 slot_rows (p ∷ ps) = p.0 ∷ slot_rows ps
 
--- The slot that the hand took last is the row's, and holds so many resources.
+-- The slot that the hand took last is that of row x, and holds n resources.
 pub record FirstSlot (slots : List (ℕ × ℕ)) (x n : ℕ) : Type 0 where
   pub rest : List (ℕ × ℕ)
   pub is : slots ≡ (x, n) ∷ rest
 
--- The slots after a step: the one that it takes holds so many resources.
+-- The slots after a step: the one that it takes holds n resources.
 abbrev pub held_after : List (ℕ × ℕ) → SlotUse → ℕ → List (ℕ × ℕ)
 held_after slots Stays n = slots
 held_after slots (Takes x) n = (x, n) ∷ slots

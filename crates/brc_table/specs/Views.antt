@@ -160,7 +160,7 @@ asking v x = record v {
   aside = open_work v;
 }
 
--- the hand begins to lock the row's object, whose slot holds so many resources
+-- the hand begins to lock the row's object, whose slot holds n resources
 abbrev pub locking : View → ℕ → ℕ → View
 locking v x n = record v { agenda = LockGate x ∷ []; aside = open_work v; in_slot = n }
 

@@ -1,0 +1,91 @@
+-- Changes of a hand's view at which no word changes, one after another, and the slots that the hand has meanwhile.
+use Rattle.std.proofs.Common.{◌≡◌, ◌⊎◌, ℕ, Bool, true, false, Option, Some, List, [], ◌∷◌, set, inl, inr, refl, sym, ap, ◌∙◌, subst}
+use Rattle.std.specs.Prelude.{◌||◌}
+use Rattle.std.specs.List.{list_any}
+use Rattle.std.proofs.lemmas.Bool.{false≢true}
+use Rattle.std.proofs.lemmas.List.{set-set}
+use Rattle.brc_model.specs.declared.address.Address.TheVariants.{Slot}
+use Rattle.brc_model.specs.declared.duty.Duty.{Duty}
+use Rattle.brc_model.specs.declared.duty.Duty.TheVariants.{BirthSlot, BirthLocal, SettleCell, TakeSlot, CloseResource, SettleEnd}
+use Rattle.brc_model.specs.declared.layout.Layout.{Layout}
+use Rattle.brc_model.specs.Machine.{Machine}
+use Rattle.brc_model.specs.OpenWork.{may_wait}
+use Rattle.brc_model.specs.SlotLaws.{needs_slot}
+use Rattle.brc_table.specs.declared.view.View.{View}
+use Rattle.brc_table.specs.Hands.{MayWait}
+use Rattle.brc_table.specs.Homes.{times_in}
+use Rattle.brc_table.specs.Begins.{Passes, KeepsSlots, Becomes}
+use Rattle.brc_table.proofs.Changing.{itself_becomes}
+use Rattle.brc_table.proofs.Lists.{set_view}
+
+-- ---- two changes in a row
+
+-- What is passed from one machine to a second, and from there to a third, is passed from the first to the third.
+pub passes_on : {layout : Layout} {words : List ℕ} {views : List View} {taken : List ℕ} {locked : Option ℕ}
+    (first second : Machine)
+    → ((x : ℕ) → (times_in x taken ≡ 0) ⊎ (locked ≡ Some x) → second.memory (Slot x) ≡ first.memory (Slot x))
+    → Passes layout words views taken locked second → Passes layout words views taken locked first
+passes_on first second same next =
+    record { stands = next.stands; slots = λ x which. next.slots x which ∙ same x which }
+
+-- Two changes of a hand's view, one after the other, are one change.
+pub becomes_then : (layout : Layout) (v w u : View) → Becomes layout v w → Becomes layout w u → Becomes layout v u
+becomes_then layout v w u first second = record {
+  passes = λ words views id stands here.
+      let one = first.passes words views id stands here in
+      let two = second.passes words (set views id w) id one.stands (set_view views id v w here) in
+      let both =
+      subst (λ (l : List View). Passes layout words l w.taken w.locked one.stands.machine) (set-set views id w u) two in
+      record {
+        stands = both.stands;
+        slots = λ x which.
+            both.slots x (elim which [
+              | inl none ↦ inl (ap (times_in x) first.slots.taken ∙ none)
+              | inr locks ↦ inr (first.slots.locked ∙ locks)
+            ]) ∙ one.slots x which;
+      };
+  slots = record {
+    taken = second.slots.taken ∙ first.slots.taken;
+    in_slot = λ x locks. second.slots.in_slot x (first.slots.locked ∙ locks) ∙ first.slots.in_slot x locks;
+    locked = second.slots.locked ∙ first.slots.locked;
+    used = λ x uses. second.slots.used x (first.slots.used x uses);
+  };
+}
+
+-- A hand may keep its view.
+pub becomes_same : (layout : Layout) (v u : View) → v ≡ u → Becomes layout v u
+becomes_same layout v u same = subst (Becomes layout v) same (itself_becomes layout v)
+
+-- ---- slots that stay
+
+-- A duty that may wait needs no slot,
+waits_free : (x : ℕ) (d : Duty) → may_wait d ≡ true → needs_slot x d ≡ false
+waits_free x (BirthSlot y h) may = absurd cc
+waits_free x (BirthLocal y h) may = absurd cc
+waits_free x (SettleCell y i n) may = absurd cc
+waits_free x (TakeSlot y) may = absurd cc
+waits_free x (CloseResource y) may = absurd cc
+waits_free x (SettleEnd y) may = absurd cc
+waits_free x _ may = refl
+
+none_used : (x : ℕ) (ds : List Duty) → MayWait ds → list_any (needs_slot x) ds ≡ false
+none_used x [] may = refl
+none_used x (d ∷ []) may = ap (λ (b : Bool). b || false) (waits_free x d may)
+none_used x (d ∷ e ∷ ds) may = absurd may
+
+-- The hand has the slots and the lock that it had.
+abbrev pub SameSlots : View → View → Type 0
+SameSlots v u =
+    (u.taken ≡ v.taken) × ((x : ℕ) → v.locked ≡ Some x → u.in_slot ≡ v.in_slot) × (u.locked ≡ v.locked)
+
+-- so a hand whose next duty may wait uses the slot of no object but the one that it has locked.
+pub waiting_keeps : (v u : View) → MayWait v.agenda → SameSlots v u → KeepsSlots v u
+waiting_keeps v u may same = record {
+  taken = same.0;
+  in_slot = same.1;
+  locked = same.2;
+  used = λ x uses. elim uses [
+    | inl locks ↦ inl (same.2 ∙ locks)
+    | inr needs ↦ absurd (false≢true (sym (none_used x v.agenda may) ∙ needs))
+  ];
+}
