@@ -1,2 +1,7 @@
+mod FirstDuties
 mod Standing
 mod MergeDuties
+mod GivingUp
+mod Choosing
+mod Closes
+mod SettleDuties

@@ -1,85 +1,86 @@
--- What comes next in a merge in the midst of other work.
-use Rattle.std.proofs.Common.{◌≡◌, ℕ, zero, suc, ◌+◌, Bool, true, false, List, [], ◌∷◌, ◌++◌, refl, ap, ◌∙◌, subst}
+-- What the steps of a merge leave in the midst of other work.
+use Rattle.std.proofs.Common.{◌≡◌, ℕ, Bool, true, false, List, [], ◌∷◌, ◌++◌, refl, sym, ap, ◌∙◌, subst}
 use Rattle.std.specs.Prelude.{◌==◌, if◌then◌else◌}
 use Rattle.std.proofs.lemmas.Bool.{eqb-true}
-use Rattle.brc_word.specs.Words.{dead_word, merged_word}
+use Rattle.brc_word.specs.Words.{local_part, dead_word, merged_word}
 use Rattle.brc_model.specs.declared.duty.Reason.{Reason}
 use Rattle.brc_model.specs.declared.duty.Reason.TheVariants.{Own, Handed}
 use Rattle.brc_model.specs.declared.duty.Duty.{Duty}
-use Rattle.brc_model.specs.declared.duty.Duty.TheVariants.{MergeLoad, MergeExchange, Die}
-use Rattle.brc_model.specs.Duties.{ready, once_merged, merge_result}
+use Rattle.brc_model.specs.declared.duty.Duty.TheVariants.{MergeSwap, MergeLoad, MergeExchange, Die}
+use Rattle.brc_model.specs.Duties.{once_merged, merge_result}
 use Rattle.brc_table.specs.declared.view.View.{View}
 use Rattle.brc_table.specs.Views.{done}
 use Rattle.brc_table.specs.Plays.{FindsKnown}
-use Rattle.brc_free.specs.Works.{Stands, NeedSteps}
+use Rattle.brc_free.specs.Works.{Stands}
 use Rattle.brc_free.proofs.Standing.{stands_first, stands_on}
+use Rattle.brc_free.proofs.FirstDuties.{merge_swap_first, merge_load_first, merge_exchange_first}
 
--- ---- duties that need a step
+-- ---- the swap
 
-exchange_ready : (head x c w : ℕ) (r : Reason) (rest : List Duty)
-    → ready head (MergeExchange x c w r ∷ rest) ≡ MergeExchange x c w r ∷ rest
-exchange_ready zero x c w r rest = refl
-exchange_ready (suc head) x c w r rest = refl
+-- Nobody owned the object, so that it is merged already.
+pub swapped_nobody : (v u w : View) (n x found : ℕ) (r : Reason) (rest : List Duty) → Stands v n (MergeSwap x r ∷ rest) u
+    → w ≡ done u found → (found == 0) ≡ true → Stands v n (once_merged x r ++ rest) w
+swapped_nobody v u w n x found r rest at is nobody =
+    stands_on v u w n (MergeSwap x r) rest (once_merged x r ++ rest) found at (merge_swap_first u.head x r rest)
+    refl refl is (record { status = refl; used = refl; locked = refl; lent = refl })
+    (ap (λ (b : Bool). (if b then once_merged x r else MergeLoad x (local_part found) r ∷ []) ++ rest) nobody)
 
-load_ready : (head x c : ℕ) (r : Reason) (rest : List Duty)
-    → ready head (MergeLoad x c r ∷ rest) ≡ MergeLoad x c r ∷ rest
-load_ready zero x c r rest = refl
-load_ready (suc head) x c r rest = refl
+pub swapped_out : (v u w : View) (n x found : ℕ) (r : Reason) (rest : List Duty) → Stands v n (MergeSwap x r ∷ rest) u
+    → w ≡ done u found → (found == 0) ≡ false → Stands v n (MergeLoad x (local_part found) r ∷ rest) w
+swapped_out v u w n x found r rest at is owned =
+    stands_on v u w n (MergeSwap x r) rest (MergeLoad x (local_part found) r ∷ rest) found at
+    (merge_swap_first u.head x r rest) refl refl is
+    (record { status = refl; used = refl; locked = refl; lent = refl })
+    (ap (λ (b : Bool). (if b then once_merged x r else MergeLoad x (local_part found) r ∷ []) ++ rest) owned)
 
-die_ready : (head x : ℕ) (rest : List Duty) → ready head (Die x ∷ rest) ≡ Die x ∷ rest
-die_ready zero x rest = refl
-die_ready (suc head) x rest = refl
+-- A merge that comes next begins with the swap.
+pub merge_begins : (v : View) (x : ℕ) (r : Reason) (rest : List Duty) → v.agenda ≡ MergeSwap x r ∷ rest
+    → Stands v 0 (MergeSwap x r ∷ rest) v
+merge_begins v x r rest next = stands_first v (MergeSwap x r ∷ rest) (next ∙ sym (merge_swap_first v.head x r rest))
 
--- What follows a merge needs steps too.
-merged_ready : (head x : ℕ) (r : Reason) (rest : List Duty) → NeedSteps rest
-    → ready head (once_merged x r ++ rest) ≡ once_merged x r ++ rest
-merged_ready head x Own rest needs = needs head
-merged_ready zero x Handed rest needs = refl
-merged_ready (suc head) x Handed rest needs = refl
+-- ---- the shared word
 
--- ---- the load
+carry_loaded : (v u w : View) (n x c word : ℕ) (r : Reason) (rest : List Duty) → Stands v n (MergeLoad x c r ∷ rest) u
+    → w ≡ done u word → Stands v n (MergeExchange x c word r ∷ rest) w
+carry_loaded v u w n x c word r rest at is =
+    stands_on v u w n (MergeLoad x c r) rest (MergeExchange x c word r ∷ rest) word at
+    (merge_load_first u.head x c r rest) refl refl is
+    (record { status = refl; used = refl; locked = refl; lent = refl }) refl
 
--- After the load the exchange comes next.
-pub load_stands : (v u : View) (x c word : ℕ) (r : Reason) (rest : List Duty) → v.agenda ≡ MergeLoad x c r ∷ rest
-    → u ≡ done v word → Stands v (MergeExchange x c word r ∷ rest) u
-load_stands v u x c word r rest is view =
-    stands_on v v u (MergeLoad x c r) rest (MergeExchange x c word r ∷ rest) word
-    (subst (λ (ds : List Duty). Stands v ds v) is (stands_first v)) view refl (exchange_ready v.head x c word r rest)
-
--- ---- the exchange
+-- A hand that comes to add what it carries loads the word first.
+pub carry_begins : (v u : View) (x c word : ℕ) (r : Reason) (rest : List Duty) → v.agenda ≡ MergeLoad x c r ∷ rest
+    → u ≡ done v word → Stands v 0 (MergeExchange x c word r ∷ rest) u
+carry_begins v u x c word r rest next is =
+    carry_loaded v v u 0 x c word r rest
+    (stands_first v (MergeLoad x c r ∷ rest) (next ∙ sym (merge_load_first v.head x c r rest))) is
 
 -- An exchange that is lost is followed by the load again.
-pub lost_stands : (v u w : View) (x c word found : ℕ) (r : Reason) (rest : List Duty)
-    → Stands v (MergeExchange x c word r ∷ rest) u → w ≡ done u found → (found == word) ≡ false
-    → Stands v (MergeLoad x c r ∷ rest) w
-lost_stands v u w x c word found r rest at view lost =
-    stands_on v u w (MergeExchange x c word r) rest (MergeLoad x c r ∷ rest) found at view refl
-    (ap (λ (b : Bool). ready u.head ((if b then merge_result x r (merged_word word c) else MergeLoad x c r ∷ []) ++ rest))
-    lost ∙ load_ready u.head x c r rest)
+pub carry_lost : (v u w : View) (n x c word found : ℕ) (r : Reason) (rest : List Duty)
+    → Stands v n (MergeExchange x c word r ∷ rest) u → w ≡ done u found → (found == word) ≡ false
+    → Stands v n (MergeLoad x c r ∷ rest) w
+carry_lost v u w n x c word found r rest at is lost =
+    stands_on v u w n (MergeExchange x c word r) rest (MergeLoad x c r ∷ rest) found at
+    (merge_exchange_first u.head x c word r rest) refl refl is
+    (record { status = refl; used = refl; locked = refl; lent = refl })
+    (ap (λ (b : Bool). (if b then merge_result x r (merged_word word c) else MergeLoad x c r ∷ []) ++ rest) lost)
 
--- One that wins by the duties that follow from the merged word.
-won_stands : (v u w : View) (x c word found : ℕ) (r : Reason) (rest ds : List Duty)
-    → Stands v (MergeExchange x c word r ∷ rest) u → w ≡ done u found → (found == word) ≡ true
-    → ready u.head (merge_result x r (merged_word word c) ++ rest) ≡ ds → Stands v ds w
-won_stands v u w x c word found r rest ds at view won next =
-    stands_on v u w (MergeExchange x c word r) rest ds found at view refl
-    (ap (λ (b : Bool). ready u.head ((if b then merge_result x r (merged_word word c) else MergeLoad x c r ∷ []) ++ rest))
-    won ∙ next)
-
--- What comes next where references are left.
-kept_next : (head x word : ℕ) (r : Reason) (rest : List Duty) → NeedSteps rest → (word == dead_word) ≡ false
-    → ready head (merge_result x r word ++ rest) ≡ once_merged x r ++ rest
-kept_next head x word Own rest needs alive =
-    ap (λ (b : Bool). ready head ((if b then Die x ∷ [] else []) ++ rest)) alive ∙ needs head
-kept_next head x word Handed rest needs alive = merged_ready head x Handed rest needs
+carry_won : (v u w : View) (n x c word found : ℕ) (r : Reason) (rest : List Duty)
+    → Stands v n (MergeExchange x c word r ∷ rest) u → w ≡ done u found → (found == word) ≡ true
+    → Stands v n (merge_result x r (merged_word word c) ++ rest) w
+carry_won v u w n x c word found r rest at is won =
+    stands_on v u w n (MergeExchange x c word r) rest (merge_result x r (merged_word word c) ++ rest) found at
+    (merge_exchange_first u.head x c word r rest) refl refl is
+    (record { status = refl; used = refl; locked = refl; lent = refl })
+    (ap (λ (b : Bool). (if b then merge_result x r (merged_word word c) else MergeLoad x c r ∷ []) ++ rest) won)
 
 -- Where references are left, a handed reference is given up next, or what comes behind.
-pub kept_stands : (v u w : View) (x c word found : ℕ) (r : Reason) (rest : List Duty) → NeedSteps rest
-    → Stands v (MergeExchange x c word r ∷ rest) u → w ≡ done u found → (found == word) ≡ true
-    → (merged_word word c == dead_word) ≡ false → Stands v (once_merged x r ++ rest) w
-kept_stands v u w x c word found r rest needs at view won alive =
-    won_stands v u w x c word found r rest (once_merged x r ++ rest) at view won
-    (kept_next u.head x (merged_word word c) r rest needs alive)
+pub carry_kept : (v u w : View) (n x c word found : ℕ) (r : Reason) (rest : List Duty)
+    → Stands v n (MergeExchange x c word r ∷ rest) u → w ≡ done u found → (found == word) ≡ true
+    → (merged_word word c == dead_word) ≡ false → Stands v n (once_merged x r ++ rest) w
+carry_kept v u w n x c word found Own rest at is won alive =
+    subst (λ (ds : List Duty). Stands v n (ds ++ rest) w) (ap (λ (b : Bool). if b then Die x ∷ [] else []) alive)
+    (carry_won v u w n x c word found Own rest at is won)
+carry_kept v u w n x c word found Handed rest at is won alive = carry_won v u w n x c word found Handed rest at is won
 
 -- Where none is left, the merge was for the hand's own reference,
 pub dead_own : (u : View) (x c word found : ℕ) (r : Reason) (rest : List Duty)
@@ -91,18 +92,11 @@ dead_own u x c word found Handed rest is known won dead =
     (eqb-true (merged_word word c) dead_word dead))
 
 -- and the object is chained next.
-pub dead_stands : (v u w : View) (x c word found : ℕ) (r : Reason) (rest : List Duty)
-    → Stands v (MergeExchange x c word r ∷ rest) u → w ≡ done u found → (found == word) ≡ true
-    → (merged_word word c == dead_word) ≡ true → r ≡ Own → Stands v (Die x ∷ rest) w
-dead_stands v u w x c word found r rest at view won dead own =
-    won_stands v u w x c word found r rest (Die x ∷ rest) at view won
-    (ap (λ (s : Reason). ready u.head (merge_result x s (merged_word word c) ++ rest)) own
-    ∙ (ap (λ (b : Bool). ready u.head ((if b then Die x ∷ [] else []) ++ rest)) dead ∙ die_ready u.head x rest))
-
--- ---- the death
-
--- After the object is chained, what was behind comes next.
-pub chained_stands : (v u w : View) (x found : ℕ) (rest : List Duty) → NeedSteps rest → Stands v (Die x ∷ rest) u
-    → w ≡ done u found → Stands v rest w
-chained_stands v u w x found rest needs at view =
-    stands_on v u w (Die x) rest rest found at view refl (needs (x + 1))
+pub carry_dead : (v u w : View) (n x c word found : ℕ) (r : Reason) (rest : List Duty)
+    → Stands v n (MergeExchange x c word r ∷ rest) u → w ≡ done u found → (found == word) ≡ true
+    → (merged_word word c == dead_word) ≡ true → r ≡ Own → Stands v n (Die x ∷ rest) w
+carry_dead v u w n x c word found r rest at is won dead own =
+    subst (λ (ds : List Duty). Stands v n (ds ++ rest) w)
+    (ap (λ (s : Reason). merge_result x s (merged_word word c)) own
+    ∙ ap (λ (b : Bool). if b then Die x ∷ [] else []) dead)
+    (carry_won v u w n x c word found r rest at is won)

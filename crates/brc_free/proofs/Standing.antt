@@ -1,47 +1,126 @@
 -- How a hand that does duty after duty goes on.
-use Rattle.std.proofs.Common.{◌≡◌, ℕ, List, [], ◌∷◌, ◌++◌, refl, sym, ap, ◌∙◌, subst}
+use Rattle.std.proofs.Common.{◌≡◌, ℕ, ◌+◌, List, ◌∷◌, ◌++◌, refl, sym, ap, ◌∙◌, subst}
+use Rattle.std.proofs.Math.Nat.{add_assoc, zero-add}
 use Rattle.brc_model.specs.declared.duty.Duty.{Duty}
 use Rattle.brc_model.specs.Duties.{ready, continuation, new_head}
-use Rattle.brc_model.specs.Machine.{is_running, status_by}
+use Rattle.brc_model.specs.Machine.{is_running, status_by, used_by, locked_by, lent_by}
 use Rattle.brc_table.specs.declared.view.View.{View}
-use Rattle.brc_table.specs.Views.{did, done}
-use Rattle.brc_free.specs.Works.{Works, Begun, Next, Stands}
+use Rattle.brc_table.specs.Views.{did, done, slot_emptied, slot_emptied_by}
+use Rattle.brc_free.specs.Works.{Works, Begun, Next, Comes, Keeps, Stands, found_by}
 
--- A hand that hasn't done anything yet.
-pub stands_first : (v : View) → Stands v v.agenda v
-stands_first v = record { agenda = refl; status = refl; works = Begun }
+-- ---- what is kept
 
--- One duty more.
-pub stands_on : (v u w : View) (d : Duty) (rest ds : List Duty) (found : ℕ) → Stands v (d ∷ rest) u → w ≡ done u found
-    → status_by u.status d ≡ u.status
-    → ready (new_head u.head d found) (continuation u.layout u.thread (is_running u.status) u.head d found ++ rest) ≡ ds
-    → Stands v ds w
-stands_on v u w d rest ds found at is same next = record {
-  agenda =
-      ap (λ (z : View). z.agenda) is ∙ (ap (λ (es : List Duty). (did u es found).agenda) at.agenda ∙ next);
-  status =
-      ap (λ (z : View). z.status) is
-      ∙ (ap (λ (es : List Duty). (did u es found).status) at.agenda ∙ (same ∙ at.status));
-  works = subst (Works v) (sym is) (Next u found at.works);
+pub keeps_first : (v : View) → Keeps v v
+keeps_first v = record {
+  layout = refl;
+  thread = refl;
+  status = refl;
+  references = refl;
+  aside = refl;
+  used = refl;
+  locked = refl;
+  lent = refl;
+  in_slot = refl;
+  given = refl;
 }
 
--- Work after work.
-works_then : (v u w : View) → Works v u → Works u w → Works v w
-works_then v u w one Begun = one
-works_then v u w one (Next z found other) = Next z found (works_then v u z one other)
+pub keeps_then : (v u w : View) → Keeps v u → Keeps u w → Keeps v w
+keeps_then v u w one other = record {
+  layout = other.layout ∙ one.layout;
+  thread = other.thread ∙ one.thread;
+  status = other.status ∙ one.status;
+  references = other.references ∙ one.references;
+  aside = other.aside ∙ one.aside;
+  used = other.used ∙ one.used;
+  locked = other.locked ∙ one.locked;
+  lent = other.lent ∙ one.lent;
+  in_slot = other.in_slot ∙ one.in_slot;
+  given = other.given ∙ one.given;
+}
+
+-- The duty changes neither the hand's status nor its lock, and it uses no row.
+pub record IsQuiet (u : View) (d : Duty) (found : ℕ) : Type 0 where
+  pub status : status_by u.status d ≡ u.status
+  pub used : used_by u.used d ≡ u.used
+  pub locked : locked_by u.locked d found ≡ u.locked
+  pub lent : lent_by u.lent d found ≡ u.lent
+
+-- ---- first steps
+
+-- A hand that hasn't done anything yet, of whose duties the first needs a step.
+pub stands_first : (v : View) (ds : List Duty) → v.agenda ≡ ready v.head ds → Stands v 0 ds v
+stands_first v ds is = record { agenda = is; works = Begun; keeps = keeps_first v }
+
+-- ---- one duty more
+
+did_keeps : (u : View) (d : Duty) (rest : List Duty) (found : ℕ) → IsQuiet u d found → Keeps u (did u (d ∷ rest) found)
+did_keeps u d rest found quiet = record {
+  layout = refl;
+  thread = refl;
+  status = quiet.status;
+  references = refl;
+  aside = refl;
+  used = quiet.used;
+  locked = quiet.locked;
+  lent = quiet.lent;
+  in_slot = refl;
+  given = refl;
+}
+
+-- One duty more, the first of those that come next, which may find a resource of a dying object,
+pub stands_found : (v u w : View) (n : ℕ) (d : Duty) (rest ds : List Duty) (found : ℕ) → Stands v n (d ∷ rest) u
+    → ready u.head (d ∷ rest) ≡ d ∷ rest → slot_emptied_by (d ∷ rest) u ≡ u → w ≡ done u found → IsQuiet u d found
+    → continuation u.layout u.thread (is_running u.status) u.head d found ++ rest ≡ ds
+    → Stands v (found_by (d ∷ rest) found + n) ds w
+stands_found v u w n d rest ds found at first unslotted is quiet next =
+    let has : u.agenda ≡ d ∷ rest = at.agenda ∙ first in
+    let does : w ≡ did u (d ∷ rest) found = is ∙ ap (λ (es : List Duty). did u es found) has in
+    let same : slot_emptied u ≡ u = ap (λ (es : List Duty). slot_emptied_by es u) has ∙ unslotted in
+    let work : Works v (found_by u.agenda found + n) (done (slot_emptied u) found) = Next n u found at.works in
+    record {
+      agenda =
+          ap (λ (z : View). z.agenda) does
+          ∙ (ap (λ (es : List Duty). ready (new_head u.head d found) es) next
+          ∙ ap (λ (z : View). ready z.head ds) (sym does));
+      works =
+          subst (λ (z : View). Works v (found_by (d ∷ rest) found + n) z) (ap (λ (z : View). done z found) same ∙ sym is)
+          (subst (λ (es : List Duty). Works v (found_by es found + n) (done (slot_emptied u) found)) has work);
+      keeps =
+          keeps_then v u w at.keeps
+          (subst (Keeps u) (sym does) (did_keeps u d rest found quiet));
+    }
+
+-- and one that finds none.
+pub stands_on : (v u w : View) (n : ℕ) (d : Duty) (rest ds : List Duty) (found : ℕ) → Stands v n (d ∷ rest) u
+    → ready u.head (d ∷ rest) ≡ d ∷ rest → slot_emptied_by (d ∷ rest) u ≡ u → found_by (d ∷ rest) found ≡ 0
+    → w ≡ done u found → IsQuiet u d found
+    → continuation u.layout u.thread (is_running u.status) u.head d found ++ rest ≡ ds
+    → Stands v n ds w
+stands_on v u w n d rest ds found at first unslotted none is quiet next =
+    subst (λ (m : ℕ). Stands v m ds w) (ap (λ (m : ℕ). m + n) none ∙ zero-add n)
+    (stands_found v u w n d rest ds found at first unslotted is quiet next)
+
+-- ---- work after work
+
+pub works_then : (v u w : View) (n m : ℕ) → Works v n u → Works u m w → Works v (m + n) w
+works_then v u w n m one Begun = subst (λ (s : ℕ). Works v s u) (sym (zero-add n)) one
+works_then v u w n m one (Next k z found other) =
+    subst (λ (s : ℕ). Works v s (done (slot_emptied z) found)) (sym (add_assoc (found_by z.agenda found) k n))
+    (Next (k + n) z found (works_then v u z n k one other))
+works_then v u w n m one (Comes k z other) = Comes (m + n) z (works_then v u z n m one other)
 
 -- The same of what comes next.
-pub stands_then : (v u w : View) (ds es : List Duty) → Stands v ds u → Stands u es w → Stands v es w
-stands_then v u w ds es one other = record {
+pub stands_then : (v u w : View) (n m : ℕ) (ds es : List Duty) → Stands v n ds u → Stands u m es w → Stands v (m + n) es w
+stands_then v u w n m ds es one other = record {
   agenda = other.agenda;
-  status = other.status ∙ one.status;
-  works = works_then v u w one.works other.works;
+  works = works_then v u w n m one.works other.works;
+  keeps = keeps_then v u w one.keeps other.keeps;
 }
 
--- The table's size is the same throughout.
-pub works_layout : (v u : View) → Works v u → u.layout ≡ v.layout
-works_layout v u Begun = refl
-works_layout v u (Next z found works) = did_layout z z.agenda found ∙ works_layout v z works where
-  did_layout : (z : View) (ds : List Duty) (found : ℕ) → (did z ds found).layout ≡ z.layout
-  did_layout z [] found = refl
-  did_layout z (d ∷ ds) found = refl
+-- The same of a call that leaves what it makes of the duties that it finds, the first of which needs a step.
+pub stands_call : (v u w : View) (n : ℕ) (ds : List Duty) (left : List Duty → List Duty) → Stands v n ds u
+    → ready u.head ds ≡ ds → Stands u 0 (left u.agenda) w → Stands v n (left ds) w
+stands_call v u w n ds left at first other =
+    subst (λ (m : ℕ). Stands v m (left ds) w) (zero-add n)
+    (stands_then v u w n 0 ds (left ds) at
+    (subst (λ (es : List Duty). Stands u 0 (left es) w) (at.agenda ∙ first) other))

@@ -1,36 +1,127 @@
 -- What a hand does in the midst of other work: duty after duty, and which duties come next then.
-use Rattle.std.specs.Prelude.{◌≡◌, ℕ, List, [], ◌∷◌, ◌++◌}
+use Rattle.std.specs.Prelude.{◌≡◌, ◌≢◌, ℕ, ◌+◌, ◌<◌, List, [], ◌∷◌, ◌++◌}
+use Rattle.brc_model.specs.declared.actor.Status.TheVariants.{Running, Gone}
+use Rattle.brc_model.specs.declared.duty.Holding.TheVariants.{InFlight}
 use Rattle.brc_model.specs.declared.duty.Reason.{Reason}
+use Rattle.brc_model.specs.declared.duty.Reason.TheVariants.{Handed}
 use Rattle.brc_model.specs.declared.duty.Duty.{Duty}
-use Rattle.brc_model.specs.declared.duty.Duty.TheVariants.{MergeLoad}
-use Rattle.brc_model.specs.Duties.{ready, once_merged}
+use Rattle.brc_model.specs.declared.duty.Duty.TheVariants.{ReleaseLoad, DecideAtZero, SharedLoad, MergeSwap, MergeLoad, Settle, SettleKind, SettleCell, TakeSlot}
+use Rattle.brc_model.specs.Duties.{ready, once_merged, resources_of, cells_from}
 use Rattle.brc_table.specs.declared.view.View.{View}
-use Rattle.brc_table.specs.Views.{done}
+use Rattle.brc_table.specs.Views.{done, settling, slot_emptied}
+use Rattle.brc_free.specs.declared.giving_up.Tried.{Tried}
+use Rattle.brc_free.specs.declared.giving_up.Tried.TheVariants as tried
 
--- The hand has done duty after duty, and nothing else.
-pub data Works (v : View) : View → Type 0 where
-  Begun : Works v v
-  Next : (u : View) (found : ℕ) → Works v u → Works v (done u found)
+-- ---- work
 
--- The hand has done duties, by which its thread's status hasn't changed, and these come next.
-pub record Stands (v : View) (ds : List Duty) (u : View) : Type 0 where
-  pub agenda : u.agenda ≡ ds
+-- how many resources the first duty finds: those of a dying object
+abbrev pub found_by : List Duty → ℕ → ℕ
+found_by (SettleKind x ∷ rest) found = resources_of found
+found_by _ found = 0
+
+-- The hand has done duty after duty, and nothing else. In all it has found n resources of dying objects, and taken each out
+-- of its slot before the object was closed.
+pub data Works (v : View) : ℕ → View → Type 0 where
+  Begun : Works v 0 v
+  Next : (n : ℕ) (u : View) (found : ℕ) → Works v n u
+      → Works v (found_by u.agenda found + n) (done (slot_emptied u) found)
+  -- with nothing to do, it comes to settle its chain
+  Comes : (n : ℕ) (u : View) → Works v n u → Works v n (settling u)
+
+-- What no such work changes.
+pub record Keeps (v u : View) : Type 0 where
+  pub layout : u.layout ≡ v.layout
+  pub thread : u.thread ≡ v.thread
   pub status : u.status ≡ v.status
-  pub works : Works v u
+  pub references : u.references ≡ v.references
+  pub aside : u.aside ≡ v.aside
+  pub used : u.used ≡ v.used
+  pub locked : u.locked ≡ v.locked
+  pub lent : u.lent ≡ v.lent
+  pub in_slot : u.in_slot ≡ v.in_slot
+  pub given : u.given ≡ v.given
 
--- The first of the duties needs a step, whatever the dying chain is: it is none that is skipped.
-abbrev pub NeedSteps : List Duty → Type 0
-NeedSteps ds = (head : ℕ) → ready head ds ≡ ds
+-- The hand has done duty after duty, by which it found n resources of dying objects, and these duties are left, but for
+-- those that need no step.
+pub record Stands (v : View) (n : ℕ) (ds : List Duty) (u : View) : Type 0 where
+  pub agenda : u.agenda ≡ ready u.head ds
+  pub works : Works v n u
+  pub keeps : Keeps v u
 
--- The first duty is to load the shared word of row x, to which c local references are to be added. What comes behind
--- needs steps.
-pub record MergesNext (x c : ℕ) (ds : List Duty) : Type 0 where
+-- ---- what comes next
+
+-- the duties behind the first
+abbrev pub behind : List Duty → List Duty
+behind [] = []
+behind (d ∷ rest) = rest
+
+-- The first duty is to begin a merge of row x.
+pub record MergesNext (x : ℕ) (ds : List Duty) : Type 0 where
+  pub reason : Reason
+  pub rest : List Duty
+  pub next : ds ≡ MergeSwap x reason ∷ rest
+
+-- The first duty is to load the shared word of row x, to which c local references are to be added.
+pub record CarriesNext (x c : ℕ) (ds : List Duty) : Type 0 where
   pub reason : Reason
   pub rest : List Duty
   pub next : ds ≡ MergeLoad x c reason ∷ rest
-  pub behind : NeedSteps rest
 
 -- what is left of these duties once the first one's merge is done
 abbrev pub merge_left : List Duty → List Duty
+merge_left (MergeSwap x r ∷ rest) = once_merged x r ++ rest
 merge_left (MergeLoad x c r ∷ rest) = once_merged x r ++ rest
 merge_left _ = []
+
+-- The first duty is to give up a reference to the object of row x in its shared word.
+pub record GivesUpNext (x : ℕ) (ds : List Duty) : Type 0 where
+  pub reason : Reason
+  pub rest : List Duty
+  pub next : ds ≡ SharedLoad x reason ∷ rest
+
+-- what is left of these duties after a try to give the reference up
+abbrev pub tried_left : Tried → List Duty → List Duty
+tried_left tried.GivenUp ds = behind ds
+tried_left tried.Lost ds = ds
+tried_left tried.Claimed (SharedLoad x r ∷ rest) = MergeSwap x Handed ∷ rest
+tried_left tried.Claimed _ = []
+
+-- The first duty is to decide what becomes of the object of row x, whose last local reference is gone.
+pub record DecidesNext (x : ℕ) (ds : List Duty) : Type 0 where
+  pub rest : List Duty
+  pub next : ds ≡ DecideAtZero x ∷ rest
+
+-- The first duty is to give up a reference to the object of row x that came out of a cell.
+pub record ReleasesNext (x : ℕ) (ds : List Duty) : Type 0 where
+  pub rest : List Duty
+  pub next : ds ≡ ReleaseLoad x InFlight ∷ rest
+
+-- ---- settling
+
+-- The hand runs and has nothing to do, so that it may begin to settle its chain; or to settle it is what it does next, and
+-- the duties `rest` come then.
+pub data ComesToSettle (v : View) : List Duty → Type 0 where
+  AtOnce : v.status ≡ Running → v.aside ≡ [] → v.agenda ≡ [] → ComesToSettle v []
+  InWork : (rest : List Duty) → v.status ≢ Gone → v.agenda ≡ ready v.head (Settle ∷ rest) → ComesToSettle v rest
+
+-- The next duties are to empty the n cells of the list of row x and to close it.
+pub record EmptiesNext (x n : ℕ) (ds : List Duty) : Type 0 where
+  pub rest : List Duty
+  pub next : ds ≡ cells_from x 0 n ++ rest
+
+-- The next duty is to empty the cell i of the list of row x.
+pub record CellNext (x i : ℕ) (ds : List Duty) : Type 0 where
+  pub count : ℕ
+  pub rest : List Duty
+  pub low : i < count
+  pub next : ds ≡ SettleCell x i count ∷ rest
+
+-- what is left of these duties once the cell is empty and its reference given up
+abbrev pub cells_left : List Duty → List Duty
+cells_left (SettleCell x i n ∷ rest) = cells_from x (i + 1) n ++ rest
+cells_left _ = []
+
+-- The next duty is to take the resource of row x out of its slot.
+pub record TakesNext (x : ℕ) (ds : List Duty) : Type 0 where
+  pub rest : List Duty
+  pub next : ds ≡ TakeSlot x ∷ rest

@@ -1,9 +1,13 @@
-//! The deallocation of objects whose last reference is gone. So far it has the merge of an object in the midst of other
-//! work, with retries.
+//! The deallocation of objects whose last reference is gone (PEP 703, Biased Reference Counting; `tp_dealloc` of the
+//! Python/C API manual). A hand keeps such objects in a chain, and finalises them one by one, without recursion: a list of
+//! lists, however deep, takes no more stack than a number.
 //!
-//! Other than the calls of the crates below, these wait, until an exchange wins.
+//! Each call waits where another thread's exchange has won, and then tries again. None takes memory.
 #![tactic(auto)]
 
+mod finaliser;
+mod giving_up;
 mod merging;
 
+pub use finaliser::Finaliser;
 pub use merging::merge;

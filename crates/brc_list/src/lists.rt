@@ -139,6 +139,7 @@ impl<'h, T: Drop> Lists<'h, T> {
             Some((word - 1) as u32)
         }
     }
+
     /// Puts an object into a cell of the list that the hand has locked, or empties the cell with `None`. The hand's
     /// reference to the new item goes into the cell (`PyList_SetItem` steals it). Returns what was there: the reference
     /// to it is the hand's from then on.
@@ -177,6 +178,7 @@ impl<'h, T: Drop> Lists<'h, T> {
             Some((old - 1) as u32)
         }
     }
+
     /// Takes the resource of the file or socket that the hand has locked out of its slot, for a call of the host. While
     /// the resource is lent the hand can't unlock the object.
     pub fn lend(&self, hand: &mut Hand<T>, row: u32) -> T

@@ -35,6 +35,7 @@ impl<T: Drop> Words<T> {
         hand.rows_are_there();
         self.load_cell::<Brand>(hand, row, cell)
     }
+
     /// Swaps a cell of the list that the hand has locked for `item`, a row plus 1, or 0 for an empty cell. The hand's
     /// reference to the new item goes into the cell. Returns what was there, also a row plus 1 or 0: the reference to
     /// it is the hand's from then on. Since the hand locked the list, no other thread has changed the cell.

@@ -6,6 +6,7 @@ ghost use Rattle.std.specs.Prelude.{◌≡◌, ◌≢◌, ◌<◌, ◌∷◌};
 ghost use Rattle.brc_model.specs.declared.actor.Status.TheVariants.{Gone};
 ghost use Rattle.brc_table.specs.Views.{done, settling, slot_emptied};
 ghost use Rattle.brc_model.specs.Duties.{resources_of};
+ghost use Rattle.brc_table.specs.Plays.{SuitsFirst};
 ghost use Rattle.brc_table.specs.Hands.{IsOf};
 ghost use Rattle.brc_table.specs.Uses.{FirstSlot, behind_slot};
 ghost use Rattle.brc_table.specs.Calls.{MaySettle, LoadsDyingKind, EmptiesCell, ClosesRow};
@@ -59,6 +60,7 @@ impl<T: Drop> Words<T> {
         ensures carried { hand.new.carried ≡ hand.old.carried }
         ensures slots { hand.new.slots ≡ hand.old.slots }
         ensures view { hand.new.view ≡ done hand.old.view result }
+        ensures suits { SuitsFirst hand.old.view hand.old.view.agenda result }
     {
         hand.rows_are_there();
         self.swap_cell::<Brand>(hand, row, cell, EMPTY)

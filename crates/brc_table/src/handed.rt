@@ -63,6 +63,7 @@ impl<T: Drop> Words<T> {
         ensures carried { hand.new.carried ≡ hand.old.carried }
         ensures slots { hand.new.slots ≡ hand.old.slots }
         ensures view { hand.new.view ≡ done hand.old.view result }
+        ensures suits { SuitsFirst hand.old.view hand.old.view.agenda result }
     {
         hand.rows_are_there();
         self.load::<Brand>(hand, LOCAL, row)

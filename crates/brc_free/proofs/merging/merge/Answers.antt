@@ -1,38 +1,35 @@
-use Rattle.std.proofs.Common.{refl, ◌∙◌, List, subst}
+use Rattle.std.proofs.Common.{List, ◌∷◌, sym, ap, subst}
+use Rattle.std.proofs.lemmas.Bool.{eq-eqb, ne_eqb}
+use Rattle.brc_word.specs.Words.{local_part}
 use Rattle.brc_model.specs.declared.duty.Duty.{Duty}
+use Rattle.brc_model.specs.declared.duty.Duty.TheVariants.{MergeLoad}
 use Rattle.brc_free.specs.Works.{Stands, merge_left}
-use Rattle.brc_free.proofs.Standing.{stands_first, stands_then, works_layout}
+use Rattle.brc_free.proofs.FirstDuties.{merge_load_first}
+use Rattle.brc_free.proofs.Standing.{stands_call}
+use Rattle.brc_free.proofs.MergeDuties.{merge_begins, swapped_nobody, swapped_out}
 use Rattle.brc_free.proofs.merging.merge.Goals as goal
 
-pub loop-init : goal.loop-init
-loop-init g c = (refl, refl, refl, stands_first c.args.hand.now.view)
-
-pub try_merge-requires-clause-table : goal.try_merge-requires-clause-table
-try_merge-requires-clause-table g c =
-    let kept = c.loop.invariant in (
-      kept.0 ∙ c.requires.table.0,
-      works_layout c.args.hand.now.view c.loop.hand.view kept.3.works ∙ c.requires.table.1,
-    )
-
-pub returns-then-try_merge-clause-work : goal.returns-then-try_merge-clause-work
-returns-then-try_merge-clause-work g c =
+pub returns-then-local-ne0-clause-work : goal.returns-then-local-ne0-clause-work
+returns-then-local-ne0-clause-work g c =
     let v = c.args.hand.now.view in
-    let u = c.loop.hand.view in
-    let w = c.try_merge.new.hand.view in
-    let at = c.loop.invariant.3 in
-    stands_then v u w v.agenda (merge_left v.agenda) at
-    (subst (λ (ds : List Duty). Stands u (merge_left ds) w) at.agenda (c.try_merge.ensures.won c.if-try_merge.true))
+    let u = c.local_swap_next-local.new.hand.view in
+    let w = c.merge_carried.new.hand.view in
+    let duty = c.requires.duty in
+    let local = c.local_swap_next-local.result in
+    let at = swapped_out v v u 0 c.args.row local duty.reason duty.rest
+    (merge_begins v c.args.row duty.reason duty.rest duty.next) c.local_swap_next-local.ensures.view
+    (ne_eqb local 0 c.if-local-ne0.true) in
+    subst (λ (ds : List Duty). Stands v 0 ds w) (sym (ap merge_left duty.next))
+    (stands_call v u w 0 (MergeLoad c.args.row (local_part local) duty.reason ∷ duty.rest) merge_left at
+    (merge_load_first u.head c.args.row (local_part local) duty.reason duty.rest) c.merge_carried.ensures.work)
 
-pub loop-preserved : goal.loop-preserved
-loop-preserved g c =
+pub returns-else-local-ne0-clause-work : goal.returns-else-local-ne0-clause-work
+returns-else-local-ne0-clause-work g c =
     let v = c.args.hand.now.view in
-    let u = c.loop.hand.view in
-    let w = c.try_merge.new.hand.view in
-    let kept = c.loop.invariant in
-    let tried = c.try_merge.ensures in (
-      tried.table ∙ kept.0,
-      tried.carried ∙ kept.1,
-      tried.slots ∙ kept.2,
-      stands_then v u w v.agenda v.agenda kept.3
-          (subst (λ (ds : List Duty). Stands u ds w) kept.3.agenda (tried.lost c.if-try_merge.false)),
-    )
+    let u = c.local_swap_next-local.new.hand.view in
+    let duty = c.requires.duty in
+    let local = c.local_swap_next-local.result in
+    subst (λ (ds : List Duty). Stands v 0 ds u) (sym (ap merge_left duty.next))
+    (swapped_nobody v v u 0 c.args.row local duty.reason duty.rest
+    (merge_begins v c.args.row duty.reason duty.rest duty.next) c.local_swap_next-local.ensures.view
+    (eq-eqb local 0 c.if-local-ne0.false))

@@ -1,10 +1,10 @@
 use Rattle.std.proofs.Common.{◌≡◌}
 use Rattle.brc_free.specs.Works.{Stands}
-use Rattle.brc_free.proofs.merging.merge.Given as goal
+use Rattle.brc_free.proofs.merging.merge_carried.Given as goal
 
 -- Each try that is lost leaves the same duties.
 abbrev pub invariant-loop : goal.invariant-loop
 invariant-loop g l =
     (l.hand.table ≡ l.fn.hand.table) × (l.hand.carried ≡ l.fn.hand.carried)
     × (l.hand.slots ≡ l.fn.hand.slots)
-    × Stands l.fn.hand.view l.fn.hand.view.agenda l.hand.view
+    × Stands l.fn.hand.view 0 l.fn.hand.view.agenda l.hand.view

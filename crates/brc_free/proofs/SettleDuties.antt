@@ -1,0 +1,195 @@
+-- What the steps leave by which a hand finalises an object.
+use Rattle.std.proofs.Common.{◌≡◌, ◌≢◌, ℕ, zero, suc, ◌+◌, ◌-◌, ◌<◌, Bool, true, false, List, [], ◌∷◌, ◌++◌, refl, sym, ap, ◌∙◌, subst, arith}
+use Rattle.std.proofs.Math.Nat.{zero-add, lt_irrefl, le_refl}
+use Rattle.std.proofs.lemmas.Bool.{lt-ltb, le-ltb}
+use Rattle.std.specs.Prelude.{nat_lt, if◌then◌else◌}
+use Rattle.brc_model.specs.declared.actor.Status.TheVariants.{Running, Gone}
+use Rattle.brc_model.specs.declared.duty.Holding.TheVariants.{InFlight}
+use Rattle.brc_model.specs.declared.duty.Duty.{Duty}
+use Rattle.brc_model.specs.declared.duty.Duty.TheVariants.{ReleaseLoad, Settle, SettleKind, SettleCell, TakeSlot, SettleEnd}
+use Rattle.brc_model.specs.Duties.{ready, has_resource, cells_of, cells_from, release_found}
+use Rattle.brc_table.specs.declared.view.View.{View}
+use Rattle.brc_table.specs.Views.{did, done, settling, settle_first, slot_emptied, slot_emptied_by}
+use Rattle.brc_table.specs.Calls.{MaySettle, SettlesFrom}
+use Rattle.brc_free.specs.Works.{Works, Begun, Next, Comes, Keeps, Stands, ComesToSettle, AtOnce, InWork, found_by}
+use Rattle.brc_free.proofs.Standing.{stands_found, stands_on, stands_then}
+use Rattle.brc_free.proofs.FirstDuties.{settle_kind_first, settle_cell_first, take_slot_first, settle_end_first}
+
+-- ---- taking the first object off the chain
+
+-- A hand that comes to settle isn't gone.
+pub comes_alive : (v : View) (rest : List Duty) → ComesToSettle v rest → v.status ≢ Gone
+comes_alive v rest (AtOnce running aside idle) = λ gone. absurd (running_gone (sym running ∙ gone)) where
+  running_gone : Running ≡ Gone → ⊥
+  running_gone is = absurd cc
+comes_alive v rest (InWork duties alive next) = alive
+
+-- With an object in the chain, to settle it needs a step.
+pub settle_ready : (head : ℕ) (rest : List Duty) → 0 < head → ready head (Settle ∷ rest) ≡ Settle ∷ rest
+settle_ready zero rest some = absurd (lt_irrefl 0 some)
+settle_ready (suc head) rest some = refl
+
+-- A hand that comes to settle may do so,
+pub may_settle : (v : View) (rest : List Duty) → 0 < v.head → ComesToSettle v rest → MaySettle v
+may_settle v rest some (AtOnce running aside idle) =
+    subst (SettlesFrom v) (sym idle) (running, aside)
+may_settle v rest some (InWork duties alive next) =
+    subst (SettlesFrom v) (sym (next ∙ settle_ready v.head duties some)) alive
+
+-- and does it first.
+settles_first : (v : View) (rest : List Duty) → 0 < v.head → ComesToSettle v rest
+    → settle_first v.agenda ≡ Settle ∷ rest
+settles_first v rest some (AtOnce running aside idle) = ap settle_first idle
+settles_first v rest some (InWork duties alive next) =
+    ap settle_first (next ∙ settle_ready v.head duties some)
+
+comes : (v : View) (rest : List Duty) → 0 < v.head → ComesToSettle v rest → Stands v 0 (Settle ∷ rest) (settling v)
+comes v rest some at = record {
+  agenda = settles_first v rest some at ∙ sym (settle_ready v.head rest some);
+  works = Comes 0 v Begun;
+  keeps = record {
+    layout = refl;
+    thread = refl;
+    status = refl;
+    references = refl;
+    aside = refl;
+    used = refl;
+    locked = refl;
+    lent = refl;
+    in_slot = refl;
+    given = refl;
+  };
+}
+
+-- The first object is off the chain.
+pub taken_off : (v w : View) (x found : ℕ) (rest : List Duty) → 0 < v.head → x ≡ v.head - 1 → ComesToSettle v rest
+    → w ≡ done (settling v) found → Stands v 0 (SettleKind x ∷ Settle ∷ rest) w
+taken_off v w x found rest some row at is =
+    stands_on v (settling v) w 0 Settle rest (SettleKind x ∷ Settle ∷ rest) found (comes v rest some at)
+    (settle_ready v.head rest some) refl refl is
+    (record { status = refl; used = refl; locked = refl; lent = refl })
+    (ap (λ (y : ℕ). SettleKind y ∷ Settle ∷ rest) (sym row))
+
+-- ---- its kind
+
+-- A file or a socket has a resource to be closed,
+pub kind_has_resource : (v u w : View) (n x found : ℕ) (rest : List Duty) → Stands v n (SettleKind x ∷ rest) u
+    → w ≡ done u found → has_resource found ≡ true → Stands v (1 + n) (TakeSlot x ∷ rest) w
+kind_has_resource v u w n x found rest at is has =
+    subst (λ (m : ℕ). Stands v m (TakeSlot x ∷ rest) w)
+    (ap (λ (b : Bool). (if b then 1 else 0) + n) has)
+    (stands_found v u w n (SettleKind x) rest (TakeSlot x ∷ rest) found at (settle_kind_first u.head x rest) refl is
+    (record { status = refl; used = refl; locked = refl; lent = refl })
+    (ap (λ (b : Bool). (if b then TakeSlot x ∷ [] else cells_from x 0 (cells_of found)) ++ rest) has))
+
+-- and any other object may have cells.
+pub kind_has_cells : (v u w : View) (n x found : ℕ) (rest : List Duty) → Stands v n (SettleKind x ∷ rest) u
+    → w ≡ done u found → has_resource found ≡ false → Stands v n (cells_from x 0 (cells_of found) ++ rest) w
+kind_has_cells v u w n x found rest at is none =
+    stands_on v u w n (SettleKind x) rest (cells_from x 0 (cells_of found) ++ rest) found at
+    (settle_kind_first u.head x rest) refl (ap (λ (b : Bool). if b then 1 else 0) none) is
+    (record { status = refl; used = refl; locked = refl; lent = refl })
+    (ap (λ (b : Bool). (if b then TakeSlot x ∷ [] else cells_from x 0 (cells_of found)) ++ rest) none)
+
+-- These may be as many as the code has counted.
+pub cells_next : (v u w : View) (x found count : ℕ) (rest : List Duty) → Stands v 0 (SettleKind x ∷ Settle ∷ rest) u
+    → w ≡ done u found → has_resource found ≡ false → count ≡ cells_of found
+    → Stands v 0 (cells_from x 0 count ++ Settle ∷ rest) w
+cells_next v u w x found count rest at is none same =
+    subst (λ (m : ℕ). Stands v 0 (cells_from x 0 m ++ Settle ∷ rest) w) (sym same)
+    (kind_has_cells v u w 0 x found (Settle ∷ rest) at is none)
+
+-- ---- its cells
+
+-- Cells that are left need steps, and so does the end.
+pub cells_first : (head x i n : ℕ) (rest : List Duty) → ready head (cells_from x i n ++ rest) ≡ cells_from x i n ++ rest
+cells_first head x i n rest = first (nat_lt i n) where
+  first : (more : Bool) → let ds = (if more then SettleCell x i n ∷ [] else SettleEnd x ∷ []) ++ rest in ready head ds ≡ ds
+  first true = settle_cell_first head x i n rest
+  first false = settle_end_first head x rest
+
+-- The next cell that is left.
+pub cell_next : (x i n : ℕ) (rest : List Duty) → i < n → cells_from x i n ++ rest ≡ SettleCell x i n ∷ rest
+cell_next x i n rest low =
+    ap (λ (b : Bool). (if b then SettleCell x i n ∷ [] else SettleEnd x ∷ []) ++ rest) (lt-ltb i n low)
+
+-- A cell is empty now, and what was there is given up next.
+pub cell_emptied : (v u w : View) (n x i m found : ℕ) (rest : List Duty) → Stands v n (SettleCell x i m ∷ rest) u
+    → w ≡ done u found → Stands v n (release_found found ++ (cells_from x (i + 1) m ++ rest)) w
+cell_emptied v u w n x i m found rest at is =
+    stands_on v u w n (SettleCell x i m) rest (release_found found ++ (cells_from x (i + 1) m ++ rest)) found at
+    (settle_cell_first u.head x i m rest) refl refl is
+    (record { status = refl; used = refl; locked = refl; lent = refl })
+    (behind_release found (cells_from x (i + 1) m) rest) where
+      behind_release : (found : ℕ) (ds es : List Duty) → (release_found found ++ ds) ++ es ≡ release_found found ++ (ds ++ es)
+      behind_release zero ds es = refl
+      behind_release (suc y) ds es = refl
+
+-- what is given up, if there was something
+pub item_found : (found : ℕ) → found ≢ 0 → release_found found ≡ ReleaseLoad (found - 1) InFlight ∷ []
+item_found zero some = absurd (some refl)
+item_found (suc y) some = ap (λ (x : ℕ). ReleaseLoad x InFlight ∷ []) (one_less y) where
+  one_less : (y : ℕ) → y ≡ suc y - 1
+  one_less y = omega (arith)
+
+-- All cells are empty now.
+pub all_emptied : (v u w : View) (x n : ℕ) (rest : List Duty) → Stands v 0 (cells_from x 0 n ++ Settle ∷ rest) u
+    → ((later : List Duty) → u.agenda ≡ cells_from x 0 n ++ later → Stands u 0 (SettleEnd x ∷ later) w)
+    → Stands v 0 (SettleEnd x ∷ Settle ∷ rest) w
+all_emptied v u w x n rest at emptied =
+    stands_then v u w 0 0 (cells_from x 0 n ++ Settle ∷ rest) (SettleEnd x ∷ Settle ∷ rest) at
+    (emptied (Settle ∷ rest) (at.agenda ∙ cells_first u.head x 0 n (Settle ∷ rest)))
+
+-- After the last cell the object is closed.
+pub cells_end : (x n : ℕ) (rest : List Duty) → cells_from x n n ++ rest ≡ SettleEnd x ∷ rest
+cells_end x n rest =
+    ap (λ (b : Bool). (if b then SettleCell x n n ∷ [] else SettleEnd x ∷ []) ++ rest) (le-ltb n n (le_refl n))
+
+-- ---- its end
+
+-- The object is closed: one without a resource,
+pub ended : (v u w : View) (n x found : ℕ) (rest : List Duty) → Stands v n (SettleEnd x ∷ rest) u
+    → w ≡ done (slot_emptied u) found → Stands v n rest w
+ended v u w n x found rest at is =
+    let has : u.agenda ≡ SettleEnd x ∷ rest = at.agenda ∙ settle_end_first u.head x rest in
+    stands_on v u w n (SettleEnd x) rest rest found at (settle_end_first u.head x rest) refl refl
+    (is ∙ ap (λ (ds : List Duty). done (slot_emptied_by ds u) found) has)
+    (record { status = refl; used = refl; locked = refl; lent = refl }) refl
+
+-- and one whose resource is out of its slot.
+pub ended_empty : (v u w : View) (n x found : ℕ) (rest : List Duty) → Stands v n (TakeSlot x ∷ rest) u
+    → w ≡ done (slot_emptied u) found → Stands v n rest w
+ended_empty v u w n x found rest at is =
+    let has : u.agenda ≡ TakeSlot x ∷ rest = at.agenda ∙ take_slot_first u.head x rest in
+    let does : w ≡ did (record u { agenda = SettleEnd x ∷ rest }) (SettleEnd x ∷ rest) found =
+    is ∙ ap (λ (ds : List Duty). done (slot_emptied_by ds u) found) has in
+    let work : Works v n (done (slot_emptied u) found) =
+    subst (λ (m : ℕ). Works v m (done (slot_emptied u) found)) (zero-add n)
+    (subst (λ (ds : List Duty). Works v (found_by ds found + n) (done (slot_emptied u) found)) has
+    (Next n u found at.works)) in
+    record {
+      agenda = ap (λ (z : View). z.agenda) does ∙ ap (λ (z : View). ready z.head rest) (sym does);
+      works = subst (Works v n) (sym is) work;
+      keeps =
+          subst (Keeps v) (sym does)
+          (record {
+            layout = at.keeps.layout;
+            thread = at.keeps.thread;
+            status = at.keeps.status;
+            references = at.keeps.references;
+            aside = at.keeps.aside;
+            used = at.keeps.used;
+            locked = at.keeps.locked;
+            lent = at.keeps.lent;
+            in_slot = at.keeps.in_slot;
+            given = at.keeps.given;
+          });
+    }
+
+-- ---- the end of the chain
+
+-- With an empty chain the hand goes on with what comes behind.
+pub settled : (u : View) (rest : List Duty) → u.head ≡ 0 → ComesToSettle u rest → u.agenda ≡ ready u.head rest
+settled u rest none (AtOnce running aside idle) = idle
+settled u rest none (InWork duties alive next) =
+    next ∙ (ap (λ (head : ℕ). ready head (Settle ∷ duties)) none ∙ sym (ap (λ (head : ℕ). ready head duties) none))

@@ -1,0 +1,36 @@
+use Rattle.std.proofs.Common.{List, ◌∷◌, ◌++◌, refl, sym, ◌∙◌, subst}
+use Rattle.brc_model.specs.declared.duty.Duty.{Duty}
+use Rattle.brc_model.specs.declared.duty.Duty.TheVariants.{SettleCell}
+use Rattle.brc_model.specs.Duties.{cells_from}
+use Rattle.brc_free.specs.Works.{Stands, cells_left}
+use Rattle.brc_free.proofs.FirstDuties.{settle_cell_first}
+use Rattle.brc_free.proofs.Standing.{stands_first, stands_call}
+use Rattle.brc_free.proofs.SettleDuties.{cells_first, cell_next}
+use Rattle.brc_free.proofs.finaliser.Finaliser.empty_cells.Goals as goal
+
+pub loop-cell-init : goal.loop-cell-init
+loop-cell-init g c =
+    let v = c.args.hand.now.view in (
+      refl,
+      refl,
+      refl,
+      λ rest is. stands_first v (cells_from c.args.row 0 c.args.cells ++ rest)
+          (is ∙ sym (cells_first v.head c.args.row 0 c.args.cells rest)),
+    )
+
+pub loop-cell-preserved : goal.loop-cell-preserved
+loop-cell-preserved g c =
+    let v = c.args.hand.now.view in
+    let u = c.loop-cell.hand.view in
+    let w = c.empty_cell.new.hand.view in
+    let kept = c.loop-cell.invariant in
+    let emptied = c.empty_cell.ensures in (
+      emptied.table ∙ kept.0,
+      emptied.carried ∙ kept.1,
+      emptied.slots ∙ kept.2,
+      λ rest is.
+          stands_call v u w 0 (SettleCell c.args.row c.loop-cell.cell c.args.cells ∷ rest) cells_left
+          (subst (λ (ds : List Duty). Stands v 0 ds u)
+          (cell_next c.args.row c.loop-cell.cell c.args.cells rest c.loop-cell-test.true) (kept.3 rest is))
+          (settle_cell_first u.head c.args.row c.loop-cell.cell c.args.cells rest) emptied.work,
+    )

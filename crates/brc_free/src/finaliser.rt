@@ -1,0 +1,185 @@
+//! Finalising the objects of a hand's dying chain.
+
+ghost use Rattle.std.specs.Prelude.{◌≡◌, ◌≢◌, ◌<◌, ℕ, List, ◌∷◌, ◌++◌};
+ghost use Rattle.brc_host.specs.HostCounts.{after_closes, raised};
+ghost use Rattle.brc_model.specs.declared.actor.Status.TheVariants.{Gone};
+ghost use Rattle.brc_model.specs.declared.duty.Duty.{Duty};
+ghost use Rattle.brc_model.specs.declared.duty.Duty.TheVariants.{Settle, SettleEnd};
+ghost use Rattle.brc_model.specs.Duties.{has_resource, cells_of, cells_from};
+ghost use Rattle.brc_table.specs.Hands.{IsOf};
+ghost use Rattle.brc_table.specs.Uses.{FirstSlot, behind_slot};
+ghost use Rattle.brc_free.specs.Works.{Stands, ComesToSettle, EmptiesNext, CellNext, TakesNext, behind, cells_left};
+
+use brc_heap::{Hand, Heap, Marker};
+use brc_host::Host;
+use brc_word::{kind_argument, kind_number};
+use std::marker::Model;
+use std::sync::Wait;
+
+/// The number of the kind of lists, in kind words.
+const LIST: u32 = 3;
+
+/// The number of the kind of files.
+const FILE: u32 = 4;
+
+/// The number of the kind of sockets.
+const SOCK: u32 = 5;
+
+/// Returns whether an object with this kind word has a resource of the host.
+fn has_resource(kind: u64) -> bool
+    ensures { result ≡ has_resource kind }
+{
+    let number = kind_number(kind);
+    number == FILE || number == SOCK
+}
+
+/// Returns how many cells an object with this kind word has.
+fn cells_of(kind: u64) -> u32
+    ensures { result ≡ cells_of kind }
+{
+    if kind_number(kind) == LIST {
+        kind_argument(kind)
+    } else {
+        0
+    }
+}
+
+/// What finalises the dying objects of a heap. It puts objects that other threads own into the queues that it was given.
+#[derive(Drop)]
+pub struct Finaliser<'h, T: Drop, Q: Marker<T>> {
+    pub(crate) heap: &'h Heap<T>,
+    pub(crate) queue: &'h Q,
+}
+
+impl<'h, T: Drop, Q: Marker<T>> Model for Finaliser<'h, T, Q> {
+    ghost use Rattle.std.specs.Prelude.{◌≡◌};
+    ghost use Rattle.brc_table.specs.Hands.{TableState};
+
+    ghost Value = { TableState };
+
+    ghost view = { λ f. f.heap.now };
+
+    ghost invariant = { λ f. Q.heap f.queue.now ≡ f.heap.now };
+}
+
+impl<'h, T: Drop, Q: Marker<T>> Finaliser<'h, T, Q> {
+    /// Returns what finalises the dying objects of the heap, with the queues of the heap's threads.
+    pub fn new(heap: &'h Heap<T>, queue: &'h Q) -> Finaliser<'h, T, Q>
+        requires { Q.heap queue.now ≡ heap.now }
+        ensures { result ≡ heap.now }
+    {
+        Finaliser { heap, queue }
+    }
+
+    /// Finalises the objects of the hand's dying chain, and those that die by that, until the chain is empty. The
+    /// references in a list's cells are given up, and the resource of a file or a socket is closed. Returns how many
+    /// closes have failed, up to the greatest number.
+    ///
+    /// The hand has nothing else to do, or comes to this in its exit, or as it looks through its queue.
+    pub fn settle<R: Wait, H: Host<Res = T>>(&self, rt: &R, hand: &mut Hand<T>, host: &mut H) -> u64
+        requires table { IsOf self.now hand.old }
+        requires duty { (rest : List Duty) × ComesToSettle hand.old.view rest }
+        ensures table { hand.new.table ≡ hand.old.table }
+        ensures carried { hand.new.carried ≡ hand.old.carried }
+        ensures slots { hand.new.slots ≡ hand.old.slots }
+        ensures chain { hand.new.view.head ≡ 0 }
+        ensures work { (rest : List Duty) → ComesToSettle hand.old.view rest → (closes : ℕ) × (failed : ℕ)
+            × Stands hand.old.view closes rest hand.new.view × (result ≡ raised failed 0)
+            × (H.counts host.new ≡ after_closes closes failed (H.counts host.old)) }
+    {
+        let mut failed: u64 = 0;
+        for _ in rt.forever() {
+            if hand.head() == 0 {
+                return failed;
+            }
+            failed = failed.saturating_add(self.finalise_first(rt, hand, host));
+        }
+        unreachable!()
+    }
+
+    /// Finalises the first object of the hand's dying chain. Returns how many closes have failed.
+    fn finalise_first<R: Wait, H: Host<Res = T>>(
+        &self,
+        rt: &R,
+        hand: &mut Hand<T>,
+        host: &mut H,
+    ) -> u64
+        requires table { IsOf self.now hand.old }
+        requires chain { 0 < hand.old.view.head }
+        requires duty { (rest : List Duty) × ComesToSettle hand.old.view rest }
+        ensures table { hand.new.table ≡ hand.old.table }
+        ensures carried { hand.new.carried ≡ hand.old.carried }
+        ensures slots { hand.new.slots ≡ hand.old.slots }
+        ensures work { (rest : List Duty) → ComesToSettle hand.old.view rest → (closes : ℕ)
+            × Stands hand.old.view closes (Settle ∷ rest) hand.new.view
+            × (H.counts host.new ≡ after_closes closes result (H.counts host.old)) }
+    {
+        let words = self.heap.words();
+        let row = hand.head() - 1;
+        words.gate_load(hand);
+        let kind = words.dying_kind_load(hand, row);
+        if has_resource(kind) {
+            return self.close_resource(hand, host, row);
+        }
+        self.empty_cells(rt, hand, row, cells_of(kind));
+        words.gate_close(hand, row);
+        0
+    }
+
+    /// Does the next duties, behind which others may come: closes the resource of a dying file or socket, and then the
+    /// object. Returns how many closes have failed.
+    fn close_resource<H: Host<Res = T>>(&self, hand: &mut Hand<T>, host: &mut H, row: u32) -> u64
+        requires table { IsOf self.now hand.old }
+        requires alive { hand.old.view.status ≢ Gone }
+        requires duty { TakesNext row hand.old.view.agenda }
+        requires slot { FirstSlot hand.old.slots row 1 }
+        ensures table { hand.new.table ≡ hand.old.table }
+        ensures carried { hand.new.carried ≡ hand.old.carried }
+        ensures slots { hand.new.slots ≡ behind_slot hand.old.slots }
+        ensures work { Stands hand.old.view 0 (behind hand.old.view.agenda) hand.new.view }
+        ensures closed { H.counts host.new ≡ after_closes 1 result (H.counts host.old) }
+    {
+        let words = self.heap.words();
+        let resource = words.slot_take(hand, row);
+        let failed = if host.close(resource).is_err() { 1 } else { 0 };
+        words.gate_close(hand, row);
+        failed
+    }
+
+    /// Does the next duties, behind which others may come: empties the cells of a dying list, and gives up the references
+    /// that were there.
+    fn empty_cells<R: Wait>(&self, rt: &R, hand: &mut Hand<T>, row: u32, cells: u32)
+        requires table { IsOf self.now hand.old }
+        requires alive { hand.old.view.status ≢ Gone }
+        requires duty { EmptiesNext row cells hand.old.view.agenda }
+        ensures table { hand.new.table ≡ hand.old.table }
+        ensures carried { hand.new.carried ≡ hand.old.carried }
+        ensures slots { hand.new.slots ≡ hand.old.slots }
+        ensures work { (rest : List Duty) → hand.old.view.agenda ≡ cells_from row 0 cells ++ rest
+            → Stands hand.old.view 0 (SettleEnd row ∷ rest) hand.new.view }
+    {
+        for cell in 0..cells {
+            self.empty_cell(rt, hand, row, cell);
+        }
+    }
+
+    /// Does the next duties, behind which others may come: empties a cell of a dying list, and gives up the reference that
+    /// was there.
+    fn empty_cell<R: Wait>(&self, rt: &R, hand: &mut Hand<T>, row: u32, cell: u32)
+        requires table { IsOf self.now hand.old }
+        requires alive { hand.old.view.status ≢ Gone }
+        requires duty { CellNext row cell hand.old.view.agenda }
+        ensures table { hand.new.table ≡ hand.old.table }
+        ensures carried { hand.new.carried ≡ hand.old.carried }
+        ensures slots { hand.new.slots ≡ hand.old.slots }
+        ensures work { Stands hand.old.view 0 (cells_left hand.old.view.agenda) hand.new.view }
+    {
+        let words = self.heap.words();
+        words.layout_is_plain();
+        let item = words.dying_cell_swap(hand, row, cell);
+        if item == 0 {
+            return;
+        }
+        self.release_item(rt, hand, (item - 1) as u32);
+    }
+}
