@@ -125,3 +125,12 @@ cells_left _ = []
 pub record TakesNext (x : ℕ) (ds : List Duty) : Type 0 where
   pub rest : List Duty
   pub next : ds ≡ TakeSlot x ∷ rest
+
+-- The next duties are to merge the object of row x, because the hand has taken its mark, and then to settle.
+pub record ClaimedNext (x : ℕ) (ds : List Duty) : Type 0 where
+  pub rest : List Duty
+  pub next : ds ≡ MergeSwap x Handed ∷ Settle ∷ rest
+
+-- what is left of these duties once the hand has settled
+abbrev pub claimed_left : List Duty → List Duty
+claimed_left ds = behind (behind ds)

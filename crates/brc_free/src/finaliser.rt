@@ -8,8 +8,9 @@ ghost use Rattle.brc_model.specs.declared.duty.Duty.TheVariants.{Settle, SettleE
 ghost use Rattle.brc_model.specs.Duties.{has_resource, cells_of, cells_from};
 ghost use Rattle.brc_table.specs.Hands.{IsOf};
 ghost use Rattle.brc_table.specs.Uses.{FirstSlot, behind_slot};
-ghost use Rattle.brc_free.specs.Works.{Stands, ComesToSettle, EmptiesNext, CellNext, TakesNext, behind, cells_left};
+ghost use Rattle.brc_free.specs.Works.{Stands, ComesToSettle, EmptiesNext, CellNext, TakesNext, ClaimedNext, behind, cells_left, claimed_left};
 
+use crate::merging::merge;
 use brc_heap::{Hand, Heap, Marker};
 use brc_host::Host;
 use brc_word::{kind_argument, kind_number};
@@ -95,6 +96,31 @@ impl<'h, T: Drop, Q: Marker<T>> Finaliser<'h, T, Q> {
             failed = failed.saturating_add(self.finalise_first(rt, hand, host));
         }
         unreachable!()
+    }
+
+    /// Does the next duties: merges an object whose mark the hand has taken, gives up the reference that was handed over
+    /// with it, and settles. Returns how many closes have failed, up to the greatest number.
+    pub fn merge_claimed<R: Wait, H: Host<Res = T>>(
+        &self,
+        rt: &R,
+        hand: &mut Hand<T>,
+        host: &mut H,
+        row: u32,
+    ) -> u64
+        requires table { IsOf self.now hand.old }
+        requires alive { hand.old.view.status ≢ Gone }
+        requires duty { ClaimedNext row hand.old.view.agenda }
+        ensures table { hand.new.table ≡ hand.old.table }
+        ensures carried { hand.new.carried ≡ hand.old.carried }
+        ensures slots { hand.new.slots ≡ hand.old.slots }
+        ensures chain { hand.new.view.head ≡ 0 }
+        ensures work { (closes : ℕ) × (failed : ℕ)
+            × Stands hand.old.view closes (claimed_left hand.old.view.agenda) hand.new.view × (result ≡ raised failed 0)
+            × (H.counts host.new ≡ after_closes closes failed (H.counts host.old)) }
+    {
+        merge(rt, self.heap.words(), hand, row);
+        self.give_up(rt, hand, row);
+        self.settle(rt, hand, host)
     }
 
     /// Finalises the first object of the hand's dying chain. Returns how many closes have failed.

@@ -51,7 +51,7 @@ impl<'h, T: Drop, Q: Marker<T>> Finaliser<'h, T, Q> {
 
     /// Does the next duties, behind which others may come: decides what becomes of an object whose last local reference
     /// is gone.
-    fn decide_at_zero<R: Wait>(&self, rt: &R, hand: &mut Hand<T>, row: u32)
+    pub(crate) fn decide_at_zero<R: Wait>(&self, rt: &R, hand: &mut Hand<T>, row: u32)
         requires table { IsOf self.now hand.old }
         requires alive { hand.old.view.status ≢ Gone }
         requires duty { DecidesNext row hand.old.view.agenda }

@@ -8,6 +8,7 @@
 mod finaliser;
 mod giving_up;
 mod merging;
+mod releasing;
 
 pub use finaliser::Finaliser;
 pub use merging::merge;

@@ -16,7 +16,7 @@ use std::alloc::Global;
 use std::marker::Model;
 
 /// The root's row.
-pub(crate) const ROOT: u32 = 1;
+pub const ROOT: u32 = 1;
 
 /// All objects of one program, with their counts. `T` is the resource of a file or a socket.
 ///

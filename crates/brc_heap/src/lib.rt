@@ -17,7 +17,7 @@ mod retain;
 pub use brc_table::{Hand, Words};
 pub use error::{NoMemory, Taken};
 pub use finish::{Final, StillRunning};
-pub use heap::Heap;
+pub use heap::{Heap, ROOT};
 pub use marker::{Looked, Marker};
 pub use merge::MergeStep;
 pub use release::{LocalRelease, SharedRelease, ZeroStep};

@@ -4,7 +4,9 @@
 //! Each call tries once. It never waits, and takes no memory.
 #![tactic(auto)]
 
+mod exit;
 mod marker;
+mod pending;
 mod queue;
 
 pub use brc_heap::Looked;

@@ -34,7 +34,9 @@ impl<T: Drop> Words<T> {
     pub fn own_row(&self, hand: &Hand<T>, index: u32) -> u32
         requires table { IsOf self.now hand.now }
         requires used { index < hand.now.view.used }
-        ensures { result ≡ row_at self.now.layout hand.now.view.thread index }
+        ensures row { result ≡ row_at self.now.layout hand.now.view.thread index }
+        ensures there { result < row_count self.now.layout }
+        ensures own { block_of self.now.layout result ≡ hand.now.view.thread }
     {
         self.layout_is_plain();
         hand.rows_are_there();

@@ -17,7 +17,7 @@ swap-requires-clause-there g c =
     let plain : IsPlainLayout v.layout = subst IsPlainLayout (sym c.requires.table.1) c.layout_is_plain.ensures in
     let low = own_row_there v c.args.index c.rows_are_there.ensures plain.immortals c.requires.used in
     let is : row_at v.layout v.thread c.args.index ≡ c.own_row-row.result =
-    ap (λ (l : Layout). row_at l v.thread c.args.index) c.requires.table.1 ∙ sym c.own_row-row.ensures in
+    ap (λ (l : Layout). row_at l v.thread c.args.index) c.requires.table.1 ∙ sym c.own_row-row.ensures.row in
     subst (λ (l : Layout). c.own_row-row.result < row_count l) c.requires.table.1
     (subst (λ (x : ℕ). x < row_count v.layout) is low)
 
@@ -25,6 +25,6 @@ pub swap-requires-clause-makes : goal.swap-requires-clause-makes
 swap-requires-clause-makes g c =
     let v = c.args.hand.now.view in
     let is : row_at v.layout v.thread c.args.index ≡ c.own_row-row.result =
-    ap (λ (l : Layout). row_at l v.thread c.args.index) c.requires.table.1 ∙ sym c.own_row-row.ensures in
+    ap (λ (l : Layout). row_at l v.thread c.args.index) c.requires.table.1 ∙ sym c.own_row-row.ensures.row in
     subst (λ (x : ℕ). MakesQuietly v (in_tile 4 x) (λ found. 0)) is
     (scan_makes v c.args.index c.requires.alive v.agenda refl c.requires.duty)

@@ -1,0 +1,54 @@
+-- What a hand does that looks through its own queue, and what it does as it leaves.
+use Rattle.std.specs.Prelude.{◌≡◌, ℕ, suc, ◌+◌, ◌-◌, List, [], ◌∷◌}
+use Rattle.brc_model.specs.declared.duty.Duty.{Duty}
+use Rattle.brc_model.specs.declared.duty.Duty.TheVariants.{Scan, Finish}
+use Rattle.brc_model.specs.Layout.{root_row, row_at}
+use Rattle.brc_model.specs.Duties.{ready}
+use Rattle.brc_table.specs.declared.view.View.{View}
+use Rattle.brc_table.specs.Views.{done, claiming, leaving}
+use Rattle.brc_heap.specs.Calls.{released_locally}
+use Rattle.brc_free.specs.Works.{Stands}
+
+-- The hand has taken the mark of the row at index i of its block. Where the mark was set, it has merged the object, given
+-- up the reference that was handed over with it, and settled, by which it found n resources of dying objects.
+pub record Claims (i n : ℕ) (v w : View) : Type 0 where
+  pub found : ℕ
+  pub follows : Stands (done (claiming v (row_at v.layout v.thread i)) found) n [] w
+  pub settled : w.head ≡ 0
+
+-- The hand has taken the marks of the first rows of its block, by rising number, and has found n resources in all.
+pub data LooksThrough (v : View) : ℕ → ℕ → View → Type 0 where
+  Begun : LooksThrough v 0 0 v
+  Next : (i n m : ℕ) (u w : View) → LooksThrough v i n u → Claims i m u w → LooksThrough v (i + 1) (m + n) w
+
+-- To scan the marks of all used rows, and then to say that the thread is gone, is what comes next.
+abbrev pub ScansNext : View → Type 0
+ScansNext v = v.agenda ≡ ready v.head (Scan 0 v.used ∷ Finish ∷ [])
+
+-- The first duty is to scan the mark of the thread's row with index i, and n more behind it.
+pub record ScanNext (i : ℕ) (ds : List Duty) : Type 0 where
+  pub more : ℕ
+  pub rest : List Duty
+  pub next : ds ≡ Scan i (suc more) ∷ rest
+
+-- what is left of these duties once the row is scanned
+abbrev pub scan_left : List Duty → List Duty
+scan_left (Scan i n ∷ rest) = Scan (i + 1) (n - 1) ∷ rest
+scan_left _ = []
+
+-- The hand has left: it has given up the reference to the root, settled, said that it leaves, scanned the marks of its
+-- rows, each mark that was set followed by the merge, the release and the settling, and said that it is gone. By this it
+-- has found n resources of dying objects.
+pub record HasLeft (n : ℕ) (v w : View) : Type 0 where
+  pub word : ℕ
+  pub released : View
+  pub settled : View
+  pub scanned : View
+  pub first : ℕ
+  pub later : ℕ
+  pub found_is : n ≡ later + first
+  pub releases : Stands (released_locally v root_row word) 0 [] released
+  pub settles : Stands released first [] settled
+  pub empty : settled.head ≡ 0
+  pub scans : Stands (done (leaving settled) 1) later (Finish ∷ []) scanned
+  pub gone : w ≡ done scanned 2

@@ -1,0 +1,95 @@
+//! The exit of a thread.
+
+ghost use Rattle.std.specs.Prelude.{◌≡◌, ◌≢◌, ◌<◌, ℕ, None, [], ◌∷◌};
+ghost use Rattle.brc_host.specs.HostCounts.{after_closes, raised};
+ghost use Rattle.brc_model.specs.declared.actor.Status.TheVariants.{Gone};
+ghost use Rattle.brc_model.specs.declared.duty.Duty.TheVariants.{Finish};
+ghost use Rattle.brc_model.specs.Layout.{root_row};
+ghost use Rattle.brc_table.specs.Hands.{IsOf};
+ghost use Rattle.brc_table.specs.Calls.{IsFree};
+ghost use Rattle.brc_free.specs.Works.{Stands};
+ghost use Rattle.brc_queue.specs.Scans.{ScansNext, ScanNext, HasLeft, scan_left};
+
+use crate::queue::{QUEUED, Queue};
+use brc_free::Finaliser;
+use brc_heap::{Hand, ROOT};
+use brc_host::Host;
+use std::sync::Wait;
+
+impl<'h, T: Drop> Queue<'h, T> {
+    /// Leaves (PEP 703, Biased Reference Counting: an exiting thread merges the objects in its queue). The hand's thread
+    /// gives up its reference to the root and finalises what dies; says that it is leaving, so that whoever queues an
+    /// object for it from then on looks after it; by rising number, takes the mark of each used row of its block, merges
+    /// each object whose mark was set, gives up the reference that was handed over with it, and finalises what dies; and
+    /// says that it is gone. Returns how many closes have failed, up to the greatest number.
+    ///
+    /// The hand has nothing to do, its dying chain is empty, and it holds a reference to the root and no other.
+    pub fn leave<R: Wait, H: Host<Res = T>>(&self, rt: &R, hand: &mut Hand<T>, host: &mut H) -> u64
+        requires table { IsOf self.now hand.old }
+        requires free { IsFree hand.old.view }
+        requires settled { hand.old.view.head ≡ 0 }
+        requires unlocked { hand.old.view.locked ≡ None }
+        requires root { hand.old.view.references ≡ root_row ∷ [] }
+        ensures table { IsOf self.now hand.new }
+        ensures carried { hand.new.carried ≡ hand.old.carried }
+        ensures slots { hand.new.slots ≡ hand.old.slots }
+        ensures gone { hand.new.view.status ≡ Gone }
+        ensures idle { (hand.new.view.agenda ≡ []) × (hand.new.view.aside ≡ []) × (hand.new.view.head ≡ 0) }
+        ensures holds_none { hand.new.view.references ≡ [] }
+        ensures work { (closes : ℕ) × (failed : ℕ) × HasLeft closes hand.old.view hand.new.view
+            × (result ≡ raised failed 0) × (H.counts host.new ≡ after_closes closes failed (H.counts host.old)) }
+    {
+        let finaliser = Finaliser::new(self.heap, self);
+        finaliser.release(rt, hand, ROOT);
+        let failed = finaliser.settle(rt, hand, host);
+        self.heap.words().thread_leave(hand);
+        let more = self.scan(rt, hand, host);
+        self.heap.words().thread_gone(hand);
+        failed.saturating_add(more)
+    }
+
+    /// Does the next duties: scans the marks of all used rows of the hand's block. Returns how many closes have failed, up
+    /// to the greatest number.
+    fn scan<R: Wait, H: Host<Res = T>>(&self, rt: &R, hand: &mut Hand<T>, host: &mut H) -> u64
+        requires table { IsOf self.now hand.old }
+        requires alive { hand.old.view.status ≢ Gone }
+        requires settled { hand.old.view.head ≡ 0 }
+        requires duty { ScansNext hand.old.view }
+        ensures table { hand.new.table ≡ hand.old.table }
+        ensures carried { hand.new.carried ≡ hand.old.carried }
+        ensures slots { hand.new.slots ≡ hand.old.slots }
+        ensures settled { hand.new.view.head ≡ 0 }
+        ensures work { (closes : ℕ) × (failed : ℕ) × Stands hand.old.view closes (Finish ∷ []) hand.new.view
+            × (result ≡ raised failed 0) × (H.counts host.new ≡ after_closes closes failed (H.counts host.old)) }
+    {
+        let mut failed: u64 = 0;
+        for index in 0..hand.used() {
+            failed = failed.saturating_add(self.scan_row(rt, hand, host, index));
+        }
+        failed
+    }
+
+    /// Does the next duties: takes the mark of the row with the index in the hand's block, and does what follows. Returns
+    /// how many closes have failed, up to the greatest number.
+    fn scan_row<R: Wait, H: Host<Res = T>>(&self, rt: &R, hand: &mut Hand<T>, host: &mut H, index: u32) -> u64
+        requires table { IsOf self.now hand.old }
+        requires alive { hand.old.view.status ≢ Gone }
+        requires settled { hand.old.view.head ≡ 0 }
+        requires used { index < hand.old.view.used }
+        requires duty { ScanNext index hand.old.view.agenda }
+        ensures table { hand.new.table ≡ hand.old.table }
+        ensures carried { hand.new.carried ≡ hand.old.carried }
+        ensures slots { hand.new.slots ≡ hand.old.slots }
+        ensures settled { hand.new.view.head ≡ 0 }
+        ensures work { (closes : ℕ) × (failed : ℕ)
+            × Stands hand.old.view closes (scan_left hand.old.view.agenda) hand.new.view × (result ≡ raised failed 0)
+            × (H.counts host.new ≡ after_closes closes failed (H.counts host.old)) }
+    {
+        let words = self.heap.words();
+        if words.mark_scan(hand, index) != QUEUED {
+            return 0;
+        }
+        let row = words.own_row(hand, index);
+        Finaliser::new(self.heap, self).merge_claimed(rt, hand, host, row)
+    }
+}

@@ -1,0 +1,65 @@
+//! Looking through a hand's own queue.
+
+ghost use Rattle.std.specs.Prelude.{◌≡◌, ◌<◌, ℕ};
+ghost use Rattle.brc_host.specs.HostCounts.{after_closes, raised};
+ghost use Rattle.brc_table.specs.Hands.{IsOf};
+ghost use Rattle.brc_table.specs.Calls.{IsFree};
+ghost use Rattle.brc_free.specs.Works.{Keeps};
+ghost use Rattle.brc_queue.specs.Scans.{Claims, LooksThrough};
+
+use crate::queue::{QUEUED, Queue};
+use brc_free::Finaliser;
+use brc_heap::Hand;
+use brc_host::Host;
+use std::sync::Wait;
+
+impl<'h, T: Drop> Queue<'h, T> {
+    /// Looks through the hand's own queue (PEP 703, Biased Reference Counting: a thread merges the objects that others
+    /// have queued for it). By rising number, takes the mark of each used row of the hand's block; merges each object
+    /// whose mark was set, gives up the reference that was handed over with it, and finalises what dies. Returns how many
+    /// closes have failed, up to the greatest number.
+    ///
+    /// The hand has nothing to do, and its dying chain is empty.
+    pub fn merge_pending<R: Wait, H: Host<Res = T>>(&self, rt: &R, hand: &mut Hand<T>, host: &mut H) -> u64
+        requires table { IsOf self.now hand.old }
+        requires free { IsFree hand.old.view }
+        requires settled { hand.old.view.head ≡ 0 }
+        ensures table { IsOf self.now hand.new }
+        ensures carried { hand.new.carried ≡ hand.old.carried }
+        ensures slots { hand.new.slots ≡ hand.old.slots }
+        ensures free { IsFree hand.new.view }
+        ensures settled { hand.new.view.head ≡ 0 }
+        ensures keeps { Keeps hand.old.view hand.new.view }
+        ensures work { (closes : ℕ) × (failed : ℕ)
+            × LooksThrough hand.old.view hand.old.view.used closes hand.new.view × (result ≡ raised failed 0)
+            × (H.counts host.new ≡ after_closes closes failed (H.counts host.old)) }
+    {
+        let mut failed: u64 = 0;
+        for index in 0..hand.used() {
+            failed = failed.saturating_add(self.claim(rt, hand, host, index));
+        }
+        failed
+    }
+
+    /// Takes the mark of the row with the index in the hand's block, and does what follows. Returns how many closes have
+    /// failed, up to the greatest number.
+    fn claim<R: Wait, H: Host<Res = T>>(&self, rt: &R, hand: &mut Hand<T>, host: &mut H, index: u32) -> u64
+        requires table { IsOf self.now hand.old }
+        requires free { IsFree hand.old.view }
+        requires settled { hand.old.view.head ≡ 0 }
+        requires used { index < hand.old.view.used }
+        ensures table { hand.new.table ≡ hand.old.table }
+        ensures carried { hand.new.carried ≡ hand.old.carried }
+        ensures slots { hand.new.slots ≡ hand.old.slots }
+        ensures keeps { Keeps hand.old.view hand.new.view }
+        ensures work { (closes : ℕ) × (failed : ℕ) × Claims index closes hand.old.view hand.new.view
+            × (result ≡ raised failed 0) × (H.counts host.new ≡ after_closes closes failed (H.counts host.old)) }
+    {
+        let words = self.heap.words();
+        let row = words.own_row(hand, index);
+        if words.mark_claim(hand, row) != QUEUED {
+            return 0;
+        }
+        Finaliser::new(self.heap, self).merge_claimed(rt, hand, host, row)
+    }
+}
