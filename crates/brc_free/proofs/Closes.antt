@@ -34,3 +34,12 @@ closed_twice more failed closes faults before =
 pub sums : (limit failed more faults : ℕ) → failed ≡ 0 + min faults (limit - 0)
     → min (failed + more) limit ≡ 0 + min (more + faults) (limit - 0)
 sums limit failed more faults is = omega (arith, is)
+
+-- So do two of them.
+sums_both_by : (limit one two less more : ℕ) → one ≡ 0 + min less (limit - 0) → two ≡ 0 + min more (limit - 0)
+    → min (one + two) limit ≡ 0 + min (more + less) (limit - 0)
+sums_both_by limit one two less more first second = omega (arith, first, second)
+
+pub sums_both : (one two less more : ℕ) → one ≡ raised less 0 → two ≡ raised more 0
+    → min (one + two) count_limit ≡ raised (more + less) 0
+sums_both one two less more first second = sums_both_by count_limit one two less more first second

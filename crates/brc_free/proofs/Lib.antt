@@ -1,7 +1,7 @@
-mod FirstDuties
-mod Standing
-mod MergeDuties
-mod GivingUp
-mod Choosing
-mod Closes
-mod SettleDuties
+pub mod FirstDuties
+pub mod Standing
+pub mod MergeDuties
+pub mod GivingUp
+pub mod Choosing
+pub mod Closes
+pub mod SettleDuties

@@ -17,7 +17,7 @@ use Rattle.brc_heap.specs.Calls.{KeepsSight, Leaves}
 use Rattle.brc_heap.proofs.Sight.{sight_then}
 
 -- The root is counted.
-root_counted : (l : Layout) → is_immortal_row l root_row ≡ false
+pub root_counted : (l : Layout) → is_immortal_row l root_row ≡ false
 root_counted l =
     ap (λ (b : Bool). b && nat_lt root_row (first_immortal_list l + l.immortal_lists))
     (lt-leb (first_immortal_list l) root_row (omega arith))

@@ -9,4 +9,4 @@ mod Merging
 mod Bearing
 mod Asking
 mod OwnRows
-mod Handing
+pub mod Handing

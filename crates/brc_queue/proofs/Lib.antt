@@ -1,2 +1,4 @@
 mod Posting
 mod Posted
+mod Scanning
+mod Exits

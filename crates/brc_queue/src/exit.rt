@@ -71,7 +71,13 @@ impl<'h, T: Drop> Queue<'h, T> {
 
     /// Does the next duties: takes the mark of the row with the index in the hand's block, and does what follows. Returns
     /// how many closes have failed, up to the greatest number.
-    fn scan_row<R: Wait, H: Host<Res = T>>(&self, rt: &R, hand: &mut Hand<T>, host: &mut H, index: u32) -> u64
+    fn scan_row<R: Wait, H: Host<Res = T>>(
+        &self,
+        rt: &R,
+        hand: &mut Hand<T>,
+        host: &mut H,
+        index: u32,
+    ) -> u64
         requires table { IsOf self.now hand.old }
         requires alive { hand.old.view.status ≢ Gone }
         requires settled { hand.old.view.head ≡ 0 }

@@ -20,7 +20,12 @@ impl<'h, T: Drop> Queue<'h, T> {
     /// closes have failed, up to the greatest number.
     ///
     /// The hand has nothing to do, and its dying chain is empty.
-    pub fn merge_pending<R: Wait, H: Host<Res = T>>(&self, rt: &R, hand: &mut Hand<T>, host: &mut H) -> u64
+    pub fn merge_pending<R: Wait, H: Host<Res = T>>(
+        &self,
+        rt: &R,
+        hand: &mut Hand<T>,
+        host: &mut H,
+    ) -> u64
         requires table { IsOf self.now hand.old }
         requires free { IsFree hand.old.view }
         requires settled { hand.old.view.head ≡ 0 }
@@ -43,7 +48,13 @@ impl<'h, T: Drop> Queue<'h, T> {
 
     /// Takes the mark of the row with the index in the hand's block, and does what follows. Returns how many closes have
     /// failed, up to the greatest number.
-    fn claim<R: Wait, H: Host<Res = T>>(&self, rt: &R, hand: &mut Hand<T>, host: &mut H, index: u32) -> u64
+    fn claim<R: Wait, H: Host<Res = T>>(
+        &self,
+        rt: &R,
+        hand: &mut Hand<T>,
+        host: &mut H,
+        index: u32,
+    ) -> u64
         requires table { IsOf self.now hand.old }
         requires free { IsFree hand.old.view }
         requires settled { hand.old.view.head ≡ 0 }

@@ -1,5 +1,4 @@
-use Rattle.std.proofs.Common.{◌≡◌, ◌⊎◌, ℕ, inl, inr, List, [], ap, ◌∙◌, subst}
-use Rattle.brc_model.specs.declared.duty.Duty.{Duty}
+use Rattle.std.proofs.Common.{◌≡◌, ◌⊎◌, ℕ, inl, inr, [], ap, ◌∙◌, subst}
 use Rattle.brc_table.specs.declared.view.View.{View}
 use Rattle.brc_heap.specs.declared.release.LocalRelease.{LocalRelease}
 use Rattle.brc_heap.specs.declared.release.LocalRelease.TheVariants as local
@@ -16,6 +15,8 @@ nothing_left x answer (inr is) = ap (local_left x) is
 pub returns-in-Skip-clause-work : goal.returns-in-Skip-clause-work
 returns-in-Skip-clause-work g c =
     let u = c.release_local.new.hand.view in
-    let events = c.release_local.ensures.events in
-    (events.0, subst (λ (z : View). Stands z 0 [] u) events.3 (stands_first u []
-    (c.release_local.ensures.left.agenda ∙ nothing_left c.args.row c.release_local.result c.in-Skip.is)))
+    let events = c.release_local.ensures.events in (
+      events.0,
+      subst (λ (z : View). Stands z 0 [] u) events.3 (stands_first u []
+          (c.release_local.ensures.left.agenda ∙ nothing_left c.args.row c.release_local.result c.in-Skip.is)),
+    )

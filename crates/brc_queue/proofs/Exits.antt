@@ -1,0 +1,58 @@
+-- How a thread's exit goes on.
+use Rattle.std.proofs.Common.{◌≡◌, ℕ, zero, suc, Bool, List, [], ◌∷◌, ◌++◌, refl, ap, ◌∙◌}
+use Rattle.std.specs.Prelude.{not, if◌then◌else◌}
+use Rattle.std.specs.List.{filter}
+use Rattle.brc_model.specs.declared.duty.Duty.{Duty}
+use Rattle.brc_model.specs.declared.duty.Duty.TheVariants.{Finish}
+use Rattle.brc_model.specs.Duties.{ready}
+use Rattle.brc_model.specs.Layout.{root_row}
+use Rattle.brc_model.specs.OpenWork.{is_about}
+use Rattle.brc_table.specs.declared.view.View.{View}
+use Rattle.brc_table.specs.Views.{did, done, open_work, without_one, without_reference}
+use Rattle.brc_table.specs.Calls.{IsFree, MayLeave}
+use Rattle.brc_heap.proofs.Handing.{root_counted}
+use Rattle.brc_free.specs.Works.{Stands, ComesToSettle, AtOnce}
+
+-- With no other work, nothing is aside after the release of the root.
+pub nothing_aside : (v : View) (x : ℕ) → v.agenda ≡ [] → v.aside ≡ []
+    → filter (λ d. not (is_about x d)) (open_work v) ≡ []
+nothing_aside v x idle none =
+    ap (λ (ds : List Duty). filter (λ d. not (is_about x d)) (ds ++ v.aside)) idle
+    ∙ ap (λ (ds : List Duty). filter (λ d. not (is_about x d)) ds) none
+
+-- The hand then comes to settle,
+pub comes_at_once : (v u : View) (x : ℕ) → IsFree v → u.status ≡ v.status → u.agenda ≡ []
+    → u.aside ≡ filter (λ d. not (is_about x d)) (open_work v) → ComesToSettle u []
+comes_at_once v u x free same idle aside =
+    AtOnce (same ∙ free.running) (aside ∙ nothing_aside v x free.agenda free.aside) idle
+
+-- and holds nothing.
+pub holds_none : (v u : View) → v.references ≡ root_row ∷ []
+    → u.references ≡ without_reference v.layout root_row v.references → u.references ≡ []
+holds_none v u root is =
+    is
+    ∙ (ap (λ (b : Bool). if b then v.references else without_one root_row v.references) (root_counted v.layout)
+    ∙ ap (without_one root_row) root)
+
+-- Once it has settled it may leave.
+pub may_leave : (v u w : View) (n : ℕ) → IsFree v → v.references ≡ root_row ∷ [] → u.status ≡ v.status
+    → u.aside ≡ filter (λ d. not (is_about root_row d)) (open_work v)
+    → u.references ≡ without_reference v.layout root_row v.references → Stands u n [] w → w.head ≡ 0 → MayLeave w
+may_leave v u w n free root same aside references at empty = record {
+  free = record {
+    running = at.keeps.status ∙ (same ∙ free.running);
+    agenda = at.agenda;
+    aside = at.keeps.aside ∙ (aside ∙ nothing_aside v root_row free.agenda free.aside);
+  };
+  holds_none = at.keeps.references ∙ holds_none v u root references;
+  settled = empty;
+}
+
+-- To say that it is gone comes last,
+pub finish_first : (head : ℕ) → ready head (Finish ∷ []) ≡ Finish ∷ []
+finish_first zero = refl
+finish_first (suc head) = refl
+
+-- and then nothing is left.
+pub finished : (v u w : View) (n : ℕ) → Stands v n (Finish ∷ []) u → w ≡ done u 2 → w ≡ did u (Finish ∷ []) 2
+finished v u w n at is = is ∙ ap (λ (ds : List Duty). did u ds 2) (at.agenda ∙ finish_first u.head)

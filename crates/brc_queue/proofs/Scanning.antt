@@ -1,0 +1,115 @@
+-- What comes next for a hand that takes a mark of its own block.
+use Rattle.std.proofs.Common.{◌≡◌, ℕ, suc, zero, ◌+◌, ◌-◌, ◌<◌, Bool, true, false, List, [], ◌∷◌, ◌++◌, refl, sym, ap, ◌∙◌, subst, arith}
+use Rattle.std.specs.Prelude.{◌==◌, if◌then◌else◌}
+use Rattle.std.proofs.Math.Nat.{add-zero}
+use Rattle.brc_model.specs.declared.duty.Reason.TheVariants.{Handed}
+use Rattle.brc_model.specs.declared.duty.Duty.{Duty}
+use Rattle.brc_model.specs.declared.duty.Duty.TheVariants.{MergeSwap, Settle, Scan, Finish}
+use Rattle.brc_model.specs.Layout.{row_at}
+use Rattle.brc_model.specs.Duties.{ready, claimed}
+use Rattle.brc_table.specs.declared.view.View.{View}
+use Rattle.brc_table.specs.Views.{did, done, claiming}
+use Rattle.brc_free.specs.Works.{Stands, claimed_left}
+use Rattle.brc_queue.specs.Scans.{scan_left}
+use Rattle.brc_free.proofs.FirstDuties.{merge_swap_first}
+use Rattle.brc_free.proofs.Standing.{stands_first, stands_on, stands_then}
+
+-- ---- a claim
+
+-- The mark wasn't set, and nothing is left to do.
+pub claim_none : (v w : View) (x found : ℕ) → v.head ≡ 0 → (found == 1) ≡ false → w ≡ done (claiming v x) found
+    → w.agenda ≡ ready w.head []
+claim_none v w x found empty none is =
+    ap (λ (z : View). z.agenda) is
+    ∙ (ap (λ (b : Bool). ready v.head (((if b then MergeSwap x Handed ∷ [] else []) ++ Settle ∷ []) ++ [])) none
+    ∙ ap (λ (head : ℕ). ready head (Settle ∷ [])) empty)
+
+-- ---- a scan
+
+-- A scan of rows needs a step.
+scan_first : (head i n : ℕ) (rest : List Duty) → ready head (Scan i (suc n) ∷ rest) ≡ Scan i (suc n) ∷ rest
+scan_first zero i n rest = refl
+scan_first (suc head) i n rest = refl
+
+one_less : (n : ℕ) → suc n - 1 ≡ n
+one_less n = omega (arith)
+
+scanned : (v w : View) (i n found : ℕ) (rest : List Duty) → v.agenda ≡ Scan i (suc n) ∷ rest → w ≡ done v found
+    → Stands v 0 (claimed (row_at v.layout v.thread i) found ++ Settle ∷ Scan (i + 1) (suc n - 1) ∷ rest) w
+scanned v w i n found rest next is =
+    stands_on v v w 0 (Scan i (suc n)) rest
+    (claimed (row_at v.layout v.thread i) found ++ Settle ∷ Scan (i + 1) (suc n - 1) ∷ rest) found
+    (stands_first v (Scan i (suc n) ∷ rest) (next ∙ sym (scan_first v.head i n rest))) (scan_first v.head i n rest) refl
+    refl is (record { status = refl; used = refl; locked = refl; lent = refl })
+    (behind_claim (row_at v.layout v.thread i) (found == 1)) where
+      behind_claim : (x : ℕ) (b : Bool)
+          → ((if b then MergeSwap x Handed ∷ [] else []) ++ Settle ∷ Scan (i + 1) (suc n - 1) ∷ []) ++ rest
+          ≡ (if b then MergeSwap x Handed ∷ [] else []) ++ Settle ∷ Scan (i + 1) (suc n - 1) ∷ rest
+      behind_claim x true = refl
+      behind_claim x false = refl
+
+-- The mark wasn't set, and the next row is scanned.
+pub scanned_none : (v w : View) (i n found : ℕ) (rest : List Duty) → v.agenda ≡ Scan i (suc n) ∷ rest
+    → w ≡ done v found → (found == 1) ≡ false → w.head ≡ 0 → Stands v 0 (Scan (i + 1) (suc n - 1) ∷ rest) w
+scanned_none v w i n found rest next is none still =
+    let at = subst (λ (ds : List Duty). Stands v 0 (ds ++ Settle ∷ Scan (i + 1) (suc n - 1) ∷ rest) w)
+    (ap (λ (b : Bool). if b then MergeSwap (row_at v.layout v.thread i) Handed ∷ [] else []) none)
+    (scanned v w i n found rest next is) in
+    record {
+      agenda =
+          at.agenda ∙ (ap (λ (head : ℕ). ready head (Settle ∷ Scan (i + 1) (suc n - 1) ∷ rest)) still
+          ∙ sym (ap (λ (head : ℕ). ready head (Scan (i + 1) (suc n - 1) ∷ rest)) still));
+      works = at.works;
+      keeps = at.keeps;
+    }
+
+-- A scan leaves the chain as it is.
+pub scan_head : (v w : View) (i n found : ℕ) (rest : List Duty) → v.agenda ≡ Scan i (suc n) ∷ rest
+    → w ≡ done v found → v.head ≡ 0 → w.head ≡ 0
+scan_head v w i n found rest next is empty =
+    ap (λ (z : View). z.head) (is ∙ ap (λ (ds : List Duty). did v ds found) next) ∙ empty
+
+-- The mark was set, and the object is merged next.
+pub scanned_one : (v w : View) (i n found : ℕ) (rest : List Duty) → v.agenda ≡ Scan i (suc n) ∷ rest
+    → w ≡ done v found → (found == 1) ≡ true
+    → Stands v 0 (MergeSwap (row_at v.layout v.thread i) Handed ∷ Settle ∷ Scan (i + 1) (suc n - 1) ∷ rest) w
+scanned_one v w i n found rest next is one =
+    subst (λ (ds : List Duty). Stands v 0 (ds ++ Settle ∷ Scan (i + 1) (suc n - 1) ∷ rest) w)
+    (ap (λ (b : Bool). if b then MergeSwap (row_at v.layout v.thread i) Handed ∷ [] else []) one)
+    (scanned v w i n found rest next is)
+
+-- The hand has then settled, and the next row is scanned.
+pub scanned_settled : (v u w : View) (x m : ℕ) (rest : List Duty)
+    → Stands v 0 (MergeSwap x Handed ∷ Settle ∷ rest) u → Stands u m (claimed_left u.agenda) w → Stands v m rest w
+scanned_settled v u w x m rest at settled =
+    subst (λ (n : ℕ). Stands v n rest w) (add-zero m)
+    (stands_then v u w 0 m (MergeSwap x Handed ∷ Settle ∷ rest) rest at
+    (subst (λ (ds : List Duty). Stands u m (claimed_left ds) w)
+    (at.agenda ∙ merge_swap_first u.head x Handed (Settle ∷ rest)) settled))
+
+-- ---- all rows
+
+-- A row that is left to scan is scanned next.
+pub scans_next : (u : View) (i used : ℕ) → i < used → u.agenda ≡ ready u.head (Scan i (used - i) ∷ Finish ∷ [])
+    → u.agenda ≡ Scan i (suc (used - i - 1)) ∷ Finish ∷ []
+scans_next u i used more is =
+    let count : used - i ≡ suc (used - i - 1) = omega (arith, more) in
+    is ∙ (ap (λ (n : ℕ). ready u.head (Scan i n ∷ Finish ∷ [])) count
+    ∙ scan_first u.head i (used - i - 1) (Finish ∷ []))
+
+-- Once it is scanned, the rows behind it are left.
+pub scans_on : (v u w : View) (n m i used : ℕ) → i < used → Stands v n (Scan i (used - i) ∷ Finish ∷ []) u
+    → Stands u m (scan_left u.agenda) w → Stands v (m + n) (Scan (i + 1) (used - (i + 1)) ∷ Finish ∷ []) w
+scans_on v u w n m i used more at scans =
+    let next = scans_next u i used more at.agenda in
+    let less : suc (used - i - 1) - 1 ≡ used - (i + 1) = omega (arith, more) in
+    stands_then v u w n m (Scan i (used - i) ∷ Finish ∷ []) (Scan (i + 1) (used - (i + 1)) ∷ Finish ∷ []) at
+    (subst (λ (ds : List Duty). Stands u m ds w)
+    (ap scan_left next ∙ ap (λ (k : ℕ). Scan (i + 1) k ∷ Finish ∷ []) less) scans)
+
+-- With no row left, the thread goes next.
+pub scan_ends : (head used : ℕ) → ready head (Scan used (used - used) ∷ Finish ∷ []) ≡ ready head (Finish ∷ [])
+scan_ends head used = ap (λ (n : ℕ). ready head (Scan used n ∷ Finish ∷ [])) (omega (arith)) ∙ none_left head where
+  none_left : (head : ℕ) → ready head (Scan used 0 ∷ Finish ∷ []) ≡ ready head (Finish ∷ [])
+  none_left zero = refl
+  none_left (suc head) = refl

@@ -1,0 +1,36 @@
+use Rattle.std.proofs.Common.{◌≡◌, ℕ, [], refl, sym, ap, ◌∙◌, subst}
+use Rattle.std.proofs.lemmas.Bool.{ne_eqb}
+use Rattle.brc_model.specs.declared.layout.Layout.{Layout}
+use Rattle.brc_model.specs.Layout.{row_at}
+use Rattle.brc_table.specs.declared.view.View.{View}
+use Rattle.brc_table.specs.Hands.{TableState}
+use Rattle.brc_table.specs.Views.{done, claiming}
+use Rattle.brc_free.specs.Works.{Stands}
+use Rattle.brc_free.proofs.Standing.{stands_first}
+use Rattle.brc_free.proofs.Closes.{none_closed}
+use Rattle.brc_queue.proofs.Scanning.{claim_none}
+use Rattle.brc_queue.proofs.queue.Queue.claim.Goals as goal
+
+pub returns-then-mark_claim-ne-QUEUED-clause-work : goal.returns-then-mark_claim-ne-QUEUED-clause-work
+returns-then-mark_claim-ne-QUEUED-clause-work g c =
+    let v = c.args.hand.now.view in
+    let w = c.mark_claim.new.hand.view in
+    let found = c.mark_claim.result in
+    let same = ap (λ (t : TableState). t.layout) (c.words-words.ensures ∙ c.self.view_is) in
+    let row_is : c.own_row-row.result ≡ row_at v.layout v.thread c.args.index =
+    c.own_row-row.ensures.row
+    ∙ ap (λ (l : Layout). row_at l v.thread c.args.index) (same ∙ sym c.requires.table.1) in
+    let is : w ≡ done (claiming v (row_at v.layout v.thread c.args.index)) found =
+    c.mark_claim.ensures.view ∙ ap (λ (x : ℕ). done (claiming v x) found) row_is in
+    let none = ne_eqb found 1 c.if-mark_claim-ne-QUEUED.true in (
+      0,
+      0,
+      record {
+        found = found;
+        follows = subst (λ (z : View). Stands z 0 [] w) is (stands_first w []
+            (claim_none v w (row_at v.layout v.thread c.args.index) found c.requires.settled none is));
+        settled = ap (λ (z : View). z.head) is ∙ c.requires.settled;
+      },
+      refl,
+      sym (none_closed (g.H.Host.counts c.args.host.now)),
+    )
