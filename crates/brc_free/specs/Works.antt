@@ -1,5 +1,6 @@
 -- What a hand does in the midst of other work: duty after duty, and which duties come next then.
-use Rattle.std.specs.Prelude.{◌≡◌, ◌≢◌, ℕ, ◌+◌, ◌<◌, List, [], ◌∷◌, ◌++◌}
+use Rattle.std.specs.Prelude.{◌≡◌, ◌≢◌, ℕ, ◌+◌, ◌<◌, List, [], ◌∷◌, ◌++◌, not}
+use Rattle.std.specs.List.{filter}
 use Rattle.brc_model.specs.declared.actor.Status.TheVariants.{Running, Gone}
 use Rattle.brc_model.specs.declared.duty.Holding.TheVariants.{InFlight}
 use Rattle.brc_model.specs.declared.duty.Reason.{Reason}
@@ -8,7 +9,8 @@ use Rattle.brc_model.specs.declared.duty.Duty.{Duty}
 use Rattle.brc_model.specs.declared.duty.Duty.TheVariants.{ReleaseLoad, DecideAtZero, SharedLoad, MergeSwap, MergeLoad, Settle, SettleKind, SettleCell, TakeSlot}
 use Rattle.brc_model.specs.Duties.{ready, once_merged, resources_of, cells_from}
 use Rattle.brc_table.specs.declared.view.View.{View}
-use Rattle.brc_table.specs.Views.{done, settling, slot_emptied}
+use Rattle.brc_model.specs.OpenWork.{is_about}
+use Rattle.brc_table.specs.Views.{done, settling, slot_emptied, without_reference, open_work}
 use Rattle.brc_free.specs.declared.giving_up.Tried.{Tried}
 use Rattle.brc_free.specs.declared.giving_up.Tried.TheVariants as tried
 
@@ -134,3 +136,19 @@ pub record ClaimedNext (x : ℕ) (ds : List Duty) : Type 0 where
 -- what is left of these duties once the hand has settled
 abbrev pub claimed_left : List Duty → List Duty
 claimed_left ds = behind (behind ds)
+
+-- ---- releases
+
+-- The hand has given up a reference to the object of row x. All other work is aside, and nothing comes next.
+pub record HasReleased (x : ℕ) (v u : View) : Type 0 where
+  pub layout : u.layout ≡ v.layout
+  pub thread : u.thread ≡ v.thread
+  pub status : u.status ≡ v.status
+  pub references : u.references ≡ without_reference v.layout x v.references
+  pub agenda : u.agenda ≡ []
+  pub aside : u.aside ≡ filter (λ d. not (is_about x d)) (open_work v)
+  pub used : u.used ≡ v.used
+  pub locked : u.locked ≡ v.locked
+  pub lent : u.lent ≡ v.lent
+  pub in_slot : u.in_slot ≡ v.in_slot
+  pub given : u.given ≡ v.given

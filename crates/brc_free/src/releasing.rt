@@ -1,12 +1,9 @@
 //! Releasing a reference, whatever becomes of the object.
 
-ghost use Rattle.std.specs.Prelude.{◌≡◌, ◌≢◌, ℕ, [], not};
-ghost use Rattle.std.specs.List.{filter};
-ghost use Rattle.brc_model.specs.OpenWork.{is_about};
-ghost use Rattle.brc_table.specs.Views.{without_reference, open_work};
+ghost use Rattle.std.specs.Prelude.{◌≡◌, ℕ, []};
 ghost use Rattle.brc_table.specs.Hands.{IsOf, IsRunning, HoldsOne, KeepsLock, HasNoWork};
 ghost use Rattle.brc_heap.specs.Calls.{released_locally};
-ghost use Rattle.brc_free.specs.Works.{Stands};
+ghost use Rattle.brc_free.specs.Works.{Stands, HasReleased};
 
 use crate::finaliser::Finaliser;
 use brc_heap::{Hand, LocalRelease, Marker};
@@ -27,13 +24,7 @@ impl<'h, T: Drop, Q: Marker<T>> Finaliser<'h, T, Q> {
         ensures carried { hand.new.carried ≡ hand.old.carried }
         ensures slots { hand.new.slots ≡ hand.old.slots }
         ensures work { (word : ℕ) × Stands (released_locally hand.old.view row word) 0 [] hand.new.view }
-        ensures status { hand.new.view.status ≡ hand.old.view.status }
-        ensures agenda { hand.new.view.agenda ≡ [] }
-        ensures aside { hand.new.view.aside ≡ filter (λ d. not (is_about row d)) (open_work hand.old.view) }
-        ensures references { hand.new.view.references
-            ≡ without_reference hand.old.view.layout row hand.old.view.references }
-        ensures used { hand.new.view.used ≡ hand.old.view.used }
-        ensures locked { hand.new.view.locked ≡ hand.old.view.locked }
+        ensures released { HasReleased row hand.old.view hand.new.view }
     {
         match self.heap.release_local(hand, row) {
             LocalRelease::Skip | LocalRelease::Kept => {}

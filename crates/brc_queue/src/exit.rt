@@ -36,6 +36,8 @@ impl<'h, T: Drop> Queue<'h, T> {
         ensures gone { hand.new.view.status ≡ Gone }
         ensures idle { (hand.new.view.agenda ≡ []) × (hand.new.view.aside ≡ []) × (hand.new.view.head ≡ 0) }
         ensures holds_none { hand.new.view.references ≡ [] }
+        ensures thread { hand.new.view.thread ≡ hand.old.view.thread }
+        ensures used { hand.new.view.used ≡ hand.old.view.used }
         ensures work { (closes : ℕ) × (failed : ℕ) × HasLeft closes hand.old.view hand.new.view
             × (result ≡ raised failed 0) × (H.counts host.new ≡ after_closes closes failed (H.counts host.old)) }
     {

@@ -13,8 +13,8 @@ pub settle-failed-requires-clause-duty : goal.settle-failed-requires-clause-duty
 settle-failed-requires-clause-duty g c = λ κs lives.
     let one = c.release.ensures in (
       [],
-      comes_at_once c.args.hand.now.view c.release.new.hand.view root_row c.requires.free one.status one.agenda
-          one.aside,
+      comes_at_once c.args.hand.now.view c.release.new.hand.view root_row c.requires.free one.released.status one.released.agenda
+          one.released.aside,
     )
 
 pub thread_leave-requires-clause-table : goal.thread_leave-requires-clause-table
@@ -22,7 +22,7 @@ thread_leave-requires-clause-table g c =
     let v = c.args.hand.now.view in
     let u = c.release.new.hand.view in
     let one = c.release.ensures in
-    let comes = comes_at_once v u root_row c.requires.free one.status one.agenda one.aside in
+    let comes = comes_at_once v u root_row c.requires.free one.released.status one.released.agenda one.released.aside in
     let settled = c.settle-failed.ensures.work [] comes in
     let same = c.new-finaliser.ensures ∙ sym c.words.ensures in (
       c.settle-failed.ensures.table ∙ (one.table.0 ∙ ap (λ (t : TableState). t.table) same),
@@ -34,17 +34,17 @@ thread_leave-requires-clause-may_leave g c =
     let v = c.args.hand.now.view in
     let u = c.release.new.hand.view in
     let one = c.release.ensures in
-    let comes = comes_at_once v u root_row c.requires.free one.status one.agenda one.aside in
+    let comes = comes_at_once v u root_row c.requires.free one.released.status one.released.agenda one.released.aside in
     let settled = c.settle-failed.ensures.work [] comes in
-    may_leave v u c.settle-failed.new.hand.view settled.0 c.requires.free c.requires.root one.status one.aside
-    one.references settled.2 c.settle-failed.ensures.chain
+    may_leave v u c.settle-failed.new.hand.view settled.0 c.requires.free c.requires.root one.released.status one.released.aside
+    one.released.references settled.2 c.settle-failed.ensures.chain
 
 pub scan-more-requires-clause-table : goal.scan-more-requires-clause-table
 scan-more-requires-clause-table g c = λ κs lives.
     let v = c.args.hand.now.view in
     let u = c.release.new.hand.view in
     let one = c.release.ensures in
-    let comes = comes_at_once v u root_row c.requires.free one.status one.agenda one.aside in
+    let comes = comes_at_once v u root_row c.requires.free one.released.status one.released.agenda one.released.aside in
     let settled = c.settle-failed.ensures.work [] comes in
     let same = c.new-finaliser.ensures ∙ c.self.view_is in (
       c.thread_leave.ensures.table ∙ (c.settle-failed.ensures.table
@@ -58,7 +58,7 @@ thread_gone-requires-clause-table g c =
     let v = c.args.hand.now.view in
     let u = c.release.new.hand.view in
     let one = c.release.ensures in
-    let comes = comes_at_once v u root_row c.requires.free one.status one.agenda one.aside in
+    let comes = comes_at_once v u root_row c.requires.free one.released.status one.released.agenda one.released.aside in
     let settled = c.settle-failed.ensures.work [] comes in
     let scanned = c.scan-more.ensures.work.2 in
     let same = c.new-finaliser.ensures ∙ sym c.words-2.ensures in (
@@ -73,7 +73,7 @@ returns-clause-table g c =
     let v = c.args.hand.now.view in
     let u = c.release.new.hand.view in
     let one = c.release.ensures in
-    let comes = comes_at_once v u root_row c.requires.free one.status one.agenda one.aside in
+    let comes = comes_at_once v u root_row c.requires.free one.released.status one.released.agenda one.released.aside in
     let settled = c.settle-failed.ensures.work [] comes in
     let scanned = c.scan-more.ensures.work.2 in
     let ends = finished c.thread_leave.new.hand.view c.scan-more.new.hand.view c.thread_gone.new.hand.view
@@ -91,10 +91,10 @@ returns-clause-idle g c =
     let v = c.args.hand.now.view in
     let u = c.release.new.hand.view in
     let one = c.release.ensures in
-    let comes = comes_at_once v u root_row c.requires.free one.status one.agenda one.aside in
+    let comes = comes_at_once v u root_row c.requires.free one.released.status one.released.agenda one.released.aside in
     let settled = c.settle-failed.ensures.work [] comes in
-    let may = may_leave v u c.settle-failed.new.hand.view settled.0 c.requires.free c.requires.root one.status one.aside
-    one.references settled.2 c.settle-failed.ensures.chain in
+    let may = may_leave v u c.settle-failed.new.hand.view settled.0 c.requires.free c.requires.root one.released.status one.released.aside
+    one.released.references settled.2 c.settle-failed.ensures.chain in
     let scanned = c.scan-more.ensures.work.2 in
     let ends = finished c.thread_leave.new.hand.view c.scan-more.new.hand.view c.thread_gone.new.hand.view
     c.scan-more.ensures.work.0 scanned c.thread_gone.ensures.view in (
@@ -109,22 +109,50 @@ returns-clause-holds_none g c =
     let v = c.args.hand.now.view in
     let u = c.release.new.hand.view in
     let one = c.release.ensures in
-    let comes = comes_at_once v u root_row c.requires.free one.status one.agenda one.aside in
+    let comes = comes_at_once v u root_row c.requires.free one.released.status one.released.agenda one.released.aside in
     let settled = c.settle-failed.ensures.work [] comes in
-    let may = may_leave v u c.settle-failed.new.hand.view settled.0 c.requires.free c.requires.root one.status one.aside
-    one.references settled.2 c.settle-failed.ensures.chain in
+    let may = may_leave v u c.settle-failed.new.hand.view settled.0 c.requires.free c.requires.root one.released.status one.released.aside
+    one.released.references settled.2 c.settle-failed.ensures.chain in
     let scanned = c.scan-more.ensures.work.2 in
     let ends = finished c.thread_leave.new.hand.view c.scan-more.new.hand.view c.thread_gone.new.hand.view
     c.scan-more.ensures.work.0 scanned c.thread_gone.ensures.view in
     ap (λ (z : View). z.references) ends
     ∙ (scanned.keeps.references ∙ (ap (λ (z : View). z.references) c.thread_leave.ensures.view ∙ may.holds_none))
 
+pub returns-clause-thread : goal.returns-clause-thread
+returns-clause-thread g c =
+    let v = c.args.hand.now.view in
+    let u = c.release.new.hand.view in
+    let one = c.release.ensures in
+    let comes = comes_at_once v u root_row c.requires.free one.released.status one.released.agenda one.released.aside in
+    let settled = c.settle-failed.ensures.work [] comes in
+    let scanned = c.scan-more.ensures.work.2 in
+    let ends = finished c.thread_leave.new.hand.view c.scan-more.new.hand.view c.thread_gone.new.hand.view
+    c.scan-more.ensures.work.0 scanned c.thread_gone.ensures.view in
+    ap (λ (z : View). z.thread) ends
+    ∙ (scanned.keeps.thread ∙ (ap (λ (z : View). z.thread) c.thread_leave.ensures.view
+    ∙ (settled.2.keeps.thread ∙ one.released.thread)))
+
+pub returns-clause-used : goal.returns-clause-used
+returns-clause-used g c =
+    let v = c.args.hand.now.view in
+    let u = c.release.new.hand.view in
+    let one = c.release.ensures in
+    let comes = comes_at_once v u root_row c.requires.free one.released.status one.released.agenda one.released.aside in
+    let settled = c.settle-failed.ensures.work [] comes in
+    let scanned = c.scan-more.ensures.work.2 in
+    let ends = finished c.thread_leave.new.hand.view c.scan-more.new.hand.view c.thread_gone.new.hand.view
+    c.scan-more.ensures.work.0 scanned c.thread_gone.ensures.view in
+    ap (λ (z : View). z.used) ends
+    ∙ (scanned.keeps.used ∙ (ap (λ (z : View). z.used) c.thread_leave.ensures.view
+    ∙ (settled.2.keeps.used ∙ one.released.used)))
+
 pub returns-clause-work : goal.returns-clause-work
 returns-clause-work g c =
     let v = c.args.hand.now.view in
     let u = c.release.new.hand.view in
     let one = c.release.ensures in
-    let comes = comes_at_once v u root_row c.requires.free one.status one.agenda one.aside in
+    let comes = comes_at_once v u root_row c.requires.free one.released.status one.released.agenda one.released.aside in
     let settled = c.settle-failed.ensures.work [] comes in
     let more = c.scan-more.ensures.work in (
       more.0 + settled.0,
