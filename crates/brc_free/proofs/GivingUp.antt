@@ -14,32 +14,32 @@ use Rattle.brc_table.specs.Views.{done}
 use Rattle.brc_heap.specs.declared.marker.Looked.{Looked}
 use Rattle.brc_heap.specs.declared.marker.Looked.TheVariants as looks
 use Rattle.brc_heap.specs.Marks.{posted, look_answer}
-use Rattle.brc_free.specs.Works.{Stands}
-use Rattle.brc_free.proofs.Standing.{stands_first, stands_on}
+use Rattle.brc_free.specs.Works.{HasWorked}
+use Rattle.brc_free.proofs.Working.{worked_first, worked_on}
 use Rattle.brc_free.proofs.FirstDuties.{release_load_first, release_store_first, decide_first, shared_load_first, shared_exchange_first, set_mark_first, look_first, take_mark_first, die_first}
 
 -- ---- a reference out of a cell
 
 -- A reference out of a cell that is given up next.
 pub item_begins : (v : View) (x : ℕ) (rest : List Duty) → v.agenda ≡ ReleaseLoad x InFlight ∷ rest
-    → Stands v 0 (ReleaseLoad x InFlight ∷ rest) v
+    → HasWorked v 0 (ReleaseLoad x InFlight ∷ rest) v
 item_begins v x rest next =
-    stands_first v (ReleaseLoad x InFlight ∷ rest) (next ∙ sym (release_load_first v.head x InFlight rest))
+    worked_first v (ReleaseLoad x InFlight ∷ rest) (next ∙ sym (release_load_first v.head x InFlight rest))
 
-pub item_immortal : (v u w : View) (n x found : ℕ) (rest : List Duty) → Stands v n (ReleaseLoad x InFlight ∷ rest) u
-    → w ≡ done u found → is_immortal_word found ≡ true → Stands v n rest w
+pub item_immortal : (v u w : View) (n x found : ℕ) (rest : List Duty) → HasWorked v n (ReleaseLoad x InFlight ∷ rest) u
+    → w ≡ done u found → is_immortal_word found ≡ true → HasWorked v n rest w
 item_immortal v u w n x found rest at is immortal =
-    stands_on v u w n (ReleaseLoad x InFlight) rest rest found at (release_load_first u.head x InFlight rest) refl refl is
+    worked_on v u w n (ReleaseLoad x InFlight) rest rest found at (release_load_first u.head x InFlight rest) refl refl is
     (record { status = refl; used = refl; locked = refl; lent = refl })
     (ap (λ (b : Bool). (if b then []
     else if counts_locally u.thread (is_running u.status) found then ReleaseStore x found ∷ []
     else SharedLoad x Own ∷ []) ++ rest) immortal)
 
-pub item_local : (v u w : View) (n x found : ℕ) (rest : List Duty) → Stands v n (ReleaseLoad x InFlight ∷ rest) u
+pub item_local : (v u w : View) (n x found : ℕ) (rest : List Duty) → HasWorked v n (ReleaseLoad x InFlight ∷ rest) u
     → w ≡ done u found → is_immortal_word found ≡ false → counts_locally u.thread (is_running u.status) found ≡ true
-    → Stands v n (ReleaseStore x found ∷ rest) w
+    → HasWorked v n (ReleaseStore x found ∷ rest) w
 item_local v u w n x found rest at is mortal counts =
-    stands_on v u w n (ReleaseLoad x InFlight) rest (ReleaseStore x found ∷ rest) found at
+    worked_on v u w n (ReleaseLoad x InFlight) rest (ReleaseStore x found ∷ rest) found at
     (release_load_first u.head x InFlight rest) refl refl is
     (record { status = refl; used = refl; locked = refl; lent = refl })
     (ap (λ (b : Bool). (if b then []
@@ -47,11 +47,11 @@ item_local v u w n x found rest at is mortal counts =
     else SharedLoad x Own ∷ []) ++ rest) mortal
     ∙ ap (λ (b : Bool). (if b then ReleaseStore x found ∷ [] else SharedLoad x Own ∷ []) ++ rest) counts)
 
-pub item_shared : (v u w : View) (n x found : ℕ) (rest : List Duty) → Stands v n (ReleaseLoad x InFlight ∷ rest) u
+pub item_shared : (v u w : View) (n x found : ℕ) (rest : List Duty) → HasWorked v n (ReleaseLoad x InFlight ∷ rest) u
     → w ≡ done u found → is_immortal_word found ≡ false → counts_locally u.thread (is_running u.status) found ≡ false
-    → Stands v n (SharedLoad x Own ∷ rest) w
+    → HasWorked v n (SharedLoad x Own ∷ rest) w
 item_shared v u w n x found rest at is mortal counts =
-    stands_on v u w n (ReleaseLoad x InFlight) rest (SharedLoad x Own ∷ rest) found at
+    worked_on v u w n (ReleaseLoad x InFlight) rest (SharedLoad x Own ∷ rest) found at
     (release_load_first u.head x InFlight rest) refl refl is
     (record { status = refl; used = refl; locked = refl; lent = refl })
     (ap (λ (b : Bool). (if b then []
@@ -60,18 +60,18 @@ item_shared v u w n x found rest at is mortal counts =
     ∙ ap (λ (b : Bool). (if b then ReleaseStore x found ∷ [] else SharedLoad x Own ∷ []) ++ rest) counts)
 
 -- The local word is stored with one less. If the count was 1, it is to be decided what becomes of the object.
-pub stored_last : (v u w : View) (n x word found : ℕ) (rest : List Duty) → Stands v n (ReleaseStore x word ∷ rest) u
-    → w ≡ done u found → (local_part word == 1) ≡ true → Stands v n (DecideAtZero x ∷ rest) w
+pub stored_last : (v u w : View) (n x word found : ℕ) (rest : List Duty) → HasWorked v n (ReleaseStore x word ∷ rest) u
+    → w ≡ done u found → (local_part word == 1) ≡ true → HasWorked v n (DecideAtZero x ∷ rest) w
 stored_last v u w n x word found rest at is last =
-    stands_on v u w n (ReleaseStore x word) rest (DecideAtZero x ∷ rest) found at
+    worked_on v u w n (ReleaseStore x word) rest (DecideAtZero x ∷ rest) found at
     (release_store_first u.head x word rest) refl refl is
     (record { status = refl; used = refl; locked = refl; lent = refl })
     (ap (λ (b : Bool). (if b then DecideAtZero x ∷ [] else []) ++ rest) last)
 
-pub stored_more : (v u w : View) (n x word found : ℕ) (rest : List Duty) → Stands v n (ReleaseStore x word ∷ rest) u
-    → w ≡ done u found → (local_part word == 1) ≡ false → Stands v n rest w
+pub stored_more : (v u w : View) (n x word found : ℕ) (rest : List Duty) → HasWorked v n (ReleaseStore x word ∷ rest) u
+    → w ≡ done u found → (local_part word == 1) ≡ false → HasWorked v n rest w
 stored_more v u w n x word found rest at is more =
-    stands_on v u w n (ReleaseStore x word) rest rest found at (release_store_first u.head x word rest) refl refl is
+    worked_on v u w n (ReleaseStore x word) rest rest found at (release_store_first u.head x word rest) refl refl is
     (record { status = refl; used = refl; locked = refl; lent = refl })
     (ap (λ (b : Bool). (if b then DecideAtZero x ∷ [] else []) ++ rest) more)
 
@@ -79,89 +79,89 @@ stored_more v u w n x word found rest at is more =
 
 -- What becomes of the object is decided next.
 pub decide_begins : (v : View) (x : ℕ) (rest : List Duty) → v.agenda ≡ DecideAtZero x ∷ rest
-    → Stands v 0 (DecideAtZero x ∷ rest) v
-decide_begins v x rest next = stands_first v (DecideAtZero x ∷ rest) (next ∙ sym (decide_first v.head x rest))
+    → HasWorked v 0 (DecideAtZero x ∷ rest) v
+decide_begins v x rest next = worked_first v (DecideAtZero x ∷ rest) (next ∙ sym (decide_first v.head x rest))
 
-pub decided_dead : (v u w : View) (n x found : ℕ) (rest : List Duty) → Stands v n (DecideAtZero x ∷ rest) u
-    → w ≡ done u found → (found == fresh_word) ≡ true → Stands v n (Die x ∷ rest) w
+pub decided_dead : (v u w : View) (n x found : ℕ) (rest : List Duty) → HasWorked v n (DecideAtZero x ∷ rest) u
+    → w ≡ done u found → (found == fresh_word) ≡ true → HasWorked v n (Die x ∷ rest) w
 decided_dead v u w n x found rest at is fresh =
-    stands_on v u w n (DecideAtZero x) rest (Die x ∷ rest) found at (decide_first u.head x rest) refl refl is
+    worked_on v u w n (DecideAtZero x) rest (Die x ∷ rest) found at (decide_first u.head x rest) refl refl is
     (record { status = refl; used = refl; locked = refl; lent = refl })
     (ap (λ (b : Bool). (if b then Die x ∷ [] else MergeSwap x Own ∷ []) ++ rest) fresh)
 
-pub decided_merge : (v u w : View) (n x found : ℕ) (rest : List Duty) → Stands v n (DecideAtZero x ∷ rest) u
-    → w ≡ done u found → (found == fresh_word) ≡ false → Stands v n (MergeSwap x Own ∷ rest) w
+pub decided_merge : (v u w : View) (n x found : ℕ) (rest : List Duty) → HasWorked v n (DecideAtZero x ∷ rest) u
+    → w ≡ done u found → (found == fresh_word) ≡ false → HasWorked v n (MergeSwap x Own ∷ rest) w
 decided_merge v u w n x found rest at is shared =
-    stands_on v u w n (DecideAtZero x) rest (MergeSwap x Own ∷ rest) found at (decide_first u.head x rest) refl refl is
+    worked_on v u w n (DecideAtZero x) rest (MergeSwap x Own ∷ rest) found at (decide_first u.head x rest) refl refl is
     (record { status = refl; used = refl; locked = refl; lent = refl })
     (ap (λ (b : Bool). (if b then Die x ∷ [] else MergeSwap x Own ∷ []) ++ rest) shared)
 
 -- The object goes to the head of the chain.
-pub chained : (v u w : View) (n x found : ℕ) (rest : List Duty) → Stands v n (Die x ∷ rest) u → w ≡ done u found
-    → Stands v n rest w
+pub chained : (v u w : View) (n x found : ℕ) (rest : List Duty) → HasWorked v n (Die x ∷ rest) u → w ≡ done u found
+    → HasWorked v n rest w
 chained v u w n x found rest at is =
-    stands_on v u w n (Die x) rest rest found at (die_first u.head x rest) refl refl is
+    worked_on v u w n (Die x) rest rest found at (die_first u.head x rest) refl refl is
     (record { status = refl; used = refl; locked = refl; lent = refl }) refl
 
 -- ---- the shared word
 
-shared_loaded : (v u w : View) (n x word : ℕ) (r : Reason) (rest : List Duty) → Stands v n (SharedLoad x r ∷ rest) u
-    → w ≡ done u word → Stands v n (SharedExchange x r word ∷ rest) w
+shared_loaded : (v u w : View) (n x word : ℕ) (r : Reason) (rest : List Duty) → HasWorked v n (SharedLoad x r ∷ rest) u
+    → w ≡ done u word → HasWorked v n (SharedExchange x r word ∷ rest) w
 shared_loaded v u w n x word r rest at is =
-    stands_on v u w n (SharedLoad x r) rest (SharedExchange x r word ∷ rest) word at (shared_load_first u.head x r rest)
+    worked_on v u w n (SharedLoad x r) rest (SharedExchange x r word ∷ rest) word at (shared_load_first u.head x r rest)
     refl refl is (record { status = refl; used = refl; locked = refl; lent = refl }) refl
 
 -- A hand that comes to give a reference up in the shared word loads the word first.
 pub shared_begins : (v u : View) (x word : ℕ) (r : Reason) (rest : List Duty) → v.agenda ≡ SharedLoad x r ∷ rest
-    → u ≡ done v word → Stands v 0 (SharedExchange x r word ∷ rest) u
+    → u ≡ done v word → HasWorked v 0 (SharedExchange x r word ∷ rest) u
 shared_begins v u x word r rest next is =
     shared_loaded v v u 0 x word r rest
-    (stands_first v (SharedLoad x r ∷ rest) (next ∙ sym (shared_load_first v.head x r rest))) is
+    (worked_first v (SharedLoad x r ∷ rest) (next ∙ sym (shared_load_first v.head x r rest))) is
 
 -- An exchange that is lost is followed by the load again.
 pub exchange_lost : (v u w : View) (n x word found : ℕ) (r : Reason) (rest : List Duty)
-    → Stands v n (SharedExchange x r word ∷ rest) u → w ≡ done u found → (found == word) ≡ false
-    → Stands v n (SharedLoad x r ∷ rest) w
+    → HasWorked v n (SharedExchange x r word ∷ rest) u → w ≡ done u found → (found == word) ≡ false
+    → HasWorked v n (SharedLoad x r ∷ rest) w
 exchange_lost v u w n x word found r rest at is lost =
-    stands_on v u w n (SharedExchange x r word) rest (SharedLoad x r ∷ rest) found at
+    worked_on v u w n (SharedExchange x r word) rest (SharedLoad x r ∷ rest) found at
     (shared_exchange_first u.head x word r rest) refl refl is
     (record { status = refl; used = refl; locked = refl; lent = refl })
     (ap (λ (b : Bool). (if b then shared_result x word else SharedLoad x r ∷ []) ++ rest) lost)
 
 exchange_won : (v u w : View) (n x word found : ℕ) (r : Reason) (rest : List Duty)
-    → Stands v n (SharedExchange x r word ∷ rest) u → w ≡ done u found → (found == word) ≡ true
-    → Stands v n (shared_result x word ++ rest) w
+    → HasWorked v n (SharedExchange x r word ∷ rest) u → w ≡ done u found → (found == word) ≡ true
+    → HasWorked v n (shared_result x word ++ rest) w
 exchange_won v u w n x word found r rest at is won =
-    stands_on v u w n (SharedExchange x r word) rest (shared_result x word ++ rest) found at
+    worked_on v u w n (SharedExchange x r word) rest (shared_result x word ++ rest) found at
     (shared_exchange_first u.head x word r rest) refl refl is
     (record { status = refl; used = refl; locked = refl; lent = refl })
     (ap (λ (b : Bool). (if b then shared_result x word else SharedLoad x r ∷ []) ++ rest) won)
 
 -- One that wins puts the object into its owner's queue,
 pub exchange_queued : (v u w : View) (n x word found : ℕ) (r : Reason) (rest : List Duty)
-    → Stands v n (SharedExchange x r word ∷ rest) u → w ≡ done u found → (found == word) ≡ true
-    → (word == fresh_word) ≡ true → Stands v n (SetMark x ∷ rest) w
+    → HasWorked v n (SharedExchange x r word ∷ rest) u → w ≡ done u found → (found == word) ≡ true
+    → (word == fresh_word) ≡ true → HasWorked v n (SetMark x ∷ rest) w
 exchange_queued v u w n x word found r rest at is won fresh =
-    subst (λ (ds : List Duty). Stands v n (ds ++ rest) w)
+    subst (λ (ds : List Duty). HasWorked v n (ds ++ rest) w)
     (ap (λ (b : Bool). if b then SetMark x ∷ [] else if released_word word == dead_word then Die x ∷ [] else []) fresh)
     (exchange_won v u w n x word found r rest at is won)
 
 -- or was the last reference,
 pub exchange_dead : (v u w : View) (n x word found : ℕ) (r : Reason) (rest : List Duty)
-    → Stands v n (SharedExchange x r word ∷ rest) u → w ≡ done u found → (found == word) ≡ true
-    → (word == fresh_word) ≡ false → (released_word word == dead_word) ≡ true → Stands v n (Die x ∷ rest) w
+    → HasWorked v n (SharedExchange x r word ∷ rest) u → w ≡ done u found → (found == word) ≡ true
+    → (word == fresh_word) ≡ false → (released_word word == dead_word) ≡ true → HasWorked v n (Die x ∷ rest) w
 exchange_dead v u w n x word found r rest at is won shared dead =
-    subst (λ (ds : List Duty). Stands v n (ds ++ rest) w)
+    subst (λ (ds : List Duty). HasWorked v n (ds ++ rest) w)
     (ap (λ (b : Bool). if b then SetMark x ∷ [] else if released_word word == dead_word then Die x ∷ [] else []) shared
     ∙ ap (λ (b : Bool). if b then Die x ∷ [] else []) dead)
     (exchange_won v u w n x word found r rest at is won)
 
 -- or leaves others.
 pub exchange_kept : (v u w : View) (n x word found : ℕ) (r : Reason) (rest : List Duty)
-    → Stands v n (SharedExchange x r word ∷ rest) u → w ≡ done u found → (found == word) ≡ true
-    → (word == fresh_word) ≡ false → (released_word word == dead_word) ≡ false → Stands v n rest w
+    → HasWorked v n (SharedExchange x r word ∷ rest) u → w ≡ done u found → (found == word) ≡ true
+    → (word == fresh_word) ≡ false → (released_word word == dead_word) ≡ false → HasWorked v n rest w
 exchange_kept v u w n x word found r rest at is won shared alive =
-    subst (λ (ds : List Duty). Stands v n (ds ++ rest) w)
+    subst (λ (ds : List Duty). HasWorked v n (ds ++ rest) w)
     (ap (λ (b : Bool). if b then SetMark x ∷ [] else if released_word word == dead_word then Die x ∷ [] else []) shared
     ∙ ap (λ (b : Bool). if b then Die x ∷ [] else []) alive)
     (exchange_won v u w n x word found r rest at is won)
@@ -173,29 +173,29 @@ abbrev pub mark_left : ℕ → Looked → List Duty → List Duty
 mark_left x looks.Left rest = rest
 mark_left x looks.Claimed rest = MergeSwap x Handed ∷ rest
 
-looked_first : (v u : View) (n x : ℕ) (rest : List Duty) → Stands v n (SetMark x ∷ rest) u
-    → Stands v n (Look x ∷ rest) (done u 0)
+looked_first : (v u : View) (n x : ℕ) (rest : List Duty) → HasWorked v n (SetMark x ∷ rest) u
+    → HasWorked v n (Look x ∷ rest) (done u 0)
 looked_first v u n x rest at =
-    stands_on v u (done u 0) n (SetMark x) rest (Look x ∷ rest) 0 at (set_mark_first u.head x rest) refl refl refl
+    worked_on v u (done u 0) n (SetMark x) rest (Look x ∷ rest) 0 at (set_mark_first u.head x rest) refl refl refl
     (record { status = refl; used = refl; locked = refl; lent = refl }) refl
 
-runs : (v u : View) (n x said : ℕ) (rest : List Duty) → Stands v n (SetMark x ∷ rest) u → (said == 1) ≡ true
-    → Stands v n rest (done (done u 0) said)
+runs : (v u : View) (n x said : ℕ) (rest : List Duty) → HasWorked v n (SetMark x ∷ rest) u → (said == 1) ≡ true
+    → HasWorked v n rest (done (done u 0) said)
 runs v u n x said rest at running =
-    stands_on v (done u 0) (done (done u 0) said) n (Look x) rest rest said (looked_first v u n x rest at)
+    worked_on v (done u 0) (done (done u 0) said) n (Look x) rest rest said (looked_first v u n x rest at)
     (look_first (done u 0).head x rest) refl refl refl
     (record { status = refl; used = refl; locked = refl; lent = refl })
     (ap (λ (b : Bool). (if b then [] else TakeMark x ∷ []) ++ rest) running)
 
-stopped : (v u : View) (n x said found : ℕ) (rest : List Duty) → Stands v n (SetMark x ∷ rest) u → (said == 1) ≡ false
-    → Stands v n (claimed x found ++ rest) (done (done (done u 0) said) found)
+stopped : (v u : View) (n x said found : ℕ) (rest : List Duty) → HasWorked v n (SetMark x ∷ rest) u → (said == 1) ≡ false
+    → HasWorked v n (claimed x found ++ rest) (done (done (done u 0) said) found)
 stopped v u n x said found rest at not_running =
-    let saw : Stands v n (TakeMark x ∷ rest) (done (done u 0) said) =
-    stands_on v (done u 0) (done (done u 0) said) n (Look x) rest (TakeMark x ∷ rest) said
+    let saw : HasWorked v n (TakeMark x ∷ rest) (done (done u 0) said) =
+    worked_on v (done u 0) (done (done u 0) said) n (Look x) rest (TakeMark x ∷ rest) said
     (looked_first v u n x rest at) (look_first (done u 0).head x rest) refl refl refl
     (record { status = refl; used = refl; locked = refl; lent = refl })
     (ap (λ (b : Bool). (if b then [] else TakeMark x ∷ []) ++ rest) not_running) in
-    stands_on v (done (done u 0) said) (done (done (done u 0) said) found) n (TakeMark x) rest (claimed x found ++ rest)
+    worked_on v (done (done u 0) said) (done (done (done u 0) said) found) n (TakeMark x) rest (claimed x found ++ rest)
     found saw (take_mark_first (done (done u 0) said).head x rest) refl refl refl
     (record { status = refl; used = refl; locked = refl; lent = refl }) refl
 
@@ -209,27 +209,27 @@ claimed_left x found rest false is =
     ∙ sym (ap (λ (b : Bool). mark_left x (if b then looks.Claimed else looks.Left) rest) is)
 
 posted_by : (v u : View) (n x said found : ℕ) (rest : List Duty) (b : Bool) → (said == 1) ≡ b
-    → Stands v n (SetMark x ∷ rest) u
-    → Stands v n (mark_left x (look_answer said found) rest) (posted u said found)
+    → HasWorked v n (SetMark x ∷ rest) u
+    → HasWorked v n (mark_left x (look_answer said found) rest) (posted u said found)
 posted_by v u n x said found rest true running at =
-    subst (λ (ds : List Duty). Stands v n ds (posted u said found))
+    subst (λ (ds : List Duty). HasWorked v n ds (posted u said found))
     (sym (ap (λ (b : Bool). mark_left x
     (if b then looks.Left else if found == 1 then looks.Claimed else looks.Left) rest) running))
-    (subst (Stands v n rest)
+    (subst (HasWorked v n rest)
     (sym (ap (λ (b : Bool). if b then done (done u 0) said else done (done (done u 0) said) found) running))
     (runs v u n x said rest at running))
 posted_by v u n x said found rest false not_running at =
-    subst (λ (ds : List Duty). Stands v n ds (posted u said found))
+    subst (λ (ds : List Duty). HasWorked v n ds (posted u said found))
     (claimed_left x found rest (found == 1) refl
     ∙ sym (ap (λ (b : Bool). mark_left x
     (if b then looks.Left else if found == 1 then looks.Claimed else looks.Left) rest) not_running))
-    (subst (Stands v n (claimed x found ++ rest))
+    (subst (HasWorked v n (claimed x found ++ rest))
     (sym (ap (λ (b : Bool). if b then done (done u 0) said else done (done (done u 0) said) found) not_running))
     (stopped v u n x said found rest at not_running))
 
 -- The hand has set the mark and looked after it.
-pub mark_posted : (v u w : View) (n x said found : ℕ) (rest : List Duty) → Stands v n (SetMark x ∷ rest) u
-    → w ≡ posted u said found → Stands v n (mark_left x (look_answer said found) rest) w
+pub mark_posted : (v u w : View) (n x said found : ℕ) (rest : List Duty) → HasWorked v n (SetMark x ∷ rest) u
+    → w ≡ posted u said found → HasWorked v n (mark_left x (look_answer said found) rest) w
 mark_posted v u w n x said found rest at is =
-    subst (Stands v n (mark_left x (look_answer said found) rest)) (sym is)
+    subst (HasWorked v n (mark_left x (look_answer said found) rest)) (sym is)
     (posted_by v u n x said found rest (said == 1) refl at)

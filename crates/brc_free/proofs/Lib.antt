@@ -1,5 +1,5 @@
 pub mod FirstDuties
-pub mod Standing
+pub mod Working
 pub mod MergeDuties
 pub mod GivingUp
 pub mod Choosing

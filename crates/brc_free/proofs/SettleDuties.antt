@@ -11,8 +11,8 @@ use Rattle.brc_model.specs.Duties.{ready, has_resource, cells_of, cells_from, re
 use Rattle.brc_table.specs.declared.view.View.{View}
 use Rattle.brc_table.specs.Views.{did, done, settling, settle_first, slot_emptied, slot_emptied_by}
 use Rattle.brc_table.specs.Calls.{MaySettle, SettlesFrom}
-use Rattle.brc_free.specs.Works.{Works, Begun, Next, Comes, Keeps, Stands, ComesToSettle, AtOnce, InWork, found_by}
-use Rattle.brc_free.proofs.Standing.{stands_found, stands_on, stands_then}
+use Rattle.brc_free.specs.Works.{Works, Begun, Next, Comes, Keeps, HasWorked, ComesToSettle, AtOnce, InWork, found_by}
+use Rattle.brc_free.proofs.Working.{worked_found, worked_on, worked_then}
 use Rattle.brc_free.proofs.FirstDuties.{settle_kind_first, settle_cell_first, take_slot_first, settle_end_first}
 
 -- ---- taking the first object off the chain
@@ -43,7 +43,7 @@ settles_first v rest some (AtOnce running aside idle) = ap settle_first idle
 settles_first v rest some (InWork duties alive next) =
     ap settle_first (next ∙ settle_ready v.head duties some)
 
-comes : (v : View) (rest : List Duty) → 0 < v.head → ComesToSettle v rest → Stands v 0 (Settle ∷ rest) (settling v)
+comes : (v : View) (rest : List Duty) → 0 < v.head → ComesToSettle v rest → HasWorked v 0 (Settle ∷ rest) (settling v)
 comes v rest some at = record {
   agenda = settles_first v rest some at ∙ sym (settle_ready v.head rest some);
   works = Comes 0 v Begun;
@@ -63,9 +63,9 @@ comes v rest some at = record {
 
 -- The first object is off the chain.
 pub taken_off : (v w : View) (x found : ℕ) (rest : List Duty) → 0 < v.head → x ≡ v.head - 1 → ComesToSettle v rest
-    → w ≡ done (settling v) found → Stands v 0 (SettleKind x ∷ Settle ∷ rest) w
+    → w ≡ done (settling v) found → HasWorked v 0 (SettleKind x ∷ Settle ∷ rest) w
 taken_off v w x found rest some row at is =
-    stands_on v (settling v) w 0 Settle rest (SettleKind x ∷ Settle ∷ rest) found (comes v rest some at)
+    worked_on v (settling v) w 0 Settle rest (SettleKind x ∷ Settle ∷ rest) found (comes v rest some at)
     (settle_ready v.head rest some) refl refl is
     (record { status = refl; used = refl; locked = refl; lent = refl })
     (ap (λ (y : ℕ). SettleKind y ∷ Settle ∷ rest) (sym row))
@@ -73,30 +73,30 @@ taken_off v w x found rest some row at is =
 -- ---- its kind
 
 -- A file or a socket has a resource to be closed,
-pub kind_has_resource : (v u w : View) (n x found : ℕ) (rest : List Duty) → Stands v n (SettleKind x ∷ rest) u
-    → w ≡ done u found → has_resource found ≡ true → Stands v (1 + n) (TakeSlot x ∷ rest) w
+pub kind_has_resource : (v u w : View) (n x found : ℕ) (rest : List Duty) → HasWorked v n (SettleKind x ∷ rest) u
+    → w ≡ done u found → has_resource found ≡ true → HasWorked v (1 + n) (TakeSlot x ∷ rest) w
 kind_has_resource v u w n x found rest at is has =
-    subst (λ (m : ℕ). Stands v m (TakeSlot x ∷ rest) w)
+    subst (λ (m : ℕ). HasWorked v m (TakeSlot x ∷ rest) w)
     (ap (λ (b : Bool). (if b then 1 else 0) + n) has)
-    (stands_found v u w n (SettleKind x) rest (TakeSlot x ∷ rest) found at (settle_kind_first u.head x rest) refl is
+    (worked_found v u w n (SettleKind x) rest (TakeSlot x ∷ rest) found at (settle_kind_first u.head x rest) refl is
     (record { status = refl; used = refl; locked = refl; lent = refl })
     (ap (λ (b : Bool). (if b then TakeSlot x ∷ [] else cells_from x 0 (cells_of found)) ++ rest) has))
 
 -- and any other object may have cells.
-pub kind_has_cells : (v u w : View) (n x found : ℕ) (rest : List Duty) → Stands v n (SettleKind x ∷ rest) u
-    → w ≡ done u found → has_resource found ≡ false → Stands v n (cells_from x 0 (cells_of found) ++ rest) w
+pub kind_has_cells : (v u w : View) (n x found : ℕ) (rest : List Duty) → HasWorked v n (SettleKind x ∷ rest) u
+    → w ≡ done u found → has_resource found ≡ false → HasWorked v n (cells_from x 0 (cells_of found) ++ rest) w
 kind_has_cells v u w n x found rest at is none =
-    stands_on v u w n (SettleKind x) rest (cells_from x 0 (cells_of found) ++ rest) found at
+    worked_on v u w n (SettleKind x) rest (cells_from x 0 (cells_of found) ++ rest) found at
     (settle_kind_first u.head x rest) refl (ap (λ (b : Bool). if b then 1 else 0) none) is
     (record { status = refl; used = refl; locked = refl; lent = refl })
     (ap (λ (b : Bool). (if b then TakeSlot x ∷ [] else cells_from x 0 (cells_of found)) ++ rest) none)
 
 -- These may be as many as the code has counted.
-pub cells_next : (v u w : View) (x found count : ℕ) (rest : List Duty) → Stands v 0 (SettleKind x ∷ Settle ∷ rest) u
+pub cells_next : (v u w : View) (x found count : ℕ) (rest : List Duty) → HasWorked v 0 (SettleKind x ∷ Settle ∷ rest) u
     → w ≡ done u found → has_resource found ≡ false → count ≡ cells_of found
-    → Stands v 0 (cells_from x 0 count ++ Settle ∷ rest) w
+    → HasWorked v 0 (cells_from x 0 count ++ Settle ∷ rest) w
 cells_next v u w x found count rest at is none same =
-    subst (λ (m : ℕ). Stands v 0 (cells_from x 0 m ++ Settle ∷ rest) w) (sym same)
+    subst (λ (m : ℕ). HasWorked v 0 (cells_from x 0 m ++ Settle ∷ rest) w) (sym same)
     (kind_has_cells v u w 0 x found (Settle ∷ rest) at is none)
 
 -- ---- its cells
@@ -114,10 +114,10 @@ cell_next x i n rest low =
     ap (λ (b : Bool). (if b then SettleCell x i n ∷ [] else SettleEnd x ∷ []) ++ rest) (lt-ltb i n low)
 
 -- A cell is empty now, and what was there is given up next.
-pub cell_emptied : (v u w : View) (n x i m found : ℕ) (rest : List Duty) → Stands v n (SettleCell x i m ∷ rest) u
-    → w ≡ done u found → Stands v n (release_found found ++ (cells_from x (i + 1) m ++ rest)) w
+pub cell_emptied : (v u w : View) (n x i m found : ℕ) (rest : List Duty) → HasWorked v n (SettleCell x i m ∷ rest) u
+    → w ≡ done u found → HasWorked v n (release_found found ++ (cells_from x (i + 1) m ++ rest)) w
 cell_emptied v u w n x i m found rest at is =
-    stands_on v u w n (SettleCell x i m) rest (release_found found ++ (cells_from x (i + 1) m ++ rest)) found at
+    worked_on v u w n (SettleCell x i m) rest (release_found found ++ (cells_from x (i + 1) m ++ rest)) found at
     (settle_cell_first u.head x i m rest) refl refl is
     (record { status = refl; used = refl; locked = refl; lent = refl })
     (behind_release found (cells_from x (i + 1) m) rest) where
@@ -133,11 +133,11 @@ item_found (suc y) some = ap (λ (x : ℕ). ReleaseLoad x InFlight ∷ []) (one_
   one_less y = omega (arith)
 
 -- All cells are empty now.
-pub all_emptied : (v u w : View) (x n : ℕ) (rest : List Duty) → Stands v 0 (cells_from x 0 n ++ Settle ∷ rest) u
-    → ((later : List Duty) → u.agenda ≡ cells_from x 0 n ++ later → Stands u 0 (SettleEnd x ∷ later) w)
-    → Stands v 0 (SettleEnd x ∷ Settle ∷ rest) w
+pub all_emptied : (v u w : View) (x n : ℕ) (rest : List Duty) → HasWorked v 0 (cells_from x 0 n ++ Settle ∷ rest) u
+    → ((later : List Duty) → u.agenda ≡ cells_from x 0 n ++ later → HasWorked u 0 (SettleEnd x ∷ later) w)
+    → HasWorked v 0 (SettleEnd x ∷ Settle ∷ rest) w
 all_emptied v u w x n rest at emptied =
-    stands_then v u w 0 0 (cells_from x 0 n ++ Settle ∷ rest) (SettleEnd x ∷ Settle ∷ rest) at
+    worked_then v u w 0 0 (cells_from x 0 n ++ Settle ∷ rest) (SettleEnd x ∷ Settle ∷ rest) at
     (emptied (Settle ∷ rest) (at.agenda ∙ cells_first u.head x 0 n (Settle ∷ rest)))
 
 -- After the last cell the object is closed.
@@ -148,17 +148,17 @@ cells_end x n rest =
 -- ---- its end
 
 -- The object is closed: one without a resource,
-pub ended : (v u w : View) (n x found : ℕ) (rest : List Duty) → Stands v n (SettleEnd x ∷ rest) u
-    → w ≡ done (slot_emptied u) found → Stands v n rest w
+pub ended : (v u w : View) (n x found : ℕ) (rest : List Duty) → HasWorked v n (SettleEnd x ∷ rest) u
+    → w ≡ done (slot_emptied u) found → HasWorked v n rest w
 ended v u w n x found rest at is =
     let has : u.agenda ≡ SettleEnd x ∷ rest = at.agenda ∙ settle_end_first u.head x rest in
-    stands_on v u w n (SettleEnd x) rest rest found at (settle_end_first u.head x rest) refl refl
+    worked_on v u w n (SettleEnd x) rest rest found at (settle_end_first u.head x rest) refl refl
     (is ∙ ap (λ (ds : List Duty). done (slot_emptied_by ds u) found) has)
     (record { status = refl; used = refl; locked = refl; lent = refl }) refl
 
 -- and one whose resource is out of its slot.
-pub ended_empty : (v u w : View) (n x found : ℕ) (rest : List Duty) → Stands v n (TakeSlot x ∷ rest) u
-    → w ≡ done (slot_emptied u) found → Stands v n rest w
+pub ended_empty : (v u w : View) (n x found : ℕ) (rest : List Duty) → HasWorked v n (TakeSlot x ∷ rest) u
+    → w ≡ done (slot_emptied u) found → HasWorked v n rest w
 ended_empty v u w n x found rest at is =
     let has : u.agenda ≡ TakeSlot x ∷ rest = at.agenda ∙ take_slot_first u.head x rest in
     let does : w ≡ did (record u { agenda = SettleEnd x ∷ rest }) (SettleEnd x ∷ rest) found =

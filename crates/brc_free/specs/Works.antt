@@ -45,7 +45,7 @@ pub record Keeps (v u : View) : Type 0 where
 
 -- The hand has done duty after duty, by which it found n resources of dying objects, and these duties are left, but for
 -- those that need no step.
-pub record Stands (v : View) (n : ℕ) (ds : List Duty) (u : View) : Type 0 where
+pub record HasWorked (v : View) (n : ℕ) (ds : List Duty) (u : View) : Type 0 where
   pub agenda : u.agenda ≡ ready u.head ds
   pub works : Works v n u
   pub keeps : Keeps v u

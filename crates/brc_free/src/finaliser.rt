@@ -8,7 +8,7 @@ ghost use Rattle.brc_model.specs.declared.duty.Duty.TheVariants.{Settle, SettleE
 ghost use Rattle.brc_model.specs.Duties.{has_resource, cells_of, cells_from};
 ghost use Rattle.brc_table.specs.Hands.{IsOf};
 ghost use Rattle.brc_table.specs.Uses.{FirstSlot, behind_slot};
-ghost use Rattle.brc_free.specs.Works.{Stands, ComesToSettle, EmptiesNext, CellNext, TakesNext, ClaimedNext, behind, cells_left, claimed_left};
+ghost use Rattle.brc_free.specs.Works.{HasWorked, ComesToSettle, EmptiesNext, CellNext, TakesNext, ClaimedNext, behind, cells_left, claimed_left};
 
 use crate::merging::merge;
 use brc_heap::{Hand, Heap, Marker};
@@ -85,7 +85,7 @@ impl<'h, T: Drop, Q: Marker<T>> Finaliser<'h, T, Q> {
         ensures slots { hand.new.slots ≡ hand.old.slots }
         ensures chain { hand.new.view.head ≡ 0 }
         ensures work { (rest : List Duty) → ComesToSettle hand.old.view rest → (closes : ℕ) × (failed : ℕ)
-            × Stands hand.old.view closes rest hand.new.view × (result ≡ raised failed 0)
+            × HasWorked hand.old.view closes rest hand.new.view × (result ≡ raised failed 0)
             × (H.counts host.new ≡ after_closes closes failed (H.counts host.old)) }
     {
         let mut failed: u64 = 0;
@@ -115,7 +115,7 @@ impl<'h, T: Drop, Q: Marker<T>> Finaliser<'h, T, Q> {
         ensures slots { hand.new.slots ≡ hand.old.slots }
         ensures chain { hand.new.view.head ≡ 0 }
         ensures work { (closes : ℕ) × (failed : ℕ)
-            × Stands hand.old.view closes (claimed_left hand.old.view.agenda) hand.new.view × (result ≡ raised failed 0)
+            × HasWorked hand.old.view closes (claimed_left hand.old.view.agenda) hand.new.view × (result ≡ raised failed 0)
             × (H.counts host.new ≡ after_closes closes failed (H.counts host.old)) }
     {
         merge(rt, self.heap.words(), hand, row);
@@ -137,7 +137,7 @@ impl<'h, T: Drop, Q: Marker<T>> Finaliser<'h, T, Q> {
         ensures carried { hand.new.carried ≡ hand.old.carried }
         ensures slots { hand.new.slots ≡ hand.old.slots }
         ensures work { (rest : List Duty) → ComesToSettle hand.old.view rest → (closes : ℕ)
-            × Stands hand.old.view closes (Settle ∷ rest) hand.new.view
+            × HasWorked hand.old.view closes (Settle ∷ rest) hand.new.view
             × (H.counts host.new ≡ after_closes closes result (H.counts host.old)) }
     {
         let words = self.heap.words();
@@ -162,7 +162,7 @@ impl<'h, T: Drop, Q: Marker<T>> Finaliser<'h, T, Q> {
         ensures table { hand.new.table ≡ hand.old.table }
         ensures carried { hand.new.carried ≡ hand.old.carried }
         ensures slots { hand.new.slots ≡ behind_slot hand.old.slots }
-        ensures work { Stands hand.old.view 0 (behind hand.old.view.agenda) hand.new.view }
+        ensures work { HasWorked hand.old.view 0 (behind hand.old.view.agenda) hand.new.view }
         ensures closed { H.counts host.new ≡ after_closes 1 result (H.counts host.old) }
     {
         let words = self.heap.words();
@@ -182,7 +182,7 @@ impl<'h, T: Drop, Q: Marker<T>> Finaliser<'h, T, Q> {
         ensures carried { hand.new.carried ≡ hand.old.carried }
         ensures slots { hand.new.slots ≡ hand.old.slots }
         ensures work { (rest : List Duty) → hand.old.view.agenda ≡ cells_from row 0 cells ++ rest
-            → Stands hand.old.view 0 (SettleEnd row ∷ rest) hand.new.view }
+            → HasWorked hand.old.view 0 (SettleEnd row ∷ rest) hand.new.view }
     {
         for cell in 0..cells {
             self.empty_cell(rt, hand, row, cell);
@@ -198,7 +198,7 @@ impl<'h, T: Drop, Q: Marker<T>> Finaliser<'h, T, Q> {
         ensures table { hand.new.table ≡ hand.old.table }
         ensures carried { hand.new.carried ≡ hand.old.carried }
         ensures slots { hand.new.slots ≡ hand.old.slots }
-        ensures work { Stands hand.old.view 0 (cells_left hand.old.view.agenda) hand.new.view }
+        ensures work { HasWorked hand.old.view 0 (cells_left hand.old.view.agenda) hand.new.view }
     {
         let words = self.heap.words();
         words.layout_is_plain();

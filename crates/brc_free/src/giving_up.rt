@@ -3,7 +3,7 @@
 ghost use Rattle.std.specs.Prelude.{◌≡◌, ◌≢◌};
 ghost use Rattle.brc_model.specs.declared.actor.Status.TheVariants.{Gone};
 ghost use Rattle.brc_table.specs.Hands.{IsOf};
-ghost use Rattle.brc_free.specs.Works.{Stands, GivesUpNext, DecidesNext, ReleasesNext, behind, tried_left};
+ghost use Rattle.brc_free.specs.Works.{HasWorked, GivesUpNext, DecidesNext, ReleasesNext, behind, tried_left};
 
 use crate::finaliser::Finaliser;
 use crate::merging::merge;
@@ -33,7 +33,7 @@ impl<'h, T: Drop, Q: Marker<T>> Finaliser<'h, T, Q> {
         ensures table { hand.new.table ≡ hand.old.table }
         ensures carried { hand.new.carried ≡ hand.old.carried }
         ensures slots { hand.new.slots ≡ hand.old.slots }
-        ensures work { Stands hand.old.view 0 (behind hand.old.view.agenda) hand.new.view }
+        ensures work { HasWorked hand.old.view 0 (behind hand.old.view.agenda) hand.new.view }
     {
         let words = self.heap.words();
         let word = words.item_release_load(hand, row);
@@ -58,7 +58,7 @@ impl<'h, T: Drop, Q: Marker<T>> Finaliser<'h, T, Q> {
         ensures table { hand.new.table ≡ hand.old.table }
         ensures carried { hand.new.carried ≡ hand.old.carried }
         ensures slots { hand.new.slots ≡ hand.old.slots }
-        ensures work { Stands hand.old.view 0 (behind hand.old.view.agenda) hand.new.view }
+        ensures work { HasWorked hand.old.view 0 (behind hand.old.view.agenda) hand.new.view }
     {
         let words = self.heap.words();
         let word = words.shared_load_next(hand, row);
@@ -79,7 +79,7 @@ impl<'h, T: Drop, Q: Marker<T>> Finaliser<'h, T, Q> {
         ensures table { hand.new.table ≡ hand.old.table }
         ensures carried { hand.new.carried ≡ hand.old.carried }
         ensures slots { hand.new.slots ≡ hand.old.slots }
-        ensures work { Stands hand.old.view 0 (behind hand.old.view.agenda) hand.new.view }
+        ensures work { HasWorked hand.old.view 0 (behind hand.old.view.agenda) hand.new.view }
     {
         let backoff = Backoff::new();
         for _ in rt.forever() {
@@ -100,7 +100,7 @@ impl<'h, T: Drop, Q: Marker<T>> Finaliser<'h, T, Q> {
         ensures table { hand.new.table ≡ hand.old.table }
         ensures carried { hand.new.carried ≡ hand.old.carried }
         ensures slots { hand.new.slots ≡ hand.old.slots }
-        ensures work { Stands hand.old.view 0 (tried_left result hand.old.view.agenda) hand.new.view }
+        ensures work { HasWorked hand.old.view 0 (tried_left result hand.old.view.agenda) hand.new.view }
     {
         let words = self.heap.words();
         let word = words.shared_load_next(hand, row);

@@ -3,7 +3,7 @@
 ghost use Rattle.std.specs.Prelude.{◌≡◌, ℕ, []};
 ghost use Rattle.brc_table.specs.Hands.{IsOf, IsRunning, HoldsOne, KeepsLock, HasNoWork};
 ghost use Rattle.brc_heap.specs.Calls.{released_locally};
-ghost use Rattle.brc_free.specs.Works.{Stands, HasReleased};
+ghost use Rattle.brc_free.specs.Works.{HasWorked, HasReleased};
 
 use crate::finaliser::Finaliser;
 use brc_heap::{Hand, LocalRelease, Marker};
@@ -23,7 +23,7 @@ impl<'h, T: Drop, Q: Marker<T>> Finaliser<'h, T, Q> {
         ensures table { IsOf self.now hand.new }
         ensures carried { hand.new.carried ≡ hand.old.carried }
         ensures slots { hand.new.slots ≡ hand.old.slots }
-        ensures work { (word : ℕ) × Stands (released_locally hand.old.view row word) 0 [] hand.new.view }
+        ensures work { (word : ℕ) × HasWorked (released_locally hand.old.view row word) 0 [] hand.new.view }
         ensures released { HasReleased row hand.old.view hand.new.view }
     {
         match self.heap.release_local(hand, row) {

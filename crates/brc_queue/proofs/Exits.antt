@@ -11,7 +11,7 @@ use Rattle.brc_table.specs.declared.view.View.{View}
 use Rattle.brc_table.specs.Views.{did, done, open_work, without_one, without_reference}
 use Rattle.brc_table.specs.Calls.{IsFree, MayLeave}
 use Rattle.brc_heap.proofs.Handing.{root_counted}
-use Rattle.brc_free.specs.Works.{Stands, ComesToSettle, AtOnce}
+use Rattle.brc_free.specs.Works.{HasWorked, ComesToSettle, AtOnce}
 
 -- With no other work, nothing is aside after the release of the root.
 pub nothing_aside : (v : View) (x : ℕ) → v.agenda ≡ [] → v.aside ≡ []
@@ -37,7 +37,7 @@ holds_none v u root is =
 -- Once it has settled it may leave.
 pub may_leave : (v u w : View) (n : ℕ) → IsFree v → v.references ≡ root_row ∷ [] → u.status ≡ v.status
     → u.aside ≡ filter (λ d. not (is_about root_row d)) (open_work v)
-    → u.references ≡ without_reference v.layout root_row v.references → Stands u n [] w → w.head ≡ 0 → MayLeave w
+    → u.references ≡ without_reference v.layout root_row v.references → HasWorked u n [] w → w.head ≡ 0 → MayLeave w
 may_leave v u w n free root same aside references at empty = record {
   free = record {
     running = at.keeps.status ∙ (same ∙ free.running);
@@ -54,5 +54,5 @@ finish_first zero = refl
 finish_first (suc head) = refl
 
 -- and then nothing is left.
-pub finished : (v u w : View) (n : ℕ) → Stands v n (Finish ∷ []) u → w ≡ done u 2 → w ≡ did u (Finish ∷ []) 2
+pub finished : (v u w : View) (n : ℕ) → HasWorked v n (Finish ∷ []) u → w ≡ done u 2 → w ≡ did u (Finish ∷ []) 2
 finished v u w n at is = is ∙ ap (λ (ds : List Duty). did u ds 2) (at.agenda ∙ finish_first u.head)

@@ -9,10 +9,10 @@ use Rattle.brc_model.specs.Layout.{row_at}
 use Rattle.brc_model.specs.Duties.{ready, claimed}
 use Rattle.brc_table.specs.declared.view.View.{View}
 use Rattle.brc_table.specs.Views.{did, done, claiming}
-use Rattle.brc_free.specs.Works.{Stands, claimed_left}
+use Rattle.brc_free.specs.Works.{HasWorked, claimed_left}
 use Rattle.brc_queue.specs.Scans.{scan_left}
 use Rattle.brc_free.proofs.FirstDuties.{merge_swap_first}
-use Rattle.brc_free.proofs.Standing.{stands_first, stands_on, stands_then}
+use Rattle.brc_free.proofs.Working.{worked_first, worked_on, worked_then}
 
 -- ---- a claim
 
@@ -35,11 +35,11 @@ one_less : (n : ℕ) → suc n - 1 ≡ n
 one_less n = omega (arith)
 
 scanned : (v w : View) (i n found : ℕ) (rest : List Duty) → v.agenda ≡ Scan i (suc n) ∷ rest → w ≡ done v found
-    → Stands v 0 (claimed (row_at v.layout v.thread i) found ++ Settle ∷ Scan (i + 1) (suc n - 1) ∷ rest) w
+    → HasWorked v 0 (claimed (row_at v.layout v.thread i) found ++ Settle ∷ Scan (i + 1) (suc n - 1) ∷ rest) w
 scanned v w i n found rest next is =
-    stands_on v v w 0 (Scan i (suc n)) rest
+    worked_on v v w 0 (Scan i (suc n)) rest
     (claimed (row_at v.layout v.thread i) found ++ Settle ∷ Scan (i + 1) (suc n - 1) ∷ rest) found
-    (stands_first v (Scan i (suc n) ∷ rest) (next ∙ sym (scan_first v.head i n rest))) (scan_first v.head i n rest) refl
+    (worked_first v (Scan i (suc n) ∷ rest) (next ∙ sym (scan_first v.head i n rest))) (scan_first v.head i n rest) refl
     refl is (record { status = refl; used = refl; locked = refl; lent = refl })
     (behind_claim (row_at v.layout v.thread i) (found == 1)) where
       behind_claim : (x : ℕ) (b : Bool)
@@ -50,9 +50,9 @@ scanned v w i n found rest next is =
 
 -- The mark wasn't set, and the next row is scanned.
 pub scanned_none : (v w : View) (i n found : ℕ) (rest : List Duty) → v.agenda ≡ Scan i (suc n) ∷ rest
-    → w ≡ done v found → (found == 1) ≡ false → w.head ≡ 0 → Stands v 0 (Scan (i + 1) (suc n - 1) ∷ rest) w
+    → w ≡ done v found → (found == 1) ≡ false → w.head ≡ 0 → HasWorked v 0 (Scan (i + 1) (suc n - 1) ∷ rest) w
 scanned_none v w i n found rest next is none still =
-    let at = subst (λ (ds : List Duty). Stands v 0 (ds ++ Settle ∷ Scan (i + 1) (suc n - 1) ∷ rest) w)
+    let at = subst (λ (ds : List Duty). HasWorked v 0 (ds ++ Settle ∷ Scan (i + 1) (suc n - 1) ∷ rest) w)
     (ap (λ (b : Bool). if b then MergeSwap (row_at v.layout v.thread i) Handed ∷ [] else []) none)
     (scanned v w i n found rest next is) in
     record {
@@ -72,19 +72,19 @@ scan_head v w i n found rest next is empty =
 -- The mark was set, and the object is merged next.
 pub scanned_one : (v w : View) (i n found : ℕ) (rest : List Duty) → v.agenda ≡ Scan i (suc n) ∷ rest
     → w ≡ done v found → (found == 1) ≡ true
-    → Stands v 0 (MergeSwap (row_at v.layout v.thread i) Handed ∷ Settle ∷ Scan (i + 1) (suc n - 1) ∷ rest) w
+    → HasWorked v 0 (MergeSwap (row_at v.layout v.thread i) Handed ∷ Settle ∷ Scan (i + 1) (suc n - 1) ∷ rest) w
 scanned_one v w i n found rest next is one =
-    subst (λ (ds : List Duty). Stands v 0 (ds ++ Settle ∷ Scan (i + 1) (suc n - 1) ∷ rest) w)
+    subst (λ (ds : List Duty). HasWorked v 0 (ds ++ Settle ∷ Scan (i + 1) (suc n - 1) ∷ rest) w)
     (ap (λ (b : Bool). if b then MergeSwap (row_at v.layout v.thread i) Handed ∷ [] else []) one)
     (scanned v w i n found rest next is)
 
 -- The hand has then settled, and the next row is scanned.
 pub scanned_settled : (v u w : View) (x m : ℕ) (rest : List Duty)
-    → Stands v 0 (MergeSwap x Handed ∷ Settle ∷ rest) u → Stands u m (claimed_left u.agenda) w → Stands v m rest w
+    → HasWorked v 0 (MergeSwap x Handed ∷ Settle ∷ rest) u → HasWorked u m (claimed_left u.agenda) w → HasWorked v m rest w
 scanned_settled v u w x m rest at settled =
-    subst (λ (n : ℕ). Stands v n rest w) (add-zero m)
-    (stands_then v u w 0 m (MergeSwap x Handed ∷ Settle ∷ rest) rest at
-    (subst (λ (ds : List Duty). Stands u m (claimed_left ds) w)
+    subst (λ (n : ℕ). HasWorked v n rest w) (add-zero m)
+    (worked_then v u w 0 m (MergeSwap x Handed ∷ Settle ∷ rest) rest at
+    (subst (λ (ds : List Duty). HasWorked u m (claimed_left ds) w)
     (at.agenda ∙ merge_swap_first u.head x Handed (Settle ∷ rest)) settled))
 
 -- ---- all rows
@@ -98,13 +98,13 @@ scans_next u i used more is =
     ∙ scan_first u.head i (used - i - 1) (Finish ∷ []))
 
 -- Once it is scanned, the rows behind it are left.
-pub scans_on : (v u w : View) (n m i used : ℕ) → i < used → Stands v n (Scan i (used - i) ∷ Finish ∷ []) u
-    → Stands u m (scan_left u.agenda) w → Stands v (m + n) (Scan (i + 1) (used - (i + 1)) ∷ Finish ∷ []) w
+pub scans_on : (v u w : View) (n m i used : ℕ) → i < used → HasWorked v n (Scan i (used - i) ∷ Finish ∷ []) u
+    → HasWorked u m (scan_left u.agenda) w → HasWorked v (m + n) (Scan (i + 1) (used - (i + 1)) ∷ Finish ∷ []) w
 scans_on v u w n m i used more at scans =
     let next = scans_next u i used more at.agenda in
     let less : suc (used - i - 1) - 1 ≡ used - (i + 1) = omega (arith, more) in
-    stands_then v u w n m (Scan i (used - i) ∷ Finish ∷ []) (Scan (i + 1) (used - (i + 1)) ∷ Finish ∷ []) at
-    (subst (λ (ds : List Duty). Stands u m ds w)
+    worked_then v u w n m (Scan i (used - i) ∷ Finish ∷ []) (Scan (i + 1) (used - (i + 1)) ∷ Finish ∷ []) at
+    (subst (λ (ds : List Duty). HasWorked u m ds w)
     (ap scan_left next ∙ ap (λ (k : ℕ). Scan (i + 1) k ∷ Finish ∷ []) less) scans)
 
 -- With no row left, the thread goes next.

@@ -7,13 +7,13 @@ use Rattle.brc_model.specs.Duties.{ready}
 use Rattle.brc_table.specs.declared.view.View.{View}
 use Rattle.brc_table.specs.Views.{done, claiming, leaving}
 use Rattle.brc_heap.specs.Calls.{released_locally}
-use Rattle.brc_free.specs.Works.{Stands}
+use Rattle.brc_free.specs.Works.{HasWorked}
 
 -- The hand has taken the mark of the row at index i of its block. Where the mark was set, it has merged the object, given
 -- up the reference that was handed over with it, and settled, by which it found n resources of dying objects.
 pub record Claims (i n : ℕ) (v w : View) : Type 0 where
   pub found : ℕ
-  pub follows : Stands (done (claiming v (row_at v.layout v.thread i)) found) n [] w
+  pub follows : HasWorked (done (claiming v (row_at v.layout v.thread i)) found) n [] w
   pub settled : w.head ≡ 0
 
 -- The hand has taken the marks of the first rows of its block, by rising number, and has found n resources in all.
@@ -47,8 +47,8 @@ pub record HasLeft (n : ℕ) (v w : View) : Type 0 where
   pub first : ℕ
   pub later : ℕ
   pub found_is : n ≡ later + first
-  pub releases : Stands (released_locally v root_row word) 0 [] released
-  pub settles : Stands released first [] settled
+  pub releases : HasWorked (released_locally v root_row word) 0 [] released
+  pub settles : HasWorked released first [] settled
   pub empty : settled.head ≡ 0
-  pub scans : Stands (done (leaving settled) 1) later (Finish ∷ []) scanned
+  pub scans : HasWorked (done (leaving settled) 1) later (Finish ∷ []) scanned
   pub gone : w ≡ done scanned 2

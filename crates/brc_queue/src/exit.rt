@@ -7,7 +7,7 @@ ghost use Rattle.brc_model.specs.declared.duty.Duty.TheVariants.{Finish};
 ghost use Rattle.brc_model.specs.Layout.{root_row};
 ghost use Rattle.brc_table.specs.Hands.{IsOf};
 ghost use Rattle.brc_table.specs.Calls.{IsFree};
-ghost use Rattle.brc_free.specs.Works.{Stands};
+ghost use Rattle.brc_free.specs.Works.{HasWorked};
 ghost use Rattle.brc_queue.specs.Scans.{ScansNext, ScanNext, HasLeft, scan_left};
 
 use crate::queue::{QUEUED, Queue};
@@ -61,7 +61,7 @@ impl<'h, T: Drop> Queue<'h, T> {
         ensures carried { hand.new.carried ≡ hand.old.carried }
         ensures slots { hand.new.slots ≡ hand.old.slots }
         ensures settled { hand.new.view.head ≡ 0 }
-        ensures work { (closes : ℕ) × (failed : ℕ) × Stands hand.old.view closes (Finish ∷ []) hand.new.view
+        ensures work { (closes : ℕ) × (failed : ℕ) × HasWorked hand.old.view closes (Finish ∷ []) hand.new.view
             × (result ≡ raised failed 0) × (H.counts host.new ≡ after_closes closes failed (H.counts host.old)) }
     {
         let mut failed: u64 = 0;
@@ -90,7 +90,7 @@ impl<'h, T: Drop> Queue<'h, T> {
         ensures slots { hand.new.slots ≡ hand.old.slots }
         ensures settled { hand.new.view.head ≡ 0 }
         ensures work { (closes : ℕ) × (failed : ℕ)
-            × Stands hand.old.view closes (scan_left hand.old.view.agenda) hand.new.view × (result ≡ raised failed 0)
+            × HasWorked hand.old.view closes (scan_left hand.old.view.agenda) hand.new.view × (result ≡ raised failed 0)
             × (H.counts host.new ≡ after_closes closes failed (H.counts host.old)) }
     {
         let words = self.heap.words();

@@ -3,9 +3,9 @@ use Rattle.brc_model.specs.declared.duty.Duty.{Duty}
 use Rattle.brc_model.specs.declared.duty.Duty.TheVariants.{TakeSlot}
 use Rattle.brc_table.specs.declared.view.View.{View}
 use Rattle.brc_table.specs.Views.{done, slot_emptied}
-use Rattle.brc_free.specs.Works.{Stands, behind}
+use Rattle.brc_free.specs.Works.{HasWorked, behind}
 use Rattle.brc_free.proofs.FirstDuties.{take_slot_first}
-use Rattle.brc_free.proofs.Standing.{stands_first}
+use Rattle.brc_free.proofs.Working.{worked_first}
 use Rattle.brc_free.proofs.SettleDuties.{ended_empty}
 use Rattle.brc_free.proofs.finaliser.Finaliser.close_resource.Goals as goal
 
@@ -15,7 +15,7 @@ returns-clause-work g c =
     let w = c.gate_close.new.hand.view in
     let duty = c.requires.duty in
     let found = c.gate_close.result in
-    subst (λ (ds : List Duty). Stands v 0 ds w) (sym (ap behind duty.next))
+    subst (λ (ds : List Duty). HasWorked v 0 ds w) (sym (ap behind duty.next))
     (ended_empty v v w 0 c.args.row found duty.rest
-    (stands_first v (TakeSlot c.args.row ∷ duty.rest) (duty.next ∙ sym (take_slot_first v.head c.args.row duty.rest)))
+    (worked_first v (TakeSlot c.args.row ∷ duty.rest) (duty.next ∙ sym (take_slot_first v.head c.args.row duty.rest)))
     (c.gate_close.ensures.view ∙ ap (λ (z : View). done (slot_emptied z) found) c.slot_take-resource.ensures.view))

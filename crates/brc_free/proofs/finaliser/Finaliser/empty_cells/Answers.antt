@@ -2,9 +2,9 @@ use Rattle.std.proofs.Common.{List, ◌∷◌, ◌++◌, refl, sym, ◌∙◌, s
 use Rattle.brc_model.specs.declared.duty.Duty.{Duty}
 use Rattle.brc_model.specs.declared.duty.Duty.TheVariants.{SettleCell}
 use Rattle.brc_model.specs.Duties.{cells_from}
-use Rattle.brc_free.specs.Works.{Stands, cells_left}
+use Rattle.brc_free.specs.Works.{HasWorked, cells_left}
 use Rattle.brc_free.proofs.FirstDuties.{settle_cell_first}
-use Rattle.brc_free.proofs.Standing.{stands_first, stands_call}
+use Rattle.brc_free.proofs.Working.{worked_first, worked_call}
 use Rattle.brc_free.proofs.SettleDuties.{cells_first, cell_next}
 use Rattle.brc_free.proofs.finaliser.Finaliser.empty_cells.Goals as goal
 
@@ -14,7 +14,7 @@ loop-cell-init g c =
       refl,
       refl,
       refl,
-      λ rest is. stands_first v (cells_from c.args.row 0 c.args.cells ++ rest)
+      λ rest is. worked_first v (cells_from c.args.row 0 c.args.cells ++ rest)
           (is ∙ sym (cells_first v.head c.args.row 0 c.args.cells rest)),
     )
 
@@ -29,8 +29,8 @@ loop-cell-preserved g c =
       emptied.carried ∙ kept.1,
       emptied.slots ∙ kept.2,
       λ rest is.
-          stands_call v u w 0 (SettleCell c.args.row c.loop-cell.cell c.args.cells ∷ rest) cells_left
-          (subst (λ (ds : List Duty). Stands v 0 ds u)
+          worked_call v u w 0 (SettleCell c.args.row c.loop-cell.cell c.args.cells ∷ rest) cells_left
+          (subst (λ (ds : List Duty). HasWorked v 0 ds u)
           (cell_next c.args.row c.loop-cell.cell c.args.cells rest c.loop-cell-test.true) (kept.3 rest is))
           (settle_cell_first u.head c.args.row c.loop-cell.cell c.args.cells rest) emptied.work,
     )

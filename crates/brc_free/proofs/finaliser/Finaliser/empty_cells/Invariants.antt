@@ -1,7 +1,7 @@
 use Rattle.std.proofs.Common.{◌≡◌, List, ◌++◌}
 use Rattle.brc_model.specs.declared.duty.Duty.{Duty}
 use Rattle.brc_model.specs.Duties.{cells_from}
-use Rattle.brc_free.specs.Works.{Stands}
+use Rattle.brc_free.specs.Works.{HasWorked}
 use Rattle.brc_free.proofs.finaliser.Finaliser.empty_cells.Given as goal
 
 -- The cells from this one on are left.
@@ -10,4 +10,4 @@ invariant-loop-cell g l =
     (l.hand.table ≡ l.fn.hand.table) × (l.hand.carried ≡ l.fn.hand.carried)
     × (l.hand.slots ≡ l.fn.hand.slots)
     × ((rest : List Duty) → l.fn.hand.view.agenda ≡ cells_from l.fn.row 0 l.fn.cells ++ rest
-    → Stands l.fn.hand.view 0 (cells_from l.fn.row l.cell l.fn.cells ++ rest) l.hand.view)
+    → HasWorked l.fn.hand.view 0 (cells_from l.fn.row l.cell l.fn.cells ++ rest) l.hand.view)

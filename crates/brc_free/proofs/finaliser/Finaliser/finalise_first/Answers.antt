@@ -4,7 +4,7 @@ use Rattle.brc_table.specs.Hands.{TableState}
 use Rattle.brc_table.specs.Calls.{LoadsDyingKind, ClosesRow}
 use Rattle.brc_free.specs.Works.{behind}
 use Rattle.brc_free.proofs.FirstDuties.{settle_kind_first, take_slot_first, settle_end_first}
-use Rattle.brc_free.proofs.Standing.{stands_call}
+use Rattle.brc_free.proofs.Working.{worked_call}
 use Rattle.brc_free.proofs.SettleDuties.{comes_alive, taken_off, kind_has_resource, kind_has_cells, cells_next, cells_first, all_emptied, ended}
 use Rattle.brc_free.proofs.Closes.{none_closed}
 use Rattle.brc_free.proofs.finaliser.Finaliser.finalise_first.Goals as goal
@@ -57,7 +57,7 @@ returns-then-has_resource-clause-work g c = λ rest comes.
     let at = kind_has_resource v u w 0 row c.dying_kind_load-kind.result (Settle ∷ rest) off
     c.dying_kind_load-kind.ensures.view (sym c.has_resource.ensures ∙ c.if-has_resource.true) in (
       1,
-      stands_call v w z 1 (TakeSlot row ∷ Settle ∷ rest) behind at (take_slot_first w.head row (Settle ∷ rest))
+      worked_call v w z 1 (TakeSlot row ∷ Settle ∷ rest) behind at (take_slot_first w.head row (Settle ∷ rest))
           c.close_resource.ensures.work,
       c.close_resource.ensures.closed,
     )

@@ -3,8 +3,8 @@ use Rattle.brc_table.specs.declared.view.View.{View}
 use Rattle.brc_heap.specs.declared.release.LocalRelease.{LocalRelease}
 use Rattle.brc_heap.specs.declared.release.LocalRelease.TheVariants as local
 use Rattle.brc_heap.specs.Calls.{local_left}
-use Rattle.brc_free.specs.Works.{Stands}
-use Rattle.brc_free.proofs.Standing.{stands_first}
+use Rattle.brc_free.specs.Works.{HasWorked}
+use Rattle.brc_free.proofs.Working.{worked_first}
 use Rattle.brc_free.proofs.finaliser.Finaliser.release.Goals as goal
 
 nothing_left : (x : ℕ) (answer : LocalRelease) → (answer ≡ local.Skip) ⊎ (answer ≡ local.Kept)
@@ -17,6 +17,6 @@ returns-in-Skip-clause-work g c =
     let u = c.release_local.new.hand.view in
     let events = c.release_local.ensures.events in (
       events.0,
-      subst (λ (z : View). Stands z 0 [] u) events.3 (stands_first u []
+      subst (λ (z : View). HasWorked z 0 [] u) events.3 (worked_first u []
           (c.release_local.ensures.left.agenda ∙ nothing_left c.args.row c.release_local.result c.in-Skip.is)),
     )

@@ -6,9 +6,9 @@ use Rattle.brc_model.specs.declared.duty.Reason.TheVariants.{Own}
 use Rattle.brc_model.specs.declared.duty.Duty.{Duty}
 use Rattle.brc_model.specs.declared.duty.Duty.TheVariants.{DecideAtZero, SharedLoad}
 use Rattle.brc_table.specs.Plays.{overwritten}
-use Rattle.brc_free.specs.Works.{Stands, behind}
+use Rattle.brc_free.specs.Works.{HasWorked, behind}
 use Rattle.brc_free.proofs.FirstDuties.{decide_first, shared_load_first}
-use Rattle.brc_free.proofs.Standing.{stands_call}
+use Rattle.brc_free.proofs.Working.{worked_call}
 use Rattle.brc_free.proofs.GivingUp.{item_begins, item_immortal, item_local, item_shared, stored_last, stored_more}
 use Rattle.brc_free.proofs.Choosing.{skips, stores, shares, asks_same}
 use Rattle.brc_free.proofs.finaliser.Finaliser.release_item.Goals as goal
@@ -20,7 +20,7 @@ returns-in-Skip-clause-work g c =
     let duty = c.requires.duty in
     let word = c.item_release_load-word.result in
     let immortal = skips (is_immortal_word word) _ _ (sym c.release_choice_local.ensures.word ∙ c.in-Skip.is) in
-    subst (λ (ds : List Duty). Stands v 0 ds w) (sym (ap behind duty.next))
+    subst (λ (ds : List Duty). HasWorked v 0 ds w) (sym (ap behind duty.next))
     (item_immortal v v w 0 c.args.row word duty.rest (item_begins v c.args.row duty.rest duty.next)
     c.item_release_load-word.ensures.view immortal)
 
@@ -39,8 +39,8 @@ returns-then-local_count-eq1-clause-work g c =
     c.item_release_load-word.ensures.view chose.0 (sym same ∙ chose.1) in
     let stored = stored_last v u w 0 c.args.row word (overwritten u) duty.rest loaded c.local_store.ensures.view
     (ap (λ (n : ℕ). n == 1) (sym c.local_count.ensures.word) ∙ eq-eqb c.local_count.result 1 c.if-local_count-eq1.true) in
-    subst (λ (ds : List Duty). Stands v 0 ds z) (sym (ap behind duty.next))
-    (stands_call v w z 0 (DecideAtZero c.args.row ∷ duty.rest) behind stored
+    subst (λ (ds : List Duty). HasWorked v 0 ds z) (sym (ap behind duty.next))
+    (worked_call v w z 0 (DecideAtZero c.args.row ∷ duty.rest) behind stored
     (decide_first w.head c.args.row duty.rest) c.decide_at_zero.ensures.work)
 
 pub returns-else-local_count-eq1-clause-work : goal.returns-else-local_count-eq1-clause-work
@@ -55,7 +55,7 @@ returns-else-local_count-eq1-clause-work g c =
     c.item_release_load-word.ensures.view c.thread.ensures c.is_running.ensures in
     let loaded = item_local v v u 0 c.args.row word duty.rest (item_begins v c.args.row duty.rest duty.next)
     c.item_release_load-word.ensures.view chose.0 (sym same ∙ chose.1) in
-    subst (λ (ds : List Duty). Stands v 0 ds w) (sym (ap behind duty.next))
+    subst (λ (ds : List Duty). HasWorked v 0 ds w) (sym (ap behind duty.next))
     (stored_more v u w 0 c.args.row word (overwritten u) duty.rest loaded c.local_store.ensures.view
     (ap (λ (n : ℕ). n == 1) (sym c.local_count.ensures.word) ∙ ne_eqb c.local_count.result 1 c.if-local_count-eq1.false))
 
@@ -71,6 +71,6 @@ returns-in-Share-clause-work g c =
     c.item_release_load-word.ensures.view c.thread.ensures c.is_running.ensures in
     let loaded = item_shared v v u 0 c.args.row word duty.rest (item_begins v c.args.row duty.rest duty.next)
     c.item_release_load-word.ensures.view chose.0 (sym same ∙ chose.1) in
-    subst (λ (ds : List Duty). Stands v 0 ds w) (sym (ap behind duty.next))
-    (stands_call v u w 0 (SharedLoad c.args.row Own ∷ duty.rest) behind loaded
+    subst (λ (ds : List Duty). HasWorked v 0 ds w) (sym (ap behind duty.next))
+    (worked_call v u w 0 (SharedLoad c.args.row Own ∷ duty.rest) behind loaded
     (shared_load_first u.head c.args.row Own duty.rest) c.give_up.ensures.work)

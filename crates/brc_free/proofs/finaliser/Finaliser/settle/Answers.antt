@@ -1,7 +1,7 @@
 use Rattle.std.proofs.Common.{◌+◌, refl, sym, ap, ◌∙◌}
 use Rattle.brc_host.specs.HostCounts.{after_closes, count_limit}
 use Rattle.brc_free.specs.Works.{Begun, InWork}
-use Rattle.brc_free.proofs.Standing.{keeps_first, keeps_then, works_then}
+use Rattle.brc_free.proofs.Working.{keeps_first, keeps_then, works_then}
 use Rattle.brc_free.proofs.SettleDuties.{comes_alive, settled}
 use Rattle.brc_free.proofs.Closes.{none_closed, closed_twice, sums}
 use Rattle.brc_free.proofs.finaliser.Finaliser.settle.Goals as goal

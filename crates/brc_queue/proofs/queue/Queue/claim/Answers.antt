@@ -5,8 +5,8 @@ use Rattle.brc_model.specs.Layout.{row_at}
 use Rattle.brc_table.specs.declared.view.View.{View}
 use Rattle.brc_table.specs.Hands.{TableState}
 use Rattle.brc_table.specs.Views.{done, claiming}
-use Rattle.brc_free.specs.Works.{Stands}
-use Rattle.brc_free.proofs.Standing.{stands_first}
+use Rattle.brc_free.specs.Works.{HasWorked}
+use Rattle.brc_free.proofs.Working.{worked_first}
 use Rattle.brc_free.proofs.Closes.{none_closed}
 use Rattle.brc_queue.proofs.Scanning.{claim_none}
 use Rattle.brc_queue.proofs.queue.Queue.claim.Goals as goal
@@ -27,7 +27,7 @@ returns-then-mark_claim-ne-QUEUED-clause-work g c =
       0,
       record {
         found = found;
-        follows = subst (λ (z : View). Stands z 0 [] w) is (stands_first w []
+        follows = subst (λ (z : View). HasWorked z 0 [] w) is (worked_first w []
             (claim_none v w (row_at v.layout v.thread c.args.index) found c.requires.settled none is));
         settled = ap (λ (z : View). z.head) is ∙ c.requires.settled;
       },

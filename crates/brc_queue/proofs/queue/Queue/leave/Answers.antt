@@ -4,7 +4,7 @@ use Rattle.brc_model.specs.declared.duty.Duty.TheVariants.{Finish}
 use Rattle.brc_model.specs.Layout.{root_row}
 use Rattle.brc_table.specs.declared.view.View.{View}
 use Rattle.brc_table.specs.Hands.{TableState}
-use Rattle.brc_free.specs.Works.{Stands}
+use Rattle.brc_free.specs.Works.{HasWorked}
 use Rattle.brc_free.proofs.Closes.{closed_twice, sums_both}
 use Rattle.brc_queue.proofs.Exits.{comes_at_once, may_leave, finished}
 use Rattle.brc_queue.proofs.queue.Queue.leave.Goals as goal
@@ -168,7 +168,7 @@ returns-clause-work g c =
         releases = one.work.1;
         settles = settled.2;
         empty = c.settle-failed.ensures.chain;
-        scans = subst (λ (z : View). Stands z more.0 (Finish ∷ []) c.scan-more.new.hand.view)
+        scans = subst (λ (z : View). HasWorked z more.0 (Finish ∷ []) c.scan-more.new.hand.view)
             c.thread_leave.ensures.view more.2;
         gone = c.thread_gone.ensures.view;
       },

@@ -1,7 +1,7 @@
 use Rattle.std.proofs.Common.{◌+◌, refl, sym, ap, ◌∙◌}
 use Rattle.brc_host.specs.HostCounts.{after_closes}
 use Rattle.brc_queue.specs.Scans.{Begun, Next}
-use Rattle.brc_free.proofs.Standing.{keeps_first, keeps_then}
+use Rattle.brc_free.proofs.Working.{keeps_first, keeps_then}
 use Rattle.brc_free.proofs.Closes.{none_closed, closed_twice, sums_both}
 use Rattle.brc_queue.proofs.queue.Queue.merge_pending.Goals as goal
 

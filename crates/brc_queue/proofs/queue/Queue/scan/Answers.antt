@@ -2,7 +2,7 @@ use Rattle.std.proofs.Common.{◌≡◌, ℕ, ◌+◌, ◌-◌, ◌<◌, [], ◌
 use Rattle.brc_host.specs.HostCounts.{after_closes}
 use Rattle.brc_model.specs.declared.duty.Duty.TheVariants.{Scan, Finish}
 use Rattle.brc_model.specs.Duties.{ready}
-use Rattle.brc_free.proofs.Standing.{stands_first}
+use Rattle.brc_free.proofs.Working.{worked_first}
 use Rattle.brc_free.proofs.Closes.{none_closed, closed_twice, sums_both}
 use Rattle.brc_queue.proofs.Scanning.{scans_on}
 use Rattle.brc_queue.proofs.queue.Queue.scan.Goals as goal
@@ -17,7 +17,7 @@ loop-index-init g c =
       (
         0,
         0,
-        stands_first v (Scan 0 (v.used - 0) ∷ Finish ∷ [])
+        worked_first v (Scan 0 (v.used - 0) ∷ Finish ∷ [])
             (c.requires.duty ∙ ap (λ (n : ℕ). ready v.head (Scan 0 n ∷ Finish ∷ [])) (all_left v.used)),
         refl,
         sym (none_closed (g.H.Host.counts c.args.host.now)),

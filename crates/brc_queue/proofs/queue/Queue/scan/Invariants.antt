@@ -1,7 +1,7 @@
 use Rattle.std.proofs.Common.{◌≡◌, ℕ, ◌-◌, [], ◌∷◌}
 use Rattle.brc_host.specs.HostCounts.{after_closes, raised}
 use Rattle.brc_model.specs.declared.duty.Duty.TheVariants.{Scan, Finish}
-use Rattle.brc_free.specs.Works.{Stands}
+use Rattle.brc_free.specs.Works.{HasWorked}
 use Rattle.brc_queue.proofs.queue.Queue.scan.Given as goal
 
 -- The rows from this one on are left to scan, and the hand has settled.
@@ -10,6 +10,6 @@ invariant-loop-index g l =
     (l.hand.table ≡ l.fn.hand.table) × (l.hand.carried ≡ l.fn.hand.carried) × (l.hand.slots ≡ l.fn.hand.slots)
     × (l.hand.view.head ≡ 0)
     × ((closes : ℕ) × (failed : ℕ)
-    × Stands l.fn.hand.view closes (Scan l.index (l.fn.hand.view.used - l.index) ∷ Finish ∷ []) l.hand.view
+    × HasWorked l.fn.hand.view closes (Scan l.index (l.fn.hand.view.used - l.index) ∷ Finish ∷ []) l.hand.view
     × (l.failed ≡ raised failed 0)
     × (g.H.Host.counts l.host ≡ after_closes closes failed (g.H.Host.counts l.fn.host)))

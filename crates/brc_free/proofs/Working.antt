@@ -6,7 +6,7 @@ use Rattle.brc_model.specs.Duties.{ready, continuation, new_head}
 use Rattle.brc_model.specs.Machine.{is_running, status_by, used_by, locked_by, lent_by}
 use Rattle.brc_table.specs.declared.view.View.{View}
 use Rattle.brc_table.specs.Views.{did, done, slot_emptied, slot_emptied_by}
-use Rattle.brc_free.specs.Works.{Works, Begun, Next, Comes, Keeps, Stands, found_by}
+use Rattle.brc_free.specs.Works.{Works, Begun, Next, Comes, Keeps, HasWorked, found_by}
 
 -- ---- what is kept
 
@@ -48,8 +48,8 @@ pub record IsQuiet (u : View) (d : Duty) (found : ℕ) : Type 0 where
 -- ---- first steps
 
 -- A hand that hasn't done anything yet, of whose duties the first needs a step.
-pub stands_first : (v : View) (ds : List Duty) → v.agenda ≡ ready v.head ds → Stands v 0 ds v
-stands_first v ds is = record { agenda = is; works = Begun; keeps = keeps_first v }
+pub worked_first : (v : View) (ds : List Duty) → v.agenda ≡ ready v.head ds → HasWorked v 0 ds v
+worked_first v ds is = record { agenda = is; works = Begun; keeps = keeps_first v }
 
 -- ---- one duty more
 
@@ -68,11 +68,11 @@ did_keeps u d rest found quiet = record {
 }
 
 -- One duty more, the first of those that come next, which may find a resource of a dying object,
-pub stands_found : (v u w : View) (n : ℕ) (d : Duty) (rest ds : List Duty) (found : ℕ) → Stands v n (d ∷ rest) u
+pub worked_found : (v u w : View) (n : ℕ) (d : Duty) (rest ds : List Duty) (found : ℕ) → HasWorked v n (d ∷ rest) u
     → ready u.head (d ∷ rest) ≡ d ∷ rest → slot_emptied_by (d ∷ rest) u ≡ u → w ≡ done u found → IsQuiet u d found
     → continuation u.layout u.thread (is_running u.status) u.head d found ++ rest ≡ ds
-    → Stands v (found_by (d ∷ rest) found + n) ds w
-stands_found v u w n d rest ds found at first unslotted is quiet next =
+    → HasWorked v (found_by (d ∷ rest) found + n) ds w
+worked_found v u w n d rest ds found at first unslotted is quiet next =
     let has : u.agenda ≡ d ∷ rest = at.agenda ∙ first in
     let does : w ≡ did u (d ∷ rest) found = is ∙ ap (λ (es : List Duty). did u es found) has in
     let same : slot_emptied u ≡ u = ap (λ (es : List Duty). slot_emptied_by es u) has ∙ unslotted in
@@ -91,14 +91,14 @@ stands_found v u w n d rest ds found at first unslotted is quiet next =
     }
 
 -- and one that finds none.
-pub stands_on : (v u w : View) (n : ℕ) (d : Duty) (rest ds : List Duty) (found : ℕ) → Stands v n (d ∷ rest) u
+pub worked_on : (v u w : View) (n : ℕ) (d : Duty) (rest ds : List Duty) (found : ℕ) → HasWorked v n (d ∷ rest) u
     → ready u.head (d ∷ rest) ≡ d ∷ rest → slot_emptied_by (d ∷ rest) u ≡ u → found_by (d ∷ rest) found ≡ 0
     → w ≡ done u found → IsQuiet u d found
     → continuation u.layout u.thread (is_running u.status) u.head d found ++ rest ≡ ds
-    → Stands v n ds w
-stands_on v u w n d rest ds found at first unslotted none is quiet next =
-    subst (λ (m : ℕ). Stands v m ds w) (ap (λ (m : ℕ). m + n) none ∙ zero-add n)
-    (stands_found v u w n d rest ds found at first unslotted is quiet next)
+    → HasWorked v n ds w
+worked_on v u w n d rest ds found at first unslotted none is quiet next =
+    subst (λ (m : ℕ). HasWorked v m ds w) (ap (λ (m : ℕ). m + n) none ∙ zero-add n)
+    (worked_found v u w n d rest ds found at first unslotted is quiet next)
 
 -- ---- work after work
 
@@ -110,17 +110,17 @@ works_then v u w n m one (Next k z found other) =
 works_then v u w n m one (Comes k z other) = Comes (m + n) z (works_then v u z n m one other)
 
 -- The same of what comes next.
-pub stands_then : (v u w : View) (n m : ℕ) (ds es : List Duty) → Stands v n ds u → Stands u m es w → Stands v (m + n) es w
-stands_then v u w n m ds es one other = record {
+pub worked_then : (v u w : View) (n m : ℕ) (ds es : List Duty) → HasWorked v n ds u → HasWorked u m es w → HasWorked v (m + n) es w
+worked_then v u w n m ds es one other = record {
   agenda = other.agenda;
   works = works_then v u w n m one.works other.works;
   keeps = keeps_then v u w one.keeps other.keeps;
 }
 
 -- The same of a call that leaves what it makes of the duties that it finds, the first of which needs a step.
-pub stands_call : (v u w : View) (n : ℕ) (ds : List Duty) (left : List Duty → List Duty) → Stands v n ds u
-    → ready u.head ds ≡ ds → Stands u 0 (left u.agenda) w → Stands v n (left ds) w
-stands_call v u w n ds left at first other =
-    subst (λ (m : ℕ). Stands v m (left ds) w) (zero-add n)
-    (stands_then v u w n 0 ds (left ds) at
-    (subst (λ (es : List Duty). Stands u 0 (left es) w) (at.agenda ∙ first) other))
+pub worked_call : (v u w : View) (n : ℕ) (ds : List Duty) (left : List Duty → List Duty) → HasWorked v n ds u
+    → ready u.head ds ≡ ds → HasWorked u 0 (left u.agenda) w → HasWorked v n (left ds) w
+worked_call v u w n ds left at first other =
+    subst (λ (m : ℕ). HasWorked v m (left ds) w) (zero-add n)
+    (worked_then v u w n 0 ds (left ds) at
+    (subst (λ (es : List Duty). HasWorked u 0 (left es) w) (at.agenda ∙ first) other))
