@@ -12,7 +12,7 @@ use Rattle.brc_table.specs.declared.view.View.{View}
 use Rattle.brc_table.specs.Views.{did, done, settling, settle_first, slot_emptied, slot_emptied_by}
 use Rattle.brc_table.specs.Calls.{MaySettle, SettlesFrom}
 use Rattle.brc_free.specs.Works.{Works, Begun, Next, Comes, Keeps, HasWorked, ComesToSettle, AtOnce, InWork, found_by}
-use Rattle.brc_free.proofs.Working.{worked_found, worked_on, worked_then}
+use Rattle.brc_free.proofs.Working.{keeps_beside, keeps_then, did_keeps, worked_found, worked_on, worked_then}
 use Rattle.brc_free.proofs.FirstDuties.{settle_kind_first, settle_cell_first, take_slot_first, settle_end_first}
 
 -- ---- taking the first object off the chain
@@ -47,18 +47,7 @@ comes : (v : View) (rest : List Duty) → 0 < v.head → ComesToSettle v rest �
 comes v rest some at = record {
   agenda = settles_first v rest some at ∙ sym (settle_ready v.head rest some);
   works = Comes 0 v Begun;
-  keeps = record {
-    layout = refl;
-    thread = refl;
-    status = refl;
-    references = refl;
-    aside = refl;
-    used = refl;
-    locked = refl;
-    lent = refl;
-    in_slot = refl;
-    given = refl;
-  };
+  keeps = keeps_beside v (settle_first v.agenda);
 }
 
 -- The first object is off the chain.
@@ -161,7 +150,8 @@ pub ended_empty : (v u w : View) (n x found : ℕ) (rest : List Duty) → HasWor
     → w ≡ done (slot_emptied u) found → HasWorked v n rest w
 ended_empty v u w n x found rest at is =
     let has : u.agenda ≡ TakeSlot x ∷ rest = at.agenda ∙ take_slot_first u.head x rest in
-    let does : w ≡ did (record u { agenda = SettleEnd x ∷ rest }) (SettleEnd x ∷ rest) found =
+    let emptied : View = record u { agenda = SettleEnd x ∷ rest } in
+    let does : w ≡ did emptied (SettleEnd x ∷ rest) found =
     is ∙ ap (λ (ds : List Duty). done (slot_emptied_by ds u) found) has in
     let work : Works v n (done (slot_emptied u) found) =
     subst (λ (m : ℕ). Works v m (done (slot_emptied u) found)) (zero-add n)
@@ -171,19 +161,11 @@ ended_empty v u w n x found rest at is =
       agenda = ap (λ (z : View). z.agenda) does ∙ ap (λ (z : View). ready z.head rest) (sym does);
       works = subst (Works v n) (sym is) work;
       keeps =
-          subst (Keeps v) (sym does)
-          (record {
-            layout = at.keeps.layout;
-            thread = at.keeps.thread;
-            status = at.keeps.status;
-            references = at.keeps.references;
-            aside = at.keeps.aside;
-            used = at.keeps.used;
-            locked = at.keeps.locked;
-            lent = at.keeps.lent;
-            in_slot = at.keeps.in_slot;
-            given = at.keeps.given;
-          });
+          keeps_then v u w at.keeps
+          (subst (Keeps u) (sym does)
+          (keeps_then u emptied (did emptied (SettleEnd x ∷ rest) found) (keeps_beside u (SettleEnd x ∷ rest))
+          (did_keeps emptied (SettleEnd x) rest found
+          (record { status = refl; used = refl; locked = refl; lent = refl }))));
     }
 
 -- ---- the end of the chain

@@ -1,11 +1,15 @@
 -- How a hand that does duty after duty goes on.
-use Rattle.std.proofs.Common.{◌≡◌, ℕ, ◌+◌, List, ◌∷◌, ◌++◌, refl, sym, ap, ◌∙◌, subst}
+use Rattle.std.proofs.Common.{◌≡◌, ℕ, ◌+◌, Bool, List, [], ◌∷◌, ◌++◌, refl, sym, ap, ◌∙◌, subst}
+use Rattle.std.specs.Prelude.{◌||◌}
+use Rattle.std.specs.List.{list_any}
 use Rattle.std.proofs.Math.Nat.{add_assoc, zero-add}
+use Rattle.std.proofs.lemmas.List.Folds.{list_any-append}
 use Rattle.brc_model.specs.declared.duty.Duty.{Duty}
 use Rattle.brc_model.specs.Duties.{ready, continuation, new_head}
 use Rattle.brc_model.specs.Machine.{is_running, status_by, used_by, locked_by, lent_by}
 use Rattle.brc_table.specs.declared.view.View.{View}
-use Rattle.brc_table.specs.Views.{did, done, slot_emptied, slot_emptied_by}
+use Rattle.brc_table.specs.Seen.{shows_kind}
+use Rattle.brc_table.specs.Views.{event_of, did, done, slot_emptied, slot_emptied_by}
 use Rattle.brc_free.specs.Works.{Works, Begun, Next, Comes, Keeps, HasWorked, found_by}
 
 -- ---- what is kept
@@ -22,6 +26,7 @@ keeps_first v = record {
   lent = refl;
   in_slot = refl;
   given = refl;
+  kinds = λ x word seen. seen;
 }
 
 pub keeps_then : (v u w : View) → Keeps v u → Keeps u w → Keeps v w
@@ -36,6 +41,23 @@ keeps_then v u w one other = record {
   lent = other.lent ∙ one.lent;
   in_slot = other.in_slot ∙ one.in_slot;
   given = other.given ∙ one.given;
+  kinds = λ x word seen. other.kinds x word (one.kinds x word seen);
+}
+
+-- Other duties that come next change nothing else.
+pub keeps_beside : (u : View) (ds : List Duty) → Keeps u (record u { agenda = ds })
+keeps_beside u ds = record {
+  layout = refl;
+  thread = refl;
+  status = refl;
+  references = refl;
+  aside = refl;
+  used = refl;
+  locked = refl;
+  lent = refl;
+  in_slot = refl;
+  given = refl;
+  kinds = λ x word seen. seen;
 }
 
 -- The duty changes neither the hand's status nor its lock, and it uses no row.
@@ -53,7 +75,8 @@ worked_first v ds is = record { agenda = is; works = Begun; keeps = keeps_first 
 
 -- ---- one duty more
 
-did_keeps : (u : View) (d : Duty) (rest : List Duty) (found : ℕ) → IsQuiet u d found → Keeps u (did u (d ∷ rest) found)
+-- What one duty keeps.
+pub did_keeps : (u : View) (d : Duty) (rest : List Duty) (found : ℕ) → IsQuiet u d found → Keeps u (did u (d ∷ rest) found)
 did_keeps u d rest found quiet = record {
   layout = refl;
   thread = refl;
@@ -65,6 +88,9 @@ did_keeps u d rest found quiet = record {
   lent = quiet.lent;
   in_slot = refl;
   given = refl;
+  kinds = λ x word seen.
+      list_any-append (shows_kind x word) u.trace (event_of u d found ∷ [])
+      ∙ ap (λ (b : Bool). b || list_any (shows_kind x word) (event_of u d found ∷ [])) seen;
 }
 
 -- One duty more, the first of those that come next, which may find a resource of a dying object,

@@ -1,5 +1,5 @@
 -- What a hand does in the midst of other work: duty after duty, and which duties come next then.
-use Rattle.std.specs.Prelude.{◌≡◌, ◌≢◌, ℕ, ◌+◌, ◌<◌, List, [], ◌∷◌, ◌++◌, not}
+use Rattle.std.specs.Prelude.{◌≡◌, ◌≢◌, true, ℕ, ◌+◌, ◌<◌, List, [], ◌∷◌, ◌++◌, not}
 use Rattle.std.specs.List.{filter}
 use Rattle.brc_model.specs.declared.actor.Status.TheVariants.{Running, Gone}
 use Rattle.brc_model.specs.declared.duty.Holding.TheVariants.{InFlight}
@@ -10,6 +10,7 @@ use Rattle.brc_model.specs.declared.duty.Duty.TheVariants.{ReleaseLoad, DecideAt
 use Rattle.brc_model.specs.Duties.{ready, once_merged, resources_of, cells_from}
 use Rattle.brc_table.specs.declared.view.View.{View}
 use Rattle.brc_model.specs.OpenWork.{is_about}
+use Rattle.brc_table.specs.Seen.{has_seen_kind}
 use Rattle.brc_table.specs.Views.{done, settling, slot_emptied, without_reference, open_work}
 use Rattle.brc_free.specs.declared.giving_up.Tried.{Tried}
 use Rattle.brc_free.specs.declared.giving_up.Tried.TheVariants as tried
@@ -30,7 +31,7 @@ pub data Works (v : View) : ℕ → View → Type 0 where
   -- with nothing to do, it comes to settle its chain
   Comes : (n : ℕ) (u : View) → Works v n u → Works v n (settling u)
 
--- What no such work changes.
+-- What no such work changes. The hand has seen the kinds that it had seen.
 pub record Keeps (v u : View) : Type 0 where
   pub layout : u.layout ≡ v.layout
   pub thread : u.thread ≡ v.thread
@@ -42,6 +43,7 @@ pub record Keeps (v u : View) : Type 0 where
   pub lent : u.lent ≡ v.lent
   pub in_slot : u.in_slot ≡ v.in_slot
   pub given : u.given ≡ v.given
+  pub kinds : (x word : ℕ) → has_seen_kind x word v ≡ true → has_seen_kind x word u ≡ true
 
 -- The hand has done duty after duty, by which it found n resources of dying objects, and these duties are left, but for
 -- those that need no step.
@@ -152,3 +154,4 @@ pub record HasReleased (x : ℕ) (v u : View) : Type 0 where
   pub lent : u.lent ≡ v.lent
   pub in_slot : u.in_slot ≡ v.in_slot
   pub given : u.given ≡ v.given
+  pub kinds : (y word : ℕ) → has_seen_kind y word v ≡ true → has_seen_kind y word u ≡ true
