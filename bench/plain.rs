@@ -1,4 +1,5 @@
-//! Biased reference counting (PEP 703) in plain Rust: the program that the proved counter is compared with.
+//! Biased reference counting (PEP 703) and locked lists in plain Rust: the program that the proved counter is compared
+//! with.
 //!
 //! Every step is one sequentially consistent access of one word, as in the proved counter.
 //!
@@ -6,8 +7,9 @@
 //!     rustc -O bench/plain.rs && ./plain --time   # nanoseconds, the median of 9 runs
 
 use std::hint::black_box;
+use std::mem;
 use std::sync::atomic::{AtomicU64, Ordering::SeqCst};
-use std::sync::{Arc, Barrier};
+use std::sync::{Arc, Barrier, Mutex};
 use std::thread;
 use std::time::{Duration, Instant};
 
@@ -16,7 +18,10 @@ const THREAD_WORDS: u64 = 40;
 const TILE_ROWS: u64 = 8;
 const TILE_WORDS: u64 = 104;
 
-/// What a word is to its row. A tile has marks and cells after these; this program touches neither.
+/// The line of a tile that has the cells of the tile's first row. The marks are in the line before.
+const CELL_LINE: u64 = 5;
+
+/// What a word is to its row. A tile has marks after these, which this program doesn't touch, and then the rows' cells.
 #[derive(Clone, Copy)]
 enum Field {
     Local = 0,
@@ -28,6 +33,11 @@ enum Field {
 /// Returns the index of the word of `field` for `row`.
 fn place(field: Field, row: u64) -> usize {
     (THREAD_WORDS + TILE_WORDS * (row / TILE_ROWS) + TILE_ROWS * field as u64 + row % TILE_ROWS) as usize
+}
+
+/// Returns the index of the word of cell `cell` of `row`. The cells of a row are a line.
+fn cell_place(row: u64, cell: u64) -> usize {
+    (THREAD_WORDS + TILE_WORDS * (row / TILE_ROWS) + TILE_ROWS * (CELL_LINE + row % TILE_ROWS) + cell) as usize
 }
 
 // A local word, a gate and a kind word each have a high half and a low half of 32 bits.
@@ -60,6 +70,11 @@ const NONE_ROW: u64 = 0;
 const ROOT_ROW: u64 = 1;
 const FIRST_WORKER_ROW: u64 = 2;
 
+/// Returns the gate of a list that `thread` has locked.
+fn gate_locked(thread: u64) -> u64 {
+    thread + 2
+}
+
 /// The words of all threads and rows.
 struct Block {
     words: Vec<AtomicU64>,
@@ -84,6 +99,10 @@ impl Block {
 
     fn word(&self, field: Field, row: u64) -> &AtomicU64 {
         &self.words[place(field, row)]
+    }
+
+    fn cell(&self, row: u64, cell: u64) -> &AtomicU64 {
+        &self.words[cell_place(row, cell)]
     }
 
     /// Returns the words of `row` that releases and retains change: local, shared, gate.
@@ -262,12 +281,34 @@ fn birth(hand: &mut Hand, block: &Block, kind: u64, argument: u64) -> Option<u64
     Some(row)
 }
 
+/// Tries once to lock the list `row`, and returns whether the thread got the lock.
+fn try_lock(hand: &mut Hand, block: &Block, row: u64) -> bool {
+    let gate = block.word(Field::Gate, row);
+    gate.compare_exchange(GATE_FREE, gate_locked(hand.thread), SeqCst, SeqCst).is_ok()
+}
+
+/// Unlocks the list `row`, which the thread has locked.
+fn unlock(block: &Block, row: u64) {
+    block.word(Field::Gate, row).store(GATE_FREE, SeqCst);
+}
+
+/// Puts `item`, or nothing, into a cell of the locked list `row`, and returns what was there. The references go along.
+fn swap_item(block: &Block, row: u64, cell: u64, item: Option<u64>) -> Option<u64> {
+    // A cell's word is 0, or the row of its item plus 1.
+    let new = item.map_or(0, |item| item + 1);
+    block.cell(row, cell).swap(new, SeqCst).checked_sub(1)
+}
+
 // From here on: the rows of the table.
 
 const WORKERS: u64 = 4;
 /// The rows of each worker: more than a tile's, so that no two workers' first rows share a tile.
 const ROWS_EACH: u64 = 64;
 const KIND: u64 = 2;
+const LIST_KIND: u64 = 3;
+const CELLS: u64 = 8;
+/// The cell whose item is swapped.
+const CELL: u64 = 0;
 /// The rows of each worker in a block for births. Such a block has 209 KiB of words, which stay in a core's own cache from
 /// their first store on: a birth in a larger block waits for memory, and how long depends on where the allocator took it.
 const BIRTH_ROWS: u64 = 512;
@@ -354,6 +395,69 @@ fn births(n: u64) -> Run {
     run
 }
 
+/// Locks the list `row`, swaps an item of it for the one held, and unlocks it, `n` times. Returns `n`.
+fn locked_swaps(hand: &mut Hand, block: &Block, row: u64, held: &mut Option<u64>, n: u64) -> u64 {
+    // The threads' items may be in one cache line, so each thread takes a copy of its own.
+    let mut item = *held;
+    for _ in 0..n {
+        while !try_lock(hand, block, row) {}
+        item = swap_item(block, row, CELL, item);
+        unlock(block, row);
+    }
+    *held = item;
+    n
+}
+
+/// Makes `n` locked swaps on each of `threads` threads, at the first worker's list if it is alone, else at the root.
+fn listed(threads: u64, n: u64) -> Run {
+    let block = &Block::new(WORKERS, ROWS_EACH);
+    let mut hands: Vec<Hand> = (1..=threads).map(|thread| Hand::worker(thread, ROWS_EACH)).collect();
+    let list = if threads == 1 { birth(&mut hands[0], block, LIST_KIND, CELLS).unwrap() } else { ROOT_ROW };
+    let mut held: Vec<Option<u64>> = hands.iter_mut().map(|hand| birth(hand, block, KIND, 0)).collect();
+    let items = |held: &[Option<u64>]| {
+        let cell = block.cell(list, CELL).load(SeqCst).checked_sub(1);
+        let mut items: Vec<u64> = held.iter().copied().chain([cell]).flatten().collect();
+        items.sort();
+        items
+    };
+
+    let before = items(&held);
+    let acting = hands.iter_mut().zip(&mut held);
+    let run = run_together(acting.map(|(hand, held)| move |n| locked_swaps(hand, block, list, held, n)).collect(), n);
+    assert_eq!(items(&held), before, "each item is in one place");
+    assert_eq!(block.word(Field::Gate, list).load(SeqCst), GATE_FREE, "nobody has locked the list");
+    run
+}
+
+/// A list of numbers, and its lock.
+type Locked = Mutex<[Option<Arc<u32>>; CELLS as usize]>;
+
+/// Locks the list, swaps an item of it for the one held, and unlocks it, `n` times. Returns `n`.
+fn mutex_swaps(list: &Arc<Locked>, held: &mut Option<Arc<u32>>, n: u64) -> u64 {
+    let mut item = held.take();
+    for _ in 0..n {
+        mem::swap(&mut black_box(list).lock().unwrap()[CELL as usize], &mut item);
+    }
+    *held = item;
+    n
+}
+
+/// Makes `n` locked swaps on each of `threads` threads, all at one list behind a `Mutex`.
+fn one_mutex(threads: u32, n: u64) -> Run {
+    let list: Arc<Locked> = Arc::default();
+    let mut held: Vec<Option<Arc<u32>>> = (0..threads).map(|thread| Some(Arc::new(thread))).collect();
+    let jobs = held.iter_mut().map(|held| {
+        let list = Arc::clone(&list);
+        move |n| mutex_swaps(&list, held, n)
+    });
+    let run = run_together(jobs.collect(), n);
+    let cell = list.lock().unwrap()[CELL as usize].take();
+    let mut items: Vec<u32> = held.into_iter().chain([cell]).flatten().map(|item| *item).collect();
+    items.sort();
+    assert!(items.into_iter().eq(0..threads), "each item is in one place");
+    run
+}
+
 /// Clones and drops `arc` `n` times, and returns `n`.
 fn arc_pairs<T>(arc: &Arc<T>, n: u64) -> u64 {
     for _ in 0..n {
@@ -389,8 +493,9 @@ const RUNS: usize = 9;
 const SMALL: u64 = 1_000;
 const PAIRS: u64 = 5_000_000;
 const BIRTHS: u64 = 1_000_000;
+const SWAPS: u64 = 2_000_000;
 
-const TABLE: [TableRow; 12] = [
+const TABLE: [TableRow; 16] = [
     ("biased: the owner alone (main at the root)", |n| counted(&[(0, 0)], n), 1, PAIRS),
     ("biased: another thread alone (at the root)", |n| counted(&[(1, 0)], n), 1, PAIRS),
     ("biased: owner and another at one row", |n| counted(&[(0, 0), (1, 0)], n), 2, PAIRS),
@@ -398,11 +503,15 @@ const TABLE: [TableRow; 12] = [
     ("biased: 2 threads, own rows", |n| counted(&[(1, 1), (2, 2)], n), 2, PAIRS),
     ("biased: 4 threads, own rows", |n| counted(&[(1, 1), (2, 2), (3, 3), (4, 4)], n), 4, PAIRS),
     ("biased: births", births, 1, BIRTHS),
+    ("biased: locked swap, 1 thread, own list", |n| listed(1, n), 1, SWAPS),
+    ("biased: locked swap, 2 threads, one list", |n| listed(2, n), 2, SWAPS),
     ("Arc: alone", |n| one_arc(1, n), 1, PAIRS),
     ("Arc: two threads at one Arc", |n| one_arc(2, n), 2, PAIRS),
     ("Arc: 1 thread, own Arc", |n| own_arcs(1, n), 1, PAIRS),
     ("Arc: 2 threads, own Arcs", |n| own_arcs(2, n), 2, PAIRS),
     ("Arc: 4 threads, own Arcs", |n| own_arcs(4, n), 4, PAIRS),
+    ("Mutex: locked swap, 1 thread, own list", |n| one_mutex(1, n), 1, SWAPS),
+    ("Mutex: locked swap, 2 threads, one list", |n| one_mutex(2, n), 2, SWAPS),
 ];
 
 /// Runs `n` operations on each of `threads` threads, and asserts that all went as they should.

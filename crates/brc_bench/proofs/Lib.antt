@@ -1,1 +1,3 @@
 mod Readiness
+mod LockedSwaps
+mod FirstSwaps

@@ -38,12 +38,11 @@ and_false : (b : Bool) → (b && false) ≡ false
 and_false true = refl
 and_false false = refl
 
--- An object of a worker is counted.
-workers_counted : (layout : Layout) (t : ℕ) → layout.immortal_lists ≡ 0
-    → IsCounted layout (row_at layout (suc t) 0)
-workers_counted layout t none =
-    let x = row_at layout (suc t) 0 in let first = first_immortal_list layout in
-    let apart : (x == none_row) ≡ false = ne_eqb x none_row (λ e. absurd (omega (arith, e))) in
+-- Beside none each object is counted, if there is no immortal list.
+pub counted_row : (layout : Layout) (x : ℕ) → 0 < x → layout.immortal_lists ≡ 0 → IsCounted layout x
+counted_row layout x some none =
+    let first = first_immortal_list layout in
+    let apart : (x == none_row) ≡ false = ne_eqb x none_row (λ e. absurd (omega (arith, some, e))) in
     let behind : (nat_le first x && nat_lt x (first + layout.immortal_lists)) ≡ false =
     elim (cases_Bool (nat_lt x (first + layout.immortal_lists))) [
       | inr above ↦ ap (λ (b : Bool). nat_le first x && b) above ∙ and_false (nat_le first x)
@@ -72,7 +71,8 @@ born_ready heap hand before (suc t) some none was table born =
       running = (born.status ∙ ap (λ (u : View). u.status) was, born.waits);
       counted =
           subst (λ (l : Layout). IsCounted l x) (sym layout_is)
-          (subst (IsCounted heap.layout) (sym row_is) (workers_counted heap.layout t none));
+          (subst (IsCounted heap.layout) (sym row_is)
+          (counted_row heap.layout (row_at heap.layout (suc t) 0) (omega arith) none));
       held =
           let here : one_if (x == x) ≡ 1 = ap one_if (eq-eqb x x refl) in
           let all : count_by (λ y. y == x) hand.view.references

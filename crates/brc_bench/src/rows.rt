@@ -22,7 +22,7 @@ const WORKERS: u8 = 4;
 const ROWS_EACH: u16 = 64;
 
 /// The row of the root, which main owns.
-const ROOT: u32 = 1;
+pub const ROOT: u32 = 1;
 
 /// The rows of each worker in a heap for births. Such a heap has 209 KiB of words, which stay in a core's own cache from
 /// their first store on: a birth in a larger heap waits for memory, and how long depends on where the allocator took it.
@@ -39,7 +39,7 @@ pub struct Run {
 }
 
 /// Returns the run of several threads at once.
-fn together(one: Run, two: Run) -> Run {
+pub fn together(one: Run, two: Run) -> Run {
     Run {
         done: one.done.saturating_add(two.done),
         time: one.time.max(two.time),
@@ -75,7 +75,7 @@ fn work<R: Clock>(rt: &R, worker: Worker<'_>, times: u32) -> io::Result<Run> {
 }
 
 /// Returns a heap of four workers, and main's hand.
-fn opened(alloc: Global) -> io::Result<(Heap<()>, Hand<()>)>
+pub fn opened(alloc: Global) -> io::Result<(Heap<()>, Hand<()>)>
     ensures ready { IfOk result (λ made. IsReady made.0 made.1 root_row) }
     ensures main { IfOk result (λ made. made.1.view.thread ≡ 0) }
 {

@@ -1,0 +1,6 @@
+use Rattle.std.specs.Prelude.{◌≤◌}
+use Rattle.brc_bench.specs.Swaps.{IsReadyToSwap}
+use Rattle.brc_bench.proofs.swaps.locked_swaps.Given as goal
+
+abbrev pub invariant-loop : goal.invariant-loop
+invariant-loop l = IsReadyToSwap l.lists l.hand l.row 0 l.held × (l.made ≤ l.counter)

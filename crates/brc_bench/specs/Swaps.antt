@@ -1,0 +1,63 @@
+-- What a hand needs for a locked swap: to lock a list, swap a cell of it, and unlock it.
+use Rattle.std.specs.Prelude.{◌≡◌, ◌<◌, ◌≤◌, ◌+◌, ◌==◌, ℕ, Option, None, Some, List, [], ◌∷◌, length, count_by}
+use Rattle.brc_model.specs.Layout.{IsCounted}
+use Rattle.brc_table.specs.Views.{behind_first, open_work}
+use Rattle.brc_table.specs.Seen.{KnowsCell}
+use Rattle.brc_table.specs.Swaps.{with_item}
+use Rattle.brc_table.specs.Uses.{FirstSlot}
+use Rattle.brc_table.specs.Hands.{TableState, HandState, IsOf, IsRunning, most_references}
+use Rattle.brc_list.specs.Calls.{word_of}
+use Rattle.brc_bench.specs.Ready.{ready_props}
+
+-- The hand runs, has nothing to do, and has locked and lent nothing.
+pub record IsAtRest (heap : TableState) (hand : HandState) : Type 0 where
+  pub table : IsOf heap hand
+  pub running : IsRunning hand.view
+  pub rests : open_work hand.view ≡ []
+  pub lent : hand.view.lent ≡ None
+  pub unlocked : hand.view.locked ≡ None
+
+-- The hand is at rest. It holds few references, the first to the item and the second to the other object, both of which
+-- are counted.
+pub record HoldsListAndItem (heap : TableState) (hand : HandState) (row item : ℕ) : Type 0 where
+  pub rest : IsAtRest heap hand
+  pub counted : IsCounted hand.view.layout row
+  pub item_counted : IsCounted hand.view.layout item
+  pub references : hand.view.references ≡ item ∷ row ∷ behind_first (behind_first hand.view.references)
+  pub few : length hand.view.references ≤ 3
+
+-- If the hand has locked this row's object, then the slot that it took last is that one, with what it held.
+abbrev pub HasBack : HandState → Option ℕ → Type 0
+HasBack hand None = Unit {0}
+HasBack hand (Some x) = FirstSlot hand.slots x hand.view.in_slot
+
+-- The hand runs, has nothing to do, has lent nothing, and has locked the object of the row `locked`, or none. It knows
+-- that the counted object of `row` is a list that has the cell. It holds a reference to the item, if there is one, and
+-- others, one of them to the list.
+pub record IsAtList (heap : TableState) (hand : HandState) (row cell : ℕ) (held locked : Option ℕ) : Type 0 where
+  pub table : IsOf heap hand
+  pub running : IsRunning hand.view
+  pub rests : open_work hand.view ≡ []
+  pub lent : hand.view.lent ≡ None
+  pub locked_is : hand.view.locked ≡ locked
+  pub returned : HasBack hand locked
+  pub counted : IsCounted hand.view.layout row
+  pub knows : KnowsCell hand.view row cell
+  pub others : List ℕ
+  pub references : hand.view.references ≡ with_item hand.view.layout (word_of held) others
+  pub list : 1 ≤ count_by (λ y. y == row) others
+  pub few : length others + 1 < most_references
+
+-- The hand may lock the list, and swap the cell for the item that it holds, or for none.
+abbrev pub IsReadyToSwap : TableState → HandState → ℕ → ℕ → Option ℕ → Type 0
+IsReadyToSwap heap hand row cell held = IsAtList heap hand row cell held None
+
+-- ---- a fact that a struct can keep
+
+pub rest-prop : (heap : TableState) (hand : HandState) → IsProp (IsAtRest heap hand)
+rest-prop heap hand = Prim.hlevel ready_props
+
+pub ruleset rest_props = (ready_props, rest-prop)
+
+pub holds-prop : (heap : TableState) (hand : HandState) (row item : ℕ) → IsProp (HoldsListAndItem heap hand row item)
+holds-prop heap hand row item = Prim.hlevel rest_props
