@@ -1,0 +1,13 @@
+use Rattle.std.proofs.Common.{[]}
+use Rattle.brc_queue_tests.proofs.Steps.{comes, settled}
+use Rattle.brc_queue_tests.proofs.calls.settles.Goals as goal
+
+pub settle-requires-clause-duty : goal.settle-requires-clause-duty
+settle-requires-clause-duty g c = λ lives within. ([], comes c.requires.holds)
+
+pub returns : goal.returns
+returns g c = record {
+  holds =
+      let work = c.settle.ensures.work [] (comes c.requires.holds) in
+      settled c.requires.holds c.settle.ensures.table work.2 c.settle.ensures.carried;
+}

@@ -1,0 +1,11 @@
+//! Tests of the queues of objects that other threads have handed to their owners.
+#![tactic(auto)]
+
+#[cfg(test)]
+mod calls;
+#[cfg(test)]
+mod held_post;
+#[cfg(test)]
+mod kept;
+#[cfg(test)]
+mod meeting;

@@ -1,0 +1,138 @@
+//! Two workers in threads of their own: each gives up the other's object, and leaves.
+
+ghost use Rattle.std.specs.Prelude.{◌≡◌, ◌≢◌, ◌<◌, [], ◌∷◌, true};
+ghost use Rattle.brc_model.specs.Layout.{IsCounted, root_row};
+ghost use Rattle.brc_queue_tests.specs.Ready.{HasWork, HoldsRoot, small_layout, holds-prop};
+
+use crate::calls::{ROW, all_closed, leaves, opened, settles, tries_put, tries_take};
+use brc_free::Finaliser;
+use brc_heap::{Hand, Heap};
+use brc_host::{FakeHost, FakeResource};
+use brc_lang::Kind;
+use brc_queue::Queue;
+use std::alloc::AllocError;
+use std::sync::Wait;
+use std::test::*;
+use std::thread;
+use std::thread::Threads;
+
+/// The row of the first object that the second worker gives birth to.
+const OTHER: u32 = 4;
+
+/// More tries than a worker needs until the other one's object is in its cell.
+const TRIES: u32 = 100_000_000;
+
+/// A worker's hand, which a thread takes with it.
+#[derive(Drop)]
+struct Worker<'a> {
+    heap: &'a Heap<FakeResource>,
+    hand: Hand<FakeResource>,
+    ghost holds: { HoldsRoot heap.now hand } by { holds-prop heap.now hand },
+}
+
+/// Gives birth to the number of the row. Returns whether it is there.
+fn bears_at(heap: &Heap<FakeResource>, hand: &mut Hand<FakeResource>, row: u32) -> bool
+    requires holds { HoldsRoot heap.now hand.old }
+    ensures holds { result ≡ true → HasWork heap.now hand.new (row ∷ root_row ∷ []) [] }
+{
+    heap.room(hand) && heap.birth(hand, Kind::Num, 0, None) == row
+}
+
+/// Puts the number of the row into a cell of the root. Returns whether it is there.
+fn puts_at(heap: &Heap<FakeResource>, hand: &mut Hand<FakeResource>, cell: u32, row: u32) -> bool
+    requires counted { IsCounted small_layout row }
+    requires apart { row ≢ root_row }
+    requires cell { cell < 8 }
+    requires holds { HasWork heap.now hand.old (row ∷ root_row ∷ []) [] }
+    ensures holds { result ≡ true → HoldsRoot heap.now hand.new }
+{
+    for _ in 0..TRIES {
+        if let Some(put) = tries_put(heap, hand, cell, row) {
+            return put;
+        }
+    }
+    false
+}
+
+/// Takes the number of the row out of a cell of the root, once it is there. Returns whether the hand has it.
+fn takes_at(heap: &Heap<FakeResource>, hand: &mut Hand<FakeResource>, cell: u32, row: u32) -> bool
+    requires counted { IsCounted small_layout row }
+    requires cell { cell < 8 }
+    requires holds { HoldsRoot heap.now hand.old }
+    ensures holds { result ≡ true → HasWork heap.now hand.new (row ∷ root_row ∷ []) [] }
+{
+    for _ in 0..TRIES {
+        if let Some(taken) = tries_take(heap, hand, cell, row) {
+            return taken;
+        }
+    }
+    false
+}
+
+/// Gives up the reference to the object of the row.
+#[tactic(auto, using(crate::proofs::Rows::holds_first, crate::proofs::Rows::without_row))]
+fn releases<R: Wait>(rt: &R, heap: &Heap<FakeResource>, hand: &mut Hand<FakeResource>, row: u32)
+    requires counted { IsCounted small_layout row }
+    requires holds { HasWork heap.now hand.old (row ∷ root_row ∷ []) [] }
+    ensures holds { HoldsRoot heap.now hand.new }
+{
+    let queue = Queue::new(heap);
+    Finaliser::new(heap, &queue).release(rt, hand, row);
+}
+
+/// Puts a number of its own into a cell of the root, takes the other worker's number out of its cell, gives it up, and
+/// leaves. Returns whether the worker has done all that.
+fn exchanges<R: Wait>(rt: &R, worker: Worker<'_>, own: (u32, u32), other: (u32, u32)) -> bool
+    requires own { IsCounted small_layout own.1 }
+    requires apart { own.1 ≢ root_row }
+    requires cell { own.0 < 8 }
+    requires other { IsCounted small_layout other.1 }
+    requires other_cell { other.0 < 8 }
+{
+    let Worker { heap, mut hand } = worker;
+    if !bears_at(heap, &mut hand, own.1) || !puts_at(heap, &mut hand, own.0, own.1) {
+        return false;
+    }
+    if !takes_at(heap, &mut hand, other.0, other.1) {
+        return false;
+    }
+    let mut host = FakeHost::new(&[]);
+    releases(rt, heap, &mut hand, other.1);
+    settles(rt, heap, &mut hand, &mut host) == 0 && leaves(rt, heap, &mut hand, &mut host)
+}
+
+/// Lets two workers exchange their numbers in threads of their own. Returns whether both have left.
+fn both_exchange<R: Threads + Wait + Sync>(
+    rt: &R,
+    one: Worker<'_>,
+    two: Worker<'_>,
+) -> Result<bool, AllocError> {
+    thread::scope(
+        thread::scope_env(),
+        rt,
+        |scope| -> Result<bool, AllocError> {
+            let one = scope.spawn(move || exchanges(rt, one, (0, ROW), (1, OTHER)))?;
+            let two = scope.spawn(move || exchanges(rt, two, (1, OTHER), (0, ROW)))?;
+            Ok(one.join(rt) & two.join(rt))
+        },
+    )
+}
+
+/// Returns the hand with its heap.
+fn ready<'a>(heap: &'a Heap<FakeResource>, hand: Hand<FakeResource>) -> Worker<'a>
+    requires holds { HoldsRoot heap.now hand }
+{
+    Worker { heap, hand }
+}
+
+#[test]
+fn two_workers_post_to_each_other(rt: HostRuntime) -> Result<(), Fail> {
+    let (heap, mut main, one, two) = opened(rt.alloc())?;
+    let mut host = FakeHost::new(&[]);
+    let done = both_exchange(&rt, ready(&heap, one), ready(&heap, two))?;
+    let left = leaves(&rt, &heap, &mut main, &mut host);
+    let closed = all_closed(heap, main);
+    assert!(rt; done && left);
+    assert_eq!(rt; closed, Some(true));
+    Ok(())
+}
