@@ -18,16 +18,17 @@ const THREAD_WORDS: u64 = 40;
 const TILE_ROWS: u64 = 8;
 const TILE_WORDS: u64 = 104;
 
-/// The line of a tile that has the cells of the tile's first row. The marks are in the line before.
+/// The line of a tile that has the cells of the tile's first row.
 const CELL_LINE: u64 = 5;
 
-/// What a word is to its row. A tile has marks after these, which this program doesn't touch, and then the rows' cells.
+/// What a word is to its row. A tile has these, and then the rows' cells.
 #[derive(Clone, Copy)]
 enum Field {
     Local = 0,
     Shared = 1,
     Gate = 2,
     Kind = 3,
+    Mark = 4,
 }
 
 /// Returns the index of the word of `field` for `row`.
@@ -66,6 +67,11 @@ const ZERO_MERGED: u64 = ZERO_DEFAULT + 3;
 
 const NO_OWNER: u64 = 0;
 const GATE_FREE: u64 = 1;
+const GATE_CLOSED: u64 = 1 << 63;
+const NOT_QUEUED: u64 = 0;
+const QUEUED: u64 = 1;
+/// The word of a thread that runs.
+const RUNNING: u64 = 1;
 const NONE_ROW: u64 = 0;
 const ROOT_ROW: u64 = 1;
 const FIRST_WORKER_ROW: u64 = 2;
@@ -94,6 +100,7 @@ impl Block {
         }
         block.word(Field::Local, NONE_ROW).store(local_word(0, IMMORTAL_COUNT), SeqCst);
         block.word(Field::Local, ROOT_ROW).store(local_word(0, 1), SeqCst);
+        block.word(Field::Kind, ROOT_ROW).store(LIST_KIND * HIGH_ONE + CELLS, SeqCst);
         block
     }
 
@@ -281,6 +288,53 @@ fn birth(hand: &mut Hand, block: &Block, kind: u64, argument: u64) -> Option<u64
     Some(row)
 }
 
+/// Finalises the rows of the thread's dying chain, until it is empty.
+fn settle(hand: &mut Hand, block: &Block) {
+    while let Some(row) = hand.head.checked_sub(1) {
+        hand.head = block.word(Field::Gate, row).load(SeqCst) % HIGH_ONE;
+        let kind = block.word(Field::Kind, row).load(SeqCst);
+        assert_eq!(kind / HIGH_ONE, KIND, "a number: it has no cells to empty, and no resource to close");
+        block.word(Field::Gate, row).swap(GATE_CLOSED, SeqCst);
+    }
+}
+
+/// Sets the mark of `row`, which a release queued, and looks whether its owner runs. Returns whether it does.
+fn post(block: &Block, row: u64, rows_each: u64) -> bool {
+    // The mark comes first: an owner that leaves says so before it looks for marks (`post_without_look`).
+    block.word(Field::Mark, row).store(QUEUED, SeqCst);
+    let owner = (row - FIRST_WORKER_ROW) / rows_each + 1;
+    block.words[owner as usize].load(SeqCst) == RUNNING
+}
+
+/// Merges the two counts of `row`, whose mark the thread has claimed, and gives up the reference that was handed over.
+fn merge_claimed(hand: &mut Hand, block: &Block, row: u64) {
+    let carried = local_count(block.word(Field::Local, row).swap(NO_OWNER, SeqCst));
+    let shared = block.word(Field::Shared, row);
+    loop {
+        // The state becomes merged.
+        let old = shared.load(SeqCst);
+        let new = (old / ONE_SHARED + carried) * ONE_SHARED + ZERO_MERGED % ONE_SHARED;
+        if shared.compare_exchange(old, new, SeqCst, SeqCst).is_ok() {
+            break;
+        }
+    }
+    while try_release_shared(hand, block, row) == SharedRelease::Again {}
+}
+
+/// Looks through the marks of all rows that the thread has used. Merges each row whose mark was set, gives up the
+/// reference that was handed over with it, and finalises what dies. Returns how many rows it merged.
+fn merge_pending(hand: &mut Hand, block: &Block) -> u64 {
+    let mut merged = 0;
+    for row in hand.first_row..hand.first_row + hand.used {
+        if block.word(Field::Mark, row).swap(NOT_QUEUED, SeqCst) == QUEUED {
+            merge_claimed(hand, block, row);
+            settle(hand, block);
+            merged += 1;
+        }
+    }
+    merged
+}
+
 /// Tries once to lock the list `row`, and returns whether the thread got the lock.
 fn try_lock(hand: &mut Hand, block: &Block, row: u64) -> bool {
     let gate = block.word(Field::Gate, row);
@@ -395,6 +449,36 @@ fn births(n: u64) -> Run {
     run
 }
 
+/// Gives birth to a number, gives its only reference up, and finalises it. Returns whether the number died, or `None` if
+/// there is no room for it.
+fn life(hand: &mut Hand, block: &Block, argument: u64) -> Option<bool> {
+    let row = birth(hand, block, KIND, black_box(argument))?;
+    let dies = release(hand, block, black_box(row)) == Release::Dying;
+    settle(hand, block);
+    Some(dies)
+}
+
+/// Makes `n` lives, by one worker after another, over as many blocks as it takes. The blocks are made outside the time.
+fn lives(n: u64) -> Run {
+    let mut run = Run { done: 0, slowest: Duration::ZERO };
+    while run.done < n {
+        let block = &Block::new(WORKERS, BIRTH_ROWS);
+        for thread in 1..=WORKERS {
+            let mut hand = Hand::worker(thread, BIRTH_ROWS);
+            let most = (n - run.done).min(BIRTH_ROWS);
+            let first = hand.first_row;
+            let start = Instant::now();
+            let made = (0..most).filter(|&argument| life(&mut hand, block, argument) == Some(true)).count();
+            run.slowest += start.elapsed();
+            run.done += made as u64;
+            for row in first..first + most {
+                assert_eq!(block.counts(row), [local_word(thread, 0), ZERO_DEFAULT, GATE_CLOSED], "closed");
+            }
+        }
+    }
+    run
+}
+
 /// Locks the list `row`, swaps an item of it for the one held, and unlocks it, `n` times. Returns `n`.
 fn locked_swaps(hand: &mut Hand, block: &Block, row: u64, held: &mut Option<u64>, n: u64) -> u64 {
     // The threads' items may be in one cache line, so each thread takes a copy of its own.
@@ -406,6 +490,54 @@ fn locked_swaps(hand: &mut Hand, block: &Block, row: u64, held: &mut Option<u64>
     }
     *held = item;
     n
+}
+
+/// Returns how many cells `row` has.
+fn size(block: &Block, row: u64) -> u64 {
+    let kind = block.word(Field::Kind, black_box(row)).load(SeqCst);
+    if kind / HIGH_ONE == LIST_KIND { kind % HIGH_ONE } else { 0 }
+}
+
+/// Swaps the cell of the root, under its lock.
+fn at_root(hand: &mut Hand, block: &Block, item: Option<u64>) -> Option<u64> {
+    assert!(try_lock(hand, block, ROOT_ROW));
+    assert!(size(block, ROOT_ROW) > CELL);
+    let found = swap_item(block, ROOT_ROW, CELL, item);
+    unlock(block, ROOT_ROW);
+    found
+}
+
+/// The owner gives birth to a number and hands it to the other worker, which gives it up and posts it. Returns whether
+/// the owner has to merge it, or `None` if it has no room.
+fn turn(owner: &mut Hand, other: &mut Hand, block: &Block, argument: u64) -> Option<bool> {
+    let item = birth(owner, block, KIND, black_box(argument))?;
+    assert_eq!(at_root(owner, block, Some(item)), None);
+    let row = at_root(other, block, None)?;
+    Some(release(other, block, row) == Release::Queued && post(block, row, BIRTH_ROWS))
+}
+
+/// Makes `n` turns of two workers, over as many blocks as it takes. At the end of a block its owner merges what was
+/// posted. The blocks are made outside the time.
+fn turns(n: u64) -> Run {
+    let mut run = Run { done: 0, slowest: Duration::ZERO };
+    while run.done < n {
+        let block = &Block::new(WORKERS, BIRTH_ROWS);
+        let (mut owner, mut other) = (Hand::worker(1, BIRTH_ROWS), Hand::worker(2, BIRTH_ROWS));
+        block.words[1].store(RUNNING, SeqCst);
+        block.words[2].store(RUNNING, SeqCst);
+        let most = (n - run.done).min(BIRTH_ROWS);
+        let first = owner.first_row;
+        let start = Instant::now();
+        let made = (0..most).filter(|&argument| turn(&mut owner, &mut other, block, argument) == Some(true)).count();
+        let merged = merge_pending(&mut owner, block);
+        run.slowest += start.elapsed();
+        assert_eq!(merged, made as u64, "each posted row is merged");
+        run.done += merged;
+        for row in first..first + most {
+            assert_eq!(block.counts(row), [NO_OWNER, ZERO_MERGED, GATE_CLOSED], "closed");
+        }
+    }
+    run
 }
 
 /// Makes `n` locked swaps on each of `threads` threads, at the first worker's list if it is alone, else at the root.
@@ -493,9 +625,10 @@ const RUNS: usize = 9;
 const SMALL: u64 = 1_000;
 const PAIRS: u64 = 5_000_000;
 const BIRTHS: u64 = 1_000_000;
+const POSTS: u64 = 500_000;
 const SWAPS: u64 = 2_000_000;
 
-const TABLE: [TableRow; 16] = [
+const TABLE: [TableRow; 18] = [
     ("biased: the owner alone (main at the root)", |n| counted(&[(0, 0)], n), 1, PAIRS),
     ("biased: another thread alone (at the root)", |n| counted(&[(1, 0)], n), 1, PAIRS),
     ("biased: owner and another at one row", |n| counted(&[(0, 0), (1, 0)], n), 2, PAIRS),
@@ -503,6 +636,8 @@ const TABLE: [TableRow; 16] = [
     ("biased: 2 threads, own rows", |n| counted(&[(1, 1), (2, 2)], n), 2, PAIRS),
     ("biased: 4 threads, own rows", |n| counted(&[(1, 1), (2, 2), (3, 3), (4, 4)], n), 4, PAIRS),
     ("biased: births", births, 1, BIRTHS),
+    ("biased: birth and death", lives, 1, BIRTHS),
+    ("biased: hand over, post and merge", turns, 1, POSTS),
     ("biased: locked swap, 1 thread, own list", |n| listed(1, n), 1, SWAPS),
     ("biased: locked swap, 2 threads, one list", |n| listed(2, n), 2, SWAPS),
     ("Arc: alone", |n| one_arc(1, n), 1, PAIRS),

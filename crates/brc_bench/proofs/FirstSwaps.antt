@@ -24,7 +24,8 @@ rests_at_first heap hand t is table = record {
   running = subst IsRunning (sym is) (refl, tt);
   rests = ap open_work is;
   lent = ap (λ (v : View). v.lent) is;
-  unlocked = ap (λ (v : View). v.locked) is;
+  locked_is = ap (λ (v : View). v.locked) is;
+  returned = tt;
 }
 
 -- and after a birth.
@@ -35,7 +36,8 @@ rests_after_birth after rest table born = record {
   running = (born.status ∙ rest.running.0, born.waits);
   rests = born.work ∙ rest.rests;
   lent = born.sight.lent ∙ rest.lent;
-  unlocked = born.sight.locked ∙ rest.unlocked;
+  locked_is = born.sight.locked ∙ rest.locked_is;
+  returned = tt;
 }
 
 some_row : (layout : Layout) (t used : ℕ) → 0 < t → 0 < row_at layout t used
@@ -121,7 +123,7 @@ swaps_begin {heap} {before} {row} {item} {cell} after may table keeps locked kno
       running = (keeps.status ∙ may.rest.running.0, keeps.waits);
       rests = keeps.work ∙ may.rest.rests;
       lent = keeps.lent ∙ may.rest.lent;
-      locked_is = locked ∙ may.rest.unlocked;
+      locked_is = locked ∙ may.rest.locked_is;
       returned = tt;
       counted = subst (λ (l : Layout). IsCounted l row) (sym keeps.layout) may.counted;
       knows = knows;

@@ -1,3 +1,4 @@
 mod Readiness
 mod LockedSwaps
 mod FirstSwaps
+mod AtRest

@@ -9,13 +9,23 @@ use Rattle.brc_table.specs.Hands.{TableState, HandState, IsOf, IsRunning, most_r
 use Rattle.brc_list.specs.Calls.{word_of}
 use Rattle.brc_bench.specs.Ready.{ready_props}
 
--- The hand runs, has nothing to do, and has locked and lent nothing.
-pub record IsAtRest (heap : TableState) (hand : HandState) : Type 0 where
+-- If the hand has locked this row's object, then the slot that it took last is that one, with what it held.
+abbrev pub HasBack : HandState → Option ℕ → Type 0
+HasBack hand None = Unit {0}
+HasBack hand (Some x) = FirstSlot hand.slots x hand.view.in_slot
+
+-- The hand runs, has nothing to do, has lent nothing, and has locked the object of the row `locked`, or none.
+pub record IsResting (heap : TableState) (hand : HandState) (locked : Option ℕ) : Type 0 where
   pub table : IsOf heap hand
   pub running : IsRunning hand.view
   pub rests : open_work hand.view ≡ []
   pub lent : hand.view.lent ≡ None
-  pub unlocked : hand.view.locked ≡ None
+  pub locked_is : hand.view.locked ≡ locked
+  pub returned : HasBack hand locked
+
+-- The hand rests, and has locked nothing.
+abbrev pub IsAtRest : TableState → HandState → Type 0
+IsAtRest heap hand = IsResting heap hand None
 
 -- The hand is at rest. It holds few references, the first to the item and the second to the other object, both of which
 -- are counted.
@@ -25,11 +35,6 @@ pub record HoldsListAndItem (heap : TableState) (hand : HandState) (row item : �
   pub item_counted : IsCounted hand.view.layout item
   pub references : hand.view.references ≡ item ∷ row ∷ behind_first (behind_first hand.view.references)
   pub few : length hand.view.references ≤ 3
-
--- If the hand has locked this row's object, then the slot that it took last is that one, with what it held.
-abbrev pub HasBack : HandState → Option ℕ → Type 0
-HasBack hand None = Unit {0}
-HasBack hand (Some x) = FirstSlot hand.slots x hand.view.in_slot
 
 -- The hand runs, has nothing to do, has lent nothing, and has locked the object of the row `locked`, or none. It knows
 -- that the counted object of `row` is a list that has the cell. It holds a reference to the item, if there is one, and

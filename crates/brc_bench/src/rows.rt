@@ -16,20 +16,13 @@ use std::time::{Clock, Duration, Instant};
 use std::{io, thread};
 
 /// The workers of a heap.
-const WORKERS: u8 = 4;
+pub const WORKERS: u8 = 4;
 
 /// The rows of each worker, more than a tile has, so that no two workers' first rows are in one tile.
 const ROWS_EACH: u16 = 64;
 
 /// The row of the root, which main owns.
 pub const ROOT: u32 = 1;
-
-/// The rows of each worker in a heap for births. Such a heap has 209 KiB of words, which stay in a core's own cache from
-/// their first store on: a birth in a larger heap waits for memory, and how long depends on where the allocator took it.
-const BIRTH_ROWS: u16 = 512;
-
-/// The most heaps that births use, one after another.
-const MOST_HEAPS: u32 = 1000;
 
 /// How often the threads did what they were asked to, and how long the slowest took.
 #[derive(Drop)]
@@ -196,35 +189,8 @@ pub fn four_threads<R: Clock + Threads + Sync>(
     Ok(together(together(low.0?, low.1?), together(high.0?, high.1?)))
 }
 
-/// Births by one worker after another, over as many heaps as it takes. The heaps are made outside the time.
-pub fn all_births<R: Clock + Threads + Sync>(rt: &R, alloc: Global, times: u32) -> io::Result<Run> {
-    let mut run = Run {
-        done: 0,
-        time: Duration::ZERO,
-    };
-    for _ in 0..MOST_HEAPS {
-        if run.done >= times {
-            break;
-        }
-        let more = births_in(rt, alloc, times - run.done)?;
-        run = Run {
-            done: run.done.saturating_add(more.done),
-            time: run.time.saturating_add(more.time),
-        };
-    }
-    Ok(run)
-}
-
-/// Births in one heap.
-fn births_in<R: Clock>(rt: &R, alloc: Global, most: u32) -> io::Result<Run> {
-    match Heap::new(alloc, WORKERS, BIRTH_ROWS) {
-        Ok((heap, mut main)) => births_by_all(rt, &heap, &mut main, most),
-        Err(_) => Err(io::Error::from(ErrorKind::OutOfMemory)),
-    }
-}
-
 /// Births by one worker after another.
-fn births_by_all<R: Clock>(
+pub fn births_by_all<R: Clock>(
     rt: &R,
     heap: &Heap<()>,
     main: &mut Hand<()>,
