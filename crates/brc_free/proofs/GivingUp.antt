@@ -111,7 +111,7 @@ shared_loaded v u w n x word r rest at is =
     worked_on v u w n (SharedLoad x r) rest (SharedExchange x r word ∷ rest) word at (shared_load_first u.head x r rest)
     refl refl is (record { status = refl; used = refl; locked = refl; lent = refl }) refl
 
--- A hand that comes to give a reference up in the shared word loads the word first.
+-- To give a reference up in the shared word, a hand loads the word first.
 pub shared_begins : (v u : View) (x word : ℕ) (r : Reason) (rest : List Duty) → v.agenda ≡ SharedLoad x r ∷ rest
     → u ≡ done v word → HasWorked v 0 (SharedExchange x r word ∷ rest) u
 shared_begins v u x word r rest next is =

@@ -47,7 +47,7 @@ carry_loaded v u w n x c word r rest at is =
     (merge_load_first u.head x c r rest) refl refl is
     (record { status = refl; used = refl; locked = refl; lent = refl }) refl
 
--- A hand that comes to add what it carries loads the word first.
+-- To add what it carries, a hand loads the word first.
 pub carry_begins : (v u : View) (x c word : ℕ) (r : Reason) (rest : List Duty) → v.agenda ≡ MergeLoad x c r ∷ rest
     → u ≡ done v word → HasWorked v 0 (MergeExchange x c word r ∷ rest) u
 carry_begins v u x c word r rest next is =

@@ -17,7 +17,7 @@ use Rattle.brc_free.proofs.FirstDuties.{settle_kind_first, settle_cell_first, ta
 
 -- ---- taking the first object off the chain
 
--- A hand that comes to settle isn't gone.
+-- A hand that settles next isn't gone.
 pub comes_alive : (v : View) (rest : List Duty) → ComesToSettle v rest → v.status ≢ Gone
 comes_alive v rest (AtOnce running aside idle) = λ gone. absurd (running_gone (sym running ∙ gone)) where
   running_gone : Running ≡ Gone → ⊥
@@ -29,7 +29,7 @@ pub settle_ready : (head : ℕ) (rest : List Duty) → 0 < head → ready head (
 settle_ready zero rest some = absurd (lt_irrefl 0 some)
 settle_ready (suc head) rest some = refl
 
--- A hand that comes to settle may do so,
+-- A hand that settles next may do so,
 pub may_settle : (v : View) (rest : List Duty) → 0 < v.head → ComesToSettle v rest → MaySettle v
 may_settle v rest some (AtOnce running aside idle) =
     subst (SettlesFrom v) (sym idle) (running, aside)

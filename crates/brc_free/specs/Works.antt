@@ -28,7 +28,7 @@ pub data Works (v : View) : ℕ → View → Type 0 where
   Begun : Works v 0 v
   Next : (n : ℕ) (u : View) (found : ℕ) → Works v n u
       → Works v (found_by u.agenda found + n) (done (slot_emptied u) found)
-  -- with nothing to do, it comes to settle its chain
+  -- with nothing to do, it begins to settle its chain
   Comes : (n : ℕ) (u : View) → Works v n u → Works v n (settling u)
 
 -- What no such work changes. The hand has seen the kinds that it had seen.

@@ -76,7 +76,7 @@ impl<'h, T: Drop, Q: Marker<T>> Finaliser<'h, T, Q> {
     /// references in a list's cells are given up, and the resource of a file or a socket is closed. Returns how many
     /// closes have failed, up to the greatest number.
     ///
-    /// The hand has nothing else to do, or comes to this in its exit, or as it looks through its queue.
+    /// The hand has nothing else to do, or this is the next part of its exit, or of looking through its queue.
     pub fn settle<R: Wait, H: Host<Res = T>>(&self, rt: &R, hand: &mut Hand<T>, host: &mut H) -> u64
         requires table { IsOf self.now hand.old }
         requires duty { (rest : List Duty) × ComesToSettle hand.old.view rest }

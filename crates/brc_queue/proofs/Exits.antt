@@ -20,7 +20,7 @@ nothing_aside v x idle none =
     ap (λ (ds : List Duty). filter (λ d. not (is_about x d)) (ds ++ v.aside)) idle
     ∙ ap (λ (ds : List Duty). filter (λ d. not (is_about x d)) ds) none
 
--- The hand then comes to settle,
+-- The hand settles next,
 pub comes_at_once : (v u : View) (x : ℕ) → IsFree v → u.status ≡ v.status → u.agenda ≡ []
     → u.aside ≡ filter (λ d. not (is_about x d)) (open_work v) → ComesToSettle u []
 comes_at_once v u x free same idle aside =

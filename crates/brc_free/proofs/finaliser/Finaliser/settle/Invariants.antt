@@ -4,7 +4,7 @@ use Rattle.brc_model.specs.declared.duty.Duty.{Duty}
 use Rattle.brc_free.specs.Works.{Works, Keeps, ComesToSettle}
 use Rattle.brc_free.proofs.finaliser.Finaliser.settle.Given as goal
 
--- After each object the hand comes to settle what is left of its chain.
+-- After each object the hand settles what is left of its chain.
 abbrev pub invariant-loop : goal.invariant-loop
 invariant-loop g l =
     (l.hand.table ≡ l.fn.hand.table) × (l.hand.carried ≡ l.fn.hand.carried)
