@@ -30,6 +30,7 @@ pub use checked::Checked;
 pub use checker::check;
 pub use finding::path_to;
 pub use inferring::{first_states, infer};
+pub use instruction::target_of;
 pub use path::Path;
 pub use refused::Refused;
 pub use state::entry;

@@ -1,6 +1,7 @@
 -- What the steps leave by which a hand gives up a reference in the midst of other work.
 use Rattle.std.proofs.Common.{◌≡◌, ℕ, Bool, true, false, List, [], ◌∷◌, ◌++◌, refl, sym, ap, ◌∙◌, subst}
 use Rattle.std.specs.Prelude.{◌==◌, if◌then◌else◌}
+use Rattle.std.proofs.lemmas.Bool.{eq-eqb}
 use Rattle.brc_word.specs.Words.{local_part, is_immortal_word, fresh_word, dead_word, released_word}
 use Rattle.brc_model.specs.declared.duty.Holding.TheVariants.{InFlight}
 use Rattle.brc_model.specs.declared.duty.Reason.{Reason}
@@ -10,12 +11,12 @@ use Rattle.brc_model.specs.declared.duty.Duty.TheVariants.{ReleaseLoad, ReleaseS
 use Rattle.brc_model.specs.Duties.{counts_locally, claimed, shared_result}
 use Rattle.brc_model.specs.Machine.{is_running}
 use Rattle.brc_table.specs.declared.view.View.{View}
-use Rattle.brc_table.specs.Views.{done}
+use Rattle.brc_table.specs.Views.{RowsAreThere, done}
 use Rattle.brc_heap.specs.declared.marker.Looked.{Looked}
 use Rattle.brc_heap.specs.declared.marker.Looked.TheVariants as looks
 use Rattle.brc_heap.specs.Marks.{posted, look_answer}
 use Rattle.brc_free.specs.Works.{HasWorked}
-use Rattle.brc_free.proofs.Working.{worked_first, worked_on}
+use Rattle.brc_free.proofs.Working.{plain_quiet, finalising_unlocked, gate_apart, worked_first, worked_on}
 use Rattle.brc_free.proofs.FirstDuties.{release_load_first, release_store_first, decide_first, shared_load_first, shared_exchange_first, set_mark_first, look_first, take_mark_first, die_first}
 
 -- ---- a reference out of a cell
@@ -30,7 +31,7 @@ pub item_immortal : (v u w : View) (n x found : ℕ) (rest : List Duty) → HasW
     → w ≡ done u found → is_immortal_word found ≡ true → HasWorked v n rest w
 item_immortal v u w n x found rest at is immortal =
     worked_on v u w n (ReleaseLoad x InFlight) rest rest found at (release_load_first u.head x InFlight rest) refl refl is
-    (record { status = refl; used = refl; locked = refl; lent = refl })
+    (plain_quiet refl)
     (ap (λ (b : Bool). (if b then []
     else if counts_locally u.thread (is_running u.status) found then ReleaseStore x found ∷ []
     else SharedLoad x Own ∷ []) ++ rest) immortal)
@@ -41,7 +42,7 @@ pub item_local : (v u w : View) (n x found : ℕ) (rest : List Duty) → HasWork
 item_local v u w n x found rest at is mortal counts =
     worked_on v u w n (ReleaseLoad x InFlight) rest (ReleaseStore x found ∷ rest) found at
     (release_load_first u.head x InFlight rest) refl refl is
-    (record { status = refl; used = refl; locked = refl; lent = refl })
+    (plain_quiet refl)
     (ap (λ (b : Bool). (if b then []
     else if counts_locally u.thread (is_running u.status) found then ReleaseStore x found ∷ []
     else SharedLoad x Own ∷ []) ++ rest) mortal
@@ -53,7 +54,7 @@ pub item_shared : (v u w : View) (n x found : ℕ) (rest : List Duty) → HasWor
 item_shared v u w n x found rest at is mortal counts =
     worked_on v u w n (ReleaseLoad x InFlight) rest (SharedLoad x Own ∷ rest) found at
     (release_load_first u.head x InFlight rest) refl refl is
-    (record { status = refl; used = refl; locked = refl; lent = refl })
+    (plain_quiet refl)
     (ap (λ (b : Bool). (if b then []
     else if counts_locally u.thread (is_running u.status) found then ReleaseStore x found ∷ []
     else SharedLoad x Own ∷ []) ++ rest) mortal
@@ -65,14 +66,14 @@ pub stored_last : (v u w : View) (n x word found : ℕ) (rest : List Duty) → H
 stored_last v u w n x word found rest at is last =
     worked_on v u w n (ReleaseStore x word) rest (DecideAtZero x ∷ rest) found at
     (release_store_first u.head x word rest) refl refl is
-    (record { status = refl; used = refl; locked = refl; lent = refl })
+    (plain_quiet refl)
     (ap (λ (b : Bool). (if b then DecideAtZero x ∷ [] else []) ++ rest) last)
 
 pub stored_more : (v u w : View) (n x word found : ℕ) (rest : List Duty) → HasWorked v n (ReleaseStore x word ∷ rest) u
     → w ≡ done u found → (local_part word == 1) ≡ false → HasWorked v n rest w
 stored_more v u w n x word found rest at is more =
     worked_on v u w n (ReleaseStore x word) rest rest found at (release_store_first u.head x word rest) refl refl is
-    (record { status = refl; used = refl; locked = refl; lent = refl })
+    (plain_quiet refl)
     (ap (λ (b : Bool). (if b then DecideAtZero x ∷ [] else []) ++ rest) more)
 
 -- ---- the last local reference
@@ -86,22 +87,27 @@ pub decided_dead : (v u w : View) (n x found : ℕ) (rest : List Duty) → HasWo
     → w ≡ done u found → (found == fresh_word) ≡ true → HasWorked v n (Die x ∷ rest) w
 decided_dead v u w n x found rest at is fresh =
     worked_on v u w n (DecideAtZero x) rest (Die x ∷ rest) found at (decide_first u.head x rest) refl refl is
-    (record { status = refl; used = refl; locked = refl; lent = refl })
+    (plain_quiet refl)
     (ap (λ (b : Bool). (if b then Die x ∷ [] else MergeSwap x Own ∷ []) ++ rest) fresh)
 
 pub decided_merge : (v u w : View) (n x found : ℕ) (rest : List Duty) → HasWorked v n (DecideAtZero x ∷ rest) u
     → w ≡ done u found → (found == fresh_word) ≡ false → HasWorked v n (MergeSwap x Own ∷ rest) w
 decided_merge v u w n x found rest at is shared =
     worked_on v u w n (DecideAtZero x) rest (MergeSwap x Own ∷ rest) found at (decide_first u.head x rest) refl refl is
-    (record { status = refl; used = refl; locked = refl; lent = refl })
+    (plain_quiet refl)
     (ap (λ (b : Bool). (if b then Die x ∷ [] else MergeSwap x Own ∷ []) ++ rest) shared)
 
 -- The object goes to the head of the chain.
 pub chained : (v u w : View) (n x found : ℕ) (rest : List Duty) → HasWorked v n (Die x ∷ rest) u → w ≡ done u found
-    → HasWorked v n rest w
-chained v u w n x found rest at is =
+    → RowsAreThere u → HasWorked v n rest w
+chained v u w n x found rest at is there =
+    let apart = finalising_unlocked u (Die x) rest x there (at.agenda ∙ die_first u.head x rest) (eq-eqb x x refl) in
     worked_on v u w n (Die x) rest rest found at (die_first u.head x rest) refl refl is
-    (record { status = refl; used = refl; locked = refl; lent = refl }) refl
+    (record {
+      status = refl;
+      used = refl;
+      off = record { locked = refl; lent = refl; cells = λ y i is. refl; gates = gate_apart u u x apart refl };
+    }) refl
 
 -- ---- the shared word
 
@@ -109,7 +115,7 @@ shared_loaded : (v u w : View) (n x word : ℕ) (r : Reason) (rest : List Duty) 
     → w ≡ done u word → HasWorked v n (SharedExchange x r word ∷ rest) w
 shared_loaded v u w n x word r rest at is =
     worked_on v u w n (SharedLoad x r) rest (SharedExchange x r word ∷ rest) word at (shared_load_first u.head x r rest)
-    refl refl is (record { status = refl; used = refl; locked = refl; lent = refl }) refl
+    refl refl is (plain_quiet refl) refl
 
 -- To give a reference up in the shared word, a hand loads the word first.
 pub shared_begins : (v u : View) (x word : ℕ) (r : Reason) (rest : List Duty) → v.agenda ≡ SharedLoad x r ∷ rest
@@ -125,7 +131,7 @@ pub exchange_lost : (v u w : View) (n x word found : ℕ) (r : Reason) (rest : L
 exchange_lost v u w n x word found r rest at is lost =
     worked_on v u w n (SharedExchange x r word) rest (SharedLoad x r ∷ rest) found at
     (shared_exchange_first u.head x word r rest) refl refl is
-    (record { status = refl; used = refl; locked = refl; lent = refl })
+    (plain_quiet refl)
     (ap (λ (b : Bool). (if b then shared_result x word else SharedLoad x r ∷ []) ++ rest) lost)
 
 exchange_won : (v u w : View) (n x word found : ℕ) (r : Reason) (rest : List Duty)
@@ -134,7 +140,7 @@ exchange_won : (v u w : View) (n x word found : ℕ) (r : Reason) (rest : List D
 exchange_won v u w n x word found r rest at is won =
     worked_on v u w n (SharedExchange x r word) rest (shared_result x word ++ rest) found at
     (shared_exchange_first u.head x word r rest) refl refl is
-    (record { status = refl; used = refl; locked = refl; lent = refl })
+    (plain_quiet refl)
     (ap (λ (b : Bool). (if b then shared_result x word else SharedLoad x r ∷ []) ++ rest) won)
 
 -- One that wins puts the object into its owner's queue,
@@ -177,14 +183,14 @@ looked_first : (v u : View) (n x : ℕ) (rest : List Duty) → HasWorked v n (Se
     → HasWorked v n (Look x ∷ rest) (done u 0)
 looked_first v u n x rest at =
     worked_on v u (done u 0) n (SetMark x) rest (Look x ∷ rest) 0 at (set_mark_first u.head x rest) refl refl refl
-    (record { status = refl; used = refl; locked = refl; lent = refl }) refl
+    (plain_quiet refl) refl
 
 runs : (v u : View) (n x said : ℕ) (rest : List Duty) → HasWorked v n (SetMark x ∷ rest) u → (said == 1) ≡ true
     → HasWorked v n rest (done (done u 0) said)
 runs v u n x said rest at running =
     worked_on v (done u 0) (done (done u 0) said) n (Look x) rest rest said (looked_first v u n x rest at)
     (look_first (done u 0).head x rest) refl refl refl
-    (record { status = refl; used = refl; locked = refl; lent = refl })
+    (plain_quiet refl)
     (ap (λ (b : Bool). (if b then [] else TakeMark x ∷ []) ++ rest) running)
 
 stopped : (v u : View) (n x said found : ℕ) (rest : List Duty) → HasWorked v n (SetMark x ∷ rest) u → (said == 1) ≡ false
@@ -193,11 +199,11 @@ stopped v u n x said found rest at not_running =
     let saw : HasWorked v n (TakeMark x ∷ rest) (done (done u 0) said) =
     worked_on v (done u 0) (done (done u 0) said) n (Look x) rest (TakeMark x ∷ rest) said
     (looked_first v u n x rest at) (look_first (done u 0).head x rest) refl refl refl
-    (record { status = refl; used = refl; locked = refl; lent = refl })
+    (plain_quiet refl)
     (ap (λ (b : Bool). (if b then [] else TakeMark x ∷ []) ++ rest) not_running) in
     worked_on v (done (done u 0) said) (done (done (done u 0) said) found) n (TakeMark x) rest (claimed x found ++ rest)
     found saw (take_mark_first (done (done u 0) said).head x rest) refl refl refl
-    (record { status = refl; used = refl; locked = refl; lent = refl }) refl
+    (plain_quiet refl) refl
 
 claimed_left : (x found : ℕ) (rest : List Duty) (b : Bool) → (found == 1) ≡ b
     → claimed x found ++ rest ≡ mark_left x (if found == 1 then looks.Claimed else looks.Left) rest

@@ -12,7 +12,7 @@ use Rattle.brc_table.specs.declared.view.View.{View}
 use Rattle.brc_table.specs.Views.{done}
 use Rattle.brc_table.specs.Plays.{FindsKnown}
 use Rattle.brc_free.specs.Works.{HasWorked}
-use Rattle.brc_free.proofs.Working.{worked_first, worked_on}
+use Rattle.brc_free.proofs.Working.{plain_quiet, worked_first, worked_on}
 use Rattle.brc_free.proofs.FirstDuties.{merge_swap_first, merge_load_first, merge_exchange_first}
 
 -- ---- the swap
@@ -22,7 +22,7 @@ pub swapped_nobody : (v u w : View) (n x found : ℕ) (r : Reason) (rest : List 
     → w ≡ done u found → (found == 0) ≡ true → HasWorked v n (once_merged x r ++ rest) w
 swapped_nobody v u w n x found r rest at is nobody =
     worked_on v u w n (MergeSwap x r) rest (once_merged x r ++ rest) found at (merge_swap_first u.head x r rest)
-    refl refl is (record { status = refl; used = refl; locked = refl; lent = refl })
+    refl refl is (plain_quiet refl)
     (ap (λ (b : Bool). (if b then once_merged x r else MergeLoad x (local_part found) r ∷ []) ++ rest) nobody)
 
 pub swapped_out : (v u w : View) (n x found : ℕ) (r : Reason) (rest : List Duty) → HasWorked v n (MergeSwap x r ∷ rest) u
@@ -30,7 +30,7 @@ pub swapped_out : (v u w : View) (n x found : ℕ) (r : Reason) (rest : List Dut
 swapped_out v u w n x found r rest at is owned =
     worked_on v u w n (MergeSwap x r) rest (MergeLoad x (local_part found) r ∷ rest) found at
     (merge_swap_first u.head x r rest) refl refl is
-    (record { status = refl; used = refl; locked = refl; lent = refl })
+    (plain_quiet refl)
     (ap (λ (b : Bool). (if b then once_merged x r else MergeLoad x (local_part found) r ∷ []) ++ rest) owned)
 
 -- A merge that comes next begins with the swap.
@@ -45,7 +45,7 @@ carry_loaded : (v u w : View) (n x c word : ℕ) (r : Reason) (rest : List Duty)
 carry_loaded v u w n x c word r rest at is =
     worked_on v u w n (MergeLoad x c r) rest (MergeExchange x c word r ∷ rest) word at
     (merge_load_first u.head x c r rest) refl refl is
-    (record { status = refl; used = refl; locked = refl; lent = refl }) refl
+    (plain_quiet refl) refl
 
 -- To add what it carries, a hand loads the word first.
 pub carry_begins : (v u : View) (x c word : ℕ) (r : Reason) (rest : List Duty) → v.agenda ≡ MergeLoad x c r ∷ rest
@@ -61,7 +61,7 @@ pub carry_lost : (v u w : View) (n x c word found : ℕ) (r : Reason) (rest : Li
 carry_lost v u w n x c word found r rest at is lost =
     worked_on v u w n (MergeExchange x c word r) rest (MergeLoad x c r ∷ rest) found at
     (merge_exchange_first u.head x c word r rest) refl refl is
-    (record { status = refl; used = refl; locked = refl; lent = refl })
+    (plain_quiet refl)
     (ap (λ (b : Bool). (if b then merge_result x r (merged_word word c) else MergeLoad x c r ∷ []) ++ rest) lost)
 
 carry_won : (v u w : View) (n x c word found : ℕ) (r : Reason) (rest : List Duty)
@@ -70,7 +70,7 @@ carry_won : (v u w : View) (n x c word found : ℕ) (r : Reason) (rest : List Du
 carry_won v u w n x c word found r rest at is won =
     worked_on v u w n (MergeExchange x c word r) rest (merge_result x r (merged_word word c) ++ rest) found at
     (merge_exchange_first u.head x c word r rest) refl refl is
-    (record { status = refl; used = refl; locked = refl; lent = refl })
+    (plain_quiet refl)
     (ap (λ (b : Bool). (if b then merge_result x r (merged_word word c) else MergeLoad x c r ∷ []) ++ rest) won)
 
 -- Where references are left, a handed reference is given up next, or what comes behind.

@@ -1,18 +1,18 @@
 -- What the steps leave by which a hand finalises an object.
-use Rattle.std.proofs.Common.{◌≡◌, ◌≢◌, ℕ, zero, suc, ◌+◌, ◌-◌, ◌<◌, Bool, true, false, List, [], ◌∷◌, ◌++◌, refl, sym, ap, ◌∙◌, subst, arith}
+use Rattle.std.proofs.Common.{◌≡◌, ◌≢◌, ℕ, zero, suc, ◌+◌, ◌-◌, ◌<◌, Bool, true, false, List, [], ◌∷◌, ◌++◌, Some, refl, sym, ap, ◌∙◌, subst, arith}
 use Rattle.std.proofs.Math.Nat.{zero-add, lt_irrefl, le_refl}
 use Rattle.std.proofs.lemmas.Bool.{lt-ltb, le-ltb}
-use Rattle.std.specs.Prelude.{nat_lt, if◌then◌else◌}
+use Rattle.std.specs.Prelude.{◌==◌, ◌&&◌, nat_lt, if◌then◌else◌}
 use Rattle.brc_model.specs.declared.actor.Status.TheVariants.{Running, Gone}
 use Rattle.brc_model.specs.declared.duty.Holding.TheVariants.{InFlight}
 use Rattle.brc_model.specs.declared.duty.Duty.{Duty}
 use Rattle.brc_model.specs.declared.duty.Duty.TheVariants.{ReleaseLoad, Settle, SettleKind, SettleCell, TakeSlot, SettleEnd}
 use Rattle.brc_model.specs.Duties.{ready, has_resource, cells_of, cells_from, release_found}
 use Rattle.brc_table.specs.declared.view.View.{View}
-use Rattle.brc_table.specs.Views.{did, done, settling, settle_first, slot_emptied, slot_emptied_by}
+use Rattle.brc_table.specs.Views.{RowsAreThere, did, done, settling, settle_first, slot_emptied, slot_emptied_by}
 use Rattle.brc_table.specs.Calls.{MaySettle, SettlesFrom}
 use Rattle.brc_free.specs.Works.{Works, Begun, Next, Comes, Keeps, HasWorked, ComesToSettle, AtOnce, InWork, found_by}
-use Rattle.brc_free.proofs.Working.{keeps_beside, keeps_then, did_keeps, worked_found, worked_on, worked_then}
+use Rattle.brc_free.proofs.Working.{head_unlocked, gate_apart, keeps_beside, keeps_then, did_keeps, worked_found, worked_on, worked_then}
 use Rattle.brc_free.proofs.FirstDuties.{settle_kind_first, settle_cell_first, take_slot_first, settle_end_first}
 
 -- ---- taking the first object off the chain
@@ -52,11 +52,21 @@ comes v rest some at = record {
 
 -- The first object is off the chain.
 pub taken_off : (v w : View) (x found : ℕ) (rest : List Duty) → 0 < v.head → x ≡ v.head - 1 → ComesToSettle v rest
-    → w ≡ done (settling v) found → HasWorked v 0 (SettleKind x ∷ Settle ∷ rest) w
-taken_off v w x found rest some row at is =
+    → w ≡ done (settling v) found → RowsAreThere v → HasWorked v 0 (SettleKind x ∷ Settle ∷ rest) w
+taken_off v w x found rest some row at is there =
+    let apart = head_unlocked v (v.head - 1) there some refl in
     worked_on v (settling v) w 0 Settle rest (SettleKind x ∷ Settle ∷ rest) found (comes v rest some at)
     (settle_ready v.head rest some) refl refl is
-    (record { status = refl; used = refl; locked = refl; lent = refl })
+    (record {
+      status = refl;
+      used = refl;
+      off = record {
+        locked = refl;
+        lent = refl;
+        cells = λ y i is. refl;
+        gates = gate_apart v v (v.head - 1) apart refl;
+      };
+    })
     (ap (λ (y : ℕ). SettleKind y ∷ Settle ∷ rest) (sym row))
 
 -- ---- its kind
@@ -68,7 +78,11 @@ kind_has_resource v u w n x found rest at is has =
     subst (λ (m : ℕ). HasWorked v m (TakeSlot x ∷ rest) w)
     (ap (λ (b : Bool). (if b then 1 else 0) + n) has)
     (worked_found v u w n (SettleKind x) rest (TakeSlot x ∷ rest) found at (settle_kind_first u.head x rest) refl is
-    (record { status = refl; used = refl; locked = refl; lent = refl })
+    (record {
+      status = refl;
+      used = refl;
+      off = record { locked = refl; lent = refl; cells = λ y i is. refl; gates = λ y is. refl };
+    })
     (ap (λ (b : Bool). (if b then TakeSlot x ∷ [] else cells_from x 0 (cells_of found)) ++ rest) has))
 
 -- and any other object may have cells.
@@ -77,7 +91,11 @@ pub kind_has_cells : (v u w : View) (n x found : ℕ) (rest : List Duty) → Has
 kind_has_cells v u w n x found rest at is none =
     worked_on v u w n (SettleKind x) rest (cells_from x 0 (cells_of found) ++ rest) found at
     (settle_kind_first u.head x rest) refl (ap (λ (b : Bool). if b then 1 else 0) none) is
-    (record { status = refl; used = refl; locked = refl; lent = refl })
+    (record {
+      status = refl;
+      used = refl;
+      off = record { locked = refl; lent = refl; cells = λ y i is. refl; gates = λ y is. refl };
+    })
     (ap (λ (b : Bool). (if b then TakeSlot x ∷ [] else cells_from x 0 (cells_of found)) ++ rest) none)
 
 -- These may be as many as the code has counted.
@@ -104,11 +122,21 @@ cell_next x i n rest low =
 
 -- A cell is empty now, and what was there is given up next.
 pub cell_emptied : (v u w : View) (n x i m found : ℕ) (rest : List Duty) → HasWorked v n (SettleCell x i m ∷ rest) u
-    → w ≡ done u found → HasWorked v n (release_found found ++ (cells_from x (i + 1) m ++ rest)) w
-cell_emptied v u w n x i m found rest at is =
+    → w ≡ done u found → v.locked ≢ Some x → HasWorked v n (release_found found ++ (cells_from x (i + 1) m ++ rest)) w
+cell_emptied v u w n x i m found rest at is apart =
     worked_on v u w n (SettleCell x i m) rest (release_found found ++ (cells_from x (i + 1) m ++ rest)) found at
     (settle_cell_first u.head x i m rest) refl refl is
-    (record { status = refl; used = refl; locked = refl; lent = refl })
+    (record {
+      status = refl;
+      used = refl;
+      off = record {
+        locked = refl;
+        lent = refl;
+        cells = λ y j is.
+            ap (λ (b : Bool). b && (i == j)) (gate_apart v u x apart at.keeps.locked y is);
+        gates = λ y is. refl;
+      };
+    })
     (behind_release found (cells_from x (i + 1) m) rest) where
       behind_release : (found : ℕ) (ds es : List Duty) → (release_found found ++ ds) ++ es ≡ release_found found ++ (ds ++ es)
       behind_release zero ds es = refl
@@ -138,17 +166,26 @@ cells_end x n rest =
 
 -- The object is closed: one without a resource,
 pub ended : (v u w : View) (n x found : ℕ) (rest : List Duty) → HasWorked v n (SettleEnd x ∷ rest) u
-    → w ≡ done (slot_emptied u) found → HasWorked v n rest w
-ended v u w n x found rest at is =
+    → w ≡ done (slot_emptied u) found → v.locked ≢ Some x → HasWorked v n rest w
+ended v u w n x found rest at is apart =
     let has : u.agenda ≡ SettleEnd x ∷ rest = at.agenda ∙ settle_end_first u.head x rest in
     worked_on v u w n (SettleEnd x) rest rest found at (settle_end_first u.head x rest) refl refl
     (is ∙ ap (λ (ds : List Duty). done (slot_emptied_by ds u) found) has)
-    (record { status = refl; used = refl; locked = refl; lent = refl }) refl
+    (record {
+      status = refl;
+      used = refl;
+      off = record {
+        locked = refl;
+        lent = refl;
+        cells = λ y i is. refl;
+        gates = gate_apart v u x apart at.keeps.locked;
+      };
+    }) refl
 
 -- and one whose resource is out of its slot.
 pub ended_empty : (v u w : View) (n x found : ℕ) (rest : List Duty) → HasWorked v n (TakeSlot x ∷ rest) u
-    → w ≡ done (slot_emptied u) found → HasWorked v n rest w
-ended_empty v u w n x found rest at is =
+    → w ≡ done (slot_emptied u) found → v.locked ≢ Some x → HasWorked v n rest w
+ended_empty v u w n x found rest at is apart =
     let has : u.agenda ≡ TakeSlot x ∷ rest = at.agenda ∙ take_slot_first u.head x rest in
     let emptied : View = record u { agenda = SettleEnd x ∷ rest } in
     let does : w ≡ did emptied (SettleEnd x ∷ rest) found =
@@ -165,7 +202,16 @@ ended_empty v u w n x found rest at is =
           (subst (Keeps u) (sym does)
           (keeps_then u emptied (did emptied (SettleEnd x ∷ rest) found) (keeps_beside u (SettleEnd x ∷ rest))
           (did_keeps emptied (SettleEnd x) rest found
-          (record { status = refl; used = refl; locked = refl; lent = refl }))));
+          (record {
+            status = refl;
+            used = refl;
+            off = record {
+              locked = refl;
+              lent = refl;
+              cells = λ y i is. refl;
+              gates = gate_apart v u x apart at.keeps.locked;
+            };
+          }))));
     }
 
 -- ---- the end of the chain

@@ -1,15 +1,16 @@
 -- How a hand that does duty after duty goes on.
-use Rattle.std.proofs.Common.{◌≡◌, ℕ, ◌+◌, Bool, List, [], ◌∷◌, ◌++◌, refl, sym, ap, ◌∙◌, subst}
-use Rattle.std.specs.Prelude.{◌||◌}
-use Rattle.std.specs.List.{list_any}
+use Rattle.std.proofs.Common.{◌≡◌, ◌≢◌, ℕ, ◌+◌, ◌-◌, ◌<◌, Bool, true, false, List, [], ◌∷◌, ◌++◌, Some, refl, sym, ap, ◌∙◌, subst, arith}
+use Rattle.std.specs.Prelude.{◌==◌, if◌then◌else◌}
 use Rattle.std.proofs.Math.Nat.{add_assoc, zero-add}
-use Rattle.std.proofs.lemmas.List.Folds.{list_any-append}
+use Rattle.std.proofs.lemmas.Bool.{ne_eqb}
 use Rattle.brc_model.specs.declared.duty.Duty.{Duty}
 use Rattle.brc_model.specs.Duties.{ready, continuation, new_head}
-use Rattle.brc_model.specs.Machine.{is_running, status_by, used_by, locked_by, lent_by}
+use Rattle.brc_model.specs.Machine.{is_running, status_by, used_by}
+use Rattle.brc_model.specs.OpenWork.{is_finalising, finalised}
 use Rattle.brc_table.specs.declared.view.View.{View}
-use Rattle.brc_table.specs.Seen.{shows_kind}
-use Rattle.brc_table.specs.Views.{event_of, did, done, slot_emptied, slot_emptied_by}
+use Rattle.brc_table.specs.Views.{RowsAreThere, did, done, slot_emptied, slot_emptied_by}
+use Rattle.brc_heap.proofs.Sight.{StaysOff, away_off, did_sight}
+use Rattle.brc_heap.proofs.Leaving.{is_plain, plain_keeps}
 use Rattle.brc_free.specs.Works.{Works, Begun, Next, Comes, Keeps, HasWorked, found_by}
 
 -- ---- what is kept
@@ -27,6 +28,7 @@ keeps_first v = record {
   in_slot = refl;
   given = refl;
   kinds = λ x word seen. seen;
+  cells = λ x i is. refl;
 }
 
 pub keeps_then : (v u w : View) → Keeps v u → Keeps u w → Keeps v w
@@ -42,6 +44,7 @@ keeps_then v u w one other = record {
   in_slot = other.in_slot ∙ one.in_slot;
   given = other.given ∙ one.given;
   kinds = λ x word seen. other.kinds x word (one.kinds x word seen);
+  cells = λ x i is. other.cells x i (one.locked ∙ is) ∙ one.cells x i is;
 }
 
 -- Other duties that come next change nothing else.
@@ -58,14 +61,43 @@ keeps_beside u ds = record {
   in_slot = refl;
   given = refl;
   kinds = λ x word seen. seen;
+  cells = λ x i is. refl;
 }
 
--- The duty changes neither the hand's status nor its lock, and it uses no row.
+-- The duty changes neither the hand's status nor its lock, uses no row, and touches neither the gate nor a cell of the
+-- object that the hand has locked.
 pub record IsQuiet (u : View) (d : Duty) (found : ℕ) : Type 0 where
   pub status : status_by u.status d ≡ u.status
   pub used : used_by u.used d ≡ u.used
-  pub locked : locked_by u.locked d found ≡ u.locked
-  pub lent : lent_by u.lent d found ≡ u.lent
+  pub off : StaysOff u d found
+
+-- So does a duty about counts, kinds or marks.
+pub plain_quiet : {u : View} {d : Duty} {found : ℕ} → is_plain d ≡ true → IsQuiet u d found
+plain_quiet {u} {d} {found} plain =
+    let keeps = plain_keeps d [] plain in
+    record { status = keeps.0 u.status; used = keeps.1 u.used; off = away_off u d found keeps.2 }
+
+-- ---- the object that the hand has locked
+
+-- It isn't one that the hand's next duty finalises,
+pub finalising_unlocked : (u : View) (d : Duty) (rest : List Duty) (x : ℕ) → RowsAreThere u → u.agenda ≡ d ∷ rest
+    → is_finalising d x ≡ true → u.locked ≢ Some x
+finalising_unlocked u d rest x there next this is =
+    let none : finalised (d ∷ rest) x ≡ 0 =
+    subst (λ (ds : List Duty). finalised ds x ≡ 0) next (there.unfinalised x is).duties in
+    let some : finalised (d ∷ rest) x ≡ 1 + finalised rest x =
+    ap (λ (b : Bool). if b then 1 + finalised rest x else finalised rest x) this in
+    omega (arith, none, some)
+
+-- nor the first one of its chain.
+pub head_unlocked : (v : View) (x : ℕ) → RowsAreThere v → 0 < v.head → x ≡ v.head - 1 → v.locked ≢ Some x
+head_unlocked v x there some row is = (there.unfinalised x is).later (omega (arith, some, row))
+
+-- So a step on another object's gate, or on a cell of it, leaves what the hand has seen of that object's cells.
+pub gate_apart : (v u : View) (x : ℕ) → v.locked ≢ Some x → u.locked ≡ v.locked → (y : ℕ) → u.locked ≡ Some y
+    → (x == y) ≡ false
+gate_apart v u x apart same y is =
+    ne_eqb x y (λ (e : x ≡ y). apart (sym same ∙ (is ∙ ap (λ (z : ℕ). Some z) (sym e))))
 
 -- ---- first steps
 
@@ -77,21 +109,22 @@ worked_first v ds is = record { agenda = is; works = Begun; keeps = keeps_first 
 
 -- What one duty keeps.
 pub did_keeps : (u : View) (d : Duty) (rest : List Duty) (found : ℕ) → IsQuiet u d found → Keeps u (did u (d ∷ rest) found)
-did_keeps u d rest found quiet = record {
-  layout = refl;
-  thread = refl;
-  status = quiet.status;
-  references = refl;
-  aside = refl;
-  used = quiet.used;
-  locked = quiet.locked;
-  lent = quiet.lent;
-  in_slot = refl;
-  given = refl;
-  kinds = λ x word seen.
-      list_any-append (shows_kind x word) u.trace (event_of u d found ∷ [])
-      ∙ ap (λ (b : Bool). b || list_any (shows_kind x word) (event_of u d found ∷ [])) seen;
-}
+did_keeps u d rest found quiet =
+    let sight = did_sight u d rest found quiet.off in
+    record {
+      layout = refl;
+      thread = refl;
+      status = quiet.status;
+      references = refl;
+      aside = refl;
+      used = quiet.used;
+      locked = sight.locked;
+      lent = sight.lent;
+      in_slot = refl;
+      given = refl;
+      kinds = sight.kinds;
+      cells = sight.cells;
+    }
 
 -- One duty more, the first of those that come next, which may find a resource of a dying object,
 pub worked_found : (v u w : View) (n : ℕ) (d : Duty) (rest ds : List Duty) (found : ℕ) → HasWorked v n (d ∷ rest) u

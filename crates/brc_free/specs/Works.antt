@@ -1,5 +1,5 @@
 -- What a hand does in the midst of other work: duty after duty, and which duties come next then.
-use Rattle.std.specs.Prelude.{◌≡◌, ◌≢◌, true, ℕ, ◌+◌, ◌<◌, List, [], ◌∷◌, ◌++◌, not}
+use Rattle.std.specs.Prelude.{◌≡◌, ◌≢◌, true, ℕ, ◌+◌, ◌<◌, List, [], ◌∷◌, ◌++◌, Some, not}
 use Rattle.std.specs.List.{filter}
 use Rattle.brc_model.specs.declared.actor.Status.TheVariants.{Running, Gone}
 use Rattle.brc_model.specs.declared.duty.Holding.TheVariants.{InFlight}
@@ -10,7 +10,7 @@ use Rattle.brc_model.specs.declared.duty.Duty.TheVariants.{ReleaseLoad, DecideAt
 use Rattle.brc_model.specs.Duties.{ready, once_merged, resources_of, cells_from}
 use Rattle.brc_table.specs.declared.view.View.{View}
 use Rattle.brc_model.specs.OpenWork.{is_about}
-use Rattle.brc_table.specs.Seen.{has_seen_kind}
+use Rattle.brc_table.specs.Seen.{has_seen_kind, cell_seen}
 use Rattle.brc_table.specs.Views.{done, settling, slot_emptied, without_reference, open_work}
 use Rattle.brc_free.specs.declared.giving_up.Tried.{Tried}
 use Rattle.brc_free.specs.declared.giving_up.Tried.TheVariants as tried
@@ -31,7 +31,8 @@ pub data Works (v : View) : ℕ → View → Type 0 where
   -- with nothing to do, it begins to settle its chain
   Comes : (n : ℕ) (u : View) → Works v n u → Works v n (settling u)
 
--- What no such work changes. The hand has seen the kinds that it had seen.
+-- What no such work changes. The hand has seen the kinds that it had seen, and of the cells of the list that it has
+-- locked what it had seen.
 pub record Keeps (v u : View) : Type 0 where
   pub layout : u.layout ≡ v.layout
   pub thread : u.thread ≡ v.thread
@@ -44,6 +45,7 @@ pub record Keeps (v u : View) : Type 0 where
   pub in_slot : u.in_slot ≡ v.in_slot
   pub given : u.given ≡ v.given
   pub kinds : (x word : ℕ) → has_seen_kind x word v ≡ true → has_seen_kind x word u ≡ true
+  pub cells : (x i : ℕ) → v.locked ≡ Some x → cell_seen x i u ≡ cell_seen x i v
 
 -- The hand has done duty after duty, by which it found n resources of dying objects, and these duties are left, but for
 -- those that need no step.
@@ -141,7 +143,8 @@ claimed_left ds = behind (behind ds)
 
 -- ---- releases
 
--- The hand has given up a reference to the object of row x. All other work is aside, and nothing comes next.
+-- The hand has given up a reference to the object of row x. All other work is aside, and nothing comes next. It knows
+-- what it has seen of kinds and of the cells of the list that it has locked.
 pub record HasReleased (x : ℕ) (v u : View) : Type 0 where
   pub layout : u.layout ≡ v.layout
   pub thread : u.thread ≡ v.thread
@@ -155,3 +158,4 @@ pub record HasReleased (x : ℕ) (v u : View) : Type 0 where
   pub in_slot : u.in_slot ≡ v.in_slot
   pub given : u.given ≡ v.given
   pub kinds : (y word : ℕ) → has_seen_kind y word v ≡ true → has_seen_kind y word u ≡ true
+  pub cells : (y i : ℕ) → v.locked ≡ Some y → cell_seen y i u ≡ cell_seen y i v

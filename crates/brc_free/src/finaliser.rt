@@ -80,7 +80,7 @@ impl<'h, T: Drop, Q: Marker<T>> Finaliser<'h, T, Q> {
     pub fn settle<R: Wait, H: Host<Res = T>>(&self, rt: &R, hand: &mut Hand<T>, host: &mut H) -> u64
         requires table { IsOf self.now hand.old }
         requires duty { (rest : List Duty) × ComesToSettle hand.old.view rest }
-        ensures table { hand.new.table ≡ hand.old.table }
+        ensures table { IsOf self.now hand.new }
         ensures carried { hand.new.carried ≡ hand.old.carried }
         ensures slots { hand.new.slots ≡ hand.old.slots }
         ensures chain { hand.new.view.head ≡ 0 }
@@ -110,7 +110,7 @@ impl<'h, T: Drop, Q: Marker<T>> Finaliser<'h, T, Q> {
         requires table { IsOf self.now hand.old }
         requires alive { hand.old.view.status ≢ Gone }
         requires duty { ClaimedNext row hand.old.view.agenda }
-        ensures table { hand.new.table ≡ hand.old.table }
+        ensures table { IsOf self.now hand.new }
         ensures carried { hand.new.carried ≡ hand.old.carried }
         ensures slots { hand.new.slots ≡ hand.old.slots }
         ensures chain { hand.new.view.head ≡ 0 }
@@ -140,6 +140,7 @@ impl<'h, T: Drop, Q: Marker<T>> Finaliser<'h, T, Q> {
             × HasWorked hand.old.view closes (Settle ∷ rest) hand.new.view
             × (H.counts host.new ≡ after_closes closes result (H.counts host.old)) }
     {
+        hand.rows_are_there();
         let words = self.heap.words();
         let row = hand.head() - 1;
         words.gate_load(hand);
@@ -165,6 +166,7 @@ impl<'h, T: Drop, Q: Marker<T>> Finaliser<'h, T, Q> {
         ensures work { HasWorked hand.old.view 0 (behind hand.old.view.agenda) hand.new.view }
         ensures closed { H.counts host.new ≡ after_closes 1 result (H.counts host.old) }
     {
+        hand.rows_are_there();
         let words = self.heap.words();
         let resource = words.slot_take(hand, row);
         let failed = if host.close(resource).is_err() { 1 } else { 0 };
@@ -200,6 +202,7 @@ impl<'h, T: Drop, Q: Marker<T>> Finaliser<'h, T, Q> {
         ensures slots { hand.new.slots ≡ hand.old.slots }
         ensures work { HasWorked hand.old.view 0 (cells_left hand.old.view.agenda) hand.new.view }
     {
+        hand.rows_are_there();
         let words = self.heap.words();
         words.layout_is_plain();
         let item = words.dying_cell_swap(hand, row, cell);

@@ -63,6 +63,7 @@ impl<'h, T: Drop, Q: Marker<T>> Finaliser<'h, T, Q> {
         let words = self.heap.words();
         let word = words.shared_load_next(hand, row);
         if is_fresh(word) {
+            hand.rows_are_there();
             words.gate_store(hand, row);
         } else {
             merge(rt, words, hand, row);
@@ -115,6 +116,7 @@ impl<'h, T: Drop, Q: Marker<T>> Finaliser<'h, T, Q> {
             };
         }
         if is_dead(next) {
+            hand.rows_are_there();
             words.gate_store(hand, row);
         }
         Tried::GivenUp

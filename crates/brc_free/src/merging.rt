@@ -72,6 +72,7 @@ fn try_merge<T: Drop>(words: &Words<T>, hand: &mut Hand<T>, row: u32, carried: u
         return false;
     }
     if is_dead(next) {
+        hand.rows_are_there();
         words.gate_store(hand, row);
     }
     true

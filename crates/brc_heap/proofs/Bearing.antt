@@ -13,7 +13,7 @@ use Rattle.brc_table.specs.Views.{did, done, event_of, bearing, next_row, slot_f
 use Rattle.brc_table.specs.Calls.{OwnsFirst}
 use Rattle.brc_table.specs.Seen.{shows_kind, has_seen_kind}
 use Rattle.brc_heap.specs.Calls.{KeepsSight, born, HasBorn}
-use Rattle.brc_heap.proofs.Sight.{StaysAt, same_sight, sight_then, did_sight}
+use Rattle.brc_heap.proofs.Sight.{StaysOff, same_sight, sight_then, did_sight}
 
 -- A hand whose next duty is to put the new object's resource into its slot, or to store its first local word, does the
 -- latter next once the resource is there.
@@ -44,28 +44,28 @@ or_true false = refl
 
 -- A birth leaves what the hand has seen.
 birth_sight : (v : View) (word : ℕ)
-    → KeepsSight (next_row v) v (did (begun v word) (BirthLocal (next_row v) AsCaller ∷ []) 0)
+    → KeepsSight v (did (begun v word) (BirthLocal (next_row v) AsCaller ∷ []) 0)
 birth_sight v word =
     let x = next_row v in
     let bears = bearing v word in
     let stored = done bears 0 in
     let filled = begun v word in
-    let stays : StaysAt x (BirthKind x AsCaller word) = record {
-      locked = λ l k. refl;
-      lent = λ l k. refl;
-      cells = λ l t k y i ne. refl;
-      gates = λ l t k y ne. refl;
+    let stays : StaysOff bears (BirthKind x AsCaller word) 0 = record {
+      locked = refl;
+      lent = refl;
+      cells = λ y i is. refl;
+      gates = λ y is. refl;
     } in
-    sight_then x v filled (did filled (BirthLocal x AsCaller ∷ []) 0)
-    (sight_then x v stored filled
-    (sight_then x v bears stored (same_sight x v bears refl refl refl refl)
-    (did_sight x bears (BirthKind x AsCaller word) [] 0 stays))
-    (same_sight x stored filled refl refl refl refl))
-    (did_sight x filled (BirthLocal x AsCaller) [] 0 (record {
-      locked = λ l k. refl;
-      lent = λ l k. refl;
-      cells = λ l t k y i ne. refl;
-      gates = λ l t k y ne. refl;
+    sight_then v filled (did filled (BirthLocal x AsCaller ∷ []) 0)
+    (sight_then v stored filled
+    (sight_then v bears stored (same_sight v bears refl refl refl refl)
+    (did_sight bears (BirthKind x AsCaller word) [] 0 stays))
+    (same_sight stored filled refl refl refl refl))
+    (did_sight filled (BirthLocal x AsCaller) [] 0 (record {
+      locked = refl;
+      lent = refl;
+      cells = λ y i is. refl;
+      gates = λ y is. refl;
     }))
 
 -- It sees the kind word that it stores,
@@ -96,6 +96,7 @@ has_born v word =
       used = refl;
       given = refl;
       references = refl;
+      head = refl;
       sight = birth_sight v word;
       waits = tt;
       work = refl;

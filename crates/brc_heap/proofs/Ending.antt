@@ -1,5 +1,5 @@
 -- What each call leaves of its hand's work, and which references the hand holds afterwards.
-use Rattle.std.proofs.Common.{◌≡◌, ◌≢◌, ℕ, zero, suc, Bool, true, false, List, [], ◌∷◌, ◌++◌, refl, sym, ap, ◌∙◌, subst}
+use Rattle.std.proofs.Common.{◌≡◌, ◌≢◌, ℕ, zero, suc, Bool, true, false, List, [], ◌∷◌, ◌++◌, Some, refl, sym, ap, ◌∙◌, subst}
 use Rattle.std.specs.Prelude.{◌==◌, ◌&&◌, nat_lt, if◌then◌else◌}
 use Rattle.std.proofs.lemmas.Bool.{eq-eqb, ne_eqb, eqb-true}
 use Rattle.brc_word.specs.Words.{local_part, is_immortal_word, most_local, free_word, fresh_word, dead_word, released_word, merged_word}
@@ -11,7 +11,7 @@ use Rattle.brc_model.specs.declared.duty.Duty.TheVariants.{RetainLoad, RetainSto
 use Rattle.brc_model.specs.Duties.{ready, counts_locally}
 use Rattle.brc_model.specs.Machine.{is_running}
 use Rattle.brc_table.specs.declared.view.View.{View}
-use Rattle.brc_table.specs.Views.{did, done, resumed, work_about, turned, retaining, releasing}
+use Rattle.brc_table.specs.Views.{RowsAreThere, did, done, resumed, work_about, turned, retaining, releasing}
 use Rattle.brc_table.specs.Hands.{HasNoWork, MayWait}
 use Rattle.brc_heap.specs.declared.release.LocalRelease.TheVariants as local
 use Rattle.brc_heap.specs.declared.release.ZeroStep.TheVariants as zeros
@@ -19,7 +19,7 @@ use Rattle.brc_heap.specs.declared.release.SharedRelease.TheVariants as shared
 use Rattle.brc_heap.specs.declared.merge.MergeStep.TheVariants as merge
 use Rattle.brc_heap.specs.Calls.{retained, counts_here, released_locally, local_answer, chained_by, chained, decided, zero_answer, released_shared, shared_answer, merge_tried, merge_answer, Leaves, local_left, zero_left, shared_left, merge_left}
 use Rattle.brc_heap.proofs.Exchanges.{exchange_ready, release_steps, merge_list, merge_next, merge_exchanges}
-use Rattle.brc_heap.proofs.Sight.{same_sight}
+use Rattle.brc_heap.proofs.Sight.{same_sight, sight_then, did_sight}
 use Rattle.brc_heap.proofs.Leaving.{AllAbout, WorksAt, turned_works, begun_works, KeepsStatus, plain_keeps, done_works, works_leave}
 
 -- ---- references
@@ -57,10 +57,10 @@ retain_next (suc head) x word false true = refl
 retain_next zero x word false false = refl
 retain_next (suc head) x word false false = refl
 
-retain_keeps : (x word : ℕ) (immortal counts : Bool) → KeepsStatus x (retain_list x word immortal counts)
+retain_keeps : (x word : ℕ) (immortal counts : Bool) → KeepsStatus (retain_list x word immortal counts)
 retain_keeps x word true counts = tt
-retain_keeps x word false true = plain_keeps x (RetainStore x AsCaller word) [] refl
-retain_keeps x word false false = plain_keeps x (RetainAdd x AsCaller) [] refl
+retain_keeps x word false true = plain_keeps (RetainStore x AsCaller word) [] refl
+retain_keeps x word false false = plain_keeps (RetainAdd x AsCaller) [] refl
 
 retain_ends : (u : View) (x word found : ℕ) (immortal counts : Bool) → u.agenda ≡ retain_list x word immortal counts
     → (did u (retain_list x word immortal counts) found).agenda ≡ []
@@ -71,10 +71,10 @@ retain_ends u x word found false false is = refl
 -- A retain leaves nothing to do.
 pub retain_leaves : (v : View) (x word found : ℕ) → HasNoWork v x → Leaves x [] v (retained v x word found)
 retain_leaves v x word found none =
-    let begun = begun_works x v (retaining v x) none refl refl refl refl refl (same_sight x v (retaining v x) refl refl
+    let begun = begun_works x v (retaining v x) none refl refl refl refl refl (same_sight v (retaining v x) refl refl
     refl refl) refl in
     let loaded = done (retaining v x) word in
-    let works = done_works x v (retaining v x) (RetainLoad x AsCaller ∷ []) word begun refl (plain_keeps x (RetainLoad
+    let works = done_works x v (retaining v x) (RetainLoad x AsCaller ∷ []) word begun refl (plain_keeps (RetainLoad
     x AsCaller) [] refl) in
     let immortal = is_immortal_word word in
     let counts = counts_locally v.thread (is_running v.status) word && nat_lt (local_part word) most_local in
@@ -83,6 +83,21 @@ retain_leaves v x word found none =
     (done_works x v loaded (retain_list x word immortal counts) found works next (retain_keeps x word immortal counts))
     (ap (λ (ds : List Duty). (did loaded ds found).agenda) next ∙ retain_ends loaded x word found immortal counts next)
     tt tt
+
+retain_head : (u : View) (x word found : ℕ) (immortal counts : Bool)
+    → (did u (retain_list x word immortal counts) found).head ≡ u.head
+retain_head u x word found true counts = refl
+retain_head u x word found false true = refl
+retain_head u x word found false false = refl
+
+-- It chains nothing.
+pub retained_head : (v : View) (x word found : ℕ) → (retained v x word found).head ≡ v.head
+retained_head v x word found =
+    let loaded = done (retaining v x) word in
+    let immortal = is_immortal_word word in
+    let counts = counts_locally v.thread (is_running v.status) word && nat_lt (local_part word) most_local in
+    let next : loaded.agenda ≡ retain_list x word immortal counts = retain_next v.head x word immortal counts in
+    ap (λ (ds : List Duty). (did loaded ds found).head) next ∙ retain_head loaded x word found immortal counts
 
 -- ---- release through the local word
 
@@ -100,10 +115,10 @@ release_next (suc head) x word false true = refl
 release_next zero x word false false = refl
 release_next (suc head) x word false false = refl
 
-release_keeps : (x word : ℕ) (immortal counts : Bool) → KeepsStatus x (release_list x word immortal counts)
+release_keeps : (x word : ℕ) (immortal counts : Bool) → KeepsStatus (release_list x word immortal counts)
 release_keeps x word true counts = tt
-release_keeps x word false true = plain_keeps x (ReleaseStore x word) [] refl
-release_keeps x word false false = plain_keeps x (SharedLoad x Own) [] refl
+release_keeps x word false true = plain_keeps (ReleaseStore x word) [] refl
+release_keeps x word false false = plain_keeps (SharedLoad x Own) [] refl
 
 -- what the answer says is left
 abbrev release_left : ℕ → Bool → Bool → Bool → List Duty
@@ -148,11 +163,11 @@ release_about x false false last = ((eq-eqb x x refl, tt), refl)
 pub release_leaves : (v : View) (x word : ℕ) → HasNoWork v x
     → Leaves x (local_left x (local_answer v word)) v (released_locally v x word)
 release_leaves v x word none =
-    let begun = begun_works x v (releasing v x) none refl refl refl refl refl (same_sight x v (releasing v x) refl refl
+    let begun = begun_works x v (releasing v x) none refl refl refl refl refl (same_sight v (releasing v x) refl refl
     refl refl) refl in
     let loaded = done (releasing v x) word in
     let works =
-    done_works x v (releasing v x) (ReleaseLoad x AsCaller ∷ []) word begun refl (plain_keeps x (ReleaseLoad x
+    done_works x v (releasing v x) (ReleaseLoad x AsCaller ∷ []) word begun refl (plain_keeps (ReleaseLoad x
     AsCaller) [] refl) in
     let immortal = is_immortal_word word in
     let counts = counts_here v word in
@@ -176,25 +191,39 @@ release_references v x word =
 
 -- ---- deaths
 
-die_keeps : (x : ℕ) → KeepsStatus x (Die x ∷ [])
-die_keeps x = (
-  (λ s. refl),
-  (λ n. refl),
-  record {
-    locked = λ l k. refl;
-    lent = λ l k. refl;
-    cells = λ l t k y i ne. refl;
-    gates = λ l t k y ne. ne_eqb x y (λ e. ne (sym e));
-  },
-)
+-- Such a hand has chained an object. It hasn't locked it, since it doesn't deallocate the object that it has locked.
+chained_unlocked : (x : ℕ) (u : View) → RowsAreThere (did u (Die x ∷ []) free_word) → u.locked ≢ Some x
+chained_unlocked x u there is = (there.unfinalised x is).later refl
+
+-- So its step on the object's gate leaves what it has seen of the cells of the list that it has locked.
+chained_works : (x : ℕ) (v u : View) → WorksAt x v u → RowsAreThere (did u (Die x ∷ []) free_word)
+    → WorksAt x v (did u (Die x ∷ []) free_word)
+chained_works x v u works there = record {
+  layout = works.layout;
+  thread = works.thread;
+  status = works.status;
+  used = works.used;
+  given = works.given;
+  sight =
+      sight_then v u (did u (Die x ∷ []) free_word) works.sight
+      (did_sight u (Die x) [] free_word (record {
+        locked = refl;
+        lent = refl;
+        cells = λ y i is. refl;
+        gates = λ y is. ne_eqb x y (λ same. chained_unlocked x u there (is ∙ ap Some (sym same)));
+      }));
+  aside = works.aside;
+}
 
 -- A hand at whose row an object dies chains it, and has nothing left to do there.
-die_leaves : (x : ℕ) (v u : View) → WorksAt x v u → u.agenda ≡ Die x ∷ [] → Leaves x [] v (chained u)
-die_leaves x v u works is =
+die_leaves : (x : ℕ) (v u : View) → WorksAt x v u → u.agenda ≡ Die x ∷ [] → RowsAreThere (chained u)
+    → Leaves x [] v (chained u)
+die_leaves x v u works is there =
     let ends : chained u ≡ done u free_word = ap (chained_by u) is in
-    subst (Leaves x [] v) (sym ends)
-    (works_leave x v (done u free_word) [] (done_works x v u (Die x ∷ []) free_word works is (die_keeps x))
-    (ap (λ (ds : List Duty). (did u ds free_word).agenda) is) tt tt)
+    let does : done u free_word ≡ did u (Die x ∷ []) free_word = ap (λ (ds : List Duty). did u ds free_word) is in
+    subst (Leaves x [] v) (sym (ends ∙ does))
+    (works_leave x v (did u (Die x ∷ []) free_word) []
+    (chained_works x v u works (subst RowsAreThere (ends ∙ does) there)) refl tt tt)
 
 -- The list doesn't begin with a death.
 abbrev NoDeath : List Duty → Type 0
@@ -223,19 +252,19 @@ decide_next zero x false = refl
 decide_next (suc head) x false = refl
 
 decide_ends : (x : ℕ) (v u : View) (fresh : Bool) → WorksAt x v u
-    → u.agenda ≡ (if fresh then Die x ∷ [] else MergeSwap x Own ∷ [])
+    → u.agenda ≡ (if fresh then Die x ∷ [] else MergeSwap x Own ∷ []) → RowsAreThere (chained u)
     → Leaves x (zero_left x (if fresh then zeros.Dying else zeros.Merge)) v (chained u)
-decide_ends x v u true works is = die_leaves x v u works is
-decide_ends x v u false works is = live_leaves x v u (MergeSwap x Own ∷ []) works is tt (eq-eqb x x refl, tt) refl
+decide_ends x v u true works is there = die_leaves x v u works is there
+decide_ends x v u false works is there = live_leaves x v u (MergeSwap x Own ∷ []) works is tt (eq-eqb x x refl, tt) refl
 
 pub decide_leaves : (v : View) (x word : ℕ) → work_about x v ≡ DecideAtZero x ∷ []
-    → Leaves x (zero_left x (zero_answer word)) v (decided v x word)
-decide_leaves v x word is =
+    → RowsAreThere (decided v x word) → Leaves x (zero_left x (zero_answer word)) v (decided v x word)
+decide_leaves v x word is there =
     let loaded = done (turned v x) word in
-    let works = done_works x v (turned v x) (DecideAtZero x ∷ []) word (turned_works x v) is (plain_keeps x
-    (DecideAtZero x) [] refl) in
+    let works = done_works x v (turned v x) (DecideAtZero x ∷ []) word (turned_works x v) is
+    (plain_keeps (DecideAtZero x) [] refl) in
     let next = ap (λ (ds : List Duty). (did (turned v x) ds word).agenda) is ∙ decide_next v.head x (word == fresh_word) in
-    decide_ends x v loaded (word == fresh_word) works next
+    decide_ends x v loaded (word == fresh_word) works next there
 
 -- ---- release through the shared word
 
@@ -244,11 +273,11 @@ exchange_works : (v : View) (x word found : ℕ) (r : Reason) → work_about x v
 exchange_works v x word found r is =
     let loaded = done (turned v x) word in
     let works =
-    done_works x v (turned v x) (SharedLoad x r ∷ []) word (turned_works x v) is (plain_keeps x (SharedLoad x r) []
+    done_works x v (turned v x) (SharedLoad x r ∷ []) word (turned_works x v) is (plain_keeps (SharedLoad x r) []
     refl) in
     let next =
     ap (λ (ds : List Duty). (did (turned v x) ds word).agenda) is ∙ exchange_ready v.head x word r in
-    done_works x v loaded (SharedExchange x r word ∷ []) found works next (plain_keeps x (SharedExchange x r word) []
+    done_works x v loaded (SharedExchange x r word ∷ []) found works next (plain_keeps (SharedExchange x r word) []
     refl)
 
 abbrev shared_list : ℕ → Reason → Bool → Bool → Bool → List Duty
@@ -268,25 +297,26 @@ shared_next zero x r false fresh dead = refl
 shared_next (suc head) x r false fresh dead = refl
 
 shared_ends : (x : ℕ) (r : Reason) (v u : View) (same fresh dead : Bool) → WorksAt x v u
-    → u.agenda ≡ shared_list x r same fresh dead
+    → u.agenda ≡ shared_list x r same fresh dead → RowsAreThere (chained u)
     → Leaves x (shared_left x r (if same then (if fresh then shared.Queued else if dead then shared.Dying
     else shared.Kept) else shared.Again)) v (chained u)
-shared_ends x r v u true true dead works is =
+shared_ends x r v u true true dead works is there =
     live_leaves x v u (SetMark x ∷ []) works is tt (eq-eqb x x refl, tt) refl
-shared_ends x r v u true false true works is = die_leaves x v u works is
-shared_ends x r v u true false false works is = live_leaves x v u [] works is tt tt tt
-shared_ends x r v u false fresh dead works is =
+shared_ends x r v u true false true works is there = die_leaves x v u works is there
+shared_ends x r v u true false false works is there = live_leaves x v u [] works is tt tt tt
+shared_ends x r v u false fresh dead works is there =
     live_leaves x v u (SharedLoad x r ∷ []) works is tt (eq-eqb x x refl, tt) refl
 
 pub shared_leaves : (v : View) (x word found : ℕ) (r : Reason) → work_about x v ≡ SharedLoad x r ∷ []
+    → RowsAreThere (released_shared v x word found)
     → Leaves x (shared_left x r (shared_answer word found)) v (released_shared v x word found)
-shared_leaves v x word found r is =
+shared_leaves v x word found r is there =
     let u = resumed (turned v x) (word ∷ found ∷ []) in
     let next : u.agenda ≡ shared_list x r (found == word) (word == fresh_word) (released_word word == dead_word) =
     ap (λ (w : View). w.agenda) (release_steps v x word found r is)
     ∙ shared_next v.head x r (found == word) (word == fresh_word) (released_word word == dead_word) in
     shared_ends x r v u (found == word) (word == fresh_word) (released_word word == dead_word)
-    (exchange_works v x word found r is) next
+    (exchange_works v x word found r is) next there
 
 -- ---- merge
 
@@ -294,17 +324,18 @@ merge_works : (v : View) (x c word found : ℕ) (r : Reason) → work_about x v 
     → WorksAt x v (resumed (turned v x) (word ∷ found ∷ []))
 merge_works v x c word found r is =
     let loaded = done (turned v x) word in
-    let works = done_works x v (turned v x) (MergeLoad x c r ∷ []) word (turned_works x v) is (plain_keeps x (MergeLoad
+    let works = done_works x v (turned v x) (MergeLoad x c r ∷ []) word (turned_works x v) is (plain_keeps (MergeLoad
     x c r) [] refl) in
-    done_works x v loaded (MergeExchange x c word r ∷ []) found works (merge_exchanges v x c word r is) (plain_keeps x
-    (MergeExchange x c word r) [] refl)
+    done_works x v loaded (MergeExchange x c word r ∷ []) found works (merge_exchanges v x c word r is)
+    (plain_keeps (MergeExchange x c word r) [] refl)
 
 own_ends : (x c : ℕ) (v u : View) (same dead : Bool) → WorksAt x v u → u.agenda ≡ merge_list x c Own same dead
+    → RowsAreThere (chained u)
     → Leaves x (merge_left x c Own (if same then (if dead then merge.Dying else merge.Kept) else merge.Again)) v
     (chained u)
-own_ends x c v u true true works is = die_leaves x v u works is
-own_ends x c v u true false works is = live_leaves x v u [] works is tt tt tt
-own_ends x c v u false dead works is =
+own_ends x c v u true true works is there = die_leaves x v u works is there
+own_ends x c v u true false works is there = live_leaves x v u [] works is tt tt tt
+own_ends x c v u false dead works is there =
     live_leaves x v u (MergeLoad x c Own ∷ []) works is tt (eq-eqb x x refl, tt) refl
 
 -- A merge for a handed reference leaves the reference to be given up, and the object alive.
@@ -330,12 +361,12 @@ lives_by Own c word found v x duty lives = tt
 lives_by Handed c word found v x duty lives = lives duty
 
 pub merge_leaves : (v : View) (x c word found : ℕ) (r : Reason) → work_about x v ≡ MergeLoad x c r ∷ []
-    → Lives r c word found
+    → Lives r c word found → RowsAreThere (merge_tried (turned v x) word found)
     → Leaves x (merge_left x c r (merge_answer c word found)) v (merge_tried (turned v x) word found)
-merge_leaves v x c word found Own is lives =
+merge_leaves v x c word found Own is lives there =
     own_ends x c v (resumed (turned v x) (word ∷ found ∷ [])) (found == word) (merged_word word c == dead_word)
-    (merge_works v x c word found Own is) (merge_next v x c word found Own is)
-merge_leaves v x c word found Handed is lives =
+    (merge_works v x c word found Own is) (merge_next v x c word found Own is) there
+merge_leaves v x c word found Handed is lives there =
     handed_ends x c v (resumed (turned v x) (word ∷ found ∷ [])) (found == word) (merged_word word c == dead_word)
     (merge_works v x c word found Handed is) (merge_next v x c word found Handed is)
     (λ same. ne_eqb (merged_word word c) dead_word (lives (eqb-true found word same)))

@@ -60,8 +60,8 @@ may_give v u thread main held leaves more start started =
     }
 
 -- The start of a worker leaves what main has seen of objects,
-started_sight : (x : ℕ) (u : View) (thread : ℕ) → KeepsSight x u (starting u thread)
-started_sight x u thread =
+started_sight : (u : View) (thread : ℕ) → KeepsSight u (starting u thread)
+started_sight u thread =
     let event : Event = record { address = ThreadWord thread; found = started_word thread u; left = 1 } in
     record {
       locked = refl;
@@ -70,7 +70,7 @@ started_sight x u thread =
       kinds = λ y word seen.
           list_any-append (shows_kind y word) u.trace (event ∷ [])
           ∙ ap (λ (b : Bool). b || list_any (shows_kind y word) (event ∷ [])) seen;
-      cells = λ y i ne. fold-append (cell_known y i) None u.trace (event ∷ []);
+      cells = λ y i is. fold-append (cell_known y i) None u.trace (event ∷ []);
     }
 
 -- and its work.
@@ -83,7 +83,7 @@ started_leaves v u w thread leaves is =
       status = leaves.status;
       used = leaves.used;
       given = leaves.given;
-      sight = sight_then root_row v u (starting u thread) leaves.sight (started_sight root_row u thread);
+      sight = sight_then v u (starting u thread) leaves.sight (started_sight u thread);
       waits = leaves.waits;
       agenda = leaves.agenda;
       aside = leaves.aside;

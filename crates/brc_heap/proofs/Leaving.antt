@@ -12,7 +12,7 @@ use Rattle.brc_table.specs.declared.view.View.{View}
 use Rattle.brc_table.specs.Views.{open_work, turned, did, done}
 use Rattle.brc_table.specs.Hands.{MayWait, HasNoWork}
 use Rattle.brc_heap.specs.Calls.{KeepsSight, Leaves}
-use Rattle.brc_heap.proofs.Sight.{StaysAt, same_sight, sight_then, did_sight}
+use Rattle.brc_heap.proofs.Sight.{StaysAway, away_off, same_sight, sight_then, did_sight}
 use Rattle.brc_heap.proofs.Turning.{away, passes, fails, none_aside, all_away}
 
 -- ---- rows of duties
@@ -114,7 +114,7 @@ pub record WorksAt (x : ℕ) (v u : View) : Type 0 where
   pub status : u.status ≡ v.status
   pub used : u.used ≡ v.used
   pub given : u.given ≡ v.given
-  pub sight : KeepsSight x v u
+  pub sight : KeepsSight v u
   pub aside : u.aside ≡ filter (away x) (open_work v)
 
 pub turned_works : (x : ℕ) (v : View) → WorksAt x v (turned v x)
@@ -125,13 +125,13 @@ turned_works x v =
       status = refl;
       used = refl;
       given = refl;
-      sight = same_sight x v (turned v x) refl refl refl refl;
+      sight = same_sight v (turned v x) refl refl refl refl;
       aside = refl;
     }
 
 -- A hand that begins work has put all its other work aside.
 pub begun_works : (x : ℕ) (v u : View) → HasNoWork v x → u.layout ≡ v.layout → u.thread ≡ v.thread
-    → u.status ≡ v.status → u.used ≡ v.used → u.given ≡ v.given → KeepsSight x v u → u.aside ≡ open_work v
+    → u.status ≡ v.status → u.used ≡ v.used → u.given ≡ v.given → KeepsSight v u → u.aside ≡ open_work v
     → WorksAt x v u
 begun_works x v u none layout thread status used given sight aside = record {
   layout = layout;
@@ -143,10 +143,10 @@ begun_works x v u none layout thread status used given sight aside = record {
   aside = aside ∙ sym (all_away x (open_work v) none);
 }
 
--- The first duty changes neither the thread's status nor how many rows it has used, and stays at the row.
-abbrev pub KeepsStatus : ℕ → List Duty → Type 0
-KeepsStatus x [] = Unit {0}
-KeepsStatus x (d ∷ ds) = ((s : Status) → status_by s d ≡ s) × ((n : ℕ) → used_by n d ≡ n) × StaysAt x d
+-- The first duty changes neither the thread's status nor how many rows it has used, and touches no cell and no gate.
+abbrev pub KeepsStatus : List Duty → Type 0
+KeepsStatus [] = Unit {0}
+KeepsStatus (d ∷ ds) = ((s : Status) → status_by s d ≡ s) × ((n : ℕ) → used_by n d ≡ n) × StaysAway d
 
 -- Says whether the duty is about a word that counts, that says the kind, or that is a mark's or a thread's, and changes
 -- neither its thread's status nor how many rows it has used.
@@ -168,23 +168,23 @@ is_plain (MergeExchange x c w r) = true
 is_plain (KindLoad x) = true
 is_plain _ = false
 
--- Such a duty stays at any row.
-plain_stays : (x : ℕ) (d : Duty) → is_plain d ≡ true → StaysAt x d
-plain_stays x (LockGate y) is = absurd cc
-plain_stays x (UnlockGate y) is = absurd cc
-plain_stays x (LendSlot y) is = absurd cc
-plain_stays x (ReturnSlot y) is = absurd cc
-plain_stays x (Die y) is = absurd cc
-plain_stays x Settle is = absurd cc
-plain_stays x (SettleCell y i n) is = absurd cc
-plain_stays x (SettleEnd y) is = absurd cc
-plain_stays x (CellLoad y i) is = absurd cc
-plain_stays x (CellSwap y i z h) is = absurd cc
-plain_stays x _ is = record {
+-- Such a duty touches no cell and no gate.
+plain_stays : (d : Duty) → is_plain d ≡ true → StaysAway d
+plain_stays (LockGate y) is = absurd cc
+plain_stays (UnlockGate y) is = absurd cc
+plain_stays (LendSlot y) is = absurd cc
+plain_stays (ReturnSlot y) is = absurd cc
+plain_stays (Die y) is = absurd cc
+plain_stays Settle is = absurd cc
+plain_stays (SettleCell y i n) is = absurd cc
+plain_stays (SettleEnd y) is = absurd cc
+plain_stays (CellLoad y i) is = absurd cc
+plain_stays (CellSwap y i z h) is = absurd cc
+plain_stays _ is = record {
   locked = λ locked found. refl;
   lent = λ lent found. refl;
-  cells = λ layout t head y i ne. refl;
-  gates = λ layout t head y ne. refl;
+  cells = λ layout t head y i. refl;
+  gates = λ layout t head y. refl;
 }
 
 plain_status : (d : Duty) (s : Status) → is_plain d ≡ true → status_by s d ≡ s
@@ -196,10 +196,10 @@ plain_used : (d : Duty) (n : ℕ) → is_plain d ≡ true → used_by n d ≡ n
 plain_used (BirthLocal x h) n is = absurd cc
 plain_used _ n is = refl
 
-pub plain_keeps : (x : ℕ) (d : Duty) (ds : List Duty) → is_plain d ≡ true → KeepsStatus x (d ∷ ds)
-plain_keeps x d ds is = ((λ s. plain_status d s is), (λ n. plain_used d n is), plain_stays x d is)
+pub plain_keeps : (d : Duty) (ds : List Duty) → is_plain d ≡ true → KeepsStatus (d ∷ ds)
+plain_keeps d ds is = ((λ s. plain_status d s is), (λ n. plain_used d n is), plain_stays d is)
 
-did_works : (x : ℕ) (v u : View) (ds : List Duty) (found : ℕ) → WorksAt x v u → KeepsStatus x ds
+did_works : (x : ℕ) (v u : View) (ds : List Duty) (found : ℕ) → WorksAt x v u → KeepsStatus ds
     → WorksAt x v (did u ds found)
 did_works x v u [] found works keeps = works
 did_works x v u (d ∷ ds) found works keeps = record {
@@ -208,15 +208,15 @@ did_works x v u (d ∷ ds) found works keeps = record {
   status = keeps.0 u.status ∙ works.status;
   used = keeps.1 u.used ∙ works.used;
   given = works.given;
-  sight = sight_then x v u (did u (d ∷ ds) found) works.sight (did_sight x u d ds found keeps.2);
+  sight = sight_then v u (did u (d ∷ ds) found) works.sight (did_sight u d ds found (away_off u d found keeps.2));
   aside = works.aside;
 }
 
 -- One more duty leaves the hand at work.
-pub done_works : (x : ℕ) (v u : View) (ds : List Duty) (found : ℕ) → WorksAt x v u → u.agenda ≡ ds → KeepsStatus x ds
+pub done_works : (x : ℕ) (v u : View) (ds : List Duty) (found : ℕ) → WorksAt x v u → u.agenda ≡ ds → KeepsStatus ds
     → WorksAt x v (done u found)
 done_works x v u ds found works is keeps =
-    did_works x v u u.agenda found works (subst (KeepsStatus x) (sym is) keeps)
+    did_works x v u u.agenda found works (subst KeepsStatus (sym is) keeps)
 
 -- What is left of the hand's work.
 pub works_leave : (x : ℕ) (v u : View) (left : List Duty) → WorksAt x v u → u.agenda ≡ left → AllAbout x left
@@ -275,7 +275,7 @@ leaves_then x first second v u w one other = record {
   status = other.status ∙ one.status;
   used = other.used ∙ one.used;
   given = other.given ∙ one.given;
-  sight = sight_then x v u w one.sight other.sight;
+  sight = sight_then v u w one.sight other.sight;
   waits = other.waits;
   agenda = other.agenda;
   aside =

@@ -10,3 +10,4 @@ mod Bearing
 mod Asking
 mod OwnRows
 pub mod Handing
+pub mod Borrowing

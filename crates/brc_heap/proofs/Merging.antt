@@ -40,7 +40,7 @@ swap_next v x local r is =
 swap_works : (v : View) (x local : ℕ) (r : Reason) → work_about x v ≡ MergeSwap x r ∷ []
     → WorksAt x v (done (turned v x) local)
 swap_works v x local r is =
-    done_works x v (turned v x) (MergeSwap x r ∷ []) local (turned_works x v) is (plain_keeps x (MergeSwap x r) [] refl)
+    done_works x v (turned v x) (MergeSwap x r ∷ []) local (turned_works x v) is (plain_keeps (MergeSwap x r) [] refl)
 
 merged_about : (x : ℕ) (r : Reason) → AllAbout x (once_merged x r) × MayWait (once_merged x r)
 merged_about x Own = (tt, tt)

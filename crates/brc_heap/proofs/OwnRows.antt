@@ -1,18 +1,20 @@
 -- What a running hand finds at the rows of its own block.
-use Rattle.std.proofs.Common.{◌≡◌, ℕ, zero, suc, ◌+◌, Bool, true, false, List, [], ◌∷◌, ◌++◌, inl, inr, refl, sym, ap, ◌∙◌, subst}
+use Rattle.std.proofs.Common.{◌≡◌, ℕ, zero, suc, ◌+◌, Bool, true, false, List, [], ◌∷◌, ◌++◌, inl, inr, refl, sym, ap, ◌∙◌, subst, arith}
 use Rattle.std.specs.Prelude.{◌==◌, ◌&&◌, nat_lt, if◌then◌else◌}
-use Rattle.std.proofs.lemmas.Bool.{cases_Bool, eq-eqb, false≢true, ltb-false}
+use Rattle.std.proofs.lemmas.Bool.{cases_Bool, eq-eqb, false≢true, ltb-false, ltb-true}
 use Rattle.brc_word.specs.Words.{owner_part, local_part, is_immortal_word, most_local}
 use Rattle.brc_model.specs.declared.actor.Status.TheVariants.{Running}
 use Rattle.brc_model.specs.declared.duty.Duty.{Duty}
 use Rattle.brc_model.specs.declared.duty.Holding.TheVariants.{AsCaller}
 use Rattle.brc_model.specs.declared.duty.Duty.TheVariants.{RetainStore, RetainAdd}
 use Rattle.brc_model.specs.Duties.{ready}
-use Rattle.brc_model.specs.Layout.{block_of}
-use Rattle.brc_model.specs.Machine.{is_running}
+use Rattle.brc_model.specs.declared.layout.Layout.{Layout}
+use Rattle.brc_model.specs.Layout.{none_row, block_of, block_size, row_at, is_immortal_row, IsCounted}
+use Rattle.brc_model.proofs.Basics.Blocks.{only_none}
+use Rattle.brc_model.specs.Machine.{is_running, has_room}
 use Rattle.brc_model.specs.Within.{OwnerFits}
 use Rattle.brc_table.specs.declared.view.View.{View}
-use Rattle.brc_table.specs.Views.{did, done, retaining}
+use Rattle.brc_table.specs.Views.{did, done, retaining, next_row, RowsAreThere}
 use Rattle.brc_heap.specs.declared.release.LocalRelease.TheVariants as local
 use Rattle.brc_heap.specs.Calls.{retained, RetainsOwn, local_answer}
 
@@ -72,4 +74,22 @@ retain_owns v x word found runs fits mine = elim (cases_Bool (is_immortal_word w
           inr (inr (inr (ap (λ (ds : List Duty). (did (done (retaining v x) word) ds found).trace) next)))
     ]
   ]
+]
+
+-- ---- the next row
+
+-- Main has no room, and a worker's rows are behind none's.
+next_above : (layout : Layout) (t used : ℕ) → (t ≡ 0 → used ≡ block_size layout t) → has_room layout t used ≡ true
+    → row_at layout t used ≡ none_row → ⊥
+next_above layout zero used full room none =
+    omega (arith, ltb-true used (block_size layout zero) room, full refl)
+next_above layout (suc t) used full room none = omega (arith, none)
+
+-- The row of a hand's next birth is a counted object's.
+pub next_is_counted : (v : View) → RowsAreThere v → v.layout.immortal_lists ≡ 0
+    → has_room v.layout v.thread v.used ≡ true → IsCounted v.layout (next_row v)
+next_is_counted v there plain room = elim (cases_Bool (is_immortal_row v.layout (next_row v))) [
+  | inl immortal ↦
+      absurd (next_above v.layout v.thread v.used there.main room (only_none v.layout (next_row v) plain immortal))
+  | inr counted ↦ counted
 ]

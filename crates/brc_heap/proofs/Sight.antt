@@ -1,5 +1,6 @@
--- A hand that works at a row keeps its lock, and what it has seen of kinds and of other rows' cells.
-use Rattle.std.proofs.Common.{◌≡◌, ◌≢◌, ℕ, Bool, false, List, [], ◌∷◌, Option, None, Some, refl, ap, ◌∙◌}
+-- A hand that works at a row keeps its lock, and what it has seen of kinds and of the cells of the list that it has
+-- locked.
+use Rattle.std.proofs.Common.{◌≡◌, ℕ, Bool, false, List, [], ◌∷◌, Option, None, Some, refl, ap, ◌∙◌}
 use Rattle.std.specs.Prelude.{◌||◌, if◌then◌else◌, fold}
 use Rattle.std.specs.List.{list_any}
 use Rattle.std.proofs.lemmas.List.Folds.{list_any-append}
@@ -15,54 +16,68 @@ use Rattle.brc_table.specs.Views.{did, event_of}
 use Rattle.brc_table.specs.Seen.{shows_kind, cell_known, cell_seen}
 use Rattle.brc_heap.specs.Calls.{KeepsSight}
 
--- The duty locks, unlocks, lends and returns nothing, and touches no cell and no gate of another row than x.
-pub record StaysAt (x : ℕ) (d : Duty) : Type 0 where
+-- The duty locks, unlocks, lends and returns nothing, and touches no cell and no gate.
+pub record StaysAway (d : Duty) : Type 0 where
   pub locked : (locked : Option ℕ) (found : ℕ) → locked_by locked d found ≡ locked
   pub lent : (lent : Option ℕ) (found : ℕ) → lent_by lent d found ≡ lent
-  pub cells : (layout : Layout) (t head y i : ℕ) → y ≢ x
-      → same_address (address_of layout t head d) (Cell y i) ≡ false
-  pub gates : (layout : Layout) (t head y : ℕ) → y ≢ x → same_address (address_of layout t head d) (Gate y) ≡ false
+  pub cells : (layout : Layout) (t head y i : ℕ) → same_address (address_of layout t head d) (Cell y i) ≡ false
+  pub gates : (layout : Layout) (t head y : ℕ) → same_address (address_of layout t head d) (Gate y) ≡ false
+
+-- The hand's duty does so but for cells and gates of other objects than the one that the hand has locked.
+pub record StaysOff (u : View) (d : Duty) (found : ℕ) : Type 0 where
+  pub locked : locked_by u.locked d found ≡ u.locked
+  pub lent : lent_by u.lent d found ≡ u.lent
+  pub cells : (y i : ℕ) → u.locked ≡ Some y
+      → same_address (address_of u.layout u.thread u.head d) (Cell y i) ≡ false
+  pub gates : (y : ℕ) → u.locked ≡ Some y → same_address (address_of u.layout u.thread u.head d) (Gate y) ≡ false
+
+pub away_off : (u : View) (d : Duty) (found : ℕ) → StaysAway d → StaysOff u d found
+away_off u d found away = record {
+  locked = away.locked u.locked found;
+  lent = away.lent u.lent found;
+  cells = λ y i is. away.cells u.layout u.thread u.head y i;
+  gates = λ y is. away.gates u.layout u.thread u.head y;
+}
 
 -- A hand whose lock and trace are the same.
-pub same_sight : (x : ℕ) (v u : View) → u.locked ≡ v.locked → u.lent ≡ v.lent → u.in_slot ≡ v.in_slot
-    → u.trace ≡ v.trace → KeepsSight x v u
-same_sight x v u locked lent in_slot trace = record {
+pub same_sight : (v u : View) → u.locked ≡ v.locked → u.lent ≡ v.lent → u.in_slot ≡ v.in_slot → u.trace ≡ v.trace
+    → KeepsSight v u
+same_sight v u locked lent in_slot trace = record {
   locked = locked;
   lent = lent;
   in_slot = in_slot;
   kinds = λ y word seen. ap (list_any (shows_kind y word)) trace ∙ seen;
-  cells = λ y i ne. ap (fold (cell_known y i) None) trace;
+  cells = λ y i is. ap (fold (cell_known y i) None) trace;
 }
 
 -- One call after another.
-pub sight_then : (x : ℕ) (v u w : View) → KeepsSight x v u → KeepsSight x u w → KeepsSight x v w
-sight_then x v u w one other = record {
+pub sight_then : (v u w : View) → KeepsSight v u → KeepsSight u w → KeepsSight v w
+sight_then v u w one other = record {
   locked = other.locked ∙ one.locked;
   lent = other.lent ∙ one.lent;
   in_slot = other.in_slot ∙ one.in_slot;
   kinds = λ y word seen. other.kinds y word (one.kinds y word seen);
-  cells = λ y i ne. other.cells y i ne ∙ one.cells y i ne;
+  cells = λ y i is. other.cells y i (one.locked ∙ is) ∙ one.cells y i is;
 }
 
 -- A step on neither the cell nor the row's gate.
-unknown : (y i : ℕ) (known : Option ℕ) (e : Event) → same_address e.address (Cell y i) ≡ false
+pub unknown : (y i : ℕ) (known : Option ℕ) (e : Event) → same_address e.address (Cell y i) ≡ false
     → same_address e.address (Gate y) ≡ false → cell_known y i known e ≡ known
 unknown y i known e cell gate =
     ap (λ (b : Bool). if b then Some e.left else if same_address e.address (Gate y) then None else known) cell
     ∙ ap (λ (b : Bool). if b then None else known) gate
 
 -- One duty more.
-pub did_sight : (x : ℕ) (u : View) (d : Duty) (rest : List Duty) (found : ℕ) → StaysAt x d
-    → KeepsSight x u (did u (d ∷ rest) found)
-did_sight x u d rest found stays = record {
-  locked = stays.locked u.locked found;
-  lent = stays.lent u.lent found;
+pub did_sight : (u : View) (d : Duty) (rest : List Duty) (found : ℕ) → StaysOff u d found
+    → KeepsSight u (did u (d ∷ rest) found)
+did_sight u d rest found stays = record {
+  locked = stays.locked;
+  lent = stays.lent;
   in_slot = refl;
   kinds = λ y word seen.
       list_any-append (shows_kind y word) u.trace (event_of u d found ∷ [])
       ∙ ap (λ (b : Bool). b || list_any (shows_kind y word) (event_of u d found ∷ [])) seen;
-  cells = λ y i ne.
+  cells = λ y i is.
       fold-append (cell_known y i) None u.trace (event_of u d found ∷ [])
-      ∙ unknown y i (cell_seen y i u) (event_of u d found) (stays.cells u.layout u.thread u.head y i ne)
-      (stays.gates u.layout u.thread u.head y ne);
+      ∙ unknown y i (cell_seen y i u) (event_of u d found) (stays.cells y i is) (stays.gates y is);
 }

@@ -15,7 +15,7 @@ use Rattle.brc_model.specs.Duties.{counts_locally, once_merged, resources_of}
 use Rattle.brc_model.specs.Machine.{is_running}
 use Rattle.brc_model.specs.OpenWork.{is_about}
 use Rattle.brc_model.specs.declared.layout.Layout.{Layout}
-use Rattle.brc_model.specs.Layout.{root_row}
+use Rattle.brc_model.specs.Layout.{none_row}
 use Rattle.brc_model.specs.declared.address.Address.TheVariants.{Local}
 use Rattle.brc_table.specs.declared.view.View.{View}
 use Rattle.brc_table.specs.declared.view.Event.{Event}
@@ -129,24 +129,26 @@ Merges r hand x = MergeIsFirst r hand x ⊎ ((carried : ℕ) × MergeIsBegun r h
 
 -- ---- what a call keeps
 
--- The hand has locked and lent what it had, and knows of the locked object's slot what it knew, and of kinds and of
--- cells what it has seen, but perhaps not of the cells of the row x.
-pub record KeepsSight (x : ℕ) (v u : View) : Type 0 where
+-- The hand has locked and lent what it had, and knows of the locked object's slot what it knew, and of kinds and of the
+-- cells of the list that it has locked what it has seen.
+pub record KeepsSight (v u : View) : Type 0 where
   pub locked : u.locked ≡ v.locked
   pub lent : u.lent ≡ v.lent
   pub in_slot : u.in_slot ≡ v.in_slot
   pub kinds : (y word : ℕ) → has_seen_kind y word v ≡ true → has_seen_kind y word u ≡ true
-  pub cells : (y i : ℕ) → y ≢ x → cell_seen y i u ≡ cell_seen y i v
+  pub cells : (y i : ℕ) → v.locked ≡ Some y → cell_seen y i u ≡ cell_seen y i v
 
 -- ---- kinds
 
 -- The hand has loaded the row's kind word. It is the word that the hand has seen there before, if it has. If the hand
--- has locked the object, and has lent no resource, the word tells whether the object's slot has one.
+-- has locked the object, and has lent no resource, the word tells whether the object's slot has one. None's says that it
+-- is none.
 pub record SeesKind (x word : ℕ) (v u : View) : Type 0 where
   pub view_is : u ≡ done (asking v x) word
   pub seen : has_seen_kind x word u ≡ true
   pub stays : (before : ℕ) → 0 < before → has_seen_kind x before v ≡ true → word ≡ before
   pub slot : v.locked ≡ Some x → v.lent ≡ None → v.in_slot ≡ resources_of word
+  pub named : x ≡ none_row → word ≡ half
 
 -- ---- births
 
@@ -168,7 +170,8 @@ IsBornWith _ arg = ⊥
 abbrev pub born : View → ℕ → View
 born v word = done (slot_filled (done (bearing v word) 0)) 0
 
--- The hand has given birth to the next object of its block, and holds its only reference. Its other work is as it was.
+-- The hand has given birth to the next object of its block, and holds its only reference. Its other work and its chain
+-- are as they were.
 pub record HasBorn (v u : View) : Type 0 where
   pub layout : u.layout ≡ v.layout
   pub thread : u.thread ≡ v.thread
@@ -176,7 +179,8 @@ pub record HasBorn (v u : View) : Type 0 where
   pub used : u.used ≡ v.used + 1
   pub given : u.given ≡ v.given
   pub references : u.references ≡ next_row v ∷ v.references
-  pub sight : KeepsSight (next_row v) v u
+  pub head : u.head ≡ v.head
+  pub sight : KeepsSight v u
   pub waits : MayWait u.agenda
   pub work : open_work u ≡ open_work v
 
@@ -186,7 +190,7 @@ pub record HasBorn (v u : View) : Type 0 where
 abbrev pub IsTaken : Layout → View → ℕ → Type 0
 IsTaken layout main thread = (thread ≡ 0) ⊎ (layout.workers < thread) ⊎ (is_given thread main ≡ true)
 
--- Main has given out the thread's hand. It holds what it held before, and its work is as it was.
+-- Main has given out the thread's hand. It holds what it held before, and its work and its chain are as they were.
 pub record HasGiven (thread : ℕ) (v u : View) : Type 0 where
   pub layout : u.layout ≡ v.layout
   pub number : u.thread ≡ v.thread
@@ -194,7 +198,8 @@ pub record HasGiven (thread : ℕ) (v u : View) : Type 0 where
   pub used : u.used ≡ v.used
   pub given : u.given ≡ thread ∷ v.given
   pub references : u.references ≡ v.references
-  pub sight : KeepsSight root_row v u
+  pub head : u.head ≡ v.head
+  pub sight : KeepsSight v u
   pub agenda : u.agenda ≡ []
   pub aside : u.aside ≡ open_work v
 
@@ -208,7 +213,7 @@ pub record Leaves (x : ℕ) (left : List Duty) (v u : View) : Type 0 where
   pub status : u.status ≡ v.status
   pub used : u.used ≡ v.used
   pub given : u.given ≡ v.given
-  pub sight : KeepsSight x v u
+  pub sight : KeepsSight v u
   pub waits : MayWait u.agenda
   pub agenda : u.agenda ≡ left
   pub aside : u.aside ≡ filter (λ d. not (is_about x d)) (open_work v)

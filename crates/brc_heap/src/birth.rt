@@ -1,8 +1,10 @@
 //! Births of objects.
 
 ghost use Rattle.std.specs.Prelude.{◌≡◌, ◌<◌, ◌≤◌, true, ℕ};
+ghost use Rattle.brc_word.specs.Words.{kind_part};
 ghost use Rattle.brc_model.specs.Duties.{cells_of, resources_of};
 ghost use Rattle.brc_model.specs.Kinds.{kind_number, kind_of_word, is_counted_kind};
+ghost use Rattle.brc_model.specs.Layout.{IsCounted};
 ghost use Rattle.brc_model.specs.Limits.{cell_limit};
 ghost use Rattle.brc_model.specs.Machine.{has_room};
 ghost use Rattle.brc_table.specs.Homes.{resources};
@@ -41,6 +43,8 @@ impl<T: Drop> Heap<T> {
         requires kind { IsBornWith kind arg }
         requires resource { resources resource ≡ resources_of (kind_word kind arg) }
         ensures row { result ≡ next_row hand.old.view }
+        ensures counted { IsCounted hand.old.view.layout result }
+        ensures known { kind_part (kind_word kind arg) ≡ kind_number kind }
         ensures table { IsOf self.now hand.new }
         ensures carried { hand.new.carried ≡ hand.old.carried }
         ensures slots { hand.new.slots ≡ hand.old.slots }
@@ -48,6 +52,8 @@ impl<T: Drop> Heap<T> {
         ensures born { HasBorn hand.old.view hand.new.view }
         ensures seen { has_seen_kind result (kind_word kind arg) hand.new.view ≡ true }
     {
+        hand.rows_are_there();
+        self.words().layout_is_plain();
         let word = kind_word(kind_number(kind), arg);
         self.birth_steps(hand, word, resource)
     }

@@ -105,7 +105,9 @@ impl<T: Drop> Heap<T> {
             → Leaves row (merge_left row carried r result) hand.old.view hand.new.view }
         ensures references { hand.new.view.references ≡ hand.old.view.references }
     {
-        self.merge_steps(hand, row, carried)
+        let step = self.merge_steps(hand, row, carried);
+        hand.rows_are_there();
+        step
     }
 
     /// Makes the steps of `merge_carried`.

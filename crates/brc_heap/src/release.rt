@@ -121,7 +121,9 @@ impl<T: Drop> Heap<T> {
         ensures left { Leaves row (zero_left row result) hand.old.view hand.new.view }
         ensures references { hand.new.view.references ≡ hand.old.view.references }
     {
-        self.zero_steps(hand, row)
+        let step = self.zero_steps(hand, row);
+        hand.rows_are_there();
+        step
     }
 
     /// Makes the steps of `zero_step`.
@@ -163,7 +165,9 @@ impl<T: Drop> Heap<T> {
             → Leaves row (shared_left row r result) hand.old.view hand.new.view }
         ensures references { hand.new.view.references ≡ hand.old.view.references }
     {
-        self.shared_steps(hand, row)
+        let release = self.shared_steps(hand, row);
+        hand.rows_are_there();
+        release
     }
 
     /// Makes the steps of `try_release_shared`.

@@ -4,7 +4,7 @@ ghost use Rattle.std.specs.Prelude.{◌≡◌, ◌<◌, [], length, ℕ};
 ghost use Rattle.brc_model.specs.Layout.{block_of};
 ghost use Rattle.brc_model.specs.Within.{OwnerFits};
 ghost use Rattle.brc_table.specs.Views.{with_reference};
-ghost use Rattle.brc_table.specs.Hands.{IsOf, IsRunning, HoldsOne, HasNoWork, most_references};
+ghost use Rattle.brc_table.specs.Hands.{IsOf, IsRunning, MayUse, HasNoWork, most_references};
 ghost use Rattle.brc_heap.specs.Calls.{retained, RetainsOwn, Leaves};
 
 use crate::heap::Heap;
@@ -12,13 +12,14 @@ use brc_table::Hand;
 use brc_word::{LocalChoice, retain_choice};
 
 impl<T: Drop> Heap<T> {
-    /// Makes a new reference to an object to which the hand holds one already (`Py_INCREF`).
+    /// Makes a new reference to an object to which the hand holds one already, or which it borrows from the list that it
+    /// has locked (`Py_INCREF`). From then on the hand has a reference of its own, which outlasts the lock.
     ///
     /// The owner counts in the local word, and any other thread in the shared word. An immortal object isn't counted.
     pub fn retain(&self, hand: &mut Hand<T>, row: u32)
         requires table { IsOf self.now hand.old }
         requires running { IsRunning hand.old.view }
-        requires held { HoldsOne hand.old.view row }
+        requires usable { MayUse hand.old.view row }
         requires idle { HasNoWork hand.old.view row }
         requires few { length hand.old.view.references < most_references }
         ensures table { IsOf self.now hand.new }
@@ -30,6 +31,7 @@ impl<T: Drop> Heap<T> {
             × (hand.new.view ≡ retained hand.old.view row word found)
             × RetainsOwn row word found hand.old.view hand.new.view }
         ensures left { Leaves row [] hand.old.view hand.new.view }
+        ensures head { hand.new.view.head ≡ hand.old.view.head }
         ensures references { hand.new.view.references
             ≡ with_reference hand.old.view.layout row hand.old.view.references }
     {
@@ -40,7 +42,7 @@ impl<T: Drop> Heap<T> {
     fn retain_steps(&self, hand: &mut Hand<T>, row: u32)
         requires table { IsOf self.now hand.old }
         requires running { IsRunning hand.old.view }
-        requires held { HoldsOne hand.old.view row }
+        requires usable { MayUse hand.old.view row }
         requires idle { HasNoWork hand.old.view row }
         requires few { length hand.old.view.references < most_references }
         ensures table { hand.new.table ≡ hand.old.table }

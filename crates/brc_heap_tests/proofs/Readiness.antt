@@ -13,10 +13,11 @@ use Rattle.brc_table.specs.Views.{holds, work_about, open_work, with_reference, 
 use Rattle.brc_table.specs.Opening.{plain_layout}
 use Rattle.brc_model.specs.OpenWork.{is_about}
 use Rattle.std.specs.List.{filter}
-use Rattle.brc_table.specs.Hands.{TableState, HandState, IsOf, IsRunning, HoldsOne, KeepsLock, MayWait, CarriesNothing, most_references}
+use Rattle.brc_table.specs.Hands.{TableState, HandState, IsOf, IsRunning, HoldsOne, Borrows, KeepsLock, MayWait, CarriesNothing, most_references}
 use Rattle.brc_table.specs.Calls.{CanAct}
 use Rattle.brc_heap.specs.Calls.{Leaves, HasGiven, HasBorn}
 use Rattle.brc_heap.proofs.Leaving.{leaves_then}
+use Rattle.brc_heap.proofs.Borrowing.{borrows_still}
 use Rattle.brc_heap_tests.specs.Ready.{IsReady, IsReadyAt}
 
 -- What two calls about the same row leave.
@@ -189,6 +190,10 @@ pub rests_still : {x : ℕ} {v u : View} → open_work v ≡ [] → Leaves x [] 
 rests_still {x} {v} {u} rests leaves =
     ap (λ (ds : List Duty). ds ++ u.aside) leaves.agenda
     ∙ (leaves.aside ∙ ap (filter (λ (d : Duty). not (is_about x d))) rests)
+
+-- What a hand borrows it still borrows after a call.
+pub borrows_again : {x : ℕ} {v u : View} → Leaves x [] v u → Borrows v x → Borrows u x
+borrows_again {x} {v} {u} leaves = borrows_still x v u leaves.sight leaves.layout
 
 -- A hand that has just given birth to an object is ready to retain and release it.
 pub ready_at_birth : {heap : TableState} {before after : HandState} {x : ℕ} → IsReady heap before

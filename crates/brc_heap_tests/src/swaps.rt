@@ -35,6 +35,29 @@ fn put_and_taken(heap: &Heap<u32>, hand: &mut Hand<u32>) -> Option<[Option<u32>;
     Some([before, put, taken, lists.item(hand, ROOT, CELLS - 1)])
 }
 
+/// Puts a new number into the root's last cell, which has the only reference to it from then on, and borrows it from
+/// there. Returns its kind and its argument.
+#[tactic(auto, using(crate::proofs::Readiness::rests_still, crate::proofs::Readiness::borrows_again))]
+fn borrowed(heap: &Heap<u32>, hand: &mut Hand<u32>) -> Option<(Kind, u32)>
+    requires resting { IsResting heap.now hand.old (Some root_row) }
+    requires few { length hand.old.view.references ≤ 1 }
+    requires next { next_row hand.old.view ≡ 2 }
+{
+    let lists = Lists::new(heap);
+    if !heap.room(hand) || lists.size(hand, ROOT) < CELLS {
+        return None;
+    }
+    let number = heap.birth(hand, Kind::Num, VALUE, None);
+    lists.swap_item(hand, ROOT, CELLS - 1, Some(number));
+    match lists.item(hand, ROOT, CELLS - 1) {
+        Some(row) if row != ROOT => {
+            let kind = heap.kind_of(hand, row);
+            Some((kind, heap.arg_of(hand, row)))
+        }
+        _ => None,
+    }
+}
+
 #[test]
 fn a_number_goes_in_and_out(rt: HostRuntime) -> Result<(), Fail> {
     let (heap, mut main) = opened(rt.alloc(), 1, 1)?;
@@ -45,5 +68,15 @@ fn a_number_goes_in_and_out(rt: HostRuntime) -> Result<(), Fail> {
         put_and_taken(&heap, &mut hand),
         Some([None, Some(2), Some(2), None])
     );
+    Ok(())
+}
+
+#[test]
+fn a_borrowed_number_has_its_value(rt: HostRuntime) -> Result<(), Fail> {
+    let (heap, mut main) = opened(rt.alloc(), 1, 1)?;
+    let mut hand = worker(&heap, &mut main, 1)?;
+    let locked = Lists::new(&heap).try_lock(&mut hand, ROOT);
+    assert!(rt; locked);
+    assert_eq!(rt; borrowed(&heap, &mut hand), Some((Kind::Num, VALUE)));
     Ok(())
 }

@@ -7,15 +7,16 @@ use Rattle.brc_table.specs.Seen.{has_seen_kind, cell_seen}
 use Rattle.brc_table.specs.Swaps.{swapped, with_item, without_item}
 use Rattle.brc_table.specs.Hands.{MayWait}
 
--- The hand's thread, its references, its lent resource, what it knows of the slot of the object that it has locked, and
--- its other work are as before, and so are its used rows and
--- the hands that it has given out. It still knows the kinds that it has seen.
+-- The hand's thread, its references, its lent resource, what it knows of the slot of the object that it has locked, its
+-- chain and its other work are as before, and so are its used rows and the hands that it has given out. It still knows
+-- the kinds that it has seen.
 pub record Keeps (v u : View) : Type 0 where
   pub layout : u.layout ≡ v.layout
   pub thread : u.thread ≡ v.thread
   pub status : u.status ≡ v.status
   pub references : u.references ≡ v.references
   pub used : u.used ≡ v.used
+  pub head : u.head ≡ v.head
   pub given : u.given ≡ v.given
   pub lent : u.lent ≡ v.lent
   pub taken_slot : u.in_slot ≡ v.in_slot

@@ -9,7 +9,7 @@ ghost use Rattle.brc_table.specs.Plays.{overwritten};
 ghost use Rattle.brc_table.specs.Seen.{has_seen_kind, KnowsCell};
 ghost use Rattle.brc_table.specs.Swaps.{MayPut};
 ghost use Rattle.brc_table.specs.Uses.{FirstSlot, behind_slot};
-ghost use Rattle.brc_table.specs.Hands.{most_references, IsOf, IsRunning, HoldsOne, HasNoWork, HasNoRetain};
+ghost use Rattle.brc_table.specs.Hands.{most_references, IsOf, IsRunning, HoldsOne, Borrows, HasNoWork, HasNoRetain};
 ghost use Rattle.brc_list.specs.Calls.{Keeps, KeepsBesides, KeepsButSlot, SeesItem, SwapsItem, row_in, word_of};
 
 use brc_heap::{Hand, Heap};
@@ -115,7 +115,8 @@ impl<'h, T: Drop> Lists<'h, T> {
     }
 
     /// Returns what is in a cell of the list that the hand has locked: the row of an object, or `None` if the cell is
-    /// empty. The list keeps its reference to the object, so that the hand borrows it (`PyList_GetItem`).
+    /// empty. The list keeps its reference to the object, so that the hand borrows it (`PyList_GetItem`): until it unlocks
+    /// the list or takes the object out of the cell, it may ask for the object's kind, or retain it.
     pub fn item(&self, hand: &mut Hand<T>, row: u32, cell: u32) -> Option<u32>
         requires table { IsOf self.now hand.old }
         requires running { IsRunning hand.old.view }
@@ -127,6 +128,7 @@ impl<'h, T: Drop> Lists<'h, T> {
         ensures carried { hand.new.carried ≡ hand.old.carried }
         ensures slots { hand.new.slots ≡ hand.old.slots }
         ensures sees { (word : ℕ) × SeesItem row cell word hand.old.view hand.new.view × (result ≡ row_in word) }
+        ensures borrows { (x : ℕ) → result ≡ Some x → Borrows hand.new.view x }
         ensures locked { hand.new.view.locked ≡ Some row }
         ensures keeps { Keeps hand.old.view hand.new.view }
     {

@@ -1,10 +1,11 @@
 -- The counting machine as running threads use it: the whole invariant, and the changes of a thread's work and account
 -- between two duties.
-use Rattle.std.specs.Prelude.{◌≡◌, ℕ, ◌+◌, ◌-◌, ◌<◌, ◌≤◌, cond, ◌&&◌, ◌==◌, List, [], ◌∷◌, Some, slice_get, count_by, replicate}
+use Rattle.std.specs.Prelude.{◌≡◌, ◌⊎◌, ℕ, ◌+◌, ◌-◌, ◌<◌, ◌≤◌, cond, ◌&&◌, ◌==◌, List, [], ◌∷◌, Some, slice_get, count_by, replicate}
 use Rattle.brc_model.specs.declared.duty.Holding.{Holding}
 use Rattle.brc_model.specs.declared.duty.Holding.TheVariants.{AsCaller, InFlight}
 use Rattle.brc_model.specs.declared.duty.Duty.{Duty}
 use Rattle.brc_model.specs.declared.actor.Status.TheVariants.{Running}
+use Rattle.brc_model.specs.declared.address.Address.TheVariants.{Cell}
 use Rattle.brc_model.specs.declared.layout.Layout.{Layout}
 use Rattle.brc_model.specs.Layout.{front_rows, root_row}
 use Rattle.brc_model.specs.Limits.{cell_limit, worker_limit, row_limit}
@@ -70,6 +71,19 @@ HasNoneAbout a x = one_if (about_of x a.agenda) + count_by (is_about x) a.aside 
 -- The thread may give up a reference to the object: if it has locked the object, it holds another one.
 abbrev pub MayGiveUp : Account → Actor → ℕ → Type 0
 MayGiveUp account a x = a.locked ≡ Some x → 2 ≤ account AsCaller x
+
+-- A cell of the list that the thread has locked has the object, so the thread may borrow it. (Python/C API manual, List
+-- Objects: `PyList_GetItem` returns a borrowed reference.)
+pub record IsLockedItem (m : Machine) (a : Actor) (x : ℕ) : Type 0 where
+  pub list : ℕ
+  pub cell : ℕ
+  pub locked : a.locked ≡ Some list
+  pub word : m.memory (Cell list cell) ≡ x + 1
+
+-- The thread holds a reference to the object as the caller, or may borrow it from the list that it has locked. Either
+-- backs the object for a duty that begins now.
+abbrev pub IsAtHand : Account → Machine → Actor → ℕ → Type 0
+IsAtHand account m a x = (1 ≤ account AsCaller x) ⊎ IsLockedItem m a x
 
 -- ---- the first machine
 

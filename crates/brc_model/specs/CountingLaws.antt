@@ -19,12 +19,12 @@ use Rattle.brc_model.specs.Limits.{cell_limit}
 use Rattle.brc_model.specs.Machine.{Actor, Machine, Unborn, has_room, is_running, used_by, with_actor, with_moves, done_by}
 use Rattle.brc_model.specs.BadDuties.{is_bad_duty}
 use Rattle.brc_model.specs.Accounts.{Accounts, HoldsNone, most_lent}
-use Rattle.brc_model.specs.OpenWork.{exits, may_wait}
+use Rattle.brc_model.specs.OpenWork.{exits, finalised, may_wait}
 use Rattle.brc_model.specs.Knowledge.{HasNoRetainAside}
 use Rattle.brc_model.specs.Within.{IsThere, Suits, FindsOwner}
 use Rattle.brc_model.specs.Stores.{Overwrites}
 use Rattle.brc_model.specs.Agreement.{AgreesAt}
-use Rattle.brc_model.specs.Counting.{Counts, with_account, with_one_more, with_one_less, working, IsReady, HasNoneAbout, IsPlainLayout, hands_machine, hands_accounts, MayGiveUp}
+use Rattle.brc_model.specs.Counting.{Counts, with_account, with_one_more, with_one_less, working, IsReady, HasNoneAbout, IsPlainLayout, hands_machine, hands_accounts, MayGiveUp, IsAtHand}
 
 -- ---- duties
 
@@ -59,10 +59,21 @@ AccountsAreThere =
     (p : Accounts) (n : ℕ) (m : Machine) (t : ℕ) (a : Actor) (h : Holding) (x : ℕ) → Counts p n m
     → slice_get m.actors t ≡ Some a → 1 ≤ p t h x → x < row_count m.layout
 
--- The head of a thread's dying chain is 0, or the number of a row plus 1.
+-- A thread with this dying chain and this agenda doesn't deallocate the row's object: the object isn't the first one
+-- of the chain, and no duty finalises it.
+pub record IsUnfinalised (x head : ℕ) (agenda : List Duty) : Type 0 where
+  pub later : head ≢ x + 1
+  pub duties : finalised agenda x ≡ 0
+
+-- The head of a thread's dying chain is 0, or the number of a row plus 1. The thread doesn't deallocate the object that
+-- it has locked.
+pub record ChainIsThere (m : Machine) (a : Actor) : Type 0 where
+  pub head : a.head ≤ row_count m.layout
+  pub locked : (x : ℕ) → a.locked ≡ Some x → IsUnfinalised x a.head a.agenda
+
 abbrev pub ChainsAreThere : Type 0
 ChainsAreThere = (p : Accounts) (n : ℕ) (m : Machine) (t : ℕ) (a : Actor) → Counts p n m
-    → slice_get m.actors t ≡ Some a → a.head ≤ row_count m.layout
+    → slice_get m.actors t ≡ Some a → ChainIsThere m a
 
 -- A merge for a handed reference leaves that reference counted, so the object doesn't die by it.
 abbrev pub HandedMergesLive : Type 0
@@ -85,10 +96,11 @@ WorkIsTakenBack =
     → slice_get m.actors t ≡ Some a → a.agenda ≡ [] → a.aside ≡ before ++ d ∷ after
     → Counts p n (with_actor m t (working a (d ∷ []) (before ++ after)))
 
--- A ready thread begins to retain an object to which it holds a reference.
+-- A ready thread begins to retain an object to which it holds a reference, or which is an item of the list that it has
+-- locked.
 abbrev pub RetainsBegin : Type 0
 RetainsBegin = (p : Accounts) (n : ℕ) (m : Machine) (t : ℕ) (a : Actor) (x : ℕ) → Counts p n m → IsReady m t a
-    → HasNoneAbout a x → 1 ≤ p t AsCaller x → (IsCounted m.layout x → p t AsCaller x < most_lent)
+    → HasNoneAbout a x → IsAtHand (p t) m a x → (IsCounted m.layout x → p t AsCaller x < most_lent)
     → Counts (with_account p t (with_one_more (p t) AsCaller x)) n
     (with_actor m t (working a (RetainLoad x AsCaller ∷ []) a.aside))
 
@@ -107,10 +119,11 @@ BirthsBegin = (p : Accounts) (n : ℕ) (m : Machine) (t : ℕ) (a : Actor) (word
     → Counts (with_account p t (with_one_more (p t) AsCaller (row_at m.layout t a.used))) n
     (with_actor m t (working a (BirthKind (row_at m.layout t a.used) AsCaller word ∷ []) a.aside))
 
--- A ready thread begins to ask for the kind of an object to which it holds a reference.
+-- A ready thread begins to ask for the kind of an object to which it holds a reference, or which is an item of the list
+-- that it has locked.
 abbrev pub KindsAreAsked : Type 0
 KindsAreAsked = (p : Accounts) (n : ℕ) (m : Machine) (t : ℕ) (a : Actor) (x : ℕ) → Counts p n m → IsReady m t a
-    → HasNoneAbout a x → 1 ≤ p t AsCaller x
+    → HasNoneAbout a x → IsAtHand (p t) m a x
     → Counts p n (with_actor m t (working a (KindLoad x ∷ []) a.aside))
 
 -- A ready thread that has locked nothing begins to lock an object to which it holds a reference.

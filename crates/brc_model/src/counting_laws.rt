@@ -26,7 +26,8 @@ pub fn accounts_are_there()
     ensures { AccountsAreThere }
 {}
 
-/// States that the head of a thread's dying chain is 0, or the number of a row plus 1.
+/// States that the head of a thread's dying chain is 0, or the number of a row plus 1, and that the thread doesn't
+/// deallocate the object that it has locked: the object isn't the first one of the chain, and no duty finalises it.
 pub fn chains_are_there()
     ensures { ChainsAreThere }
 {}

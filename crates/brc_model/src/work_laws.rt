@@ -13,7 +13,8 @@ pub fn work_is_taken_back()
     ensures { WorkIsTakenBack }
 {}
 
-/// States that the invariant holds after a ready thread begins to retain an object to which it holds a reference.
+/// States that the invariant holds after a ready thread begins to retain an object to which it holds a reference, or
+/// which is an item of the list that it has locked.
 pub fn retains_begin()
     ensures { RetainsBegin }
 {}
@@ -29,7 +30,7 @@ pub fn births_begin()
 {}
 
 /// States that the invariant holds after a ready thread begins to ask for the kind of an object to which it holds a
-/// reference.
+/// reference, or which is an item of the list that it has locked.
 pub fn kinds_are_asked()
     ensures { KindsAreAsked }
 {}

@@ -26,7 +26,7 @@ mark_next (suc head) x = refl
 pub mark_leaves : (v : View) (x : ℕ) → work_about x v ≡ SetMark x ∷ [] → Leaves x (Look x ∷ []) v (marked v x)
 mark_leaves v x is =
     works_leave x v (marked v x) (Look x ∷ [])
-    (done_works x v (turned v x) (SetMark x ∷ []) 0 (turned_works x v) is (plain_keeps x (SetMark x) [] refl))
+    (done_works x v (turned v x) (SetMark x ∷ []) 0 (turned_works x v) is (plain_keeps (SetMark x) [] refl))
     (ap (λ (ds : List Duty). (did (turned v x) ds 0).agenda) is ∙ mark_next v.head x) (eq-eqb x x refl, tt) refl
 
 -- ---- the look
@@ -58,7 +58,7 @@ saw_next v x said is =
     ap (λ (ds : List Duty). (did (turned v x) ds said).agenda) is ∙ look_ready v.head x (said == 1)
 
 saw_works : (v : View) (x said : ℕ) → work_about x v ≡ Look x ∷ [] → WorksAt x v (done (turned v x) said)
-saw_works v x said is = done_works x v (turned v x) (Look x ∷ []) said (turned_works x v) is (plain_keeps x (Look x) []
+saw_works v x said is = done_works x v (turned v x) (Look x ∷ []) said (turned_works x v) is (plain_keeps (Look x) []
     refl)
 
 take_leaves : (v : View) (x said found : ℕ) (set : Bool) → (found == 1) ≡ set → work_about x v ≡ Look x ∷ []
@@ -67,13 +67,13 @@ take_leaves : (v : View) (x said found : ℕ) (set : Bool) → (found == 1) ≡ 
 take_leaves v x said found true one is next =
     let saw = done (turned v x) said in
     works_leave x v (done saw found) (MergeSwap x Handed ∷ [])
-    (done_works x v saw (TakeMark x ∷ []) found (saw_works v x said is) next (plain_keeps x (TakeMark x) [] refl))
+    (done_works x v saw (TakeMark x ∷ []) found (saw_works v x said is) next (plain_keeps (TakeMark x) [] refl))
     (ap (λ (ds : List Duty). (did saw ds found).agenda) next
     ∙ (take_ready saw.head x (found == 1) ∙ ap (take_list x) one)) (eq-eqb x x refl, tt) refl
 take_leaves v x said found false one is next =
     let saw = done (turned v x) said in
     works_leave x v (done saw found) []
-    (done_works x v saw (TakeMark x ∷ []) found (saw_works v x said is) next (plain_keeps x (TakeMark x) [] refl))
+    (done_works x v saw (TakeMark x ∷ []) found (saw_works v x said is) next (plain_keeps (TakeMark x) [] refl))
     (ap (λ (ds : List Duty). (did saw ds found).agenda) next
     ∙ (take_ready saw.head x (found == 1) ∙ ap (take_list x) one)) tt tt
 

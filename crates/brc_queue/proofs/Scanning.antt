@@ -4,15 +4,15 @@ use Rattle.std.specs.Prelude.{◌==◌, if◌then◌else◌}
 use Rattle.std.proofs.Math.Nat.{add-zero}
 use Rattle.brc_model.specs.declared.duty.Reason.TheVariants.{Handed}
 use Rattle.brc_model.specs.declared.duty.Duty.{Duty}
-use Rattle.brc_model.specs.declared.duty.Duty.TheVariants.{MergeSwap, Settle, Scan, Finish}
+use Rattle.brc_model.specs.declared.duty.Duty.TheVariants.{MergeSwap, Settle, Scan, Finish, ClaimMark}
 use Rattle.brc_model.specs.Layout.{row_at}
 use Rattle.brc_model.specs.Duties.{ready, claimed}
 use Rattle.brc_table.specs.declared.view.View.{View}
 use Rattle.brc_table.specs.Views.{did, done, claiming}
-use Rattle.brc_free.specs.Works.{HasWorked, claimed_left}
+use Rattle.brc_free.specs.Works.{Keeps, HasWorked, claimed_left}
 use Rattle.brc_queue.specs.Scans.{scan_left}
 use Rattle.brc_free.proofs.FirstDuties.{merge_swap_first}
-use Rattle.brc_free.proofs.Working.{worked_first, worked_on, worked_then}
+use Rattle.brc_free.proofs.Working.{keeps_beside, keeps_then, did_keeps, worked_first, worked_on, worked_then}
 
 -- ---- a claim
 
@@ -23,6 +23,17 @@ claim_none v w x found empty none is =
     ap (λ (z : View). z.agenda) is
     ∙ (ap (λ (b : Bool). ready v.head (((if b then MergeSwap x Handed ∷ [] else []) ++ Settle ∷ []) ++ [])) none
     ∙ ap (λ (head : ℕ). ready head (Settle ∷ [])) empty)
+
+-- What the step of a claim keeps.
+pub claim_keeps : (v w : View) (x found : ℕ) → w ≡ done (claiming v x) found → Keeps v w
+claim_keeps v w x found is =
+    subst (Keeps v) (sym is)
+    (keeps_then v (claiming v x) (done (claiming v x) found) (keeps_beside v (ClaimMark x ∷ []))
+    (did_keeps (claiming v x) (ClaimMark x) [] found (record {
+      status = refl;
+      used = refl;
+      off = record { locked = refl; lent = refl; cells = λ y j e. refl; gates = λ y e. refl };
+    })))
 
 -- ---- a scan
 
@@ -40,7 +51,11 @@ scanned v w i n found rest next is =
     worked_on v v w 0 (Scan i (suc n)) rest
     (claimed (row_at v.layout v.thread i) found ++ Settle ∷ Scan (i + 1) (suc n - 1) ∷ rest) found
     (worked_first v (Scan i (suc n) ∷ rest) (next ∙ sym (scan_first v.head i n rest))) (scan_first v.head i n rest) refl
-    refl is (record { status = refl; used = refl; locked = refl; lent = refl })
+    refl is (record {
+      status = refl;
+      used = refl;
+      off = record { locked = refl; lent = refl; cells = λ y j e. refl; gates = λ y e. refl };
+    })
     (behind_claim (row_at v.layout v.thread i) (found == 1)) where
       behind_claim : (x : ℕ) (b : Bool)
           → ((if b then MergeSwap x Handed ∷ [] else []) ++ Settle ∷ Scan (i + 1) (suc n - 1) ∷ []) ++ rest

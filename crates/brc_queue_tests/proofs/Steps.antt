@@ -53,10 +53,10 @@ comes has = AtOnce has.status has.aside has.agenda
 
 -- and then has nothing to do again.
 pub settled : {heap : TableState} {before after : HandState} {rows : List ℕ} {n : ℕ} → HasWork heap before rows []
-    → after.table ≡ before.table → HasWorked before.view n [] after.view → after.carried ≡ before.carried
+    → IsOf heap after → HasWorked before.view n [] after.view → after.carried ≡ before.carried
     → HasWork heap after rows []
 settled {heap} {before} {after} has table stands same = record {
-  table = (table ∙ has.table.0, stands.keeps.layout ∙ has.table.1);
+  table = table;
   layout = stands.keeps.layout ∙ has.layout;
   status = stands.keeps.status ∙ has.status;
   agenda = stands.agenda;

@@ -73,6 +73,7 @@ rows_there law chains layout words views id v stands here =
     let m = stands.machine in
     let told = stands.told id v here in
     let found = stands.acts id v here in
+    let chain = chains stands.accounts (1 + m.layout.workers) m v.thread (actor_of v) stands.counts found in
     let rows : (x : ℕ) → x < row_count m.layout → x < row_count v.layout =
     λ x low. subst (λ (l : Layout). x < row_count l) (sym told) low in
     record {
@@ -97,14 +98,13 @@ rows_there law chains layout words views id v stands here =
       aside = λ x is.
           rows x (small_there (row_count m.layout) v.aside x
           (stands.counts.ranges.aside v.thread (actor_of v) found) is);
-      head =
-          subst (λ (l : Layout). v.head ≤ row_count l) (sym told)
-          (chains stands.accounts (1 + m.layout.workers) m v.thread (actor_of v) stands.counts found);
+      head = subst (λ (l : Layout). v.head ≤ row_count l) (sym told) chain.head;
       cells = few_named (row_count m.layout) v.agenda (stands.counts.ranges.each v.thread (actor_of v) found);
       locked = λ x e.
           let lock = (stands.counts.kept.core.each v.thread (actor_of v) found).0.locks x e in
           rows x (law stands.accounts (1 + m.layout.workers) m v.thread (actor_of v) lock.by x stands.counts found
           (omega (arith, lock.held_so)));
+      unfinalised = chain.locked;
       kinds = λ x word seen. elim (cases_lt 0 word) [
         | inl more ↦
             subst (λ (w : ℕ). cells_of w ≤ cell_limit) (stands.kinds_seen id x word v here more seen)

@@ -1,6 +1,6 @@
 -- Changes of a hand's view at which no word changes: the hand turns to other work, or it begins a retain, a release or
 -- a birth. First it puts its next duty aside, which may wait.
-use Rattle.std.proofs.Common.{◌≡◌, ◌⊎◌, ℕ, ◌+◌, ◌<◌, ◌≤◌, true, Option, List, [], ◌∷◌, ◌++◌, length, set, inl, inr, refl, sym, ap, ◌∙◌, subst, arith}
+use Rattle.std.proofs.Common.{◌≡◌, ◌⊎◌, ℕ, suc, ◌+◌, ◌<◌, ◌≤◌, true, Option, List, [], ◌∷◌, ◌++◌, length, set, inl, inr, refl, sym, ap, ◌∙◌, subst, arith}
 use Rattle.std.specs.Prelude.{◌==◌, not, count_by}
 use Rattle.std.specs.List.{filter}
 use Rattle.std.proofs.lemmas.Bool.{cases_Bool, eq-eqb}
@@ -24,12 +24,12 @@ use Rattle.brc_model.specs.Machine.{Machine, has_room, with_actor, with_moves}
 use Rattle.brc_model.specs.Accounts.{Account, Accounts, HoldsNone}
 use Rattle.brc_model.specs.OpenWork.{is_about}
 use Rattle.brc_model.specs.declared.address.Address.TheVariants.{Slot}
-use Rattle.brc_model.specs.Counting.{Counts, with_account, with_one_more, with_one_less, working, IsReady, HasNoneAbout}
+use Rattle.brc_model.specs.Counting.{Counts, with_account, with_one_more, with_one_less, working, IsReady, HasNoneAbout, IsAtHand}
 use Rattle.brc_model.specs.CountingLaws.{WorkIsPutAside, WorkIsTakenBack, RetainsBegin, ReleasesBegin, BirthsBegin, ImmortalsAreFree}
 use Rattle.brc_table.specs.declared.view.View.{View}
 use Rattle.brc_table.specs.Views.{actor_of, open_work, turned, with_reference, without_reference, retaining, releasing, next_row, bearing}
 use Rattle.brc_table.specs.Rule.{Stands}
-use Rattle.brc_table.specs.Hands.{most_references, HoldsOne, KeepsLock, HasNoWork, MayWait, IsRunning}
+use Rattle.brc_table.specs.Hands.{most_references, HoldsOne, MayUse, KeepsLock, HasNoWork, MayWait, IsRunning}
 use Rattle.brc_table.specs.Begins.{Passes, Becomes}
 use Rattle.brc_table.proofs.Lists.{set_view}
 use Rattle.brc_table.proofs.Accounts.{with_account_same, with_account_other, with_account_itself, one_more_else, immortal_apart, count_with_reference, count_without_reference}
@@ -237,6 +237,7 @@ gains_one law layout words views id v x rests immortal =
         reads = old.reads;
         acts = old.acts;
         told = old.told;
+        named = old.named;
         kinds_seen = old.kinds_seen;
         cells_seen = old.cells_seen;
         holding = λ other w y is counted.
@@ -283,26 +284,62 @@ pub with_one : {layout : Layout} {words : List ℕ} {views after : List View} {t
     → Passes layout words after taken locked one.stands.machine → Passes layout words after taken locked before
 with_one {before = before} one next = passes_on before one.stands.machine (λ y which. one.slots y) next
 
+-- ---- borrowed items
+
+-- The rule holds with accounts in which the thread has a reference to the object, or the object is an item of the list
+-- that the thread has locked.
+pub record HasAtHand (layout : Layout) (words : List ℕ) (views : List View) (v : View) (x : ℕ) (before : Machine)
+    : Type 0 where
+  pub stands : Stands layout words views
+  pub slots : (y : ℕ) → stands.machine.memory (Slot y) ≡ before.memory (Slot y)
+  pub at_hand : IsAtHand (stands.accounts v.thread) stands.machine (actor_of (rested v)) x
+
+-- If the hand may use the object, the rule holds so. What the hand has seen in a cell of its locked list is still there.
+pub has_at_hand : ImmortalsAreFree → (layout : Layout) (words : List ℕ) (views : List View) (id : ℕ) (v : View) (x : ℕ)
+    → (rests : Rests layout words views id v x) → MayUse v x
+    → HasAtHand layout words views v x rests.stands.machine
+has_at_hand law layout words views id v x rests (inl holding) =
+    let one = has_one law layout words views id v x rests holding in
+    record { stands = one.stands; slots = one.slots; at_hand = inl one.more }
+has_at_hand law layout words views id v x rests (inr borrowed) =
+    let old = rests.stands in
+    let list = borrowed.list in
+    let cell = borrowed.cell in
+    let word = old.cells_seen id list cell (suc x) (rested v) rests.here borrowed.locked borrowed.seen in
+    record {
+      stands = old;
+      slots = λ y. refl;
+      at_hand =
+          inr (record { list = list; cell = cell; locked = borrowed.locked; word = omega (arith, word) });
+    }
+
+-- What is passed on from there is passed on.
+pub with_at_hand : {layout : Layout} {words : List ℕ} {views after : List View} {v : View} {x : ℕ} {before : Machine}
+    {taken : List ℕ} {locked : Option ℕ} (usable : HasAtHand layout words views v x before)
+    → Passes layout words after taken locked usable.stands.machine → Passes layout words after taken locked before
+with_at_hand {before = before} usable next =
+    passes_on before usable.stands.machine (λ y which. usable.slots y) next
+
 -- ---- new work
 
--- A hand begins to retain an object that it holds.
+-- A hand begins to retain an object that it may use.
 pub retaining_becomes : WorkIsPutAside → RetainsBegin → ImmortalsAreFree → (layout : Layout) (v : View) (x : ℕ)
-    → IsRunning v → HasNoWork v x → HoldsOne v x → length v.references < most_references
+    → IsRunning v → HasNoWork v x → MayUse v x → length v.references < most_references
     → Becomes layout v (retaining v x)
-retaining_becomes put law free layout v x running none holding few =
+retaining_becomes put law free layout v x running none may few =
     then_begins put layout v (retaining v x) running.1 (refl, (λ y locks. refl), refl)
     (λ words views id stands here.
-    let one =
-    has_one free layout words views id v x
-    (record { stands = stands; here = here; running = running.0; free = none }) holding in
-    let s = one.stands in
+    let usable =
+    has_at_hand free layout words views id v x
+    (record { stands = stands; here = here; running = running.0; free = none }) may in
+    let s = usable.stands in
     let t = v.thread in
     let told = s.told id (rested v) here in
-    with_one one
+    with_at_hand usable
     (begun layout words views id (rested v) s here (RetainLoad x AsCaller ∷ []) (open_work v)
     (with_reference v.layout x v.references) v.in_slot (with_one_more (s.accounts t) AsCaller x)
     (law s.accounts (1 + s.machine.layout.workers) s.machine t (actor_of (rested v)) x s.counts
-    (is_ready layout words views id v s here running.0) (alone v x none) one.more
+    (is_ready layout words views id v s here running.0) (alone v x none) usable.at_hand
     (λ counted. omega (
       arith,
       s.holding id (rested v) x here counted,

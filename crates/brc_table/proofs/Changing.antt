@@ -1,5 +1,5 @@
 -- One hand's view changes, and with it the machine, so that the rule holds again.
-use Rattle.std.proofs.Common.{◌≡◌, ◌≢◌, ℕ, ◌+◌, ◌<◌, true, List, length, set, Option, Some, ◌⊎◌, ⊎_elim, refl, sym, ap, ◌∙◌, subst}
+use Rattle.std.proofs.Common.{◌≡◌, ◌≢◌, ℕ, ◌+◌, ◌<◌, true, List, length, set, Option, Some, ◌⊎◌, ⊎_elim, refl, sym, ap, ◌∙◌, subst, arith}
 use Rattle.std.specs.Prelude.{slice_get, slice_index}
 use Rattle.std.proofs.lemmas.Option.{slice_get_within}
 use mathlib.Core.Option.{some, some-injective}
@@ -9,7 +9,8 @@ use Rattle.brc_model.specs.declared.duty.Holding.TheVariants.{ByVariable, AsCall
 use Rattle.brc_model.specs.declared.address.Address.{Address}
 use Rattle.brc_model.specs.declared.address.Address.TheVariants.{KindOf, Cell, Slot}
 use Rattle.brc_model.specs.declared.layout.Layout.{Layout}
-use Rattle.brc_model.specs.Layout.{IsCounted}
+use Rattle.brc_word.specs.Words.{half}
+use Rattle.brc_model.specs.Layout.{none_row, IsCounted}
 use Rattle.brc_model.specs.Machine.{Actor, Machine, idle_actor}
 use Rattle.brc_model.specs.Accounts.{Account, Accounts, HoldsNone}
 use Rattle.brc_model.specs.Counting.{Counts, IsPlainLayout}
@@ -172,6 +173,7 @@ module _ (layout : Layout) (words : List ℕ) (views : List View) (id : ℕ) (v 
     reads = new.reads;
     acts = acts_after;
     told = told_after;
+    named = new.kinds_stay none_row half (omega arith) old.named;
     kinds_seen = kinds_after;
     cells_seen = cells_after;
     holding = holding_after;

@@ -25,7 +25,7 @@ use Rattle.brc_table.specs.Seen.{has_seen_kind}
 use Rattle.brc_table.specs.Uses.{IsDue}
 use Rattle.brc_model.specs.declared.duty.Holding.{Holding}
 use Rattle.brc_table.specs.Views.{RowsAreThere, slot_filled_by, done, did, work_about, retaining, releasing, bearing, next_row}
-use Rattle.brc_table.specs.Hands.{HoldsOne}
+use Rattle.brc_table.specs.Hands.{HoldsOne, MayUse}
 use Rattle.brc_table.specs.Begins.{IsQuiet, Makes, MakesQuietly, StoresWord, StoresWithSlot, KeepsThread}
 use Rattle.brc_table.specs.Plays.{overwritten_by}
 use Rattle.brc_table.specs.Calls.{ReleasesItem, LoadsShared, SwapsLocal, StoresLocal, AddsShared, ExchangesShared, ChainsRow, OwnsFirst}
@@ -40,6 +40,11 @@ runs_on v runs gone = let wrong : Running ≡ Gone = sym runs ∙ gone in absurd
 pub held_there : (v : View) (x : ℕ) → IsPlainLayout v.layout → RowsAreThere v → HoldsOne v x → x < row_count v.layout
 held_there v x plain rows (inl immortal) = immortal_there v.layout x plain immortal
 held_there v x plain rows (inr held) = rows.held x held
+
+-- An object that the hand may use has a row.
+pub usable_there : (v : View) (x : ℕ) → IsPlainLayout v.layout → RowsAreThere v → MayUse v x → x < row_count v.layout
+usable_there v x plain rows (inl holding) = held_there v x plain rows holding
+usable_there v x plain rows (inr borrowed) = borrowed.there
 
 -- ---- words
 

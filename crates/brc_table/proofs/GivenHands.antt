@@ -19,6 +19,7 @@ giving_there v t rows = record {
   head = rows.head;
   cells = rows.cells;
   locked = rows.locked;
+  unfinalised = rows.unfinalised;
   kinds = rows.kinds;
 }
 

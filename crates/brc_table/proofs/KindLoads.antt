@@ -1,4 +1,4 @@
--- A hand asks for the kind of an object that it holds.
+-- A hand asks for the kind of an object that it may use.
 use Rattle.std.proofs.Common.{◌≡◌, ℕ, ◌+◌, ◌<◌, Option, [], ◌∷◌, refl, sym, ap, ◌∙◌, subst}
 use Rattle.std.specs.Prelude.{slice_index}
 use Rattle.atomic_table.specs.Table.{State, Me, Allows}
@@ -16,27 +16,27 @@ use Rattle.brc_table.specs.Places.{in_tile}
 use Rattle.brc_table.specs.Views.{actor_of, open_work, asking}
 use Rattle.brc_table.specs.Homes.{TableStands}
 use Rattle.brc_table.specs.Plays.{Asks}
-use Rattle.brc_table.specs.Hands.{TableState, HandState, HoldsOne, HasNoWork, IsRunning}
+use Rattle.brc_table.specs.Hands.{TableState, HandState, MayUse, HasNoWork, IsRunning}
 use Rattle.brc_table.specs.Begins.{Becomes, MakesQuietly, MakesWithoutSlot}
 use Rattle.brc_table.proofs.Allowed.{Seen, step_allowed}
-use Rattle.brc_table.proofs.Becoming.{then_begins, rested, rearranged, is_ready, alone, has_one, with_one}
+use Rattle.brc_table.proofs.Becoming.{then_begins, rested, rearranged, is_ready, alone, has_at_hand, with_at_hand}
 use Rattle.brc_table.proofs.Duties.{runs_on}
 use Rattle.brc_table.proofs.LockedSlots.{slot_full}
 
--- A hand begins to ask for the kind of an object that it holds.
+-- A hand begins to ask for the kind of an object that it may use.
 pub asking_becomes : WorkIsPutAside → KindsAreAsked → ImmortalsAreFree → (layout : Layout) (v : View) (x : ℕ)
-    → IsRunning v → HasNoWork v x → HoldsOne v x → Becomes layout v (asking v x)
-asking_becomes put law free layout v x running none holding =
+    → IsRunning v → HasNoWork v x → MayUse v x → Becomes layout v (asking v x)
+asking_becomes put law free layout v x running none may =
     then_begins put layout v (asking v x) running.1 (refl, (λ y locks. refl), refl)
     (λ words views id stands here.
-    let one =
-    has_one free layout words views id v x
-    (record { stands = stands; here = here; running = running.0; free = none }) holding in
-    let s = one.stands in
-    with_one one
+    let usable =
+    has_at_hand free layout words views id v x
+    (record { stands = stands; here = here; running = running.0; free = none }) may in
+    let s = usable.stands in
+    with_at_hand usable
     (rearranged layout words views id (rested v) s here (KindLoad x ∷ []) (open_work v)
     (law s.accounts (1 + s.machine.layout.workers) s.machine v.thread (actor_of (rested v)) x s.counts
-    (is_ready layout words views id v s here running.0) (alone v x none) one.more)))
+    (is_ready layout words views id v s here running.0) (alone v x none) usable.at_hand)))
 
 -- Its first duty then is to load the object's kind word.
 pub asking_makes : (v : View) (x : ℕ) → v.status ≡ Running → MakesQuietly (asking v x) (in_tile 3 x) (λ found. found)
@@ -53,7 +53,7 @@ asking_makes v x runs = record {
 module _ (kept : DutiesAreKept) (within : DutiesAreWithin) (law : AccountsAreThere) (chains : ChainsAreThere)
     (stay : LockedCellsStay) (live : HandedMergesLive) (put : WorkIsPutAside) (asked : KindsAreAsked)
     (free : ImmortalsAreFree) (full : LockedSlotsAreFull) (words : TableState) (hand : HandState) (x : ℕ)
-    (running : IsRunning hand.view) (none : HasNoWork hand.view x) (holding : HoldsOne hand.view x)
+    (running : IsRunning hand.view) (none : HasNoWork hand.view x) (may : MayUse hand.view x)
     (there : x < row_count words.layout) where
   -- The step is allowed, and tells what the slot of the locked object has.
   pub asks_allowed : {T : Type 0} (layout : Layout) (slots id index : ℕ) (me : Me (Option T) View)
@@ -64,7 +64,7 @@ module _ (kept : DutiesAreKept) (within : DutiesAreWithin) (law : AccountsAreThe
       let makes = asking_makes hand.view x running.0 in
       let goes =
       step_allowed kept within law chains stay live words hand (λ v. asking v x) layout slots id index me seen
-      (asking_becomes put asked free words.layout hand.view x running none holding) (λ found. found)
+      (asking_becomes put asked free words.layout hand.view x running none may) (λ found. found)
       (subst (λ (i : ℕ). MakesWithoutSlot (asking hand.view x) i (λ found. found)) (sym at)
       (record { makes = makes.makes; slots = makes.quiet.slots })) s holds homes here below in
       let low = subst (λ (l : Layout). x < row_count l) (sym (holds.stands.layout_is ∙ seen.layout_is)) there in
@@ -77,5 +77,6 @@ module _ (kept : DutiesAreKept) (within : DutiesAreWithin) (law : AccountsAreThe
           goes.4,
           λ locked unlent.
               slot_full full layout s.words s.homes s.views holds id x me.0 here locked unlent ∙ ap resources_of word,
+          λ is. sym word ∙ (ap (λ (y : ℕ). holds.stands.machine.memory (KindOf y)) is ∙ holds.stands.named),
         ),
       )

@@ -11,8 +11,8 @@ mod ThreadsAllowed
 mod SlotLists
 mod SlotsTaken
 mod SlotsGiven
-mod Picked
-mod Accounts
+pub mod Picked
+pub mod Accounts
 mod Passing
 mod Becoming
 mod Silent

@@ -35,6 +35,7 @@ main_rows layout plain = record {
   head = omega arith;
   cells = tt;
   locked = λ x e. absurd cc;
+  unfinalised = λ x e. absurd cc;
   kinds = λ x word seen. absurd (false≢true seen);
 }
 
@@ -50,6 +51,7 @@ worker_rows layout thread some known = record {
   head = omega arith;
   cells = tt;
   locked = λ x e. absurd cc;
+  unfinalised = λ x e. absurd cc;
   kinds = λ x word seen. absurd (false≢true seen);
 }
 

@@ -1,15 +1,16 @@
 -- What contracts see of a table and of a hand.
-use Rattle.std.specs.Prelude.{◌≡◌, ℕ, ◌≤◌, ◌^◌, ◌%◌, ◌⊎◌, true, Option, None, Some, List, [], ◌∷◌, slice_index_or, count_by}
+use Rattle.std.specs.Prelude.{◌≡◌, ℕ, suc, ◌<◌, ◌≤◌, ◌^◌, ◌%◌, ◌⊎◌, true, Option, None, Some, List, [], ◌∷◌, slice_index_or, count_by}
 use Rattle.atomic_table.specs.Seated.{TableId}
 use Rattle.brc_model.specs.declared.actor.Status.TheVariants.{Running}
 use Rattle.brc_model.specs.declared.duty.Duty.{Duty}
 use Rattle.brc_model.specs.declared.layout.Layout.{Layout}
-use Rattle.brc_model.specs.Layout.{is_immortal_row}
+use Rattle.brc_model.specs.Layout.{row_count, is_immortal_row}
 use Rattle.brc_model.specs.Limits.{row_limit}
 use Rattle.brc_model.specs.OpenWork.{may_wait}
 use Rattle.brc_table.specs.declared.view.View.{View}
 use Rattle.brc_model.specs.Knowledge.{is_retain}
 use Rattle.brc_table.specs.Views.{holds, work_about, open_work}
+use Rattle.brc_table.specs.Seen.{cell_seen}
 
 -- A table, as contracts see it: which one it is, and its size.
 pub record TableState : Type 0 where
@@ -45,6 +46,19 @@ most_references = 2 ^ 32
 -- The hand holds a reference to the object. Every hand counts as holding immortal objects.
 abbrev pub HoldsOne : View → ℕ → Type 0
 HoldsOne v x = (is_immortal_row v.layout x ≡ true) ⊎ (1 ≤ holds v x)
+
+-- The hand borrows the object from the list that it has locked: since it locked the list, it has seen the object in a
+-- cell. (Python/C API manual, List Objects: `PyList_GetItem` returns a borrowed reference.)
+pub record Borrows (v : View) (x : ℕ) : Type 0 where
+  pub list : ℕ
+  pub cell : ℕ
+  pub locked : v.locked ≡ Some list
+  pub seen : cell_seen list cell v ≡ Some (suc x)
+  pub there : x < row_count v.layout
+
+-- The hand may use the object: it holds a reference to it, or it borrows it.
+abbrev pub MayUse : View → ℕ → Type 0
+MayUse v x = HoldsOne v x ⊎ Borrows v x
 
 -- The hand keeps a reference to the object if it has locked it: it holds a second one.
 abbrev pub KeepsLock : View → ℕ → Type 0

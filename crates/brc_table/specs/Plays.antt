@@ -7,10 +7,10 @@ use Rattle.brc_model.specs.declared.duty.Duty.TheVariants.{RetainStore, ReleaseS
 use Rattle.brc_model.specs.declared.actor.Status.TheVariants.{Running, Leaving}
 use Rattle.brc_model.specs.Duties.{resources_of}
 use Rattle.brc_model.specs.Knowledge.{status_word}
-use Rattle.brc_model.specs.Layout.{row_count}
+use Rattle.brc_model.specs.Layout.{none_row, row_count}
 use Rattle.brc_model.specs.Machine.{is_running}
 use Rattle.brc_model.specs.Within.{Suits, FindsOwner}
-use Rattle.brc_word.specs.Words.{free_word, locked_word, merged_word, dead_word}
+use Rattle.brc_word.specs.Words.{half, free_word, locked_word, merged_word, dead_word}
 use Rattle.brc_table.specs.declared.view.View.{View}
 use Rattle.brc_table.specs.Views.{done, asking, RowsAreThere}
 use Rattle.brc_table.specs.Seen.{has_seen_kind, cell_seen}
@@ -56,11 +56,13 @@ Continues begins me found after =
     × FindsKnown (begins me.0) (begins me.0).agenda found × (after.0.taken ≡ me.0.taken)
 
 -- The same of a hand that asks for the kind of the row's object. If it has locked the object, and has lent no resource,
--- the object's slot had as many resources as the kind word says, when the hand took it.
+-- the object's slot had as many resources as the kind word says, when the hand took it. None's kind word says that it is
+-- none.
 abbrev pub Asks : {S : Type 0} → ℕ → Me S View → ℕ → Me S View → Type 0
 Asks x me found after =
     Continues (λ v. asking v x) me found after
     × (me.0.locked ≡ Some x → me.0.lent ≡ None → me.0.in_slot ≡ resources_of found)
+    × (x ≡ none_row → found ≡ half)
 
 -- The same of a store, which knows the value that it overwrites.
 abbrev pub Stores : {S : Type 0} → (View → View) → Me S View → Me S View → Type 0

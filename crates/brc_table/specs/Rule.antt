@@ -6,7 +6,8 @@ use Rattle.brc_model.specs.declared.duty.Holding.TheVariants.{ByVariable, AsCall
 use Rattle.brc_model.specs.declared.address.Address.{Address}
 use Rattle.brc_model.specs.declared.address.Address.TheVariants.{KindOf, Cell, ThreadWord}
 use Rattle.brc_model.specs.declared.layout.Layout.{Layout}
-use Rattle.brc_model.specs.Layout.{IsCounted}
+use Rattle.brc_word.specs.Words.{half}
+use Rattle.brc_model.specs.Layout.{none_row, IsCounted}
 use Rattle.brc_model.specs.Machine.{Machine, idle_actor}
 use Rattle.brc_model.specs.Accounts.{Accounts, HoldsNone}
 use Rattle.brc_model.specs.Counting.{Counts, IsPlainLayout}
@@ -41,6 +42,8 @@ pub record Stands (layout : Layout) (words : List ℕ) (views : List View) : Typ
   -- the references to counted objects are those that the view lists
   pub holding : (id : ℕ) (v : View) (x : ℕ) → get_elem? views id ≡ some v → IsCounted machine.layout x
       → accounts v.thread AsCaller x ≡ holds v x
+  -- none's kind word is the one that it has from the start
+  pub named : machine.memory (KindOf none_row) ≡ half
   -- a kind word that a hand has seen is still there
   pub kinds_seen : (id x word : ℕ) (v : View) → get_elem? views id ≡ some v → 0 < word
       → has_seen_kind x word v ≡ true → machine.memory (KindOf x) ≡ word

@@ -11,6 +11,7 @@ use Rattle.brc_model.specs.Duties.{address_of, new_word, continuation, new_head,
 use Rattle.brc_model.specs.Machine.{Actor, is_running, status_by, used_by, locked_by, lent_by}
 use Rattle.brc_model.specs.OpenWork.{is_about}
 use Rattle.brc_model.specs.Limits.{cell_limit}
+use Rattle.brc_model.specs.CountingLaws.{IsUnfinalised}
 use Rattle.brc_model.specs.SlotLaws.{SlotUse, Stays, Takes, Gives, use_of}
 use Rattle.brc_model.specs.Ranges.{cells_named}
 use Rattle.brc_table.specs.declared.view.View.{View}
@@ -38,8 +39,8 @@ NamesFewCells [] = Unit {0}
 NamesFewCells (d ∷ rest) = cells_named d ≤ cell_limit
 
 -- The hand's thread is main or a worker, and the objects to which the hand holds references, those of its duties, the
--- one that it has locked and the first one of its chain have rows. No kind word that it has seen names more cells than
--- a list has.
+-- one that it has locked and the first one of its chain have rows. The hand doesn't deallocate the object that it has
+-- locked. No kind word that it has seen names more cells than a list has.
 pub record RowsAreThere (v : View) : Type 0 where
   pub thread : v.thread ≤ v.layout.workers
   pub used : v.used ≤ block_size v.layout v.thread
@@ -50,6 +51,7 @@ pub record RowsAreThere (v : View) : Type 0 where
   pub head : v.head ≤ row_count v.layout
   pub cells : NamesFewCells v.agenda
   pub locked : (x : ℕ) → v.locked ≡ Some x → x < row_count v.layout
+  pub unfinalised : (x : ℕ) → v.locked ≡ Some x → IsUnfinalised x v.head v.agenda
   pub kinds : (x word : ℕ) → has_seen_kind x word v ≡ true → cells_of word ≤ cell_limit
 
 -- how many references the hand holds to the object

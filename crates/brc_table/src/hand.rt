@@ -118,7 +118,8 @@ impl<T> Hand<T> {
         let _opened = self.thread;
     }
 
-    /// States that the objects to which the hand holds references, and those of its duties, have rows.
+    /// States that the objects to which the hand holds references, and those of its duties, have rows, and that the
+    /// hand doesn't deallocate the object that it has locked.
     pub fn rows_are_there(&self)
         ensures { RowsAreThere self.now.view }
     {

@@ -1,12 +1,13 @@
-//! The step by which a hand asks for the kind of an object that it holds (Python/C API manual, Common Object
+//! The step by which a hand asks for the kind of an object that it may use (Python/C API manual, Common Object
 //! Structures: `Py_IS_TYPE`).
 
 ghost use Rattle.std.specs.Prelude.{◌≡◌, ◌<◌, ℕ, true, None, Some};
 ghost use Rattle.brc_model.specs.Duties.{resources_of};
-ghost use Rattle.brc_model.specs.Layout.{row_count};
+ghost use Rattle.brc_word.specs.Words.{half};
+ghost use Rattle.brc_model.specs.Layout.{none_row, row_count};
 ghost use Rattle.brc_table.specs.Views.{done, asking};
 ghost use Rattle.brc_table.specs.Seen.{has_seen_kind};
-ghost use Rattle.brc_table.specs.Hands.{IsOf, IsRunning, HoldsOne, HasNoWork};
+ghost use Rattle.brc_table.specs.Hands.{IsOf, IsRunning, MayUse, HasNoWork};
 
 use crate::hand::Hand;
 use crate::place::{KIND, in_line};
@@ -20,13 +21,13 @@ use brc_model::{
 use std::marker::Brand;
 
 impl<T: Drop> Words<T> {
-    /// Asks for the kind of an object that the hand holds: loads its kind word, which its birth stored. The word is the
-    /// one that the hand has seen there before, if it has. If the hand has locked the object, and has lent no resource,
-    /// the kind tells whether the object's slot has one.
+    /// Asks for the kind of an object that the hand holds, or borrows from the list that it has locked: loads its kind
+    /// word, which its birth stored. The word is the one that the hand has seen there before, if it has. If the hand has
+    /// locked the object, and has lent no resource, the kind tells whether the object's slot has one.
     pub fn kind_load(&self, hand: &mut Hand<T>, row: u32) -> u64
         requires table { IsOf self.now hand.old }
         requires running { IsRunning hand.old.view }
-        requires held { HoldsOne hand.old.view row }
+        requires usable { MayUse hand.old.view row }
         requires idle { HasNoWork hand.old.view row }
         ensures table { hand.new.table ≡ hand.old.table }
         ensures carried { hand.new.carried ≡ hand.old.carried }
@@ -35,6 +36,7 @@ impl<T: Drop> Words<T> {
         ensures stays { (word : ℕ) → 0 < word → has_seen_kind row word hand.old.view ≡ true → result ≡ word }
         ensures slot { hand.old.view.locked ≡ Some row → hand.old.view.lent ≡ None
             → hand.old.view.in_slot ≡ resources_of result }
+        ensures named { row ≡ none_row → result ≡ half }
     {
         self.layout_is_plain();
         hand.rows_are_there();
@@ -46,7 +48,7 @@ impl<T: Drop> Words<T> {
         requires row { row ≡ R.target }
         requires table { IsOf self.now hand.old }
         requires running { IsRunning hand.old.view }
-        requires held { HoldsOne hand.old.view row }
+        requires usable { MayUse hand.old.view row }
         requires idle { HasNoWork hand.old.view row }
         requires there { row < row_count self.now.layout }
         ensures table { hand.new.table ≡ hand.old.table }
@@ -56,6 +58,7 @@ impl<T: Drop> Words<T> {
         ensures stays { (word : ℕ) → 0 < word → has_seen_kind row word hand.old.view ≡ true → result ≡ word }
         ensures slot { hand.old.view.locked ≡ Some row → hand.old.view.lent ≡ None
             → hand.old.view.in_slot ≡ resources_of result }
+        ensures named { row ≡ none_row → result ≡ half }
     {
         work_is_put_aside();
         kinds_are_asked();

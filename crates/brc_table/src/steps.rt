@@ -9,7 +9,7 @@ ghost use Rattle.brc_model.specs.Within.{OwnerFits};
 ghost use Rattle.brc_word.specs.Words.{owner_part, local_part};
 ghost use Rattle.brc_table.specs.Views.{done, turned, work_about, retaining, releasing};
 ghost use Rattle.brc_table.specs.Plays.{SuitsFirst, FindsKnown, overwritten};
-ghost use Rattle.brc_table.specs.Hands.{IsOf, IsRunning, HoldsOne, KeepsLock, HasNoWork, most_references};
+ghost use Rattle.brc_table.specs.Hands.{IsOf, IsRunning, HoldsOne, MayUse, KeepsLock, HasNoWork, most_references};
 ghost use Rattle.brc_table.specs.Calls.{CanAct, LoadsShared, SwapsLocal, StoresLocal, AddsShared, ExchangesShared};
 
 use crate::hand::Hand;
@@ -27,11 +27,12 @@ const NOBODY: u64 = 0;
 const ONE_REFERENCE: u64 = 4;
 
 impl<T: Drop> Words<T> {
-    /// Begins to retain an object: loads its local word.
+    /// Begins to retain an object that the hand holds, or borrows from the list that it has locked: loads its local
+    /// word.
     pub fn retain_load(&self, hand: &mut Hand<T>, row: u32) -> u64
         requires table { IsOf self.now hand.old }
         requires running { IsRunning hand.old.view }
-        requires held { HoldsOne hand.old.view row }
+        requires usable { MayUse hand.old.view row }
         requires idle { HasNoWork hand.old.view row }
         requires few { length hand.old.view.references < most_references }
         ensures table { hand.new.table ≡ hand.old.table }

@@ -69,7 +69,7 @@ true_put words s rows x slot row in_slots in_rows new old v =
 pub empty_true : (words : ℕ → ℕ) (row : Option ℕ) → HasTrueKind words Empty row
 empty_true words row x is = inl refl
 
-numbered_kind : (kind : Kind) → kind_numbered (kind_number kind) ≡ kind
+pub numbered_kind : (kind : Kind) → kind_numbered (kind_number kind) ≡ kind
 numbered_kind kinds.Any = refl
 numbered_kind kinds.None = refl
 numbered_kind kinds.Num = refl

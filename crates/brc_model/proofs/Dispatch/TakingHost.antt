@@ -68,7 +68,7 @@ numbered_resource n can =
     ] refl
 
 -- If the checker knows that an object is a file or a socket, its kind word says that it has a resource.
-resource_word : (kind : Kind) (word : ℕ) → IsTrueKind kind word → is_one_of kind with_resource ≡ true
+pub resource_word : (kind : Kind) (word : ℕ) → IsTrueKind kind word → is_one_of kind with_resource ≡ true
     → has_resource word ≡ true
 resource_word kind word (inl any) can =
     absurd (let wrong : false ≡ true = sym (ap (λ (k : Kind). is_one_of k with_resource) any) ∙ can in cc)

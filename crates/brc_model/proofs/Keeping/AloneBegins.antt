@@ -1,37 +1,69 @@
 -- A ready thread that has put nothing aside begins what it does in one go: to settle, to claim a mark, or to leave. And
 -- a ready thread asks for an object's kind.
-use Rattle.std.proofs.Common.{◌≡◌, ℕ, Bool, cond, true, false, [], ◌∷◌, inl, refl, ap, subst, arith}
-use Rattle.std.specs.Prelude.{count_by}
-use Rattle.std.proofs.lemmas.Bool.{false≢true}
+use Rattle.std.proofs.Common.{◌≡◌, ℕ, ◌+◌, ◌<◌, Bool, cond, true, false, List, [], ◌∷◌, inl, refl, ap, subst, arith}
+use Rattle.std.specs.Prelude.{◌==◌, count_by}
+use Rattle.std.proofs.lemmas.Bool.{eq-eqb, false≢true}
+use Rattle.std.proofs.lemmas.List.Sums.{sum_by-cons}
 use Rattle.brc_model.specs.declared.duty.Holding.{Holding}
-use Rattle.brc_model.specs.declared.duty.Holding.TheVariants.{AsCaller}
 use Rattle.brc_model.specs.declared.duty.Duty.{Duty}
 use Rattle.brc_model.specs.declared.duty.Duty.TheVariants.{Settle, Leave, ClaimMark, KindLoad}
 use Rattle.brc_model.specs.declared.actor.Status.TheVariants.{Running}
 use Rattle.brc_model.specs.Layout.{row_count}
-use Rattle.brc_model.specs.Machine.{Actor, Machine, with_actor}
+use Rattle.brc_model.specs.declared.address.Address.{Address}
+use Rattle.brc_model.specs.Machine.{Actor, Life, Machine, with_actor}
 use Rattle.brc_model.specs.References.{one_if}
 use Rattle.brc_model.specs.RowInvariant.{waits, carries, merges, decides}
 use Rattle.brc_model.specs.Accounts.{Account, Accounts, lacks, extra, HoldsNone}
-use Rattle.brc_model.specs.Knowledge.{ByReference, HeadFits}
-use Rattle.brc_model.specs.OpenWork.{is_about, is_finalising, has_leave, Agenda, IsSettled}
+use Rattle.brc_model.specs.Knowledge.{HeadFits}
+use Rattle.brc_model.specs.OpenWork.{Linked, dies_by, is_about, is_finalising, has_leave, Agenda, IsSettled}
 use Rattle.brc_model.specs.Gates.{LocksFit}
 use Rattle.brc_model.specs.Invariant.{looks, Invariant}
 use Rattle.brc_model.specs.Ranges.{IsSmall}
 use Rattle.brc_model.specs.Counting.{Counts, working, IsReady}
 use Rattle.brc_model.specs.CountingLaws.{SettlesBegin, ClaimsBegin, ExitsBegin, KindsAreAsked, ChainsAreThere}
 use Rattle.brc_model.proofs.Basics.Bag.{one_if_low}
+use Rattle.brc_model.proofs.Frame.Leaves.{locked_alive}
 use Rattle.brc_model.proofs.Limits.Ranges.{row_small, head_small}
 use Rattle.brc_model.proofs.Keeping.Rearranging.{still_wait}
 use Rattle.brc_model.proofs.Keeping.Replaced.{with_account_itself}
 use Rattle.brc_model.proofs.Keeping.Sits.{Sits}
 use Rattle.brc_model.proofs.Keeping.Kept.{kept_sits}
 use Rattle.brc_model.proofs.Keeping.WorkAside.{working_ranges}
-use Rattle.brc_model.proofs.Keeping.WorkBegins.{ready_rests, ready_holds, none_about_held, held_row, BeginsWork, one_weight, one_makes, work_begins}
+use Rattle.brc_model.proofs.Keeping.WorkBegins.{ready_rests, ready_holds, at_hand_backed, backed_row, backed_still, BeginsWork, one_weight, one_makes, work_begins}
 
--- The head of a thread's chain is a row of the machine, plus 1, or 0.
+-- ---- chains
+
+-- The first row of a chain is one of its rows.
+first_counts : (memory : Address → ℕ) (t head x : ℕ) (chained : List ℕ) → Linked memory t head chained
+    → head ≡ x + 1 → 0 < count_by (λ y. y == x) chained
+first_counts memory t head x [] linked first = absurd (omega (arith, linked, first))
+first_counts memory t head x (y ∷ ys) linked first =
+    let same : y ≡ x = omega (arith, linked.0, first) in
+    let one : one_if (y == x) ≡ 1 = ap one_if (eq-eqb y x same) in
+    omega (arith, sum_by-cons (λ z. cond (z == x) 1 0) y ys, one)
+
+-- The head of a thread's chain is a row of the machine, plus 1, or 0. A row that the thread has locked lives, so nobody
+-- finalises it.
 pub chains_there : ChainsAreThere
-chains_there p n m t a counts found = head_small p n m t a counts.kept.core found
+chains_there p n m t a counts found =
+    let core = counts.kept.core in
+    let chain = (core.each t a found).0.chain in
+    record {
+      head = head_small p n m t a core found;
+      locked = λ x is.
+          let none : one_if (dies_by (m.life x) t) ≡ 0 =
+          ap (λ (l : Life). one_if (dies_by l t)) (locked_alive p n m t a x core found is).life in
+          record {
+            later = λ first.
+                omega (
+                  arith,
+                  first_counts m.memory t a.head x chain.chained chain.linked first,
+                  chain.once x,
+                  none,
+                );
+            duties = omega (arith, chain.once x, none);
+          };
+    }
 
 -- ---- work in one go
 
@@ -205,12 +237,13 @@ kind_load_begins x = record {
   looks = λ y. refl;
 }
 
--- The invariant and the ranges hold after a ready thread begins to ask for the kind of an object that it holds.
+-- The invariant and the ranges hold after a ready thread begins to ask for the kind of an object that it holds or may
+-- borrow.
 pub kinds_asked : KindsAreAsked
-kinds_asked p n m t a x counts ready alone some =
+kinds_asked p n m t a x counts ready alone at_hand =
     let core = counts.kept.core in
     let holds = ready_holds p n m t a core ready in
-    let in_bag = none_about_held p n m t a x AsCaller core ready alone in
+    let backed = at_hand_backed p n m t a x core ready alone at_hand in
     subst (λ (q : Accounts). Counts q n (with_actor m t (working a (KindLoad x ∷ []) a.aside))) (with_account_itself p t)
     (work_begins p n m t a x (KindLoad x) (p t) counts ready alone (record {
       begins = kind_load_begins x;
@@ -218,8 +251,7 @@ kinds_asked p n m t a x counts ready alone some =
       holds = λ k object. omega (arith, holds.each k object);
       bounded = (core.each t a ready.found).0.bounded;
       locks = same_locks (p t) m t a (KindLoad x) (core.each t a ready.found).0.locks (λ k y. refl);
-      knows = ByReference AsCaller (omega (arith, in_bag, some));
+      knows = backed_still m t a x (KindLoad x) backed;
       small =
-          row_small (row_count m.layout) x (KindLoad x) (held_row p n m t a x core ready alone some) (λ y. refl)
-          (omega arith);
+          row_small (row_count m.layout) x (KindLoad x) (backed_row p n m t a x core backed) (λ y. refl) (omega arith);
     }))

@@ -9,13 +9,13 @@ use Rattle.brc_model.specs.Limits.{cell_limit}
 use Rattle.brc_model.specs.Machine.{Actor, Machine, with_actor}
 use Rattle.brc_model.specs.References.{one_if}
 use Rattle.brc_model.specs.Accounts.{Accounts, lacks, extra}
-use Rattle.brc_model.specs.Knowledge.{IsBacked, ByReference, ByItem, HeadFits}
+use Rattle.brc_model.specs.Knowledge.{IsBacked, ByReference, HeadFits}
 use Rattle.brc_model.specs.Ranges.{cells_named}
 use Rattle.brc_model.specs.Counting.{Counts, working, IsReady, HasNoneAbout}
 use Rattle.brc_model.specs.CountingLaws.{LocksBegin, UnlocksBegin, CellLoadsBegin}
 use Rattle.brc_model.proofs.Limits.Ranges.{row_small}
 use Rattle.brc_model.proofs.Keeping.Replaced.{with_account_itself}
-use Rattle.brc_model.proofs.Keeping.WorkBegins.{ready_holds, none_about_held, held_row, BeginsWork, work_begins}
+use Rattle.brc_model.proofs.Keeping.WorkBegins.{ready_holds, none_about_held, held_row, backed_still, BeginsWork, work_begins}
 use Rattle.brc_model.proofs.Keeping.AloneBegins.{same_locks}
 
 -- ---- work that makes and gives up no reference
@@ -52,12 +52,6 @@ look_begins p n m t a x d counts ready alone some begins few knows =
       small =
           row_small (row_count m.layout) x d (held_row p n m t a x core ready alone some) begins.work.about few;
     }))
-
--- The new work leaves what keeps the object alive.
-by_same : (m : Machine) (t : ℕ) (a : Actor) (x : ℕ) (d : Duty) → IsBacked m t a x
-    → IsBacked (with_actor m t (working a (d ∷ []) a.aside)) t (working a (d ∷ []) a.aside) x
-by_same m t a x d (ByReference by some) = ByReference by some
-by_same m t a x d (ByItem list cell locked word) = ByItem list cell locked word
 
 -- ---- locks and cells
 
@@ -122,7 +116,7 @@ cell_looks x i = record {
 pub locks_begin : LocksBegin
 locks_begin p n m t a x counts ready alone counted some unlocked =
     look_begins p n m t a x (LockGate x) counts ready alone some (lock_looks x) (omega arith)
-    (λ backed. (counted, by_same m t a x (LockGate x) backed, unlocked))
+    (λ backed. (counted, backed_still m t a x (LockGate x) backed, unlocked))
 
 -- The invariant and the ranges hold after a ready thread begins to unlock the object that it has locked.
 pub unlocks_begin : UnlocksBegin
@@ -130,7 +124,7 @@ unlocks_begin p n m t a x counts ready alone some locked none lent =
     let fits = (counts.kept.core.each t a ready.found).0 in
     look_begins p n m t a x (UnlockGate x) counts ready alone some (unlock_looks x) (omega arith)
     (λ backed.
-    ((fits.locks x locked).counted, by_same m t a x (UnlockGate x) backed, locked, none, lent))
+    ((fits.locks x locked).counted, backed_still m t a x (UnlockGate x) backed, locked, none, lent))
 
 -- The invariant and the ranges hold after a ready thread begins to load a cell of the list that it has locked.
 pub cell_loads_begin : CellLoadsBegin
@@ -138,4 +132,4 @@ cell_loads_begin p n m t a x i counts ready alone some locked low =
     let fits = (counts.kept.core.each t a ready.found).0 in
     look_begins p n m t a x (CellLoad x i) counts ready alone some (cell_looks x i)
     (omega (arith, low, counts.ranges.kinds x))
-    (λ backed. ((fits.locks x locked).counted, by_same m t a x (CellLoad x i) backed, locked, low))
+    (λ backed. ((fits.locks x locked).counted, backed_still m t a x (CellLoad x i) backed, locked, low))

@@ -16,15 +16,16 @@ use Rattle.brc_model.specs.Machine.{Actor, Machine, with_actor}
 use Rattle.brc_model.specs.References.{held, one_if, reference_of}
 use Rattle.brc_model.specs.RowInvariant.{waits, carries, merges, decides}
 use Rattle.brc_model.specs.Accounts.{Account, Accounts, extra, lacks, extra_aside, lacks_aside, HoldsAt, most_lent, IsBounded}
-use Rattle.brc_model.specs.Knowledge.{ByReference, HeadFits}
+use Rattle.brc_model.specs.Knowledge.{IsBacked, ByReference, ByItem, HeadFits}
 use Rattle.brc_model.specs.OpenWork.{is_about, is_piece, is_finalising, has_leave, Agenda, IsSettled}
 use Rattle.brc_model.specs.Gates.{LocksFit}
 use Rattle.brc_model.specs.Invariant.{looks, CoreInvariant}
 use Rattle.brc_model.specs.Ranges.{IsSmall}
-use Rattle.brc_model.specs.Counting.{Counts, with_account, with_one_more, with_one_less, working, IsReady, HasNoneAbout}
+use Rattle.brc_model.specs.Counting.{Counts, with_account, with_one_more, with_one_less, working, IsReady, HasNoneAbout, IsAtHand}
 use Rattle.brc_model.proofs.Keeping.Locks.{more_locks, less_locks}
 use Rattle.brc_model.specs.CountingLaws.{RetainsBegin, ReleasesBegin}
 use Rattle.brc_model.proofs.Basics.Bag.{one_if_low, held-le-references_to}
+use Rattle.brc_model.proofs.Frame.Alive.{backed_referenced}
 use Rattle.brc_model.proofs.Frame.Aside.{lacks_counted, extra_counted, gives_counted}
 use Rattle.brc_model.proofs.Limits.Ranges.{row_small, referenced_small}
 use Rattle.brc_model.proofs.Keeping.Rearranging.{still_wait}
@@ -72,6 +73,24 @@ held_row p n m t a x core ready alone some =
       held-le-references_to (reference_of t AsCaller x) m.abstract.references,
       some,
     ))
+
+-- An object that the thread holds as the caller, or may borrow, is backed.
+pub at_hand_backed : (p : Accounts) (n : ℕ) (m : Machine) (t : ℕ) (a : Actor) (x : ℕ) → CoreInvariant p n m
+    → IsReady m t a → HasNoneAbout a x → IsAtHand (p t) m a x → IsBacked m t a x
+at_hand_backed p n m t a x core ready alone (inl some) =
+    ByReference AsCaller (omega (arith, none_about_held p n m t a x AsCaller core ready alone, some))
+at_hand_backed p n m t a x core ready alone (inr item) = ByItem item.list item.cell item.locked item.word
+
+-- A backed object has a row.
+pub backed_row : (p : Accounts) (n : ℕ) (m : Machine) (t : ℕ) (a : Actor) (x : ℕ) → CoreInvariant p n m
+    → IsBacked m t a x → x < row_count m.layout
+backed_row p n m t a x core backed = referenced_small p n m x core (backed_referenced p n m t a x core backed)
+
+-- New work leaves what backs an object.
+pub backed_still : (m : Machine) (t : ℕ) (a : Actor) (x : ℕ) (d : Duty) → IsBacked m t a x
+    → IsBacked (with_actor m t (working a (d ∷ []) a.aside)) t (working a (d ∷ []) a.aside) x
+backed_still m t a x d (ByReference by some) = ByReference by some
+backed_still m t a x d (ByItem list cell locked word) = ByItem list cell locked word
 
 -- ---- a new piece of work
 
@@ -238,13 +257,13 @@ release_begins x = record {
   looks = λ y. refl;
 }
 
--- The invariant and the ranges hold after a ready thread begins to retain an object that it holds.
+-- The invariant and the ranges hold after a ready thread begins to retain an object that it holds or may borrow.
 pub retains_begin : RetainsBegin
-retains_begin p n m t a x counts ready alone some few =
+retains_begin p n m t a x counts ready alone at_hand few =
     let core = counts.kept.core in
     let holds = ready_holds p n m t a core ready in
     let bounded = (core.each t a ready.found).0.bounded in
-    let in_bag = none_about_held p n m t a x AsCaller core ready alone in
+    let backed = at_hand_backed p n m t a x core ready alone at_hand in
     work_begins p n m t a x (RetainLoad x AsCaller) (with_one_more (p t) AsCaller x) counts ready alone (record {
       begins = retain_begins x;
       no_flight = λ object. omega (arith, counts.no_flight t object);
@@ -253,9 +272,9 @@ retains_begin p n m t a x counts ready alone some few =
       locks =
           more_locks (p t) m t a (working a (RetainLoad x AsCaller ∷ []) a.aside) x (core.each t a ready.found).0.locks
           refl (λ k y. omega (arith, one_makes k y (RetainLoad x AsCaller)));
-      knows = ByReference AsCaller (omega (arith, in_bag, some));
+      knows = backed_still m t a x (RetainLoad x AsCaller) backed;
       small =
-          row_small (row_count m.layout) x (RetainLoad x AsCaller) (held_row p n m t a x core ready alone some)
+          row_small (row_count m.layout) x (RetainLoad x AsCaller) (backed_row p n m t a x core backed)
           (λ y. refl) (omega arith);
     })
 

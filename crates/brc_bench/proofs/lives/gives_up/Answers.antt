@@ -1,4 +1,4 @@
-use Rattle.std.proofs.Common.{[], ◌∙◌, subst}
+use Rattle.std.proofs.Common.{[], subst}
 use Rattle.brc_table.specs.Hands.{TableState, IsOf}
 use Rattle.brc_bench.proofs.AtRest.{rests_after_release, settles_at_rest, rests_after_settling}
 use Rattle.brc_bench.proofs.lives.gives_up.Goals as goal
@@ -18,6 +18,7 @@ returns g c =
     let settles = c.settle.ensures.work [] (settles_at_rest released) in
     record {
       resting =
-          rests_after_settling released (c.settle.ensures.table ∙ table.0, settles.2.keeps.layout ∙ table.1)
+          rests_after_settling released (subst (λ (w : TableState). IsOf w c.settle.new.hand)
+          c.new-finaliser.ensures c.settle.ensures.table)
           c.settle.ensures.chain settles.2;
     }

@@ -68,7 +68,7 @@ returns-then-is_dead-clause-won g c = λ did_win.
     let left : merge_left v.agenda ≡ duty.rest =
     ap merge_left duty.next ∙ ap (λ (r : Reason). once_merged c.args.row r ++ duty.rest) own in
     subst (λ (ds : List Duty). HasWorked v 0 ds z) (sym left)
-    (chained v w z 0 c.args.row (overwritten w) duty.rest dies c.gate_store.ensures.view)
+    (chained v w z 0 c.args.row (overwritten w) duty.rest dies c.gate_store.ensures.view c.rows_are_there.ensures)
 
 pub returns-else-is_dead-clause-won : goal.returns-else-is_dead-clause-won
 returns-else-is_dead-clause-won g c = λ did_win.

@@ -16,7 +16,8 @@ returns-clause-resting g c =
     let released =
     rests_after_release {after = c.release.new.hand} c.requires.resting table c.release.ensures.released in
     let settles = c.settle.ensures.work [] (settles_at_rest released) in
-    rests_after_settling released (c.settle.ensures.table ∙ table.0, settles.2.keeps.layout ∙ table.1)
+    rests_after_settling released (subst (λ (w : TableState). IsOf w c.settle.new.hand)
+    c.new-finaliser.ensures c.settle.ensures.table)
     c.settle.ensures.chain settles.2
 
 pub returns-clause-references : goal.returns-clause-references

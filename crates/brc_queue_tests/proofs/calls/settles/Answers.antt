@@ -1,4 +1,5 @@
-use Rattle.std.proofs.Common.{[]}
+use Rattle.std.proofs.Common.{[], subst}
+use Rattle.brc_table.specs.Hands.{TableState, IsOf}
 use Rattle.brc_queue_tests.proofs.Steps.{comes, settled}
 use Rattle.brc_queue_tests.proofs.calls.settles.Goals as goal
 
@@ -9,5 +10,6 @@ pub returns : goal.returns
 returns g c = record {
   holds =
       let work = c.settle.ensures.work [] (comes c.requires.holds) in
-      settled c.requires.holds c.settle.ensures.table work.2 c.settle.ensures.carried;
+      let table = subst (λ (w : TableState). IsOf w c.settle.new.hand) c.new.ensures c.settle.ensures.table in
+      settled c.requires.holds table work.2 c.settle.ensures.carried;
 }

@@ -19,7 +19,8 @@ returns-then-is_fresh-clause-work g c =
     subst (λ (ds : List Duty). HasWorked v 0 ds w) (sym (ap behind duty.next))
     (chained v u w 0 c.args.row (overwritten u) duty.rest
     (decided_dead v v u 0 c.args.row word duty.rest (decide_begins v c.args.row duty.rest duty.next)
-    c.shared_load_next-word.ensures.view (sym c.is_fresh.ensures.word ∙ c.if-is_fresh.true)) c.gate_store.ensures.view)
+    c.shared_load_next-word.ensures.view (sym c.is_fresh.ensures.word ∙ c.if-is_fresh.true)) c.gate_store.ensures.view
+    c.rows_are_there.ensures)
 
 pub returns-else-is_fresh-clause-work : goal.returns-else-is_fresh-clause-work
 returns-else-is_fresh-clause-work g c =

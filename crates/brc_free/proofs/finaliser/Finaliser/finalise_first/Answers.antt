@@ -4,7 +4,7 @@ use Rattle.brc_table.specs.Hands.{TableState}
 use Rattle.brc_table.specs.Calls.{LoadsDyingKind, ClosesRow}
 use Rattle.brc_free.specs.Works.{behind}
 use Rattle.brc_free.proofs.FirstDuties.{settle_kind_first, take_slot_first, settle_end_first}
-use Rattle.brc_free.proofs.Working.{worked_call}
+use Rattle.brc_free.proofs.Working.{head_unlocked, worked_call}
 use Rattle.brc_free.proofs.SettleDuties.{comes_alive, taken_off, kind_has_resource, kind_has_cells, cells_next, cells_first, all_emptied, ended}
 use Rattle.brc_free.proofs.Closes.{none_closed}
 use Rattle.brc_free.proofs.finaliser.Finaliser.finalise_first.Goals as goal
@@ -16,7 +16,7 @@ dying_kind_load-kind-requires-clause-duty g c =
     let row = c.head-row.result - 1 in
     let rest = c.requires.duty.0 in
     let off = taken_off v w row c.gate_load.result rest c.requires.chain (ap (λ (n : ℕ). n - 1) c.head-row.ensures)
-    c.requires.duty.1 c.gate_load.ensures.view in
+    c.requires.duty.1 c.gate_load.ensures.view c.rows_are_there.ensures in
     subst (LoadsDyingKind row) (sym (off.agenda ∙ settle_kind_first w.head row (Settle ∷ rest))) refl
 
 pub close_resource-requires-clause-alive : goal.close_resource-requires-clause-alive
@@ -27,7 +27,7 @@ close_resource-requires-clause-alive g c = λ κs lives gone.
     let row = c.head-row.result - 1 in
     let rest = c.requires.duty.0 in
     let off = taken_off v u row c.gate_load.result rest c.requires.chain (ap (λ (n : ℕ). n - 1) c.head-row.ensures)
-    c.requires.duty.1 c.gate_load.ensures.view in
+    c.requires.duty.1 c.gate_load.ensures.view c.rows_are_there.ensures in
     let at = kind_has_resource v u w 0 row c.dying_kind_load-kind.result (Settle ∷ rest) off
     c.dying_kind_load-kind.ensures.view (sym c.has_resource.ensures ∙ c.if-has_resource.true) in
     comes_alive v rest c.requires.duty.1 (sym at.keeps.status ∙ gone)
@@ -40,7 +40,7 @@ close_resource-requires-clause-duty g c = λ κs lives.
     let row = c.head-row.result - 1 in
     let rest = c.requires.duty.0 in
     let off = taken_off v u row c.gate_load.result rest c.requires.chain (ap (λ (n : ℕ). n - 1) c.head-row.ensures)
-    c.requires.duty.1 c.gate_load.ensures.view in
+    c.requires.duty.1 c.gate_load.ensures.view c.rows_are_there.ensures in
     let at = kind_has_resource v u w 0 row c.dying_kind_load-kind.result (Settle ∷ rest) off
     c.dying_kind_load-kind.ensures.view (sym c.has_resource.ensures ∙ c.if-has_resource.true) in
     record { rest = Settle ∷ rest; next = at.agenda ∙ take_slot_first w.head row (Settle ∷ rest) }
@@ -53,7 +53,7 @@ returns-then-has_resource-clause-work g c = λ rest comes.
     let z = c.close_resource.new.hand.view in
     let row = c.head-row.result - 1 in
     let off = taken_off v u row c.gate_load.result rest c.requires.chain (ap (λ (n : ℕ). n - 1) c.head-row.ensures)
-    comes c.gate_load.ensures.view in
+    comes c.gate_load.ensures.view c.rows_are_there.ensures in
     let at = kind_has_resource v u w 0 row c.dying_kind_load-kind.result (Settle ∷ rest) off
     c.dying_kind_load-kind.ensures.view (sym c.has_resource.ensures ∙ c.if-has_resource.true) in (
       1,
@@ -70,7 +70,7 @@ empty_cells-requires-clause-alive g c =
     let row = c.head-row.result - 1 in
     let rest = c.requires.duty.0 in
     let off = taken_off v u row c.gate_load.result rest c.requires.chain (ap (λ (n : ℕ). n - 1) c.head-row.ensures)
-    c.requires.duty.1 c.gate_load.ensures.view in
+    c.requires.duty.1 c.gate_load.ensures.view c.rows_are_there.ensures in
     let at = kind_has_cells v u w 0 row c.dying_kind_load-kind.result (Settle ∷ rest) off
     c.dying_kind_load-kind.ensures.view (sym c.has_resource.ensures ∙ c.if-has_resource.false) in
     λ gone. comes_alive v rest c.requires.duty.1 (sym at.keeps.status ∙ gone)
@@ -83,7 +83,7 @@ empty_cells-requires-clause-duty g c =
     let row = c.head-row.result - 1 in
     let rest = c.requires.duty.0 in
     let off = taken_off v u row c.gate_load.result rest c.requires.chain (ap (λ (n : ℕ). n - 1) c.head-row.ensures)
-    c.requires.duty.1 c.gate_load.ensures.view in
+    c.requires.duty.1 c.gate_load.ensures.view c.rows_are_there.ensures in
     let at = cells_next v u w row c.dying_kind_load-kind.result c.cells_of.result rest off
     c.dying_kind_load-kind.ensures.view (sym c.has_resource.ensures ∙ c.if-has_resource.false) c.cells_of.ensures in
     record { rest = Settle ∷ rest; next = at.agenda ∙ cells_first w.head row 0 c.cells_of.result (Settle ∷ rest) }
@@ -97,7 +97,7 @@ gate_close-requires-clause-table g c =
     let row = c.head-row.result - 1 in
     let rest = c.requires.duty.0 in
     let off = taken_off v u row c.gate_load.result rest c.requires.chain (ap (λ (n : ℕ). n - 1) c.head-row.ensures)
-    c.requires.duty.1 c.gate_load.ensures.view in
+    c.requires.duty.1 c.gate_load.ensures.view c.rows_are_there.ensures in
     let at = cells_next v u w row c.dying_kind_load-kind.result c.cells_of.result rest off
     c.dying_kind_load-kind.ensures.view (sym c.has_resource.ensures ∙ c.if-has_resource.false) c.cells_of.ensures in
     let empty = all_emptied v w z row c.cells_of.result rest at c.empty_cells.ensures.work in
@@ -116,7 +116,7 @@ gate_close-requires-clause-alive g c =
     let row = c.head-row.result - 1 in
     let rest = c.requires.duty.0 in
     let off = taken_off v u row c.gate_load.result rest c.requires.chain (ap (λ (n : ℕ). n - 1) c.head-row.ensures)
-    c.requires.duty.1 c.gate_load.ensures.view in
+    c.requires.duty.1 c.gate_load.ensures.view c.rows_are_there.ensures in
     let at = cells_next v u w row c.dying_kind_load-kind.result c.cells_of.result rest off
     c.dying_kind_load-kind.ensures.view (sym c.has_resource.ensures ∙ c.if-has_resource.false) c.cells_of.ensures in
     let empty = all_emptied v w z row c.cells_of.result rest at c.empty_cells.ensures.work in
@@ -131,7 +131,7 @@ gate_close-requires-clause-duty g c =
     let row = c.head-row.result - 1 in
     let rest = c.requires.duty.0 in
     let off = taken_off v u row c.gate_load.result rest c.requires.chain (ap (λ (n : ℕ). n - 1) c.head-row.ensures)
-    c.requires.duty.1 c.gate_load.ensures.view in
+    c.requires.duty.1 c.gate_load.ensures.view c.rows_are_there.ensures in
     let at = cells_next v u w row c.dying_kind_load-kind.result c.cells_of.result rest off
     c.dying_kind_load-kind.ensures.view (sym c.has_resource.ensures ∙ c.if-has_resource.false) c.cells_of.ensures in
     let empty = all_emptied v w z row c.cells_of.result rest at c.empty_cells.ensures.work in
@@ -145,11 +145,12 @@ returns-clause-work g c = λ rest comes.
     let z = c.empty_cells.new.hand.view in
     let row = c.head-row.result - 1 in
     let off = taken_off v u row c.gate_load.result rest c.requires.chain (ap (λ (n : ℕ). n - 1) c.head-row.ensures)
-    comes c.gate_load.ensures.view in
+    comes c.gate_load.ensures.view c.rows_are_there.ensures in
     let at = cells_next v u w row c.dying_kind_load-kind.result c.cells_of.result rest off
     c.dying_kind_load-kind.ensures.view (sym c.has_resource.ensures ∙ c.if-has_resource.false) c.cells_of.ensures in
     let empty = all_emptied v w z row c.cells_of.result rest at c.empty_cells.ensures.work in (
       0,
-      ended v z c.gate_close.new.hand.view 0 row c.gate_close.result (Settle ∷ rest) empty c.gate_close.ensures.view,
+      ended v z c.gate_close.new.hand.view 0 row c.gate_close.result (Settle ∷ rest) empty c.gate_close.ensures.view
+          (head_unlocked v row c.rows_are_there.ensures c.requires.chain (ap (λ (n : ℕ). n - 1) c.head-row.ensures)),
       sym (none_closed (g.H.Host.counts c.args.host.now)),
     )

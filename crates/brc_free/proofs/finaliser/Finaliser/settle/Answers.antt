@@ -25,6 +25,12 @@ loop-init g c =
       ),
     )
 
+pub returns-then-head-eq0-clause-table : goal.returns-then-head-eq0-clause-table
+returns-then-head-eq0-clause-table g c =
+    let (rest, comes) = c.requires.duty in
+    let kept = c.loop.invariant in
+    (kept.0 ∙ c.requires.table.0, (kept.3 rest comes).1.3.layout ∙ c.requires.table.1)
+
 pub returns-then-head-eq0-clause-work : goal.returns-then-head-eq0-clause-work
 returns-then-head-eq0-clause-work g c = λ rest comes.
     let u = c.loop.hand.view in

@@ -108,7 +108,7 @@ returns-then-is_dead-clause-work g c =
     (shared_begins v u c.args.row word duty.reason duty.rest duty.next c.shared_load_next-word.ensures.view)
     c.shared_exchange.ensures.view won (sym c.is_fresh.ensures.word ∙ c.if-is_fresh.false) dead in
     subst (λ (ds : List Duty). HasWorked v 0 ds z) (sym (ap behind duty.next))
-    (chained v w z 0 c.args.row (overwritten w) duty.rest dies c.gate_store.ensures.view)
+    (chained v w z 0 c.args.row (overwritten w) duty.rest dies c.gate_store.ensures.view c.rows_are_there.ensures)
 
 pub returns-else-is_dead-clause-work : goal.returns-else-is_dead-clause-work
 returns-else-is_dead-clause-work g c =

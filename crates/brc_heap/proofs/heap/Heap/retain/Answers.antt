@@ -3,7 +3,7 @@ use Rattle.brc_table.specs.declared.view.View.{View}
 use Rattle.brc_table.specs.Views.{retaining}
 use Rattle.brc_heap.specs.Calls.{Leaves, RetainsOwn}
 use Rattle.brc_heap.proofs.OwnRows.{retain_owns}
-use Rattle.brc_heap.proofs.Ending.{retain_leaves, resumed_references}
+use Rattle.brc_heap.proofs.Ending.{retain_leaves, retained_head, resumed_references}
 use Rattle.brc_heap.proofs.heap.Heap.retain.Goals as goal
 
 pub returns-clause-left : goal.returns-clause-left
@@ -11,6 +11,11 @@ returns-clause-left g c =
     let (word, found, owner, view) = c.retain_steps.ensures.events in
     subst (Leaves c.args.row [] c.args.hand.now.view) (sym view)
     (retain_leaves c.args.hand.now.view c.args.row word found c.requires.idle)
+
+pub returns-clause-head : goal.returns-clause-head
+returns-clause-head g c =
+    let (word, found, owner, view) = c.retain_steps.ensures.events in
+    ap (λ (v : View). v.head) view ∙ retained_head c.args.hand.now.view c.args.row word found
 
 pub returns-clause-references : goal.returns-clause-references
 returns-clause-references g c =

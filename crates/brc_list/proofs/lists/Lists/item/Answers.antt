@@ -1,9 +1,13 @@
-use Rattle.std.proofs.Common.{◌≡◌, ◌≤◌, ap, ◌∙◌, subst, arith}
+use Rattle.std.proofs.Common.{◌≡◌, ℕ, suc, ◌≤◌, sym, ap, ◌∙◌, subst, arith}
 use Rattle.std.proofs.Math.Nat.{mul-le-mul}
 use Rattle.brc_model.specs.declared.layout.Layout.{Layout}
 use Rattle.brc_model.specs.Layout.{row_count}
 use Rattle.brc_model.specs.Counting.{IsPlainLayout}
-use Rattle.brc_table.specs.Hands.{TableState}
+use Rattle.brc_table.specs.declared.view.View.{View}
+use Rattle.brc_table.specs.Views.{done, loading_cell}
+use Rattle.brc_table.specs.Hands.{TableState, Borrows}
+use Rattle.brc_list.specs.Calls.{word_of}
+use Rattle.brc_list.proofs.Borrowing.{item_borrowed}
 use Rattle.brc_list.proofs.lists.Lists.item.Goals as goal
 
 pub overflow_cast-result : goal.overflow_cast-result
@@ -15,3 +19,13 @@ overflow_cast-result g c =
     let there : c.cell_load-word.result ≤ row_count c.args.self.now.layout =
     subst (λ (l : Layout). c.cell_load-word.result ≤ row_count l) c.requires.table.1 c.cell_load-word.ensures.there in
     omega (arith, there, most, plain.immortals)
+
+pub returns-else-word-eq0-clause-borrows : goal.returns-else-word-eq0-clause-borrows
+returns-else-word-eq0-clause-borrows g c = λ x same.
+    let v = c.args.hand.now.view in
+    let found = c.cell_load-word.result in
+    let word : found ≡ suc x = omega (arith, c.if-word-eq0.false, ap word_of same) in
+    subst (λ (u : View). Borrows u x)
+    (ap (done (loading_cell v c.args.row c.args.cell)) (sym word) ∙ sym c.cell_load-word.ensures.view)
+    (item_borrowed v c.args.row c.args.cell x c.requires.locked
+    (subst (λ (k : ℕ). k ≤ row_count v.layout) word c.cell_load-word.ensures.there))

@@ -6,10 +6,23 @@ use Rattle.brc_table.specs.declared.view.View.{View}
 use Rattle.brc_table.specs.Hands.{TableState}
 use Rattle.brc_table.specs.Views.{done, claiming}
 use Rattle.brc_free.specs.Works.{HasWorked}
-use Rattle.brc_free.proofs.Working.{worked_first}
+use Rattle.brc_free.proofs.Working.{keeps_then, worked_first}
 use Rattle.brc_free.proofs.Closes.{none_closed}
-use Rattle.brc_queue.proofs.Scanning.{claim_none}
+use Rattle.brc_queue.proofs.Scanning.{claim_none, claim_keeps}
 use Rattle.brc_queue.proofs.queue.Queue.claim.Goals as goal
+
+pub returns-then-mark_claim-ne-QUEUED-clause-keeps : goal.returns-then-mark_claim-ne-QUEUED-clause-keeps
+returns-then-mark_claim-ne-QUEUED-clause-keeps g c =
+    claim_keeps c.args.hand.now.view c.mark_claim.new.hand.view c.own_row-row.result c.mark_claim.result
+    c.mark_claim.ensures.view
+
+pub returns-clause-keeps : goal.returns-clause-keeps
+returns-clause-keeps g c =
+    let v = c.args.hand.now.view in
+    let u = c.mark_claim.new.hand.view in
+    keeps_then v u c.merge_claimed.new.hand.view
+    (claim_keeps v u c.own_row-row.result c.mark_claim.result c.mark_claim.ensures.view)
+    c.merge_claimed.ensures.work.2.keeps
 
 pub returns-then-mark_claim-ne-QUEUED-clause-work : goal.returns-then-mark_claim-ne-QUEUED-clause-work
 returns-then-mark_claim-ne-QUEUED-clause-work g c =

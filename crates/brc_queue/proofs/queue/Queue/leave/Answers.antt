@@ -19,14 +19,10 @@ settle-failed-requires-clause-duty g c = λ κs lives.
 
 pub thread_leave-requires-clause-table : goal.thread_leave-requires-clause-table
 thread_leave-requires-clause-table g c =
-    let v = c.args.hand.now.view in
-    let u = c.release.new.hand.view in
-    let one = c.release.ensures in
-    let comes = comes_at_once v u root_row c.requires.free one.released.status one.released.agenda one.released.aside in
-    let settled = c.settle-failed.ensures.work [] comes in
+    let settled = c.settle-failed.ensures.table in
     let same = c.new-finaliser.ensures ∙ sym c.words.ensures in (
-      c.settle-failed.ensures.table ∙ (one.table.0 ∙ ap (λ (t : TableState). t.table) same),
-      settled.2.keeps.layout ∙ (one.table.1 ∙ ap (λ (t : TableState). t.layout) same),
+      settled.0 ∙ ap (λ (t : TableState). t.table) same,
+      settled.1 ∙ ap (λ (t : TableState). t.layout) same,
     )
 
 pub thread_leave-requires-clause-may_leave : goal.thread_leave-requires-clause-may_leave
@@ -41,49 +37,36 @@ thread_leave-requires-clause-may_leave g c =
 
 pub scan-more-requires-clause-table : goal.scan-more-requires-clause-table
 scan-more-requires-clause-table g c = λ κs lives.
-    let v = c.args.hand.now.view in
-    let u = c.release.new.hand.view in
-    let one = c.release.ensures in
-    let comes = comes_at_once v u root_row c.requires.free one.released.status one.released.agenda one.released.aside in
-    let settled = c.settle-failed.ensures.work [] comes in
+    let settled = c.settle-failed.ensures.table in
     let same = c.new-finaliser.ensures ∙ c.self.view_is in (
-      c.thread_leave.ensures.table ∙ (c.settle-failed.ensures.table
-          ∙ (one.table.0 ∙ ap (λ (t : TableState). t.table) same)),
+      c.thread_leave.ensures.table ∙ (settled.0 ∙ ap (λ (t : TableState). t.table) same),
       ap (λ (z : View). z.layout) c.thread_leave.ensures.view
-          ∙ (settled.2.keeps.layout ∙ (one.table.1 ∙ ap (λ (t : TableState). t.layout) same)),
+          ∙ (settled.1 ∙ ap (λ (t : TableState). t.layout) same),
     )
 
 pub thread_gone-requires-clause-table : goal.thread_gone-requires-clause-table
 thread_gone-requires-clause-table g c =
-    let v = c.args.hand.now.view in
-    let u = c.release.new.hand.view in
-    let one = c.release.ensures in
-    let comes = comes_at_once v u root_row c.requires.free one.released.status one.released.agenda one.released.aside in
-    let settled = c.settle-failed.ensures.work [] comes in
+    let settled = c.settle-failed.ensures.table in
     let scanned = c.scan-more.ensures.work.2 in
     let same = c.new-finaliser.ensures ∙ sym c.words-2.ensures in (
-      c.scan-more.ensures.table ∙ (c.thread_leave.ensures.table ∙ (c.settle-failed.ensures.table
-          ∙ (one.table.0 ∙ ap (λ (t : TableState). t.table) same))),
+      c.scan-more.ensures.table ∙ (c.thread_leave.ensures.table
+          ∙ (settled.0 ∙ ap (λ (t : TableState). t.table) same)),
       scanned.keeps.layout ∙ (ap (λ (z : View). z.layout) c.thread_leave.ensures.view
-          ∙ (settled.2.keeps.layout ∙ (one.table.1 ∙ ap (λ (t : TableState). t.layout) same))),
+          ∙ (settled.1 ∙ ap (λ (t : TableState). t.layout) same)),
     )
 
 pub returns-clause-table : goal.returns-clause-table
 returns-clause-table g c =
-    let v = c.args.hand.now.view in
-    let u = c.release.new.hand.view in
-    let one = c.release.ensures in
-    let comes = comes_at_once v u root_row c.requires.free one.released.status one.released.agenda one.released.aside in
-    let settled = c.settle-failed.ensures.work [] comes in
+    let settled = c.settle-failed.ensures.table in
     let scanned = c.scan-more.ensures.work.2 in
     let ends = finished c.thread_leave.new.hand.view c.scan-more.new.hand.view c.thread_gone.new.hand.view
     c.scan-more.ensures.work.0 scanned c.thread_gone.ensures.view in
     let same = c.new-finaliser.ensures ∙ c.self.view_is in (
       c.thread_gone.ensures.table ∙ (c.scan-more.ensures.table ∙ (c.thread_leave.ensures.table
-          ∙ (c.settle-failed.ensures.table ∙ (one.table.0 ∙ ap (λ (t : TableState). t.table) same)))),
+          ∙ (settled.0 ∙ ap (λ (t : TableState). t.table) same))),
       ap (λ (z : View). z.layout) ends
           ∙ (scanned.keeps.layout ∙ (ap (λ (z : View). z.layout) c.thread_leave.ensures.view
-          ∙ (settled.2.keeps.layout ∙ (one.table.1 ∙ ap (λ (t : TableState). t.layout) same)))),
+          ∙ (settled.1 ∙ ap (λ (t : TableState). t.layout) same))),
     )
 
 pub returns-clause-idle : goal.returns-clause-idle
