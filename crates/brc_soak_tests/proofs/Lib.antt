@@ -1,0 +1,2 @@
+mod Resting
+mod Counting

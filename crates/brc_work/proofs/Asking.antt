@@ -1,0 +1,184 @@
+-- A variable's kind becomes known.
+use Rattle.std.proofs.Common.{◌≡◌, ℕ, zero, suc, ◌+◌, ◌<◌, ◌≤◌, Bool, true, false, List, [], ◌∷◌, Option, None, Some, inl, inr, length, refl, sym, ap, ◌∙◌, subst, arith, set, get_or}
+use Rattle.std.specs.Prelude.{if◌then◌else◌}
+use Rattle.std.proofs.lemmas.Bool.{cases_Bool}
+use Rattle.std.proofs.lemmas.Bool.Decides.{eqb_tells}
+use Rattle.std.proofs.lemmas.List.{length-set}
+use Rattle.brc_lang.specs.declared.kind.Kind.{Kind}
+use Rattle.brc_model.specs.declared.layout.Layout.{Layout}
+use Rattle.brc_model.specs.declared.slot.Slot.{Slot}
+use Rattle.brc_model.specs.declared.slot.Slot.TheVariants.{Empty, Owned, Caller, Locked}
+use Rattle.brc_model.specs.declared.slot.State.{State}
+use Rattle.brc_model.specs.Items.{borrows_item}
+use Rattle.brc_model.specs.Kinds.{kind_of_word}
+use Rattle.brc_model.specs.Layout.{is_immortal_row}
+use Rattle.brc_model.specs.Slots.{slot_of, kind_of, is_empty, is_one_of, with_resource, with_kind, put}
+use Rattle.brc_model.specs.Threads.{row_of}
+use Rattle.brc_model.proofs.Basics.Blocks.{only_none}
+use Rattle.brc_model.proofs.Basics.Lists.{some_is}
+use Rattle.brc_model.proofs.Dispatch.Grounded.{slot_of-put_same, slot_of-put_other}
+use Rattle.brc_model.proofs.Dispatch.TakingHost.{resource_word}
+use Rattle.brc_table.specs.declared.view.View.{View}
+use Rattle.brc_table.specs.Views.{holds}
+use Rattle.brc_table.specs.Hands.{HandState}
+use Rattle.brc_heap.specs.Calls.{SeesKind}
+use Rattle.brc_work.specs.Acts.{ActsElsewhere}
+use Rattle.brc_work.specs.Fits.{KnowsKind, Unknown, OfNone, HasSeen, SlotFits, owns, lists, over_variables, LockFits, LocksAs, Fits}
+use Rattle.brc_work.proofs.Fitting.{same_fits, says_same}
+use Rattle.brc_work.proofs.Holding.{fits_with_kind}
+
+-- What the hand has seen says what the object is.
+pub seen_knows : (v u : View) (x word : ℕ) (kind : Kind) → u.layout.immortal_lists ≡ 0 → SeesKind x word v u
+    → kind_of_word word ≡ kind → KnowsKind u kind x
+seen_knows v u x zero kind plain sees is = Unknown (sym is)
+seen_knows v u x (suc word) kind plain sees is = elim (cases_Bool (is_immortal_row u.layout x)) [
+  | inl immortal ↦
+      let this = only_none u.layout x plain immortal in
+      OfNone this (sym is ∙ ap kind_of_word (sees.named this))
+  | inr counted ↦ HasSeen (suc word) counted (omega arith) sees.seen is
+]
+
+owns_kind : (y : ℕ) (slot : Slot) (kind : Kind) (row : Option ℕ) → owns y (with_kind slot kind) row ≡ owns y slot row
+owns_kind y Empty kind row = refl
+owns_kind y (Owned k) kind None = refl
+owns_kind y (Owned k) kind (Some x) = refl
+owns_kind y (Caller k) kind row = refl
+owns_kind y (Locked k) kind row = refl
+
+lists_kind : (layout : Layout) (slot : Slot) (kind : Kind) (row : Option ℕ)
+    → lists layout (with_kind slot kind) row ≡ lists layout slot row
+lists_kind layout Empty kind row = refl
+lists_kind layout (Owned k) kind None = refl
+lists_kind layout (Owned k) kind (Some x) = refl
+lists_kind layout (Caller k) kind row = refl
+lists_kind layout (Locked k) kind row = refl
+
+-- A variable that has only another kind owns what it owned.
+sum_kind : (f : Slot → Option ℕ → ℕ) (i : ℕ) (slots : List Slot) (rows : List (Option ℕ)) (slot : Slot)
+    → f slot (get_or rows i None) ≡ f (get_or slots i Empty) (get_or rows i None)
+    → over_variables f (set slots i slot) rows ≡ over_variables f slots rows
+sum_kind f i [] rows slot same = refl
+sum_kind f zero (s ∷ slots) [] slot same = refl
+sum_kind f (suc i) (s ∷ slots) [] slot same = refl
+sum_kind f zero (s ∷ slots) (r ∷ rows) slot same = omega (arith, same)
+sum_kind f (suc i) (s ∷ slots) (r ∷ rows) slot same =
+    let rest = sum_kind f i slots rows slot same in omega (arith, rest)
+
+kind_lasting : (slot : Slot) (kind : Kind) → borrows_item (with_kind slot kind) ≡ borrows_item slot
+kind_lasting Empty kind = refl
+kind_lasting (Owned k) kind = refl
+kind_lasting (Caller k) kind = refl
+kind_lasting (Locked k) kind = refl
+
+kind_used : (slot : Slot) (kind : Kind) → is_empty (with_kind slot kind) ≡ is_empty slot
+kind_used Empty kind = refl
+kind_used (Owned k) kind = refl
+kind_used (Caller k) kind = refl
+kind_used (Locked k) kind = refl
+
+kind_is : (slot : Slot) (kind : Kind) → is_empty slot ≡ false → kind_of (with_kind slot kind) ≡ kind
+kind_is Empty kind used = let wrong : true ≡ false = used in absurd cc
+kind_is (Owned k) kind used = refl
+kind_is (Caller k) kind used = refl
+kind_is (Locked k) kind used = refl
+
+-- A variable in use is one of the sixteen.
+pub used_low : (slots : List Slot) (i : ℕ) → is_empty (get_or slots i Empty) ≡ false → i < length slots
+used_low [] i used = let wrong : true ≡ false = used in absurd cc
+used_low (s ∷ slots) zero used = omega arith
+used_low (s ∷ slots) (suc i) used = let rest = used_low slots i used in omega (arith, rest)
+
+module _ (first : HandState) (s : State) (rows : List (Option ℕ)) (hand after : HandState) (from x word : ℕ) (kind : Kind)
+    (fits : Fits first s rows hand) (did : ActsElsewhere hand after)
+    (same : after.view.references ≡ hand.view.references) (used : is_empty (slot_of s from) ≡ false)
+    (names : row_of rows from ≡ Some x) (sees : SeesKind x word hand.view after.view) (is : kind_of_word word ≡ kind) where
+  abbrev next : State
+  next = put s from (with_kind (slot_of s from) kind)
+
+  later : Fits first s rows after
+  later = same_fits first s rows hand after fits did same
+
+  knows : (y : ℕ) → row_of rows from ≡ Some y → KnowsKind after.view kind y
+  knows y this =
+      subst (KnowsKind after.view kind) (some_is x y (sym names ∙ this))
+      (seen_knows hand.view after.view x word kind
+      (subst (λ (l : Layout). l.immortal_lists ≡ 0) (sym later.follows.layout) fits.plain) sees is)
+
+  low : from < length s.slots → slot_of next from ≡ with_kind (slot_of s from) kind
+  low there = slot_of-put_same s from (with_kind (slot_of s from) kind) there
+
+  in_slots : from < length s.slots
+  in_slots = used_low s.slots from used
+
+  -- The hand knows what the locked object's slot has, since it has just asked for the kind.
+  locked_kind : (i : ℕ) (lock : LockFits first.slots s rows after i) → LockFits first.slots next rows after i
+  locked_kind i lock = elim (eqb_tells i from) [
+    | inl this ↦
+        let slot_is : slot_of next i ≡ with_kind (slot_of s from) kind = ap (slot_of next) this.1 ∙ low in_slots in
+        let object_is : lock.object ≡ x =
+        some_is lock.object x (sym lock.names ∙ (ap (row_of rows) this.1 ∙ names)) in
+        record {
+          object = lock.object;
+          names = lock.names;
+          counted = lock.counted;
+          lasting =
+              ap borrows_item slot_is ∙ (kind_lasting (slot_of s from) kind
+              ∙ (ap (λ (k : ℕ). borrows_item (slot_of s k)) (sym this.1) ∙ lock.lasting));
+          used = ap is_empty slot_is ∙ (kind_used (slot_of s from) kind ∙ used);
+          locked = lock.locked;
+          slots = lock.slots;
+          resource = λ has.
+              let can : is_one_of kind with_resource ≡ true =
+              sym (ap (λ (k : Kind). is_one_of k with_resource) (ap kind_of slot_is ∙ kind_is (slot_of s from) kind used)) ∙ has in
+              did.acts.in_slot
+              ∙ (sees.slot (sym did.acts.locked ∙ (lock.locked ∙ ap Some object_is)) fits.rests.lent
+              ∙ ap (λ (b : Bool). if b then 1 else 0) (resource_word kind word (inr is) can));
+        }
+    | inr apart ↦
+        let slot_is = slot_of-put_other s from i (with_kind (slot_of s from) kind) apart.1 in
+        let says = says_same (slot_of s i) (slot_of next i) slot_is in
+        record {
+          object = lock.object;
+          names = lock.names;
+          counted = lock.counted;
+          lasting = says.lasting lock.lasting;
+          used = says.used lock.lasting lock.used;
+          locked = lock.locked;
+          slots = lock.slots;
+          resource = λ has. lock.resource (says.resource has);
+        }
+  ]
+
+  locks_kind : (locked : Option ℕ) → LocksAs locked first.slots s rows after → LocksAs locked first.slots next rows after
+  locks_kind None lock = lock
+  locks_kind (Some i) lock = locked_kind i lock
+
+  -- The object is of the kind that the variable's slot now says.
+  pub kind_fits : Fits first next rows after
+  kind_fits = record {
+    ready = fits.ready;
+    plain = fits.plain;
+    follows = later.follows;
+    rests = later.rests;
+    some_slots = length-set s.slots from (with_kind (slot_of s from) kind) ∙ fits.some_slots;
+    some_rows = fits.some_rows;
+    each = λ i. elim (eqb_tells i from) [
+      | inl this ↦
+          subst (λ (k : ℕ). SlotFits after.view (slot_of next k) (row_of rows k)) (sym this.1)
+          (subst (λ (w : Slot). SlotFits after.view w (row_of rows from)) (sym (low in_slots))
+          (fits_with_kind after.view (slot_of s from) (row_of rows from) kind knows (later.each from)))
+      | inr apart ↦
+          subst (λ (w : Slot). SlotFits after.view w (row_of rows i))
+          (sym (slot_of-put_other s from i (with_kind (slot_of s from) kind) apart.1)) (later.each i)
+    ];
+    held = λ y counted.
+        later.held y counted
+        ∙ ap (λ (n : ℕ). holds first.view y + n)
+        (sym (sum_kind (owns y) from s.slots rows (with_kind (slot_of s from) kind)
+        (owns_kind y (slot_of s from) kind (row_of rows from))));
+    few =
+        subst (λ (n : ℕ). length after.view.references ≤ length first.view.references + n)
+        (sym (sum_kind (lists first.view.layout) from s.slots rows (with_kind (slot_of s from) kind)
+        (lists_kind first.view.layout (slot_of s from) kind (row_of rows from)))) later.few;
+    lock = locks_kind s.locked later.lock;
+  }

@@ -1,0 +1,63 @@
+-- A worker's calls, one after another.
+use Rattle.std.proofs.Common.{◌≡◌, ℕ, ◌≤◌, List, length, refl, sym, ap, ◌∙◌, subst, arith}
+use Rattle.brc_model.specs.declared.layout.Layout.{Layout}
+use Rattle.brc_model.specs.Layout.{root_row, IsCounted}
+use Rattle.brc_model.proofs.Basics.Blocks.{root_counted}
+use Rattle.brc_table.specs.Calls.{IsFree}
+use Rattle.brc_table.specs.Hands.{HandState}
+use Rattle.brc_table.specs.Views.{holds}
+use Rattle.brc_free.specs.Works.{Keeps}
+use Rattle.brc_work.specs.Calls.{HasCalled}
+use Rattle.brc_work.specs.Fits.{IsReady}
+use Rattle.brc_work.proofs.CallsBelow.{follows_by}
+use Rattle.brc_work.proofs.Fitting.{follows_on}
+
+-- A hand that has made no call yet.
+pub not_called : (hand : HandState) → IsReady hand → HasCalled hand hand
+not_called hand ready = record {
+  follows = follows_by hand hand refl refl refl refl refl (omega arith);
+  rests = ready.rests;
+  unlocked = ready.unlocked;
+  slots = refl;
+  held = λ y counted. refl;
+  few = omega arith;
+}
+
+pub called_then : (hand mid after : HandState) → HasCalled hand mid → HasCalled mid after → HasCalled hand after
+called_then hand mid after one other = record {
+  follows = follows_on hand mid after one.follows other.follows;
+  rests = other.rests;
+  unlocked = other.unlocked;
+  slots = other.slots ∙ one.slots;
+  held = λ y counted.
+      other.held y (subst (λ (l : Layout). IsCounted l y) (sym one.follows.layout) counted) ∙ one.held y counted;
+  few = omega (arith, one.few, other.few);
+}
+
+-- After a call the hand may make another one.
+pub called_ready : (hand after : HandState) → IsReady hand → HasCalled hand after → IsReady after
+called_ready hand after ready called = record {
+  rests = called.rests;
+  unlocked = called.unlocked;
+  root = omega (arith, called.held root_row (root_counted hand.view.layout), ready.root);
+  few = omega (arith, called.few, ready.few);
+}
+
+-- A hand that has looked through its queue holds what it held.
+pub looked_called : (hand after : HandState) → IsReady hand → Keeps hand.view after.view → IsFree after.view
+    → after.view.head ≡ 0 → after.table ≡ hand.table → after.carried ≡ hand.carried → after.slots ≡ hand.slots
+    → HasCalled hand after
+looked_called hand after ready keeps free settled table carried slots = record {
+  follows = follows_by hand after table keeps.layout keeps.thread keeps.given carried (omega (arith, keeps.used));
+  rests = record {
+    running = free.running;
+    agenda = free.agenda;
+    aside = free.aside;
+    settled = settled;
+    lent = keeps.lent ∙ ready.rests.lent;
+  };
+  unlocked = keeps.locked ∙ ready.unlocked;
+  slots = slots;
+  held = λ y counted. ap (λ (l : List ℕ). holds (record after.view { references = l }) y) keeps.references;
+  few = subst (λ (l : List ℕ). length l ≤ length hand.view.references) (sym keeps.references) (omega arith);
+}

@@ -1,0 +1,252 @@
+-- What the calls of the crates below leave, as a worker needs it.
+use Rattle.std.proofs.Common.{◌≡◌, ℕ, ◌≤◌, List, [], ◌∷◌, ◌++◌, None, refl, ap, ◌∙◌, arith}
+use Rattle.std.specs.Prelude.{not}
+use Rattle.std.specs.List.{filter}
+use Rattle.std.proofs.lemmas.List.Sums.{fold-append}
+use Rattle.brc_model.specs.declared.duty.Duty.{Duty}
+use Rattle.brc_model.specs.OpenWork.{is_about}
+use Rattle.brc_table.specs.declared.view.View.{View}
+use Rattle.brc_table.specs.Views.{open_work, asking, done}
+use Rattle.brc_table.specs.Seen.{cell_known, cell_seen}
+use Rattle.brc_table.specs.Hands.{HandState}
+use Rattle.brc_heap.specs.Calls.{Leaves, HasBorn}
+use Rattle.brc_list.specs.Calls.{Keeps}
+use Rattle.brc_free.specs.Works.{HasReleased, HasWorked}
+use Rattle.brc_work.specs.Acts.{KeepsCells, Acts, ActsElsewhere}
+use Rattle.brc_work.specs.Fits.{Rests, Follows}
+
+-- ---- lists
+
+pub no_first : {A : Type 0} (xs ys : List A) → xs ++ ys ≡ [] → xs ≡ []
+no_first [] ys none = refl
+no_first (x ∷ xs) ys none = absurd cc
+
+pub no_second : {A : Type 0} (xs ys : List A) → xs ++ ys ≡ [] → ys ≡ []
+no_second [] ys none = none
+no_second (x ∷ xs) ys none = absurd cc
+
+-- A hand that rests has no work.
+pub no_work : (hand : HandState) → Rests hand → open_work hand.view ≡ []
+no_work hand rests = ap (λ (ds : List Duty). ds ++ hand.view.aside) rests.agenda ∙ rests.aside
+
+-- ---- calls
+
+-- The hand is the same one, later.
+pub follows_by : (hand after : HandState) → after.table ≡ hand.table → after.view.layout ≡ hand.view.layout
+    → after.view.thread ≡ hand.view.thread → after.view.given ≡ hand.view.given → after.carried ≡ hand.carried
+    → hand.view.used ≤ after.view.used → Follows hand after
+follows_by hand after table layout thread given carried used = record {
+  table = table;
+  layout = layout;
+  thread = thread;
+  given = given;
+  carried = carried;
+  used = used;
+}
+
+-- A call about one row that leaves no work.
+pub left_acts : (hand after : HandState) (x : ℕ) → Rests hand → Leaves x [] hand.view after.view
+    → after.table ≡ hand.table → after.carried ≡ hand.carried → after.slots ≡ hand.slots
+    → after.view.head ≡ hand.view.head → ActsElsewhere hand after
+left_acts hand after x rests left table carried slots head = record {
+  acts = record {
+    follows = follows_by hand after table left.layout left.thread left.given carried (omega (arith, left.used));
+    rests = record {
+      running = left.status ∙ rests.running;
+      agenda = left.agenda;
+      aside = left.aside ∙ ap (filter (λ (d : Duty). not (is_about x d))) (no_work hand rests);
+      settled = head ∙ rests.settled;
+      lent = left.sight.lent ∙ rests.lent;
+    };
+    more = record { layout = left.layout; kinds = left.sight.kinds };
+    locked = left.sight.locked;
+    in_slot = left.sight.in_slot;
+    slots = slots;
+  };
+  cells = λ y i word locked seen. left.sight.cells y i locked ∙ seen;
+}
+
+-- A birth.
+pub born_acts : (hand after : HandState) → Rests hand → HasBorn hand.view after.view
+    → after.table ≡ hand.table → after.carried ≡ hand.carried → after.slots ≡ hand.slots → ActsElsewhere hand after
+born_acts hand after rests born table carried slots =
+    let none = born.work ∙ no_work hand rests in
+    record {
+      acts = record {
+        follows = follows_by hand after table born.layout born.thread born.given carried (omega (arith, born.used));
+        rests = record {
+          running = born.status ∙ rests.running;
+          agenda = no_first after.view.agenda after.view.aside none;
+          aside = no_second after.view.agenda after.view.aside none;
+          settled = born.head ∙ rests.settled;
+          lent = born.sight.lent ∙ rests.lent;
+        };
+        more = record { layout = born.layout; kinds = born.sight.kinds };
+        locked = born.sight.locked;
+        in_slot = born.sight.in_slot;
+        slots = slots;
+      };
+      cells = λ y i word locked seen. born.sight.cells y i locked ∙ seen;
+    }
+
+-- A call on a list that changes no reference.
+pub kept_acts : (hand after : HandState) → Rests hand → Keeps hand.view after.view → after.table ≡ hand.table
+    → after.carried ≡ hand.carried → after.slots ≡ hand.slots → after.view.locked ≡ hand.view.locked → Acts hand after
+kept_acts hand after rests kept table carried slots locked =
+    let none = kept.work ∙ no_work hand rests in
+    record {
+      follows = follows_by hand after table kept.layout kept.thread kept.given carried (omega (arith, kept.used));
+      rests = record {
+        running = kept.status ∙ rests.running;
+        agenda = no_first after.view.agenda after.view.aside none;
+        aside = no_second after.view.agenda after.view.aside none;
+        settled = kept.head ∙ rests.settled;
+        lent = kept.lent ∙ rests.lent;
+      };
+      more = record { layout = kept.layout; kinds = kept.kinds };
+      locked = locked;
+      in_slot = kept.taken_slot;
+      slots = slots;
+    }
+
+-- A look at a kind word changes nothing that the hand has seen of cells.
+pub asked_cells : (v u : View) (x word : ℕ) → u ≡ done (asking v x) word → KeepsCells v u
+asked_cells v u x word is y i before locked seen =
+    ap (cell_seen y i) is ∙ (fold-append (cell_known y i) None v.trace _ ∙ seen)
+
+-- A hand that has done nothing.
+pub itself_acts : (hand : HandState) → Rests hand → ActsElsewhere hand hand
+itself_acts hand rests = record {
+  acts = record {
+    follows = follows_by hand hand refl refl refl refl refl (omega arith);
+    rests = rests;
+    more = record { layout = refl; kinds = λ x word seen. seen };
+    locked = refl;
+    in_slot = refl;
+    slots = refl;
+  };
+  cells = λ x i word locked seen. seen;
+}
+
+-- the hand with other references
+abbrev pub with_references : HandState → List ℕ → HandState
+with_references hand references = record hand { view = record hand.view { references = references } }
+
+pub beside_acts : (hand : HandState) (references : List ℕ) → Rests hand
+    → ActsElsewhere hand (with_references hand references)
+beside_acts hand references rests = record {
+  acts = record {
+    follows = follows_by hand (with_references hand references) refl refl refl refl refl (omega arith);
+    rests = record {
+      running = rests.running;
+      agenda = rests.agenda;
+      aside = rests.aside;
+      settled = rests.settled;
+      lent = rests.lent;
+    };
+    more = record { layout = refl; kinds = λ x word seen. seen };
+    locked = refl;
+    in_slot = refl;
+    slots = refl;
+  };
+  cells = λ x i word locked seen. seen;
+}
+
+pub beside_back : (hand : HandState) (references : List ℕ) → Rests hand
+    → ActsElsewhere (with_references hand references) hand
+beside_back hand references rests = record {
+  acts = record {
+    follows = follows_by (with_references hand references) hand refl refl refl refl refl (omega arith);
+    rests = rests;
+    more = record { layout = refl; kinds = λ x word seen. seen };
+    locked = refl;
+    in_slot = refl;
+    slots = refl;
+  };
+  cells = λ x i word locked seen. seen;
+}
+
+-- A release, and what it takes to settle.
+pub released_rests : (hand mid : HandState) (x : ℕ) → Rests hand → HasReleased x hand.view mid.view
+    → mid.view.aside ≡ []
+released_rests hand mid x rests released =
+    released.aside ∙ ap (filter (λ (d : Duty). not (is_about x d))) (no_work hand rests)
+
+pub released_acts : (hand mid after : HandState) (x closes : ℕ) → Rests hand → HasReleased x hand.view mid.view
+    → HasWorked mid.view closes [] after.view → after.view.head ≡ 0 → after.table ≡ hand.table
+    → after.carried ≡ hand.carried → after.slots ≡ hand.slots → ActsElsewhere hand after
+released_acts hand mid after x closes rests released worked settled table carried slots =
+    let keeps = worked.keeps in
+    record {
+      acts = record {
+        follows = follows_by hand after table (keeps.layout ∙ released.layout) (keeps.thread ∙ released.thread)
+            (keeps.given ∙ released.given) carried (omega (arith, keeps.used, released.used));
+        rests = record {
+          running = keeps.status ∙ (released.status ∙ rests.running);
+          agenda = worked.agenda;
+          aside = keeps.aside ∙ released_rests hand mid x rests released;
+          settled = settled;
+          lent = keeps.lent ∙ (released.lent ∙ rests.lent);
+        };
+        more = record {
+          layout = keeps.layout ∙ released.layout;
+          kinds = λ y word seen. keeps.kinds y word (released.kinds y word seen);
+        };
+        locked = keeps.locked ∙ released.locked;
+        in_slot = keeps.in_slot ∙ released.in_slot;
+        slots = slots;
+      };
+      cells = λ y i word locked seen.
+          keeps.cells y i (released.locked ∙ locked) ∙ (released.cells y i locked ∙ seen);
+    }
+
+-- What a call on a list leaves, whatever becomes of the lock.
+pub kept_rests : (hand after : HandState) → Rests hand → Keeps hand.view after.view → Rests after
+kept_rests hand after rests kept =
+    let none = kept.work ∙ no_work hand rests in
+    record {
+      running = kept.status ∙ rests.running;
+      agenda = no_first after.view.agenda after.view.aside none;
+      aside = no_second after.view.agenda after.view.aside none;
+      settled = kept.head ∙ rests.settled;
+      lent = kept.lent ∙ rests.lent;
+    }
+
+pub kept_follows : (hand after : HandState) → Keeps hand.view after.view → after.table ≡ hand.table
+    → after.carried ≡ hand.carried → Follows hand after
+kept_follows hand after kept table carried =
+    follows_by hand after table kept.layout kept.thread kept.given carried (omega (arith, kept.used))
+
+-- the hand that knows something else of the locked object's slot
+abbrev pub with_slot : HandState → ℕ → HandState
+with_slot hand n = record hand { view = record hand.view { in_slot = n } }
+
+pub slot_rests : (hand : HandState) (n : ℕ) → Rests hand → Rests (with_slot hand n)
+slot_rests hand n rests = record {
+  running = rests.running;
+  agenda = rests.agenda;
+  aside = rests.aside;
+  settled = rests.settled;
+  lent = rests.lent;
+}
+
+-- What a hand does after something else.
+pub acts_then : (hand mid after : HandState) → Acts hand mid → Acts mid after → Acts hand after
+acts_then hand mid after one other = record {
+  follows = record {
+    table = other.follows.table ∙ one.follows.table;
+    layout = other.follows.layout ∙ one.follows.layout;
+    thread = other.follows.thread ∙ one.follows.thread;
+    given = other.follows.given ∙ one.follows.given;
+    carried = other.follows.carried ∙ one.follows.carried;
+    used = omega (arith, one.follows.used, other.follows.used);
+  };
+  rests = other.rests;
+  more = record {
+    layout = other.more.layout ∙ one.more.layout;
+    kinds = λ x word seen. other.more.kinds x word (one.more.kinds x word seen);
+  };
+  locked = other.locked ∙ one.locked;
+  in_slot = other.in_slot ∙ one.in_slot;
+  slots = other.slots ∙ one.slots;
+}

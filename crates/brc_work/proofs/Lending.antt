@@ -1,0 +1,55 @@
+-- What a worker does with the resource of the file or socket that it has locked.
+use Rattle.std.proofs.Common.{◌≡◌, ℕ, true, List, ◌∷◌, Option, Some, sym, ap, ◌∙◌}
+use Rattle.brc_model.specs.declared.slot.State.{State}
+use Rattle.brc_model.specs.Slots.{slot_of, kind_of, is_one_of, with_resource, names}
+use Rattle.brc_model.specs.Threads.{row_of}
+use Rattle.brc_model.proofs.Basics.Lists.{some_is}
+use Rattle.brc_table.specs.declared.view.View.{View}
+use Rattle.brc_table.specs.Uses.{FirstSlot, behind_slot}
+use Rattle.brc_table.specs.Hands.{HandState}
+use Rattle.brc_work.specs.Fits.{Fits}
+use Rattle.brc_work.proofs.Conditions.{locked_is}
+use Rattle.brc_work.proofs.Holding.{lock_of}
+
+-- The variable names the object that the hand has locked, whose slot has a resource.
+pub record OnFile (hand : HandState) (row : ℕ) : Type 0 where
+  pub locked : hand.view.locked ≡ Some row
+  pub whole : hand.view.in_slot ≡ 1
+  pub rest : List (ℕ × ℕ)
+  pub slots : hand.slots ≡ (row, 1) ∷ rest
+
+pub on_file : (first : HandState) (s : State) (rows : List (Option ℕ)) (hand : HandState) (file row : ℕ)
+    → Fits first s rows hand → names s.locked file ≡ true
+    → is_one_of (kind_of (slot_of s file)) with_resource ≡ true → row_of rows file ≡ Some row → OnFile hand row
+on_file first s rows hand file row fits is has named =
+    let lock = lock_of first s rows hand fits file (locked_is s.locked file is) in
+    let same : lock.object ≡ row = some_is lock.object row (sym lock.names ∙ named) in
+    record {
+      locked = lock.locked ∙ ap Some same;
+      whole = lock.resource has;
+      rest = first.slots;
+      slots =
+          lock.slots ∙ (ap (λ (x : ℕ). (x, hand.view.in_slot) ∷ first.slots) same
+          ∙ ap (λ (n : ℕ). (row, n) ∷ first.slots) (lock.resource has));
+    }
+
+pub there : (hand : HandState) (row : ℕ) → OnFile hand row → FirstSlot hand.slots row 1
+there hand row on = record { rest = on.rest; is = on.slots }
+
+same_hand : (hand after : HandState) → after.table ≡ hand.table → after.view ≡ hand.view → after.carried ≡ hand.carried
+    → after.slots ≡ hand.slots → after ≡ hand
+same_hand hand after table view carried slots =
+    ap (λ t. record after { table = t }) table
+    ∙ (ap (λ (v : View). record after { table = hand.table; view = v }) view
+    ∙ (ap (λ (l : List (Option ℕ)). record after { table = hand.table; view = hand.view; carried = l }) carried
+    ∙ ap (λ (l : List (ℕ × ℕ)). record after { table = hand.table; view = hand.view; carried = hand.carried; slots = l }) slots))
+
+-- Once the resource is back, the hand is as it was.
+pub lent_back : (hand lent after : HandState) (row : ℕ) → OnFile hand row → after.table ≡ hand.table
+    → lent.view ≡ hand.view → after.view ≡ lent.view → lent.carried ≡ hand.carried → after.carried ≡ lent.carried
+    → lent.slots ≡ (row, 0) ∷ behind_slot hand.slots → after.slots ≡ (row, 1) ∷ behind_slot lent.slots → after ≡ hand
+lent_back hand lent after row on table view back carried carried_back slots slots_back =
+    same_hand hand after table (back ∙ view) (carried_back ∙ carried)
+    (slots_back
+    ∙ (ap (λ (l : List (ℕ × ℕ)). (row, 1) ∷ behind_slot l) slots
+    ∙ (ap (λ (l : List (ℕ × ℕ)). (row, 1) ∷ behind_slot l) on.slots ∙ sym on.slots)))

@@ -1,0 +1,16 @@
+mod Owning
+mod Staying
+mod Fitting
+mod Conditions
+mod CallsBelow
+mod Trading
+mod Holding
+mod Locking
+mod Asking
+mod LockedList
+mod Lending
+mod Stepping
+mod Calling
+mod NewObjects
+mod Moving
+mod Counting

@@ -1,0 +1,188 @@
+-- A call goes from point to point as the checker's paths do.
+use Rattle.std.proofs.Common.{◌≡◌, ℕ, zero, suc, ◌+◌, Bool, true, false, cond, List, [], ◌∷◌, ◌++◌, drop, Option, None, Some, refl, sym, ap, ◌∙◌, subst, arith}
+use Rattle.std.specs.Prelude.{find, slice_get}
+use Rattle.std.specs.List.{list_any}
+use Rattle.brc_lang.specs.declared.module.Instr.{Instr}
+use Rattle.brc_lang.specs.declared.module.Instr.TheVariants.{Num, List as ListObject, NoneObject, Newref, Move, Drop, Lock, Unlock, Borrow, Fetch, Set, Put, Goto, Again, Ret, Fail, As, Open, Connect, Read, Write}
+use Rattle.brc_model.specs.declared.slot.Exit.TheVariants.{Success, Fault as FaultExit}
+use Rattle.brc_model.specs.declared.code.CheckCode.TheVariants.{EmptyUsed, WrongKind, NotOwned, StillOwns, LeftOwned, LeftLocked, SecondLock, NotLocked, LockedChanged}
+use Rattle.brc_model.specs.declared.slot.State.{State}
+use Rattle.brc_model.specs.declared.slot.Exit.{Exit}
+use Rattle.brc_model.specs.Paths.{At, IsAcceptableCode}
+use Rattle.brc_model.specs.declared.slot.Slot.{Slot}
+use Rattle.brc_model.specs.declared.slot.Slot.TheVariants.{Empty}
+use Rattle.brc_model.specs.Slots.{slot_of, is_owned, applies, rising, lowest, after, target, entry}
+use Rattle.brc_model.specs.Tables.{Reaches}
+use Rattle.brc_model.specs.Threads.{row_of, entry_variables}
+use Rattle.brc_model.proofs.Basics.Lists.{some_is, get_or-replicate_default}
+use Rattle.brc_model.proofs.Dispatch.Passing.{AreMet, are_met, PassesOn, passes_on}
+use Rattle.brc_table.specs.Hands.{HandState}
+use Rattle.brc_work.specs.Calls.{Leads, GoesTo, HasCalled, ends_call}
+use Rattle.brc_work.specs.Fits.{owns, lists, SlotFits, OfRoot, IsReady, Fits}
+use Rattle.brc_work.proofs.CallsBelow.{follows_by}
+use Rattle.brc_work.proofs.Conditions.{kept, none_is}
+use Rattle.brc_work.proofs.Locking.{no_lock}
+use Rattle.brc_work.proofs.Owning.{sum_none, owns_no, lists_no, entry_owned, entry_listed}
+
+find_skip : {A : Type 0} (test : A → Bool) (x : A) (xs : List A) → test x ≡ false → find test (x ∷ xs) ≡ find test xs
+find_skip test x xs is = ap (λ (b : Bool). cond b (Some x) (find test xs)) is
+
+-- An instruction whose conditions are met breaks none.
+pub lowest_none : (i : Instr) (s : State) → AreMet i s → lowest i s ≡ None
+lowest_none i s met =
+    find_skip (applies i s) EmptyUsed (drop 1 rising) met.not_empty
+    ∙ (find_skip (applies i s) WrongKind (drop 2 rising) met.right_kind
+    ∙ (find_skip (applies i s) NotOwned (drop 3 rising) met.owned
+    ∙ (find_skip (applies i s) StillOwns (drop 4 rising) met.free
+    ∙ (find_skip (applies i s) LeftOwned (drop 5 rising) met.none_left
+    ∙ (find_skip (applies i s) LeftLocked (drop 6 rising) met.no_lock_left
+    ∙ (find_skip (applies i s) SecondLock (drop 7 rising) met.first_lock
+    ∙ (find_skip (applies i s) NotLocked (drop 8 rising) met.has_lock
+    ∙ find_skip (applies i s) LockedChanged (drop 9 rising) met.unlocked)))))))
+
+-- The instruction at a point that paths reach, and its conditions.
+pub passes_at : (code : List Instr) (at : ℕ) (s : State) → IsAcceptableCode code → (reaches : Reaches code at s)
+    → PassesOn code reaches.exits at s
+passes_at code at s accepted reaches = passes_on code reaches.exits at s accepted reaches.reaches
+
+-- The call goes on by the instruction's exit.
+pub goes_to : (first : HandState) (code : List Instr) (at next : ℕ) (s : State) (i : Instr) (exit : Exit)
+    (rows : List (Option ℕ)) (hand : HandState) → IsAcceptableCode code → (reaches : Reaches code at s)
+    → slice_get code at ≡ Some i → target i exit at ≡ Some next → Fits first (after i exit s) rows hand
+    → GoesTo first code next rows hand
+goes_to first code at next s i exit rows hand accepted reaches found leads fits =
+    let passes = passes_at code at s accepted reaches in
+    let same : passes.here ≡ i = some_is passes.here i (sym passes.found ∙ found) in
+    record {
+      state = after i exit s;
+      fits = fits;
+      reaches = record {
+        exits = reaches.exits ++ exit ∷ [];
+        reaches =
+            passes.leads exit next (ap (λ (j : Instr). target j exit at) same ∙ leads)
+            ∙ ap (λ (j : Instr). At next (after j exit s)) same;
+      };
+    }
+
+-- ---- the end of a call
+
+pub ends : (first : HandState) (s : State) (rows : List (Option ℕ)) (hand : HandState) → Fits first s rows hand
+    → list_any is_owned s.slots ≡ false → s.locked ≡ None → HasCalled first hand
+ends first s rows hand fits none unlocked =
+    let lock = no_lock first s rows hand fits unlocked in
+    record {
+      follows = fits.follows;
+      rests = fits.rests;
+      unlocked = lock.0;
+      slots = lock.1;
+      held = λ y counted. omega (arith, fits.held y counted, sum_none (owns y) (owns_no y) s.slots rows none);
+      few =
+          omega (arith, fits.few, sum_none (lists first.view.layout) (lists_no first.view.layout) s.slots rows none);
+    }
+
+-- ---- its beginning
+
+first_slot : (hand : HandState) (i : ℕ) → SlotFits hand.view (slot_of entry i) (row_of entry_variables i)
+first_slot hand zero = record { is = refl; knows = OfRoot refl refl }
+first_slot hand (suc i) =
+    subst (λ (slot : Slot). SlotFits hand.view slot (row_of entry_variables (suc i)))
+    (sym (get_or-replicate_default 15 i Empty)) tt
+
+pub begins : (hand : HandState) → IsReady hand → hand.view.layout.immortal_lists ≡ 0
+    → Fits hand entry entry_variables hand
+begins hand ready plain = record {
+  ready = ready;
+  plain = plain;
+  follows = follows_by hand hand refl refl refl refl refl (omega arith);
+  rests = ready.rests;
+  some_slots = refl;
+  some_rows = refl;
+  each = first_slot hand;
+  held = λ y counted. omega (arith, entry_owned y);
+  few = omega (arith, entry_listed hand.view.layout);
+  lock = (ready.unlocked, refl);
+}
+
+pub begins_at : (code : List Instr) → Reaches code 0 entry
+begins_at code = record { exits = []; reaches = refl }
+
+-- An instruction that doesn't end the call leads on.
+pub leads_on : (i : Instr) (exit : Exit) (at : ℕ) → ends_call i ≡ false → (next : ℕ) × (target i exit at ≡ Some next)
+leads_on (Num to value otherwise) Success at on = (at + 1, refl)
+leads_on (Num to value otherwise) FaultExit at on = (otherwise, refl)
+leads_on (ListObject to cells otherwise) Success at on = (at + 1, refl)
+leads_on (ListObject to cells otherwise) FaultExit at on = (otherwise, refl)
+leads_on (NoneObject to) exit at on = (at + 1, refl)
+leads_on (Newref to from) exit at on = (at + 1, refl)
+leads_on (Move to from) exit at on = (at + 1, refl)
+leads_on (Drop from) exit at on = (at + 1, refl)
+leads_on (Lock object) exit at on = (at + 1, refl)
+leads_on (Unlock object) exit at on = (at + 1, refl)
+leads_on (Borrow to list index otherwise) Success at on = (at + 1, refl)
+leads_on (Borrow to list index otherwise) FaultExit at on = (otherwise, refl)
+leads_on (Fetch to list index otherwise) Success at on = (at + 1, refl)
+leads_on (Fetch to list index otherwise) FaultExit at on = (otherwise, refl)
+leads_on (Set list index from otherwise) Success at on = (at + 1, refl)
+leads_on (Set list index from otherwise) FaultExit at on = (otherwise, refl)
+leads_on (Put list index from otherwise) Success at on = (at + 1, refl)
+leads_on (Put list index from otherwise) FaultExit at on = (otherwise, refl)
+leads_on (Open to path mode otherwise) Success at on = (at + 1, refl)
+leads_on (Open to path mode otherwise) FaultExit at on = (otherwise, refl)
+leads_on (Connect to peer otherwise) Success at on = (at + 1, refl)
+leads_on (Connect to peer otherwise) FaultExit at on = (otherwise, refl)
+leads_on (Read to file most otherwise) Success at on = (at + 1, refl)
+leads_on (Read to file most otherwise) FaultExit at on = (otherwise, refl)
+leads_on (Write file number otherwise) Success at on = (at + 1, refl)
+leads_on (Write file number otherwise) FaultExit at on = (otherwise, refl)
+leads_on (As from kind otherwise) Success at on = (at + 1, refl)
+leads_on (As from kind otherwise) FaultExit at on = (otherwise, refl)
+leads_on (Goto to) exit at on = (to, refl)
+leads_on (Again to times) Success at on = (at + 1, refl)
+leads_on (Again to times) FaultExit at on = (to, refl)
+leads_on (Ret from) exit at on = let wrong : true ≡ false = on in absurd cc
+leads_on Fail exit at on = let wrong : true ≡ false = on in absurd cc
+
+-- What a step of the call leads to.
+pub leads_by : (first : HandState) (code : List Instr) (at : ℕ) (s : State) (i : Instr) (exit : Exit) (next : Option ℕ)
+    (rows : List (Option ℕ)) (hand : HandState) → IsAcceptableCode code → Reaches code at s → slice_get code at ≡ Some i
+    → ends_call i ≡ false → next ≡ target i exit at → Fits first (after i exit s) rows hand
+    → Leads first code next rows hand
+leads_by first code at s i exit next rows hand accepted reaches found on is fits =
+    let leads = leads_on i exit at on in
+    subst (λ (o : Option ℕ). Leads first code o rows hand) (sym (is ∙ leads.1))
+    (goes_to first code at leads.0 s i exit rows hand accepted reaches found leads.1 fits)
+
+-- The instruction at a point that paths reach breaks no condition.
+pub passes_none : (code : List Instr) (at : ℕ) (s : State) (i : Instr) → IsAcceptableCode code → Reaches code at s
+    → slice_get code at ≡ Some i → lowest i s ≡ None
+passes_none code at s i accepted reaches found =
+    let passes = passes_at code at s accepted reaches in
+    let same : passes.here ≡ i = some_is passes.here i (sym passes.found ∙ found) in
+    subst (λ (j : Instr). lowest j s ≡ None) same (lowest_none passes.here s passes.met)
+
+-- An instruction that ends the call and returns nothing leaves nothing behind.
+pub fails : (first : HandState) (s : State) (rows : List (Option ℕ)) (hand : HandState) (i : Instr) → ends_call i ≡ true
+    → ((from : ℕ) → i ≡ Ret from → ⊥) → Fits first s rows hand → lowest i s ≡ None → HasCalled first hand
+fails first s rows hand (Ret from) is other fits passes = absurd (other from refl)
+fails first s rows hand Fail is other fits passes =
+    let met = are_met Fail s passes in
+    ends first s rows hand fits (kept _ met.none_left) (none_is s.locked (kept _ met.no_lock_left))
+fails first s rows hand (Num to value otherwise) is other fits passes = let wrong : false ≡ true = is in absurd cc
+fails first s rows hand (ListObject to cells otherwise) is other fits passes = let wrong : false ≡ true = is in absurd cc
+fails first s rows hand (NoneObject to) is other fits passes = let wrong : false ≡ true = is in absurd cc
+fails first s rows hand (Newref to from) is other fits passes = let wrong : false ≡ true = is in absurd cc
+fails first s rows hand (Move to from) is other fits passes = let wrong : false ≡ true = is in absurd cc
+fails first s rows hand (Drop from) is other fits passes = let wrong : false ≡ true = is in absurd cc
+fails first s rows hand (Lock object) is other fits passes = let wrong : false ≡ true = is in absurd cc
+fails first s rows hand (Unlock object) is other fits passes = let wrong : false ≡ true = is in absurd cc
+fails first s rows hand (Borrow to list index otherwise) is other fits passes = let wrong : false ≡ true = is in absurd cc
+fails first s rows hand (Fetch to list index otherwise) is other fits passes = let wrong : false ≡ true = is in absurd cc
+fails first s rows hand (Set list index from otherwise) is other fits passes = let wrong : false ≡ true = is in absurd cc
+fails first s rows hand (Put list index from otherwise) is other fits passes = let wrong : false ≡ true = is in absurd cc
+fails first s rows hand (Open to path mode otherwise) is other fits passes = let wrong : false ≡ true = is in absurd cc
+fails first s rows hand (Connect to peer otherwise) is other fits passes = let wrong : false ≡ true = is in absurd cc
+fails first s rows hand (Read to file most otherwise) is other fits passes = let wrong : false ≡ true = is in absurd cc
+fails first s rows hand (Write file number otherwise) is other fits passes = let wrong : false ≡ true = is in absurd cc
+fails first s rows hand (As from kind otherwise) is other fits passes = let wrong : false ≡ true = is in absurd cc
+fails first s rows hand (Goto to) is other fits passes = let wrong : false ≡ true = is in absurd cc
+fails first s rows hand (Again to times) is other fits passes = let wrong : false ≡ true = is in absurd cc

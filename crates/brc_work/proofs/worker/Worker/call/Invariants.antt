@@ -1,0 +1,10 @@
+use Rattle.brc_table.specs.Hands.{IsOf}
+use Rattle.brc_work.specs.Calls.{GoesTo}
+use Rattle.brc_work.specs.Totals.{HasCounted}
+use Rattle.brc_work.proofs.worker.Worker.call.Given as goal
+
+-- The call is at a point that paths reach, in their state.
+abbrev pub invariant-loop : goal.invariant-loop
+invariant-loop g l =
+    IsOf l.fn.self l.hand × GoesTo l.fn.hand l.fn.code l.at l.rows l.hand
+    × HasCounted l.fn.totals l.totals (g.H.Host.counts l.fn.host) (g.H.Host.counts l.host)

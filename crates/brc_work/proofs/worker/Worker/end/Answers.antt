@@ -1,0 +1,36 @@
+use Rattle.std.proofs.Common.{sym, subst}
+use Rattle.brc_lang.specs.declared.module.Instr.{Instr}
+use Rattle.brc_lang.specs.declared.module.Instr.TheVariants as instructions
+use Rattle.brc_model.specs.declared.slot.Slot.TheVariants.{Empty}
+use Rattle.brc_model.specs.Slots.{slot_of, is_empty, is_borrowed, names, put}
+use Rattle.brc_model.proofs.Dispatch.Passing.{are_met}
+use Rattle.brc_work.specs.Calls.{HasEnded}
+use Rattle.brc_work.proofs.Conditions.{kept, can_give, none_is}
+use Rattle.brc_work.proofs.Counting.{nothing_counted}
+use Rattle.brc_work.proofs.Stepping.{ends, fails}
+use Rattle.brc_work.proofs.worker.Worker.end.Goals as goal
+
+pub returns-in-Ret-clause-ended : goal.returns-in-Ret-clause-ended
+returns-in-Ret-clause-ended g c =
+    let from = c.in-Ret.from in
+    let rows = c.args.rows.now in
+    let hand = c.args.hand.now in
+    let after = c.give_up.new.hand in
+    let ended : HasEnded (instructions.Ret from) rows hand after =
+    λ first s fits passes.
+    let met = are_met (instructions.Ret from) s passes in
+    let given =
+    c.give_up.ensures.goes first s fits
+    (can_give s from (kept (is_empty (slot_of s from)) met.not_empty) (kept (is_borrowed (slot_of s from)) met.owned)
+    (kept (names s.locked from) met.unlocked)) in
+    ends first (put s from Empty) c.give_up.new.rows after given (kept _ met.none_left)
+    (none_is s.locked (kept _ met.no_lock_left)) in
+    subst (λ (i : Instr). HasEnded i rows hand after) (sym c.in-Ret.is) ended
+
+pub returns-in_default : goal.returns-in_default
+returns-in_default g c = record {
+  of = c.requires.may.of;
+  ended = λ first s fits passes.
+      fails first s c.args.rows.now c.args.hand.now c.args.instr c.requires.ends c.in_default.not-Ret fits passes;
+  counted = nothing_counted c.args.totals.now _;
+}

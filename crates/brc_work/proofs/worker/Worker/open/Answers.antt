@@ -1,0 +1,35 @@
+use Rattle.std.proofs.Common.{ℕ, List, Option, sym, subst}
+use Rattle.brc_lang.specs.declared.module.Instr.TheVariants as instructions
+use Rattle.brc_model.specs.declared.slot.Slot.TheVariants.{Empty}
+use Rattle.brc_model.specs.Slots.{put}
+use Rattle.brc_model.proofs.Dispatch.Passing.{are_met}
+use Rattle.brc_work.specs.Fits.{Fits}
+use Rattle.brc_work.proofs.Conditions.{can_fill}
+use Rattle.brc_work.proofs.Moving.{cleared}
+use Rattle.brc_work.proofs.Counting.{quiet_counted, opening_ok}
+use Rattle.brc_work.proofs.worker.Worker.open.Goals as goal
+
+pub returns-then-not-room-clause-done : goal.returns-then-not-room-clause-done
+returns-then-not-room-clause-done g c = λ first s fits passes.
+    let hand = c.args.hand.now in
+    let met = are_met (instructions.Open c.args.to c.args.path c.args.mode c.args.otherwise) s passes in
+    subst (λ (rows : List (Option ℕ)). Fits first (put s c.args.to Empty) rows hand) (sym c.name.ensures.named)
+    (cleared first s c.args.rows.now hand c.args.to fits (can_fill s c.args.to met.free met.unlocked) c.name.ensures.low)
+
+pub returns-in-Ok-clause-done : goal.returns-in-Ok-clause-done
+returns-in-Ok-clause-done g c = λ first s fits passes.
+    let met = are_met (instructions.Open c.args.to c.args.path c.args.mode c.args.otherwise) s passes in
+    c.bear.ensures.goes first s fits (can_fill s c.args.to met.free met.unlocked)
+
+pub returns-in-Ok-clause-counted : goal.returns-in-Ok-clause-counted
+returns-in-Ok-clause-counted g c =
+    quiet_counted c.args.totals.now _ _
+    (opening_ok _ _ c.open-opened.result c.in-Ok.file c.open-opened.ensures c.in-Ok.is)
+
+pub returns-in-Err-clause-done : goal.returns-in-Err-clause-done
+returns-in-Err-clause-done g c = λ first s fits passes.
+    let hand = c.args.hand.now in
+    let met = are_met (instructions.Open c.args.to c.args.path c.args.mode c.args.otherwise) s passes in
+    subst (λ (rows : List (Option ℕ)). Fits first (put s c.args.to Empty) rows hand) (sym c.name-in-Err.ensures.named)
+    (cleared first s c.args.rows.now hand c.args.to fits (can_fill s c.args.to met.free met.unlocked)
+    c.name-in-Err.ensures.low)

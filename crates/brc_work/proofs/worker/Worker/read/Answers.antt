@@ -1,0 +1,146 @@
+use Rattle.std.proofs.Common.{ℕ, List, Option, sym, ap, ◌∙◌, subst}
+use Rattle.brc_lang.specs.declared.module.Instr.TheVariants as instructions
+use Rattle.brc_model.specs.declared.slot.Slot.TheVariants.{Empty}
+use Rattle.brc_model.specs.Slots.{slot_of, kind_of, is_empty, is_one_of, with_resource, names, put}
+use Rattle.brc_model.proofs.Dispatch.Passing.{are_met}
+use Rattle.brc_table.specs.declared.view.View.{View}
+use Rattle.brc_table.specs.Hands.{TableState, HandState, IsOf}
+use Rattle.brc_work.specs.Fits.{Fits}
+use Rattle.brc_work.proofs.Conditions.{kept, can_fill, not_false}
+use Rattle.brc_work.proofs.Counting.{nothing_counted, quiet_counted, fault_counted, use_ok, use_err}
+use Rattle.brc_work.proofs.Holding.{names_object}
+use Rattle.brc_work.proofs.Lending.{on_file, there, lent_back}
+use Rattle.brc_work.proofs.Moving.{cleared}
+use Rattle.brc_work.proofs.worker.Worker.read.Goals as goal
+
+pub returns-then-not-room-clause-done : goal.returns-then-not-room-clause-done
+returns-then-not-room-clause-done g c = λ first s fits passes.
+    let hand = c.args.hand.now in
+    let met = are_met (instructions.Read c.args.to c.args.file c.args.most c.args.otherwise) s passes in
+    subst (λ (rows : List (Option ℕ)). Fits first (put s c.args.to Empty) rows hand) (sym c.name.ensures.named)
+    (cleared first s c.args.rows.now hand c.args.to fits (can_fill s c.args.to met.free met.unlocked) c.name.ensures.low)
+
+pub row_in-row-requires : goal.row_in-row-requires
+row_in-row-requires g c =
+    let may = c.requires.may in
+    let hand = c.args.hand.now in
+    let met = are_met (instructions.Read c.args.to c.args.file c.args.most c.args.otherwise) may.state may.passes in
+    names_object may.first may.state c.args.rows.now hand may.fits c.args.file
+    (kept (is_empty (slot_of may.state c.args.file)) met.not_empty)
+
+pub lend-resource-requires-clause-locked : goal.lend-resource-requires-clause-locked
+lend-resource-requires-clause-locked g c =
+    let may = c.requires.may in
+    let hand = c.args.hand.now in
+    let met = are_met (instructions.Read c.args.to c.args.file c.args.most c.args.otherwise) may.state may.passes in
+    let on =
+    on_file may.first may.state c.args.rows.now hand c.args.file c.row_in-row.result may.fits
+    (not_false (names may.state.locked c.args.file) (kept _ met.has_lock))
+    (not_false (is_one_of (kind_of (slot_of may.state c.args.file)) with_resource) (kept _ met.right_kind))
+    c.row_in-row.ensures in
+    on.locked
+
+pub lend-resource-requires-clause-there : goal.lend-resource-requires-clause-there
+lend-resource-requires-clause-there g c =
+    let may = c.requires.may in
+    let hand = c.args.hand.now in
+    let met = are_met (instructions.Read c.args.to c.args.file c.args.most c.args.otherwise) may.state may.passes in
+    let on =
+    on_file may.first may.state c.args.rows.now hand c.args.file c.row_in-row.result may.fits
+    (not_false (names may.state.locked c.args.file) (kept _ met.has_lock))
+    (not_false (is_one_of (kind_of (slot_of may.state c.args.file)) with_resource) (kept _ met.right_kind))
+    c.row_in-row.ensures in
+    there hand c.row_in-row.result on
+
+pub give_back-requires-clause-whole : goal.give_back-requires-clause-whole
+give_back-requires-clause-whole g c =
+    let may = c.requires.may in
+    let hand = c.args.hand.now in
+    let met = are_met (instructions.Read c.args.to c.args.file c.args.most c.args.otherwise) may.state may.passes in
+    let on =
+    on_file may.first may.state c.args.rows.now hand c.args.file c.row_in-row.result may.fits
+    (not_false (names may.state.locked c.args.file) (kept _ met.has_lock))
+    (not_false (is_one_of (kind_of (slot_of may.state c.args.file)) with_resource) (kept _ met.right_kind))
+    c.row_in-row.ensures in
+    ap (λ (v : View). v.in_slot) c.lend-resource.ensures.view ∙ on.whole
+
+pub bear-requires-clause-fits : goal.bear-requires-clause-fits
+bear-requires-clause-fits g c =
+    let may = c.requires.may in
+    let hand = c.args.hand.now in
+    let met = are_met (instructions.Read c.args.to c.args.file c.args.most c.args.otherwise) may.state may.passes in
+    let on =
+    on_file may.first may.state c.args.rows.now hand c.args.file c.row_in-row.result may.fits
+    (not_false (names may.state.locked c.args.file) (kept _ met.has_lock))
+    (not_false (is_one_of (kind_of (slot_of may.state c.args.file)) with_resource) (kept _ met.right_kind))
+    c.row_in-row.ensures in
+    let back =
+    lent_back hand c.lend-resource.new.hand c.give_back.new.hand c.row_in-row.result on
+    (c.give_back.ensures.table.0
+    ∙ (ap (λ (w : TableState). w.table) (c.new-lists.ensures ∙ c.self.view_is) ∙ sym c.requires.may.of.0))
+    c.lend-resource.ensures.view c.give_back.ensures.view c.lend-resource.ensures.carried c.give_back.ensures.carried
+    c.lend-resource.ensures.slots c.give_back.ensures.slots in
+    record {
+      first = may.first;
+      state = may.state;
+      of = subst (λ (w : TableState). IsOf w c.give_back.new.hand) (c.new-lists.ensures ∙ c.self.view_is)
+          c.give_back.ensures.table;
+      fits = subst (λ (h : HandState). Fits may.first may.state c.args.rows.now h) (sym back) may.fits;
+      can_do = can_fill may.state c.args.to met.free met.unlocked;
+    }
+
+pub returns-in-Ok-clause-done : goal.returns-in-Ok-clause-done
+returns-in-Ok-clause-done g c = λ first s fits passes.
+    let may = c.requires.may in
+    let hand = c.args.hand.now in
+    let met = are_met (instructions.Read c.args.to c.args.file c.args.most c.args.otherwise) may.state may.passes in
+    let on =
+    on_file may.first may.state c.args.rows.now hand c.args.file c.row_in-row.result may.fits
+    (not_false (names may.state.locked c.args.file) (kept _ met.has_lock))
+    (not_false (is_one_of (kind_of (slot_of may.state c.args.file)) with_resource) (kept _ met.right_kind))
+    c.row_in-row.ensures in
+    let back =
+    lent_back hand c.lend-resource.new.hand c.give_back.new.hand c.row_in-row.result on
+    (c.give_back.ensures.table.0
+    ∙ (ap (λ (w : TableState). w.table) (c.new-lists.ensures ∙ c.self.view_is) ∙ sym c.requires.may.of.0))
+    c.lend-resource.ensures.view c.give_back.ensures.view c.lend-resource.ensures.carried c.give_back.ensures.carried
+    c.lend-resource.ensures.slots c.give_back.ensures.slots in
+    let mine = are_met (instructions.Read c.args.to c.args.file c.args.most c.args.otherwise) s passes in
+    c.bear.ensures.goes first s (subst (λ (h : HandState). Fits first s c.args.rows.now h) (sym back) fits)
+    (can_fill s c.args.to mine.free mine.unlocked)
+
+pub returns-in-Ok-clause-counted : goal.returns-in-Ok-clause-counted
+returns-in-Ok-clause-counted g c =
+    quiet_counted c.args.totals.now _ _
+    (use_ok _ _ c.read-got.result c.in-Ok.count c.read-got.ensures.counted c.in-Ok.is)
+
+pub returns-in-Err-clause-done : goal.returns-in-Err-clause-done
+returns-in-Err-clause-done g c = λ first s fits passes.
+    let may = c.requires.may in
+    let hand = c.args.hand.now in
+    let met = are_met (instructions.Read c.args.to c.args.file c.args.most c.args.otherwise) may.state may.passes in
+    let on =
+    on_file may.first may.state c.args.rows.now hand c.args.file c.row_in-row.result may.fits
+    (not_false (names may.state.locked c.args.file) (kept _ met.has_lock))
+    (not_false (is_one_of (kind_of (slot_of may.state c.args.file)) with_resource) (kept _ met.right_kind))
+    c.row_in-row.ensures in
+    let back =
+    lent_back hand c.lend-resource.new.hand c.give_back.new.hand c.row_in-row.result on
+    (c.give_back.ensures.table.0
+    ∙ (ap (λ (w : TableState). w.table) (c.new-lists.ensures ∙ c.self.view_is) ∙ sym c.requires.may.of.0))
+    c.lend-resource.ensures.view c.give_back.ensures.view c.lend-resource.ensures.carried c.give_back.ensures.carried
+    c.lend-resource.ensures.slots c.give_back.ensures.slots in
+    let mine = are_met (instructions.Read c.args.to c.args.file c.args.most c.args.otherwise) s passes in
+    let later = subst (λ (h : HandState). Fits first s c.args.rows.now h) (sym back) fits in
+    subst (λ (rows : List (Option ℕ)). Fits first (put s c.args.to Empty) rows c.give_back.new.hand)
+    (sym c.name-in-Err.ensures.named)
+    (cleared first s c.args.rows.now c.give_back.new.hand c.args.to later
+    (can_fill s c.args.to mine.free mine.unlocked) c.name-in-Err.ensures.low)
+
+pub returns-then-not-room-clause-counted : goal.returns-then-not-room-clause-counted
+returns-then-not-room-clause-counted g c = nothing_counted c.args.totals.now _
+
+pub returns-in-Err-clause-counted : goal.returns-in-Err-clause-counted
+returns-in-Err-clause-counted g c =
+    fault_counted c.args.totals.now c.count_host_fault.new.self _ _
+    (use_err _ _ c.read-got.result _ c.read-got.ensures.counted c.in-Err.is) c.count_host_fault.ensures

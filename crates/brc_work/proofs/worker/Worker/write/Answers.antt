@@ -1,0 +1,184 @@
+use Rattle.std.proofs.Common.{false, [], ◌∷◌, sym, ap, ◌∙◌, subst}
+use Rattle.std.specs.Prelude.{◌||◌, not}
+use Rattle.brc_lang.specs.declared.kind.Kind.TheVariants as kinds
+use Rattle.brc_lang.specs.declared.module.Instr.TheVariants as instructions
+use Rattle.brc_model.specs.Slots.{slot_of, kind_of, is_empty, is_one_of, with_resource, names}
+use Rattle.brc_model.proofs.Basics.Lists.{first_false, second_false}
+use Rattle.brc_model.proofs.Dispatch.Passing.{are_met}
+use Rattle.brc_table.specs.declared.view.View.{View}
+use Rattle.brc_table.specs.Hands.{TableState, HandState}
+use Rattle.brc_work.specs.Fits.{Fits}
+use Rattle.brc_work.proofs.CallsBelow.{left_acts}
+use Rattle.brc_work.proofs.Conditions.{kept, not_false}
+use Rattle.brc_work.proofs.Counting.{quiet_counted, fault_counted, use_ok, use_err}
+use Rattle.brc_work.proofs.Fitting.{same_fits}
+use Rattle.brc_work.proofs.Holding.{names_object, usable}
+use Rattle.brc_work.proofs.Lending.{on_file, there, lent_back}
+use Rattle.brc_work.proofs.worker.Worker.write.Goals as goal
+
+pub row_in-object-requires : goal.row_in-object-requires
+row_in-object-requires g c =
+    let may = c.requires.may in
+    let met = are_met (instructions.Write c.args.file c.args.number c.args.otherwise) may.state may.passes in
+    names_object may.first may.state c.args.rows.now c.args.hand.now may.fits c.args.number
+    (kept (is_empty (slot_of may.state c.args.number)) (second_false (is_empty (slot_of may.state c.args.file)) _ met.not_empty))
+
+pub arg_of-value-requires-clause-usable : goal.arg_of-value-requires-clause-usable
+arg_of-value-requires-clause-usable g c =
+    let may = c.requires.may in
+    let met = are_met (instructions.Write c.args.file c.args.number c.args.otherwise) may.state may.passes in
+    usable may.first may.state c.args.rows.now c.args.hand.now may.fits c.args.number c.row_in-object.result
+    (kept (is_empty (slot_of may.state c.args.number)) (second_false (is_empty (slot_of may.state c.args.file)) _ met.not_empty))
+    c.row_in-object.ensures
+
+pub row_in-row-requires : goal.row_in-row-requires
+row_in-row-requires g c =
+    let may = c.requires.may in
+    let met = are_met (instructions.Write c.args.file c.args.number c.args.otherwise) may.state may.passes in
+    names_object may.first may.state c.args.rows.now c.args.hand.now may.fits c.args.file
+    (first_false (is_empty (slot_of may.state c.args.file)) _ met.not_empty)
+
+pub lend-resource-requires-clause-locked : goal.lend-resource-requires-clause-locked
+lend-resource-requires-clause-locked g c =
+    let may = c.requires.may in
+    let hand = c.args.hand.now in
+    let mid = c.arg_of-value.new.hand in
+    let met = are_met (instructions.Write c.args.file c.args.number c.args.otherwise) may.state may.passes in
+    let asked =
+    left_acts hand mid c.row_in-object.result may.fits.rests c.arg_of-value.ensures.left
+    (c.arg_of-value.ensures.table.0 ∙ (ap (λ (w : TableState). w.table) c.self.view_is ∙ sym may.of.0))
+    c.arg_of-value.ensures.carried c.arg_of-value.ensures.slots c.arg_of-value.ensures.head in
+    let later =
+    same_fits may.first may.state c.args.rows.now hand mid may.fits asked c.arg_of-value.ensures.references in
+    let on =
+    on_file may.first may.state c.args.rows.now mid c.args.file c.row_in-row.result later
+    (not_false (names may.state.locked c.args.file) (kept _ met.has_lock))
+    (not_false (is_one_of (kind_of (slot_of may.state c.args.file)) with_resource)
+    (first_false _ (not (is_one_of (kind_of (slot_of may.state c.args.number)) (kinds.Num ∷ [])) || false) met.right_kind))
+    c.row_in-row.ensures in
+    on.locked
+
+pub lend-resource-requires-clause-there : goal.lend-resource-requires-clause-there
+lend-resource-requires-clause-there g c =
+    let may = c.requires.may in
+    let hand = c.args.hand.now in
+    let mid = c.arg_of-value.new.hand in
+    let met = are_met (instructions.Write c.args.file c.args.number c.args.otherwise) may.state may.passes in
+    let asked =
+    left_acts hand mid c.row_in-object.result may.fits.rests c.arg_of-value.ensures.left
+    (c.arg_of-value.ensures.table.0 ∙ (ap (λ (w : TableState). w.table) c.self.view_is ∙ sym may.of.0))
+    c.arg_of-value.ensures.carried c.arg_of-value.ensures.slots c.arg_of-value.ensures.head in
+    let later =
+    same_fits may.first may.state c.args.rows.now hand mid may.fits asked c.arg_of-value.ensures.references in
+    let on =
+    on_file may.first may.state c.args.rows.now mid c.args.file c.row_in-row.result later
+    (not_false (names may.state.locked c.args.file) (kept _ met.has_lock))
+    (not_false (is_one_of (kind_of (slot_of may.state c.args.file)) with_resource)
+    (first_false _ (not (is_one_of (kind_of (slot_of may.state c.args.number)) (kinds.Num ∷ [])) || false) met.right_kind))
+    c.row_in-row.ensures in
+    there mid c.row_in-row.result on
+
+pub give_back-requires-clause-whole : goal.give_back-requires-clause-whole
+give_back-requires-clause-whole g c =
+    let may = c.requires.may in
+    let hand = c.args.hand.now in
+    let mid = c.arg_of-value.new.hand in
+    let met = are_met (instructions.Write c.args.file c.args.number c.args.otherwise) may.state may.passes in
+    let asked =
+    left_acts hand mid c.row_in-object.result may.fits.rests c.arg_of-value.ensures.left
+    (c.arg_of-value.ensures.table.0 ∙ (ap (λ (w : TableState). w.table) c.self.view_is ∙ sym may.of.0))
+    c.arg_of-value.ensures.carried c.arg_of-value.ensures.slots c.arg_of-value.ensures.head in
+    let later =
+    same_fits may.first may.state c.args.rows.now hand mid may.fits asked c.arg_of-value.ensures.references in
+    let on =
+    on_file may.first may.state c.args.rows.now mid c.args.file c.row_in-row.result later
+    (not_false (names may.state.locked c.args.file) (kept _ met.has_lock))
+    (not_false (is_one_of (kind_of (slot_of may.state c.args.file)) with_resource)
+    (first_false _ (not (is_one_of (kind_of (slot_of may.state c.args.number)) (kinds.Num ∷ [])) || false) met.right_kind))
+    c.row_in-row.ensures in
+    ap (λ (v : View). v.in_slot) c.lend-resource.ensures.view ∙ on.whole
+
+pub give_back-requires-clause-locked : goal.give_back-requires-clause-locked
+give_back-requires-clause-locked g c =
+    let may = c.requires.may in
+    let hand = c.args.hand.now in
+    let mid = c.arg_of-value.new.hand in
+    let met = are_met (instructions.Write c.args.file c.args.number c.args.otherwise) may.state may.passes in
+    let asked =
+    left_acts hand mid c.row_in-object.result may.fits.rests c.arg_of-value.ensures.left
+    (c.arg_of-value.ensures.table.0 ∙ (ap (λ (w : TableState). w.table) c.self.view_is ∙ sym may.of.0))
+    c.arg_of-value.ensures.carried c.arg_of-value.ensures.slots c.arg_of-value.ensures.head in
+    let later =
+    same_fits may.first may.state c.args.rows.now hand mid may.fits asked c.arg_of-value.ensures.references in
+    let on =
+    on_file may.first may.state c.args.rows.now mid c.args.file c.row_in-row.result later
+    (not_false (names may.state.locked c.args.file) (kept _ met.has_lock))
+    (not_false (is_one_of (kind_of (slot_of may.state c.args.file)) with_resource)
+    (first_false _ (not (is_one_of (kind_of (slot_of may.state c.args.number)) (kinds.Num ∷ [])) || false) met.right_kind))
+    c.row_in-row.ensures in
+    ap (λ (v : View). v.locked) c.lend-resource.ensures.view ∙ on.locked
+
+pub returns-in-Ok-clause-done : goal.returns-in-Ok-clause-done
+returns-in-Ok-clause-done g c = λ first s fits passes.
+    let may = c.requires.may in
+    let hand = c.args.hand.now in
+    let mid = c.arg_of-value.new.hand in
+    let met = are_met (instructions.Write c.args.file c.args.number c.args.otherwise) may.state may.passes in
+    let asked =
+    left_acts hand mid c.row_in-object.result may.fits.rests c.arg_of-value.ensures.left
+    (c.arg_of-value.ensures.table.0 ∙ (ap (λ (w : TableState). w.table) c.self.view_is ∙ sym may.of.0))
+    c.arg_of-value.ensures.carried c.arg_of-value.ensures.slots c.arg_of-value.ensures.head in
+    let later =
+    same_fits may.first may.state c.args.rows.now hand mid may.fits asked c.arg_of-value.ensures.references in
+    let on =
+    on_file may.first may.state c.args.rows.now mid c.args.file c.row_in-row.result later
+    (not_false (names may.state.locked c.args.file) (kept _ met.has_lock))
+    (not_false (is_one_of (kind_of (slot_of may.state c.args.file)) with_resource)
+    (first_false _ (not (is_one_of (kind_of (slot_of may.state c.args.number)) (kinds.Num ∷ [])) || false) met.right_kind))
+    c.row_in-row.ensures in
+    let back =
+    lent_back mid c.lend-resource.new.hand c.give_back.new.hand c.row_in-row.result on
+    (c.give_back.ensures.table.0
+    ∙ (ap (λ (w : TableState). w.table) (c.new-lists.ensures ∙ c.self.view_is)
+    ∙ (sym may.of.0 ∙ sym asked.acts.follows.table)))
+    c.lend-resource.ensures.view c.give_back.ensures.view c.lend-resource.ensures.carried c.give_back.ensures.carried
+    c.lend-resource.ensures.slots c.give_back.ensures.slots in
+    let mine = same_fits first s c.args.rows.now hand mid fits asked c.arg_of-value.ensures.references in
+    subst (λ (h : HandState). Fits first s c.args.rows.now h) (sym back) mine
+
+pub returns-in-Err-clause-done : goal.returns-in-Err-clause-done
+returns-in-Err-clause-done g c = λ first s fits passes.
+    let may = c.requires.may in
+    let hand = c.args.hand.now in
+    let mid = c.arg_of-value.new.hand in
+    let met = are_met (instructions.Write c.args.file c.args.number c.args.otherwise) may.state may.passes in
+    let asked =
+    left_acts hand mid c.row_in-object.result may.fits.rests c.arg_of-value.ensures.left
+    (c.arg_of-value.ensures.table.0 ∙ (ap (λ (w : TableState). w.table) c.self.view_is ∙ sym may.of.0))
+    c.arg_of-value.ensures.carried c.arg_of-value.ensures.slots c.arg_of-value.ensures.head in
+    let later =
+    same_fits may.first may.state c.args.rows.now hand mid may.fits asked c.arg_of-value.ensures.references in
+    let on =
+    on_file may.first may.state c.args.rows.now mid c.args.file c.row_in-row.result later
+    (not_false (names may.state.locked c.args.file) (kept _ met.has_lock))
+    (not_false (is_one_of (kind_of (slot_of may.state c.args.file)) with_resource)
+    (first_false _ (not (is_one_of (kind_of (slot_of may.state c.args.number)) (kinds.Num ∷ [])) || false) met.right_kind))
+    c.row_in-row.ensures in
+    let back =
+    lent_back mid c.lend-resource.new.hand c.give_back.new.hand c.row_in-row.result on
+    (c.give_back.ensures.table.0
+    ∙ (ap (λ (w : TableState). w.table) (c.new-lists.ensures ∙ c.self.view_is)
+    ∙ (sym may.of.0 ∙ sym asked.acts.follows.table)))
+    c.lend-resource.ensures.view c.give_back.ensures.view c.lend-resource.ensures.carried c.give_back.ensures.carried
+    c.lend-resource.ensures.slots c.give_back.ensures.slots in
+    let mine = same_fits first s c.args.rows.now hand mid fits asked c.arg_of-value.ensures.references in
+    subst (λ (h : HandState). Fits first s c.args.rows.now h) (sym back) mine
+
+pub returns-in-Ok-clause-counted : goal.returns-in-Ok-clause-counted
+returns-in-Ok-clause-counted g c =
+    quiet_counted c.args.totals.now _ _ (use_ok _ _ c.write-written.result _ c.write-written.ensures c.in-Ok.is)
+
+pub returns-in-Err-clause-counted : goal.returns-in-Err-clause-counted
+returns-in-Err-clause-counted g c =
+    fault_counted c.args.totals.now c.count_host_fault.new.self _ _
+    (use_err _ _ c.write-written.result _ c.write-written.ensures c.in-Err.is) c.count_host_fault.ensures

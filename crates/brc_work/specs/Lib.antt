@@ -1,0 +1,5 @@
+pub mod Fits
+pub mod Changes
+pub mod Acts
+pub mod Totals
+pub mod Calls

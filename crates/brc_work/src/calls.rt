@@ -1,0 +1,224 @@
+//! A worker's call of a function, instruction after instruction.
+
+ghost use Rattle.std.specs.Prelude.{◌≡◌, ◌<◌, true, Some, length, slice_get};
+ghost use Rattle.brc_lang.specs.Grammar.{IsInstruction};
+ghost use Rattle.brc_table.specs.Hands.{IsOf};
+ghost use Rattle.brc_work.specs.Calls.{IsCode, IsAt, GoesOn, HasCalled, HasEnded, ends_call};
+ghost use Rattle.brc_work.specs.Fits.{MayDo, HasDone, IsReady};
+ghost use Rattle.brc_work.specs.Totals.{HasCounted};
+
+use crate::totals::Totals;
+use crate::turns::{NO_TURNS, Turns, again};
+use crate::variables::{Variables, name};
+use crate::worker::Worker;
+use brc_check::target_of;
+use brc_heap::{Hand, ROOT};
+use brc_host::Host;
+use brc_lang::{Instr, Variable};
+use brc_model::Exit;
+use std::sync::Wait;
+
+/// Returns the instruction at the point.
+fn instruction_at(code: &[Instr], at: usize) -> &Instr
+    requires { at < length code.now }
+    ensures { slice_get code.now at ≡ Some result.now }
+{
+    &code[at]
+}
+
+/// Returns whether the instruction ends the call.
+fn ends_call(instr: Instr) -> bool
+    ensures { result ≡ ends_call instr }
+{
+    matches!(instr, Instr::Ret { .. } | Instr::Fail)
+}
+
+impl<'h, T: Drop> Worker<'h, T> {
+    /// Makes a call of the function with this code. The hand holds afterwards what it held before.
+    pub(crate) fn call<R: Wait, H: Host<Res = T>>(
+        &self,
+        rt: &R,
+        code: &[Instr],
+        hand: &mut Hand<T>,
+        host: &mut H,
+        totals: &mut Totals,
+    )
+        requires code { IsCode code.now }
+        requires of { IsOf self.now hand.old }
+        requires ready { IsReady hand.old }
+        ensures of { IsOf self.now hand.new }
+        ensures called { HasCalled hand.old hand.new }
+        ensures counted { HasCounted totals.old totals.new (H.counts host.old) (H.counts host.new) }
+    {
+        self.heap.words().layout_is_plain();
+        let mut rows: Variables = [None; Variable::COUNT];
+        name(&mut rows, Variable::new(0), Some(ROOT));
+        let mut turns = NO_TURNS;
+        let mut at = 0;
+        for _ in rt.forever() {
+            match self.step(rt, code, at, &mut turns, &mut rows, hand, host, totals) {
+                Some(next) => at = next,
+                None => return,
+            }
+        }
+        unreachable!()
+    }
+
+    /// Does the instruction at the point. Returns the next point, or `None` if the call has ended.
+    fn step<R: Wait, H: Host<Res = T>>(
+        &self,
+        rt: &R,
+        code: &[Instr],
+        at: usize,
+        turns: &mut Turns,
+        rows: &mut Variables,
+        hand: &mut Hand<T>,
+        host: &mut H,
+        totals: &mut Totals,
+    ) -> Option<usize>
+        requires code { IsCode code.now }
+        requires at { IsAt self.now code.now at rows.old hand.old }
+        ensures of { IsOf self.now hand.new }
+        ensures goes { GoesOn code.now at rows.old hand.old result rows.new hand.new }
+        ensures counted { HasCounted totals.old totals.new (H.counts host.old) (H.counts host.new) }
+    {
+        let instr = instruction_at(code, at);
+        if ends_call(*instr) {
+            self.end(rt, *instr, rows, hand, host, totals);
+            return None;
+        }
+        let exit = self.perform(rt, *instr, at, turns, rows, hand, host, totals);
+        target_of(*instr, exit, at)
+    }
+
+    /// Does an instruction that ends the call. What a function returns is the caller's, which gives it up.
+    fn end<R: Wait, H: Host<Res = T>>(
+        &self,
+        rt: &R,
+        instr: Instr,
+        rows: &mut Variables,
+        hand: &mut Hand<T>,
+        host: &mut H,
+        totals: &mut Totals,
+    )
+        requires may { MayDo self.now instr rows.old hand.old }
+        requires ends { ends_call instr ≡ true }
+        ensures of { IsOf self.now hand.new }
+        ensures ended { HasEnded instr rows.old hand.old hand.new }
+        ensures counted { HasCounted totals.old totals.new (H.counts host.old) (H.counts host.new) }
+    {
+        if let Instr::Ret { from } = instr {
+            self.give_up(rt, rows, hand, host, totals, from);
+        }
+    }
+
+    /// Does an instruction that doesn't end the call. Returns by which exit.
+    fn perform<R: Wait, H: Host<Res = T>>(
+        &self,
+        rt: &R,
+        instr: Instr,
+        at: usize,
+        turns: &mut Turns,
+        rows: &mut Variables,
+        hand: &mut Hand<T>,
+        host: &mut H,
+        totals: &mut Totals,
+    ) -> Exit
+        requires may { MayDo self.now instr rows.old hand.old }
+        requires form { IsInstruction instr }
+        ensures of { IsOf self.now hand.new }
+        ensures done { HasDone instr result rows.old hand.old rows.new hand.new }
+        ensures counted { HasCounted totals.old totals.new (H.counts host.old) (H.counts host.new) }
+    {
+        match instr {
+            Instr::Num {
+                to,
+                value,
+                otherwise,
+            } => self.num(rows, hand, to, value, otherwise),
+            Instr::List {
+                to,
+                cells,
+                otherwise,
+            } => self.list(rows, hand, to, cells, otherwise),
+            Instr::NoneObject { to } => {
+                self.none(rows, hand, to);
+                Exit::Success
+            }
+            Instr::Newref { to, from } => {
+                self.newref(rows, hand, to, from);
+                Exit::Success
+            }
+            Instr::Move { to, from } => {
+                self.hand_on(rows, hand, to, from);
+                Exit::Success
+            }
+            Instr::Drop { from } => {
+                self.give_up(rt, rows, hand, host, totals, from);
+                Exit::Success
+            }
+            Instr::Lock { object } => {
+                self.lock(rt, rows, hand, object);
+                Exit::Success
+            }
+            Instr::Unlock { object } => {
+                self.unlock(rows, hand, object);
+                Exit::Success
+            }
+            Instr::Borrow {
+                to,
+                list,
+                index,
+                otherwise,
+            } => self.borrow(rows, hand, to, list, index, otherwise),
+            Instr::Fetch {
+                to,
+                list,
+                index,
+                otherwise,
+            } => self.fetch(rows, hand, to, list, index, otherwise),
+            Instr::Set {
+                list,
+                index,
+                from,
+                otherwise,
+            } => { self.set(rt, rows, hand, host, totals, list, index, from, otherwise) }
+            Instr::Put {
+                list,
+                index,
+                from,
+                otherwise,
+            } => { self.put(rt, rows, hand, host, totals, list, index, from, otherwise) }
+            Instr::Open {
+                to,
+                path,
+                mode,
+                otherwise,
+            } => { self.open(rows, hand, host, totals, to, path, mode, otherwise) }
+            Instr::Connect {
+                to,
+                peer,
+                otherwise,
+            } => self.connect(rows, hand, host, totals, to, peer, otherwise),
+            Instr::Read {
+                to,
+                file,
+                most,
+                otherwise,
+            } => { self.read(rows, hand, host, totals, to, file, most, otherwise) }
+            Instr::Write {
+                file,
+                number,
+                otherwise,
+            } => { self.write(rows, hand, host, totals, file, number, otherwise) }
+            Instr::As {
+                from,
+                kind,
+                otherwise,
+            } => self.is_of_kind(rows, hand, from, kind, otherwise),
+            Instr::Again { times, .. } => again(turns, at, times),
+            // `goto` has one exit, and those that end the call do nothing here.
+            Instr::Goto { .. } | Instr::Ret { .. } | Instr::Fail => Exit::Success,
+        }
+    }
+}

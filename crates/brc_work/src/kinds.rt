@@ -1,0 +1,50 @@
+//! `as`, which asks for an object's kind.
+
+ghost use Rattle.std.specs.Prelude.{◌≡◌};
+ghost use Rattle.brc_lang.specs.declared.module.Instr.TheVariants as instructions;
+ghost use Rattle.brc_model.specs.Kinds.{kind_number};
+ghost use Rattle.brc_table.specs.Hands.{IsOf};
+ghost use Rattle.brc_work.specs.Fits.{MayDo, HasDone};
+
+use crate::variables::{Variables, row_in};
+use crate::worker::Worker;
+use brc_heap::Hand;
+use brc_lang::{Kind, Variable};
+use brc_model::Exit;
+
+/// Returns the number that names the kind in kind words.
+fn kind_number(kind: Kind) -> u8
+    ensures { result ≡ kind_number kind }
+{
+    match kind {
+        Kind::Any => 0,
+        Kind::None => 1,
+        Kind::Num => 2,
+        Kind::List => 3,
+        Kind::File => 4,
+        Kind::Sock => 5,
+    }
+}
+
+impl<'h, T: Drop> Worker<'h, T> {
+    /// `as`: asks whether an object is of the kind.
+    pub(crate) fn is_of_kind(
+        &self,
+        rows: &Variables,
+        hand: &mut Hand<T>,
+        from: Variable,
+        kind: Kind,
+        otherwise: u8,
+    ) -> Exit
+        requires may { MayDo self.now (instructions.As from kind otherwise) rows.now hand.old }
+        ensures of { IsOf self.now hand.new }
+        ensures done { HasDone (instructions.As from kind otherwise) result rows.now hand.old rows.now hand.new }
+    {
+        let row = row_in(rows, from);
+        if kind_number(self.heap.kind_of(hand, row)) == kind_number(kind) {
+            Exit::Success
+        } else {
+            Exit::Fault
+        }
+    }
+}

@@ -1,0 +1,24 @@
+//! Workers: threads that make the calls of an accepted module's function over a heap and a host.
+//!
+//! A worker works on its own variables, which have no tags: that each call finds what it needs, and that nothing is
+//! given up twice or left, stands on the checker's acceptance alone. It takes no memory.
+#![tactic(auto)]
+
+mod births;
+mod calls;
+mod gate;
+mod host_calls;
+mod items;
+mod kinds;
+mod line;
+mod locks;
+mod references;
+mod running;
+mod totals;
+mod turns;
+mod variables;
+mod worker;
+
+pub use gate::Gate;
+pub use totals::Totals;
+pub use worker::Worker;

@@ -1,0 +1,61 @@
+//! `lock` and `unlock`, which begin and end the critical section of an object.
+
+ghost use Rattle.std.specs.Prelude.{◌≡◌, ◌⊎◌, Some, None, true, false, ℕ};
+ghost use Rattle.brc_lang.specs.declared.module.Instr.TheVariants as instructions;
+ghost use Rattle.brc_model.specs.declared.slot.Exit.TheVariants.{Success};
+ghost use Rattle.brc_table.specs.Hands.{IsOf};
+ghost use Rattle.brc_work.specs.Fits.{MayDo, HasDone, IsStill};
+
+use crate::variables::{Variables, row_in};
+use crate::worker::Worker;
+use brc_heap::Hand;
+use brc_lang::Variable;
+use brc_list::Lists;
+use crossbeam_utils::Backoff;
+use std::sync::Wait;
+
+impl<'h, T: Drop> Worker<'h, T> {
+    /// `lock`: locks an object, once no other thread has locked it.
+    pub(crate) fn lock<R: Wait>(
+        &self,
+        rt: &R,
+        rows: &Variables,
+        hand: &mut Hand<T>,
+        object: Variable,
+    )
+        requires may { MayDo self.now (instructions.Lock object) rows.now hand.old }
+        ensures of { IsOf self.now hand.new }
+        ensures done { HasDone (instructions.Lock object) Success rows.now hand.old rows.now hand.new }
+    {
+        let backoff = Backoff::new();
+        for _ in rt.forever() {
+            if self.tries_lock(rows, hand, object) {
+                return;
+            }
+            backoff.spin();
+        }
+        unreachable!()
+    }
+
+    /// Tries once to lock an object. Returns whether it is locked.
+    fn tries_lock(&self, rows: &Variables, hand: &mut Hand<T>, object: Variable) -> bool
+        requires may { MayDo self.now (instructions.Lock object) rows.now hand.old }
+        ensures of { IsOf self.now hand.new }
+        ensures done { result ≡ true → HasDone (instructions.Lock object) Success rows.now hand.old rows.now hand.new }
+        ensures again { result ≡ false → MayDo self.now (instructions.Lock object) rows.now hand.new }
+        ensures nothing { result ≡ false → IsStill (instructions.Lock object) rows.now hand.old hand.new }
+    {
+        let row = row_in(rows, object);
+        Lists::new(self.heap).try_lock(hand, row)
+    }
+
+    /// `unlock`: unlocks an object.
+    pub(crate) fn unlock(&self, rows: &Variables, hand: &mut Hand<T>, object: Variable)
+        requires may { MayDo self.now (instructions.Unlock object) rows.now hand.old }
+        ensures of { IsOf self.now hand.new }
+        ensures done { HasDone (instructions.Unlock object) Success rows.now hand.old rows.now hand.new }
+    {
+        let row = row_in(rows, object);
+        Lists::new(self.heap).unlock(hand, row);
+    }
+}

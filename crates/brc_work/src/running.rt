@@ -1,0 +1,84 @@
+//! A worker's calls, one after the other.
+
+ghost use Rattle.std.specs.Prelude.{◌≡◌, ◌<◌, ◌≤◌, ◌+◌, length};
+ghost use Rattle.brc_table.specs.Hands.{IsOf};
+ghost use Rattle.brc_work.specs.Calls.{IsCode, HasCalled};
+ghost use Rattle.brc_work.specs.Fits.{IsReady};
+ghost use Rattle.brc_work.specs.Totals.{HasCounted, no_totals};
+
+use crate::gate::Gate;
+use crate::totals::Totals;
+use crate::worker::Worker;
+use brc_check::Checked;
+use brc_heap::Hand;
+use brc_host::Host;
+use brc_lang::Instr;
+use std::sync::Wait;
+
+/// Returns the code of the accepted module's function with this number.
+fn code_of(checked: &Checked, function: usize) -> &[Instr]
+    requires { function < length checked.now.module.functions }
+    ensures { IsCode result.now }
+{
+    checked.module().functions.as_slice()[function]
+        .code
+        .as_slice()
+}
+
+impl<'h, T: Drop> Worker<'h, T> {
+    /// Makes the calls of the accepted module's function with this number, `times` of them. Before each call it looks
+    /// through the hand's queue. Returns what it has counted.
+    ///
+    /// The hand runs, has nothing to do and nothing locked, and holds the root and fewer than 2^31 references in all.
+    /// Afterwards it holds what it held before.
+    pub fn run<R: Wait, H: Host<Res = T>, G: Gate>(
+        &self,
+        rt: &R,
+        checked: &Checked,
+        function: usize,
+        times: u32,
+        hand: &mut Hand<T>,
+        host: &mut H,
+        gate: &G,
+    ) -> Totals
+        requires of { IsOf self.now hand.old }
+        requires ready { IsReady hand.old }
+        requires function { function < length checked.now.module.functions }
+        ensures of { IsOf self.now hand.new }
+        ensures called { HasCalled hand.old hand.new }
+        ensures created { result.created + hand.old.view.used ≡ hand.new.view.used }
+        ensures counted { HasCounted no_totals result (H.counts host.old) (H.counts host.new) }
+    {
+        let code = code_of(checked, function);
+        let used = hand.used();
+        let mut totals = Totals::new();
+        for call in 0..times {
+            gate.before(hand.thread(), call);
+            self.look_and_call(rt, code, hand, host, &mut totals);
+            gate.after(hand.thread(), call);
+        }
+        totals.created = hand.used() - used;
+        totals
+    }
+
+    /// Looks through the hand's queue, and makes a call of the function with this code.
+    fn look_and_call<R: Wait, H: Host<Res = T>>(
+        &self,
+        rt: &R,
+        code: &[Instr],
+        hand: &mut Hand<T>,
+        host: &mut H,
+        totals: &mut Totals,
+    )
+        requires code { IsCode code.now }
+        requires of { IsOf self.now hand.old }
+        requires ready { IsReady hand.old }
+        ensures of { IsOf self.now hand.new }
+        ensures called { HasCalled hand.old hand.new }
+        ensures counted { HasCounted totals.old totals.new (H.counts host.old) (H.counts host.new) }
+    {
+        let failed = self.queue.merge_pending(rt, hand, host);
+        totals.count_close_faults(failed);
+        self.call(rt, code, hand, host, totals);
+    }
+}
