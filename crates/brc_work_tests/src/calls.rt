@@ -1,0 +1,92 @@
+//! Calls over a heap of one worker. The contract of each carries what the next one requires.
+
+ghost use Rattle.std.specs.Prelude.{◌≡◌, ◌<◌, ◌≤◌, IfOk, OnOk};
+ghost use Rattle.brc_model.specs.Limits.{row_limit};
+ghost use Rattle.brc_table.specs.Hands.{IsOf};
+ghost use Rattle.brc_work_tests.specs.Ready.{HoldsRoot};
+
+use crate::hearing::{Hearing, WORKER};
+use brc_check::{Checked, check};
+use brc_heap::{Final, Hand, Heap};
+use brc_host::{FakeHost, FakeResource};
+use brc_lang::read;
+use brc_queue::Queue;
+use brc_work::{Totals, Worker};
+use std::alloc::Global;
+use std::sync::Wait;
+use std::test::*;
+
+/// Returns the module of the text, which is accepted.
+pub fn accepted(alloc: Global, text: &[u8]) -> Result<Checked, Fail> {
+    let Ok(module) = read(alloc, text) else {
+        return Err("the text is a module")?;
+    };
+    match check(alloc, module) {
+        Ok(checked) => Ok(checked),
+        Err(_) => Err("the module is accepted")?,
+    }
+}
+
+/// Returns a heap for one worker that has `rows` rows, and main's hand.
+pub fn opened(alloc: Global, rows: u16) -> Result<(Heap<FakeResource>, Hand<FakeResource>), Fail>
+    requires rows { (0 < rows) × (rows ≤ row_limit) }
+    ensures main { IfOk result (λ made. HoldsRoot made.0 made.1) }
+    ensures thread { IfOk result (λ made. made.1.view.thread ≡ 0) }
+{
+    Ok(Heap::new(alloc, 1, rows)?)
+}
+
+/// Gives out the worker's hand.
+pub fn worker_hand(
+    heap: &Heap<FakeResource>,
+    main: &mut Hand<FakeResource>,
+) -> Result<Hand<FakeResource>, Fail>
+    requires main { HoldsRoot heap.now main.old }
+    requires thread { main.old.view.thread ≡ 0 }
+    ensures main { OnOk result (HoldsRoot heap.now main.new) }
+    ensures thread { OnOk result (main.new.view.thread ≡ 0) }
+    ensures worker { IfOk result (λ hand. HoldsRoot heap.now hand) }
+{
+    Ok(heap.hand_out(main, WORKER)?)
+}
+
+/// Calls the module's first function `times` times. Returns what the worker has counted.
+pub fn makes_calls<R: Wait>(
+    rt: &R,
+    heap: &Heap<FakeResource>,
+    checked: &Checked,
+    times: u32,
+    hand: &mut Hand<FakeResource>,
+    host: &mut FakeHost<'_>,
+    gate: &Hearing,
+) -> Totals
+    requires holds { HoldsRoot heap.now hand.old }
+    ensures holds { HoldsRoot heap.now hand.new }
+{
+    // The accepted module has a first function.
+    let _module = checked.module();
+    let queue = Queue::new(heap);
+    Worker::new(heap, &queue).run(rt, checked, 0, times, hand, host, gate)
+}
+
+/// Lets the hand's thread leave. Returns how many closes have failed.
+pub fn leaves<R: Wait>(
+    rt: &R,
+    heap: &Heap<FakeResource>,
+    hand: &mut Hand<FakeResource>,
+    host: &mut FakeHost<'_>,
+) -> u64
+    requires holds { HoldsRoot heap.now hand.old }
+    ensures table { IsOf heap.now hand.new }
+    ensures thread { hand.new.view.thread ≡ hand.old.view.thread }
+{
+    Queue::new(heap).leave(rt, hand, host)
+}
+
+/// Ends the heap. Returns what is left of it, or `None` if a thread isn't gone.
+pub fn ended(heap: Heap<FakeResource>, main: Hand<FakeResource>) -> Option<Final<FakeResource>>
+    requires table { IsOf heap main }
+    requires thread { main.view.thread ≡ 0 }
+{
+    heap.finish(main).ok()
+}

@@ -1,0 +1,77 @@
+//! Runs over a host that fails: its faults are counted, and each file or connection that it has opened is closed once.
+
+use crate::runs::{Counts, MOST_ROWS, expect, run_over};
+use std::test::*;
+
+/// A run of one call: its name, the module, which calls of the host fail, and what it leads to.
+type Case<'a> = (&'a str, &'a [u8], &'a [u64], Counts);
+
+/// Opens a file, and gives it up: calls 0 and 1 of the host.
+const OPEN: &[u8] = b"module 1\nfunc f\nopen v1 0 r else @2\ndrop v1\nfail\nend\n";
+
+/// Connects to a peer, and gives the connection up.
+const CONNECT: &[u8] = b"module 1\nfunc f\nconnect v1 0 else @2\ndrop v1\nfail\nend\n";
+
+/// Writes to a peer how many bytes it has read from a file. The host's calls are 0 open, 1 connect, 2 read, 3 write,
+/// and if those of opening succeed, at the end the closes of the connection and of the file: 4 and 5 in a whole copy.
+const COPY: &[u8] =
+    b"module 1\nfunc f\nopen v1 0 r else @13\nconnect v2 0 else @12\nlock v1\nread v3 v1 4 else @10\n\
+    unlock v1\nlock v2\nwrite v2 v3 else @7\nunlock v2\ndrop v3\ngoto @11\nunlock v1\ndrop v2\ndrop v1\nfail\nend\n";
+
+/// Opens a file and puts it into the root, which is closed as main leaves. So is the file: call 1 of the host.
+const KEPT: &[u8] =
+    b"module 1\nfunc f\nopen v1 0 r else @4\nlock v0\nset v0 0 v1 else @3\nunlock v0\nfail\nend\n";
+
+const CASES: &[Case] = &[
+    ("open", OPEN, &[], [2, 2, 0, 0, 0]),
+    ("open fails", OPEN, &[0], [1, 1, 0, 1, 0]),
+    (
+        "close of what was opened fails",
+        OPEN,
+        &[1],
+        [2, 2, 0, 0, 1],
+    ),
+    ("file in the root", KEPT, &[], [2, 2, 0, 0, 0]),
+    (
+        "close of a file in the root fails",
+        KEPT,
+        &[1],
+        [2, 2, 0, 0, 1],
+    ),
+    ("connect", CONNECT, &[], [2, 2, 0, 0, 0]),
+    ("connect fails", CONNECT, &[0], [1, 1, 0, 1, 0]),
+    ("copy", COPY, &[], [4, 4, 0, 0, 0]),
+    ("copy's open fails", COPY, &[0], [1, 1, 0, 1, 0]),
+    ("copy's connect fails", COPY, &[1], [2, 2, 0, 1, 0]),
+    ("copy's read fails", COPY, &[2], [3, 3, 0, 1, 0]),
+    ("copy's write fails", COPY, &[3], [4, 4, 0, 1, 0]),
+    ("copy's first close fails", COPY, &[4], [4, 4, 0, 0, 1]),
+    ("copy's second close fails", COPY, &[5], [4, 4, 0, 0, 1]),
+    ("copy's closes fail", COPY, &[4, 5], [4, 4, 0, 0, 2]),
+    ("a call that copy doesn't make", COPY, &[6], [4, 4, 0, 0, 0]),
+];
+
+#[test]
+fn the_hosts_faults_are_counted(rt: HostRuntime) -> Result<(), Fail> {
+    for (name, text, plan, want) in CASES {
+        expect(&rt, rt.alloc(), name, text, (MOST_ROWS, 1, plan), *want)?;
+    }
+    Ok(())
+}
+
+#[test]
+fn everything_is_closed_whichever_two_calls_fail(rt: HostRuntime) -> Result<(), Fail> {
+    for second in 1..7u64 {
+        for first in 0..second {
+            let ran = run_over(&rt, rt.alloc(), COPY, MOST_ROWS, 1, &[first, second])?;
+            let [created, closed, alive, _, _] = ran.counts;
+            assert_eq!(rt; (closed, alive), (created, 0), "calls {first} and {second}");
+            assert_eq!(rt;
+                ran.closed,
+                ran.opened,
+                "closes with calls {first} and {second}"
+            );
+        }
+    }
+    Ok(())
+}

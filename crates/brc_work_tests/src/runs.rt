@@ -1,0 +1,112 @@
+//! A whole run of a module, in plain numbers.
+
+use crate::calls::{accepted, ended, leaves, makes_calls, opened, worker_hand};
+use crate::hearing::Hearing;
+use brc_heap::{Final, ROOT};
+use brc_host::{FakeHost, FakeResource, Host};
+use std::alloc::Global;
+use std::process::Abort;
+use std::sync::Wait;
+use std::test::*;
+
+/// The most rows that a worker may have.
+pub const MOST_ROWS: u16 = 1024;
+
+/// What a run leads to, as in a report: how many objects were created, closed and are alive, how many calls of the host
+/// failed, and how many closes. The root counts as an object, none doesn't.
+pub type Counts = [u64; 5];
+
+/// What a run has left.
+#[derive(Clone, Copy, Debug, PartialEq, Eq)]
+pub struct Ran {
+    /// The report's counts. The faults of closes are those that the worker has counted, and those of both exits.
+    pub counts: Counts,
+    /// The files and connections that the host has opened.
+    pub opened: u64,
+    /// Those that it has closed.
+    pub closed: u64,
+    /// The births that the worker has counted.
+    pub births: u32,
+    /// The beginnings and ends of calls that the gate has heard, or `None` if they didn't come in order.
+    pub heard: Option<u64>,
+}
+
+/// Returns how many objects were created, how many are closed, and how many are alive.
+fn objects(end: &Final<FakeResource>) -> [u64; 3] {
+    let mut created: u64 = 0;
+    let mut closed: u64 = 0;
+    let mut alive: u64 = 0;
+    for row in ROOT..end.rows() {
+        if end.born(row) {
+            created = created.saturating_add(1);
+        }
+        if end.closed(row) {
+            closed = closed.saturating_add(1);
+        }
+        if end.born(row) && !end.closed(row) {
+            alive = alive.saturating_add(1);
+        }
+    }
+    [created, closed, alive]
+}
+
+/// Lets a worker with `rows` rows call the first function of the text's module `times` times, over a host that fails
+/// in the calls of the plan. Then the worker leaves, main leaves, and the heap ends.
+pub fn run_over<R: Wait>(
+    rt: &R,
+    alloc: Global,
+    text: &[u8],
+    rows: u16,
+    times: u32,
+    plan: &[u64],
+) -> Result<Ran, Fail> {
+    if rows == 0 || rows > MOST_ROWS {
+        return Err("a worker has 1 to 1024 rows")?;
+    }
+    let checked = accepted(alloc, text)?;
+    let mut host = FakeHost::new(plan);
+    let gate = Hearing::new();
+    let (heap, mut main) = opened(alloc, rows)?;
+    let mut hand = worker_hand(&heap, &mut main)?;
+    let totals = makes_calls(rt, &heap, &checked, times, &mut hand, &mut host, &gate);
+    let first = leaves(rt, &heap, &mut hand, &mut host);
+    let last = leaves(rt, &heap, &mut main, &mut host);
+    let Some(end) = ended(heap, main) else {
+        return Err("a thread isn't gone")?;
+    };
+    let [created, closed, alive] = objects(&end);
+    let close_faults = totals
+        .close_faults
+        .saturating_add(first)
+        .saturating_add(last);
+    Ok(Ran {
+        counts: [created, closed, alive, totals.host_faults, close_faults],
+        opened: host.opened(),
+        closed: host.closed(),
+        births: totals.created,
+        heard: gate.heard(),
+    })
+}
+
+/// Asserts what a run leads to. In every run the worker counts a birth for each object but the root, the gate hears
+/// each call begin and end, and the host has closed what it has opened.
+pub fn expect<R: Wait + Abort>(
+    rt: &R,
+    alloc: Global,
+    name: &str,
+    text: &[u8],
+    run: (u16, u32, &[u64]),
+    want: Counts,
+) -> Result<(), Fail> {
+    let (rows, times, plan) = run;
+    let ran = run_over(rt, alloc, text, rows, times, plan)?;
+    assert_eq!(rt; ran.counts, want, "{name}");
+    assert_eq!(rt;
+        u64::from(ran.births),
+        want[0].saturating_sub(1),
+        "births of {name}"
+    );
+    assert_eq!(rt; ran.heard, Some(2 * u64::from(times)), "calls of {name}");
+    assert_eq!(rt; ran.opened, ran.closed, "closes of {name}");
+    Ok(())
+}

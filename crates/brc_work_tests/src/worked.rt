@@ -1,0 +1,97 @@
+//! Worked runs: what is born, what dies with it, and what is left.
+
+use crate::runs::{Counts, MOST_ROWS, expect, run_over};
+use std::test::*;
+
+/// A run in which no call of the host fails: its name, the module, the worker's rows, the number of calls, and what it
+/// leads to.
+type Case<'a> = (&'a str, &'a [u8], u16, u32, Counts);
+
+/// It does nothing.
+const NOTHING: &[u8] = b"module 1\nfunc f\nfail\nend\n";
+
+/// The root has eight cells: `set` gives the number up.
+const SET_OUT_OF_RANGE: &[u8] =
+    b"module 1\nfunc f\nnum v1 7 else @6\nlock v0\nset v0 200 v1 else @5\nunlock v0\nfail\n\
+    unlock v0\nfail\nend\n";
+
+/// Each call's number takes the place of the last one's in the root.
+const SWAP: &[u8] =
+    b"module 1\nfunc f\nnum v1 7 else @7\nlock v0\nset v0 0 v1 else @6\nunlock v0\nnone v1\nret v1\n\
+    unlock v0\nfail\nend\n";
+
+/// A list is put into itself.
+const IN_ITSELF: &[u8] =
+    b"module 1\nfunc f\nlist v1 1 else @6\nnewref v2 v1\nlock v1\nset v1 0 v2 else @4\nunlock v1\n\
+    drop v1\nfail\nend\n";
+
+/// Two numbers, the second of which needs a second row.
+const TWO_NUMBERS: &[u8] =
+    b"module 1\nfunc f\nnum v1 1 else @4\nnum v2 2 else @3\ndrop v2\ndrop v1\nfail\nend\n";
+
+/// Four numbers, one in each pass.
+const FOUR_PASSES: &[u8] = b"module 1\nfunc f\nnum v1 1 else @3\ndrop v1\nagain @0 3\nfail\nend\n";
+
+/// A thousand lists, each in the one after it. Where a row is missing, those that are there are given up.
+const DEEP: &[u8] =
+    b"module 1\nfunc f\nlist v1 1 else @8\nlist v2 1 else @7\nlock v2\nset v2 0 v1 else @4\nunlock v2\n\
+    move v1 v2\nagain @1 998\ndrop v1\nfail\nend\n";
+
+const CASES: &[Case] = &[
+    ("nothing", NOTHING, MOST_ROWS, 1, [1, 1, 0, 0, 0]),
+    (
+        "set out of range",
+        SET_OUT_OF_RANGE,
+        MOST_ROWS,
+        1,
+        [2, 2, 0, 0, 0],
+    ),
+    ("swap once", SWAP, MOST_ROWS, 1, [2, 2, 0, 0, 0]),
+    (
+        "swap a thousand times",
+        SWAP,
+        MOST_ROWS,
+        1000,
+        [1001, 1001, 0, 0, 0],
+    ),
+    ("list in itself", IN_ITSELF, MOST_ROWS, 1, [2, 1, 1, 0, 0]),
+    ("two numbers, one row", TWO_NUMBERS, 1, 1, [2, 2, 0, 0, 0]),
+    ("two numbers", TWO_NUMBERS, MOST_ROWS, 1, [3, 3, 0, 0, 0]),
+    ("four passes", FOUR_PASSES, MOST_ROWS, 1, [5, 5, 0, 0, 0]),
+    (
+        "four passes, twice",
+        FOUR_PASSES,
+        MOST_ROWS,
+        2,
+        [9, 9, 0, 0, 0],
+    ),
+    (
+        "four passes, three rows",
+        FOUR_PASSES,
+        3,
+        1,
+        [4, 4, 0, 0, 0],
+    ),
+    ("deep lists", DEEP, MOST_ROWS, 1, [1001, 1001, 0, 0, 0]),
+    ("deep lists, 500 rows", DEEP, 500, 1, [501, 501, 0, 0, 0]),
+];
+
+#[test]
+fn worked_runs_close_all_but_a_list_in_itself(rt: HostRuntime) -> Result<(), Fail> {
+    for (name, text, rows, times, want) in CASES {
+        expect(&rt, rt.alloc(), name, text, (*rows, *times, &[]), *want)?;
+    }
+    Ok(())
+}
+
+/// The calls of `f`, and how many beginnings and ends of them there are.
+const CALLS: &[(u32, u64)] = &[(0, 0), (1, 2), (3, 6), (100, 200)];
+
+#[test]
+fn the_gate_hears_each_call_of_thread_1_begin_and_end(rt: HostRuntime) -> Result<(), Fail> {
+    for (times, heard) in CALLS {
+        let ran = run_over(&rt, rt.alloc(), FOUR_PASSES, MOST_ROWS, *times, &[])?;
+        assert_eq!(rt; ran.heard, Some(*heard), "{times} calls");
+    }
+    Ok(())
+}
