@@ -8,7 +8,7 @@ ghost use Rattle.brc_work_tests.specs.Ready.{HoldsRoot};
 use crate::hearing::{Hearing, WORKER};
 use brc_check::{Checked, check};
 use brc_heap::{Final, Hand, Heap};
-use brc_host::{FakeHost, FakeResource};
+use brc_host::{FakeResource, Host};
 use brc_lang::read;
 use brc_queue::Queue;
 use brc_work::{Totals, Worker};
@@ -51,13 +51,13 @@ pub fn worker_hand(
 }
 
 /// Calls the module's first function `times` times. Returns what the worker has counted.
-pub fn makes_calls<R: Wait>(
+pub fn makes_calls<R: Wait, H: Host<Res = FakeResource>>(
     rt: &R,
     heap: &Heap<FakeResource>,
     checked: &Checked,
     times: u32,
     hand: &mut Hand<FakeResource>,
-    host: &mut FakeHost<'_>,
+    host: &mut H,
     gate: &Hearing,
 ) -> Totals
     requires holds { HoldsRoot heap.now hand.old }
@@ -70,11 +70,11 @@ pub fn makes_calls<R: Wait>(
 }
 
 /// Lets the hand's thread leave. Returns how many closes have failed.
-pub fn leaves<R: Wait>(
+pub fn leaves<R: Wait, H: Host<Res = FakeResource>>(
     rt: &R,
     heap: &Heap<FakeResource>,
     hand: &mut Hand<FakeResource>,
-    host: &mut FakeHost<'_>,
+    host: &mut H,
 ) -> u64
     requires holds { HoldsRoot heap.now hand.old }
     ensures table { IsOf heap.now hand.new }

@@ -1,7 +1,9 @@
-//! Tests of workers: each runs a module over a heap of one worker and a host that fails by plan, ends the heap, and
-//! compares what was born, what was closed and which faults were counted with what docs/LANGUAGE.md says.
+//! Tests of workers: each lets a worker run a module over a heap and a host. What is born and closed, which faults are
+//! counted, and what the host is asked for have to be what docs/LANGUAGE.md says.
 #![tactic(auto)]
 
+#[cfg(test)]
+mod asked;
 #[cfg(test)]
 mod calls;
 #[cfg(test)]

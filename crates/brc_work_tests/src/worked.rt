@@ -1,6 +1,11 @@
 //! Worked runs: what is born, what dies with it, and what is left.
 
+use crate::calls::{accepted, makes_calls, opened, worker_hand};
+use crate::hearing::Hearing;
 use crate::runs::{Counts, MOST_ROWS, expect, run_over};
+use brc_host::FakeHost;
+use std::alloc::Global;
+use std::sync::Wait;
 use std::test::*;
 
 /// A run in which no call of the host fails: its name, the module, the worker's rows, the number of calls, and what it
@@ -93,5 +98,33 @@ fn the_gate_hears_each_call_of_thread_1_begin_and_end(rt: HostRuntime) -> Result
         let ran = run_over(&rt, rt.alloc(), FOUR_PASSES, MOST_ROWS, *times, &[])?;
         assert_eq!(rt; ran.heard, Some(*heard), "{times} calls");
     }
+    Ok(())
+}
+
+/// Lets a worker call the first function of the text's module `times` times, and then once more. Returns of each of the
+/// two runs the births that the worker has counted, and what a gate of its own has heard.
+fn two_runs<R: Wait>(
+    rt: &R,
+    alloc: Global,
+    text: &[u8],
+    times: u32,
+) -> Result<[(u32, Option<u64>); 2], Fail> {
+    let checked = accepted(alloc, text)?;
+    let mut host = FakeHost::new(&[]);
+    let (heap, mut main) = opened(alloc, MOST_ROWS)?;
+    let mut hand = worker_hand(&heap, &mut main)?;
+    let (gate, other) = (Hearing::new(), Hearing::new());
+    let first = makes_calls(rt, &heap, &checked, times, &mut hand, &mut host, &gate);
+    let second = makes_calls(rt, &heap, &checked, 1, &mut hand, &mut host, &other);
+    Ok([
+        (first.created, gate.heard()),
+        (second.created, other.heard()),
+    ])
+}
+
+#[test]
+fn each_run_counts_its_own_births_and_calls(rt: HostRuntime) -> Result<(), Fail> {
+    let runs = two_runs(&rt, rt.alloc(), FOUR_PASSES, 3)?;
+    assert_eq!(rt; runs, [(12, Some(6)), (4, Some(2))]);
     Ok(())
 }

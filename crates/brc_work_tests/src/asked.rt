@@ -1,0 +1,164 @@
+//! What a worker asks of its host, and when: within its calls, and what the instructions say.
+
+use crate::calls::{accepted, makes_calls, opened, worker_hand};
+use crate::hearing::Hearing;
+use crate::runs::MOST_ROWS;
+use bitflags::Flags;
+use brc_host::{FakeHost, FakeResource, Fault, Host};
+use brc_lang::Mode;
+use std::alloc::Global;
+use std::sync::Wait;
+use std::test::*;
+
+/// What a host should be asked for: the path and the mode of a file, a peer, how many bytes to read, and the bytes to
+/// write.
+#[derive(Clone, Copy, Drop)]
+struct Asked<'a> {
+    path: u8,
+    mode: Mode,
+    peer: u8,
+    most: u16,
+    bytes: &'a [u8],
+}
+
+/// How many calls of `open`, `connect`, `read` and `write` asked for what they should, within a call of the worker, and
+/// how many others there were.
+#[derive(Clone, Copy, Debug, PartialEq, Eq, Drop)]
+struct Notes {
+    right: u64,
+    others: u64,
+}
+
+impl Notes {
+    /// Notes a call of the host, after a gate has heard so much.
+    fn note(&mut self, right: bool, heard: Option<u64>) {
+        let within = match heard {
+            Some(heard) => heard % 2 == 1,
+            None => false,
+        };
+        if right && within {
+            self.right = self.right.saturating_add(1);
+        } else {
+            self.others = self.others.saturating_add(1);
+        }
+    }
+}
+
+/// A host in which no call fails, and which notes whether it is asked for what it should be.
+#[derive(Drop)]
+struct NotingHost<'a> {
+    fake: FakeHost<'a>,
+    gate: &'a Hearing,
+    asked: Asked<'a>,
+    notes: Notes,
+}
+
+impl Host for NotingHost<'_> {
+    type Res = FakeResource;
+
+    ghost counts = { λ host. host.fake.counts };
+
+    fn open(&mut self, path: u8, mode: Mode) -> Result<FakeResource, Fault> {
+        let right = path == self.asked.path && mode == self.asked.mode;
+        self.notes.note(right, self.gate.heard());
+        self.fake.open(path, mode)
+    }
+
+    fn connect(&mut self, peer: u8) -> Result<FakeResource, Fault> {
+        self.notes.note(peer == self.asked.peer, self.gate.heard());
+        self.fake.connect(peer)
+    }
+
+    fn read(&mut self, from: &mut FakeResource, most: u16) -> Result<u16, Fault> {
+        self.notes.note(most == self.asked.most, self.gate.heard());
+        self.fake.read(from, most)
+    }
+
+    fn write(&mut self, to: &mut FakeResource, bytes: &[u8]) -> Result<(), Fault> {
+        self.notes
+            .note(*bytes == *self.asked.bytes, self.gate.heard());
+        self.fake.write(to, bytes)
+    }
+
+    fn close(&mut self, resource: FakeResource) -> Result<(), Fault> {
+        self.fake.close(resource)
+    }
+
+    fn failures(&self) -> u64 {
+        self.fake.failures()
+    }
+
+    fn opened(&self) -> u64 {
+        self.fake.opened()
+    }
+
+    fn closed(&self) -> u64 {
+        self.fake.closed()
+    }
+}
+
+/// Lets a worker call the first function of the text's module twice. Returns what the host has noted.
+fn noted<R: Wait>(rt: &R, alloc: Global, text: &[u8], asked: Asked<'_>) -> Result<Notes, Fail> {
+    let checked = accepted(alloc, text)?;
+    let gate = Hearing::new();
+    let mut host = NotingHost {
+        fake: FakeHost::new(&[]),
+        gate: &gate,
+        asked,
+        notes: Notes {
+            right: 0,
+            others: 0,
+        },
+    };
+    let (heap, mut main) = opened(alloc, MOST_ROWS)?;
+    let mut hand = worker_hand(&heap, &mut main)?;
+    makes_calls(rt, &heap, &checked, 2, &mut hand, &mut host, &gate);
+    Ok(host.notes)
+}
+
+/// Reads from a file, and writes to a peer how many bytes that were. A `FakeHost` reads as many as it is asked for.
+const READ_AND_TELL: &[u8] =
+    b"module 1\nfunc f\nopen v1 3 rwc else @13\nconnect v2 5 else @12\nlock v1\nread v3 v1 4096 else @10\n\
+    unlock v1\nlock v2\nwrite v2 v3 else @7\nunlock v2\ndrop v3\ngoto @11\nunlock v1\ndrop v2\ndrop v1\nfail\nend\n";
+
+/// Writes the number 0 to a file.
+const WRITE_LEAST: &[u8] =
+    b"module 1\nfunc f\nopen v1 15 w else @7\nnum v2 0 else @6\nlock v1\nwrite v1 v2 else @4\n\
+    unlock v1\ndrop v2\ndrop v1\nfail\nend\n";
+
+/// Writes the greatest number to a file.
+const WRITE_MOST: &[u8] =
+    b"module 1\nfunc f\nopen v1 15 w else @7\nnum v2 4294967295 else @6\nlock v1\nwrite v1 v2 else @4\n\
+    unlock v1\ndrop v2\ndrop v1\nfail\nend\n";
+
+/// Returns what the host is asked for by the modules that write a number to a file.
+fn written(bytes: &[u8]) -> Asked<'_> {
+    Asked {
+        path: 15,
+        mode: Mode::WRITE,
+        peer: 0,
+        most: 0,
+        bytes,
+    }
+}
+
+#[test]
+fn the_host_is_asked_for_what_the_instructions_say(rt: HostRuntime) -> Result<(), Fail> {
+    let told = Asked {
+        path: 3,
+        mode: Mode::READ.union(Mode::WRITE).union(Mode::CREATE),
+        peer: 5,
+        most: 4096,
+        bytes: b"4096\n",
+    };
+    for (name, text, asked, right) in [
+        ("read and tell", READ_AND_TELL, told, 8),
+        ("write 0", WRITE_LEAST, written(b"0\n"), 4),
+        ("write 4294967295", WRITE_MOST, written(b"4294967295\n"), 4),
+    ] {
+        let notes = noted(&rt, rt.alloc(), text, asked)?;
+        let want = Notes { right, others: 0 };
+        assert_eq!(rt; notes, want, "{name}");
+    }
+    Ok(())
+}
