@@ -30,8 +30,8 @@ only_root (y ∷ z ∷ rows) few some = absurd (omega (arith, few))
 pub holds_root : (v : View) → v.references ≡ root_row ∷ [] → holds v root_row ≡ 1
 holds_root v is = ap {B = ℕ} (λ (rows : List ℕ). count_by (λ y. y == root_row) rows) is
 
--- After a worker's calls the hand holds what it held before. So it may leave: it has nothing to do, has locked nothing,
--- and holds one reference, to the root.
+-- After a worker's calls the hand holds what it held before. So it may leave: it has nothing to do, has locked
+-- nothing, and holds one reference, to the root.
 pub called_holds : {heap : TableState} {hand after : HandState} → HoldsRoot heap hand → IsOf heap after
     → HasCalled hand after → HoldsRoot heap after
 called_holds {heap} {hand} {after} has table called = record {

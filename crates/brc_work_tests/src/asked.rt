@@ -21,8 +21,8 @@ struct Asked<'a> {
     bytes: &'a [u8],
 }
 
-/// How many calls of `open`, `connect`, `read` and `write` asked for what they should, within a call of the worker, and
-/// how many others there were.
+/// How many calls of `open`, `connect`, `read` and `write` asked for what they should, within a call of the worker,
+/// and how many others there were.
 #[derive(Clone, Copy, Debug, PartialEq, Eq, Drop)]
 struct Notes {
     right: u64,

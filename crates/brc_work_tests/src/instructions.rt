@@ -28,6 +28,12 @@ const FETCH: &[u8] =
 const FETCH_NOTHING: &[u8] = b"module 1\nfunc f\nnum v1 7 else @10\nlock v0\nset v0 0 v1 else @9\n\
     fetch v2 v0 8 else @6\nunlock v0\nret v2\nunlock v0\nnum v1 8 else @10\nret v1\nunlock v0\nfail\nend\n";
 
+/// A file in the root is fetched, and what was fetched is given up. The cell keeps the file open, so call 1 of the host
+/// is to connect, and the closes come after it.
+const FETCH_FILE: &[u8] =
+    b"module 1\nfunc f\nopen v1 0 r else @8\nlock v0\nset v0 0 v1 else @9\nfetch v2 v0 0 else @9\n\
+    unlock v0\ndrop v2\nconnect v3 0 else @8\ndrop v3\nfail\nunlock v0\nfail\nend\n";
+
 /// `put` makes a reference for the cell, and `v1` gives up its own: the list is left, since its cell references it.
 const PUT: &[u8] =
     b"module 1\nfunc f\nlist v1 1 else @5\nlock v1\nput v1 0 v1 else @3\nunlock v1\ndrop v1\nfail\nend\n";
@@ -62,6 +68,12 @@ const MOVE: &[u8] =
 /// A reference more to the number: one is given up, and the caller gets the other.
 const NEWREF: &[u8] =
     b"module 1\nfunc f\nnum v1 7 else @4\nnewref v2 v1\ndrop v1\nret v2\nfail\nend\n";
+
+/// A reference more to the file: the first one is given up, and the other keeps the file open. So call 1 of the host is
+/// to connect, and the closes come after it.
+const NEWREF_FILE: &[u8] =
+    b"module 1\nfunc f\nopen v1 0 r else @6\nnewref v2 v1\ndrop v1\nconnect v3 0 else @5\n\
+    drop v3\ndrop v2\nfail\nend\n";
 
 /// A reference more to the root, which the caller gets. Nothing is created.
 const NEWREF_ROOT: &[u8] = b"module 1\nfunc f\nnewref v1 v0\nret v1\nend\n";
@@ -99,6 +111,13 @@ const CASES: &[Case] = &[
     ),
     ("fetch", FETCH, &[], [2, 2, 0, 0, 0]),
     ("fetch out of range", FETCH_NOTHING, &[], [3, 3, 0, 0, 0]),
+    ("fetch of a file", FETCH_FILE, &[], [3, 3, 0, 0, 0]),
+    (
+        "fetch of a file before a fault",
+        FETCH_FILE,
+        &[1],
+        [2, 2, 0, 1, 0],
+    ),
     ("put", PUT, &[], [2, 1, 1, 0, 0]),
     ("put out of range", PUT_NOWHERE, &[], [2, 2, 0, 0, 0]),
     ("put over an item", PUT_TWICE, &[], [2, 2, 0, 0, 0]),
@@ -107,6 +126,13 @@ const CASES: &[Case] = &[
     ("as list of the root", AS_ROOT, &[], [2, 2, 0, 0, 0]),
     ("move", MOVE, &[], [3, 3, 0, 0, 0]),
     ("newref", NEWREF, &[], [2, 2, 0, 0, 0]),
+    ("newref of a file", NEWREF_FILE, &[], [3, 3, 0, 0, 0]),
+    (
+        "newref of a file before a fault",
+        NEWREF_FILE,
+        &[1],
+        [2, 2, 0, 1, 0],
+    ),
     ("newref of the root", NEWREF_ROOT, &[], [1, 1, 0, 0, 0]),
     ("none", NONE, &[], [1, 1, 0, 0, 0]),
     ("none in a list", NONE_IN_LIST, &[], [2, 2, 0, 0, 0]),

@@ -12,8 +12,8 @@ use std::test::*;
 /// The most rows that a worker may have.
 pub const MOST_ROWS: u16 = 1024;
 
-/// What a run leads to, as in a report: how many objects were created, closed and are alive, how many calls of the host
-/// failed, and how many closes. The root counts as an object, none doesn't.
+/// What a run leads to, as in a report: how many objects were created, closed and are alive, how many calls of the
+/// host failed, and how many closes. The root counts as an object, none doesn't.
 pub type Counts = [u64; 5];
 
 /// What a run has left.

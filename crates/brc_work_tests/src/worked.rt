@@ -101,8 +101,8 @@ fn the_gate_hears_each_call_of_thread_1_begin_and_end(rt: HostRuntime) -> Result
     Ok(())
 }
 
-/// Lets a worker call the first function of the text's module `times` times, and then once more. Returns of each of the
-/// two runs the births that the worker has counted, and what a gate of its own has heard.
+/// Lets a worker call the first function of the text's module `times` times, and then once more. Returns of each of
+/// the two runs the births that the worker has counted, and what a gate of its own has heard.
 fn two_runs<R: Wait>(
     rt: &R,
     alloc: Global,
