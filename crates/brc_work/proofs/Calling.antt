@@ -1,5 +1,6 @@
 -- A worker's calls, one after another.
-use Rattle.std.proofs.Common.{◌≡◌, ℕ, ◌≤◌, List, length, refl, sym, ap, ◌∙◌, subst, arith}
+use Rattle.std.proofs.lemmas.Bool.Decides.{eqb_tells}
+use Rattle.std.proofs.Common.{◌≡◌, ℕ, ◌≤◌, ◌==◌, List, [], ◌∷◌, length, count_by, inl, inr, true, false, if◌then◌else◌, refl, sym, ap, ◌∙◌, subst, arith}
 use Rattle.brc_model.specs.declared.layout.Layout.{Layout}
 use Rattle.brc_model.specs.Layout.{root_row, IsCounted}
 use Rattle.brc_model.proofs.Basics.Blocks.{root_counted}
@@ -61,3 +62,22 @@ looked_called hand after ready keeps free settled table carried slots = record {
   held = λ y counted. ap (λ (l : List ℕ). holds (record after.view { references = l }) y) keeps.references;
   few = subst (λ (l : List ℕ). length l ≤ length hand.view.references) (sym keeps.references) (omega arith);
 }
+
+-- ---- a hand that held the root alone
+
+only_one : (x : ℕ) (xs : List ℕ) → length xs ≤ 1 → 1 ≤ count_by (λ y. y == x) xs → xs ≡ x ∷ []
+only_one x [] few some = absurd (omega (arith, some))
+only_one x (y ∷ []) few some =
+    elim (eqb_tells y x) [
+      | inl same ↦ ap (λ z. z ∷ []) same.1
+      | inr apart ↦ absurd (omega (arith, some, ap {B = ℕ} (λ b. if b then 1 else 0) apart.0))
+    ]
+only_one x (y ∷ z ∷ xs) few some = absurd (omega (arith, few))
+
+-- it holds the root alone again
+pub keeps_root : (first hand : HandState) → HasCalled first hand → first.view.references ≡ root_row ∷ []
+    → hand.view.references ≡ root_row ∷ []
+keeps_root first hand called only =
+    let was : holds first.view root_row ≡ 1 = ap (count_by (λ y. y == root_row)) only in
+    only_one root_row hand.view.references (omega (arith, called.few, ap length only))
+    (omega (arith, was, called.held root_row (root_counted first.view.layout)))

@@ -14,3 +14,4 @@ mod Calling
 mod NewObjects
 mod Moving
 mod Counting
+mod Places

@@ -3,3 +3,4 @@ pub mod Changes
 pub mod Acts
 pub mod Totals
 pub mod Calls
+pub mod Workers

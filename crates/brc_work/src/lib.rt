@@ -14,6 +14,8 @@ mod line;
 mod locks;
 mod references;
 mod running;
+mod task;
+mod threads;
 mod totals;
 mod turns;
 mod variables;

@@ -1,0 +1,24 @@
+-- Lists of which each element is so for its place.
+use Rattle.std.specs.Prelude.{◌≡◌, ℕ, ◌+◌, ◌<◌, List, get_or}
+use Rattle.std.proofs.Common.{below_more, sym, subst}
+use Rattle.brc_table.specs.Hands.{TableState, HandState}
+use Rattle.brc_work.specs.declared.totals.Totals.{Totals}
+use Rattle.brc_work.specs.Workers.{HasGone}
+
+-- each of the first n elements is so for its place
+abbrev pub AreSo : {A : Type 0} → (ℕ → A → Type 0) → List A → ℕ → Type 0
+AreSo {A = A} P xs n = (k : ℕ) (d : A) → k < n → P k (get_or xs k d)
+
+-- a list that has one element more
+pub pushed : {A : Type 0} (P : ℕ → A → Type 0) (xs ys : List A) (n : ℕ) (x : A)
+    → ((k : ℕ) (d : A) → k < n → get_or ys k d ≡ get_or xs k d) → ((d : A) → get_or ys n d ≡ x)
+    → AreSo P xs n → P n x → AreSo P ys (n + 1)
+pushed P xs ys n x same here were now k d below =
+    below_more (λ i. P i (get_or ys i d)) n (λ i low. subst (P i) (sym (same i d low)) (were i d low))
+    (subst (P n) (sym (here d)) now) k below
+
+-- a promise of the same worker
+pub gone_for : {there heap : TableState} {thread number : ℕ} {hand : HandState} {totals : Totals}
+    → there ≡ heap → thread ≡ number → HasGone there thread hand totals → HasGone heap number hand totals
+gone_for {heap = heap} {thread = thread} {hand = hand} {totals = totals} same numbered gone =
+    subst (λ n. HasGone heap n hand totals) numbered (subst (λ h. HasGone h thread hand totals) same gone)

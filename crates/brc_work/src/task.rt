@@ -1,0 +1,83 @@
+//! What a worker does on a thread of its own.
+
+ghost use Rattle.std.specs.Prelude.{◌≡◌, ◌<◌, true, length};
+ghost use Rattle.brc_work.specs.Workers.{IsFresh, HasGone, fresh-prop};
+
+use crate::gate::Gate;
+use crate::totals::Totals;
+use crate::worker::Worker;
+use brc_check::Checked;
+use brc_heap::{Hand, Heap};
+use brc_host::Host;
+use brc_queue::Queue;
+use std::snapshot::Snapshot;
+use std::sync::Wait;
+use std::sync::atomic::{AtomicBool, Ordering};
+use std::thread::Promise;
+
+/// A worker's task: the calls that it is to make, with this hand and this host.
+#[derive(Drop)]
+pub(crate) struct Task<'a, T: Drop, H, G> {
+    pub(crate) heap: &'a Heap<T>,
+    pub(crate) checked: &'a Checked,
+    pub(crate) function: usize,
+    pub(crate) times: u32,
+    pub(crate) thread: u8,
+    pub(crate) hand: Hand<T>,
+    pub(crate) host: &'a mut H,
+    pub(crate) gate: &'a G,
+    ghost known: { function < length checked.now.module.functions },
+    ghost fresh: { IsFresh heap.now thread hand } by { fresh-prop heap.now thread hand },
+}
+
+/// What a worker leaves: its hand, and what it has counted.
+#[derive(Drop)]
+pub(crate) struct Done<T: Drop> {
+    pub(crate) hand: Hand<T>,
+    pub(crate) totals: Totals,
+    /// Whether it has made its calls.
+    pub(crate) called: bool,
+}
+
+/// A worker's promise: that its hand has left when its thread ends.
+#[derive(Drop)]
+pub(crate) struct Leaves<T: Drop> {
+    pub(crate) heap: Snapshot<Heap<T>>,
+    pub(crate) thread: u8,
+}
+
+impl<T: Drop> Promise<Done<T>> for Leaves<T> {
+    ghost kept_by = { λ p done. done.called ≡ true → HasGone p.heap.value p.thread done.hand done.totals };
+}
+
+impl<'a, T: Drop, H: Host<Res = T>, G: Gate> Task<'a, T, H, G> {
+    /// Makes the calls, unless the workers are stopped, and lets the hand leave.
+    pub(crate) fn work<R: Wait>(self, rt: &R, stopped: &AtomicBool) -> Done<T>
+        ensures { result.called ≡ true → HasGone self.entry.heap.now self.entry.thread result.hand result.totals }
+    {
+        let Task {
+            heap,
+            checked,
+            function,
+            times,
+            thread: _,
+            mut hand,
+            host,
+            gate,
+        } = self;
+        let queue = Queue::new(heap);
+        let called = !stopped.load(Ordering::SeqCst);
+        let mut totals = Totals::new();
+        if called {
+            let worker = Worker::new(heap, &queue);
+            totals = worker.run(rt, checked, function, times, &mut hand, host, gate);
+        }
+        let failed = queue.leave(rt, &mut hand, host);
+        totals.count_close_faults(failed);
+        Done {
+            hand,
+            totals,
+            called,
+        }
+    }
+}
