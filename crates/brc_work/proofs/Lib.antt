@@ -15,3 +15,4 @@ mod NewObjects
 mod Moving
 mod Counting
 mod Places
+mod Traces

@@ -4,3 +4,5 @@ pub mod Acts
 pub mod Totals
 pub mod Calls
 pub mod Workers
+pub mod Traces
+pub mod Performs

@@ -1,0 +1,102 @@
+-- One duty of a hand is one of its thread, though the thread holds a reference otherwise.
+use Rattle.std.proofs.Common.{◌≡◌, ℕ, zero, suc, Bool, true, false, List, [], ◌∷◌, ◌++◌, Option, refl, sym, ap, ◌∙◌, subst}
+use Rattle.brc_lang.specs.declared.module.Instr.{Instr}
+use Rattle.brc_model.specs.Actions.{Does, dispatch}
+use Rattle.brc_model.specs.Duties.{continuation, new_head, ready}
+use Rattle.brc_model.specs.Machine.{Actor, is_running, status_by, used_by, locked_by, lent_by, actor_by}
+use Rattle.brc_model.specs.declared.actor.Place.{Place}
+use Rattle.brc_model.specs.declared.actor.Status.{Status}
+use Rattle.brc_model.specs.declared.duty.Duty.{Duty}
+use Rattle.brc_model.specs.declared.duty.Duty.TheVariants.{Settle, Scan}
+use Rattle.brc_table.specs.declared.view.Event.{Event}
+use Rattle.brc_table.specs.declared.view.View.{View}
+use Rattle.brc_table.specs.Views.{did, done, event_of}
+use Rattle.brc_work.specs.Traces.{Makes, Begun, Starts, Continues, Traces, thread_with, events_of}
+use Rattle.brc_work.proofs.Traces.Joining.{with_duties}
+
+-- ---- agendas
+
+-- A duty of which the next duties may be none.
+abbrev pub may_be_none : Duty → Bool
+may_be_none Settle = true
+may_be_none (Scan i n) = true
+may_be_none _ = false
+
+-- Any other one comes next.
+pub comes_next : (head : ℕ) (d : Duty) (rest : List Duty) → may_be_none d ≡ false → ready head (d ∷ rest) ≡ d ∷ rest
+comes_next zero Settle rest is = absurd (let wrong : true ≡ false = is in cc)
+comes_next zero (Scan i n) rest is = absurd (let wrong : true ≡ false = is in cc)
+comes_next zero _ rest is = refl
+comes_next (suc head) Settle rest is = absurd (let wrong : true ≡ false = is in cc)
+comes_next (suc head) (Scan i n) rest is = absurd (let wrong : true ≡ false = is in cc)
+comes_next (suc head) _ rest is = refl
+
+pub no_duty : (head : ℕ) → ready head [] ≡ []
+no_duty zero = refl
+no_duty (suc head) = refl
+
+-- ---- one duty
+
+-- The thread's duty d is the hand's duty e: they make the same event and change the same.
+pub record IsSame (u : View) (d e : Duty) (found : ℕ) : Type 0 where
+  pub event : events_of u.layout u.thread (thread_with u []) d found ≡ event_of u e found ∷ []
+  pub status : status_by u.status d ≡ status_by u.status e
+  pub head : new_head u.head d found ≡ new_head u.head e found
+  pub used : used_by u.used d ≡ used_by u.used e
+  pub locked : locked_by u.locked d found ≡ locked_by u.locked e found
+  pub lent : lent_by u.lent d found ≡ lent_by u.lent e found
+
+-- what comes next after the thread's duty
+abbrev pub next_duties : View → Duty → List Duty → ℕ → List Duty
+next_duties u d rest found =
+    ready (new_head u.head d found)
+    (continuation u.layout u.thread (is_running u.status) u.head d found ++ rest)
+
+module _ (code : List Instr) (q : Place) (u : View) (d e : Duty) (rest behind : List Duty) (found : ℕ)
+    (same : IsSame u d e found) where
+  same_thread : actor_by u.layout u.thread (thread_with u []) d rest found
+      ≡ thread_with (did u (e ∷ behind) found) (next_duties u d rest found)
+  same_thread = λ i. record {
+    status = same.status i;
+    agenda = next_duties u d rest found;
+    aside = u.aside;
+    head = same.head i;
+    used = same.used i;
+    locked = same.locked i;
+    lent = same.lent i;
+  }
+
+  -- The duty is the first one of an instruction,
+  pub starts_with : (next : ℕ → Place) → dispatch u.layout u.thread u.used code q ≡ Does d rest next
+      → Traces code q [] u (next found) (next_duties u d rest found) (did u (e ∷ behind) found)
+  starts_with next is = record {
+    events = events_of u.layout u.thread (thread_with u []) d found;
+    trace = ap (λ (es : List Event). u.trace ++ es) (sym same.event);
+    makes = subst (λ (a : Actor).
+        Makes u.layout u.thread code q (thread_with u []) (events_of u.layout u.thread (thread_with u []) d found)
+        (next found) a) same_thread
+        (Starts [] q (thread_with u []) d rest next found Begun refl is);
+    layout = refl;
+    thread = refl;
+  }
+
+  -- or the first one of the thread's agenda.
+  pub continues_with : Traces code q (d ∷ rest) u q (next_duties u d rest found) (did u (e ∷ behind) found)
+  continues_with = record {
+    events = events_of u.layout u.thread (thread_with u []) d found;
+    trace = ap (λ (es : List Event). u.trace ++ es) (sym same.event);
+    makes = subst (λ (a : Actor).
+        Makes u.layout u.thread code q (thread_with u (d ∷ rest))
+        (events_of u.layout u.thread (thread_with u []) d found) q a) same_thread
+        (Continues [] q (thread_with u (d ∷ rest)) d rest found Begun refl);
+    layout = refl;
+    thread = refl;
+  }
+
+-- A hand with nothing to do does nothing.
+pub does_nothing : (u : View) (found : ℕ) → u.agenda ≡ [] → done u found ≡ u
+does_nothing u found none = ap (λ (ds : List Duty). did u ds found) none
+
+pub does_first : (u : View) (found : ℕ) (e : Duty) (behind : List Duty) → u.agenda ≡ e ∷ behind
+    → done u found ≡ did u (e ∷ behind) found
+does_first u found e behind is = ap (λ (ds : List Duty). did u ds found) is

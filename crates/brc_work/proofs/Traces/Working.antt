@@ -1,0 +1,313 @@
+-- A hand that does duty after duty makes the events of a thread that has the same duties, and then to settle.
+use Rattle.std.proofs.Common.{◌≡◌, ℕ, zero, suc, ◌+◌, Bool, true, false, cond, List, [], ◌∷◌, ◌++◌, append_assoc, append-nil, inl, inr, ◌⊎◌, refl, sym, ap, ◌∙◌, subst}
+use Rattle.std.specs.Prelude.{◌==◌, ◌&&◌, nat_lt}
+use Rattle.std.proofs.lemmas.Bool.{cases_Bool}
+use Rattle.brc_word.specs.Words.{is_immortal_word, local_part, fresh_word, dead_word, released_word, merged_word, most_local}
+use Rattle.brc_lang.specs.declared.module.Instr.{Instr}
+use Rattle.brc_model.specs.Duties.{continuation, new_head, ready, counts_locally, has_resource, cells_of, cells_from, claimed, release_found}
+use Rattle.brc_model.specs.Layout.{row_at}
+use Rattle.brc_model.specs.Machine.{is_running}
+use Rattle.brc_model.specs.declared.actor.Place.{Place}
+use Rattle.brc_model.specs.declared.duty.Duty.{Duty}
+use Rattle.brc_model.specs.declared.duty.Duty.TheVariants.{RetainLoad, RetainStore, RetainAdd, ReleaseLoad, ReleaseStore, DecideAtZero, SharedLoad, SharedExchange, SetMark, Look, TakeMark, MergeSwap, MergeLoad, MergeExchange, Die, Settle, SettleKind, SettleCell, TakeSlot, CloseResource, SettleEnd, Leave, Scan, Finish, ClaimMark, BirthKind, BirthSlot, BirthLocal, KindLoad, LockGate, UnlockGate, CellLoad, CellSwap, LendSlot, ReturnSlot}
+use Rattle.brc_model.specs.declared.duty.Holding.{Holding}
+use Rattle.brc_model.specs.declared.duty.Holding.TheVariants.{AsCaller}
+use Rattle.brc_model.specs.declared.duty.Reason.TheVariants.{Own, Handed}
+use Rattle.brc_model.specs.declared.layout.Layout.{Layout}
+use Rattle.brc_table.specs.declared.view.View.{View}
+use Rattle.brc_table.specs.Views.{did, done, event_of, releasing, settling, settle_first, slot_emptied, slot_emptied_by}
+use Rattle.brc_heap.specs.Calls.{released_locally, counts_here}
+use Rattle.brc_free.specs.Works.{Works, Begun as Unchanged, Next, Comes, HasWorked}
+use Rattle.brc_work.specs.Traces.{Begun, Continues, Settles, Traces, thread_with, events_of}
+use Rattle.brc_work.specs.Performs.{MakesRelease}
+use Rattle.brc_work.proofs.Traces.Joining.{quietly, turns_to, traces_then, with_duties}
+use Rattle.brc_work.proofs.Traces.Duties.{comes_next, no_duty, IsSame, next_duties, continues_with, does_nothing, does_first}
+
+-- ---- duties on words
+
+-- Says whether the duty is none on a slot or on a resource, nor lets one follow, but for those by which a dying
+-- object's resource is closed.
+abbrev pub is_off_slots : Duty → Bool
+is_off_slots (BirthKind x h w) = false
+is_off_slots (BirthSlot x h) = false
+is_off_slots (CloseResource x) = false
+is_off_slots (LendSlot x) = false
+is_off_slots (ReturnSlot x) = false
+is_off_slots _ = true
+
+abbrev pub are_off_slots : List Duty → Bool
+are_off_slots [] = true
+are_off_slots (d ∷ ds) = is_off_slots d && are_off_slots ds
+
+-- Says whether the duty takes the resource of a dying object out of its slot.
+abbrev pub takes_out : Duty → Bool
+takes_out (TakeSlot x) = true
+takes_out _ = false
+
+first_off : (d : Duty) (ds : List Duty) → are_off_slots (d ∷ ds) ≡ true → is_off_slots d ≡ true
+first_off d ds off = elim (cases_Bool (is_off_slots d)) [
+  | inl is ↦ is
+  | inr not ↦ let wrong : false ≡ true = sym (ap (λ (b : Bool). b && are_off_slots ds) not) ∙ off in absurd cc
+]
+
+behind_off : (d : Duty) (ds : List Duty) → are_off_slots (d ∷ ds) ≡ true → are_off_slots ds ≡ true
+behind_off d ds off = sym (ap (λ (b : Bool). b && are_off_slots ds) (first_off d ds off)) ∙ off
+
+off_then : (ds es : List Duty) → are_off_slots ds ≡ true → are_off_slots es ≡ true → are_off_slots (ds ++ es) ≡ true
+off_then [] es off other = other
+off_then (d ∷ ds) es off other =
+    ap (λ (b : Bool). b && are_off_slots (ds ++ es)) (first_off d ds off)
+    ∙ off_then ds es (behind_off d ds off) other
+
+off_either : (b : Bool) (ds es : List Duty) → are_off_slots ds ≡ true → are_off_slots es ≡ true
+    → are_off_slots (cond b ds es) ≡ true
+off_either true ds es off other = off
+off_either false ds es off other = other
+
+ready_off : (head : ℕ) (ds : List Duty) → are_off_slots ds ≡ true → are_off_slots (ready head ds) ≡ true
+ready_off zero [] off = refl
+ready_off zero (Settle ∷ ds) off = ready_off zero ds off
+ready_off zero (Scan i zero ∷ ds) off = ready_off zero ds off
+ready_off zero (Scan i (suc n) ∷ ds) off = off
+ready_off zero (d ∷ ds) off = off
+ready_off (suc head) [] off = refl
+ready_off (suc head) (Scan i zero ∷ ds) off = ready_off (suc head) ds off
+ready_off (suc head) (Scan i (suc n) ∷ ds) off = off
+ready_off (suc head) (d ∷ ds) off = off
+
+claimed_off : (x found : ℕ) (ds : List Duty) → are_off_slots ds ≡ true → are_off_slots (claimed x found ++ ds) ≡ true
+claimed_off x found ds off =
+    off_then (claimed x found) ds (off_either (found == 1) (MergeSwap x Handed ∷ []) [] refl refl) off
+
+cells_off : (x i n : ℕ) → are_off_slots (cells_from x i n) ≡ true
+cells_off x i n = off_either (nat_lt i n) (SettleCell x i n ∷ []) (SettleEnd x ∷ []) refl refl
+
+found_off : (found : ℕ) (ds : List Duty) → are_off_slots ds ≡ true → are_off_slots (release_found found ++ ds) ≡ true
+found_off zero ds off = off
+found_off (suc y) ds off = off
+
+-- No such duty is followed by one on a slot.
+next_off : (layout : Layout) (t : ℕ) (running : Bool) (head : ℕ) (d : Duty) (found : ℕ) → is_off_slots d ≡ true
+    → takes_out d ≡ false → are_off_slots (continuation layout t running head d found) ≡ true
+next_off layout t running head (RetainLoad x h) found off other =
+    off_either (is_immortal_word found) [] _ refl
+    (off_either (counts_locally t running found && nat_lt (local_part found) most_local) (RetainStore x h found ∷ [])
+    (RetainAdd x h ∷ []) refl refl)
+next_off layout t running head (ReleaseLoad x h) found off other =
+    off_either (is_immortal_word found) [] _ refl
+    (off_either (counts_locally t running found) (ReleaseStore x found ∷ []) (SharedLoad x Own ∷ []) refl refl)
+next_off layout t running head (ReleaseStore x w) found off other =
+    off_either (local_part w == 1) (DecideAtZero x ∷ []) [] refl refl
+next_off layout t running head (DecideAtZero x) found off other =
+    off_either (found == fresh_word) (Die x ∷ []) (MergeSwap x Own ∷ []) refl refl
+next_off layout t running head (SharedExchange x r w) found off other =
+    off_either (found == w) _ (SharedLoad x r ∷ [])
+    (off_either (w == fresh_word) (SetMark x ∷ []) _ refl
+    (off_either (released_word w == dead_word) (Die x ∷ []) [] refl refl)) refl
+next_off layout t running head (Look x) found off other = off_either (found == 1) [] (TakeMark x ∷ []) refl refl
+next_off layout t running head (TakeMark x) found off other =
+    off_either (found == 1) (MergeSwap x Handed ∷ []) [] refl refl
+next_off layout t running head (MergeSwap x Own) found off other =
+    off_either (found == 0) [] (MergeLoad x (local_part found) Own ∷ []) refl refl
+next_off layout t running head (MergeSwap x Handed) found off other =
+    off_either (found == 0) (SharedLoad x Handed ∷ []) (MergeLoad x (local_part found) Handed ∷ []) refl refl
+next_off layout t running head (MergeExchange x c w Own) found off other =
+    off_either (found == w) _ (MergeLoad x c Own ∷ [])
+    (off_either (merged_word w c == dead_word) (Die x ∷ []) [] refl refl) refl
+next_off layout t running head (MergeExchange x c w Handed) found off other =
+    off_either (found == w) (SharedLoad x Handed ∷ []) (MergeLoad x c Handed ∷ []) refl refl
+next_off layout t running head (SettleKind x) found off other =
+    off_either (has_resource found) (TakeSlot x ∷ []) (cells_from x 0 (cells_of found)) refl
+    (cells_off x 0 (cells_of found))
+next_off layout t running head (SettleCell x i n) found off other =
+    found_off found (cells_from x (i + 1) n) (cells_off x (i + 1) n)
+next_off layout t running head (TakeSlot x) found off other = absurd (let wrong : true ≡ false = other in cc)
+next_off layout t running head (CloseResource x) found off other = absurd (let wrong : false ≡ true = off in cc)
+next_off layout t running head (BirthKind x h w) found off other = absurd (let wrong : false ≡ true = off in cc)
+next_off layout t running head (BirthSlot x h) found off other = absurd (let wrong : false ≡ true = off in cc)
+next_off layout t running head (Scan i n) found off other = claimed_off (row_at layout t i) found _ refl
+next_off layout t running head (ClaimMark x) found off other = claimed_off x found _ refl
+next_off layout t running head (CellSwap x i y h) found off other =
+    subst (λ (ds : List Duty). are_off_slots ds ≡ true) (append-nil (release_found found)) (found_off found [] refl)
+next_off layout t running head _ found off other = refl
+
+-- Such a duty is one on a word.
+on_word : (u : View) (d : Duty) (found : ℕ) → is_off_slots d ≡ true → takes_out d ≡ false → IsSame u d d found
+on_word u (TakeSlot x) found off other = absurd (let wrong : true ≡ false = other in cc)
+on_word u (CloseResource x) found off other = absurd (let wrong : false ≡ true = off in cc)
+on_word u (BirthSlot x h) found off other = absurd (let wrong : false ≡ true = off in cc)
+on_word u (LendSlot x) found off other = absurd (let wrong : false ≡ true = off in cc)
+on_word u (ReturnSlot x) found off other = absurd (let wrong : false ≡ true = off in cc)
+on_word u _ found off other =
+    record { event = refl; status = refl; head = refl; used = refl; locked = refl; lent = refl }
+
+-- ---- what is behind
+
+-- A thread's duties whose hand has these ones: others come behind.
+abbrev pub behind_of : ℕ → List Duty → List Duty → List Duty
+behind_of head [] rest = ready head rest
+behind_of head (d ∷ ds) rest = d ∷ (ds ++ rest)
+
+ready_behind : (head : ℕ) (ds rest : List Duty) → ready head (ds ++ rest) ≡ behind_of head (ready head ds) rest
+ready_behind zero [] rest = refl
+ready_behind zero (Settle ∷ ds) rest = ready_behind zero ds rest
+ready_behind zero (Scan i zero ∷ ds) rest = ready_behind zero ds rest
+ready_behind zero (Scan i (suc n) ∷ ds) rest = refl
+ready_behind zero (d ∷ ds) rest = refl
+ready_behind (suc head) [] rest = refl
+ready_behind (suc head) (Scan i zero ∷ ds) rest = ready_behind (suc head) ds rest
+ready_behind (suc head) (Scan i (suc n) ∷ ds) rest = refl
+ready_behind (suc head) (d ∷ ds) rest = refl
+
+-- to settle, or nothing
+abbrev pub settle_if : Bool → List Duty
+settle_if true = Settle ∷ []
+settle_if false = []
+
+settle_or_none : (head : ℕ) (later : Bool)
+    → (ready head (settle_if later) ≡ []) ⊎ (ready head (settle_if later) ≡ Settle ∷ [])
+settle_or_none zero true = inl refl
+settle_or_none zero false = inl refl
+settle_or_none (suc head) true = inr refl
+settle_or_none (suc head) false = inl refl
+
+nothing_behind : (later : Bool) → ready 0 (settle_if later) ≡ []
+nothing_behind true = refl
+nothing_behind false = refl
+
+-- ---- duty after duty
+
+-- From view v and place p with duties ds, the hand has come to view u. Its thread has the hand's duties there, and
+-- perhaps to settle behind them.
+pub record WorksOn (code : List Instr) (p : Place) (ds : List Duty) (v : View) (q : Place) (u : View) : Type 0 where
+  pub later : Bool
+  pub traces : Traces code p ds v q (behind_of u.head u.agenda (settle_if later)) u
+  pub off : are_off_slots u.agenda ≡ true
+
+module _ (code : List Instr) (p : Place) (ds : List Duty) (v : View) (q : Place) where
+  -- After one duty more the thread still has the hand's duties.
+  goes_on : (u : View) (d e : Duty) (tail : List Duty) (found : ℕ) (later : Bool) → IsSame u d e found
+      → (continuation u.layout u.thread (is_running u.status) u.head e found
+      ≡ continuation u.layout u.thread (is_running u.status) u.head d found)
+      → is_off_slots e ≡ true → takes_out e ≡ false → are_off_slots tail ≡ true
+      → Traces code p ds v q (d ∷ (tail ++ settle_if later)) u → WorksOn code p ds v q (did u (e ∷ tail) found)
+  goes_on u d e tail found later same next off other behind one =
+      let after = did u (e ∷ tail) found in
+      let more = continuation u.layout u.thread (is_running u.status) u.head e found in
+      let rest = settle_if later in
+      let head = new_head u.head e found in
+      let duties : next_duties u d (tail ++ rest) found ≡ behind_of head (ready head (more ++ tail)) rest =
+      ap (λ (h : ℕ). ready h (continuation u.layout u.thread (is_running u.status) u.head d found ++ (tail ++ rest)))
+      same.head
+      ∙ (ap (λ (es : List Duty). ready head (es ++ (tail ++ rest))) (sym next)
+      ∙ (ap (ready head) (sym (append_assoc more tail rest)) ∙ ready_behind head (more ++ tail) rest)) in
+      record {
+        later = later;
+        traces = traces_then code p q q ds (d ∷ (tail ++ rest)) _ v u after one
+            (with_duties code q q (d ∷ (tail ++ rest)) (next_duties u d (tail ++ rest) found) _ u after duties
+            (continues_with code q u d e (tail ++ rest) tail found same));
+        off = ready_off head (more ++ tail)
+            (off_then more tail (next_off u.layout u.thread (is_running u.status) u.head e found off other) behind);
+      }
+
+  -- A dying object's resource is taken out of its slot and closed without a step on a word.
+  takes_slot : (u : View) (x : ℕ) (rest : List Duty)
+      → Traces code q (TakeSlot x ∷ rest) u q (SettleEnd x ∷ rest) u
+  takes_slot u x rest =
+      let taken : Traces code q (TakeSlot x ∷ rest) u q (ready u.head (CloseResource x ∷ rest)) u = record {
+        events = [];
+        trace = sym (append-nil u.trace);
+        makes = Continues [] q (thread_with u (TakeSlot x ∷ rest)) (TakeSlot x) rest 1 Begun refl;
+        layout = refl;
+        thread = refl;
+      } in
+      let closed : Traces code q (CloseResource x ∷ rest) u q (ready u.head (SettleEnd x ∷ rest)) u = record {
+        events = [];
+        trace = sym (append-nil u.trace);
+        makes = Continues [] q (thread_with u (CloseResource x ∷ rest)) (CloseResource x) rest 0 Begun refl;
+        layout = refl;
+        thread = refl;
+      } in
+      traces_then code q q q (TakeSlot x ∷ rest) (CloseResource x ∷ rest) (SettleEnd x ∷ rest) u u u
+      (with_duties code q q (TakeSlot x ∷ rest) _ (CloseResource x ∷ rest) u u
+      (comes_next u.head (CloseResource x) rest refl) taken)
+      (with_duties code q q (CloseResource x ∷ rest) _ (SettleEnd x ∷ rest) u u
+      (comes_next u.head (SettleEnd x) rest refl) closed)
+
+  -- the thread's duties, where the hand's are these
+  with_agenda : (u : View) (es : List Duty) → u.agenda ≡ es → (on : WorksOn code p ds v q u)
+      → Traces code p ds v q (behind_of u.head es (settle_if on.later)) u
+  with_agenda u es is on =
+      with_duties code p q ds _ (behind_of u.head es (settle_if on.later)) v u
+      (ap (λ (fs : List Duty). behind_of u.head fs (settle_if on.later)) is) on.traces
+
+  unslotted : (u : View) (d : Duty) (tail : List Duty) → takes_out d ≡ false → slot_emptied_by (d ∷ tail) u ≡ u
+  unslotted u (TakeSlot x) tail other = absurd (let wrong : true ≡ false = other in cc)
+  unslotted u _ tail other = refl
+
+  plain_next : (u : View) (found : ℕ) (d : Duty) (tail : List Duty) → u.agenda ≡ d ∷ tail → takes_out d ≡ false
+      → WorksOn code p ds v q u → WorksOn code p ds v q (done (slot_emptied u) found)
+  plain_next u found d tail is other on =
+      let off : are_off_slots (d ∷ tail) ≡ true = ap are_off_slots (sym is) ∙ on.off in
+      let same : slot_emptied u ≡ u = ap (λ (es : List Duty). slot_emptied_by es u) is ∙ unslotted u d tail other in
+      subst (WorksOn code p ds v q)
+      (sym (ap (λ (w : View). done w found) same ∙ does_first u found d tail is))
+      (goes_on u d d tail found on.later (on_word u d found (first_off d tail off) other) refl (first_off d tail off) other
+      (behind_off d tail off) (with_agenda u (d ∷ tail) is on))
+
+  next_by : (u : View) (found : ℕ) (es : List Duty) → u.agenda ≡ es → WorksOn code p ds v q u
+      → WorksOn code p ds v q (done (slot_emptied u) found)
+  next_by u found [] is on =
+      subst (WorksOn code p ds v q)
+      (sym (ap (λ (w : View). done w found) (ap (λ (es : List Duty). slot_emptied_by es u) is) ∙ does_nothing u found is)) on
+  next_by u found (TakeSlot x ∷ tail) is on =
+      let off : are_off_slots (TakeSlot x ∷ tail) ≡ true = ap are_off_slots (sym is) ∙ on.off in
+      let rest = tail ++ settle_if on.later in
+      subst (WorksOn code p ds v q)
+      (sym (ap (λ (es : List Duty). done (slot_emptied_by es u) found) is))
+      (goes_on u (SettleEnd x) (SettleEnd x) tail found on.later (on_word u (SettleEnd x) found refl refl) refl refl refl
+      (behind_off (TakeSlot x) tail off)
+      (traces_then code p q q ds (TakeSlot x ∷ rest) (SettleEnd x ∷ rest) v u u
+      (with_agenda u (TakeSlot x ∷ tail) is on) (takes_slot u x rest)))
+  next_by u found (d ∷ tail) is on = plain_next u found d tail is refl on
+
+  settles_now : (u : View) (es : List Duty) → (es ≡ []) ⊎ (es ≡ Settle ∷ []) → Traces code p ds v q es u
+      → Traces code p ds v q (Settle ∷ []) u
+  settles_now u es (inl none) one =
+      let begins : Traces code q [] u q (Settle ∷ []) u = record {
+        events = [];
+        trace = sym (append-nil u.trace);
+        makes = Settles [] q (thread_with u []) Begun refl;
+        layout = refl;
+        thread = refl;
+      } in
+      traces_then code p q q ds [] (Settle ∷ []) v u u (with_duties code p q ds es [] v u none one) begins
+  settles_now u es (inr is) one = with_duties code p q ds es (Settle ∷ []) v u is one
+
+  comes_by : (u : View) (es : List Duty) → u.agenda ≡ es → WorksOn code p ds v q u → WorksOn code p ds v q (settling u)
+  comes_by u [] is on =
+      let after = record u { agenda = Settle ∷ [] } in
+      subst (WorksOn code p ds v q) (sym (ap (λ (es : List Duty). record u { agenda = settle_first es }) is))
+      (record {
+        later = false;
+        traces = traces_then code p q q ds (Settle ∷ []) (Settle ∷ []) v u after
+            (settles_now u (ready u.head (settle_if on.later)) (settle_or_none u.head on.later) (with_agenda u [] is on))
+            (quietly code q (Settle ∷ []) u after refl refl refl refl);
+        off = refl;
+      })
+  comes_by u (d ∷ tail) is on =
+      subst (WorksOn code p ds v q)
+      (sym (ap (λ (es : List Duty). record u { agenda = settle_first es }) is
+      ∙ ap (λ (es : List Duty). record u { agenda = es }) (sym is))) on
+
+  -- A hand that does duty after duty,
+  pub works_on : (u : View) (n : ℕ) (w : View) → WorksOn code p ds v q u → Works u n w → WorksOn code p ds v q w
+  works_on u n w on Unchanged = on
+  works_on u n w on (Next m x found other) = next_by x found x.agenda refl (works_on u m x on other)
+  works_on u n w on (Comes m x other) = comes_by x x.agenda refl (works_on u m x on other)
+
+  -- until nothing is left to do.
+  pub worked_off : (u : View) → u.agenda ≡ [] → u.head ≡ 0 → WorksOn code p ds v q u → Traces code p ds v q [] u
+  worked_off u none empty on =
+      with_duties code p q ds (ready u.head (settle_if on.later)) [] v u
+      (ap (λ (head : ℕ). ready head (settle_if on.later)) empty ∙ nothing_behind on.later) (with_agenda u [] none on)

@@ -1,0 +1,85 @@
+-- What each part of a worker's call adds to the trace of its hand, wherever in a code it is.
+use Rattle.std.specs.Prelude.{◌≡◌, ℕ, ◌<◌, List, [], ◌∷◌, Option, None, Some, slice_get, slice_set}
+use Rattle.brc_lang.specs.Limits.{instruction_limit}
+use Rattle.brc_lang.specs.declared.module.Instr.{Instr}
+use Rattle.brc_model.specs.declared.actor.Counters.{Counters}
+use Rattle.brc_model.specs.declared.actor.Place.{Place}
+use Rattle.brc_model.specs.declared.actor.Place.TheVariants.{Idle, InCall}
+use Rattle.brc_model.specs.declared.duty.Duty.TheVariants.{ReleaseLoad, CellSwap, Settle}
+use Rattle.brc_model.specs.declared.duty.Holding.{Holding}
+use Rattle.brc_model.specs.declared.duty.Holding.TheVariants.{ByVariable}
+use Rattle.brc_model.specs.declared.layout.Layout.{Layout}
+use Rattle.brc_model.specs.declared.slot.Exit.{Exit}
+use Rattle.brc_model.specs.Actions.{Does, always, with_row, dispatch, dispatch_instruction}
+use Rattle.brc_model.specs.Slots.{target}
+use Rattle.brc_model.specs.Threads.{row_of}
+use Rattle.brc_table.specs.declared.view.View.{View}
+use Rattle.brc_work.specs.Traces.{Traces, MakesTrace}
+
+-- ---- places
+
+-- A thread at the place does next what the instruction at the point says, with these counters and variables.
+abbrev pub ComesTo : List Instr → Place → Counters → ℕ → List (Option ℕ) → Type 0
+ComesTo code place counters at rows = (layout : Layout) (t used : ℕ)
+    → dispatch layout t used code place
+    ≡ dispatch_instruction layout t used place counters at rows (slice_get code at)
+
+-- The instruction at the point is this one.
+pub record IsBefore (i : Instr) (code : List Instr) (place : Place) (counters : Counters) (at : ℕ) (rows : List (Option ℕ))
+    : Type 0 where
+  pub comes : ComesTo code place counters at rows
+  pub found : slice_get code at ≡ Some i
+  pub low : at < instruction_limit
+
+-- The place after an instruction that leads to the next point, or ends the call.
+abbrev pub place_after : Counters → Option ℕ → List (Option ℕ) → Place
+place_after counters None rows = Idle counters.left
+place_after counters (Some next) rows = InCall counters next rows
+
+-- ---- instructions
+
+-- The hand has made the events of the instruction, which has gone on by this exit.
+abbrev pub Performs : Instr → Exit → List (Option ℕ) → View → List (Option ℕ) → View → Type 0
+Performs i exit rows v after_rows u = (code : List Instr) (place : Place) (counters : Counters) (at : ℕ)
+    → IsBefore i code place counters at rows
+    → MakesTrace code place v (place_after counters (target i exit at) after_rows) u
+
+-- The same at this point, where the instruction may count how often it has gone back.
+abbrev pub PerformsAt : ℕ → Instr → Exit → List ℕ → List (Option ℕ) → View → List ℕ → List (Option ℕ) → View → Type 0
+PerformsAt at i exit turns rows v after_turns after_rows u = (code : List Instr) (place : Place) (left : ℕ)
+    → IsBefore i code place (record { left = left; turns = turns }) at rows
+    → MakesTrace code place v
+    (place_after (record { left = left; turns = after_turns }) (target i exit at) after_rows) u
+
+-- The hand has tried to do the instruction, which hasn't begun: the thread is where it was.
+abbrev pub Waits : Instr → List (Option ℕ) → View → View → Type 0
+Waits i rows v u = (code : List Instr) (place : Place) (counters : Counters) (at : ℕ)
+    → IsBefore i code place counters at rows → MakesTrace code place v place u
+
+-- The hand has made the events of the code's instruction at the point, which leads to the next point or ends the call.
+abbrev pub StepsTo : List Instr → ℕ → List ℕ → List (Option ℕ) → View → Option ℕ → List ℕ → List (Option ℕ) → View → Type 0
+StepsTo code at turns rows v next after_turns after_rows u = (place : Place) (left : ℕ)
+    → ComesTo code place (record { left = left; turns = turns }) at rows
+    → MakesTrace code place v (place_after (record { left = left; turns = after_turns }) next after_rows) u
+
+-- ---- parts of instructions
+
+-- The hand has given up a reference to the row's object, and settled: the duties that its thread had to do.
+abbrev pub MakesRelease : ℕ → View → View → Type 0
+MakesRelease row v u = (code : List Instr) (place : Place) (holding : Holding)
+    → Traces code place (ReleaseLoad row holding ∷ Settle ∷ []) v place [] u
+
+-- Where a thread gives up the variable's reference and settles, the hand has done so.
+pub record GivesUp (from : ℕ) (rows : List (Option ℕ)) (v : View) (after_rows : List (Option ℕ)) (u : View) : Type 0 where
+  pub emptied : after_rows ≡ slice_set rows from None
+  pub makes : (code : List Instr) (place next : Place)
+      → ((layout : Layout) (t used : ℕ) → dispatch layout t used code place
+      ≡ with_row (row_of rows from) (λ row. Does (ReleaseLoad row (ByVariable from)) (Settle ∷ []) (always next)))
+      → MakesTrace code place v next u
+
+-- Where a thread puts the item into the cell and settles, the hand has done so.
+abbrev pub MakesSwap : ℕ → ℕ → ℕ → View → View → Type 0
+MakesSwap row cell item v u = (code : List Instr) (place next : Place) (holding : Holding)
+    → ((layout : Layout) (t used : ℕ) → dispatch layout t used code place
+    ≡ Does (CellSwap row cell item holding) (Settle ∷ []) (always next))
+    → MakesTrace code place v next u
