@@ -64,10 +64,15 @@ StepsTo code at turns rows v next after_turns after_rows u = (place : Place) (le
 
 -- ---- parts of instructions
 
--- The hand has given up a reference to the row's object, and settled: the duties that its thread had to do.
-abbrev pub MakesRelease : ℕ → View → View → Type 0
-MakesRelease row v u = (code : List Instr) (place : Place) (holding : Holding)
-    → Traces code place (ReleaseLoad row holding ∷ Settle ∷ []) v place [] u
+-- The hand has given up a reference to the row's object, and settled. So does its thread, whether an instruction begins
+-- with it or it is what comes next.
+pub record MakesRelease (row : ℕ) (v u : View) : Type 0 where
+  pub first : (code : List Instr) (place next : Place) (holding : Holding)
+      → ((layout : Layout) (t used : ℕ) → dispatch layout t used code place
+      ≡ Does (ReleaseLoad row holding) (Settle ∷ []) (always next))
+      → MakesTrace code place v next u
+  pub next : (code : List Instr) (place : Place) (holding : Holding)
+      → Traces code place (ReleaseLoad row holding ∷ Settle ∷ []) v place [] u
 
 -- Where a thread gives up the variable's reference and settles, the hand has done so.
 pub record GivesUp (from : ℕ) (rows : List (Option ℕ)) (v : View) (after_rows : List (Option ℕ)) (u : View) : Type 0 where

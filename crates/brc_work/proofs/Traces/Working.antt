@@ -186,11 +186,12 @@ pub record WorksOn (code : List Instr) (p : Place) (ds : List Duty) (v : View) (
 
 module _ (code : List Instr) (p : Place) (ds : List Duty) (v : View) (q : Place) where
   -- After one duty more the thread still has the hand's duties.
-  goes_on : (u : View) (d e : Duty) (tail : List Duty) (found : ℕ) (later : Bool) → IsSame u d e found
+  pub goes_on : (u : View) (d e : Duty) (tail : List Duty) (found : ℕ) (later : Bool) → IsSame u d e found
       → (continuation u.layout u.thread (is_running u.status) u.head e found
       ≡ continuation u.layout u.thread (is_running u.status) u.head d found)
       → is_off_slots e ≡ true → takes_out e ≡ false → are_off_slots tail ≡ true
-      → Traces code p ds v q (d ∷ (tail ++ settle_if later)) u → WorksOn code p ds v q (did u (e ∷ tail) found)
+      → Traces code p ds v q (next_duties u d (tail ++ settle_if later) found) (did u (e ∷ tail) found)
+      → WorksOn code p ds v q (did u (e ∷ tail) found)
   goes_on u d e tail found later same next off other behind one =
       let after = did u (e ∷ tail) found in
       let more = continuation u.layout u.thread (is_running u.status) u.head e found in
@@ -203,12 +204,21 @@ module _ (code : List Instr) (p : Place) (ds : List Duty) (v : View) (q : Place)
       ∙ (ap (ready head) (sym (append_assoc more tail rest)) ∙ ready_behind head (more ++ tail) rest)) in
       record {
         later = later;
-        traces = traces_then code p q q ds (d ∷ (tail ++ rest)) _ v u after one
-            (with_duties code q q (d ∷ (tail ++ rest)) (next_duties u d (tail ++ rest) found) _ u after duties
-            (continues_with code q u d e (tail ++ rest) tail found same));
+        traces = with_duties code p q ds (next_duties u d (tail ++ rest) found) _ v after duties one;
         off = ready_off head (more ++ tail)
             (off_then more tail (next_off u.layout u.thread (is_running u.status) u.head e found off other) behind);
       }
+
+  -- It is the first of its agenda.
+  continues_on : (u : View) (d : Duty) (tail : List Duty) (found : ℕ) (later : Bool) → is_off_slots d ≡ true
+      → takes_out d ≡ false → are_off_slots tail ≡ true → Traces code p ds v q (d ∷ (tail ++ settle_if later)) u
+      → WorksOn code p ds v q (did u (d ∷ tail) found)
+  continues_on u d tail found later off other behind one =
+      let rest = tail ++ settle_if later in
+      let same = on_word u d found off other in
+      goes_on u d d tail found later same refl off other behind
+      (traces_then code p q q ds (d ∷ rest) (next_duties u d rest found) v u (did u (d ∷ tail) found) one
+      (continues_with code q u d d rest tail found same))
 
   -- A dying object's resource is taken out of its slot and closed without a step on a word.
   takes_slot : (u : View) (x : ℕ) (rest : List Duty)
@@ -252,8 +262,8 @@ module _ (code : List Instr) (p : Place) (ds : List Duty) (v : View) (q : Place)
       let same : slot_emptied u ≡ u = ap (λ (es : List Duty). slot_emptied_by es u) is ∙ unslotted u d tail other in
       subst (WorksOn code p ds v q)
       (sym (ap (λ (w : View). done w found) same ∙ does_first u found d tail is))
-      (goes_on u d d tail found on.later (on_word u d found (first_off d tail off) other) refl (first_off d tail off) other
-      (behind_off d tail off) (with_agenda u (d ∷ tail) is on))
+      (continues_on u d tail found on.later (first_off d tail off) other (behind_off d tail off)
+      (with_agenda u (d ∷ tail) is on))
 
   next_by : (u : View) (found : ℕ) (es : List Duty) → u.agenda ≡ es → WorksOn code p ds v q u
       → WorksOn code p ds v q (done (slot_emptied u) found)
@@ -265,8 +275,7 @@ module _ (code : List Instr) (p : Place) (ds : List Duty) (v : View) (q : Place)
       let rest = tail ++ settle_if on.later in
       subst (WorksOn code p ds v q)
       (sym (ap (λ (es : List Duty). done (slot_emptied_by es u) found) is))
-      (goes_on u (SettleEnd x) (SettleEnd x) tail found on.later (on_word u (SettleEnd x) found refl refl) refl refl refl
-      (behind_off (TakeSlot x) tail off)
+      (continues_on u (SettleEnd x) tail found on.later refl refl (behind_off (TakeSlot x) tail off)
       (traces_then code p q q ds (TakeSlot x ∷ rest) (SettleEnd x ∷ rest) v u u
       (with_agenda u (TakeSlot x ∷ tail) is on) (takes_slot u x rest)))
   next_by u found (d ∷ tail) is on = plain_next u found d tail is refl on
