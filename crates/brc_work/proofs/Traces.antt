@@ -1,8 +1,14 @@
 -- What a hand's calls add to its trace: the events of a thread of the step world that makes the same calls.
 --
 -- In order: `Joining` (traces one after the other), `Duties` (one duty of a hand is one of its thread, though the thread
--- holds a reference otherwise), `Working` (duty after duty) and `Releasing` (a reference is given up).
+-- holds a reference otherwise), `Working` (duty after duty), `Releasing` (a reference is given up), `Places` (what a
+-- thread does at an instruction), `Starting` (the calls of one or two
+-- steps) and `References` (the instructions that hand references on).
 pub mod Joining
 pub mod Duties
 pub mod Working
 pub mod Releasing
+pub mod Places
+pub mod Starting
+pub mod References
+pub mod Births

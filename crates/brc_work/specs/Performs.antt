@@ -1,19 +1,22 @@
 -- What each part of a worker's call adds to the trace of its hand, wherever in a code it is.
-use Rattle.std.specs.Prelude.{◌≡◌, ℕ, ◌<◌, List, [], ◌∷◌, Option, None, Some, slice_get, slice_set}
+use Rattle.std.specs.Prelude.{◌≡◌, ℕ, ◌+◌, ◌<◌, ◌≤◌, List, [], ◌∷◌, Option, None, Some, slice_get, slice_set}
 use Rattle.brc_lang.specs.Limits.{instruction_limit}
 use Rattle.brc_lang.specs.declared.module.Instr.{Instr}
+use Rattle.brc_lang.specs.declared.module.Instr.TheVariants.{Read}
 use Rattle.brc_model.specs.declared.actor.Counters.{Counters}
 use Rattle.brc_model.specs.declared.actor.Place.{Place}
-use Rattle.brc_model.specs.declared.actor.Place.TheVariants.{Idle, InCall}
-use Rattle.brc_model.specs.declared.duty.Duty.TheVariants.{ReleaseLoad, CellSwap, Settle}
+use Rattle.brc_model.specs.declared.actor.Place.TheVariants.{Idle, InCall, Inside}
+use Rattle.brc_model.specs.declared.actor.Stage.TheVariants.{Granted}
+use Rattle.brc_model.specs.declared.duty.Duty.TheVariants.{ReleaseLoad, BirthKind, CellSwap, Settle}
 use Rattle.brc_model.specs.declared.duty.Holding.{Holding}
 use Rattle.brc_model.specs.declared.duty.Holding.TheVariants.{ByVariable}
 use Rattle.brc_model.specs.declared.layout.Layout.{Layout}
 use Rattle.brc_model.specs.declared.slot.Exit.{Exit}
-use Rattle.brc_model.specs.Actions.{Does, always, with_row, dispatch, dispatch_instruction}
+use Rattle.brc_model.specs.Actions.{Does, always, with_row, number_word, dispatch, dispatch_instruction}
 use Rattle.brc_model.specs.Slots.{target}
 use Rattle.brc_model.specs.Threads.{row_of}
 use Rattle.brc_table.specs.declared.view.View.{View}
+use Rattle.brc_table.specs.Views.{next_row}
 use Rattle.brc_work.specs.Traces.{Traces, MakesTrace}
 
 -- ---- places
@@ -88,3 +91,16 @@ MakesSwap row cell item v u = (code : List Instr) (place next : Place) (holding 
     → ((layout : Layout) (t used : ℕ) → dispatch layout t used code place
     ≡ Does (CellSwap row cell item holding) (Settle ∷ []) (always next))
     → MakesTrace code place v next u
+
+-- The variable names the object that the hand has given birth to. Where a thread makes an object with this kind word, or
+-- the number of what it has read, the hand has done so.
+pub record MakesBirth (to word : ℕ) (rows : List (Option ℕ)) (v : View) (after_rows : List (Option ℕ)) (u : View)
+    : Type 0 where
+  pub named : after_rows ≡ slice_set rows to (Some (next_row v))
+  pub first : (code : List Instr) (place next : Place)
+      → dispatch v.layout v.thread v.used code place
+      ≡ Does (BirthKind (next_row v) (ByVariable to) word) [] (always next)
+      → MakesTrace code place v next u
+  pub read : (code : List Instr) (counters : Counters) (at file most otherwise count : ℕ)
+      → slice_get code at ≡ Some (Read to file most otherwise) → count ≤ most → word ≡ number_word count
+      → MakesTrace code (Inside counters at rows Granted) v (InCall counters (at + 1) after_rows) u

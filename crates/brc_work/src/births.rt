@@ -13,6 +13,7 @@ ghost use Rattle.brc_table.specs.Homes.{resources};
 ghost use Rattle.brc_heap.specs.Calls.{IsBornWith, kind_word};
 ghost use Rattle.brc_work.specs.Changes.{CanFill, IsIn, Goes};
 ghost use Rattle.brc_work.specs.Fits.{MayDo, HasDone};
+ghost use Rattle.brc_work.specs.Performs.{Performs, MakesBirth};
 
 use crate::variables::{Variables, name};
 use crate::worker::Worker;
@@ -33,6 +34,7 @@ impl<'h, T: Drop> Worker<'h, T> {
         requires may { MayDo self.now (instructions.Num to value otherwise) rows.old hand.old }
         ensures of { IsOf self.now hand.new }
         ensures done { HasDone (instructions.Num to value otherwise) result rows.old hand.old rows.new hand.new }
+        ensures made { Performs (instructions.Num to value otherwise) result rows.old hand.old.view rows.new hand.new.view }
     {
         if !self.heap.room(hand) {
             name(rows, to, None);
@@ -55,6 +57,7 @@ impl<'h, T: Drop> Worker<'h, T> {
         requires few { cells ≤ cell_limit }
         ensures of { IsOf self.now hand.new }
         ensures done { HasDone (instructions.List to cells otherwise) result rows.old hand.old rows.new hand.new }
+        ensures made { Performs (instructions.List to cells otherwise) result rows.old hand.old.view rows.new hand.new.view }
     {
         if !self.heap.room(hand) {
             name(rows, to, None);
@@ -80,6 +83,7 @@ impl<'h, T: Drop> Worker<'h, T> {
         requires resource { resources resource ≡ resources_of (kind_word kind arg) }
         ensures of { IsOf self.now hand.new }
         ensures goes { Goes (λ s. CanFill s to) (λ s. put s to (Owned kind)) rows.old hand.old rows.new hand.new }
+        ensures made { MakesBirth to (kind_word kind arg) rows.old hand.old.view rows.new hand.new.view }
     {
         let row = self.heap.birth(hand, kind, arg, resource);
         name(rows, to, Some(row));

@@ -9,6 +9,7 @@ ghost use Rattle.brc_table.specs.Hands.{IsOf, HoldsOne, KeepsLock};
 ghost use Rattle.brc_work.specs.Acts.{ActsElsewhere, HasLess};
 ghost use Rattle.brc_work.specs.Changes.{CanGive, IsIn, Goes};
 ghost use Rattle.brc_work.specs.Fits.{Rests, MayDo, HasDone};
+ghost use Rattle.brc_work.specs.Performs.{Performs, GivesUp, MakesRelease};
 ghost use Rattle.brc_work.specs.Totals.{HasCounted};
 
 use crate::totals::Totals;
@@ -28,6 +29,7 @@ impl<'h, T: Drop> Worker<'h, T> {
     pub(crate) fn none(&self, rows: &mut Variables, hand: &Hand<T>, to: Variable)
         requires may { MayDo self.now (instructions.NoneObject to) rows.old hand.now }
         ensures done { HasDone (instructions.NoneObject to) Success rows.old hand.now rows.new hand.now }
+        ensures made { Performs (instructions.NoneObject to) Success rows.old hand.now.view rows.new hand.now.view }
     {
         name(rows, to, Some(NONE));
     }
@@ -43,6 +45,7 @@ impl<'h, T: Drop> Worker<'h, T> {
         requires may { MayDo self.now (instructions.Newref to from) rows.old hand.old }
         ensures of { IsOf self.now hand.new }
         ensures done { HasDone (instructions.Newref to from) Success rows.old hand.old rows.new hand.new }
+        ensures made { Performs (instructions.Newref to from) Success rows.old hand.old.view rows.new hand.new.view }
     {
         let row = row_in(rows, from);
         self.heap.retain(hand, row);
@@ -53,6 +56,7 @@ impl<'h, T: Drop> Worker<'h, T> {
     pub(crate) fn hand_on(&self, rows: &mut Variables, hand: &Hand<T>, to: Variable, from: Variable)
         requires may { MayDo self.now (instructions.Move to from) rows.old hand.now }
         ensures done { HasDone (instructions.Move to from) Success rows.old hand.now rows.new hand.now }
+        ensures made { Performs (instructions.Move to from) Success rows.old hand.now.view rows.new hand.now.view }
     {
         let row = row_in(rows, from);
         name(rows, from, None);
@@ -73,6 +77,7 @@ impl<'h, T: Drop> Worker<'h, T> {
         requires fits { IsIn self.now (λ s. CanGive s from) rows.old hand.old }
         ensures of { IsOf self.now hand.new }
         ensures goes { Goes (λ s. CanGive s from) (λ s. put s from Empty) rows.old hand.old rows.new hand.new }
+        ensures made { GivesUp from rows.old hand.old.view rows.new hand.new.view }
         ensures counted { HasCounted totals.old totals.new (H.counts host.old) (H.counts host.new) }
     {
         let row = row_in(rows, from);
@@ -96,6 +101,7 @@ impl<'h, T: Drop> Worker<'h, T> {
         ensures of { IsOf self.now hand.new }
         ensures acts { ActsElsewhere hand.old hand.new }
         ensures less { HasLess row hand.old hand.new }
+        ensures made { MakesRelease row hand.old.view hand.new.view }
         ensures counted { HasCounted totals.old totals.new (H.counts host.old) (H.counts host.new) }
     {
         let finaliser = Finaliser::new(self.heap, self.queue);

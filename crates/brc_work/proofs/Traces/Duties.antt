@@ -54,7 +54,7 @@ next_duties u d rest found =
 
 module _ (code : List Instr) (q : Place) (u : View) (d e : Duty) (rest behind : List Duty) (found : ℕ)
     (same : IsSame u d e found) where
-  same_thread : actor_by u.layout u.thread (thread_with u []) d rest found
+  pub same_thread : actor_by u.layout u.thread (thread_with u []) d rest found
       ≡ thread_with (did u (e ∷ behind) found) (next_duties u d rest found)
   same_thread = λ i. record {
     status = same.status i;

@@ -8,6 +8,7 @@ use Rattle.brc_work.proofs.Fitting.{refits}
 use Rattle.brc_work.proofs.Holding.{names_object, owned_one, keeps_lock}
 use Rattle.brc_work.proofs.Conditions.{owned_used}
 use Rattle.brc_work.proofs.Moving.{given}
+use Rattle.brc_work.proofs.Traces.Releasing.{gives_up}
 use Rattle.brc_work.proofs.worker.Worker.give_up.Goals as goal
 
 pub row_in-row-requires : goal.row_in-row-requires
@@ -39,3 +40,8 @@ returns-clause-goes g c = λ first s fits can.
     (given first s c.args.rows.now hand after c.args.from row fits can c.row_in-row.ensures
     (c.release.ensures.less
     ∙ ap (λ (l : Layout). without_reference l row hand.view.references) fits.follows.layout)))
+
+pub returns-clause-made : goal.returns-clause-made
+returns-clause-made g c =
+    gives_up c.args.from c.row_in-row.result c.args.rows.now c.name.new.rows c.args.hand.now.view c.release.new.hand.view
+    c.row_in-row.ensures c.name.ensures.named c.release.ensures.made

@@ -7,6 +7,7 @@ use Rattle.brc_model.proofs.Dispatch.Passing.{are_met}
 use Rattle.brc_work.specs.Fits.{Fits}
 use Rattle.brc_work.proofs.Holding.{names_object}
 use Rattle.brc_work.proofs.Moving.{moved, after_move}
+use Rattle.brc_work.proofs.Traces.References.{makes_move}
 use Rattle.brc_work.proofs.worker.Worker.hand_on.Goals as goal
 
 pub row_in-row-requires : goal.row_in-row-requires
@@ -23,4 +24,8 @@ returns g c = record {
       (sym (c.name-2.ensures.named ∙ ap (λ (rows : List (Option ℕ)). slice_set rows c.args.to (Some c.row_in-row.result)) c.name.ensures.named))
       (moved first s c.args.rows.now c.args.hand.now c.args.to c.args.from c.row_in-row.result fits passes
       c.name.ensures.low c.name-2.ensures.low c.row_in-row.ensures);
+  made = makes_move c.args.to c.args.from c.row_in-row.result c.args.rows.now c.name-2.new.rows c.args.hand.now.view
+      c.row_in-row.ensures
+      (c.name-2.ensures.named
+      ∙ ap (λ (rows : List (Option ℕ)). slice_set rows c.args.to (Some c.row_in-row.result)) c.name.ensures.named);
 }

@@ -14,6 +14,7 @@ use Rattle.brc_work.proofs.Fitting.{refits}
 use Rattle.brc_work.proofs.Holding.{names_object, usable, few_held, knows_slot}
 use Rattle.brc_work.proofs.Staying.{knows_more}
 use Rattle.brc_work.proofs.Trading.{gains}
+use Rattle.brc_work.proofs.Traces.References.{makes_newref}
 use Rattle.brc_work.proofs.worker.Worker.newref.Goals as goal
 
 pub row_in-row-requires : goal.row_in-row-requires
@@ -58,3 +59,10 @@ returns-clause-done g c = λ first s fits passes.
     (gains first.view.layout (slot_of s c.args.to) (row_of c.args.rows.now c.args.to) (kind_of from) row hand after can.free
     (c.retain.ensures.references
     ∙ ap (λ (l : Layout). with_reference l row hand.view.references) fits.follows.layout)))
+
+pub returns-clause-made : goal.returns-clause-made
+returns-clause-made g c =
+    let steps = c.retain.ensures.events in
+    makes_newref c.args.to c.args.from c.row_in-row.result steps.0 steps.1 c.args.rows.now c.name.new.rows
+    c.args.hand.now.view c.retain.new.hand.view c.requires.may.fits.rests.agenda c.row_in-row.ensures c.name.ensures.named
+    steps.3

@@ -10,6 +10,7 @@ use Rattle.brc_work.proofs.CallsBelow.{itself_acts}
 use Rattle.brc_work.proofs.Conditions.{can_fill}
 use Rattle.brc_work.proofs.Fitting.{refits}
 use Rattle.brc_work.proofs.Trading.{gains}
+use Rattle.brc_work.proofs.Traces.References.{makes_none}
 use Rattle.brc_work.proofs.worker.Worker.none.Goals as goal
 
 pub returns : goal.returns
@@ -22,4 +23,5 @@ returns g c = record {
       (refits first s c.args.rows.now hand hand c.args.to (Owned kinds.None) (Some 0) fits c.name.ensures.low can.unlocked
       (itself_acts hand fits.rests) (record { object = 0; is = refl; knows = OfNone refl refl })
       (gains first.view.layout (slot_of s c.args.to) (row_of c.args.rows.now c.args.to) kinds.None 0 hand hand can.free refl));
+  made = makes_none c.args.to c.args.rows.now c.name.new.rows c.args.hand.now.view c.name.ensures.named;
 }

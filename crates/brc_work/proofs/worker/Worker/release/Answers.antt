@@ -3,6 +3,7 @@ use Rattle.brc_free.specs.Works.{AtOnce}
 use Rattle.brc_table.specs.Hands.{TableState, IsOf}
 use Rattle.brc_work.proofs.CallsBelow.{released_rests, released_acts}
 use Rattle.brc_work.proofs.Counting.{closes_counted}
+use Rattle.brc_work.proofs.Traces.Releasing.{releases}
 use Rattle.brc_work.proofs.worker.Worker.release.Goals as goal
 
 pub settle-failed-requires-clause-duty : goal.settle-failed-requires-clause-duty
@@ -51,3 +52,15 @@ returns-clause-counted g c =
     let work = c.settle-failed.ensures.work [] at in
     closes_counted c.args.totals.now c.count_close_faults.new.self _ _ work.0 work.1 c.settle-failed.result
     work.3 work.4 c.count_close_faults.ensures
+
+pub returns-clause-made : goal.returns-clause-made
+returns-clause-made g c =
+    let released = c.release.ensures.released in
+    let hand = c.args.hand.now in
+    let mid = c.release.new.hand in
+    let at = AtOnce (released.status ∙ c.requires.rests.running)
+    (released_rests hand mid c.args.row c.requires.rests released) released.agenda in
+    let given = c.release.ensures.work in
+    let work = c.settle-failed.ensures.work [] at in
+    releases c.args.row given.0 work.0 hand.view mid.view c.settle-failed.new.hand.view c.requires.rests.agenda given.1
+    work.2 c.settle-failed.ensures.chain
