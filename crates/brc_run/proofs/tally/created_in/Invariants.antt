@@ -1,0 +1,12 @@
+use Rattle.std.proofs.Common.{◌≡◌, ◌≤◌}
+use Rattle.std.specs.Prelude.{count_by}
+use Rattle.brc_heap.specs.Ends.{was_born}
+use Rattle.brc_run.proofs.Rows.{rows_below}
+use Rattle.brc_run.proofs.tally.created_in.Given as goal
+
+-- the rows so far are counted
+abbrev pub invariant-loop-row : goal.invariant-loop-row
+invariant-loop-row g l = record {
+  first : 1 ≤ l.row;
+  counted : l.created ≡ count_by (was_born l.fn.end) (rows_below l.row);
+}

@@ -1,0 +1,40 @@
+-- The tally of a run that has ended: it is read from the end of the heap, and from what the threads have counted.
+use Rattle.std.specs.Prelude.{ℕ, ◌+◌, ◌-◌, Bool, ◌&&◌, not, List, map, filter, count_by, sum_by}
+use Rattle.std.specs.List.{range_with_len}
+use Rattle.brc_host.specs.HostCounts.{raised}
+use Rattle.brc_model.specs.Kinds.{kind_of_word}
+use Rattle.brc_model.specs.Layout.{root_row, row_count}
+use Rattle.brc_table.specs.Ending.{EndState, kind_at}
+use Rattle.brc_heap.specs.Ends.{was_born, is_closed}
+use Rattle.brc_report.specs.declared.tally.Tally.{Tally}
+use Rattle.brc_report.specs.declared.tally.Left.{Left}
+use Rattle.brc_work.specs.declared.totals.Totals.{Totals}
+
+-- the rows of counted objects: the root's, and all behind it
+abbrev pub counted_rows : EndState → List ℕ
+counted_rows end = range_with_len root_row (row_count end.layout - root_row)
+
+abbrev pub is_left : EndState → ℕ → Bool
+is_left end row = was_born end row && not (is_closed end row)
+
+abbrev pub left_at : EndState → ℕ → Left
+left_at end row = record { row = row; kind = kind_of_word (kind_at end.words row) }
+
+abbrev pub created_at_end : EndState → ℕ
+created_at_end end = count_by (was_born end) (counted_rows end)
+
+abbrev pub closed_at_end : EndState → ℕ
+closed_at_end end = count_by (is_closed end) (counted_rows end)
+
+-- The tally of so many workers. No thread runs any more. `close_faults` are the closes of main that failed.
+abbrev pub tally_at_end : EndState → ℕ → List Totals → ℕ → Tally
+tally_at_end end threads totals close_faults = record {
+  threads = threads;
+  running = 0;
+  created = created_at_end end;
+  closed = closed_at_end end;
+  alive = created_at_end end - closed_at_end end;
+  host_faults = raised (sum_by (λ t. t.host_faults) totals) 0;
+  close_faults = raised (sum_by (λ t. t.close_faults) totals + close_faults) 0;
+  left = map (left_at end) (filter (is_left end) (counted_rows end));
+}
