@@ -12,3 +12,5 @@ pub mod Places
 pub mod Starting
 pub mod References
 pub mod Births
+pub mod Locks
+pub mod Kinds

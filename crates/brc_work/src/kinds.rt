@@ -5,6 +5,7 @@ ghost use Rattle.brc_lang.specs.declared.module.Instr.TheVariants as instruction
 ghost use Rattle.brc_model.specs.Kinds.{kind_number};
 ghost use Rattle.brc_table.specs.Hands.{IsOf};
 ghost use Rattle.brc_work.specs.Fits.{MayDo, HasDone};
+ghost use Rattle.brc_work.specs.Performs.{Performs};
 
 use crate::variables::{Variables, row_in};
 use crate::worker::Worker;
@@ -39,6 +40,7 @@ impl<'h, T: Drop> Worker<'h, T> {
         requires may { MayDo self.now (instructions.As from kind otherwise) rows.now hand.old }
         ensures of { IsOf self.now hand.new }
         ensures done { HasDone (instructions.As from kind otherwise) result rows.now hand.old rows.now hand.new }
+        ensures made { Performs (instructions.As from kind otherwise) result rows.now hand.old.view rows.now hand.new.view }
     {
         let row = row_in(rows, from);
         if kind_number(self.heap.kind_of(hand, row)) == kind_number(kind) {

@@ -5,6 +5,7 @@ ghost use Rattle.brc_lang.specs.declared.module.Instr.TheVariants as instruction
 ghost use Rattle.brc_model.specs.declared.slot.Exit.TheVariants.{Success};
 ghost use Rattle.brc_table.specs.Hands.{IsOf};
 ghost use Rattle.brc_work.specs.Fits.{MayDo, HasDone, IsStill};
+ghost use Rattle.brc_work.specs.Performs.{Performs, Waits};
 
 use crate::variables::{Variables, row_in};
 use crate::worker::Worker;
@@ -26,6 +27,7 @@ impl<'h, T: Drop> Worker<'h, T> {
         requires may { MayDo self.now (instructions.Lock object) rows.now hand.old }
         ensures of { IsOf self.now hand.new }
         ensures done { HasDone (instructions.Lock object) Success rows.now hand.old rows.now hand.new }
+        ensures made { Performs (instructions.Lock object) Success rows.now hand.old.view rows.now hand.new.view }
     {
         let backoff = Backoff::new();
         for _ in rt.forever() {
@@ -44,6 +46,9 @@ impl<'h, T: Drop> Worker<'h, T> {
         ensures done { result ≡ true → HasDone (instructions.Lock object) Success rows.now hand.old rows.now hand.new }
         ensures again { result ≡ false → MayDo self.now (instructions.Lock object) rows.now hand.new }
         ensures nothing { result ≡ false → IsStill (instructions.Lock object) rows.now hand.old hand.new }
+        ensures made { result ≡ true
+            → Performs (instructions.Lock object) Success rows.now hand.old.view rows.now hand.new.view }
+        ensures waited { result ≡ false → Waits (instructions.Lock object) rows.now hand.old.view hand.new.view }
     {
         let row = row_in(rows, object);
         Lists::new(self.heap).try_lock(hand, row)
@@ -54,6 +59,7 @@ impl<'h, T: Drop> Worker<'h, T> {
         requires may { MayDo self.now (instructions.Unlock object) rows.now hand.old }
         ensures of { IsOf self.now hand.new }
         ensures done { HasDone (instructions.Unlock object) Success rows.now hand.old rows.now hand.new }
+        ensures made { Performs (instructions.Unlock object) Success rows.now hand.old.view rows.now hand.new.view }
     {
         let row = row_in(rows, object);
         Lists::new(self.heap).unlock(hand, row);

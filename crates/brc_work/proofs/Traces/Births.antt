@@ -1,5 +1,5 @@
 -- A hand that gives birth to an object makes the events of its thread.
-use Rattle.std.proofs.Common.{◌≡◌, ℕ, ◌+◌, ◌≤◌, Bool, true, false, cond, List, [], ◌∷◌, ◌++◌, Option, None, Some, append-nil, refl, sym, ap, ◌∙◌, subst}
+use Rattle.std.proofs.Common.{◌≡◌, ℕ, zero, suc, ◌+◌, ◌≤◌, Bool, true, false, cond, List, [], ◌∷◌, ◌++◌, Option, None, Some, append-nil, refl, sym, ap, ◌∙◌, subst}
 use Rattle.std.specs.Prelude.{slice_get, slice_set}
 use Rattle.brc_lang.specs.declared.module.Instr.{Instr}
 use Rattle.brc_lang.specs.declared.module.Instr.TheVariants as instructions
@@ -17,9 +17,8 @@ use Rattle.brc_model.specs.declared.duty.Holding.TheVariants.{AsCaller, ByVariab
 use Rattle.brc_model.specs.declared.slot.Exit.TheVariants.{Success, Fault}
 use Rattle.brc_table.specs.declared.view.Event.{Event}
 use Rattle.brc_table.specs.declared.view.View.{View}
-use Rattle.brc_table.specs.Views.{did, done, event_of, bearing, next_row}
+use Rattle.brc_table.specs.Views.{did, done, event_of, bearing, next_row, slot_filled, slot_filled_by}
 use Rattle.brc_heap.specs.Calls.{born}
-use Rattle.brc_heap.proofs.Bearing.{begun, born_is}
 use Rattle.brc_work.specs.Traces.{Makes, Begun, Reads, Continues, Traces, MakesTrace, thread_with, events_of, read_birth}
 use Rattle.brc_work.specs.Performs.{Performs, MakesBirth}
 use Rattle.brc_work.proofs.Traces.Joining.{no_trace, quietly, turns_to, traces_then, with_duties}
@@ -30,6 +29,25 @@ use Rattle.brc_work.proofs.Traces.Starting.{goes_silently}
 -- what comes next after the store of the kind word
 abbrev pub birth_next : Bool → ℕ → Holding → List Duty
 birth_next has x holding = cond has (BirthSlot x holding ∷ []) (BirthLocal x holding ∷ [])
+
+-- the hand before it stores the first local word
+abbrev pub begun : View → ℕ → View
+begun v word = record (done (bearing v word) 0) { agenda = BirthLocal (next_row v) AsCaller ∷ [] }
+
+filled_is : (has : Bool) (head x : ℕ) (u : View) → u.agenda ≡ ready head (birth_next has x AsCaller ++ [])
+    → slot_filled u ≡ record u { agenda = BirthLocal x AsCaller ∷ [] }
+filled_is true zero x u is = ap (λ (ds : List Duty). slot_filled_by ds u) is
+filled_is true (suc head) x u is = ap (λ (ds : List Duty). slot_filled_by ds u) is
+filled_is false zero x u is =
+    ap (λ (ds : List Duty). slot_filled_by ds u) is ∙ ap (λ (ds : List Duty). record u { agenda = ds }) is
+filled_is false (suc head) x u is =
+    ap (λ (ds : List Duty). slot_filled_by ds u) is ∙ ap (λ (ds : List Duty). record u { agenda = ds }) is
+
+-- A birth is two stores.
+born_is : (v : View) (word : ℕ) → born v word ≡ did (begun v word) (BirthLocal (next_row v) AsCaller ∷ []) 0
+born_is v word =
+    ap (λ (u : View). done u 0)
+    (filled_is (has_resource word) v.head (next_row v) (done (bearing v word) 0) refl)
 
 -- The thread puts the resource into the slot, if the object has one: by this no word changes.
 fills : (has : Bool) (code : List Instr) (q : Place) (x : ℕ) (holding : Holding) (u : View)

@@ -1,4 +1,5 @@
 use Rattle.std.proofs.Common.{ℕ, List, ◌∷◌, Option, Some, refl, sym, ap, ◌∙◌, subst}
+use Rattle.std.specs.Prelude.{slice_set}
 use Rattle.brc_model.specs.declared.layout.Layout.{Layout}
 use Rattle.brc_model.specs.declared.slot.Slot.TheVariants.{Owned}
 use Rattle.brc_model.specs.Kinds.{kind_numbered}
@@ -13,6 +14,7 @@ use Rattle.brc_work.proofs.CallsBelow.{born_acts}
 use Rattle.brc_work.proofs.NewObjects.{born_some, born_with}
 use Rattle.brc_work.proofs.Fitting.{refits}
 use Rattle.brc_work.proofs.Trading.{gains}
+use Rattle.brc_work.proofs.Traces.Births.{bears}
 use Rattle.brc_work.proofs.worker.Worker.bear.Goals as goal
 
 pub returns-clause-goes : goal.returns-clause-goes
@@ -40,3 +42,10 @@ returns-clause-goes g c = λ first s fits can.
     (gains first.view.layout (slot_of s c.args.to) (row_of c.args.rows.now c.args.to) c.args.kind row hand after can.free
     (born_with first.view.layout row hand.view.references after.view.references counted
     (born.references ∙ ap (λ (x : ℕ). x ∷ hand.view.references) (sym c.birth-row.ensures.row)))))
+
+pub returns-clause-made : goal.returns-clause-made
+returns-clause-made g c =
+    bears c.args.to (kind_word c.args.kind c.args.arg) c.args.rows.now c.name.new.rows c.args.hand.now.view
+    c.birth-row.new.hand.view c.requires.fits.fits.rests.agenda c.birth-row.ensures.events
+    (c.name.ensures.named
+    ∙ ap (λ (x : ℕ). slice_set c.args.rows.now c.args.to (Some x)) c.birth-row.ensures.row)

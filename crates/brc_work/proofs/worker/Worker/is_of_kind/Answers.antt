@@ -10,6 +10,7 @@ use Rattle.brc_work.proofs.Conditions.{kept}
 use Rattle.brc_work.proofs.Fitting.{same_fits}
 use Rattle.brc_work.proofs.Holding.{names_object, usable}
 use Rattle.brc_work.proofs.Asking.{kind_fits}
+use Rattle.brc_work.proofs.Traces.Kinds.{is_of, is_not_of}
 use Rattle.brc_work.proofs.worker.Worker.is_of_kind.Goals as goal
 
 pub row_in-row-requires : goal.row_in-row-requires
@@ -50,3 +51,17 @@ returns-else-kind_number-clause-done g c = λ first s fits passes.
     (c.kind_of.ensures.table.0 ∙ ap (λ (w : TableState). w.table) c.self.view_is ∙ sym c.requires.may.of.0) c.kind_of.ensures.carried c.kind_of.ensures.slots
     c.kind_of.ensures.head in
     same_fits first s c.args.rows.now hand after fits did c.kind_of.ensures.references
+
+pub returns-then-kind_number-clause-made : goal.returns-then-kind_number-clause-made
+returns-then-kind_number-clause-made g c =
+    let sees = c.kind_of.ensures.sees in
+    is_of c.args.from c.row_in-row.result sees.0 c.args.otherwise c.args.kind c.kind_of.result c.args.rows.now
+    c.args.hand.now.view c.kind_of.new.hand.view c.requires.may.fits.rests.agenda c.row_in-row.ensures sees.1.view_is
+    sees.2 (sym c.kind_number.ensures ∙ (c.if-kind_number.true ∙ c.kind_number-2.ensures))
+
+pub returns-else-kind_number-clause-made : goal.returns-else-kind_number-clause-made
+returns-else-kind_number-clause-made g c =
+    let sees = c.kind_of.ensures.sees in
+    is_not_of c.args.from c.row_in-row.result sees.0 c.args.otherwise c.args.kind c.kind_of.result c.args.rows.now
+    c.args.hand.now.view c.kind_of.new.hand.view c.requires.may.fits.rests.agenda c.row_in-row.ensures sees.1.view_is
+    sees.2 (λ same. c.if-kind_number.false (c.kind_number.ensures ∙ (same ∙ sym c.kind_number-2.ensures)))

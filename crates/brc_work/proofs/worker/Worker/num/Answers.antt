@@ -1,4 +1,4 @@
-use Rattle.std.proofs.Common.{ℕ, List, Option, sym, subst}
+use Rattle.std.proofs.Common.{ℕ, List, Option, sym, ◌∙◌, subst}
 use Rattle.brc_lang.specs.declared.module.Instr.TheVariants as instructions
 use Rattle.brc_model.specs.declared.slot.Slot.TheVariants.{Empty}
 use Rattle.brc_model.specs.Slots.{put}
@@ -6,6 +6,7 @@ use Rattle.brc_model.proofs.Dispatch.Passing.{are_met}
 use Rattle.brc_work.specs.Fits.{Fits}
 use Rattle.brc_work.proofs.Conditions.{can_fill}
 use Rattle.brc_work.proofs.Moving.{cleared}
+use Rattle.brc_work.proofs.Traces.Births.{makes_num, makes_no_num}
 use Rattle.brc_work.proofs.worker.Worker.num.Goals as goal
 
 pub returns-then-not-room-clause-done : goal.returns-then-not-room-clause-done
@@ -19,3 +20,13 @@ pub returns-clause-done : goal.returns-clause-done
 returns-clause-done g c = λ first s fits passes.
     let met = are_met (instructions.Num c.args.to c.args.value c.args.otherwise) s passes in
     c.bear.ensures.goes first s fits (can_fill s c.args.to met.free met.unlocked)
+
+pub returns-then-not-room-clause-made : goal.returns-then-not-room-clause-made
+returns-then-not-room-clause-made g c =
+    makes_no_num c.args.to c.args.value c.args.otherwise c.args.rows.now c.name.new.rows c.args.hand.now.view
+    (sym c.room.ensures ∙ c.if-not-room.true) c.name.ensures.named
+
+pub returns-clause-made : goal.returns-clause-made
+returns-clause-made g c =
+    makes_num c.args.to c.args.value c.args.otherwise c.args.rows.now c.bear.new.rows c.args.hand.now.view
+    c.bear.new.hand.view (sym c.room.ensures ∙ c.if-not-room.false) c.bear.ensures.made

@@ -8,6 +8,7 @@ use Rattle.brc_table.specs.Hands.{TableState, IsOf}
 use Rattle.brc_work.proofs.Conditions.{kept, none_is, not_false}
 use Rattle.brc_work.proofs.Holding.{names_object, lasting_one, knows_slot, lockable_counted}
 use Rattle.brc_work.proofs.Locking.{borrows_none, no_lock, still_fits, lock_is}
+use Rattle.brc_work.proofs.Traces.Locks.{makes_lock, waits}
 use Rattle.brc_work.proofs.worker.Worker.tries_lock.Goals as goal
 
 pub row_in-row-requires : goal.row_in-row-requires
@@ -92,3 +93,17 @@ returns-clause-nothing g c = λ fails first s fits passes.
     (c.try_lock.ensures.table.0 ∙ ap (λ (w : TableState). w.table) (c.new.ensures ∙ c.self.view_is) ∙ sym c.requires.may.of.0) c.try_lock.ensures.carried
     (c.try_lock.ensures.locked ∙ ap (λ (b : Bool). cond b (Some row) None) fails)
     (c.try_lock.ensures.slots ∙ ap (λ (b : Bool). cond b ((row, after.view.in_slot) ∷ hand.slots) hand.slots) fails)
+
+pub returns-clause-made : goal.returns-clause-made
+returns-clause-made g c = λ wins.
+    let steps = c.try_lock.ensures.events in
+    makes_lock c.args.object c.row_in-row.result c.try_lock.new.hand.view.in_slot steps.0 c.args.rows.now
+    c.args.hand.now.view c.try_lock.new.hand.view c.requires.may.fits.rests.agenda c.row_in-row.ensures steps.1
+    (sym steps.2 ∙ wins)
+
+pub returns-clause-waited : goal.returns-clause-waited
+returns-clause-waited g c = λ fails.
+    let steps = c.try_lock.ensures.events in
+    waits c.args.object c.row_in-row.result c.try_lock.new.hand.view.in_slot steps.0 c.args.rows.now
+    c.args.hand.now.view c.try_lock.new.hand.view c.requires.may.fits.rests.agenda c.row_in-row.ensures steps.1
+    (sym steps.2 ∙ fails)

@@ -8,6 +8,7 @@ use Rattle.brc_table.specs.Hands.{TableState}
 use Rattle.brc_work.proofs.Conditions.{kept, not_false, locked_is}
 use Rattle.brc_work.proofs.Holding.{names_object, lasting_one, lock_of}
 use Rattle.brc_work.proofs.Locking.{unlocks}
+use Rattle.brc_work.proofs.Traces.Locks.{makes_unlock}
 use Rattle.brc_work.proofs.worker.Worker.unlock.Goals as goal
 
 pub row_in-row-requires : goal.row_in-row-requires
@@ -57,3 +58,8 @@ returns-clause-done g c = λ first s fits passes.
     (lock_of first s c.args.rows.now hand fits c.args.object is) c.unlock.ensures.keeps
     (c.unlock.ensures.table.0 ∙ ap (λ (w : TableState). w.table) (c.new.ensures ∙ c.self.view_is) ∙ sym c.requires.may.of.0) c.unlock.ensures.carried c.unlock.ensures.slots
     c.unlock.ensures.unlocked
+
+pub returns-clause-made : goal.returns-clause-made
+returns-clause-made g c =
+    makes_unlock c.args.object c.row_in-row.result _ c.args.rows.now c.args.hand.now.view c.unlock.new.hand.view
+    c.requires.may.fits.rests.agenda c.row_in-row.ensures c.unlock.ensures.events

@@ -1,0 +1,48 @@
+-- `as`.
+use Rattle.std.proofs.Common.{◌≡◌, ◌≢◌, ℕ, ◌+◌, Bool, true, false, cond, List, [], ◌∷◌, Option, Some, refl, sym, ap, ◌∙◌, subst}
+use Rattle.std.specs.Prelude.{◌==◌}
+use Rattle.std.proofs.lemmas.Bool.{eq-eqb, ne_eqb}
+use Rattle.brc_lang.specs.declared.kind.Kind.{Kind}
+use Rattle.brc_lang.specs.declared.module.Instr.{Instr}
+use Rattle.brc_lang.specs.declared.module.Instr.TheVariants as instructions
+use Rattle.brc_model.specs.Actions.{Does}
+use Rattle.brc_model.specs.Kinds.{kind_number, kind_of_word, same_kind}
+use Rattle.brc_model.specs.Threads.{row_of}
+use Rattle.brc_model.specs.declared.actor.Counters.{Counters}
+use Rattle.brc_model.specs.declared.actor.Place.{Place}
+use Rattle.brc_model.specs.declared.actor.Place.TheVariants.{InCall}
+use Rattle.brc_model.specs.declared.duty.Duty.TheVariants.{KindLoad}
+use Rattle.brc_model.specs.declared.slot.Exit.TheVariants.{Success, Fault}
+use Rattle.brc_table.specs.declared.view.View.{View}
+use Rattle.brc_table.specs.Views.{done, asking}
+use Rattle.brc_work.specs.Traces.{MakesTrace}
+use Rattle.brc_work.specs.Performs.{IsBefore, Performs}
+use Rattle.brc_work.proofs.Traces.Places.{begins_with}
+use Rattle.brc_work.proofs.Traces.Starting.{asks_kind}
+
+module _ (from row word otherwise : ℕ) (kind seen : Kind) (rows : List (Option ℕ)) (v u : View) (none : v.agenda ≡ [])
+    (names : row_of rows from ≡ Some row) (is : u ≡ done (asking v row) word) (sees : seen ≡ kind_of_word word) where
+  -- The thread goes on where the word found says.
+  asked : (b : Bool) → same_kind seen kind ≡ b → (code : List Instr) (place : Place) (counters : Counters) (at : ℕ)
+      → IsBefore (instructions.As from kind otherwise) code place counters at rows
+      → MakesTrace code place v (InCall counters (cond b (at + 1) otherwise) rows) u
+  asked b answer code place counters at before =
+      let next = λ (found : ℕ).
+      InCall counters (cond (same_kind (kind_of_word found) kind) (at + 1) otherwise) rows in
+      subst (λ (q : Place). MakesTrace code place v q u)
+      (ap (λ (k : Kind). InCall counters (cond (same_kind k kind) (at + 1) otherwise) rows) (sym sees)
+      ∙ ap (λ (c : Bool). InCall counters (cond c (at + 1) otherwise) rows) answer)
+      (subst (MakesTrace code place v (next word)) (sym is)
+      (asks_kind code place next v none row word
+      (begins_with (instructions.As from kind otherwise) code place counters at rows before v.layout v.thread v.used from row
+      (λ x. Does (KindLoad x) [] next) refl names)))
+
+  -- The object is of the kind,
+  pub is_of : kind_number seen ≡ kind_number kind
+      → Performs (instructions.As from kind otherwise) Success rows v rows u
+  is_of same = asked true (eq-eqb (kind_number seen) (kind_number kind) same)
+
+  -- or it isn't.
+  pub is_not_of : kind_number seen ≢ kind_number kind
+      → Performs (instructions.As from kind otherwise) Fault rows v rows u
+  is_not_of other = asked false (ne_eqb (kind_number seen) (kind_number kind) other)
