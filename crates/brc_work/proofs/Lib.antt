@@ -15,4 +15,5 @@ mod NewObjects
 mod Moving
 mod Counting
 mod Places
+mod Mains
 mod Traces

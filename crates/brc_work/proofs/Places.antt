@@ -17,6 +17,13 @@ pushed P xs ys n x same here were now k d below =
     below_more (λ i. P i (get_or ys i d)) n (λ i low. subst (P i) (sym (same i d low)) (were i d low))
     (subst (P n) (sym (here d)) now) k below
 
+-- a list with one element more, which isn't named
+pub grown : {A : Type 0} (P : ℕ → A → Type 0) (xs ys : List A) (n : ℕ)
+    → ((k : ℕ) (d : A) → k < n → get_or ys k d ≡ get_or xs k d) → ((d : A) → P n (get_or ys n d)) → AreSo P xs n
+    → AreSo P ys (n + 1)
+grown P xs ys n same here were k d below =
+    below_more (λ i. P i (get_or ys i d)) n (λ i low. subst (P i) (sym (same i d low)) (were i d low)) (here d) k below
+
 -- a promise of the same worker
 pub gone_for : {there heap : TableState} {thread number : ℕ} {hand : HandState} {totals : Totals}
     → there ≡ heap → thread ≡ number → HasGone there thread hand totals → HasGone heap number hand totals

@@ -4,5 +4,6 @@ pub mod Acts
 pub mod Totals
 pub mod Calls
 pub mod Workers
+pub mod Mains
 pub mod Traces
 pub mod Performs

@@ -6,6 +6,7 @@
 
 mod births;
 mod calls;
+mod error;
 mod gate;
 mod host_calls;
 mod items;
@@ -15,12 +16,15 @@ mod locks;
 mod references;
 mod running;
 mod task;
+mod tasks;
 mod threads;
 mod totals;
 mod turns;
 mod variables;
 mod worker;
 
+pub use error::NoThread;
 pub use gate::Gate;
+pub use threads::fan_out;
 pub use totals::Totals;
 pub use worker::Worker;

@@ -1,13 +1,19 @@
 //! Workers on threads of their own.
 
-ghost use Rattle.std.specs.Prelude.{◌≡◌, ℕ, ◌+◌, ◌<◌, ◌≤◌, [], vec_len, vec_capacity, slice_index_or};
+ghost use Rattle.std.specs.Prelude.{◌≡◌, ℕ, ◌+◌, ◌<◌, ◌≤◌, [], length, vec_len, vec_capacity, slice_index_or, IfOk};
+ghost use Rattle.brc_table.specs.Hands.{IsOf};
+ghost use Rattle.brc_work.specs.Mains.{MayFanOut, KeepsMain};
 ghost use Rattle.brc_work.specs.Workers.{HasGone};
 
+use crate::error::NoThread;
 use crate::gate::Gate;
 use crate::task::{Done, Leaves, Task};
+use crate::tasks::tasks_of;
 use crate::totals::Totals;
+use brc_check::Checked;
 use brc_heap::{Hand, Heap};
 use brc_host::Host;
+use std::alloc::Global;
 use std::snapshot::Snapshot;
 use std::sync::Wait;
 use std::sync::atomic::{AtomicBool, Ordering};
@@ -16,6 +22,58 @@ use std::thread::{PromisedHandle, Threads};
 
 /// The thread of a worker, whose hand will have left when the thread ends.
 type Started<T> = PromisedHandle<Done<T>, Leaves<T>>;
+
+/// Lets a worker for each host call the accepted module's function with this number, `times` times, each in a thread of
+/// its own. Returns what the workers leave, in their order: each one's hand, which is gone, and what it has counted.
+///
+/// Main gives out the hands of workers 1, 2, .., and holds afterwards what it held before. When the call returns, all
+/// workers have left.
+///
+/// # Errors
+///
+/// K1 if memory is refused, and then no hand was given out; or if a thread can't be started, and then the workers that
+/// have no thread have left without a call.
+pub fn fan_out<
+    'w,
+    R: Threads + Wait + Sync,
+    T: Send + Drop,
+    H: Host<Res = T> + Send,
+    G: Gate + Sync,
+>(
+    rt: &R,
+    alloc: Global,
+    heap: &'w Heap<T>,
+    main: &mut Hand<T>,
+    checked: &'w Checked,
+    function: usize,
+    times: u32,
+    hosts: &'w mut [H],
+    gate: &'w G,
+) -> Result<Vec<(Hand<T>, Totals)>, NoThread>
+    requires of { IsOf heap.now main.old }
+    requires may { MayFanOut main.old.view }
+    requires enough { length hosts.old ≤ heap.now.layout.workers }
+    requires function { function < length checked.now.module.functions }
+    ensures of { IsOf heap.now main.new }
+    ensures kept { KeepsMain main.old.view main.new.view }
+    ensures carried { main.new.carried ≡ main.old.carried }
+    ensures slots { main.new.slots ≡ main.old.slots }
+    ensures one_each { IfOk result (λ gone. vec_len gone ≡ length hosts.old) }
+    ensures gone { IfOk result (λ gone. (k : ℕ) (w : _) → k < vec_len gone
+        → HasGone heap.now (k + 1) (slice_index_or gone.items k w).0 (slice_index_or gone.items k w).1) }
+{
+    let count = hosts.len();
+    let tasks = Vec::with_capacity(alloc, count)?;
+    let threads = Vec::with_capacity(alloc, count)?;
+    let answer = Vec::with_capacity(alloc, count)?;
+    let tasks = tasks_of(heap, main, checked, function, times, hosts, gate, tasks);
+    let gone = run_all(rt, heap, tasks, threads, answer);
+    if gone.len() == count {
+        Ok(gone)
+    } else {
+        Err(NoThread)
+    }
+}
 
 /// Lets each worker do its task in a thread of its own. Returns what those have left that have made their calls. If a thread
 /// can't be started, the workers are stopped: those that haven't begun leave without a call.

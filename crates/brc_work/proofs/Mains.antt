@@ -1,0 +1,67 @@
+-- Main gives out hands to workers, one after the other.
+use Rattle.std.proofs.Common.{◌≡◌, ℕ, ◌+◌, ◌<◌, ◌≤◌, Bool, true, false, List, [], ◌∷◌, ◌++◌, length, arith, refl, sym, ap, ◌∙◌, subst}
+use Rattle.std.specs.Prelude.{◌==◌, ◌||◌, count_by}
+use Rattle.std.specs.List.{filter, list_any}
+use Rattle.std.proofs.lemmas.Bool.{ne_eqb}
+use Rattle.brc_model.specs.declared.duty.Duty.{Duty}
+use Rattle.brc_model.specs.Layout.{root_row}
+use Rattle.brc_table.specs.declared.view.View.{View}
+use Rattle.brc_model.specs.OpenWork.{is_about}
+use Rattle.brc_table.specs.Hands.{IsRunning, HasNoWork, MayWait, most_references}
+use Rattle.brc_table.specs.Views.{holds, is_given}
+use Rattle.brc_heap.specs.Calls.{HasGiven}
+use Rattle.brc_heap.proofs.Sight.{same_sight, sight_then}
+use Rattle.brc_work.specs.Mains.{MayFanOut, KeepsMain}
+
+-- Main has given out no hand yet.
+pub keeps_itself : (v : View) → MayFanOut v → KeepsMain v v
+keeps_itself v may = record {
+  layout = refl;
+  number = refl;
+  status = refl;
+  used = refl;
+  references = refl;
+  head = refl;
+  sight = same_sight v v refl refl refl refl;
+  waits = may.running.1;
+  work = refl;
+}
+
+-- Main has given out one hand more.
+pub keeps_then : (thread : ℕ) (v u w : View) → KeepsMain v u → HasGiven thread u w → KeepsMain v w
+keeps_then thread v u w kept given = record {
+  layout = given.layout ∙ kept.layout;
+  number = given.number ∙ kept.number;
+  status = given.status ∙ kept.status;
+  used = given.used ∙ kept.used;
+  references = given.references ∙ kept.references;
+  head = given.head ∙ kept.head;
+  sight = sight_then v u w kept.sight given.sight;
+  waits = subst MayWait (sym given.agenda) tt;
+  work = ap (λ (ds : List Duty). ds ++ w.aside) given.agenda ∙ given.aside ∙ kept.work;
+}
+
+-- What `hand_out` asks of main holds before each hand.
+module _ (v u : View) (may : MayFanOut v) (kept : KeepsMain v u) where
+  pub still_main : u.thread ≡ 0
+  still_main = kept.number ∙ may.is_main
+
+  pub still_runs : IsRunning u
+  still_runs = (kept.status ∙ may.running.0, kept.waits)
+
+  pub still_holds : 1 ≤ holds u root_row
+  still_holds = subst (λ (rows : List ℕ). 1 ≤ count_by (λ y. y == root_row) rows) (sym kept.references) may.held
+
+  pub still_idle : HasNoWork u root_row
+  still_idle = ap (filter (is_about root_row)) kept.work ∙ may.idle
+
+  pub still_few : length u.references < most_references
+  still_few = subst (λ (rows : List ℕ). length rows < most_references) (sym kept.references) may.few
+
+-- No hand of a later worker was given out.
+pub free_then : (thread : ℕ) (v w : View) → HasGiven thread v w
+    → ((t : ℕ) → thread ≤ t → is_given t v ≡ false) → (t : ℕ) → thread + 1 ≤ t → is_given t w ≡ false
+free_then thread v w given free t above =
+    ap (list_any (λ (s : ℕ). s == t)) given.given
+    ∙ ap (λ (b : Bool). b || is_given t v) (ne_eqb thread t (λ e. absurd (omega (arith, above, e))))
+    ∙ free t (omega (arith, above))

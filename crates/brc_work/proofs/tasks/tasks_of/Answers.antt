@@ -1,0 +1,31 @@
+use Rattle.std.specs.Prelude.{◌≡◌, ℕ, ◌+◌, length, vec_items, vec_len}
+use Rattle.std.proofs.Common.{rules, arith, refl, sym, ap, ◌∙◌, subst}
+use Rattle.brc_work.proofs.Mains.{keeps_then, free_then}
+use Rattle.brc_work.proofs.Places.{grown}
+use Rattle.brc_work.proofs.tasks.tasks_of.Goals as goal
+
+-- The next worker has its hand and its task.
+pub loop-host-preserved : goal.loop-host-preserved
+loop-host-preserved g c =
+    let was = c.loop-host.invariant in
+    let given = c.in-Ok.ensures.left in
+    let count = vec_len c.loop-host.tasks in
+    let step = c.in-Some.ensures.steps in
+    let added = c.push.ensures.by_index in
+    let heap = c.args.heap.now in
+    let more : vec_len c.push.new.self ≡ count + 1 = search rules in
+    record {
+      of = c.in-Ok.ensures.table.1;
+      kept = keeps_then c.loop-host.thread c.args.main.now.view c.loop-host.main.view c.hand_out.new.main.view was.kept given;
+      carried = c.hand_out.ensures.carried ∙ was.carried;
+      slots = c.hand_out.ensures.slots ∙ was.slots;
+      free = free_then c.loop-host.thread c.loop-host.main.view c.hand_out.new.main.view given was.free;
+      number = omega (arith, was.number, more);
+      rest = omega (arith, more, was.rest, ap length step);
+      room = search (rules, was.room);
+      each = λ k t below.
+          grown (λ i s. (s.heap.now ≡ heap) × (s.thread ≡ i + 1)) (vec_items c.loop-host.tasks)
+          (vec_items c.push.new.self) count added.0
+          (λ d. subst (λ s. (s.heap.now ≡ heap) × (s.thread ≡ count + 1)) (sym (added.1 d (search rules))) (refl, was.number))
+          was.each k t (omega (arith, below, more));
+    }

@@ -1,0 +1,21 @@
+use Rattle.std.specs.Prelude.{◌≡◌, ℕ, ◌+◌, ◌≤◌, ◌<◌, false, length, get_or, vec_items, vec_len, vec_capacity}
+use Rattle.std.specs.Slice.Iter.{iter_mut_rest}
+use Rattle.brc_table.specs.Hands.{IsOf}
+use Rattle.brc_table.specs.Views.{is_given}
+use Rattle.brc_work.specs.Mains.{KeepsMain}
+use Rattle.brc_work.proofs.tasks.tasks_of.Given as goal
+
+-- Main has given out the hands of the workers before the next one, and each task so far is its worker's.
+abbrev pub invariant-loop-host : goal.invariant-loop-host
+invariant-loop-host g l = record {
+  of : IsOf l.heap l.main;
+  kept : KeepsMain l.fn.main.view l.main.view;
+  carried : l.main.carried ≡ l.fn.main.carried;
+  slots : l.main.slots ≡ l.fn.main.slots;
+  free : (t : ℕ) → l.thread ≤ t → is_given t l.main.view ≡ false;
+  number : l.thread ≡ vec_len l.tasks + 1;
+  rest : vec_len l.tasks + length (iter_mut_rest l.host-iterator) ≡ length (iter_mut_rest l.initial.host-iterator);
+  room : length (iter_mut_rest l.initial.host-iterator) ≤ vec_capacity l.tasks;
+  each : (k : ℕ) (t : _) → k < vec_len l.tasks
+      → ((get_or (vec_items l.tasks) k t).heap.now ≡ l.heap) × ((get_or (vec_items l.tasks) k t).thread ≡ k + 1);
+}

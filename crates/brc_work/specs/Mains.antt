@@ -1,0 +1,28 @@
+-- What main has to do with workers on threads of their own.
+use Rattle.std.specs.Prelude.{◌≡◌, ◌<◌, ◌≤◌, [], length}
+use Rattle.brc_model.specs.Layout.{root_row}
+use Rattle.brc_table.specs.declared.view.View.{View}
+use Rattle.brc_table.specs.Hands.{IsRunning, HasNoWork, MayWait, most_references}
+use Rattle.brc_table.specs.Views.{holds, open_work}
+use Rattle.brc_heap.specs.Calls.{KeepsSight}
+
+-- Main may give out hands: it runs, holds the root and has nothing to do about it, and has given out no hand before.
+pub record MayFanOut (v : View) : Type 0 where
+  pub is_main : v.thread ≡ 0
+  pub running : IsRunning v
+  pub held : 1 ≤ holds v root_row
+  pub idle : HasNoWork v root_row
+  pub few : length v.references < most_references
+  pub none_given : v.given ≡ []
+
+-- Main has given out hands. It holds what it held before, and its work and its chain are as they were.
+pub record KeepsMain (v u : View) : Type 0 where
+  pub layout : u.layout ≡ v.layout
+  pub number : u.thread ≡ v.thread
+  pub status : u.status ≡ v.status
+  pub used : u.used ≡ v.used
+  pub references : u.references ≡ v.references
+  pub head : u.head ≡ v.head
+  pub sight : KeepsSight v u
+  pub waits : MayWait u.agenda
+  pub work : open_work u ≡ open_work v

@@ -1,0 +1,62 @@
+//! The tasks of workers, each of which has a hand of its own.
+
+ghost use Rattle.std.specs.Prelude.{◌≡◌, ℕ, ◌+◌, ◌<◌, ◌≤◌, [], length, vec_len, vec_capacity, slice_index_or};
+ghost use Rattle.brc_table.specs.Hands.{IsOf};
+ghost use Rattle.brc_work.specs.Mains.{MayFanOut, KeepsMain};
+
+use crate::gate::Gate;
+use crate::task::Task;
+use brc_check::Checked;
+use brc_heap::{Hand, Heap};
+use brc_host::Host;
+
+/// Gives out a hand for each host, to workers 1, 2, .. in order. Returns their tasks: the tasks so far are none, and there
+/// is room for one for each host.
+pub(crate) fn tasks_of<'w, T: Drop, H: Host<Res = T>, G: Gate>(
+    heap: &'w Heap<T>,
+    main: &mut Hand<T>,
+    checked: &'w Checked,
+    function: usize,
+    times: u32,
+    hosts: &'w mut [H],
+    gate: &'w G,
+    mut tasks: Vec<Task<'w, T, H, G>>,
+) -> Vec<Task<'w, T, H, G>>
+    requires of { IsOf heap.now main.old }
+    requires may { MayFanOut main.old.view }
+    requires enough { length hosts.old ≤ heap.now.layout.workers }
+    requires function { function < length checked.now.module.functions }
+    requires none { tasks.items ≡ [] }
+    requires room { length hosts.old ≤ vec_capacity tasks }
+    ensures of { IsOf heap.now main.new }
+    ensures kept { KeepsMain main.old.view main.new.view }
+    ensures carried { main.new.carried ≡ main.old.carried }
+    ensures slots { main.new.slots ≡ main.old.slots }
+    ensures one_each { vec_len result ≡ length hosts.old }
+    ensures tasks { (k : ℕ) (t : _) → k < vec_len result
+        → ((slice_index_or result.items k t).heap.now ≡ heap.now) × ((slice_index_or result.items k t).thread ≡ k + 1) }
+{
+    heap.words().layout_is_plain();
+    let mut thread: u8 = 1;
+    let places = hosts.iter_mut();
+    for host in places {
+        let Ok(hand) = heap.hand_out(main, thread) else {
+            unreachable!()
+        };
+        let task = Task {
+            heap,
+            checked,
+            function,
+            times,
+            thread,
+            hand,
+            host,
+            gate,
+        };
+        let Ok(()) = tasks.push(task) else {
+            unreachable!()
+        };
+        thread += 1;
+    }
+    tasks
+}
