@@ -1,9 +1,10 @@
 -- What a hand's calls add to its trace: the events of a thread of the step world that makes the same calls.
 --
--- In order: `Joining` (traces one after the other), `Duties` (one duty of a hand is one of its thread, though the thread
--- holds a reference otherwise), `Working` (duty after duty), `Releasing` (a reference is given up), `Places` (what a
--- thread does at an instruction), `Starting` (the calls of one or two
--- steps) and `References` (the instructions that hand references on).
+-- In order: `Joining` (traces one after the other), `Duties` (one duty of a hand is one of its thread, though the
+-- thread holds a reference otherwise), `Working` (duty after duty), `Releasing` (a reference is given up), `Places`
+-- (what a thread does at an instruction), `Starting` (the calls of one or two steps), `References` (the instructions
+-- that hand references on), `Births`, `Locks`, `Kinds`, `Swaps` (an item goes into a cell) and `Items` (the
+-- instructions that use a cell of the locked list).
 pub mod Joining
 pub mod Duties
 pub mod Working
@@ -14,3 +15,5 @@ pub mod References
 pub mod Births
 pub mod Locks
 pub mod Kinds
+pub mod Swaps
+pub mod Items

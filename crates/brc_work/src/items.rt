@@ -9,6 +9,7 @@ ghost use Rattle.brc_table.specs.Swaps.{MayPut};
 ghost use Rattle.brc_table.specs.Views.{holds};
 ghost use Rattle.brc_work.specs.Acts.{Acts, HasLess};
 ghost use Rattle.brc_work.specs.Fits.{Rests, MayDo, HasDone};
+ghost use Rattle.brc_work.specs.Performs.{Performs, MakesSwap};
 ghost use Rattle.brc_work.specs.Totals.{HasCounted};
 
 use crate::totals::Totals;
@@ -35,6 +36,8 @@ impl<'h, T: Drop> Worker<'h, T> {
         requires may { MayDo self.now (instructions.Borrow to list index otherwise) rows.old hand.old }
         ensures of { IsOf self.now hand.new }
         ensures done { HasDone (instructions.Borrow to list index otherwise) result rows.old hand.old rows.new hand.new }
+        ensures made { Performs (instructions.Borrow to list index otherwise) result rows.old hand.old.view
+            rows.new hand.new.view }
     {
         let lists = Lists::new(self.heap);
         let row = row_in(rows, list);
@@ -69,6 +72,8 @@ impl<'h, T: Drop> Worker<'h, T> {
         requires may { MayDo self.now (instructions.Fetch to list index otherwise) rows.old hand.old }
         ensures of { IsOf self.now hand.new }
         ensures done { HasDone (instructions.Fetch to list index otherwise) result rows.old hand.old rows.new hand.new }
+        ensures made { Performs (instructions.Fetch to list index otherwise) result rows.old hand.old.view
+            rows.new hand.new.view }
     {
         let lists = Lists::new(self.heap);
         let row = row_in(rows, list);
@@ -108,6 +113,8 @@ impl<'h, T: Drop> Worker<'h, T> {
         requires may { MayDo self.now (instructions.Set list index from otherwise) rows.old hand.old }
         ensures of { IsOf self.now hand.new }
         ensures done { HasDone (instructions.Set list index from otherwise) result rows.old hand.old rows.new hand.new }
+        ensures made { Performs (instructions.Set list index from otherwise) result rows.old hand.old.view
+            rows.new hand.new.view }
         ensures counted { HasCounted totals.old totals.new (H.counts host.old) (H.counts host.new) }
     {
         let row = row_in(rows, list);
@@ -139,6 +146,8 @@ impl<'h, T: Drop> Worker<'h, T> {
         requires may { MayDo self.now (instructions.Put list index from otherwise) rows.now hand.old }
         ensures of { IsOf self.now hand.new }
         ensures done { HasDone (instructions.Put list index from otherwise) result rows.now hand.old rows.now hand.new }
+        ensures made { Performs (instructions.Put list index from otherwise) result rows.now hand.old.view
+            rows.now hand.new.view }
         ensures counted { HasCounted totals.old totals.new (H.counts host.old) (H.counts host.new) }
     {
         let row = row_in(rows, list);
@@ -175,6 +184,7 @@ impl<'h, T: Drop> Worker<'h, T> {
         ensures of { IsOf self.now hand.new }
         ensures acts { Acts hand.old hand.new }
         ensures less { HasLess item hand.old hand.new }
+        ensures made { MakesSwap row cell item hand.old.view hand.new.view }
         ensures counted { HasCounted totals.old totals.new (H.counts host.old) (H.counts host.new) }
     {
         let found = Lists::new(self.heap).swap_item(hand, row, cell, Some(item));

@@ -15,6 +15,7 @@ use Rattle.brc_work.proofs.Fitting.{refits, same_fits}
 use Rattle.brc_work.proofs.Holding.{names_object, few_held}
 use Rattle.brc_work.proofs.LockedList.{on_list, sized_acts, item_acts}
 use Rattle.brc_work.proofs.Trading.{nothing, gains}
+use Rattle.brc_work.proofs.Traces.Items.{HasSized, fetches_outside, fetches_none, fetches_item}
 use Rattle.brc_work.proofs.worker.Worker.fetch.Goals as goal
 
 pub row_in-row-requires : goal.row_in-row-requires
@@ -134,3 +135,53 @@ returns-in-None-clause-done g c = λ first s fits passes.
     (refits first s c.args.rows.now mid after c.args.to Empty None later c.name-in-None.ensures.low can.unlocked looked tt
     (nothing first.view.layout (slot_of s c.args.to) Empty (row_of c.args.rows.now c.args.to) None mid after can.free refl
     c.item-found.ensures.keeps.references))
+
+pub returns-then-cell-size-clause-made : goal.returns-then-cell-size-clause-made
+returns-then-cell-size-clause-made g c =
+    let events = c.size.ensures.events in
+    let sized : HasSized c.args.list c.row_in-row.result c.args.index c.from-cell.result c.size.result events.0
+    c.args.rows.now c.args.hand.now.view c.size.new.hand.view = record {
+      none = c.requires.may.fits.rests.agenda;
+      names = c.row_in-row.ensures;
+      same = c.from-cell.ensures;
+      size_is = events.2;
+      view_is = events.1;
+    } in
+    fetches_outside c.args.list c.row_in-row.result c.args.index c.from-cell.result c.size.result events.0
+    c.args.rows.now c.args.hand.now.view c.size.new.hand.view sized c.args.to c.args.otherwise c.name.new.rows
+    c.if-cell-size.true c.name.ensures.named
+
+pub returns-in-Some-clause-made : goal.returns-in-Some-clause-made
+returns-in-Some-clause-made g c =
+    let events = c.size.ensures.events in
+    let sized : HasSized c.args.list c.row_in-row.result c.args.index c.from-cell.result c.size.result events.0
+    c.args.rows.now c.args.hand.now.view c.size.new.hand.view = record {
+      none = c.requires.may.fits.rests.agenda;
+      names = c.row_in-row.ensures;
+      same = c.from-cell.ensures;
+      size_is = events.2;
+      view_is = events.1;
+    } in
+    let sees = c.item-found.ensures.sees in
+    let steps = c.retain.ensures.events in
+    fetches_item c.args.list c.row_in-row.result c.args.index c.from-cell.result c.size.result events.0
+    c.args.rows.now c.args.hand.now.view c.size.new.hand.view sized c.args.to c.args.otherwise c.name-in-Some.new.rows
+    sees.0 c.in-Some.item steps.0 steps.1 c.item-found.new.hand.view c.retain.new.hand.view c.if-cell-size.false
+    (record { view_is = sees.1.view_is; item_is = sym sees.2 ∙ c.in-Some.is }) steps.3 c.name-in-Some.ensures.named
+
+pub returns-in-None-clause-made : goal.returns-in-None-clause-made
+returns-in-None-clause-made g c =
+    let events = c.size.ensures.events in
+    let sized : HasSized c.args.list c.row_in-row.result c.args.index c.from-cell.result c.size.result events.0
+    c.args.rows.now c.args.hand.now.view c.size.new.hand.view = record {
+      none = c.requires.may.fits.rests.agenda;
+      names = c.row_in-row.ensures;
+      same = c.from-cell.ensures;
+      size_is = events.2;
+      view_is = events.1;
+    } in
+    let sees = c.item-found.ensures.sees in
+    fetches_none c.args.list c.row_in-row.result c.args.index c.from-cell.result c.size.result events.0
+    c.args.rows.now c.args.hand.now.view c.size.new.hand.view sized c.args.to c.args.otherwise c.name-in-None.new.rows
+    sees.0 c.item-found.new.hand.view c.if-cell-size.false
+    (record { view_is = sees.1.view_is; item_is = sym sees.2 ∙ c.in-None.is }) c.name-in-None.ensures.named

@@ -14,6 +14,7 @@ use Rattle.brc_work.proofs.Fitting.{bare_fits}
 use Rattle.brc_work.proofs.Holding.{names_object, usable, few_held, few_more}
 use Rattle.brc_work.proofs.LockedList.{on_list, sized_fits, still_held, may_put, knows_cell, without_with}
 use Rattle.brc_work.proofs.Trading.{length_more}
+use Rattle.brc_work.proofs.Traces.Items.{HasSized, puts_outside, puts_item}
 use Rattle.brc_work.proofs.worker.Worker.put.Goals as goal
 
 pub row_in-row-requires : goal.row_in-row-requires
@@ -221,3 +222,34 @@ returns-clause-done g c = λ first s fits passes.
     ∙ (ap (λ (l : Layout). without_reference l item next.view.references) retained.acts.more.layout
     ∙ (ap (λ (l : List ℕ). without_reference mid.view.layout item l) c.retain.ensures.references
     ∙ without_with mid.view.layout item mid.view.references)))
+
+pub returns-then-cell-size-clause-made : goal.returns-then-cell-size-clause-made
+returns-then-cell-size-clause-made g c =
+    let events = c.size.ensures.events in
+    let sized : HasSized c.args.list c.row_in-row.result c.args.index c.from-cell.result c.size.result events.0
+    c.args.rows.now c.args.hand.now.view c.size.new.hand.view = record {
+      none = c.requires.may.fits.rests.agenda;
+      names = c.row_in-row.ensures;
+      same = c.from-cell.ensures;
+      size_is = events.2;
+      view_is = events.1;
+    } in
+    puts_outside c.args.list c.row_in-row.result c.args.index c.from-cell.result c.size.result events.0
+    c.args.rows.now c.args.hand.now.view c.size.new.hand.view sized c.args.from c.args.otherwise c.if-cell-size.true
+
+pub returns-clause-made : goal.returns-clause-made
+returns-clause-made g c =
+    let events = c.size.ensures.events in
+    let sized : HasSized c.args.list c.row_in-row.result c.args.index c.from-cell.result c.size.result events.0
+    c.args.rows.now c.args.hand.now.view c.size.new.hand.view = record {
+      none = c.requires.may.fits.rests.agenda;
+      names = c.row_in-row.ensures;
+      same = c.from-cell.ensures;
+      size_is = events.2;
+      view_is = events.1;
+    } in
+    let steps = c.retain.ensures.events in
+    puts_item c.args.list c.row_in-row.result c.args.index c.from-cell.result c.size.result events.0
+    c.args.rows.now c.args.hand.now.view c.size.new.hand.view sized c.args.from c.args.otherwise
+    c.row_in-item.result steps.0 steps.1 c.retain.new.hand.view c.exchange.new.hand.view c.if-cell-size.false
+    c.row_in-item.ensures steps.3 c.exchange.ensures.made

@@ -15,6 +15,7 @@ use Rattle.brc_work.proofs.Fitting.{refits, bare_fits}
 use Rattle.brc_work.proofs.Holding.{names_object, owned_one, keeps_lock, few_held}
 use Rattle.brc_work.proofs.LockedList.{on_list, sized_fits, besides, idle_about}
 use Rattle.brc_work.proofs.Moving.{given}
+use Rattle.brc_work.proofs.Traces.Items.{HasSized, sets_outside, sets_item}
 use Rattle.brc_work.proofs.worker.Worker.set.Goals as goal
 
 pub row_in-row-requires : goal.row_in-row-requires
@@ -145,3 +146,34 @@ returns-clause-done g c = λ first s fits passes.
     (besides mid after references c.exchange.ensures.acts)
     (c.exchange.ensures.less
     ∙ ap (λ (l : Layout). without_reference l item mid.view.references) later.follows.layout))
+
+pub returns-then-cell-size-clause-made : goal.returns-then-cell-size-clause-made
+returns-then-cell-size-clause-made g c =
+    let events = c.size.ensures.events in
+    let sized : HasSized c.args.list c.row_in-row.result c.args.index c.from-cell.result c.size.result events.0
+    c.args.rows.now c.args.hand.now.view c.size.new.hand.view = record {
+      none = c.requires.may.fits.rests.agenda;
+      names = c.row_in-row.ensures;
+      same = c.from-cell.ensures;
+      size_is = events.2;
+      view_is = events.1;
+    } in
+    sets_outside c.args.list c.row_in-row.result c.args.index c.from-cell.result c.size.result events.0
+    c.args.rows.now c.args.hand.now.view c.size.new.hand.view sized c.args.from c.args.otherwise c.give_up.new.rows
+    c.give_up.new.hand.view c.if-cell-size.true c.give_up.ensures.made
+
+pub returns-clause-made : goal.returns-clause-made
+returns-clause-made g c =
+    let events = c.size.ensures.events in
+    let sized : HasSized c.args.list c.row_in-row.result c.args.index c.from-cell.result c.size.result events.0
+    c.args.rows.now c.args.hand.now.view c.size.new.hand.view = record {
+      none = c.requires.may.fits.rests.agenda;
+      names = c.row_in-row.ensures;
+      same = c.from-cell.ensures;
+      size_is = events.2;
+      view_is = events.1;
+    } in
+    sets_item c.args.list c.row_in-row.result c.args.index c.from-cell.result c.size.result events.0
+    c.args.rows.now c.args.hand.now.view c.size.new.hand.view sized c.args.from c.args.otherwise c.name.new.rows
+    c.row_in-item.result c.exchange.new.hand.view c.if-cell-size.false c.row_in-item.ensures c.exchange.ensures.made
+    c.name.ensures.named
