@@ -3,7 +3,7 @@ use Rattle.std.proofs.Common.{◌≡◌, ℕ, zero, suc, ◌+◌, ◌≤◌, Boo
 use Rattle.std.specs.Prelude.{slice_get, slice_set}
 use Rattle.brc_lang.specs.declared.module.Instr.{Instr}
 use Rattle.brc_lang.specs.declared.module.Instr.TheVariants as instructions
-use Rattle.brc_model.specs.Actions.{Does, Silent, always, dispatch, number_word, list_word, birth_action}
+use Rattle.brc_model.specs.Actions.{Action, Does, Silent, always, dispatch, number_word, list_word, birth_action}
 use Rattle.brc_model.specs.Duties.{ready, has_resource}
 use Rattle.brc_model.specs.Machine.{Actor, has_room}
 use Rattle.brc_model.specs.declared.actor.Counters.{Counters}
@@ -161,19 +161,17 @@ module _ (to otherwise word : ℕ) (i : Instr) (rows after_rows : List (Option �
       subst (λ (rs : List (Option ℕ)). MakesTrace code place v (InCall counters (at + 1) rs) u) (sym birth.named)
       (birth.first code place (InCall counters (at + 1) (slice_set rows to (Some (next_row v)))) (is ∙ ap goes room))
 
-  -- Without room it goes on at `otherwise`.
-  pub makes_no_object : has_room v.layout v.thread v.used ≡ false → after_rows ≡ slice_set rows to None
-      → (code : List Instr) (place : Place) (counters : Counters) (at : ℕ)
-      → dispatch v.layout v.thread v.used code place
-      ≡ birth_action v.layout v.thread v.used counters at rows to word otherwise
-      → MakesTrace code place v (InCall counters otherwise after_rows) v
-  makes_no_object room named code place counters at is =
-      let goes = λ (b : Bool).
-      cond b (Does (BirthKind (next_row v) (ByVariable to) word) []
-      (always (InCall counters (at + 1) (slice_set rows to (Some (next_row v))))))
-      (Silent [] (InCall counters otherwise (slice_set rows to None))) in
-      subst (λ (rs : List (Option ℕ)). MakesTrace code place v (InCall counters otherwise rs) v) (sym named)
-      (goes_silently code place v (InCall counters otherwise (slice_set rows to None)) [] (is ∙ ap goes room))
+-- An instruction that needs room for an object goes on at `otherwise` without it.
+pub makes_no_object : (to otherwise : ℕ) (rows after_rows : List (Option ℕ)) (v : View)
+    → has_room v.layout v.thread v.used ≡ false → after_rows ≡ slice_set rows to None
+    → (work : Action) (code : List Instr) (place : Place) (counters : Counters)
+    → dispatch v.layout v.thread v.used code place
+    ≡ cond (has_room v.layout v.thread v.used) work (Silent [] (InCall counters otherwise (slice_set rows to None)))
+    → MakesTrace code place v (InCall counters otherwise after_rows) v
+makes_no_object to otherwise rows after_rows v room named work code place counters is =
+    let goes = λ (b : Bool). cond b work (Silent [] (InCall counters otherwise (slice_set rows to None))) in
+    subst (λ (rs : List (Option ℕ)). MakesTrace code place v (InCall counters otherwise rs) v) (sym named)
+    (goes_silently code place v (InCall counters otherwise (slice_set rows to None)) [] (is ∙ ap goes room))
 
 pub makes_num : (to value otherwise : ℕ) (rows after_rows : List (Option ℕ)) (v u : View)
     → has_room v.layout v.thread v.used ≡ true → MakesBirth to (number_word value) rows v after_rows u
@@ -188,7 +186,7 @@ pub makes_no_num : (to value otherwise : ℕ) (rows after_rows : List (Option �
     → Performs (instructions.Num to value otherwise) Fault rows v after_rows v
 makes_no_num to value otherwise rows after_rows v room named = λ code place counters at before.
     let i = instructions.Num to value otherwise in
-    makes_no_object to otherwise (number_word value) i rows after_rows v v room named code place counters at
+    makes_no_object to otherwise rows after_rows v room named _ code place counters
     (begins i code place counters at rows before v.layout v.thread v.used)
 
 pub makes_list : (to cells otherwise : ℕ) (rows after_rows : List (Option ℕ)) (v u : View)
@@ -204,5 +202,5 @@ pub makes_no_list : (to cells otherwise : ℕ) (rows after_rows : List (Option �
     → Performs (instructions.List to cells otherwise) Fault rows v after_rows v
 makes_no_list to cells otherwise rows after_rows v room named = λ code place counters at before.
     let i = instructions.List to cells otherwise in
-    makes_no_object to otherwise (list_word cells) i rows after_rows v v room named code place counters at
+    makes_no_object to otherwise rows after_rows v room named _ code place counters
     (begins i code place counters at rows before v.layout v.thread v.used)
