@@ -1,10 +1,10 @@
 -- What a hand's calls add to its trace: the events of a thread of the step world that makes the same calls.
 --
--- In order: `Joining` (traces one after the other), `Duties` (one duty of a hand is one of its thread, though the
--- thread holds a reference otherwise), `Working` (duty after duty), `Releasing` (a reference is given up), `Places`
--- (what a thread does at an instruction), `Starting` (the calls of one or two steps), `References` (the instructions
--- that hand references on), `Births`, `Locks`, `Kinds`, `Swaps` (an item goes into a cell) and `Items` (the
--- instructions that use a cell of the locked list).
+-- In order: `Joining` (traces one after the other), `Duties` (one duty of a hand is one of its thread, though the thread
+-- holds a reference otherwise), `Working` (duty after duty), `Releasing` (a reference is given up), `Places` (what a
+-- thread does at an instruction), `Starting` (the calls of one or two steps), `References` (the instructions that hand
+-- references on), `Births`, `Locks`, `Kinds`, `HostCalls` (those that make objects, lock, ask for kinds and call the
+-- host), `Swaps` (an item goes into a cell) and `Items` (the instructions that use a cell of the locked list).
 pub mod Joining
 pub mod Duties
 pub mod Working
@@ -15,5 +15,6 @@ pub mod References
 pub mod Births
 pub mod Locks
 pub mod Kinds
+pub mod HostCalls
 pub mod Swaps
 pub mod Items

@@ -1,16 +1,23 @@
-use Rattle.std.proofs.Common.{ℕ, List, Option, sym, ap, ◌∙◌, subst}
+use Rattle.std.proofs.Common.{ℕ, ◌≤◌, List, Option, sym, ap, ◌∙◌, subst}
+use Rattle.std.specs.Prelude.{IfOk}
+use Rattle.brc_lang.specs.declared.kind.Kind.TheVariants as kinds
 use Rattle.brc_lang.specs.declared.module.Instr.TheVariants as instructions
+use Rattle.brc_model.specs.Actions.{number_word}
+use Rattle.brc_model.specs.declared.slot.Exit.TheVariants.{Fault}
 use Rattle.brc_model.specs.declared.slot.Slot.TheVariants.{Empty}
 use Rattle.brc_model.specs.Slots.{slot_of, kind_of, is_empty, is_one_of, with_resource, names, put}
 use Rattle.brc_model.proofs.Dispatch.Passing.{are_met}
 use Rattle.brc_table.specs.declared.view.View.{View}
 use Rattle.brc_table.specs.Hands.{TableState, HandState, IsOf}
+use Rattle.brc_heap.specs.Calls.{kind_word}
 use Rattle.brc_work.specs.Fits.{Fits}
+use Rattle.brc_work.specs.Performs.{Performs, MakesBirth}
 use Rattle.brc_work.proofs.Conditions.{kept, can_fill, not_false}
 use Rattle.brc_work.proofs.Counting.{nothing_counted, quiet_counted, fault_counted, use_ok, use_err}
 use Rattle.brc_work.proofs.Holding.{names_object}
 use Rattle.brc_work.proofs.Lending.{on_file, there, lent_back}
 use Rattle.brc_work.proofs.Moving.{cleared}
+use Rattle.brc_work.proofs.Traces.HostCalls.{reads_nothing, makes_read, fails_to_read}
 use Rattle.brc_work.proofs.worker.Worker.read.Goals as goal
 
 pub returns-then-not-room-clause-done : goal.returns-then-not-room-clause-done
@@ -144,3 +151,30 @@ pub returns-in-Err-clause-counted : goal.returns-in-Err-clause-counted
 returns-in-Err-clause-counted g c =
     fault_counted c.args.totals.now c.count_host_fault.new.self _ _
     (use_err _ _ c.read-got.result _ c.read-got.ensures.counted c.in-Err.is) c.count_host_fault.ensures
+
+pub returns-then-not-room-clause-made : goal.returns-then-not-room-clause-made
+returns-then-not-room-clause-made g c =
+    reads_nothing c.args.to c.args.file c.args.most c.args.otherwise c.args.rows.now c.name.new.rows
+    c.args.hand.now.view (sym c.room.ensures ∙ c.if-not-room.true) c.name.ensures.named
+
+pub returns-in-Ok-clause-made : goal.returns-in-Ok-clause-made
+returns-in-Ok-clause-made g c =
+    let v = c.args.hand.now.view in
+    let word = kind_word kinds.Num c.from.result in
+    makes_read c.args.to c.args.file c.args.most c.args.otherwise c.row_in-row.result c.args.rows.now c.bear.new.rows v
+    c.row_in-row.ensures c.requires.may.fits.rests.lent (sym c.room.ensures ∙ c.if-not-room.false) word c.in-Ok.count
+    c.bear.new.hand.view
+    (subst (λ r. IfOk r (λ got. got ≤ c.args.most)) c.in-Ok.is c.read-got.ensures.at_most)
+    (ap number_word c.from.ensures)
+    (subst (λ (u : View). MakesBirth c.args.to word c.args.rows.now u c.bear.new.rows c.bear.new.hand.view)
+    (c.give_back.ensures.view ∙ c.lend-resource.ensures.view) c.bear.ensures.made)
+
+pub returns-in-Err-clause-made : goal.returns-in-Err-clause-made
+returns-in-Err-clause-made g c =
+    let v = c.args.hand.now.view in
+    subst (Performs (instructions.Read c.args.to c.args.file c.args.most c.args.otherwise) Fault c.args.rows.now v
+    c.name-in-Err.new.rows)
+    (sym (c.give_back.ensures.view ∙ c.lend-resource.ensures.view))
+    (fails_to_read c.args.to c.args.file c.args.most c.args.otherwise c.row_in-row.result c.args.rows.now
+    c.name-in-Err.new.rows v c.row_in-row.ensures c.requires.may.fits.rests.lent
+    (sym c.room.ensures ∙ c.if-not-room.false) c.name-in-Err.ensures.named)

@@ -2,18 +2,21 @@ use Rattle.std.proofs.Common.{false, [], ◌∷◌, sym, ap, ◌∙◌, subst}
 use Rattle.std.specs.Prelude.{◌||◌, not}
 use Rattle.brc_lang.specs.declared.kind.Kind.TheVariants as kinds
 use Rattle.brc_lang.specs.declared.module.Instr.TheVariants as instructions
+use Rattle.brc_model.specs.declared.slot.Exit.TheVariants.{Success, Fault}
 use Rattle.brc_model.specs.Slots.{slot_of, kind_of, is_empty, is_one_of, with_resource, names}
 use Rattle.brc_model.proofs.Basics.Lists.{first_false, second_false}
 use Rattle.brc_model.proofs.Dispatch.Passing.{are_met}
 use Rattle.brc_table.specs.declared.view.View.{View}
 use Rattle.brc_table.specs.Hands.{TableState, HandState}
 use Rattle.brc_work.specs.Fits.{Fits}
+use Rattle.brc_work.specs.Performs.{Performs}
 use Rattle.brc_work.proofs.CallsBelow.{left_acts}
 use Rattle.brc_work.proofs.Conditions.{kept, not_false}
 use Rattle.brc_work.proofs.Counting.{quiet_counted, fault_counted, use_ok, use_err}
 use Rattle.brc_work.proofs.Fitting.{same_fits}
 use Rattle.brc_work.proofs.Holding.{names_object, usable}
 use Rattle.brc_work.proofs.Lending.{on_file, there, lent_back}
+use Rattle.brc_work.proofs.Traces.HostCalls.{makes_write, fails_to_write}
 use Rattle.brc_work.proofs.worker.Worker.write.Goals as goal
 
 pub row_in-object-requires : goal.row_in-object-requires
@@ -182,3 +185,27 @@ pub returns-in-Err-clause-counted : goal.returns-in-Err-clause-counted
 returns-in-Err-clause-counted g c =
     fault_counted c.args.totals.now c.count_host_fault.new.self _ _
     (use_err _ _ c.write-written.result _ c.write-written.ensures c.in-Err.is) c.count_host_fault.ensures
+
+pub returns-in-Ok-clause-made : goal.returns-in-Ok-clause-made
+returns-in-Ok-clause-made g c =
+    let v = c.args.hand.now.view in
+    let sees = c.arg_of-value.ensures.sees in
+    let rests = c.requires.may.fits.rests in
+    let i = instructions.Write c.args.file c.args.number c.args.otherwise in
+    subst (Performs i Success c.args.rows.now v c.args.rows.now)
+    (sym (c.give_back.ensures.view ∙ c.lend-resource.ensures.view))
+    (makes_write c.args.file c.args.number c.args.otherwise c.row_in-object.result c.row_in-row.result sees.0
+    c.args.rows.now v c.arg_of-value.new.hand.view rests.agenda rests.lent c.row_in-object.ensures
+    c.row_in-row.ensures sees.1.view_is)
+
+pub returns-in-Err-clause-made : goal.returns-in-Err-clause-made
+returns-in-Err-clause-made g c =
+    let v = c.args.hand.now.view in
+    let sees = c.arg_of-value.ensures.sees in
+    let rests = c.requires.may.fits.rests in
+    let i = instructions.Write c.args.file c.args.number c.args.otherwise in
+    subst (Performs i Fault c.args.rows.now v c.args.rows.now)
+    (sym (c.give_back.ensures.view ∙ c.lend-resource.ensures.view))
+    (fails_to_write c.args.file c.args.number c.args.otherwise c.row_in-object.result c.row_in-row.result sees.0
+    c.args.rows.now v c.arg_of-value.new.hand.view rests.agenda rests.lent c.row_in-object.ensures
+    c.row_in-row.ensures sees.1.view_is)
