@@ -4,7 +4,8 @@
 -- holds a reference otherwise), `Working` (duty after duty), `Releasing` (a reference is given up), `Places` (what a
 -- thread does at an instruction), `Starting` (the calls of one or two steps), `References` (the instructions that hand
 -- references on), `Births`, `Locks`, `Kinds`, `HostCalls` (those that make objects, lock, ask for kinds and call the
--- host), `Swaps` (an item goes into a cell) and `Items` (the instructions that use a cell of the locked list).
+-- host), `Swaps` (an item goes into a cell), `Items` (the instructions that use a cell of the locked list), `Turns` (the
+-- instruction that goes back) and `Calls` (whole calls).
 pub mod Joining
 pub mod Duties
 pub mod Working
@@ -18,3 +19,4 @@ pub mod Kinds
 pub mod HostCalls
 pub mod Swaps
 pub mod Items
+pub mod Turns

@@ -2,7 +2,7 @@
 use Rattle.std.specs.Prelude.{◌≡◌, ℕ, ◌+◌, ◌<◌, ◌≤◌, List, [], ◌∷◌, Option, None, Some, slice_get, slice_set}
 use Rattle.brc_lang.specs.Limits.{instruction_limit}
 use Rattle.brc_lang.specs.declared.module.Instr.{Instr}
-use Rattle.brc_lang.specs.declared.module.Instr.TheVariants.{Read}
+use Rattle.brc_lang.specs.declared.module.Instr.TheVariants.{Again, Read}
 use Rattle.brc_model.specs.declared.actor.Counters.{Counters}
 use Rattle.brc_model.specs.declared.actor.Place.{Place}
 use Rattle.brc_model.specs.declared.actor.Place.TheVariants.{Idle, InCall, Inside}
@@ -53,6 +53,11 @@ PerformsAt at i exit turns rows v after_turns after_rows u = (code : List Instr)
     → IsBefore i code place (record { left = left; turns = turns }) at rows
     → MakesTrace code place v
     (place_after (record { left = left; turns = after_turns }) (target i exit at) after_rows) u
+
+-- The instruction `again` at the point makes no event. It counts in the turns if it has gone back.
+abbrev pub CountsTurn : ℕ → ℕ → Exit → List ℕ → List ℕ → Type 0
+CountsTurn at times exit turns after_turns = (to : ℕ) (rows : List (Option ℕ)) (v : View)
+    → PerformsAt at (Again to times) exit turns rows v after_turns rows v
 
 -- The hand has tried to do the instruction, which hasn't begun: the thread is where it was.
 abbrev pub Waits : Instr → List (Option ℕ) → View → View → Type 0

@@ -1,5 +1,7 @@
 //! How often the instructions `again` of a call have gone back.
 
+ghost use Rattle.brc_work.specs.Performs.{CountsTurn};
+
 use brc_model::Exit;
 
 /// How often each instruction `again` of the function, by its point, has gone back in the call.
@@ -9,7 +11,9 @@ pub(crate) type Turns = [u16; 256];
 pub(crate) const NO_TURNS: Turns = [0; 256];
 
 /// `again`: goes back if it has gone back less often than it may. A fault is the way back.
-pub(crate) fn again(turns: &mut Turns, at: usize, times: u16) -> Exit {
+pub(crate) fn again(turns: &mut Turns, at: usize, times: u16) -> Exit
+    ensures { CountsTurn at times result turns.old turns.new }
+{
     if at >= turns.len() || turns[at] >= times {
         return Exit::Success;
     }
