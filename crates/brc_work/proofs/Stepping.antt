@@ -160,29 +160,21 @@ passes_none code at s i accepted reaches found =
     let same : passes.here ≡ i = some_is passes.here i (sym passes.found ∙ found) in
     subst (λ (j : Instr). lowest j s ≡ None) same (lowest_none passes.here s passes.met)
 
--- An instruction that ends the call and returns nothing leaves nothing behind.
-pub fails : (first : HandState) (s : State) (rows : List (Option ℕ)) (hand : HandState) (i : Instr) → ends_call i ≡ true
-    → ((from : ℕ) → i ≡ Ret from → ⊥) → Fits first s rows hand → lowest i s ≡ None → HasCalled first hand
-fails first s rows hand (Ret from) is other fits passes = absurd (other from refl)
-fails first s rows hand Fail is other fits passes =
+-- An instruction that ends the call leads to no point.
+pub leads_nowhere : (i : Instr) (exit : Exit) (at : ℕ) → ends_call i ≡ true → target i exit at ≡ None
+leads_nowhere (Ret from) exit at ends = refl
+leads_nowhere Fail exit at ends = refl
+leads_nowhere _ exit at ends = absurd (let wrong : false ≡ true = ends in cc)
+
+-- `fail` is the one that returns nothing.
+pub is_fail : (i : Instr) → ends_call i ≡ true → ((from : ℕ) → i ≡ Ret from → ⊥) → i ≡ Fail
+is_fail (Ret from) ends other = absurd (other from refl)
+is_fail Fail ends other = refl
+is_fail _ ends other = absurd (let wrong : false ≡ true = ends in cc)
+
+-- It leaves nothing behind.
+pub fails : (first : HandState) (s : State) (rows : List (Option ℕ)) (hand : HandState) → Fits first s rows hand
+    → lowest Fail s ≡ None → HasCalled first hand
+fails first s rows hand fits passes =
     let met = are_met Fail s passes in
     ends first s rows hand fits (kept _ met.none_left) (none_is s.locked (kept _ met.no_lock_left))
-fails first s rows hand (Num to value otherwise) is other fits passes = let wrong : false ≡ true = is in absurd cc
-fails first s rows hand (ListObject to cells otherwise) is other fits passes = let wrong : false ≡ true = is in absurd cc
-fails first s rows hand (NoneObject to) is other fits passes = let wrong : false ≡ true = is in absurd cc
-fails first s rows hand (Newref to from) is other fits passes = let wrong : false ≡ true = is in absurd cc
-fails first s rows hand (Move to from) is other fits passes = let wrong : false ≡ true = is in absurd cc
-fails first s rows hand (Drop from) is other fits passes = let wrong : false ≡ true = is in absurd cc
-fails first s rows hand (Lock object) is other fits passes = let wrong : false ≡ true = is in absurd cc
-fails first s rows hand (Unlock object) is other fits passes = let wrong : false ≡ true = is in absurd cc
-fails first s rows hand (Borrow to list index otherwise) is other fits passes = let wrong : false ≡ true = is in absurd cc
-fails first s rows hand (Fetch to list index otherwise) is other fits passes = let wrong : false ≡ true = is in absurd cc
-fails first s rows hand (Set list index from otherwise) is other fits passes = let wrong : false ≡ true = is in absurd cc
-fails first s rows hand (Put list index from otherwise) is other fits passes = let wrong : false ≡ true = is in absurd cc
-fails first s rows hand (Open to path mode otherwise) is other fits passes = let wrong : false ≡ true = is in absurd cc
-fails first s rows hand (Connect to peer otherwise) is other fits passes = let wrong : false ≡ true = is in absurd cc
-fails first s rows hand (Read to file most otherwise) is other fits passes = let wrong : false ≡ true = is in absurd cc
-fails first s rows hand (Write file number otherwise) is other fits passes = let wrong : false ≡ true = is in absurd cc
-fails first s rows hand (As from kind otherwise) is other fits passes = let wrong : false ≡ true = is in absurd cc
-fails first s rows hand (Goto to) is other fits passes = let wrong : false ≡ true = is in absurd cc
-fails first s rows hand (Again to times) is other fits passes = let wrong : false ≡ true = is in absurd cc

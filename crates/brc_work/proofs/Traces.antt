@@ -2,10 +2,10 @@
 --
 -- In order: `Joining` (traces one after the other), `Duties` (one duty of a hand is one of its thread, though the thread
 -- holds a reference otherwise), `Working` (duty after duty), `Releasing` (a reference is given up), `Places` (what a
--- thread does at an instruction), `Starting` (the calls of one or two steps), `References` (the instructions that hand
--- references on), `Births`, `Locks`, `Kinds`, `HostCalls` (those that make objects, lock, ask for kinds and call the
--- host), `Swaps` (an item goes into a cell), `Items` (the instructions that use a cell of the locked list), `Turns` (the
--- instruction that goes back) and `Calls` (whole calls).
+-- thread does at an instruction), `Starting` (the calls of one or two steps); then the instructions: `References`
+-- (references that are made, handed on and given up), `Births`, `Locks`, `Kinds`, `HostCalls`, `Swaps` and `Items`
+-- (those that use a cell of the locked list), `Turns` (the one that goes back); and `Calls` (a call from point to
+-- point, and call after call).
 pub mod Joining
 pub mod Duties
 pub mod Working
@@ -20,3 +20,4 @@ pub mod HostCalls
 pub mod Swaps
 pub mod Items
 pub mod Turns
+pub mod Calls

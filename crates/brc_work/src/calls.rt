@@ -1,11 +1,15 @@
 //! A worker's call of a function, instruction after instruction.
 
-ghost use Rattle.std.specs.Prelude.{◌≡◌, ◌<◌, true, Some, length, slice_get};
+ghost use Rattle.std.specs.Prelude.{◌≡◌, ◌<◌, true, false, Some, length, slice_get};
 ghost use Rattle.brc_lang.specs.Grammar.{IsInstruction};
+ghost use Rattle.brc_model.specs.declared.actor.Place.TheVariants.{Idle};
+ghost use Rattle.brc_model.specs.declared.slot.Exit.TheVariants.{Success};
 ghost use Rattle.brc_table.specs.Hands.{IsOf};
 ghost use Rattle.brc_work.specs.Calls.{IsCode, IsAt, GoesOn, HasCalled, HasEnded, ends_call};
 ghost use Rattle.brc_work.specs.Fits.{MayDo, HasDone, IsReady};
+ghost use Rattle.brc_work.specs.Performs.{Performs, PerformsAt, StepsTo};
 ghost use Rattle.brc_work.specs.Totals.{HasCounted};
+ghost use Rattle.brc_work.specs.Traces.{MakesTrace};
 
 use crate::totals::Totals;
 use crate::turns::{NO_TURNS, Turns, again};
@@ -48,6 +52,7 @@ impl<'h, T: Drop> Worker<'h, T> {
         requires ready { IsReady hand.old }
         ensures of { IsOf self.now hand.new }
         ensures called { HasCalled hand.old hand.new }
+        ensures made { MakesTrace code.now (Idle 1) hand.old.view (Idle 0) hand.new.view }
         ensures counted { HasCounted totals.old totals.new (H.counts host.old) (H.counts host.new) }
     {
         self.heap.words().layout_is_plain();
@@ -80,6 +85,7 @@ impl<'h, T: Drop> Worker<'h, T> {
         requires at { IsAt self.now code.now at rows.old hand.old }
         ensures of { IsOf self.now hand.new }
         ensures goes { GoesOn code.now at rows.old hand.old result rows.new hand.new }
+        ensures made { StepsTo code.now at turns.old rows.old hand.old.view result turns.new rows.new hand.new.view }
         ensures counted { HasCounted totals.old totals.new (H.counts host.old) (H.counts host.new) }
     {
         let instr = instruction_at(code, at);
@@ -105,6 +111,7 @@ impl<'h, T: Drop> Worker<'h, T> {
         requires ends { ends_call instr ≡ true }
         ensures of { IsOf self.now hand.new }
         ensures ended { HasEnded instr rows.old hand.old hand.new }
+        ensures made { Performs instr Success rows.old hand.old.view rows.new hand.new.view }
         ensures counted { HasCounted totals.old totals.new (H.counts host.old) (H.counts host.new) }
     {
         if let Instr::Ret { from } = instr {
@@ -126,8 +133,10 @@ impl<'h, T: Drop> Worker<'h, T> {
     ) -> Exit
         requires may { MayDo self.now instr rows.old hand.old }
         requires form { IsInstruction instr }
+        requires goes_on { ends_call instr ≡ false }
         ensures of { IsOf self.now hand.new }
         ensures done { HasDone instr result rows.old hand.old rows.new hand.new }
+        ensures made { PerformsAt at instr result turns.old rows.old hand.old.view turns.new rows.new hand.new.view }
         ensures counted { HasCounted totals.old totals.new (H.counts host.old) (H.counts host.new) }
     {
         match instr {
@@ -217,8 +226,9 @@ impl<'h, T: Drop> Worker<'h, T> {
                 otherwise,
             } => self.is_of_kind(rows, hand, from, kind, otherwise),
             Instr::Again { times, .. } => again(turns, at, times),
-            // `goto` has one exit, and those that end the call do nothing here.
-            Instr::Goto { .. } | Instr::Ret { .. } | Instr::Fail => Exit::Success,
+            // `goto` has one exit.
+            Instr::Goto { .. } => Exit::Success,
+            Instr::Ret { .. } | Instr::Fail => unreachable!(),
         }
     }
 }

@@ -21,11 +21,12 @@ use Rattle.brc_work.specs.Performs.{IsBefore, Performs, PerformsAt, GivesUp}
 use Rattle.brc_work.proofs.Traces.Places.{begins, begins_with}
 use Rattle.brc_work.proofs.Traces.Starting.{goes_silently, retains}
 
--- An instruction that doesn't count.
-pub at_point : (at : ℕ) (i : Instr) (exit : Exit) (turns : List ℕ) (rows after_rows : List (Option ℕ)) (v u : View)
-    → Performs i exit rows v after_rows u → PerformsAt at i exit turns rows v turns after_rows u
-at_point at i exit turns rows after_rows v u performs = λ code place left before.
-    performs code place (record { left = left; turns = turns }) at before
+-- An instruction that doesn't count how often it has gone back.
+pub at_point : (at : ℕ) (i j : Instr) (exit : Exit) (turns : List ℕ) (rows after_rows : List (Option ℕ)) (v u : View)
+    → i ≡ j → Performs j exit rows v after_rows u → PerformsAt at i exit turns rows v turns after_rows u
+at_point at i j exit turns rows after_rows v u is performs =
+    subst (λ (k : Instr). PerformsAt at k exit turns rows v turns after_rows u) (sym is) (λ code place left before.
+    performs code place (record { left = left; turns = turns }) at before)
 
 pub makes_none : (to : ℕ) (rows after_rows : List (Option ℕ)) (v : View)
     → after_rows ≡ slice_set rows to (Some none_row) → Performs (instructions.NoneObject to) Success rows v after_rows v

@@ -8,6 +8,7 @@ use Rattle.brc_work.specs.Calls.{Leads}
 use Rattle.brc_work.specs.Fits.{Fits}
 use Rattle.brc_work.proofs.Counting.{nothing_counted, counted_then}
 use Rattle.brc_work.proofs.Stepping.{begins, begins_at}
+use Rattle.brc_work.proofs.Traces.Calls.{HasCome, begins_call, comes_on, comes_to_end}
 use Rattle.brc_work.proofs.worker.Worker.call.Goals as goal
 
 pub loop-init : goal.loop-init
@@ -16,27 +17,36 @@ loop-init g c =
     let plain =
     subst (λ (l : Layout). l.immortal_lists ≡ 0)
     (ap (λ (w : TableState). w.layout) (c.words.ensures ∙ c.self.view_is) ∙ sym c.requires.of.1)
-    c.layout_is_plain.ensures.immortals in (
+    c.layout_is_plain.ensures.immortals in
+    let entered =
+    c.name.ensures.named ∙ ap (λ (i : ℕ). slice_set (replicate 16 None) i (Some root_row)) c.new.ensures in (
       c.requires.of,
       record {
         state = entry;
-        fits = subst (λ (rows : List (Option ℕ)). Fits hand entry rows hand) (sym (c.name.ensures.named ∙ ap (λ (i : ℕ). slice_set (replicate 16 None) i (Some root_row)) c.new.ensures))
+        fits = subst (λ (rows : List (Option ℕ)). Fits hand entry rows hand) (sym entered)
             (begins hand c.requires.ready plain);
         reaches = begins_at c.args.code.now;
       },
+      subst (λ (rows : List (Option ℕ)). HasCome c.args.code.now hand.view 0 (replicate 256 0) rows hand.view)
+          (sym entered) (begins_call c.args.code.now hand.view),
       nothing_counted c.args.totals.now _,
     )
 
+pub returns-in-None-step-clause-made : goal.returns-in-None-step-clause-made
+returns-in-None-step-clause-made g c =
+    comes_to_end _ _ _ _ _ _ _ _ _ _ c.loop.invariant.2 c.step.ensures.made c.in-None-step.is
+
 pub returns-in-None-step-clause-counted : goal.returns-in-None-step-clause-counted
 returns-in-None-step-clause-counted g c =
-    counted_then c.args.totals.now c.loop.totals c.step.new.totals _ _ _ c.loop.invariant.2 c.step.ensures.counted
+    counted_then c.args.totals.now c.loop.totals c.step.new.totals _ _ _ c.loop.invariant.3 c.step.ensures.counted
 
 pub loop-preserved : goal.loop-preserved
 loop-preserved g c =
     let goes = c.loop.invariant.1 in (
       c.step.ensures.of,
-      subst (λ (o : Option ℕ). Leads c.args.hand.now c.args.code.now o c.step.new.rows c.step.new.hand) c.in-Some-step.is
-          (c.step.ensures.goes c.args.hand.now goes.state goes.fits goes.reaches),
-      counted_then c.args.totals.now c.loop.totals c.step.new.totals _ _ _ c.loop.invariant.2
+      subst (λ (o : Option ℕ). Leads c.args.hand.now c.args.code.now o c.step.new.rows c.step.new.hand)
+          c.in-Some-step.is (c.step.ensures.goes c.args.hand.now goes.state goes.fits goes.reaches),
+      comes_on _ _ _ _ _ _ _ _ _ _ c.loop.invariant.2 c.step.ensures.made _ c.in-Some-step.is,
+      counted_then c.args.totals.now c.loop.totals c.step.new.totals _ _ _ c.loop.invariant.3
           c.step.ensures.counted,
     )

@@ -1,8 +1,11 @@
-use Rattle.std.proofs.Common.{sym, ◌∙◌, arith}
+use Rattle.std.proofs.Common.{None, refl, sym, ◌∙◌, arith}
 use Rattle.std.proofs.lemmas.Option.{slice_get_within}
 use Rattle.brc_lang.specs.Grammar.{IsInstruction}
+use Rattle.brc_model.specs.declared.slot.Exit.TheVariants.{Success}
 use Rattle.brc_model.proofs.Basics.Lists.{all_of_found}
-use Rattle.brc_work.proofs.Stepping.{passes_at, passes_none, leads_by}
+use Rattle.brc_work.proofs.Stepping.{passes_at, passes_none, leads_by, leads_nowhere}
+use Rattle.brc_work.proofs.Traces.References.{at_point}
+use Rattle.brc_work.proofs.Traces.Calls.{steps_by}
 use Rattle.brc_work.proofs.worker.Worker.step.Goals as goal
 
 pub instruction_at-instr-requires : goal.instruction_at-instr-requires
@@ -29,6 +32,16 @@ returns-then-ends_call-clause-goes g c = λ first s fits reaches.
     (passes_none c.args.code.now c.args.at s c.instruction_at-instr.result.now c.requires.code.accepted reaches
     c.instruction_at-instr.ensures)
 
+pub returns-then-ends_call-clause-made : goal.returns-then-ends_call-clause-made
+returns-then-ends_call-clause-made g c =
+    let code = c.args.code.now in
+    let at = c.args.at in
+    let i = c.instruction_at-instr.result.now in
+    let low = slice_get_within code at i c.instruction_at-instr.ensures in
+    steps_by code at i Success None _ _ _ _ _ _ c.instruction_at-instr.ensures (omega (arith, low, c.requires.code.few))
+    (sym (leads_nowhere i Success at (sym c.ends_call.ensures ∙ c.if-ends_call.true)))
+    (at_point _ _ i _ _ _ _ _ _ refl c.end.ensures.made)
+
 pub perform-exit-requires-clause-may : goal.perform-exit-requires-clause-may
 perform-exit-requires-clause-may g c = λ κs lives.
     let at = c.requires.at in
@@ -46,6 +59,9 @@ perform-exit-requires-clause-form g c = λ κs lives.
     all_of_found IsInstruction c.args.code.now c.args.at c.instruction_at-instr.result.now c.requires.code.each
     c.instruction_at-instr.ensures
 
+pub perform-exit-requires-clause-goes_on : goal.perform-exit-requires-clause-goes_on
+perform-exit-requires-clause-goes_on g c = λ κs lives. sym c.ends_call.ensures ∙ c.if-ends_call.false
+
 pub target_of-requires : goal.target_of-requires
 target_of-requires g c =
     let low =
@@ -60,3 +76,12 @@ returns-clause-goes g c = λ first s fits reaches.
     (sym c.ends_call.ensures ∙ c.if-ends_call.false) c.target_of.ensures
     (c.perform-exit.ensures.done first s fits
     (passes_none c.args.code.now c.args.at s i c.requires.code.accepted reaches c.instruction_at-instr.ensures))
+
+pub returns-clause-made : goal.returns-clause-made
+returns-clause-made g c =
+    let code = c.args.code.now in
+    let at = c.args.at in
+    let i = c.instruction_at-instr.result.now in
+    let low = slice_get_within code at i c.instruction_at-instr.ensures in
+    steps_by code at i _ _ _ _ _ _ _ _ c.instruction_at-instr.ensures (omega (arith, low, c.requires.code.few))
+    c.target_of.ensures c.perform-exit.ensures.made
