@@ -1,10 +1,12 @@
 //! A worker's calls, one after the other.
 
-ghost use Rattle.std.specs.Prelude.{◌≡◌, ◌<◌, ◌≤◌, ◌+◌, length};
+ghost use Rattle.std.specs.Prelude.{◌≡◌, ◌<◌, ◌≤◌, ◌+◌, length, slice_get};
+ghost use Rattle.brc_model.specs.Threads.{code_of};
 ghost use Rattle.brc_table.specs.Hands.{IsOf};
 ghost use Rattle.brc_work.specs.Calls.{IsCode, HasCalled};
 ghost use Rattle.brc_work.specs.Fits.{IsReady};
 ghost use Rattle.brc_work.specs.Totals.{HasCounted, no_totals};
+ghost use Rattle.brc_work.specs.Traces.{MakesCalls};
 
 use crate::gate::Gate;
 use crate::totals::Totals;
@@ -18,7 +20,8 @@ use std::sync::Wait;
 /// Returns the code of the accepted module's function with this number.
 fn code_of(checked: &Checked, function: usize) -> &[Instr]
     requires { function < length checked.now.module.functions }
-    ensures { IsCode result.now }
+    ensures accepted { IsCode result.now }
+    ensures value { result.now ≡ code_of (slice_get checked.now.module.functions function) }
 {
     checked.module().functions.as_slice()[function]
         .code
@@ -46,6 +49,8 @@ impl<'h, T: Drop> Worker<'h, T> {
         requires function { function < length checked.now.module.functions }
         ensures of { IsOf self.now hand.new }
         ensures called { HasCalled hand.old hand.new }
+        ensures made { MakesCalls (code_of (slice_get checked.now.module.functions function)) hand.old.view times
+            hand.new.view }
         ensures created { result.created + hand.old.view.used ≡ hand.new.view.used }
         ensures counted { HasCounted no_totals result (H.counts host.old) (H.counts host.new) }
     {
@@ -75,6 +80,7 @@ impl<'h, T: Drop> Worker<'h, T> {
         requires ready { IsReady hand.old }
         ensures of { IsOf self.now hand.new }
         ensures called { HasCalled hand.old hand.new }
+        ensures made { MakesCalls code.now hand.old.view 1 hand.new.view }
         ensures counted { HasCounted totals.old totals.new (H.counts host.old) (H.counts host.new) }
     {
         let failed = self.queue.merge_pending(rt, hand, host);
