@@ -1,9 +1,9 @@
 -- Lists of which each element is so for its place.
 use Rattle.std.specs.Prelude.{◌≡◌, ℕ, ◌+◌, ◌<◌, List, get_or}
 use Rattle.std.proofs.Common.{below_more, sym, subst}
-use Rattle.brc_table.specs.Hands.{TableState, HandState}
+use Rattle.brc_table.specs.Hands.{HandState}
 use Rattle.brc_work.specs.declared.totals.Totals.{Totals}
-use Rattle.brc_work.specs.Workers.{HasGone}
+use Rattle.brc_work.specs.Workers.{Job, HasGone}
 
 -- each of the first n elements is so for its place
 abbrev pub AreSo : {A : Type 0} → (ℕ → A → Type 0) → List A → ℕ → Type 0
@@ -24,8 +24,7 @@ pub grown : {A : Type 0} (P : ℕ → A → Type 0) (xs ys : List A) (n : ℕ)
 grown P xs ys n same here were k d below =
     below_more (λ i. P i (get_or ys i d)) n (λ i low. subst (P i) (sym (same i d low)) (were i d low)) (here d) k below
 
--- a promise of the same worker
-pub gone_for : {there heap : TableState} {thread number : ℕ} {hand : HandState} {totals : Totals}
-    → there ≡ heap → thread ≡ number → HasGone there thread hand totals → HasGone heap number hand totals
-gone_for {heap = heap} {thread = thread} {hand = hand} {totals = totals} same numbered gone =
-    subst (λ n. HasGone heap n hand totals) numbered (subst (λ h. HasGone h thread hand totals) same gone)
+-- a promise of the same job
+pub gone_for : {there j : Job} {hand : HandState} {totals : Totals} → there ≡ j → HasGone there hand totals
+    → HasGone j hand totals
+gone_for {hand = hand} {totals = totals} same gone = subst (λ i. HasGone i hand totals) same gone

@@ -1,24 +1,55 @@
 -- What workers on threads of their own do with their hands.
-use Rattle.std.specs.Prelude.{◌≡◌, ℕ, ◌+◌, ◌<◌, List, [], slice_index_or}
+use Rattle.std.specs.Prelude.{◌≡◌, ℕ, List, [], slice_get}
 use Rattle.std.proofs.Props.{props}
+use Rattle.brc_lang.specs.declared.module.Instr.{Instr}
+use Rattle.brc_lang.specs.declared.module.Module.{Module}
+use Rattle.brc_model.specs.Threads.{code_of}
 use Rattle.brc_model.specs.declared.actor.Status.TheVariants.{Gone}
 use Rattle.brc_table.specs.Hands.{TableState, HandState, IsOf}
 use Rattle.brc_table.specs.Views.{worker_view}
+use Rattle.brc_table.specs.declared.view.View.{View}
+use Rattle.brc_queue.specs.Scans.{HasLeft}
+use Rattle.brc_work.specs.Traces.{MakesCalls}
 use Rattle.brc_work.specs.declared.totals.Totals.{Totals}
+
+-- ---- what a worker has to do
+
+-- The worker of the thread makes this many calls of the code over the heap.
+pub record Job : Type 0 where
+  pub heap : TableState
+  pub code : List Instr
+  pub times : ℕ
+  pub thread : ℕ
+
+-- the job with the code of the module's function of this number
+abbrev pub job : TableState → Module → ℕ → ℕ → ℕ → Job
+job heap m function times thread =
+    record { heap = heap; code = code_of (slice_get m.functions function); times = times; thread = thread }
+
+-- ---- hands
 
 -- The worker's hand was just given out.
 pub record IsFresh (heap : TableState) (thread : ℕ) (hand : HandState) : Type 0 where
   pub of : IsOf heap hand
   pub view_is : hand.view ≡ worker_view heap.layout thread
 
--- The worker's hand is gone, and holds nothing. The worker has counted the objects that it has given birth to.
-pub record HasGone (heap : TableState) (thread : ℕ) (hand : HandState) (totals : Totals) : Type 0 where
-  pub of : IsOf heap hand
-  pub thread_is : hand.view.thread ≡ thread
+-- The hand has made this many calls of the code, has left after them, and has done nothing else.
+pub record CallsAndLeaves (code : List Instr) (times : ℕ) (v u : View) : Type 0 where
+  pub called : View
+  pub closes : ℕ
+  pub calls : MakesCalls code v times called
+  pub leaves : HasLeft closes called u
+
+-- The worker's hand has done its job: it has made the calls, is gone, and holds nothing. The worker has counted the
+-- objects that it has given birth to.
+pub record HasGone (j : Job) (hand : HandState) (totals : Totals) : Type 0 where
+  pub of : IsOf j.heap hand
+  pub thread_is : hand.view.thread ≡ j.thread
   pub gone : hand.view.status ≡ Gone
   pub idle : (hand.view.agenda ≡ []) × (hand.view.aside ≡ []) × (hand.view.head ≡ 0)
   pub holds_none : hand.view.references ≡ []
   pub created : totals.created ≡ hand.view.used
+  pub made : CallsAndLeaves j.code j.times (worker_view j.heap.layout j.thread) hand.view
 
 -- ---- a fact that a struct can keep
 

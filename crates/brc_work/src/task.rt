@@ -1,7 +1,7 @@
 //! What a worker does on a thread of its own.
 
 ghost use Rattle.std.specs.Prelude.{◌≡◌, ◌<◌, true, length};
-ghost use Rattle.brc_work.specs.Workers.{IsFresh, HasGone, fresh-prop};
+ghost use Rattle.brc_work.specs.Workers.{IsFresh, HasGone, job, fresh-prop};
 
 use crate::gate::Gate;
 use crate::totals::Totals;
@@ -39,21 +39,27 @@ pub(crate) struct Done<T: Drop> {
     pub(crate) called: bool,
 }
 
-/// A worker's promise: that its hand has left when its thread ends.
+/// A worker's promise: that its hand has made its calls and left when its thread ends.
 #[derive(Drop)]
 pub(crate) struct Leaves<T: Drop> {
     pub(crate) heap: Snapshot<Heap<T>>,
+    pub(crate) checked: Snapshot<Checked>,
+    pub(crate) function: usize,
+    pub(crate) times: u32,
     pub(crate) thread: u8,
 }
 
 impl<T: Drop> Promise<Done<T>> for Leaves<T> {
-    ghost kept_by = { λ p done. done.called ≡ true → HasGone p.heap.value p.thread done.hand done.totals };
+    ghost kept_by = { λ p done. done.called ≡ true
+        → HasGone (job p.heap.value p.checked.value.«module» p.function p.times p.thread) done.hand done.totals };
 }
 
 impl<'a, T: Drop, H: Host<Res = T>, G: Gate> Task<'a, T, H, G> {
     /// Makes the calls, unless the workers are stopped, and lets the hand leave.
     pub(crate) fn work<R: Wait>(self, rt: &R, stopped: &AtomicBool) -> Done<T>
-        ensures { result.called ≡ true → HasGone self.entry.heap.now self.entry.thread result.hand result.totals }
+        ensures { result.called ≡ true
+            → HasGone (job self.entry.heap.now self.entry.checked.now.module self.entry.function self.entry.times
+            self.entry.thread) result.hand result.totals }
     {
         let Task {
             heap,

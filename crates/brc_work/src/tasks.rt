@@ -3,6 +3,7 @@
 ghost use Rattle.std.specs.Prelude.{◌≡◌, ℕ, ◌+◌, ◌<◌, ◌≤◌, [], length, vec_len, vec_capacity, slice_index_or};
 ghost use Rattle.brc_table.specs.Hands.{IsOf};
 ghost use Rattle.brc_work.specs.Mains.{MayFanOut, KeepsMain};
+ghost use Rattle.brc_work.specs.Workers.{job};
 
 use crate::gate::Gate;
 use crate::task::Task;
@@ -33,8 +34,9 @@ pub(crate) fn tasks_of<'w, T: Drop, H: Host<Res = T>, G: Gate>(
     ensures carried { main.new.carried ≡ main.old.carried }
     ensures slots { main.new.slots ≡ main.old.slots }
     ensures one_each { vec_len result ≡ length hosts.old }
-    ensures tasks { (k : ℕ) (t : _) → k < vec_len result
-        → ((slice_index_or result.items k t).heap.now ≡ heap.now) × ((slice_index_or result.items k t).thread ≡ k + 1) }
+    ensures tasks { (k : ℕ) (t : _) → k < vec_len result → let task = slice_index_or result.items k t in
+        job task.heap.now task.checked.now.module task.function task.times task.thread
+        ≡ job heap.now checked.now.module function times (k + 1) }
 {
     heap.words().layout_is_plain();
     let mut thread: u8 = 1;

@@ -3,7 +3,7 @@
 ghost use Rattle.std.specs.Prelude.{◌≡◌, ℕ, ◌+◌, ◌<◌, ◌≤◌, [], length, vec_len, vec_capacity, slice_index_or, IfOk};
 ghost use Rattle.brc_table.specs.Hands.{IsOf};
 ghost use Rattle.brc_work.specs.Mains.{MayFanOut, KeepsMain};
-ghost use Rattle.brc_work.specs.Workers.{HasGone};
+ghost use Rattle.brc_work.specs.Workers.{HasGone, job};
 
 use crate::error::NoThread;
 use crate::gate::Gate;
@@ -60,14 +60,15 @@ pub fn fan_out<
     ensures slots { main.new.slots ≡ main.old.slots }
     ensures one_each { IfOk result (λ gone. vec_len gone ≡ length hosts.old) }
     ensures gone { IfOk result (λ gone. (k : ℕ) (w : _) → k < vec_len gone
-        → HasGone heap.now (k + 1) (slice_index_or gone.items k w).0 (slice_index_or gone.items k w).1) }
+        → HasGone (job heap.now checked.now.module function times (k + 1))
+        (slice_index_or gone.items k w).0 (slice_index_or gone.items k w).1) }
 {
     let count = hosts.len();
     let tasks = Vec::with_capacity(alloc, count)?;
     let threads = Vec::with_capacity(alloc, count)?;
     let answer = Vec::with_capacity(alloc, count)?;
     let tasks = tasks_of(heap, main, checked, function, times, hosts, gate, tasks);
-    let gone = run_all(rt, heap, tasks, threads, answer);
+    let gone = run_all(rt, heap, checked, function, times, tasks, threads, answer);
     if gone.len() == count {
         Ok(gone)
     } else {
@@ -80,19 +81,24 @@ pub fn fan_out<
 fn run_all<'w, R: Threads + Wait + Sync, T: Send + Drop, H: Host<Res = T> + Send, G: Gate + Sync>(
     rt: &R,
     heap: &'w Heap<T>,
+    checked: &'w Checked,
+    function: usize,
+    times: u32,
     tasks: Vec<Task<'w, T, H, G>>,
     mut threads: Vec<Started<T>>,
     answer: Vec<(Hand<T>, Totals)>,
 ) -> Vec<(Hand<T>, Totals)>
-    requires tasks { (k : ℕ) (t : _) → k < vec_len tasks
-        → ((slice_index_or tasks.items k t).heap.now ≡ heap.now) × ((slice_index_or tasks.items k t).thread ≡ k + 1) }
+    requires tasks { (k : ℕ) (t : _) → k < vec_len tasks → let task = slice_index_or tasks.items k t in
+        job task.heap.now task.checked.now.module task.function task.times task.thread
+        ≡ job heap.now checked.now.module function times (k + 1) }
     requires no_threads { threads.items ≡ [] }
     requires room { vec_len tasks ≤ vec_capacity threads }
     requires empty { answer.items ≡ [] }
     requires answer_room { vec_len tasks ≤ vec_capacity answer }
     ensures few { vec_len result ≤ vec_len tasks.entry }
     ensures gone { vec_len result ≡ vec_len tasks.entry → (k : ℕ) (w : _) → k < vec_len result
-        → HasGone heap.now (k + 1) (slice_index_or result.items k w).0 (slice_index_or result.items k w).1 }
+        → HasGone (job heap.now checked.now.module function times (k + 1))
+        (slice_index_or result.items k w).0 (slice_index_or result.items k w).1 }
 {
     let stopped = AtomicBool::new(false);
     let shared = &stopped;
@@ -100,16 +106,21 @@ fn run_all<'w, R: Threads + Wait + Sync, T: Send + Drop, H: Host<Res = T> + Send
         thread::scope_env(),
         rt,
         move |scope| -> Vec<(Hand<T>, Totals)>
-            requires { ((k : ℕ) (t : _) → k < vec_len tasks
-                → ((slice_index_or tasks.items k t).heap.now ≡ heap.now) × ((slice_index_or tasks.items k t).thread ≡ k + 1)) × (threads.items ≡ []) × (vec_len tasks ≤ vec_capacity threads)
+            requires { ((k : ℕ) (t : _) → k < vec_len tasks → let task = slice_index_or tasks.items k t in
+                job task.heap.now task.checked.now.module task.function task.times task.thread
+                ≡ job heap.now checked.now.module function times (k + 1)) × (threads.items ≡ []) × (vec_len tasks ≤ vec_capacity threads)
                 × (answer.items ≡ []) × (vec_len tasks ≤ vec_capacity answer) }
             ensures { (vec_len result ≤ vec_len tasks.entry) × (vec_len result ≡ vec_len tasks.entry
                 → (k : ℕ) (w : _) → k < vec_len result
-                → HasGone heap.entry.now (k + 1) (slice_index_or result.items k w).0 (slice_index_or result.items k w).1) }
+                → HasGone (job heap.entry.now checked.entry.now.module function times (k + 1))
+                (slice_index_or result.items k w).0 (slice_index_or result.items k w).1) }
         {
             for task in tasks {
                 let promise = Leaves {
                     heap: Snapshot::of(task.heap),
+                    checked: Snapshot::of(task.checked),
+                    function: task.function,
+                    times: task.times,
                     thread: task.thread,
                 };
                 match scope.spawn_with(promise, move || task.work(rt, shared)) {
@@ -124,7 +135,7 @@ fn run_all<'w, R: Threads + Wait + Sync, T: Send + Drop, H: Host<Res = T> + Send
                     }
                 }
             }
-            join_all(rt, heap, threads, answer)
+            join_all(rt, heap, checked, function, times, threads, answer)
         },
     )
 }
@@ -133,17 +144,21 @@ fn run_all<'w, R: Threads + Wait + Sync, T: Send + Drop, H: Host<Res = T> + Send
 fn join_all<'w, R: Threads, T: Send + Drop>(
     rt: &R,
     heap: &'w Heap<T>,
+    checked: &'w Checked,
+    function: usize,
+    times: u32,
     threads: Vec<Started<T>>,
     mut answer: Vec<(Hand<T>, Totals)>,
 ) -> Vec<(Hand<T>, Totals)>
     requires empty { answer.items ≡ [] }
     requires room { vec_len threads ≤ vec_capacity answer }
     ensures few { vec_len result ≤ vec_len threads }
-    ensures gone { ((k : ℕ) (s : _) → k < vec_len threads
-        → ((slice_index_or threads.items k s).promise.heap.value ≡ heap.now)
-        × ((slice_index_or threads.items k s).promise.thread ≡ k + 1))
+    ensures gone { ((k : ℕ) (s : _) → k < vec_len threads → let promise = (slice_index_or threads.items k s).promise in
+        job promise.heap.value promise.checked.value.«module» promise.function promise.times promise.thread
+        ≡ job heap.now checked.now.module function times (k + 1))
         → vec_len result ≡ vec_len threads → (k : ℕ) (w : _) → k < vec_len result
-        → HasGone heap.now (k + 1) (slice_index_or result.items k w).0 (slice_index_or result.items k w).1 }
+        → HasGone (job heap.now checked.now.module function times (k + 1))
+        (slice_index_or result.items k w).0 (slice_index_or result.items k w).1 }
 {
     for started in threads {
         let done: Done<T> = started.join(rt);

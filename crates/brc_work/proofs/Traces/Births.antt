@@ -17,9 +17,9 @@ use Rattle.brc_model.specs.declared.duty.Holding.TheVariants.{AsCaller, ByVariab
 use Rattle.brc_model.specs.declared.slot.Exit.TheVariants.{Success, Fault}
 use Rattle.brc_table.specs.declared.view.Event.{Event}
 use Rattle.brc_table.specs.declared.view.View.{View}
-use Rattle.brc_table.specs.Views.{did, done, event_of, bearing, next_row, slot_filled, slot_filled_by}
+use Rattle.brc_table.specs.Views.{did, done, bearing, next_row, slot_filled, slot_filled_by}
 use Rattle.brc_heap.specs.Calls.{born}
-use Rattle.brc_work.specs.Traces.{Makes, Begun, Reads, Continues, Traces, MakesTrace, thread_with, events_of, read_birth}
+use Rattle.brc_work.specs.Traces.{Makes, Begun, Reads, Continues, Traces, MakesTrace, thread_with, events_of}
 use Rattle.brc_work.specs.Performs.{Performs, MakesBirth}
 use Rattle.brc_work.proofs.Traces.Joining.{no_trace, quietly, turns_to, traces_then, with_duties}
 use Rattle.brc_work.proofs.Traces.Duties.{comes_next, no_duty, IsSame, next_duties, starts_with, continues_with, same_thread}

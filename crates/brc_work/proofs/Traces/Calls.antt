@@ -43,6 +43,7 @@ begins_call code v =
 module _ (code : List Instr) (v : View) (at : ℕ) (turns : List ℕ) (rows : List (Option ℕ)) (u : View)
     (next : Option ℕ) (after_turns : List ℕ) (after_rows : List (Option ℕ)) (w : View)
     (come : HasCome code v at turns rows u) (steps : StepsTo code at turns rows u next after_turns after_rows w) where
+  -- It makes a step,
   goes_by : (o : Option ℕ) → next ≡ o
       → MakesTrace code (Idle 1) v (place_after (record { left = 0; turns = after_turns }) o after_rows) w
   goes_by o is =
@@ -50,7 +51,7 @@ module _ (code : List Instr) (v : View) (at : ℕ) (turns : List ℕ) (rows : Li
       subst (λ (other : Option ℕ). MakesTrace code (Idle 1) v (after other) w) is
       (traces_then code (Idle 1) come.place (after next) [] [] [] v u w come.makes (steps come.place 0 come.comes))
 
-  -- Step by step it comes to further points,
+  -- and comes to a further point,
   pub comes_on : (n : ℕ) → next ≡ Some n → HasCome code v n after_turns after_rows w
   comes_on n is = record {
     place = InCall (record { left = 0; turns = after_turns }) n after_rows;
@@ -58,7 +59,7 @@ module _ (code : List Instr) (v : View) (at : ℕ) (turns : List ℕ) (rows : Li
     makes = goes_by (Some n) is;
   }
 
-  -- and to its end.
+  -- or to its end.
   pub comes_to_end : next ≡ None → MakesTrace code (Idle 1) v (Idle 0) w
   comes_to_end is = goes_by None is
 

@@ -1,18 +1,16 @@
 -- One duty of a hand is one of its thread, though the thread holds a reference otherwise.
-use Rattle.std.proofs.Common.{◌≡◌, ℕ, zero, suc, Bool, true, false, List, [], ◌∷◌, ◌++◌, Option, refl, sym, ap, ◌∙◌, subst}
+use Rattle.std.proofs.Common.{◌≡◌, ℕ, zero, suc, Bool, true, false, List, [], ◌∷◌, ◌++◌, refl, sym, ap, subst}
 use Rattle.brc_lang.specs.declared.module.Instr.{Instr}
 use Rattle.brc_model.specs.Actions.{Does, dispatch}
 use Rattle.brc_model.specs.Duties.{continuation, new_head, ready}
 use Rattle.brc_model.specs.Machine.{Actor, is_running, status_by, used_by, locked_by, lent_by, actor_by}
 use Rattle.brc_model.specs.declared.actor.Place.{Place}
-use Rattle.brc_model.specs.declared.actor.Status.{Status}
 use Rattle.brc_model.specs.declared.duty.Duty.{Duty}
 use Rattle.brc_model.specs.declared.duty.Duty.TheVariants.{Settle, Scan}
 use Rattle.brc_table.specs.declared.view.Event.{Event}
 use Rattle.brc_table.specs.declared.view.View.{View}
 use Rattle.brc_table.specs.Views.{did, done, event_of}
 use Rattle.brc_work.specs.Traces.{Makes, Begun, Starts, Continues, Traces, thread_with, events_of}
-use Rattle.brc_work.proofs.Traces.Joining.{with_duties}
 
 -- ---- agendas
 

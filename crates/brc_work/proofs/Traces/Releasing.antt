@@ -16,7 +16,7 @@ use Rattle.brc_model.specs.declared.duty.Reason.TheVariants.{Own}
 use Rattle.brc_table.specs.declared.view.View.{View}
 use Rattle.brc_table.specs.Views.{done, releasing, slot_emptied, slot_emptied_by, without_reference}
 use Rattle.brc_heap.specs.Calls.{released_locally, counts_here}
-use Rattle.brc_free.specs.Works.{Works, Begun as Unchanged, Next, HasWorked}
+use Rattle.brc_free.specs.Works.{Begun as Unchanged, Next, HasWorked}
 use Rattle.brc_work.specs.Performs.{MakesRelease, GivesUp}
 use Rattle.brc_work.specs.Traces.{Traces}
 use Rattle.brc_work.proofs.Traces.Joining.{turns_to, traces_then}

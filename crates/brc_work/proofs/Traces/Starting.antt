@@ -1,11 +1,11 @@
 -- A hand that begins something makes the events of a thread that dispatches it.
-use Rattle.std.proofs.Common.{◌≡◌, ℕ, zero, suc, ◌+◌, Bool, true, false, cond, List, [], ◌∷◌, ◌++◌, append-nil, refl, sym, ap, ◌∙◌, subst}
-use Rattle.std.specs.Prelude.{◌==◌, ◌&&◌, nat_lt}
+use Rattle.std.proofs.Common.{◌≡◌, ℕ, Bool, true, false, cond, List, [], ◌∷◌, ◌++◌, append-nil, refl, sym, ◌∙◌, subst}
+use Rattle.std.specs.Prelude.{◌&&◌, nat_lt}
 use Rattle.brc_word.specs.Words.{is_immortal_word, local_part, most_local}
 use Rattle.brc_lang.specs.declared.module.Instr.{Instr}
 use Rattle.brc_model.specs.AbstractState.{Move}
 use Rattle.brc_model.specs.Actions.{Silent, Calls, Does, dispatch}
-use Rattle.brc_model.specs.Duties.{counts_locally, new_head, ready}
+use Rattle.brc_model.specs.Duties.{counts_locally, ready}
 use Rattle.brc_model.specs.Machine.{is_running}
 use Rattle.brc_model.specs.declared.actor.Place.{Place}
 use Rattle.brc_model.specs.declared.duty.Duty.{Duty}
@@ -14,9 +14,9 @@ use Rattle.brc_model.specs.declared.duty.Holding.{Holding}
 use Rattle.brc_model.specs.declared.duty.Holding.TheVariants.{AsCaller}
 use Rattle.brc_model.specs.declared.slot.Exit.{Exit}
 use Rattle.brc_table.specs.declared.view.View.{View}
-use Rattle.brc_table.specs.Views.{did, done, event_of, open_work, with_reference, retaining, asking, locking, unlocking, loading_cell}
+use Rattle.brc_table.specs.Views.{did, done, open_work, with_reference, retaining, asking, locking, unlocking, loading_cell}
 use Rattle.brc_heap.specs.Calls.{retained}
-use Rattle.brc_work.specs.Traces.{Begun, Silently, Asks, Traces, MakesTrace, thread_with, events_of}
+use Rattle.brc_work.specs.Traces.{Begun, Silently, Asks, Traces, MakesTrace, thread_with}
 use Rattle.brc_work.proofs.Traces.Joining.{no_trace, turns_to, traces_then, with_duties}
 use Rattle.brc_work.proofs.Traces.Duties.{comes_next, no_duty, IsSame, next_duties, starts_with, continues_with, does_nothing, does_first}
 

@@ -9,19 +9,15 @@ use Rattle.brc_model.specs.Layout.{row_at}
 use Rattle.brc_model.specs.Machine.{is_running}
 use Rattle.brc_model.specs.declared.actor.Place.{Place}
 use Rattle.brc_model.specs.declared.duty.Duty.{Duty}
-use Rattle.brc_model.specs.declared.duty.Duty.TheVariants.{RetainLoad, RetainStore, RetainAdd, ReleaseLoad, ReleaseStore, DecideAtZero, SharedLoad, SharedExchange, SetMark, Look, TakeMark, MergeSwap, MergeLoad, MergeExchange, Die, Settle, SettleKind, SettleCell, TakeSlot, CloseResource, SettleEnd, Leave, Scan, Finish, ClaimMark, BirthKind, BirthSlot, BirthLocal, KindLoad, LockGate, UnlockGate, CellLoad, CellSwap, LendSlot, ReturnSlot}
-use Rattle.brc_model.specs.declared.duty.Holding.{Holding}
-use Rattle.brc_model.specs.declared.duty.Holding.TheVariants.{AsCaller}
+use Rattle.brc_model.specs.declared.duty.Duty.TheVariants.{RetainLoad, RetainStore, RetainAdd, ReleaseLoad, ReleaseStore, DecideAtZero, SharedLoad, SharedExchange, SetMark, Look, TakeMark, MergeSwap, MergeLoad, MergeExchange, Die, Settle, SettleKind, SettleCell, TakeSlot, CloseResource, SettleEnd, Scan, ClaimMark, BirthKind, BirthSlot, CellSwap, LendSlot, ReturnSlot}
 use Rattle.brc_model.specs.declared.duty.Reason.TheVariants.{Own, Handed}
 use Rattle.brc_model.specs.declared.layout.Layout.{Layout}
 use Rattle.brc_table.specs.declared.view.View.{View}
-use Rattle.brc_table.specs.Views.{did, done, event_of, releasing, settling, settle_first, slot_emptied, slot_emptied_by}
-use Rattle.brc_heap.specs.Calls.{released_locally, counts_here}
-use Rattle.brc_free.specs.Works.{Works, Begun as Unchanged, Next, Comes, HasWorked}
-use Rattle.brc_work.specs.Traces.{Begun, Continues, Settles, Traces, thread_with, events_of}
-use Rattle.brc_work.specs.Performs.{MakesRelease}
-use Rattle.brc_work.proofs.Traces.Joining.{quietly, turns_to, traces_then, with_duties}
-use Rattle.brc_work.proofs.Traces.Duties.{comes_next, no_duty, IsSame, next_duties, continues_with, does_nothing, does_first}
+use Rattle.brc_table.specs.Views.{did, done, settling, settle_first, slot_emptied, slot_emptied_by}
+use Rattle.brc_free.specs.Works.{Works, Begun as Unchanged, Next, Comes}
+use Rattle.brc_work.specs.Traces.{Begun, Continues, Settles, Traces, thread_with}
+use Rattle.brc_work.proofs.Traces.Joining.{quietly, traces_then, with_duties}
+use Rattle.brc_work.proofs.Traces.Duties.{comes_next, IsSame, next_duties, continues_with, does_nothing, does_first}
 
 -- ---- duties on words
 

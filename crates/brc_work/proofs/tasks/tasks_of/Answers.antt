@@ -1,5 +1,6 @@
-use Rattle.std.specs.Prelude.{◌≡◌, ℕ, ◌+◌, length, vec_items, vec_len}
-use Rattle.std.proofs.Common.{rules, arith, refl, sym, ap, ◌∙◌, subst}
+use Rattle.std.specs.Prelude.{◌≡◌, ◌+◌, length, vec_items, vec_len}
+use Rattle.std.proofs.Common.{rules, arith, sym, ap, ◌∙◌, subst}
+use Rattle.brc_work.specs.Workers.{job}
 use Rattle.brc_work.proofs.Mains.{keeps_then, free_then}
 use Rattle.brc_work.proofs.Places.{grown}
 use Rattle.brc_work.proofs.tasks.tasks_of.Goals as goal
@@ -24,8 +25,11 @@ loop-host-preserved g c =
       rest = omega (arith, more, was.rest, ap length step);
       room = search (rules, was.room);
       each = λ k t below.
-          grown (λ i s. (s.heap.now ≡ heap) × (s.thread ≡ i + 1)) (vec_items c.loop-host.tasks)
+          grown (λ i s. job s.heap.now s.checked.now.module s.function s.times s.thread
+          ≡ job heap c.args.checked.now.module c.args.function c.args.times (i + 1)) (vec_items c.loop-host.tasks)
           (vec_items c.push.new.self) count added.0
-          (λ d. subst (λ s. (s.heap.now ≡ heap) × (s.thread ≡ count + 1)) (sym (added.1 d (search rules))) (refl, was.number))
+          (λ d. subst (λ s. job s.heap.now s.checked.now.module s.function s.times s.thread
+          ≡ job heap c.args.checked.now.module c.args.function c.args.times (count + 1)) (sym (added.1 d (search rules)))
+          (ap (job heap c.args.checked.now.module c.args.function c.args.times) was.number))
           was.each k t (omega (arith, below, more));
     }

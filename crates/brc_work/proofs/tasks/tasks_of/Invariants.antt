@@ -3,6 +3,7 @@ use Rattle.std.specs.Slice.Iter.{iter_mut_rest}
 use Rattle.brc_table.specs.Hands.{IsOf}
 use Rattle.brc_table.specs.Views.{is_given}
 use Rattle.brc_work.specs.Mains.{KeepsMain}
+use Rattle.brc_work.specs.Workers.{job}
 use Rattle.brc_work.proofs.tasks.tasks_of.Given as goal
 
 -- Main has given out the hands of the workers before the next one, and each task so far is its worker's.
@@ -16,6 +17,7 @@ invariant-loop-host g l = record {
   number : l.thread ≡ vec_len l.tasks + 1;
   rest : vec_len l.tasks + length (iter_mut_rest l.host-iterator) ≡ length (iter_mut_rest l.initial.host-iterator);
   room : length (iter_mut_rest l.initial.host-iterator) ≤ vec_capacity l.tasks;
-  each : (k : ℕ) (t : _) → k < vec_len l.tasks
-      → ((get_or (vec_items l.tasks) k t).heap.now ≡ l.heap) × ((get_or (vec_items l.tasks) k t).thread ≡ k + 1);
+  each : (k : ℕ) (t : _) → k < vec_len l.tasks → let task = get_or (vec_items l.tasks) k t in
+      job task.heap.now task.checked.now.module task.function task.times task.thread
+      ≡ job l.heap l.checked.module l.function l.times (k + 1);
 }

@@ -1,4 +1,4 @@
-use Rattle.std.proofs.Common.{refl, ap, ◌∙◌}
+use Rattle.std.proofs.Common.{ap, ◌∙◌}
 use Rattle.brc_work.proofs.Calling.{keeps_root}
 use Rattle.brc_work.proofs.task.Task.work.Goals.{then-called, else-called}
 use Rattle.brc_work.proofs.task.Task.work.Goals as goal

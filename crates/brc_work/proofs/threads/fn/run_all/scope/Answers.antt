@@ -1,6 +1,7 @@
 use Rattle.std.specs.Prelude.{◌≡◌, ◌+◌, get_or, vec_items, vec_len}
 use Rattle.std.specs.Vec.Iter.{into_iter_items, into_iter_len}
-use Rattle.std.proofs.Common.{rules, arith, refl, sym, ap, ◌∙◌, subst}
+use Rattle.std.proofs.Common.{rules, arith, sym, subst}
+use Rattle.brc_work.specs.Workers.{job}
 use Rattle.brc_work.proofs.Places.{pushed}
 use Rattle.brc_work.proofs.threads.fn.run_all.scope.Goals as goal
 
@@ -8,7 +9,7 @@ use Rattle.brc_work.proofs.threads.fn.run_all.scope.Goals as goal
 pub loop-task-preserved-in-Ok-push : goal.loop-task-preserved-in-Ok-push
 loop-task-preserved-in-Ok-push g c =
     let was = c.loop-task.invariant in let step = c.in-Some.ensures.steps in let left = vec_len c.loop-task.threads in
-    let added = c.push.ensures.by_index in let heap = c.captures.heap.now in let task = c.in-Some.task in
+    let added = c.push.ensures.by_index in let job_of = job c.captures.heap.now c.captures.checked.now.module c.captures.function c.captures.times in let task = c.in-Some.task in
     let first = into_iter_items c.into_iter-task-iterator.result in
     let grown : vec_len c.push.new.self ≡ left + 1 = search rules in (
       search rules,
@@ -20,11 +21,12 @@ loop-task-preserved-in-Ok-push g c =
           let here : task ≡ get_or first left task = let h = was.2 whole 0 task in grind rules in
           let began = c.into_iter-task-iterator.ensures.into_iter_gives in
           let same : get_or (vec_items c.captures.tasks) left task ≡ task = sym (subst (λ xs. task ≡ get_or xs left task) began.0 here) in
-          let place = subst (λ t. (t.heap.now ≡ heap) × (t.thread ≡ left + 1)) same
+          let place = subst (λ t. job t.heap.now t.checked.now.module t.function t.times t.thread ≡ job_of (left + 1)) same
           (c.requires.0 left task (omega (arith, whole, step.1, began.1))) in
-          pushed (λ i h. (h.promise.heap.value ≡ heap) × (h.promise.thread ≡ i + 1)) (vec_items c.loop-task.threads)
+          pushed (λ i h. job h.promise.heap.value h.promise.checked.value.module h.promise.function h.promise.times
+          h.promise.thread ≡ job_of (i + 1)) (vec_items c.loop-task.threads)
           (vec_items c.push.new.self) left c.in-Ok.started added.0 (λ d. added.1 d (search rules))
-          (was.3 whole) (subst (λ p. (p.heap.value ≡ heap) × (p.thread ≡ left + 1)) (sym c.in-Ok.ensures.ok) (search (rules, place))) k s (omega (arith, below, grown))),
+          (was.3 whole) (subst (λ p. job p.heap.value p.checked.value.module p.function p.times p.thread ≡ job_of (left + 1)) (sym c.in-Ok.ensures.ok) (search (rules, place))) k s (omega (arith, below, grown))),
     )
 
 -- Each worker's thread could be started, and each worker has left something.
