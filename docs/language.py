@@ -28,7 +28,7 @@ PAGES = [DOCS / "LANGUAGE.md", FROM_C_PAGE, DOCS / "READ_A_REFUSAL.md", DOCS / "
 EXAMPLES = ROOT / "examples"
 FROM_C = EXAMPLES / "from_c"
 PROGRAM = ROOT / "crates" / "brc" / "out" / "brc"
-STATUSES = {"refused": 1, "unreadable": 2, "no function": 2, "cannot write": 2, "no memory": 3}
+STATUSES = {"refused": 1, "unreadable": 2, "no function": 2, "cannot write": 2, "no memory": 3, "no thread": 3}
 
 
 class Example:

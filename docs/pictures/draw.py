@@ -11,6 +11,7 @@ is an error.
 """
 import re
 import sys
+import textwrap
 from pathlib import Path
 
 ROOT = Path(__file__).resolve().parents[2]
@@ -476,12 +477,21 @@ WAY = {
     "brc": ("hands the bytes of the module's file down", "crates/brc/src/disk.rt"),
     "brc_arguments": ("knows from the command line what is asked for", "crates/brc_arguments/src/command.rt"),
     "brc_command": ("has the text read, checked, run and reported", "crates/brc_command/src/carrying.rt"),
-    "brc_world": ("dispatches it: a release of v1's row, step by step", "crates/brc_world/src/dispatch.rt"),
-    "brc_effect": ("says of each step what it stores and what follows", "crates/brc_effect/src/effect/release.rt"),
-    "brc_check": ("asks that v1 owns a reference, and leaves it empty", "crates/brc_check/src/instruction.rt"),
-    "brc_heap": ("not on the way: a real thread's release", "crates/brc_heap/src/release.rt"),
-    "brc_table": ("not on the way: one step of a real thread", "crates/brc_table/src/steps.rt"),
+    "brc_explain": ("for `brc explain`: shows the states before and after it", "crates/brc_explain/src/accepted.rt"),
+    "brc_trace": ("for `brc step --trace`: a line for each of its steps", "crates/brc_trace/src/tracing.rt"),
+    "brc_world": ("for `brc step`: dispatches it, and does it step by step", "crates/brc_world/src/dispatch.rt"),
+    "brc_effect": ("says of each such step what it stores and what follows", "crates/brc_effect/src/effect/release.rt"),
     "brc_schedule": ("for `brc step`: reads which thread takes the steps", "crates/brc_schedule/src/line.rt"),
+    "brc_run": ("for `brc run`: lets workers run, and reads the heap's end", "crates/brc_run/src/running.rt"),
+    "brc_work": ("gives up v1's reference by a real thread's hand", "crates/brc_work/src/references.rt"),
+    "brc_queue": ("puts the object into its owner's queue, if need be", "crates/brc_queue/src/queue.rt"),
+    "brc_free": ("tries until the reference is given up; closes what dies", "crates/brc_free/src/releasing.rt"),
+    "brc_list": ("not on the way: locks, and the items of lists", "crates/brc_list/src/lists.rt"),
+    "brc_heap": ("answers what became of the release, and what is left", "crates/brc_heap/src/release.rt"),
+    "brc_table": ("makes each step, on one word that all threads share", "crates/brc_table/src/steps.rt"),
+    "brc_os": ("closes the file, if the object was one", "crates/brc_os/src/os_resource.rt"),
+    "brc_host": ("says how closes are counted", "crates/brc_host/src/counts.rt"),
+    "brc_check": ("asks that v1 owns a reference, and leaves it empty", "crates/brc_check/src/instruction.rt"),
     "brc_model": ("defines all that: conditions, duties, rules, safety", "crates/brc_model/specs/Rules.antt"),
     "brc_report": ("writes the tally, in which the object is closed", "crates/brc_report/src/report.rt"),
     "brc_lang": ("reads the line as the instruction Drop of v1", "crates/brc_lang/src/instruction.rt"),
@@ -496,7 +506,7 @@ def level(crate):
 
 def draw_layers():
     """The crates by level, with the way of one instruction."""
-    crates = [name for name in CRATES if not name.endswith(("_tests", "_bench"))]
+    crates = [name for name in CRATES if not name.endswith(("_tests", "_bench", "_soak"))]
     want(set(crates) == set(WAY), f"crates.txt has other crates than the way of drop: {sorted(set(crates) ^ set(WAY))}")
     for crate, (_, path) in WAY.items():
         want((ROOT / path).exists(), f"{path} isn't there")
@@ -504,21 +514,21 @@ def draw_layers():
     top = max(level(name) for name in crates)
     for number in range(top, 0, -1):
         if number < top:
-            lines.append("├───┼" + "─" * width + "┤")
+            lines.append("├────┼" + "─" * width + "┤")
         else:
-            lines.append("┌───┬" + "─" * width + "┐")
+            lines.append("┌────┬" + "─" * width + "┐")
         shown = False
         for name in crates:
             if level(name) != number:
                 continue
             says, path = WAY[name]
             below = [b for b in CRATES[name] if b in CRATES]
-            lines.append(f"│ {number if not shown else ' '} │ " + f"{name:<15}{says}".ljust(width - 1) + "│")
-            lines.append("│   │ " + (" " * 15 + path.removeprefix(f"crates/{name}/")).ljust(width - 1) + "│")
-            if below:
-                lines.append("│   │ " + (" " * 15 + "uses " + short(below)).ljust(width - 1) + "│")
+            lines.append(f"│ {'' if shown else number:>2} │ " + f"{name:<15}{says}".ljust(width - 1) + "│")
+            lines.append("│    │ " + (" " * 15 + path.removeprefix(f"crates/{name}/")).ljust(width - 1) + "│")
+            for part in textwrap.wrap("uses " + short(below), width - 16) if below else []:
+                lines.append("│    │ " + (" " * 15 + part).ljust(width - 1) + "│")
             shown = True
-    lines.append("└───┴" + "─" * width + "┘")
+    lines.append("└────┴" + "─" * width + "┘")
     return indented(lines)
 
 

@@ -2,63 +2,97 @@ ghost use Rattle.std.specs.Prelude.{◌≡◌};
 
 use brc_command::Terminal;
 use brc_report::Paint;
+use brc_work::Gate;
 use std::io::Eprint;
+use std::sync::atomic::{AtomicBool, AtomicU64, Ordering};
 use std::time::{Clock, Duration, Instant};
 
-/// How long a run stays silent, in milliseconds: a short one is over before anybody wonders.
+/// How long a command stays silent, in milliseconds: a short one is over before anybody wonders.
 const SILENCE: u64 = 2000;
 
-/// How long a number of steps is shown at least, in milliseconds.
+/// How long a number of steps or calls is shown at least, in milliseconds.
 const PAUSE: u64 = 500;
+
+/// After how many calls a run may say again how far it is.
+const CALLS_BETWEEN: u64 = 64;
 
 /// What wipes the line that the cursor is in (ECMA-48: to its first column, and erased from there).
 const WIPED: &str = "\r\x1b[K";
 
 /// The terminal of the system, if standard output or standard error is one.
+///
+/// The workers of a run share it, so what they change of it is atomic.
 #[derive(Drop)]
 pub struct Screen<'r, R> {
     rt: &'r R,
     paint: Paint,
-    /// Whether standard error shows how far a run is.
+    /// Whether standard error shows how far a command is.
     watched: bool,
-    /// When the run began, or the next number may be shown.
-    since: Option<Instant>,
-    /// Whether a number has been shown.
-    shown: bool,
+    /// When the command began.
+    began: Option<Instant>,
+    /// The calls that the workers have made.
+    calls: AtomicU64,
+    /// From when on a number may be shown, in milliseconds after the command began.
+    due: AtomicU64,
+    /// Whether a number is shown.
+    shown: AtomicBool,
 }
 
 impl<'r, R: Eprint + Clock> Screen<'r, R> {
     /// Returns the screen behind `rt`, whose texts have colours if standard output is a terminal, and which shows how
-    /// far a run is if standard error is one.
+    /// far a command is if standard error is one.
     pub fn new(rt: &'r R, output: bool, errors: bool) -> Screen<'r, R> {
         Screen {
             rt,
             paint: if output { Paint::Ansi } else { Paint::Plain },
             watched: errors,
-            since: None,
-            shown: false,
+            began: Instant::now(rt).ok(),
+            calls: AtomicU64::new(0),
+            due: AtomicU64::new(SILENCE),
+            shown: AtomicBool::new(false),
         }
     }
 
-    fn show(&mut self, steps: u64) {
-        let Ok(now) = Instant::now(self.rt) else {
+    /// Shows the number, unless another one was shown just before.
+    fn show(&self, number: u64, what: &str) {
+        let (Some(began), Ok(now)) = (self.began, Instant::now(self.rt)) else {
             return;
         };
-        let Some(since) = self.since else {
-            self.since = Some(now);
-            return;
-        };
-        let wait = if self.shown { PAUSE } else { SILENCE };
-        if now.duration_since(since) < Duration::from_millis(wait) {
+        let passed = now.duration_since(began);
+        let due = self.due.load(Ordering::SeqCst);
+        if passed < Duration::from_millis(due) {
             return;
         }
-        let _ = eprint!(self.rt; "{WIPED}{steps} steps");
-        self.since = Some(now);
-        self.shown = true;
+        let next = millis(passed).saturating_add(PAUSE);
+        // Of workers that come here at once, one shows its number.
+        if self
+            .due
+            .compare_exchange(due, next, Ordering::SeqCst, Ordering::SeqCst)
+            .is_ok()
+        {
+            self.shown.store(true, Ordering::SeqCst);
+            let _ = eprint!(self.rt; "{WIPED}{number} {what}");
+        }
     }
 }
 
-impl<R: Eprint + Clock> Terminal for Screen<'_, R> {
+/// Returns the milliseconds of a duration.
+fn millis(duration: Duration) -> u64 {
+    u64::try_from(duration.as_millis()).unwrap_or(u64::MAX)
+}
+
+impl<R: Eprint + Clock> Gate for Screen<'_, R> {
+    fn before(&self, _thread: u8, _call: u32) {}
+
+    fn after(&self, _thread: u8, _call: u32) {
+        let made = self.calls.fetch_add(1, Ordering::SeqCst).wrapping_add(1);
+        if self.watched && made % CALLS_BETWEEN == 0 {
+            self.show(made, "calls");
+        }
+    }
+}
+
+impl<R: Eprint + Clock + Sync> Terminal for Screen<'_, R> {
     ghost paint_of = { λ screen. screen.paint };
 
     fn paint(&self) -> Paint {
@@ -67,14 +101,13 @@ impl<R: Eprint + Clock> Terminal for Screen<'_, R> {
 
     fn made(&mut self, steps: u64) {
         if self.watched {
-            self.show(steps);
+            self.show(steps, "steps");
         }
     }
 
     fn clear(&mut self) {
-        if self.shown {
+        if self.shown.swap(false, Ordering::SeqCst) {
             let _ = eprint!(self.rt; "{WIPED}");
-            self.shown = false;
         }
     }
 }

@@ -3,13 +3,15 @@ ghost use Rattle.brc_report.specs.declared.paint.Paint.TheVariants.{Plain};
 ghost use Rattle.brc_arguments.specs.Acts.{Ends, Stops, IsRefused};
 
 use crate::command::parse;
+use crate::not_asked::NotAsked;
 use brc_command::{Load, NoTerminal, StepFault, Stop, Terminal, execute_on, write_stop};
+use brc_lang::write_bytes;
+use brc_run::System;
 use clap::Error;
 use clap::error::ErrorKind;
 use std::alloc::Global;
 use std::convert::AsStr;
 use std::io::Write;
-use std::sync::Wait;
 
 /// The status of a wrong command line, and of a call for help.
 const USAGE: u8 = 2;
@@ -19,7 +21,7 @@ const USAGE: u8 = 2;
 /// The status is 2 for a wrong command line or a call for help, 3 if memory is refused, and otherwise that of
 /// `execute`. If it isn't 0, standard error has the reason. An error of standard error is ignored. Nobody watches: no
 /// text is coloured, and no progress is shown.
-pub fn act<R: Wait, S: AsStr, L: Load, W: Write, E: Write>(
+pub fn act<R: System, S: AsStr, L: Load, W: Write, E: Write>(
     rt: &R,
     alloc: Global,
     words: &[S],
@@ -37,7 +39,7 @@ pub fn act<R: Wait, S: AsStr, L: Load, W: Write, E: Write>(
 }
 
 /// Does what `act` does, before somebody at a terminal.
-pub fn act_on<R: Wait, S: AsStr, L: Load, T: Terminal, W: Write, E: Write>(
+pub fn act_on<R: System, S: AsStr, L: Load, T: Terminal, W: Write, E: Write>(
     rt: &R,
     alloc: Global,
     words: &[S],
@@ -53,8 +55,18 @@ pub fn act_on<R: Wait, S: AsStr, L: Load, T: Terminal, W: Write, E: Write>(
         (W.contents out.old) (W.contents out.new) (E.contents err.old) (E.contents err.new) result }
 {
     match parse(alloc, words) {
-        Ok(asked) => execute_on(rt, alloc, &asked, load, terminal, out, err),
-        Err(error) => refuse(&error, err),
+        Ok(line) => match line.asked() {
+            Some(asked) => execute_on(rt, alloc, &asked, load, terminal, out, err),
+            None => {
+                let _ = write_bytes(b"error: a command is required\n", err);
+                USAGE
+            }
+        },
+        Err(NotAsked::Usage(error)) => refuse(&error, err),
+        Err(NotAsked::TooMany) => {
+            let _ = write_bytes(b"too many\n", err);
+            USAGE
+        }
     }
 }
 

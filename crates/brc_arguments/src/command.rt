@@ -1,4 +1,5 @@
-use brc_command::{Asked, MOST_ROWS, MOST_THREADS, MOST_TIMES, Run, VERSION};
+use crate::not_asked::NotAsked;
+use brc_command::{Asked, MOST_NAMES, MOST_ROWS, MOST_THREADS, MOST_TIMES, Run, VERSION};
 use brc_explain::topic_named;
 use brc_lang::number;
 use clap::error::ErrorKind;
@@ -10,26 +11,47 @@ const UNKNOWN_CODE: &str = "no such code: C1 to C12 and L1 to L8 can be explaine
 
 const SIGNED: &str = "invalid value for a number: a sign or a leading zero";
 
+/// A command line that was read.
+#[derive(Drop)]
+pub enum Line<'a> {
+    /// It asks for the version.
+    Version,
+    /// It is one of the commands.
+    Command(ArgMatches<'a>),
+}
+
+impl<'a> Line<'a> {
+    /// Returns the request, or `None` if there is none: `parse` returns no such line.
+    pub fn asked(&self) -> Option<Asked<'_>> {
+        match self {
+            Line::Version => Some(Asked::Version),
+            Line::Command(matches) => asked_in(matches),
+        }
+    }
+}
+
 /// Reads the words of a command line, of which the first is the program's own name.
 ///
-/// Returns clap's error for a wrong command line and for a call for help.
-pub fn parse<'a, S: AsStr>(alloc: Global, words: &'a [S]) -> Result<Asked<'a>, Error> {
+/// Returns clap's error for a wrong command line and for a call for help, and `TooMany` for more than 16 paths or peers.
+pub fn parse<'a, S: AsStr>(alloc: Global, words: &'a [S]) -> Result<Line<'a>, NotAsked> {
     let mut command = program(alloc)?;
     let matches = match command.try_get_matches_from_mut(words) {
         Ok(matches) => matches,
-        Err(error) if error.kind() == ErrorKind::DisplayVersion => return Ok(Asked::Version),
-        Err(error) => return Err(error),
+        Err(error) if error.kind() == ErrorKind::DisplayVersion => return Ok(Line::Version),
+        Err(error) => return Err(NotAsked::Usage(error)),
     };
     if !has_plain_numbers(&matches) {
-        return Err(command.error(ErrorKind::ValueValidation, SIGNED)?);
+        let error = command.error(ErrorKind::ValueValidation, SIGNED)?;
+        return Err(NotAsked::Usage(error));
     }
     if !has_known_code(&matches) {
-        return Err(command.error(ErrorKind::ValueValidation, UNKNOWN_CODE)?);
+        let error = command.error(ErrorKind::ValueValidation, UNKNOWN_CODE)?;
+        return Err(NotAsked::Usage(error));
     }
-    match asked_in(&matches) {
-        Some(asked) => Ok(asked),
-        None => Err(command.error(ErrorKind::MissingSubcommand, "a command is required")?),
+    if has_too_many_names(&matches) {
+        return Err(NotAsked::TooMany);
     }
+    Ok(Line::Command(matches))
 }
 
 fn program<'a>(alloc: Global) -> Result<Command<'a>, AllocError> {
@@ -86,6 +108,20 @@ fn run_command<'a>(alloc: Global) -> Result<Command<'a>, AllocError> {
                 .value_parser(value_parser!(u32).range(1..=i64::from(MOST_TIMES)))
                 .default_value("1")
                 .help("How often each thread calls it, 1 to 1000000"),
+        )?
+        .arg(
+            Arg::new(alloc, "path")
+                .long("path")
+                .value_name("P")
+                .action(ArgAction::Append)
+                .help("A file that the module may open, up to 16 of them, numbered from 0"),
+        )?
+        .arg(
+            Arg::new(alloc, "peer")
+                .long("peer")
+                .value_name("A")
+                .action(ArgAction::Append)
+                .help("A peer, as 127.0.0.1:8080, up to 16 of them, numbered from 0"),
         )
 }
 
@@ -138,7 +174,7 @@ fn file_argument<'a>(alloc: Global) -> Arg<'a> {
         .help("The module's file, or - for standard input")
 }
 
-fn asked_in<'a>(matches: &ArgMatches<'a>) -> Option<Asked<'a>> {
+fn asked_in<'m>(matches: &'m ArgMatches<'_>) -> Option<Asked<'m>> {
     if let Some(check) = matches.subcommand_matches("check") {
         let file = check.get_str("FILE")?;
         return Some(Asked::Check { file });
@@ -159,7 +195,7 @@ fn asked_in<'a>(matches: &ArgMatches<'a>) -> Option<Asked<'a>> {
     run_of(matches.subcommand_matches("run")?)
 }
 
-fn explanation_in<'a>(explain: &ArgMatches<'a>) -> Option<Asked<'a>> {
+fn explanation_in<'m>(explain: &'m ArgMatches<'_>) -> Option<Asked<'m>> {
     if let Some(code) = explain.get_str("code") {
         let topic = topic_named(code.as_bytes())?;
         return Some(Asked::Page { topic });
@@ -194,7 +230,21 @@ fn is_plain(run: &ArgMatches, name: &str) -> bool {
     }
 }
 
-fn run_of<'a>(run: &ArgMatches<'a>) -> Option<Asked<'a>> {
+fn has_too_many_names(matches: &ArgMatches) -> bool {
+    match matches.subcommand_matches("run") {
+        Some(run) => {
+            names_in(run, "path").len() > MOST_NAMES || names_in(run, "peer").len() > MOST_NAMES
+        }
+        None => false,
+    }
+}
+
+/// Returns all values of the option, in the order of the command line.
+fn names_in<'m>(run: &'m ArgMatches<'_>, option: &str) -> &'m [&'m str] {
+    run.get_strs(option).unwrap_or(&[])
+}
+
+fn run_of<'m>(run: &'m ArgMatches<'_>) -> Option<Asked<'m>> {
     let threads = run.get_one("threads")?;
     let rows = run.get_one("rows")?;
     let times = run.get_one("times")?;
@@ -205,11 +255,18 @@ fn run_of<'a>(run: &ArgMatches<'a>) -> Option<Asked<'a>> {
     if rows == 0 || rows > MOST_ROWS {
         return None;
     }
+    let paths = names_in(run, "path");
+    let peers = names_in(run, "peer");
+    if paths.len() > MOST_NAMES || peers.len() > MOST_NAMES {
+        return None;
+    }
     Some(Asked::Run(Run {
         file: run.get_str("FILE")?,
         function: run.get_str("call")?,
         threads,
         rows,
         times,
+        paths,
+        peers,
     }))
 }

@@ -3,5 +3,6 @@
 
 mod acting;
 mod command;
+mod not_asked;
 
 pub use acting::{act, act_on};

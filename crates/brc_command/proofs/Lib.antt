@@ -1,9 +1,9 @@
 mod Accepting
 mod Calling
+mod LastTally
 mod Leaving
 mod Machines
 mod Outputs
 mod TakingLines
 mod Traced
-mod Turning
 mod Writing

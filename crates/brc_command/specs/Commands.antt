@@ -9,6 +9,7 @@ use Rattle.brc_check.specs.Refusal.{IsRefusedFor}
 use Rattle.brc_report.specs.declared.paint.Paint.{Paint}
 use Rattle.brc_report.specs.declared.tally.Tally.{Tally}
 use Rattle.brc_report.specs.Report.{tally_text}
+use Rattle.brc_run.specs.Runs.{IsTallyOfRun}
 use Rattle.brc_schedule.specs.declared.schedule.Schedule.{Schedule}
 use Rattle.brc_command.specs.declared.asked.Asked.{Asked}
 use Rattle.brc_command.specs.declared.asked.Asked.TheVariants.{Run as ToRun, Check as ToCheck, Step as ToStep, Version}
@@ -17,14 +18,13 @@ use Rattle.brc_command.specs.declared.asked.Run.{Run}
 use Rattle.brc_command.specs.declared.step_fault.StepFault.{StepFault}
 use Rattle.brc_command.specs.declared.step_fault.StepFault.TheVariants.{Text, Refused, NoMemory, Output}
 use Rattle.brc_command.specs.declared.stop.Stop.{Stop}
-use Rattle.brc_command.specs.declared.stop.Stop.TheVariants.{UnreadableFile, NoFunction, Fault}
+use Rattle.brc_command.specs.declared.stop.Stop.TheVariants.{UnreadableFile, NoFunction, NoThread, Fault}
 use Rattle.brc_command.specs.Accepted.{accepted_text}
 use Rattle.brc_command.specs.Calls.{has_function, calls_named}
 use Rattle.brc_command.specs.Explanations.{IsAccepted, HasOnly, LacksNamed}
 use Rattle.brc_command.specs.Lines.{stop_text, stop_status, version_text}
 use Rattle.brc_command.specs.Texts.{IsReady, IsFaultOfTexts, report}
 use Rattle.brc_command.specs.Traces.{traced_report}
-use Rattle.brc_command.specs.Turns.{IsTallyOfRun}
 
 -- ---- the reports; `gives path bytes`: the loader may give these bytes for the path
 
@@ -65,7 +65,7 @@ pub record HasTraceReport (gives : List ℕ → List ℕ → Type 0) (paint : Pa
 -- the module has the function, and the run's tally is this one
 pub record RunsTo (m : Module) (asked : Run) (tally : Tally) : Type 0 where
   pub known : has_function m asked.function.now ≡ true
-  pub ran : IsTallyOfRun m asked.rows asked.threads (calls_named m asked.function.now asked.times) tally
+  pub ran : IsTallyOfRun m asked.threads asked.rows (calls_named m asked.function.now asked.times) tally
 
 pub record HasRunReport (gives : List ℕ → List ℕ → Type 0) (asked : Run) (text : List ℕ) : Type 0 where
   pub module_text : List ℕ
@@ -96,7 +96,7 @@ HasReport gives paint (ToPage topic) text = Unit {0}
 HasReport gives paint Version text = text ≡ version_text
 
 -- ---- the reasons; `lacks path`: the loader may answer that the path can't be read. Refused memory and an error of the
--- writer may stop any command
+-- writer may stop any command, and a thread that can't be started any run
 
 -- the text spells no accepted module
 abbrev pub IsModuleFault : List ℕ → StepFault → Type 0
@@ -109,6 +109,7 @@ IsModuleFault text _ = ⊥
 abbrev pub IsModuleReason : (List ℕ → List ℕ → Type 0) → (List ℕ → Type 0) → List ℕ → Stop → Type 0
 IsModuleReason gives lacks file UnreadableFile = lacks file
 IsModuleReason gives lacks file (NoFunction name) = ⊥
+IsModuleReason gives lacks file NoThread = ⊥
 IsModuleReason gives lacks file (Fault NoMemory) = Unit {0}
 IsModuleReason gives lacks file (Fault Output) = Unit {0}
 IsModuleReason gives lacks file (Fault e) = (text : List ℕ) × gives file text × IsModuleFault text e
@@ -124,6 +125,7 @@ pub record LacksFunction (gives : List ℕ → List ℕ → Type 0) (file name :
 abbrev pub IsRunReason : (List ℕ → List ℕ → Type 0) → (List ℕ → Type 0) → Run → Stop → Type 0
 IsRunReason gives lacks asked (NoFunction name) = (name ≡ asked.function)
     × LacksFunction gives asked.file.now asked.function.now
+IsRunReason gives lacks asked NoThread = Unit {0}
 IsRunReason gives lacks asked stop = IsModuleReason gives lacks asked.file.now stop
 
 -- two texts that the files may have are faulty
@@ -138,6 +140,7 @@ abbrev pub IsStepReason : (List ℕ → List ℕ → Type 0) → (List ℕ → T
 IsStepReason gives lacks file schedule UnreadableFile = lacks file ⊎ lacks schedule
     ⊎ (IsStandardInput file × IsStandardInput schedule)
 IsStepReason gives lacks file schedule (NoFunction name) = ⊥
+IsStepReason gives lacks file schedule NoThread = ⊥
 IsStepReason gives lacks file schedule (Fault NoMemory) = Unit {0}
 IsStepReason gives lacks file schedule (Fault Output) = Unit {0}
 IsStepReason gives lacks file schedule (Fault e) = AreAtFault gives file schedule e

@@ -5,4 +5,3 @@ pub mod Explanations
 pub mod Lines
 pub mod Texts
 pub mod Traces
-pub mod Turns

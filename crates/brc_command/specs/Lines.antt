@@ -13,9 +13,11 @@ use Rattle.brc_command.specs.declared.step_fault.StepFault.{StepFault}
 use Rattle.brc_command.specs.declared.step_fault.StepFault.TheVariants.{Text, Plan, Refused, NoFunction, NoMemory}
 use Rattle.brc_command.specs.declared.step_fault.StepFault.TheVariants.{Output}
 use Rattle.brc_command.specs.declared.stop.Stop.{Stop}
+use Rattle.brc_run.specs.declared.error.RunFault.{RunFault}
+use Rattle.brc_run.specs.declared.error.RunFault.TheVariants as runs
 use Rattle.brc_trace.specs.declared.fault.TraceFault.{TraceFault}
 use Rattle.brc_trace.specs.declared.fault.TraceFault.TheVariants as traces
-use Rattle.brc_command.specs.declared.stop.Stop.TheVariants.{UnreadableFile, NoFunction as Unknown, Fault}
+use Rattle.brc_command.specs.declared.stop.Stop.TheVariants.{UnreadableFile, NoFunction as Unknown, NoThread, Fault}
 
 -- ---- codes
 
@@ -69,6 +71,7 @@ fault_text Output = line (codes "cannot write")
 abbrev pub stop_text : Stop → List ℕ
 stop_text UnreadableFile = line (codes "unreadable file")
 stop_text (Unknown name) = unknown_text name.now
+stop_text NoThread = line (codes "no thread")
 stop_text (Fault e) = fault_text e
 
 abbrev pub version_text : List ℕ
@@ -76,7 +79,7 @@ version_text = line (codes "brc 0.1.0")
 
 -- ---- statuses
 
--- 1 for a refused module, 3 for refused memory, and 2 otherwise
+-- 1 for a refused module, 3 for refused memory or a thread that couldn't be started, and 2 otherwise
 abbrev pub fault_status : StepFault → ℕ
 fault_status (Refused r) = 1
 fault_status NoMemory = 3
@@ -84,6 +87,7 @@ fault_status _ = 2
 
 abbrev pub stop_status : Stop → ℕ
 stop_status (Fault e) = fault_status e
+stop_status NoThread = 3
 stop_status _ = 2
 
 -- ---- a file that can't be loaded
@@ -91,6 +95,12 @@ stop_status _ = 2
 abbrev pub stop_of : LoadError → Stop
 stop_of loads.Unreadable = UnreadableFile
 stop_of loads.NoMemory = Fault NoMemory
+
+-- ---- a run without a tally
+
+abbrev pub stop_of_run : RunFault → Stop
+stop_of_run runs.NoMemory = Fault NoMemory
+stop_of_run runs.NoThread = NoThread
 
 -- ---- a trace that stops
 

@@ -1,4 +1,5 @@
-ghost use Rattle.std.specs.Prelude.{◌<◌, ◌≤◌};
+ghost use Rattle.std.specs.Prelude.{◌<◌, ◌≤◌, length};
+ghost use Rattle.brc_command.specs.declared.asked.TheConstants.{MOST_NAMES};
 ghost use Rattle.brc_model.specs.Limits.{worker_limit, row_limit, times_limit};
 
 use brc_explain::Topic;
@@ -11,6 +12,9 @@ pub const MOST_ROWS: u16 = 1024;
 
 /// The greatest number of calls of a worker.
 pub const MOST_TIMES: u32 = 1_000_000;
+
+/// The most paths of a run, and the most peers.
+pub const MOST_NAMES: usize = 16;
 
 /// The request of a command line.
 #[derive(Clone, Copy, Debug)]
@@ -53,10 +57,16 @@ pub struct Run<'a> {
     pub rows: u16,
     /// The number of calls of each worker, 1 to 1,000,000.
     pub times: u32,
+    /// The paths that `open` opens, by their numbers from 0: 16 at most.
+    pub paths: &'a [&'a str],
+    /// The peers to which `connect` connects, by their numbers from 0: 16 at most.
+    pub peers: &'a [&'a str],
     ghost some_threads: { 0 < threads },
     ghost most_threads: { threads ≤ worker_limit },
     ghost some_rows: { 0 < rows },
     ghost most_rows: { rows ≤ row_limit },
     ghost some_times: { 0 < times },
     ghost most_times: { times ≤ times_limit },
+    ghost few_paths: { length paths.now ≤ MOST_NAMES },
+    ghost few_peers: { length peers.now ≤ MOST_NAMES },
 }

@@ -26,21 +26,20 @@ use crate::stop::Stop;
 use crate::terminal::{NoTerminal, Terminal};
 use crate::texts::{accepted, module_of};
 use crate::tracing::trace_text_in;
-use crate::turns::run_on;
 use brc_check::Checked;
 use brc_explain::{Topic, write_page};
 use brc_lang::{Module, write_bytes};
 use brc_model::Call;
 use brc_report::{Paint, write_tally};
+use brc_run::{Plan, System, run_on_system};
 use std::alloc::Global;
 use std::io::Write;
-use std::sync::Wait;
 
 /// Carries out the request and returns the exit status: 0, or that of `Stop::status`. Nobody watches: no text is
 /// coloured, and no progress is shown.
 ///
 /// If the status isn't 0, a line on standard error gives the reason. An error of standard error is ignored.
-pub fn execute<R: Wait, L: Load, W: Write, E: Write>(
+pub fn execute<R: System, L: Load, W: Write, E: Write>(
     rt: &R,
     alloc: Global,
     asked: &Asked<'_>,
@@ -60,7 +59,7 @@ pub fn execute<R: Wait, L: Load, W: Write, E: Write>(
 }
 
 /// Does what `execute` does, before somebody at a terminal.
-pub fn execute_on<R: Wait, L: Load, T: Terminal, W: Write, E: Write>(
+pub fn execute_on<R: System, L: Load, T: Terminal, W: Write, E: Write>(
     rt: &R,
     alloc: Global,
     asked: &Asked<'_>,
@@ -89,7 +88,7 @@ pub fn execute_on<R: Wait, L: Load, T: Terminal, W: Write, E: Write>(
 /// Carries out the request and writes its report.
 ///
 /// Returns the first reason from the top why it can't: a file, the texts, the check, a function's name, memory, output.
-pub fn carry_out<'a, R: Wait, L: Load, T: Terminal, W: Write>(
+pub fn carry_out<'a, R: System, L: Load, T: Terminal, W: Write>(
     rt: &R,
     alloc: Global,
     asked: &Asked<'a>,
@@ -126,7 +125,7 @@ pub fn carry_out<'a, R: Wait, L: Load, T: Terminal, W: Write>(
     }
 }
 
-fn run_file<'a, R: Wait, L: Load, T: Terminal, W: Write>(
+fn run_file<'a, R: System, L: Load, T: Terminal, W: Write>(
     rt: &R,
     alloc: Global,
     asked: &Run<'a>,
@@ -146,15 +145,22 @@ fn run_file<'a, R: Wait, L: Load, T: Terminal, W: Write>(
     let Some(call) = call_of(checked.module(), asked) else {
         return Err(Stop::NoFunction(asked.function));
     };
-    let tally = run_on(
+    let plan = Plan {
+        call,
+        threads: asked.threads as u8,
+        rows: asked.rows,
+    };
+    let ran = run_on_system(
         rt,
         alloc,
         &checked,
-        asked.threads,
-        asked.rows,
-        call,
-        terminal,
-    )?;
+        plan,
+        asked.paths,
+        asked.peers,
+        &*terminal,
+    );
+    terminal.clear();
+    let tally = ran?;
     match write_tally(&tally, out) {
         Ok(()) => Ok(()),
         Err(_) => Err(Stop::Fault(StepFault::Output)),

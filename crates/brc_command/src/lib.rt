@@ -14,10 +14,9 @@ mod stop;
 mod terminal;
 mod texts;
 mod tracing;
-mod turns;
 
 pub use accepted::write_accepted;
-pub use asked::{Asked, MOST_ROWS, MOST_THREADS, MOST_TIMES, Run};
+pub use asked::{Asked, MOST_NAMES, MOST_ROWS, MOST_THREADS, MOST_TIMES, Run};
 pub use carrying::{carry_out, execute, execute_on};
 pub use lines::{VERSION, write_stop, write_version};
 pub use load::{Load, LoadError, STANDARD_INPUT};
@@ -26,4 +25,3 @@ pub use stepping::step_text;
 pub use stop::Stop;
 pub use terminal::{NoTerminal, Terminal};
 pub use tracing::trace_text;
-pub use turns::{run, run_on};

@@ -34,6 +34,7 @@ pub fn write_stop<W: Write>(stop: &Stop<'_>, writer: &mut W) -> io::Result<()>
     match stop {
         Stop::UnreadableFile => write_bytes(b"unreadable file\n", writer),
         Stop::NoFunction(name) => write_unknown(name.as_bytes(), writer),
+        Stop::NoThread => write_bytes(b"no thread\n", writer),
         Stop::Fault(fault) => write_fault(fault, writer),
     }
 }

@@ -1,10 +1,11 @@
 ghost use Rattle.std.specs.Prelude.{◌≡◌, ◌<◌, ◌≤◌};
 ghost use Rattle.brc_command.specs.declared.stop.Stop.TheVariants.{Fault};
 ghost use Rattle.brc_command.specs.declared.step_fault.StepFault.TheVariants.{NoMemory as MemoryRefused};
-ghost use Rattle.brc_command.specs.Lines.{stop_of, stop_status};
+ghost use Rattle.brc_command.specs.Lines.{stop_of, stop_of_run, stop_status};
 
 use crate::load::LoadError;
 use crate::step_fault::StepFault;
+use brc_run::RunFault;
 use brc_world::NoMemory;
 
 /// The reason why a command stops.
@@ -14,12 +15,15 @@ pub enum Stop<'a> {
     UnreadableFile,
     /// The module lacks the function of this name, for which the command line asks.
     NoFunction(&'a str),
+    /// A worker's thread couldn't be started.
+    NoThread,
     /// A text, the check, a schedule's call, memory or the output.
     Fault(StepFault),
 }
 
 impl Stop<'_> {
-    /// Returns the exit status: 1 if the checker refuses the module, 3 if memory is refused, and 2 otherwise.
+    /// Returns the exit status: 1 if the checker refuses the module, 3 if memory is refused or a thread can't be started,
+    /// and 2 otherwise.
     pub fn status(&self) -> u8
         ensures faulty { 0 < result }
         ensures known { result ≤ 3 }
@@ -27,7 +31,7 @@ impl Stop<'_> {
     {
         match self {
             Stop::Fault(StepFault::Refused(_)) => 1,
-            Stop::Fault(StepFault::NoMemory) => 3,
+            Stop::Fault(StepFault::NoMemory) | Stop::NoThread => 3,
             _ => 2,
         }
     }
@@ -48,6 +52,17 @@ impl From<LoadError> for Stop<'_> {
         match error {
             LoadError::Unreadable => Stop::UnreadableFile,
             LoadError::NoMemory => Stop::Fault(StepFault::NoMemory),
+        }
+    }
+}
+
+impl From<RunFault> for Stop<'_> {
+    ghost from_gives = { λ fault e. e ≡ stop_of_run fault };
+
+    fn from(fault: RunFault) -> Self {
+        match fault {
+            RunFault::NoMemory => Stop::Fault(StepFault::NoMemory),
+            RunFault::NoThread => Stop::NoThread,
         }
     }
 }

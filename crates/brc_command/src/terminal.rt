@@ -5,12 +5,13 @@ ghost use Rattle.brc_report.specs.declared.paint.Paint.{Paint};
 ghost use Rattle.brc_report.specs.declared.paint.Paint.TheVariants.{Plain};
 
 use brc_report::Paint;
+use brc_work::Gate;
 
-/// After how many steps a run says again how far it is.
+/// After how many steps a schedule says again how far it is.
 const STEPS_BETWEEN: u64 = 65_536;
 
-/// The terminal of whoever started the command.
-pub trait Terminal {
+/// The terminal of whoever started the command. As the gate of a run it hears of each call that the workers make.
+pub trait Terminal: Gate + Sync {
     // How it marks the parts of a text.
     ghost paint_of: { Self → Paint };
 
@@ -18,16 +19,22 @@ pub trait Terminal {
     fn paint(&self) -> Paint
         ensures { result ≡ paint_of self.now };
 
-    /// Shows how many steps a run has made so far. A run calls it once in some 65,536 steps.
+    /// Shows how many steps a schedule has made so far. `brc step` calls it once in some 65,536 steps.
     fn made(&mut self, steps: u64);
 
-    /// Takes away what `made` has shown. A run calls it at its end, before anything is written.
+    /// Takes away what it has shown. A command calls it once nothing more is made, before anything is written.
     fn clear(&mut self);
 }
 
 /// No terminal: texts aren't marked, and nothing is shown.
 #[derive(Clone, Copy, Debug)]
 pub struct NoTerminal;
+
+impl Gate for NoTerminal {
+    fn before(&self, _thread: u8, _call: u32) {}
+
+    fn after(&self, _thread: u8, _call: u32) {}
+}
 
 impl Terminal for NoTerminal {
     ghost paint_of = { λ _. Plain };
@@ -41,7 +48,7 @@ impl Terminal for NoTerminal {
     fn clear(&mut self) {}
 }
 
-/// Adds steps to those that a run has made, and shows the sum if it has passed a multiple of 65,536.
+/// Adds steps to those that a schedule has made, and shows the sum if it has passed a multiple of 65,536.
 pub fn more_made<T: Terminal>(made: u64, more: u64, terminal: &mut T) -> u64 {
     let sum = made.saturating_add(more);
     if made / STEPS_BETWEEN != sum / STEPS_BETWEEN {

@@ -2,9 +2,10 @@ ghost use Rattle.std.specs.Prelude.{⊤};
 
 use brc_arguments::act;
 use brc_command::{Load, LoadError};
-use std::alloc::Global;
+use brc_run::System;
+use std::alloc::{AllocError, Global};
 use std::process::Abort;
-use std::sync::Wait;
+use std::test::Fail;
 
 const MODULE: &[u8] = b"module 1\nfunc f\nfail\nend\n";
 
@@ -44,14 +45,14 @@ impl Load for Shelf {
 }
 
 // The bytes that a command line writes on standard output and on standard error, and its status.
-fn outputs<R: Wait + AllocGlobal>(rt: &R, words: &[&str]) -> (Vec<u8>, Vec<u8>, u8) {
+fn outputs<R: System + AllocGlobal>(rt: &R, words: &[&str]) -> (Vec<u8>, Vec<u8>, u8) {
     let mut out: Vec<u8> = Vec::new(rt.alloc());
     let mut err: Vec<u8> = Vec::new(rt.alloc());
     let status = act(rt, rt.alloc(), words, &mut Shelf, &mut out, &mut err);
     (out, err, status)
 }
 
-fn assert_writes<R: Wait + Abort + AllocGlobal>(rt: &R, words: &[&str], report: &[u8]) {
+fn assert_writes<R: System + Abort + AllocGlobal>(rt: &R, words: &[&str], report: &[u8]) {
     let (out, err, status) = outputs(rt, words);
     assert_eq!(rt; out.as_slice(), report, "{words:?}");
     assert!(rt; err.is_empty(), "{words:?}");
@@ -59,7 +60,7 @@ fn assert_writes<R: Wait + Abort + AllocGlobal>(rt: &R, words: &[&str], report: 
 }
 
 // A wrong command line, or a call for help, writes clap's text to standard error.
-fn assert_usage<R: Wait + Abort + AllocGlobal>(rt: &R, words: &[&str], start: &[u8]) {
+fn assert_usage<R: System + Abort + AllocGlobal>(rt: &R, words: &[&str], start: &[u8]) {
     let (out, err, status) = outputs(rt, words);
     assert!(rt; out.is_empty(), "{words:?}");
     assert!(rt; err.as_slice().starts_with(start), "{words:?}");
@@ -203,6 +204,43 @@ fn refuses_command_lines(rt: HostRuntime) {
     for (words, start) in cases {
         assert_usage(&rt, words, start);
     }
+}
+
+// The outputs and the status of a run with so many paths and peers. There is no `n.brc`.
+fn outputs_given<R: System + AllocGlobal>(
+    rt: &R,
+    paths: usize,
+    peers: usize,
+) -> Result<(Vec<u8>, Vec<u8>, u8), AllocError> {
+    let mut words = vec![in rt.alloc(); "brc", "run", "n.brc", "--call", "f"]?;
+    for _ in 0..paths {
+        words.push("--path")?;
+        words.push("a")?;
+    }
+    for _ in 0..peers {
+        words.push("--peer")?;
+        words.push("127.0.0.1:8080")?;
+    }
+    Ok(outputs(rt, words.as_slice()))
+}
+
+// Sixteen paths and sixteen peers may be given.
+#[test]
+fn counts_paths_and_peers(rt: HostRuntime) -> Result<(), Fail> {
+    let cases: [(usize, usize, &[u8]); 5] = [
+        (0, 0, b"unreadable file\n"),
+        (16, 16, b"unreadable file\n"),
+        (17, 0, b"too many\n"),
+        (0, 17, b"too many\n"),
+        (40, 3, b"too many\n"),
+    ];
+    for (paths, peers, line) in cases {
+        let (out, err, status) = outputs_given(&rt, paths, peers)?;
+        assert!(rt; out.is_empty(), "{paths} {peers}");
+        assert_eq!(rt; err.as_slice(), line, "{paths} {peers}");
+        assert_eq!(rt; status, 2, "{paths} {peers}");
+    }
+    Ok(())
 }
 
 #[test]

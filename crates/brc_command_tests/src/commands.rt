@@ -1,11 +1,11 @@
 ghost use Rattle.std.specs.Prelude.{◌≡◌, ◌⊎◌, ◌<◌, ◌≤◌, ⊤, IfOk, codes};
 
 use brc_command::{Asked, Load, LoadError, Run, execute};
+use brc_run::System;
 use std::alloc::Global;
 use std::io;
 use std::io::{ErrorKind, Write};
 use std::process::Abort;
-use std::sync::Wait;
 use std::test::Fail;
 
 pub const SMALLEST: &[u8] = b"module 1\nfunc f\nfail\nend\n";
@@ -37,6 +37,8 @@ pub fn to_run<'a>(function: &'a str, threads: u32, rows: u16, times: u32) -> Ask
         threads,
         rows,
         times,
+        paths: &[],
+        peers: &[],
     })
 }
 
@@ -109,7 +111,7 @@ impl Write for Narrow {
 }
 
 // The bytes on standard output and on standard error, and the status.
-pub fn outputs<R: Wait + AllocGlobal>(
+pub fn outputs<R: System + AllocGlobal>(
     rt: &R,
     asked: &Asked<'_>,
     load: Shelf<'_>,
@@ -122,7 +124,7 @@ pub fn outputs<R: Wait + AllocGlobal>(
 }
 
 // The command writes these bytes on standard output and on standard error, and returns this status.
-pub fn assert_outputs<R: Wait + Abort + AllocGlobal>(
+pub fn assert_outputs<R: System + Abort + AllocGlobal>(
     rt: &R,
     asked: &Asked<'_>,
     load: Shelf<'_>,
@@ -135,7 +137,7 @@ pub fn assert_outputs<R: Wait + Abort + AllocGlobal>(
 }
 
 // A writer that takes only some bytes gets a prefix of the report.
-fn assert_stops<R: Wait + Abort + AllocGlobal>(
+fn assert_stops<R: System + Abort + AllocGlobal>(
     rt: &R,
     asked: &Asked<'_>,
     load: Shelf<'_>,

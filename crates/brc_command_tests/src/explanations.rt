@@ -5,8 +5,8 @@ use brc_check::CheckCode;
 use brc_command::{Asked, LoadError, execute};
 use brc_explain::Topic;
 use brc_lang::FaultCode;
+use brc_run::System;
 use std::process::Abort;
-use std::sync::Wait;
 
 const LEAKED: &[u8] = b"module 1\nfunc f\nnewref v1 v0\nfail\nend\n";
 
@@ -29,7 +29,7 @@ fn contains(text: &[u8], part: &[u8]) -> bool {
 }
 
 // The explanation has this part; standard error and the status are those of `brc check`.
-fn assert_explains<R: Wait + Abort + AllocGlobal>(
+fn assert_explains<R: System + Abort + AllocGlobal>(
     rt: &R,
     asked: &Asked<'_>,
     module: &[u8],
@@ -85,7 +85,7 @@ fn explains_nothing_without_its_function_or_its_file(rt: HostRuntime) {
 }
 
 // A writer that takes only some bytes gets a prefix of the explanation, whatever the module's own fault is.
-fn assert_cut<R: Wait + Abort + AllocGlobal>(rt: &R, asked: &Asked<'_>, module: &[u8]) {
+fn assert_cut<R: System + Abort + AllocGlobal>(rt: &R, asked: &Asked<'_>, module: &[u8]) {
     let (whole, _, _) = outputs(rt, asked, both(module, b""));
     let length = whole.len();
     for most in [0, 1, length / 2, length.saturating_sub(1)] {

@@ -2,8 +2,8 @@
 
 use crate::commands::both;
 use crate::worked::{CHECK, RUN, acts, assert_cases};
+use brc_run::System;
 use std::process::Abort;
-use std::sync::Wait;
 
 const RUN_TWICE: &[&str] = &["brc", "run", "m.brc", "--call", "f", "--times", "2"];
 
@@ -20,7 +20,7 @@ const ITSELF: &[u8] = b"module 1\nfunc f\nagain @0 65535\nfail\nend\n";
 
 // The second pass would overwrite the reference of the first one. Two paths then reach the first instruction in
 // different states too, so either code may be reported.
-fn assert_pass_is_refused<R: Wait + Abort + AllocGlobal>(rt: &R) {
+fn assert_pass_is_refused<R: System + Abort + AllocGlobal>(rt: &R) {
     let module = b"module 1\nfunc f\nnewref v1 v0\nagain @0 1\ndrop v1\nfail\nend\n";
     let (out, err, status) = acts(rt, CHECK, both(module, b""));
     let overwritten: &[u8] = b"refused f @0 C4\n";

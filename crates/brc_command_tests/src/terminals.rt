@@ -5,24 +5,46 @@ use crate::commands::{FIRST, STEP, both, outputs, to_run};
 use brc_arguments::act_on;
 use brc_command::{Asked, Terminal, execute_on};
 use brc_report::Paint;
+use brc_run::System;
+use brc_work::Gate;
 use std::process::Abort;
-use std::sync::Wait;
+use std::sync::atomic::{AtomicU64, Ordering};
 
 // A terminal that notes what it is given.
-#[derive(Clone, Copy)]
+#[derive(Drop)]
 struct Notes {
     times: u64,
     last: u64,
     falls: bool,
     clears: u64,
+    // The calls of workers that have begun, and those that have ended.
+    begun: AtomicU64,
+    ended: AtomicU64,
 }
 
-const UNTOLD: Notes = Notes {
-    times: 0,
-    last: 0,
-    falls: false,
-    clears: 0,
-};
+impl Notes {
+    // A terminal that was given nothing.
+    fn new() -> Notes {
+        Notes {
+            times: 0,
+            last: 0,
+            falls: false,
+            clears: 0,
+            begun: AtomicU64::new(0),
+            ended: AtomicU64::new(0),
+        }
+    }
+}
+
+impl Gate for Notes {
+    fn before(&self, _thread: u8, _call: u32) {
+        self.begun.fetch_add(1, Ordering::SeqCst);
+    }
+
+    fn after(&self, _thread: u8, _call: u32) {
+        self.ended.fetch_add(1, Ordering::SeqCst);
+    }
+}
 
 impl Terminal for Notes {
     ghost paint_of = { λ _. Ansi };
@@ -43,13 +65,13 @@ impl Terminal for Notes {
 }
 
 // What the terminal was told, and the bytes on standard output.
-fn told<R: Wait + AllocGlobal>(
+fn told<R: System + AllocGlobal>(
     rt: &R,
     asked: &Asked<'_>,
     module: &[u8],
     schedule: &[u8],
 ) -> (Notes, Vec<u8>) {
-    let mut notes = UNTOLD;
+    let mut notes = Notes::new();
     let mut out: Vec<u8> = Vec::new(rt.alloc());
     let mut err: Vec<u8> = Vec::new(rt.alloc());
     let mut load = both(module, schedule);
@@ -66,7 +88,7 @@ fn told<R: Wait + AllocGlobal>(
 }
 
 // A terminal is given the steps in rising order, and its line is wiped once; it changes no report.
-fn assert_told<R: Wait + Abort + AllocGlobal>(
+fn assert_told<R: System + Abort + AllocGlobal>(
     rt: &R,
     asked: &Asked<'_>,
     schedule: &[u8],
@@ -92,14 +114,13 @@ fn tells_how_far_a_schedule_is(rt: HostRuntime) {
     assert_told(&rt, &STEP, two_lines, (2, 131_072));
 }
 
-// Four workers call a function of four instructions and more steps twenty thousand times each.
+// Of a run on threads the terminal hears each call, as its gate.
 #[test]
-fn tells_how_far_a_run_is(rt: HostRuntime) {
-    let (notes, _) = told(&rt, &to_run("f", 4, 4, 20_000), FIRST, b"");
-    assert!(rt; notes.times > 3);
-    assert!(rt; notes.last > 196_608);
-    assert!(rt; !notes.falls);
-    assert_eq!(rt; notes.clears, 1);
+fn hears_each_call_of_a_run(rt: HostRuntime) {
+    let (notes, _) = told(&rt, &to_run("f", 4, 4, 200), FIRST, b"");
+    assert_eq!(rt; notes.begun.load(Ordering::SeqCst), 800);
+    assert_eq!(rt; notes.ended.load(Ordering::SeqCst), 800);
+    assert_eq!(rt; (notes.times, notes.clears), (0, 1));
 }
 
 #[test]
@@ -124,7 +145,7 @@ fn colours_explanations_alone(rt: HostRuntime) {
 
 #[test]
 fn acts_before_a_terminal(rt: HostRuntime) {
-    let mut notes = UNTOLD;
+    let mut notes = Notes::new();
     let mut out: Vec<u8> = Vec::new(rt.alloc());
     let mut err: Vec<u8> = Vec::new(rt.alloc());
     let mut load = both(FIRST, b"");

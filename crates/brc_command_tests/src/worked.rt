@@ -2,8 +2,8 @@
 
 use crate::commands::{ONE_REPORT, SMALLEST, Shelf, both};
 use brc_arguments::act;
+use brc_run::System;
 use std::process::Abort;
-use std::sync::Wait;
 
 pub const CHECK: &[&str] = &["brc", "check", "m.brc"];
 
@@ -15,7 +15,7 @@ pub const STEP: &[&str] = &["brc", "step", "m.brc", "s.txt"];
 pub type Case<'t> = (&'t [u8], &'t [&'t str], &'t [u8], &'t [u8], u8);
 
 // The bytes on standard output and on standard error, and the status.
-pub fn acts<R: Wait + AllocGlobal>(
+pub fn acts<R: System + AllocGlobal>(
     rt: &R,
     words: &[&str],
     load: Shelf<'_>,
@@ -27,7 +27,7 @@ pub fn acts<R: Wait + AllocGlobal>(
     (out, err, status)
 }
 
-pub fn assert_acts<R: Wait + Abort + AllocGlobal>(
+pub fn assert_acts<R: System + Abort + AllocGlobal>(
     rt: &R,
     words: &[&str],
     load: Shelf<'_>,
@@ -39,7 +39,7 @@ pub fn assert_acts<R: Wait + Abort + AllocGlobal>(
     assert_eq!(rt; found, status, "{words:?}");
 }
 
-pub fn assert_cases<R: Wait + Abort + AllocGlobal>(rt: &R, cases: &[Case<'_>]) {
+pub fn assert_cases<R: System + Abort + AllocGlobal>(rt: &R, cases: &[Case<'_>]) {
     for (module, words, report, line, status) in cases {
         assert_acts(rt, words, both(module, b""), (report, line, *status));
     }

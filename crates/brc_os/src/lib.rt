@@ -1,8 +1,10 @@
 //! The files and the peers of the system, as a host.
 #![tactic(auto)]
 
+mod devices;
 mod os_host;
 mod os_resource;
 
+pub use devices::Devices;
 pub use os_host::OsHost;
 pub use os_resource::OsResource;

@@ -1,14 +1,14 @@
 ghost use Rattle.std.specs.Prelude.{◌≡◌};
 ghost use Rattle.brc_host.specs.HostCounts.{no_counts};
 
+use crate::devices::Devices;
 use crate::os_resource::OsResource;
 use bitflags::Flags;
 use brc_host::{Fault, Host, HostCounts};
 use brc_lang::Mode;
-use std::fs::{File, OpenOptions};
+use std::fs::OpenOptions;
 use std::marker::Model;
-use std::net::{Net, SocketAddr, TcpStream};
-use std::rt::Files;
+use std::net::SocketAddr;
 
 /// The files and the peers that a run was given, by their numbers from 0.
 ///
@@ -34,7 +34,7 @@ impl<'r, R> Model for OsHost<'r, R> {
     ghost view = { λ host. host.counts };
 }
 
-impl<'r, R: Files<File = File> + Net<Stream = TcpStream>> OsHost<'r, R> {
+impl<'r, R: Devices> OsHost<'r, R> {
     /// Returns a host over the system behind `rt`, which reaches these files and these peers.
     pub fn new(rt: &'r R, paths: &'r [String], peers: &'r [String]) -> OsHost<'r, R>
         ensures { result ≡ no_counts }
@@ -57,7 +57,7 @@ impl<'r, R: Files<File = File> + Net<Stream = TcpStream>> OsHost<'r, R> {
         options.read(mode.contains(Mode::READ));
         options.write(is_written);
         options.create(mode.contains(Mode::CREATE));
-        match options.open(self.rt, path.as_str()) {
+        match self.rt.file(&options, path.as_str()) {
             Ok(file) if is_written => Ok(OsResource::WrittenFile(file)),
             Ok(file) => Ok(OsResource::ReadFile(file)),
             Err(_) => Err(Fault),
@@ -72,14 +72,14 @@ impl<'r, R: Files<File = File> + Net<Stream = TcpStream>> OsHost<'r, R> {
         let Ok(address) = peer.as_str().parse::<SocketAddr>() else {
             return Err(Fault);
         };
-        match self.rt.connect(address) {
+        match self.rt.peer(address) {
             Ok(stream) => Ok(OsResource::Peer(stream)),
             Err(_) => Err(Fault),
         }
     }
 }
 
-impl<R: Files<File = File> + Net<Stream = TcpStream>> Host for OsHost<'_, R> {
+impl<R: Devices> Host for OsHost<'_, R> {
     type Res = OsResource;
 
     ghost counts = { λ host. host };

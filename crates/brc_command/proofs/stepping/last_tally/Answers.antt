@@ -1,7 +1,7 @@
 use Rattle.brc_world.specs.Worlds.{seen}
 use Rattle.brc_world.specs.Runs.{events_of}
 use Rattle.brc_command.specs.Calls.{calls_of}
-use Rattle.brc_command.proofs.Turning.{tally_of_last}
+use Rattle.brc_command.proofs.LastTally.{tally_of_last}
 use Rattle.brc_command.proofs.stepping.last_tally.Goals as goal
 
 pub returns : goal.returns

@@ -1,0 +1,18 @@
+use clap::Error;
+use clap::error::ErrorKind;
+use std::alloc::AllocError;
+
+/// Why the words of a command line make no request.
+#[derive(Debug, Drop)]
+pub enum NotAsked {
+    /// They are wrong, or ask for help; or memory was refused.
+    Usage(Error),
+    /// They give more than 16 paths, or more than 16 peers.
+    TooMany,
+}
+
+impl From<AllocError> for NotAsked {
+    fn from(error: AllocError) -> NotAsked {
+        NotAsked::Usage(Error::from(error))
+    }
+}

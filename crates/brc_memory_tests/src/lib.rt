@@ -1,0 +1,5 @@
+//! A test of runs that are refused memory: `rt try --test --fail-alloc N` refuses the Nth allocation.
+#![tactic(auto)]
+
+#[cfg(test)]
+mod refused;

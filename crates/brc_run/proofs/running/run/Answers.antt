@@ -1,0 +1,27 @@
+use Rattle.std.specs.Prelude.{◌≡◌, ◌<◌, length, vec_len}
+use Rattle.std.proofs.Common.{rules, arith, sym, ap, ◌∙◌}
+use Rattle.brc_run.specs.Runs.{totals_in}
+use Rattle.brc_run.specs.Tallies.{tally_at_end}
+use Rattle.brc_run.proofs.running.run.Goals as goal
+
+-- The tally is that of the workers that `fan_out` answers, and of the end after main's leave.
+pub returns : goal.returns
+returns g c =
+    let as_many : vec_len c.in_ok-gone.gone ≡ c.args.plan.threads =
+    c.in_ok-gone.ensures.one_each ∙ c.requires.one_each in
+    let counted = c.ended-end.ensures.counted in
+    record {
+      closes = counted.0;
+      failed = counted.1;
+      host = counted.3;
+      counted = record {
+        heap = c.in_ok-heap.heap;
+        gone = c.in_ok-gone.gone.items;
+        end = c.ended-end.result.0;
+        one_each = search (rules, as_many);
+        each = λ k w below. c.in_ok-gone.ensures.gone k w (omega (arith, below, as_many));
+        layout = c.ended-end.ensures.layout ∙ c.in_ok-heap.ensures.layout;
+        ended = c.ended-end.ensures.ended;
+        counted = search (rules, c.in_ok-tally_of.ensures, c.in_ok-totals.ensures, counted.2);
+      };
+    }

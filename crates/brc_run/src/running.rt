@@ -1,0 +1,66 @@
+//! A run of a function: its workers in threads of their own, main's leave, and the tally.
+
+ghost use Rattle.std.specs.Prelude.{◌≡◌, ◌<◌, map, length, IfOk};
+ghost use Rattle.brc_run.specs.Runs.{CountsMain, totals_in};
+
+use crate::ending::ended;
+use crate::error::RunFault;
+use crate::plan::Plan;
+use crate::tally::tally_of;
+use brc_check::Checked;
+use brc_heap::{Hand, Heap};
+use brc_host::Host;
+use brc_report::Tally;
+use brc_work::{Gate, Totals, fan_out};
+use std::alloc::{AllocError, Global};
+use std::sync::Wait;
+use std::thread::Threads;
+
+/// Runs a function of the accepted module: as many workers as the plan says call it, each in a thread of its own and
+/// over a host of its own, and main leaves once they are gone. Returns the tally.
+///
+/// The gate hears of each call.
+pub fn run<R: Threads + Wait + Sync, T: Send + Drop, H: Host<Res = T> + Send, G: Gate + Sync>(
+    rt: &R,
+    alloc: Global,
+    checked: &Checked,
+    plan: Plan,
+    hosts: &mut [H],
+    main_host: &mut H,
+    gate: &G,
+) -> Result<Tally, RunFault>
+    requires function { plan.call.function < length checked.now.module.functions }
+    requires one_each { length hosts.old ≡ plan.threads }
+    ensures { IfOk result (CountsMain checked.now.module plan.threads plan.rows plan.call (H.counts main_host.old)
+        (H.counts main_host.new)) }
+{
+    let (heap, mut main) = Heap::new(alloc, plan.threads, plan.rows)?;
+    let ran = fan_out(
+        rt,
+        alloc,
+        &heap,
+        &mut main,
+        checked,
+        plan.call.function,
+        plan.call.times,
+        hosts,
+        gate,
+    );
+    // Main leaves in any case: what dies only then has its files closed too.
+    let (end, failed) = ended(rt, heap, main, main_host);
+    let gone = ran?;
+    let totals = totals_of(alloc, gone.as_slice())?;
+    let threads = u32::from(plan.threads);
+    Ok(tally_of(alloc, &end, threads, totals.as_slice(), failed)?)
+}
+
+/// Returns what each worker has counted.
+fn totals_of<T: Drop>(alloc: Global, gone: &[(Hand<T>, Totals)]) -> Result<Vec<Totals>, AllocError>
+    ensures { IfOk result (λ totals. totals.items ≡ totals_in gone.now) }
+{
+    let mut totals = Vec::new(alloc);
+    for (_, counted) in gone {
+        totals.push(*counted)?;
+    }
+    Ok(totals)
+}

@@ -1,0 +1,58 @@
+//! Workers that wait for each other: they do run at the same time.
+
+use crate::runs::{MOST_ROWS, report_of};
+use crate::worked::NOTHING;
+use brc_work::Gate;
+use std::sync::atomic::{AtomicBool, AtomicU64, Ordering};
+use std::test::*;
+
+/// How often a worker looks for the others before it misses them.
+const MOST_TURNS: u64 = 100_000_000;
+
+/// Holds each worker before its first call, until as many workers stand there as are to meet.
+#[derive(Drop)]
+struct Meeting {
+    wanted: u64,
+    come: AtomicU64,
+    missed: AtomicBool,
+}
+
+impl Meeting {
+    /// Returns a gate at which so many workers meet.
+    fn of(wanted: u64) -> Meeting {
+        Meeting {
+            wanted,
+            come: AtomicU64::new(0),
+            missed: AtomicBool::new(false),
+        }
+    }
+}
+
+impl Gate for Meeting {
+    fn before(&self, _thread: u8, call: u32) {
+        if call > 0 {
+            return;
+        }
+        self.come.fetch_add(1, Ordering::SeqCst);
+        for _ in 0..MOST_TURNS {
+            if self.come.load(Ordering::SeqCst) >= self.wanted {
+                return;
+            }
+        }
+        self.missed.store(true, Ordering::SeqCst);
+    }
+
+    fn after(&self, _thread: u8, _call: u32) {}
+}
+
+/// `two_calls_meet` and `four_meet`: each worker's first call begins once all workers stand before theirs.
+#[test]
+fn workers_meet(rt: HostRuntime) -> Result<(), Fail> {
+    for threads in [2, 4] {
+        let gate = Meeting::of(u64::from(threads));
+        let counts = report_of(&rt, rt.alloc(), NOTHING, (threads, MOST_ROWS, 1), &gate)?;
+        assert_eq!(rt; counts, [u64::from(threads), 0, 1, 1, 0, 0, 0]);
+        assert!(rt; !gate.missed.load(Ordering::SeqCst), "{threads} workers");
+    }
+    Ok(())
+}

@@ -1,0 +1,111 @@
+//! A run of a module's first function, in plain numbers.
+
+ghost use Rattle.std.specs.Prelude.{◌<◌, ◌≤◌};
+ghost use Rattle.brc_model.specs.Limits.{worker_limit, row_limit};
+
+use brc_check::{Checked, check};
+use brc_host::FakeHost;
+use brc_lang::read;
+use brc_model::Call;
+use brc_report::Tally;
+use brc_run::{Plan, run};
+use brc_work::Gate;
+use std::alloc::Global;
+use std::sync::Wait;
+use std::test::*;
+use std::thread::Threads;
+
+/// The most rows that a worker may have.
+pub const MOST_ROWS: u16 = 1024;
+
+/// A report: the workers, the threads that run, the objects that were created, closed and are alive, and the faults of
+/// the host's calls and of its closes.
+pub type Counts = [u64; 7];
+
+/// A gate that hears of nothing.
+#[derive(Clone, Copy, Debug)]
+pub struct Open;
+
+impl Gate for Open {
+    fn before(&self, _thread: u8, _call: u32) {}
+
+    fn after(&self, _thread: u8, _call: u32) {}
+}
+
+/// Returns the module of the text, which is accepted.
+pub fn accepted(alloc: Global, text: &[u8]) -> Result<Checked, Fail> {
+    let Ok(module) = read(alloc, text) else {
+        return Err("the text is a module")?;
+    };
+    match check(alloc, module) {
+        Ok(checked) => Ok(checked),
+        Err(_) => Err("the module is accepted")?,
+    }
+}
+
+/// Returns the tally's numbers.
+pub fn counts_of(tally: &Tally) -> Counts {
+    [
+        tally.threads,
+        tally.running,
+        tally.created,
+        tally.closed,
+        tally.alive,
+        tally.host_faults,
+        tally.close_faults,
+    ]
+}
+
+/// Returns what a run is to do: `threads` workers with `rows` rows each call the first function, `times` times.
+pub fn plan_of(threads: u8, rows: u16, times: u32) -> Plan
+    requires some_threads { 0 < threads }
+    requires most_threads { threads ≤ worker_limit }
+    requires some_rows { 0 < rows }
+    requires most_rows { rows ≤ row_limit }
+{
+    Plan {
+        call: Call { function: 0, times },
+        threads,
+        rows,
+    }
+}
+
+/// Lets so many workers, with so many rows each, call the first function of the text's module so many times, over hosts
+/// that never fail. Returns the report's numbers.
+pub fn report_of<R: Threads + Wait + Sync, G: Gate + Sync>(
+    rt: &R,
+    alloc: Global,
+    text: &[u8],
+    (threads, rows, times): (u8, u16, u32),
+    gate: &G,
+) -> Result<Counts, Fail> {
+    if threads == 0 || threads > 32 || rows == 0 || rows > MOST_ROWS {
+        return Err("1 to 32 workers with 1 to 1024 rows each")?;
+    }
+    let checked = accepted(alloc, text)?;
+    // The accepted module has a first function.
+    let _module = checked.module();
+    let mut hosts = Vec::new(alloc);
+    for _ in 0..threads {
+        hosts.push(FakeHost::new(&[]))?;
+    }
+    let mut main_host = FakeHost::new(&[]);
+    let plan = Plan {
+        call: Call { function: 0, times },
+        threads,
+        rows,
+    };
+    let ran = run(
+        rt,
+        alloc,
+        &checked,
+        plan,
+        hosts.as_mut_slice(),
+        &mut main_host,
+        gate,
+    );
+    match ran {
+        Ok(tally) => Ok(counts_of(&tally)),
+        Err(_) => Err("the run has a tally")?,
+    }
+}
