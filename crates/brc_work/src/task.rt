@@ -1,6 +1,8 @@
 //! What a worker does on a thread of its own.
 
 ghost use Rattle.std.specs.Prelude.{◌≡◌, ◌<◌, true, length};
+ghost use Rattle.brc_model.specs.declared.actor.Status.TheVariants.{Gone};
+ghost use Rattle.brc_work.specs.Totals.{HasCounted, no_totals};
 ghost use Rattle.brc_work.specs.Workers.{IsFresh, HasGone, job, fresh-prop};
 
 use crate::gate::Gate;
@@ -71,19 +73,60 @@ impl<'a, T: Drop, H: Host<Res = T>, G: Gate> Task<'a, T, H, G> {
             host,
             gate,
         } = self;
-        let queue = Queue::new(heap);
-        let called = !stopped.load(Ordering::SeqCst);
-        let mut totals = Totals::new();
-        if called {
-            let worker = Worker::new(heap, &queue);
-            totals = worker.run(rt, checked, function, times, &mut hand, host, gate);
+        if stopped.load(Ordering::SeqCst) {
+            let totals = leaves_at_once(rt, heap, &mut hand, host);
+            return Done {
+                hand,
+                totals,
+                called: false,
+            };
         }
-        let failed = queue.leave(rt, &mut hand, host);
-        totals.count_close_faults(failed);
+        let totals = calls_and_leaves(rt, heap, checked, function, times, &mut hand, host, gate);
         Done {
             hand,
             totals,
-            called,
+            called: true,
         }
     }
+}
+
+/// Makes the calls with a hand that was just given out, and lets it leave. Returns what was counted of both.
+fn calls_and_leaves<R: Wait, T: Drop, H: Host<Res = T>, G: Gate>(
+    rt: &R,
+    heap: &Heap<T>,
+    checked: &Checked,
+    function: usize,
+    times: u32,
+    hand: &mut Hand<T>,
+    host: &mut H,
+    gate: &G,
+) -> Totals
+    requires fresh { IsFresh heap.now hand.old.view.thread hand.old }
+    requires function { function < length checked.now.module.functions }
+    ensures gone { HasGone (job heap.now checked.now.module function times hand.old.view.thread) hand.new result }
+    ensures counted { HasCounted no_totals result (H.counts host.old) (H.counts host.new) }
+{
+    let queue = Queue::new(heap);
+    let worker = Worker::new(heap, &queue);
+    let mut totals = worker.run(rt, checked, function, times, hand, host, gate);
+    let failed = queue.leave(rt, hand, host);
+    totals.count_close_faults(failed);
+    totals
+}
+
+/// Lets a hand that was just given out leave without a call. Returns what was counted.
+fn leaves_at_once<R: Wait, T: Drop, H: Host<Res = T>>(
+    rt: &R,
+    heap: &Heap<T>,
+    hand: &mut Hand<T>,
+    host: &mut H,
+) -> Totals
+    requires fresh { IsFresh heap.now hand.old.view.thread hand.old }
+    ensures gone { hand.new.view.status ≡ Gone }
+    ensures counted { HasCounted no_totals result (H.counts host.old) (H.counts host.new) }
+{
+    let mut totals = Totals::new();
+    let failed = Queue::new(heap).leave(rt, hand, host);
+    totals.count_close_faults(failed);
+    totals
 }
