@@ -1,5 +1,5 @@
 #!/usr/bin/env python3
-"""Checks what the pages say of the repository: links, names, rules, and the map's lists of files.
+"""Checks what the pages say of the repository: links, names, rules, quotes, and the map's lists of files.
 
     python3 docs/check.py
 
@@ -125,6 +125,15 @@ def map_faults(found):
                 yield f"{path.relative_to(ROOT)} names one, and isn't in the section of {min(names & words_of([text]))}"
 
 
+def quote_faults(found):
+    """Code on the page for a runtime's maker that is no source's, word for word."""
+    page = (ROOT / "docs" / "EMBED.md").read_text()
+    texts = [*found.values(), (ROOT / "crates.txt").read_text()]
+    for quote in re.findall(r"```\w+\n(.*?)```", page, re.S):
+        if not any(quote in text for text in texts):
+            yield f"in no source: {quote.splitlines()[0]}"
+
+
 def main():
     found = sources()
     known = words_of(found.values()) | {path.stem for path in found}
@@ -136,6 +145,7 @@ def main():
             faults.append(f"{page.relative_to(ROOT)}: {fault}")
     faults += [f"docs/DEFINITIONS.md: {fault}" for fault in rule_faults()]
     faults += [f"docs/MAP.md: {fault}" for fault in map_faults(found)]
+    faults += [f"docs/EMBED.md: {fault}" for fault in quote_faults(found)]
     print(*faults, f"{len(faults)} faults", sep="\n")
     return 1 if faults else 0
 
