@@ -1,7 +1,7 @@
 //! Four workers swap numbers in the root, and one allocation is refused: each call that takes memory says so, and whatever
 //! was made by then is closed.
 
-ghost use Rattle.std.specs.Prelude.{◌≡◌, ◌<◌, length};
+ghost use Rattle.std.specs.Prelude.{◌≡◌, ◌<◌, length, IfOk};
 ghost use Rattle.brc_table.specs.Hands.{IsOf};
 
 use brc_check::{CheckCode, Checked, check};
@@ -10,7 +10,7 @@ use brc_host::{FakeHost, FakeResource};
 use brc_lang::{FaultCode, read};
 use brc_queue::Queue;
 use brc_work::{Gate, fan_out};
-use std::alloc::Global;
+use std::alloc::{AllocError, Global};
 use std::sync::Wait;
 use std::test::*;
 use std::thread::Threads;
@@ -106,6 +106,17 @@ fn outcome_of<R: Threads + Wait + Sync>(
     }
 }
 
+/// Returns a host for each worker, which never fails.
+fn hosts_of(alloc: Global) -> Result<Vec<FakeHost<'static>>, AllocError>
+    ensures { IfOk result (λ hosts. length hosts.items ≡ THREADS) }
+{
+    let mut hosts = Vec::new(alloc);
+    for _ in 0..THREADS {
+        hosts.push(FakeHost::new(&[]))?;
+    }
+    Ok(hosts)
+}
+
 /// Reads and checks the module, and runs it.
 fn swaps<R: Threads + Wait + Sync>(rt: &R, alloc: Global) -> Outcome {
     let module = match read(alloc, SWAP) {
@@ -120,12 +131,9 @@ fn swaps<R: Threads + Wait + Sync>(rt: &R, alloc: Global) -> Outcome {
     };
     // The accepted module has a first function.
     let _module = checked.module();
-    let mut hosts = Vec::new(alloc);
-    for _ in 0..THREADS {
-        if hosts.push(FakeHost::new(&[])).is_err() {
-            return Outcome::Hosts;
-        }
-    }
+    let Ok(mut hosts) = hosts_of(alloc) else {
+        return Outcome::Hosts;
+    };
     outcome_of(rt, alloc, &checked, hosts.as_mut_slice())
 }
 

@@ -1,7 +1,6 @@
 //! A run of a module's first function, in plain numbers.
 
-ghost use Rattle.std.specs.Prelude.{◌<◌, ◌≤◌};
-ghost use Rattle.brc_model.specs.Limits.{worker_limit, row_limit};
+ghost use Rattle.std.specs.Prelude.{◌≡◌, length, IfOk};
 
 use brc_check::{Checked, check};
 use brc_host::FakeHost;
@@ -10,7 +9,7 @@ use brc_model::Call;
 use brc_report::Tally;
 use brc_run::{Plan, run};
 use brc_work::Gate;
-use std::alloc::Global;
+use std::alloc::{AllocError, Global};
 use std::sync::Wait;
 use std::test::*;
 use std::thread::Threads;
@@ -56,18 +55,15 @@ pub fn counts_of(tally: &Tally) -> Counts {
     ]
 }
 
-/// Returns what a run is to do: `threads` workers with `rows` rows each call the first function, `times` times.
-pub fn plan_of(threads: u8, rows: u16, times: u32) -> Plan
-    requires some_threads { 0 < threads }
-    requires most_threads { threads ≤ worker_limit }
-    requires some_rows { 0 < rows }
-    requires most_rows { rows ≤ row_limit }
+/// Returns so many hosts, which never fail.
+fn hosts_of(alloc: Global, count: u8) -> Result<Vec<FakeHost<'static>>, AllocError>
+    ensures { IfOk result (λ hosts. length hosts.items ≡ count) }
 {
-    Plan {
-        call: Call { function: 0, times },
-        threads,
-        rows,
+    let mut hosts = Vec::new(alloc);
+    for _ in 0..count {
+        hosts.push(FakeHost::new(&[]))?;
     }
+    Ok(hosts)
 }
 
 /// Lets so many workers, with so many rows each, call the first function of the text's module so many times, over hosts
@@ -85,10 +81,7 @@ pub fn report_of<R: Threads + Wait + Sync, G: Gate + Sync>(
     let checked = accepted(alloc, text)?;
     // The accepted module has a first function.
     let _module = checked.module();
-    let mut hosts = Vec::new(alloc);
-    for _ in 0..threads {
-        hosts.push(FakeHost::new(&[]))?;
-    }
+    let mut hosts = hosts_of(alloc, threads)?;
     let mut main_host = FakeHost::new(&[]);
     let plan = Plan {
         call: Call { function: 0, times },
