@@ -34,7 +34,8 @@ impl<'h, T: Drop> Worker<'h, T> {
             if self.tries_lock(rows, hand, object) {
                 return;
             }
-            backoff.spin();
+            // The thread that has the lock may need this processor.
+            backoff.snooze();
         }
         unreachable!()
     }
