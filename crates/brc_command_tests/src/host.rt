@@ -2,6 +2,8 @@
 
 use crate::commands::both;
 use crate::worked::{CHECK, RUN, STEP, assert_acts, assert_cases};
+use std::test::Fail;
+use std::{env, fs, process};
 
 const OPENS: &[u8] = b"module 1\nfunc f\nopen v1 0 r else @2\ndrop v1\nfail\nend\n";
 
@@ -14,7 +16,7 @@ const COPY: &[u8] =
       fail\nend\n";
 
 // Opening the file is a host call and three steps of its birth. Whatever fails afterwards is its close, by which it
-// counts as closed all the same. `brc run` reaches no peer.
+// counts as closed all the same. `brc run` is given no path and no peer.
 #[test]
 fn host_faults(rt: HostRuntime) {
     let not_opened: &[u8] =
@@ -141,4 +143,31 @@ fn each_host_call_fails_in_turn(rt: HostRuntime) {
     for (schedule, report) in cases {
         assert_acts(&rt, STEP, both(COPY, schedule), (report, b"", 0));
     }
+}
+
+// Opens the first path for writing, makes the file where it is absent, and closes it.
+const MAKES: &[u8] = b"module 1\nfunc f\nopen v1 0 wc else @2\ndrop v1\nfail\nend\n";
+
+// The report is that of a run which has reached the file, and has left it there, empty.
+#[test]
+fn a_run_leaves_its_file(rt: HostRuntime) -> Result<(), Fail> {
+    let name = format!(in rt.alloc(); "brc-act-{}", process::id(rt.process()))?;
+    let path = env::temp_dir(&rt)?
+        .join(rt.alloc(), name.as_str())?
+        .into_string();
+    let words = [
+        "brc",
+        "run",
+        "m.brc",
+        "--call",
+        "f",
+        "--path",
+        path.as_str(),
+    ];
+    let report =
+        b"threads 1\nrunning 0\ncreated 2\nclosed 2\nalive 0\nhost faults 0\nclose faults 0\n";
+    assert_acts(&rt, &words, both(MAKES, b""), (report, b"", 0));
+    assert_eq!(rt; fs::read(&rt, path.as_str())?.as_slice(), b"".as_slice());
+    fs::remove_file(&rt, path.as_str())?;
+    Ok(())
 }
