@@ -32,7 +32,8 @@ impl<'a> Line<'a> {
 
 /// Reads the words of a command line, of which the first is the program's own name.
 ///
-/// Returns clap's error for a wrong command line and for a call for help, and `TooMany` for more than 16 paths or peers.
+/// Returns clap's error for a wrong command line and for a call for help, and `TooMany` for more than 16 paths or
+/// peers.
 pub fn parse<'a, S: AsStr>(alloc: Global, words: &'a [S]) -> Result<Line<'a>, NotAsked> {
     let mut command = program(alloc)?;
     let matches = match command.try_get_matches_from_mut(words) {

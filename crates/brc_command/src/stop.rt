@@ -22,8 +22,8 @@ pub enum Stop<'a> {
 }
 
 impl Stop<'_> {
-    /// Returns the exit status: 1 if the checker refuses the module, 3 if memory is refused or a thread can't be started,
-    /// and 2 otherwise.
+    /// Returns the exit status: 1 if the checker refuses the module, 3 if memory is refused or a thread can't be
+    /// started, and 2 otherwise.
     pub fn status(&self) -> u8
         ensures faulty { 0 < result }
         ensures known { result ≤ 3 }

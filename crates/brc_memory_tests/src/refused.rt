@@ -1,5 +1,5 @@
-//! Four workers swap numbers in the root, and one allocation is refused: each call that takes memory says so, and whatever
-//! was made by then is closed.
+//! Four workers swap numbers in the root, and one allocation is refused: each call that takes memory says so, and
+//! whatever was made by then is closed.
 
 ghost use Rattle.std.specs.Prelude.{◌≡◌, ◌<◌, length, IfOk};
 ghost use Rattle.brc_table.specs.Hands.{IsOf};

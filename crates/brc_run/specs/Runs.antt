@@ -29,8 +29,8 @@ abbrev pub totals_in : List (HandState × Totals) → List Totals
 totals_in gone = map (λ w. w.1) gone
 
 -- The tally of a run of so many workers with so many rows each, of which each makes the call, so many times: its thread
--- is gone, and has made the events of the calls and then those of its exit. The tally is of an end of their heap, at which
--- each thread is gone, of what each worker has counted, and of so many closes of main that failed.
+-- is gone, and has made the events of the calls and then those of its exit. The tally is of an end of their heap, at
+-- which each thread is gone, of what each worker has counted, and of so many closes of main that failed.
 pub record IsTallyOf (m : Module) (workers rows : ℕ) (call : Call) (close_faults : ℕ) (tally : Tally) : Type 0 where
   pub heap : TableState
   pub gone : List (HandState × Totals)
@@ -47,7 +47,8 @@ abbrev pub IsTallyOfRun : Module → ℕ → ℕ → Call → Tally → Type 0
 IsTallyOfRun m workers rows call tally = (close_faults : ℕ) × IsTallyOf m workers rows call close_faults tally
 
 -- Main has made this many closes of its host at the end, of which so many failed; the tally has counted them.
-pub record CountsMain (m : Module) (workers rows : ℕ) (call : Call) (before after : HostCounts) (tally : Tally) : Type 0 where
+pub record CountsMain (m : Module) (workers rows : ℕ) (call : Call) (before after : HostCounts) (tally : Tally)
+    : Type 0 where
   pub closes : ℕ
   pub failed : ℕ
   pub host : after ≡ after_closes closes failed before

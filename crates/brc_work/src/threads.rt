@@ -76,8 +76,8 @@ pub fn fan_out<
     }
 }
 
-/// Lets each worker do its task in a thread of its own. Returns what those have left that have made their calls. If a thread
-/// can't be started, the workers are stopped: those that haven't begun leave without a call.
+/// Lets each worker do its task in a thread of its own. Returns what those have left that have made their calls. If a
+/// thread can't be started, the workers are stopped: those that haven't begun leave without a call.
 fn run_all<'w, R: Threads + Wait + Sync, T: Send + Drop, H: Host<Res = T> + Send, G: Gate + Sync>(
     rt: &R,
     heap: &'w Heap<T>,
