@@ -17,7 +17,8 @@ loop-host-preserved g c =
     let more : vec_len c.push.new.self ≡ count + 1 = search rules in
     record {
       of = c.in-Ok.ensures.table.1;
-      kept = keeps_then c.loop-host.thread c.args.main.now.view c.loop-host.main.view c.hand_out.new.main.view was.kept given;
+      kept = keeps_then c.loop-host.thread c.args.main.now.view c.loop-host.main.view c.hand_out.new.main.view was.kept
+          given;
       carried = c.hand_out.ensures.carried ∙ was.carried;
       slots = c.hand_out.ensures.slots ∙ was.slots;
       free = free_then c.loop-host.thread c.loop-host.main.view c.hand_out.new.main.view given was.free;
