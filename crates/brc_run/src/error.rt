@@ -1,5 +1,8 @@
 //! Why a run has no tally.
 
+ghost use Rattle.std.specs.Prelude.{◌≡◌};
+ghost use Rattle.brc_run.specs.declared.error.RunFault.TheVariants.{NoMemory as Refused, NoThread as NotStarted};
+
 use brc_heap::NoMemory;
 use brc_work::NoThread;
 use std::alloc::AllocError;
@@ -17,18 +20,24 @@ pub enum RunFault {
 }
 
 impl From<NoMemory> for RunFault {
+    ghost from_gives = { λ _ e. e ≡ Refused };
+
     fn from(_refused: NoMemory) -> RunFault {
         RunFault::NoMemory
     }
 }
 
 impl From<AllocError> for RunFault {
+    ghost from_gives = { λ _ e. e ≡ Refused };
+
     fn from(_refused: AllocError) -> RunFault {
         RunFault::NoMemory
     }
 }
 
 impl From<NoThread> for RunFault {
+    ghost from_gives = { λ _ e. e ≡ NotStarted };
+
     fn from(_refused: NoThread) -> RunFault {
         RunFault::NoThread
     }
