@@ -6,6 +6,7 @@
 //!     rustc -O bench/plain.rs && ./plain          # a small run of each row: counts alone
 //!     rustc -O bench/plain.rs && ./plain --time   # nanoseconds, the median of 9 runs
 
+use std::collections::VecDeque;
 use std::hint::black_box;
 use std::mem;
 use std::sync::atomic::{AtomicU64, Ordering::SeqCst};
@@ -540,6 +541,57 @@ fn turns(n: u64) -> Run {
     run
 }
 
+/// Gives up the reference to `row`, and puts it into its owner's queue. Returns whether the owner has to merge it.
+fn posts(hand: &mut Hand, block: &Block, row: u64) -> bool {
+    release_local(hand, block, row) == LocalRelease::Share
+        && try_release_shared(hand, block, row) == SharedRelease::Queued
+        && post(block, row, BIRTH_ROWS)
+}
+
+/// How a batch was posted, and how it was merged.
+struct Batch {
+    posts: Run,
+    merges: Run,
+}
+
+/// Posts and merges `n` rows, in a batch for each block. In each the owner gives birth to numbers and hands them to the
+/// other worker, which posts them, and the owner merges them. Only the posting and the merging are timed.
+fn batches(n: u64) -> Batch {
+    let run = || Run { done: 0, slowest: Duration::ZERO };
+    let mut all = Batch { posts: run(), merges: run() };
+    while all.merges.done < n {
+        let block = &Block::new(WORKERS, BIRTH_ROWS);
+        let (mut owner, mut other) = (Hand::worker(1, BIRTH_ROWS), Hand::worker(2, BIRTH_ROWS));
+        block.words[1].store(RUNNING, SeqCst);
+        block.words[2].store(RUNNING, SeqCst);
+        let most = (n - all.merges.done).min(BIRTH_ROWS);
+        let first = owner.first_row;
+        let mut rows = VecDeque::new();
+        for argument in 0..most {
+            let item = birth(&mut owner, block, KIND, black_box(argument)).unwrap();
+            assert_eq!(at_root(&mut owner, block, Some(item)), None);
+            rows.push_front(at_root(&mut other, block, None).unwrap());
+        }
+        let mut posted = 0;
+        let start = Instant::now();
+        while let Some(row) = rows.pop_front() {
+            assert!(posts(&mut other, block, row));
+            posted += 1;
+        }
+        all.posts.slowest += start.elapsed();
+        let start = Instant::now();
+        let merged = merge_pending(&mut owner, block);
+        all.merges.slowest += start.elapsed();
+        assert_eq!((posted, merged), (most, most), "each row is posted and merged");
+        all.posts.done += posted;
+        all.merges.done += merged;
+        for row in first..first + most {
+            assert_eq!(block.counts(row), [NO_OWNER, ZERO_MERGED, GATE_CLOSED], "closed");
+        }
+    }
+    all
+}
+
 /// Makes `n` locked swaps on each of `threads` threads, at the first worker's list if it is alone, else at the root.
 fn listed(threads: u64, n: u64) -> Run {
     let block = &Block::new(WORKERS, ROWS_EACH);
@@ -628,7 +680,7 @@ const BIRTHS: u64 = 1_000_000;
 const POSTS: u64 = 500_000;
 const SWAPS: u64 = 2_000_000;
 
-const TABLE: [TableRow; 18] = [
+const TABLE: [TableRow; 20] = [
     ("biased: the owner alone (main at the root)", |n| counted(&[(0, 0)], n), 1, PAIRS),
     ("biased: another thread alone (at the root)", |n| counted(&[(1, 0)], n), 1, PAIRS),
     ("biased: owner and another at one row", |n| counted(&[(0, 0), (1, 0)], n), 2, PAIRS),
@@ -638,6 +690,8 @@ const TABLE: [TableRow; 18] = [
     ("biased: births", births, 1, BIRTHS),
     ("biased: birth and death", lives, 1, BIRTHS),
     ("biased: hand over, post and merge", turns, 1, POSTS),
+    ("biased: post", |n| batches(n).posts, 1, POSTS),
+    ("biased: merge", |n| batches(n).merges, 1, POSTS),
     ("biased: locked swap, 1 thread, own list", |n| listed(1, n), 1, SWAPS),
     ("biased: locked swap, 2 threads, one list", |n| listed(2, n), 2, SWAPS),
     ("Arc: alone", |n| one_arc(1, n), 1, PAIRS),

@@ -2,3 +2,4 @@ mod Readiness
 mod LockedSwaps
 mod FirstSwaps
 mod AtRest
+mod HandedOver

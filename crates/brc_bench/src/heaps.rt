@@ -1,5 +1,6 @@
 //! What the program measures of objects that are born: it uses as many heaps as it takes, one after another.
 
+use crate::batches::{Batch, batch_of_two};
 use crate::lives::lives_by_all;
 use crate::posts::turns_by_two;
 use crate::rows::{Run, WORKERS, births_by_all};
@@ -22,7 +23,9 @@ const MOST_HEAPS: u32 = 10_000;
 pub enum Work {
     Births,
     Lives,
+    Turns,
     Posts,
+    Merges,
 }
 
 /// Does the work `times` times, over as many heaps as it takes. The heaps are made outside the time.
@@ -44,7 +47,9 @@ pub fn over_heaps<R: Clock + Wait>(
         let more = match work {
             Work::Births => births_in(rt, alloc, most)?,
             Work::Lives => lives_in(rt, alloc, most)?,
-            Work::Posts => posts_in(rt, alloc, most)?,
+            Work::Turns => turns_in(rt, alloc, most)?,
+            Work::Posts => batch_in(rt, alloc, most)?.posts,
+            Work::Merges => batch_in(rt, alloc, most)?.merges,
         };
         run = Run {
             done: run.done.saturating_add(more.done),
@@ -71,9 +76,17 @@ fn lives_in<R: Clock + Wait>(rt: &R, alloc: Global, most: u32) -> io::Result<Run
 }
 
 /// Turns of two workers in one heap.
-fn posts_in<R: Clock + Wait>(rt: &R, alloc: Global, most: u32) -> io::Result<Run> {
+fn turns_in<R: Clock + Wait>(rt: &R, alloc: Global, most: u32) -> io::Result<Run> {
     match Heap::new(alloc, WORKERS, ROWS_EACH) {
         Ok((heap, mut main)) => turns_by_two(rt, &heap, &mut main, most),
+        Err(_) => Err(io::Error::from(ErrorKind::OutOfMemory)),
+    }
+}
+
+/// A batch of two workers in one heap.
+fn batch_in<R: Clock + Wait>(rt: &R, alloc: Global, most: u32) -> io::Result<Batch> {
+    match Heap::new(alloc, WORKERS, ROWS_EACH) {
+        Ok((heap, mut main)) => batch_of_two(rt, alloc, &heap, &mut main, most),
         Err(_) => Err(io::Error::from(ErrorKind::OutOfMemory)),
     }
 }

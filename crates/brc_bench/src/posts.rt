@@ -84,7 +84,7 @@ fn unlocks(heap: &Heap<FakeResource>, hand: &mut Hand<FakeResource>)
 
 /// Gives birth to a number, and puts it into the cell of the root. Returns whether it is there.
 #[tactic(auto, using(crate::proofs::AtRest::holds_first, crate::proofs::AtRest::holds_second, crate::proofs::AtRest::keeps_other, crate::proofs::AtRest::without_first, crate::proofs::AtRest::some_counted))]
-fn offers(heap: &Heap<FakeResource>, hand: &mut Hand<FakeResource>, value: u32) -> bool
+pub fn offers(heap: &Heap<FakeResource>, hand: &mut Hand<FakeResource>, value: u32) -> bool
     requires resting { IsAtRest heap.now hand.old }
     requires references { hand.old.view.references ≡ root_row ∷ [] }
     ensures resting { result ≡ true → IsAtRest heap.now hand.new }
@@ -103,13 +103,14 @@ fn offers(heap: &Heap<FakeResource>, hand: &mut Hand<FakeResource>, value: u32) 
 }
 
 /// Takes the number from the cell of the root. Returns its row.
-#[tactic(auto, using(crate::proofs::AtRest::holds_first, crate::proofs::AtRest::holds_second, crate::proofs::AtRest::some_counted))]
-fn accepts(heap: &Heap<FakeResource>, hand: &mut Hand<FakeResource>) -> Option<u32>
+#[tactic(auto, using(crate::proofs::HandedOver::holds_same, crate::proofs::HandedOver::holds_behind, crate::proofs::AtRest::some_counted))]
+pub fn accepts(heap: &Heap<FakeResource>, hand: &mut Hand<FakeResource>) -> Option<u32>
     requires resting { IsAtRest heap.now hand.old }
-    requires references { hand.old.view.references ≡ root_row ∷ [] }
+    requires held { 1 ≤ holds hand.old.view root_row }
+    requires few { length hand.old.view.references < most_references }
     ensures resting { OnSome result (IsAtRest heap.now hand.new) }
     ensures counted { IfSome result (λ row. IsCounted heap.now.layout row) }
-    ensures references { IfSome result (λ row. hand.new.view.references ≡ row ∷ root_row ∷ []) }
+    ensures references { IfSome result (λ row. hand.new.view.references ≡ row ∷ hand.old.view.references) }
 {
     heap.words().layout_is_plain();
     if !locks(heap, hand) {
@@ -123,7 +124,7 @@ fn accepts(heap: &Heap<FakeResource>, hand: &mut Hand<FakeResource>) -> Option<u
 /// Gives up a reference to another worker's object, and puts the object into its owner's queue. Returns whether the
 /// owner has to merge it.
 #[tactic(auto, using(crate::proofs::AtRest::rests_after_posting, crate::proofs::AtRest::lists_one_less))]
-fn posts(heap: &Heap<FakeResource>, hand: &mut Hand<FakeResource>, row: u32) -> bool
+pub fn posts(heap: &Heap<FakeResource>, hand: &mut Hand<FakeResource>, row: u32) -> bool
     requires resting { IsAtRest heap.now hand.old }
     requires counted { IsCounted heap.now.layout row }
     requires held { 1 ≤ holds hand.old.view row }

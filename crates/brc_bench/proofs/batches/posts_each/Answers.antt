@@ -1,0 +1,13 @@
+use Rattle.std.proofs.Common.{refl}
+use Rattle.brc_model.specs.Layout.{root_row}
+use Rattle.brc_bench.proofs.HandedOver.{holds_rest, counted_rest}
+use Rattle.brc_bench.proofs.batches.posts_each.Goals as goal
+
+pub loop-row-preserved : goal.loop-row-preserved
+loop-row-preserved c =
+    let rest = c.pop_front.new.self.items in (
+      c.if-not-posts.ensures.resting refl,
+      holds_rest c.loop-row.hand.view c.posts.new.hand.view c.in-Some.row root_row rest c.loop-row.invariant.1 c.in-Some.ensures.items
+          (c.if-not-posts.ensures.references refl),
+      counted_rest c.args.heap.now.layout c.in-Some.row rest c.loop-row.invariant.2 c.in-Some.ensures.items,
+    )
