@@ -12,7 +12,11 @@ use Rattle.brc_bench.proofs.AtRest.{without_first}
 
 counts_last : (x : ℕ) (rows : List ℕ) → 1 ≤ count_by (λ y. y == x) (rows ++ x ∷ [])
 counts_last x [] =
-    omega (arith, sum_by-cons (λ (y : ℕ). cond (y == x) 1 0) x [], ap {B = ℕ} (λ (b : Bool). cond b 1 0) (eq-eqb x x refl))
+    omega (
+      arith,
+      sum_by-cons (λ (y : ℕ). cond (y == x) 1 0) x [],
+      ap {B = ℕ} (λ (b : Bool). cond b 1 0) (eq-eqb x x refl),
+    )
 counts_last x (y ∷ rows) =
     omega (arith, counts_last x rows, sum_by-cons (λ (z : ℕ). cond (z == x) 1 0) y (rows ++ x ∷ []))
 

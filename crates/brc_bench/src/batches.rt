@@ -17,7 +17,8 @@ use std::io::ErrorKind;
 use std::sync::Wait;
 use std::time::{Clock, Instant};
 
-/// How a batch was posted, and how it was merged.
+/// How a batch was posted, and how it was merged. Both runs count what was posted: the owner's look through its queue
+/// merges all of that.
 #[derive(Drop)]
 pub struct Batch {
     pub posts: Run,
@@ -81,8 +82,8 @@ fn posts_each(
     posted
 }
 
-/// A batch of two workers, which one thread drives: the first gives birth to numbers and hands them to the second, which
-/// posts them, and the first merges them. Only the posting and the merging are timed.
+/// A batch of two workers, which one thread drives. The first gives birth to numbers and hands them to the second, the
+/// second posts them, and the first merges them. Only the posting and the merging are timed.
 pub fn batch_of_two<R: Clock + Wait>(
     rt: &R,
     alloc: Global,
