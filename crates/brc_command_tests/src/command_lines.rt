@@ -206,7 +206,7 @@ fn refuses_command_lines(rt: HostRuntime) {
     }
 }
 
-// The outputs and the status of a run with so many paths and peers. There is no `n.brc`.
+// The outputs and the status of a run that is given this number of paths and of peers. There is no `n.brc`.
 fn outputs_given<R: System + AllocGlobal>(
     rt: &R,
     paths: usize,

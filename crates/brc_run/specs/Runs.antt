@@ -28,11 +28,12 @@ pub record MayEnd (v : View) : Type 0 where
 abbrev pub totals_in : List (HandState × Totals) → List Totals
 totals_in gone = map (λ w. w.1) gone
 
--- The tally of a run of so many workers with so many rows each, of which each makes the call, so many times: its thread
--- is gone, and has made the events of the calls and then those of its exit. The tally is of an end of their heap, at
--- which each thread is gone, of what each worker has counted, and of so many closes of main that failed.
+-- The tally of a run with this number of workers, and of rows for each. Each worker makes the call `call.times` times:
+-- its thread is gone, and has made the events of the calls and then those of its exit. The tally is of an end of the heap
+-- that they share, at which each thread is gone, of what each worker has counted, and of the closes of main that failed.
 pub record IsTallyOf (m : Module) (workers rows : ℕ) (call : Call) (close_faults : ℕ) (tally : Tally) : Type 0 where
   pub heap : TableState
+  pub same : heap.layout ≡ plain_layout workers rows
   pub gone : List (HandState × Totals)
   pub end : EndState
   pub one_each : length gone ≡ workers
@@ -46,7 +47,7 @@ pub record IsTallyOf (m : Module) (workers rows : ℕ) (call : Call) (close_faul
 abbrev pub IsTallyOfRun : Module → ℕ → ℕ → Call → Tally → Type 0
 IsTallyOfRun m workers rows call tally = (close_faults : ℕ) × IsTallyOf m workers rows call close_faults tally
 
--- Main has made this many closes of its host at the end, of which so many failed; the tally has counted them.
+-- Main has made `closes` closes of its host at the end, of which `failed` failed. The tally has counted them.
 pub record CountsMain (m : Module) (workers rows : ℕ) (call : Call) (before after : HostCounts) (tally : Tally)
     : Type 0 where
   pub closes : ℕ

@@ -57,7 +57,7 @@ fn strings_of(alloc: Global, names: &[&str]) -> Result<Vec<String>, AllocError> 
     Ok(strings)
 }
 
-/// Returns so many hosts over the system.
+/// Returns `count` hosts over the system.
 fn hosts_of<'r, R: Devices>(
     rt: &'r R,
     alloc: Global,

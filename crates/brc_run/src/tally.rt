@@ -12,8 +12,8 @@ use brc_report::{Left, Tally};
 use brc_work::Totals;
 use std::alloc::{AllocError, Global};
 
-/// Returns the tally of a run of so many workers, which have counted these totals, and whose main thread has counted
-/// so many closes that failed. Each thread is gone.
+/// Returns the tally of a run of `threads` workers, which have counted these totals, and whose main thread has counted
+/// `close_faults` closes that failed. Each thread is gone.
 pub fn tally_of<T: Drop>(
     alloc: Global,
     end: &Final<T>,

@@ -18,7 +18,7 @@ struct Meeting {
 }
 
 impl Meeting {
-    /// Returns a gate at which so many workers meet.
+    /// Returns a gate at which this number of workers meet.
     fn of(wanted: u64) -> Meeting {
         Meeting {
             wanted,

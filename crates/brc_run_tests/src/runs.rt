@@ -55,7 +55,7 @@ pub fn counts_of(tally: &Tally) -> Counts {
     ]
 }
 
-/// Returns so many hosts, which never fail.
+/// Returns `count` hosts, which never fail.
 fn hosts_of(alloc: Global, count: u8) -> Result<Vec<FakeHost<'static>>, AllocError>
     ensures { IfOk result (λ hosts. length hosts.items ≡ count) }
 {
@@ -66,7 +66,7 @@ fn hosts_of(alloc: Global, count: u8) -> Result<Vec<FakeHost<'static>>, AllocErr
     Ok(hosts)
 }
 
-/// Lets so many workers, with so many rows each, call the first function of the text's module so many times, over hosts
+/// Lets `threads` workers, with `rows` rows each, call the first function of the text's module `times` times, over hosts
 /// that never fail. Returns the report's numbers.
 pub fn report_of<R: Threads + Wait + Sync, G: Gate + Sync>(
     rt: &R,

@@ -16,6 +16,7 @@ returns g c =
       host = counted.3;
       counted = record {
         heap = c.in_ok-heap.heap;
+        same = c.in_ok-heap.ensures.layout;
         gone = c.in_ok-gone.gone.items;
         end = c.ended-end.result.0;
         one_each = search (rules, as_many);
