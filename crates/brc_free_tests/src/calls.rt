@@ -155,6 +155,34 @@ pub fn unlocks(heap: &Heap<FakeResource>, hand: &mut Hand<FakeResource>, row: u3
     Lists::new(heap).unlock(hand, row);
 }
 
+/// Gives up a reference to an object. What dies stays in the hand's dying chain.
+#[tactic(auto, using(crate::proofs::Resting::rests_after_release, crate::proofs::Resting::lists_one_less))]
+pub fn releases<R: Wait>(rt: &R, heap: &Heap<FakeResource>, hand: &mut Hand<FakeResource>, row: u32)
+    requires resting { IsResting heap.now hand.old None }
+    requires counted { IsCounted heap.now.layout row }
+    requires held { 1 ≤ holds hand.old.view row }
+    ensures resting { IsResting heap.now hand.new None }
+    ensures references { hand.new.view.references ≡ without_one row hand.old.view.references }
+{
+    let queue = Queue::new(heap);
+    Finaliser::new(heap, &queue).release(rt, hand, row);
+}
+
+/// Finalises what is in the hand's dying chain. Returns how many closes have failed.
+pub fn settles<R: Wait>(
+    rt: &R,
+    heap: &Heap<FakeResource>,
+    hand: &mut Hand<FakeResource>,
+    host: &mut FakeHost<'_>,
+) -> u64
+    requires resting { IsResting heap.now hand.old None }
+    ensures resting { IsResting heap.now hand.new None }
+    ensures references { hand.new.view.references ≡ hand.old.view.references }
+{
+    let queue = Queue::new(heap);
+    Finaliser::new(heap, &queue).settle(rt, hand, host)
+}
+
 /// Gives up a reference to an object, and finalises what dies. Returns how many closes have failed.
 pub fn gives_up<R: Wait>(
     rt: &R,
@@ -169,8 +197,6 @@ pub fn gives_up<R: Wait>(
     ensures resting { IsResting heap.now hand.new None }
     ensures references { hand.new.view.references ≡ without_one row hand.old.view.references }
 {
-    let queue = Queue::new(heap);
-    let finaliser = Finaliser::new(heap, &queue);
-    finaliser.release(rt, hand, row);
-    finaliser.settle(rt, hand, host)
+    releases(rt, heap, hand, row);
+    settles(rt, heap, hand, host)
 }

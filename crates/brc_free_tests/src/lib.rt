@@ -6,6 +6,8 @@ mod calls;
 #[cfg(test)]
 mod chain;
 #[cfg(test)]
+mod dying;
+#[cfg(test)]
 mod exits;
 #[cfg(test)]
 mod files;

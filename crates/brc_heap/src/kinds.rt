@@ -5,7 +5,7 @@ ghost use Rattle.brc_word.specs.Words.{argument_part};
 ghost use Rattle.brc_model.specs.Kinds.{kind_numbered, kind_of_word};
 ghost use Rattle.brc_table.specs.Views.{done, asking};
 ghost use Rattle.brc_table.specs.Seen.{has_seen_kind};
-ghost use Rattle.brc_table.specs.Hands.{IsOf, IsRunning, MayUse, HasNoWork};
+ghost use Rattle.brc_table.specs.Hands.{IsOf, IsRunning, MayLook, HasNoWork};
 ghost use Rattle.brc_heap.specs.Calls.{Leaves, SeesKind};
 
 use crate::heap::Heap;
@@ -28,14 +28,14 @@ pub(crate) fn kind_numbered(number: u32) -> Kind
 }
 
 impl<T: Drop> Heap<T> {
-    /// Returns the kind of an object to which the hand holds a reference, or which it borrows from the list that it has
-    /// locked. The kind word that it loads is the one that the object's birth stored, and the one that the hand has seen
+    /// Returns the kind of an object to which the hand holds a reference, which it borrows from the list that it has
+    /// locked, or which it is to finalise as the first of its dying chain. The kind word that it loads is the one that the object's birth stored, and the one that the hand has seen
     /// before. If the hand has locked the object, and has lent no resource, the word tells whether the object's slot has
     /// one.
     pub fn kind_of(&self, hand: &mut Hand<T>, row: u32) -> Kind
         requires table { IsOf self.now hand.old }
         requires running { IsRunning hand.old.view }
-        requires usable { MayUse hand.old.view row }
+        requires usable { MayLook hand.old.view row }
         requires idle { HasNoWork hand.old.view row }
         ensures table { IsOf self.now hand.new }
         ensures carried { hand.new.carried ≡ hand.old.carried }
@@ -48,12 +48,13 @@ impl<T: Drop> Heap<T> {
         kind_numbered(kind_number(self.words().kind_load(hand, row)))
     }
 
-    /// Returns the argument of an object to which the hand holds a reference, or which it borrows from the list that it
-    /// has locked: the value of a number, how many cells a list has, else 0.
+    /// Returns the argument of an object to which the hand holds a reference, which it borrows from the list that it has
+    /// locked, or which it is to finalise as the first of its dying chain: the value of a number, how many cells a list
+    /// has, else 0.
     pub fn arg_of(&self, hand: &mut Hand<T>, row: u32) -> u32
         requires table { IsOf self.now hand.old }
         requires running { IsRunning hand.old.view }
-        requires usable { MayUse hand.old.view row }
+        requires usable { MayLook hand.old.view row }
         requires idle { HasNoWork hand.old.view row }
         ensures table { IsOf self.now hand.new }
         ensures carried { hand.new.carried ≡ hand.old.carried }

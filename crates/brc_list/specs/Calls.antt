@@ -1,5 +1,7 @@
 -- What each call on a list does to its hand's view, from the word that its step finds.
-use Rattle.std.specs.Prelude.{◌≡◌, ◌≢◌, ℕ, zero, suc, ◌≤◌, true, Option, None, Some}
+use Rattle.std.specs.Prelude.{◌≡◌, ◌≢◌, ◌⊎◌, ℕ, zero, suc, ◌≤◌, true, Option, None, Some, List, ◌∷◌}
+use Rattle.brc_model.specs.declared.duty.Duty.{Duty}
+use Rattle.brc_model.specs.declared.duty.Duty.TheVariants.{TakeSlot}
 use Rattle.brc_model.specs.Layout.{row_count}
 use Rattle.brc_table.specs.declared.view.View.{View}
 use Rattle.brc_table.specs.Views.{done, open_work, loading_cell}
@@ -24,6 +26,15 @@ pub record Keeps (v u : View) : Type 0 where
   pub work : open_work u ≡ open_work v
   pub kinds : (y word : ℕ) → has_seen_kind y word v ≡ true → has_seen_kind y word u ≡ true
 
+-- The first duty is to take the resource of the dying row's object out of its slot.
+abbrev pub TakesSlot : ℕ → List Duty → Type 0
+TakesSlot x (TakeSlot y ∷ rest) = y ≡ x
+TakesSlot x _ = ⊥
+
+-- The hand uses the slot of the file or socket alone: it has locked the object, or finalises it just now.
+abbrev pub HasSlot : View → ℕ → Type 0
+HasSlot v x = (v.locked ≡ Some x) ⊎ TakesSlot x v.agenda
+
 -- the row that a cell's word names, if the cell isn't empty
 abbrev pub row_in : ℕ → Option ℕ
 row_in zero = None
@@ -42,8 +53,8 @@ KeepsBesides v u = Keeps (record v { references = u.references }) u
 abbrev pub KeepsButSlot : View → View → Type 0
 KeepsButSlot v u = Keeps (record v { in_slot = u.in_slot }) u
 
--- The hand has loaded the list's cell. It has what the hand last saw or stored there since it locked the list, if it
--- did, and now the hand has seen it. What it has seen of the other cells is as before.
+-- The hand has loaded the list's cell. It has what the hand last saw or stored there since it locked or chained the list,
+-- if it did, and now the hand has seen it. What it has seen of the other cells is as before.
 pub record SeesItem (x cell word : ℕ) (v u : View) : Type 0 where
   pub view_is : u ≡ done (loading_cell v x cell) word
   pub there : word ≤ row_count v.layout

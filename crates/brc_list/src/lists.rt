@@ -9,8 +9,8 @@ ghost use Rattle.brc_table.specs.Plays.{overwritten};
 ghost use Rattle.brc_table.specs.Seen.{has_seen_kind, KnowsCell};
 ghost use Rattle.brc_table.specs.Swaps.{MayPut};
 ghost use Rattle.brc_table.specs.Uses.{FirstSlot, behind_slot};
-ghost use Rattle.brc_table.specs.Hands.{most_references, IsOf, IsRunning, HoldsOne, Borrows, HasNoWork, HasNoRetain};
-ghost use Rattle.brc_list.specs.Calls.{Keeps, KeepsBesides, KeepsButSlot, SeesItem, SwapsItem, row_in, word_of};
+ghost use Rattle.brc_table.specs.Hands.{most_references, IsOf, IsRunning, HoldsOne, Borrows, MayLook, MayLoad, MayChange, HasNoWork, HasNoRetain};
+ghost use Rattle.brc_list.specs.Calls.{Keeps, KeepsBesides, KeepsButSlot, SeesItem, SwapsItem, HasSlot, row_in, word_of};
 
 use brc_heap::{Hand, Heap};
 use brc_word::{kind_argument, kind_number};
@@ -89,12 +89,12 @@ impl<'h, T: Drop> Lists<'h, T> {
         self.heap.words().gate_unlock(hand, row);
     }
 
-    /// Returns how many cells an object has to which the hand holds a reference: a list has those of its birth, and any
-    /// other object none. The hand needs no lock for it. Afterwards it may ask for each of the cells.
+    /// Returns how many cells an object has that the hand may use, or is to finalise: a list has those of its birth, and
+    /// any other object none. The hand needs no lock for it. Afterwards it may ask for each of the cells.
     pub fn size(&self, hand: &mut Hand<T>, row: u32) -> u32
         requires table { IsOf self.now hand.old }
         requires running { IsRunning hand.old.view }
-        requires held { HoldsOne hand.old.view row }
+        requires usable { MayLook hand.old.view row }
         requires idle { HasNoWork hand.old.view row }
         ensures table { IsOf self.now hand.new }
         ensures carried { hand.new.carried ≡ hand.old.carried }
@@ -114,22 +114,22 @@ impl<'h, T: Drop> Lists<'h, T> {
         }
     }
 
-    /// Returns what is in a cell of the list that the hand has locked: the row of an object, or `None` if the cell is
-    /// empty. The list keeps its reference to the object, so that the hand borrows it (`PyList_GetItem`): until it unlocks
-    /// the list or takes the object out of the cell, it may ask for the object's kind, or retain it.
+    /// Returns what is in a cell of the list that the hand has locked, or is to finalise as the first of its dying chain:
+    /// the row of an object, or `None` if the cell is empty. The list keeps its reference to the object. From a list that
+    /// it has locked the hand borrows the object (`PyList_GetItem`): until it unlocks the list or takes the object out of
+    /// the cell, it may ask for the object's kind, or retain it.
     pub fn item(&self, hand: &mut Hand<T>, row: u32, cell: u32) -> Option<u32>
         requires table { IsOf self.now hand.old }
         requires running { IsRunning hand.old.view }
-        requires held { HoldsOne hand.old.view row }
         requires idle { HasNoWork hand.old.view row }
-        requires locked { hand.old.view.locked ≡ Some row }
+        requires loads { MayLoad hand.old.view row }
         requires knows { KnowsCell hand.old.view row cell }
         ensures table { IsOf self.now hand.new }
         ensures carried { hand.new.carried ≡ hand.old.carried }
         ensures slots { hand.new.slots ≡ hand.old.slots }
         ensures sees { (word : ℕ) × SeesItem row cell word hand.old.view hand.new.view × (result ≡ row_in word) }
-        ensures borrows { (x : ℕ) → result ≡ Some x → Borrows hand.new.view x }
-        ensures locked { hand.new.view.locked ≡ Some row }
+        ensures borrows { (x : ℕ) → result ≡ Some x → hand.old.view.locked ≡ Some row → Borrows hand.new.view x }
+        ensures locked { hand.new.view.locked ≡ hand.old.view.locked }
         ensures keeps { Keeps hand.old.view hand.new.view }
     {
         let words = self.heap.words();
@@ -142,9 +142,9 @@ impl<'h, T: Drop> Lists<'h, T> {
         }
     }
 
-    /// Puts an object into a cell of the list that the hand has locked, or empties the cell with `None`. The hand's
-    /// reference to the new item goes into the cell (`PyList_SetItem` steals it). Returns what was there: the reference
-    /// to it is the hand's from then on.
+    /// Puts an object into a cell of the list that the hand has locked, or is to finalise as the first of its dying chain,
+    /// or empties the cell with `None`. The hand's reference to the new item goes into the cell (`PyList_SetItem` steals
+    /// it). Returns what was there: the reference to it is the hand's from then on.
     pub fn swap_item(
         &self,
         hand: &mut Hand<T>,
@@ -154,7 +154,7 @@ impl<'h, T: Drop> Lists<'h, T> {
     ) -> Option<u32>
         requires table { IsOf self.now hand.old }
         requires running { IsRunning hand.old.view }
-        requires locked { hand.old.view.locked ≡ Some row }
+        requires changes { MayChange hand.old.view row }
         requires knows { KnowsCell hand.old.view row cell }
         requires retains { HasNoRetain hand.old.view }
         requires puts { MayPut hand.old.view (word_of item) }
@@ -164,7 +164,7 @@ impl<'h, T: Drop> Lists<'h, T> {
         ensures slots { hand.new.slots ≡ hand.old.slots }
         ensures swaps { (found : ℕ) × SwapsItem row cell (word_of item) found hand.old.view hand.new.view
             × (result ≡ row_in found) }
-        ensures locked { hand.new.view.locked ≡ Some row }
+        ensures locked { hand.new.view.locked ≡ hand.old.view.locked }
         ensures keeps { KeepsBesides hand.old.view hand.new.view }
     {
         let words = self.heap.words();
@@ -181,11 +181,12 @@ impl<'h, T: Drop> Lists<'h, T> {
         }
     }
 
-    /// Takes the resource of the file or socket that the hand has locked out of its slot, for a call of the host. While
-    /// the resource is lent the hand can't unlock the object.
+    /// Takes the resource of the file or socket that the hand has locked, or finalises just now, out of its slot, for a
+    /// call of the host. While the resource is lent the hand can't unlock the object; from a dying object it is taken to
+    /// be closed.
     pub fn lend(&self, hand: &mut Hand<T>, row: u32) -> T
         requires table { IsOf self.now hand.old }
-        requires locked { hand.old.view.locked ≡ Some row }
+        requires slot { HasSlot hand.old.view row }
         requires there { FirstSlot hand.old.slots row 1 }
         ensures table { IsOf self.now hand.new }
         ensures carried { hand.new.carried ≡ hand.old.carried }
@@ -195,12 +196,12 @@ impl<'h, T: Drop> Lists<'h, T> {
         self.heap.words().slot_take(hand, row)
     }
 
-    /// Puts the lent resource of the file or socket that the hand has locked back into its slot.
+    /// Puts the lent resource of the file or socket that the hand has locked, or finalises just now, back into its slot.
     pub fn give_back(&self, hand: &mut Hand<T>, row: u32, resource: T)
         requires table { IsOf self.now hand.old }
-        requires locked { hand.old.view.locked ≡ Some row }
+        requires slot { HasSlot hand.old.view row }
         requires lent { FirstSlot hand.old.slots row 0 }
-        requires whole { hand.old.view.in_slot ≡ 1 }
+        requires whole { hand.old.view.locked ≡ Some row → hand.old.view.in_slot ≡ 1 }
         ensures table { IsOf self.now hand.new }
         ensures carried { hand.new.carried ≡ hand.old.carried }
         ensures view { hand.new.view ≡ hand.old.view }

@@ -4,8 +4,9 @@
 -- In order: `NotBad` and `KeepsDuty` (a duty), `Replaced`, `Sits`, `SilentMoves` and `SilentSteps` (work that a thread
 -- takes up), and `Kept`, which has both parts. `Rearranging` puts a duty aside and takes it back. `WorkAside`,
 -- `WorkBegins`, `NextRows`, `BirthsBegin` and `FreeReferences` are the laws of what a running thread does between two
--- duties, `AloneBegins` those of what it does in one go, `LocksBegin` those of locks and of a look at a cell, and
--- `Locks` says of each that the thread still holds the list that it has locked. `Moved`, `OneReference` and
+-- duties, `AloneBegins` those of what it does in one go, `LocksBegin` those of locks and of a look at a cell;
+-- `FirstOfChain` says what holds of the first object of a thread's dying chain, and `Locks` that the thread still holds
+-- the list that it has locked. `Moved`, `OneReference` and
 -- `HandedOver` hand a reference over to another thread. None of these knows code. `Callers` and `FirstCounts` show the
 -- invariant of a machine in which some threads hold the root, `FirstHands` and `FirstMachine` that the first machines
 -- are such. `CodeInvariant` adds the second layer, about accepted code, `StepCases` splits an event by its action,
@@ -27,6 +28,7 @@ pub mod WorkBegins
 pub mod NextRows
 pub mod BirthsBegin
 pub mod FreeReferences
+pub mod FirstOfChain
 pub mod AloneBegins
 pub mod LocksBegin
 pub mod Moved

@@ -1,7 +1,7 @@
 -- What a running thread does with a cell of the list that it has locked, in one step: it puts a reference of its own
 -- in, or leaves the cell empty, and what the cell held is a reference of the thread's from then on. (Python/C API
 -- manual, List Objects: `PyList_SetItem` steals the reference to the new item. The old item's is handed to the caller.)
-use Rattle.std.specs.Prelude.{◌≡◌, ℕ, zero, suc, ◌<◌, ◌≤◌, List, [], ◌∷◌, Some}
+use Rattle.std.specs.Prelude.{◌≡◌, ◌⊎◌, ℕ, zero, suc, ◌<◌, ◌≤◌, List, [], ◌∷◌, Some}
 use Rattle.brc_model.specs.declared.duty.Holding.TheVariants.{AsCaller}
 use Rattle.brc_model.specs.declared.address.Address.TheVariants.{KindOf, Cell}
 use Rattle.brc_model.specs.declared.layout.Layout.{Layout}
@@ -13,6 +13,7 @@ use Rattle.brc_model.specs.Machine.{Actor, Machine, written}
 use Rattle.brc_model.specs.Accounts.{Account, Accounts, most_lent}
 use Rattle.brc_model.specs.Knowledge.{HasNoRetainAside}
 use Rattle.brc_model.specs.Counting.{Counts, with_account, with_one_more, with_one_less, IsReady, HasNoneAbout, MayGiveUp}
+use Rattle.brc_model.specs.CountingLaws.{IsFirstOfChain}
 
 -- ---- the word of a cell: 0, or the row of its item plus 1
 
@@ -64,10 +65,12 @@ abbrev pub ItemsAreThere : Type 0
 ItemsAreThere = (p : Accounts) (n : ℕ) (m : Machine) (x i y : ℕ) → Counts p n m → m.memory (Cell x i) ≡ suc y
     → y < row_count m.layout
 
--- A ready thread that retains nothing swaps a cell of the list that it has locked.
+-- A ready thread that retains nothing swaps a cell of the list that it has locked, or of the first object of its dying
+-- chain.
 abbrev pub CellsAreSwapped : Type 0
 CellsAreSwapped = (p : Accounts) (n : ℕ) (m : Machine) (t : ℕ) (a : Actor) (x i word : ℕ) → Counts p n m
-    → IsReady m t a → a.locked ≡ Some x → HasNoRetainAside a → i < cells_of (m.memory (KindOf x))
+    → IsReady m t a → (a.locked ≡ Some x) ⊎ IsFirstOfChain a x → HasNoRetainAside a
+    → i < cells_of (m.memory (KindOf x))
     → MayPut (p t) a word → HasRoomFor m.layout (p t) (m.memory (Cell x i))
     → Counts (with_account p t (without_item (with_item (p t) (m.memory (Cell x i))) word)) n
     (cell_swapped m t x i word)

@@ -1,5 +1,5 @@
 -- The laws of the counting machine that running threads stand on.
-use Rattle.std.specs.Prelude.{◌≡◌, ◌≢◌, ℕ, zero, suc, ◌+◌, ◌<◌, ◌≤◌, Bool, true, false, ◌&&◌, ◌==◌, count_by, List, [], ◌∷◌, ◌++◌, None, Some, slice_get}
+use Rattle.std.specs.Prelude.{◌≡◌, ◌≢◌, ◌⊎◌, ℕ, zero, suc, ◌+◌, ◌<◌, ◌≤◌, Bool, true, false, ◌&&◌, ◌==◌, count_by, List, [], ◌∷◌, ◌++◌, None, Some, slice_get}
 use Rattle.brc_model.specs.declared.duty.Holding.{Holding}
 use Rattle.brc_model.specs.declared.duty.Holding.TheVariants.{ByVariable, AsCaller, InFlight}
 use Rattle.brc_word.specs.Words.{dead_word, merged_word}
@@ -20,7 +20,7 @@ use Rattle.brc_model.specs.Machine.{Actor, Machine, Unborn, has_room, is_running
 use Rattle.brc_model.specs.BadDuties.{is_bad_duty}
 use Rattle.brc_model.specs.Accounts.{Accounts, HoldsNone, most_lent}
 use Rattle.brc_model.specs.OpenWork.{exits, finalised, may_wait}
-use Rattle.brc_model.specs.Knowledge.{HasNoRetainAside}
+use Rattle.brc_model.specs.Knowledge.{HasNoRetainAside, HasChained}
 use Rattle.brc_model.specs.Within.{IsThere, Suits, FindsOwner}
 use Rattle.brc_model.specs.Stores.{Overwrites}
 use Rattle.brc_model.specs.Agreement.{AgreesAt}
@@ -65,15 +65,20 @@ pub record IsUnfinalised (x head : ℕ) (agenda : List Duty) : Type 0 where
   pub later : head ≢ x + 1
   pub duties : finalised agenda x ≡ 0
 
--- The head of a thread's dying chain is 0, or the number of a row plus 1. The thread doesn't deallocate the object that
--- it has locked.
-pub record ChainIsThere (m : Machine) (a : Actor) : Type 0 where
+-- The object is the first one of the thread's dying chain.
+abbrev pub IsFirstOfChain : Actor → ℕ → Type 0
+IsFirstOfChain a x = a.head ≡ x + 1
+
+-- The head of a thread's dying chain is 0, or the number of a row plus 1, and the thread has chained that row. The thread
+-- doesn't deallocate the object that it has locked.
+pub record ChainIsThere (m : Machine) (t : ℕ) (a : Actor) : Type 0 where
   pub head : a.head ≤ row_count m.layout
+  pub first : (x : ℕ) → IsFirstOfChain a x → HasChained m t x
   pub locked : (x : ℕ) → a.locked ≡ Some x → IsUnfinalised x a.head a.agenda
 
 abbrev pub ChainsAreThere : Type 0
 ChainsAreThere = (p : Accounts) (n : ℕ) (m : Machine) (t : ℕ) (a : Actor) → Counts p n m
-    → slice_get m.actors t ≡ Some a → ChainIsThere m a
+    → slice_get m.actors t ≡ Some a → ChainIsThere m t a
 
 -- A merge for a handed reference leaves that reference counted, so the object doesn't die by it.
 abbrev pub HandedMergesLive : Type 0
@@ -119,11 +124,11 @@ BirthsBegin = (p : Accounts) (n : ℕ) (m : Machine) (t : ℕ) (a : Actor) (word
     → Counts (with_account p t (with_one_more (p t) AsCaller (row_at m.layout t a.used))) n
     (with_actor m t (working a (BirthKind (row_at m.layout t a.used) AsCaller word ∷ []) a.aside))
 
--- A ready thread begins to ask for the kind of an object to which it holds a reference, or which is an item of the list
--- that it has locked.
+-- A ready thread begins to ask for the kind of an object to which it holds a reference, which is an item of the list
+-- that it has locked, or which is the first one of its dying chain.
 abbrev pub KindsAreAsked : Type 0
 KindsAreAsked = (p : Accounts) (n : ℕ) (m : Machine) (t : ℕ) (a : Actor) (x : ℕ) → Counts p n m → IsReady m t a
-    → HasNoneAbout a x → IsAtHand (p t) m a x
+    → HasNoneAbout a x → IsAtHand (p t) m a x ⊎ IsFirstOfChain a x
     → Counts p n (with_actor m t (working a (KindLoad x ∷ []) a.aside))
 
 -- A ready thread that has locked nothing begins to lock an object to which it holds a reference.
@@ -138,10 +143,11 @@ UnlocksBegin = (p : Accounts) (n : ℕ) (m : Machine) (t : ℕ) (a : Actor) (x :
     → HasNoneAbout a x → 1 ≤ p t AsCaller x → a.locked ≡ Some x → HasNoRetainAside a → a.lent ≡ None
     → Counts p n (with_actor m t (working a (UnlockGate x ∷ []) a.aside))
 
--- A ready thread begins to load a cell of the list that it has locked.
+-- A ready thread begins to load a cell of the list that it has locked, or of the first object of its dying chain.
 abbrev pub CellLoadsBegin : Type 0
 CellLoadsBegin = (p : Accounts) (n : ℕ) (m : Machine) (t : ℕ) (a : Actor) (x i : ℕ) → Counts p n m → IsReady m t a
-    → HasNoneAbout a x → 1 ≤ p t AsCaller x → a.locked ≡ Some x → i < cells_of (m.memory (KindOf x))
+    → HasNoneAbout a x → ((1 ≤ p t AsCaller x) × (a.locked ≡ Some x)) ⊎ IsFirstOfChain a x
+    → i < cells_of (m.memory (KindOf x))
     → Counts p n (with_actor m t (working a (CellLoad x i ∷ []) a.aside))
 
 -- A ready thread that has put nothing aside begins to settle its dying chain.

@@ -1,12 +1,14 @@
 -- What holds between any two steps of running threads beside the counts: marks that are set are watched, cells and
 -- slots are guarded by their row's gate, owners alone count in local words, and a thread that is gone holds nothing.
-use Rattle.std.specs.Prelude.{true, ◌≡◌, ◌≢◌, ◌⊎◌, ℕ, List, [], None, Some, slice_get}
+use Rattle.std.specs.Prelude.{true, false, ◌≡◌, ◌≢◌, ◌⊎◌, ℕ, List, [], None, Some, slice_get}
 use Rattle.brc_word.specs.Words.{locked_word}
 use Rattle.brc_model.specs.declared.duty.Duty.{Duty}
 use Rattle.brc_model.specs.declared.actor.Status.TheVariants.{Gone}
 use Rattle.brc_model.specs.declared.address.Address.TheVariants.{Local, Gate, Mark, Cell, Slot}
 use Rattle.brc_model.specs.Layout.{block_of}
-use Rattle.brc_model.specs.Machine.{Actor, Machine, Unborn, Dying, done_by}
+use Rattle.brc_model.specs.Duties.{address_of}
+use Rattle.brc_model.specs.Machine.{Actor, Machine, Unborn, Dying, same_address, done_by}
+use Rattle.brc_model.specs.Knowledge.{HasChained, GuardsCells}
 use Rattle.brc_model.specs.Accounts.{Accounts, HoldsNone}
 use Rattle.brc_model.specs.OpenWork.{is_finalising}
 use Rattle.brc_model.specs.Progress.{Runs}
@@ -34,12 +36,18 @@ CellsAreGuarded =
     → ComesNext m t a d rest → (done_by m t a d rest).memory (Cell x i) ≢ m.memory (Cell x i)
     → HoldsGate m t x ⊎ ((m.life x ≡ Dying t) × (is_finalising d x ≡ true))
 
--- While a thread has locked a list, no other thread changes a cell of it.
-abbrev pub LockedCellsStay : Type 0
-LockedCellsStay =
-    (p : Accounts) (n : ℕ) (m : Machine) (t : ℕ) (a : Actor) (d : Duty) (rest : List Duty) (u : ℕ) (b : Actor) (x i : ℕ)
-    → Counts p n m → ComesNext m t a d rest → slice_get m.actors u ≡ Some b → u ≢ t → b.locked ≡ Some x
-    → (done_by m t a d rest).memory (Cell x i) ≡ m.memory (Cell x i)
+-- What a thread's step leaves of the cells that threads guard. Of a list that another thread has locked or chained it
+-- leaves every cell. It chains for no other thread, and for its own only by a step on the row's gate.
+pub record LeavesGuarded (m : Machine) (t : ℕ) (a : Actor) (d : Duty) (rest : List Duty) : Type 0 where
+  pub others : (u : ℕ) (b : Actor) (x : ℕ) → slice_get m.actors u ≡ Some b → u ≢ t
+      → GuardsCells (done_by m t a d rest) u b x
+      → GuardsCells m u b x × ((i : ℕ) → (done_by m t a d rest).memory (Cell x i) ≡ m.memory (Cell x i))
+  pub own : (x : ℕ) → same_address (address_of m.layout t a.head d) (Gate x) ≡ false
+      → HasChained (done_by m t a d rest) t x → HasChained m t x
+
+abbrev pub GuardedCellsStay : Type 0
+GuardedCellsStay = (p : Accounts) (n : ℕ) (m : Machine) (t : ℕ) (a : Actor) (d : Duty) (rest : List Duty) → Counts p n m
+    → ComesNext m t a d rest → LeavesGuarded m t a d rest
 
 -- A step that takes a resource out of its slot or puts it there is of the thread that holds the row's gate, or that
 -- deallocates the row, or in whose block the row is not yet born.

@@ -1,7 +1,7 @@
 //! Laws of the counting machine as running threads use it, beside those of the counts: who watches a mark that is set,
 //! who may change a cell or a local word, and what a thread that is gone holds.
 
-ghost use Rattle.brc_model.specs.GuardLaws.{QueuedMarksAreWatched, CellsAreGuarded, LockedCellsStay, SlotsAreGuarded, OwnersCountAlone, GoneThreadsHoldNothing};
+ghost use Rattle.brc_model.specs.GuardLaws.{QueuedMarksAreWatched, CellsAreGuarded, GuardedCellsStay, SlotsAreGuarded, OwnersCountAlone, GoneThreadsHoldNothing};
 
 /// States that each mark that is set is watched: by the running thread of its block, by that thread's exit, or by a
 /// thread that has the duty to look at it.
@@ -14,9 +14,10 @@ pub fn cells_are_guarded()
     ensures { CellsAreGuarded }
 {}
 
-/// States that while a thread has locked a list, no other thread changes a cell of it.
-pub fn locked_cells_stay()
-    ensures { LockedCellsStay }
+/// States that no thread changes a cell of a list that another thread has locked or chained, and that a thread chains a
+/// row only by a step of its own on the row's gate.
+pub fn guarded_cells_stay()
+    ensures { GuardedCellsStay }
 {}
 
 /// States that only the thread that holds a row's gate, that deallocates the row, or in whose block it isn't born yet,

@@ -37,7 +37,7 @@ pub use counting_laws::{
 };
 pub use duty::{Duty, Holding, Reason};
 pub use guard_laws::{
-    cells_are_guarded, gone_threads_hold_nothing, locked_cells_stay, owners_count_alone,
+    cells_are_guarded, gone_threads_hold_nothing, guarded_cells_stay, owners_count_alone,
     queued_marks_are_watched, slots_are_guarded,
 };
 pub use hand_laws::{

@@ -26,13 +26,13 @@ use Rattle.brc_model.specs.SlotLaws.{Stays, Gives, use_of}
 use Rattle.brc_model.specs.Stores.{Overwrites}
 use Rattle.brc_model.specs.Counting.{IsPlainLayout}
 use Rattle.brc_model.specs.CountingLaws.{DutiesAreKept, DutiesAreWithin, AccountsAreThere, ChainsAreThere, HandedMergesLive}
-use Rattle.brc_model.specs.GuardLaws.{LockedCellsStay}
+use Rattle.brc_model.specs.GuardLaws.{GuardedCellsStay}
 use Rattle.brc_table.specs.declared.view.View.{View}
 use Rattle.brc_table.specs.Views.{actor_of, event_of, did, taken_after, holds, NamesFewCells, RowsAreThere}
-use Rattle.brc_table.specs.Rule.{Stands}
+use Rattle.brc_table.specs.Rule.{Guards, Stands}
 use Rattle.brc_table.specs.Homes.{SlotsStand, TableStands}
 use Rattle.brc_table.specs.Plays.{SuitsFirst, FirstFindsOwner, FindsKnown, Continues, overwritten, Stores}
-use Rattle.brc_table.specs.Hands.{TableState, HandState}
+use Rattle.brc_table.specs.Hands.{TableState, HandState, MayChange}
 use Rattle.brc_table.specs.Begins.{Passes, Becomes, IsAt, MakesWithoutSlot, StoresWord}
 use Rattle.brc_table.specs.Places.{place, IsTableWord}
 use Rattle.brc_table.proofs.Lists.{set_view, and_second}
@@ -124,22 +124,32 @@ pub record Knows (v : View) (d : Duty) (found : ℕ) : Type 0 where
   pub owner : FindsOwner v.layout d found
   pub finds : FindsKnown v (d ∷ []) found
 
+-- No other hand changes the cells that the hand may change.
+pub change_guards : ChainsAreThere → (layout : Layout) (words : List ℕ) (views : List View) (id : ℕ) (v : View) (x : ℕ)
+    (stands : Stands layout words views) → get_elem? views id ≡ some v → MayChange v x → Guards stands.machine v x
+change_guards chains layout words views id v x stands here (inl locked) = inl locked
+change_guards chains layout words views id v x stands here (inr first) =
+    inr ((chains stands.accounts (1 + stands.machine.layout.workers) stands.machine v.thread (actor_of v) stands.counts
+    (stands.acts id v here)).first x (omega (arith, first)))
+
 -- The hand's first duty finds what the hand knows of it.
-finds_known : HandedMergesLive
+finds_known : HandedMergesLive → ChainsAreThere
     → (layout : Layout) (words : List ℕ) (views : List View) (id : ℕ) (v : View) (d : Duty) (found : ℕ)
     → (stands : Stands layout words views) → get_elem? views id ≡ some v → (rest : List Duty) → v.agenda ≡ d ∷ rest
     → v.status ≢ Gone → stands.machine.memory (address_of v.layout v.thread v.head d) ≡ found
     → FindsKnown v (d ∷ []) found
-finds_known live layout words views id v (KindLoad x) found stands here rest agenda alive is =
+finds_known live chains layout words views id v (KindLoad x) found stands here rest agenda alive is =
     λ word some seen. sym is ∙ stands.kinds_seen id x word v here some seen
-finds_known live layout words views id v (CellLoad x i) found stands here rest agenda alive is =
-    λ word locked seen. sym is ∙ stands.cells_seen id x i word v here locked seen
-finds_known live layout words views id v (MergeExchange x c w Handed) found stands here rest agenda alive is =
+finds_known live chains layout words views id v (CellLoad x i) found stands here rest agenda alive is =
+    λ word changes seen.
+    sym is
+    ∙ stands.cells_seen id x i word v here (change_guards chains layout words views id v x stands here changes) seen
+finds_known live chains layout words views id v (MergeExchange x c w Handed) found stands here rest agenda alive is =
     λ same.
     live stands.accounts (1 + stands.machine.layout.workers) stands.machine v.thread (actor_of v) x c w rest
     stands.counts
     (record { found = stands.acts id v here; agenda = agenda; alive = alive }) (is ∙ same)
-finds_known live layout words views id v _ found stands here rest agenda alive is = tt
+finds_known live chains layout words views id v _ found stands here rest agenda alive is = tt
 
 -- What is behind the duty doesn't matter.
 known_first : (v : View) (d : Duty) (rest : List Duty) (found : ℕ) → FindsKnown v (d ∷ []) found
@@ -157,7 +167,7 @@ pub record IsNextAt (v : View) (d : Duty) (rest : List Duty) (index : ℕ) : Typ
   pub index_is : index ≡ place (address_of v.layout v.thread v.head d)
 
 module _ (kept : DutiesAreKept) (within : DutiesAreWithin) (law : AccountsAreThere)
-    (chains : ChainsAreThere) (stay : LockedCellsStay) (live : HandedMergesLive) (layout : Layout) (v u : View)
+    (chains : ChainsAreThere) (stay : GuardedCellsStay) (live : HandedMergesLive) (layout : Layout) (v u : View)
     (d : Duty) (rest : List Duty) (index : ℕ) (becomes : Becomes layout v u) (next : IsNextAt u d rest index) where
   knows : (words : List ℕ) (views : List View) (id : ℕ) → Does layout words views id u d rest
       → Knows u d (read_of u d (slice_index words (place_of u d)))
@@ -178,7 +188,7 @@ module _ (kept : DutiesAreKept) (within : DutiesAreWithin) (law : AccountsAreThe
             subst (λ (l : Layout). FindsOwner l d found) (sym told)
             (subst (λ (k : ℕ). FindsOwner m.layout d k) seen relied.owner);
         finds =
-            finds_known live layout words views id u d found does.stands does.here rest does.agenda does.alive
+            finds_known live chains layout words views id u d found does.stands does.here rest does.agenda does.alive
             (finds kept within stay layout words views id u d rest does);
       }
 
@@ -320,7 +330,7 @@ object_next v d rest index is_at = record {
 }
 
 module _ (kept : DutiesAreKept) (within : DutiesAreWithin) (law : AccountsAreThere)
-    (chains : ChainsAreThere) (stay : LockedCellsStay) (live : HandedMergesLive) (layout : Layout) (v u : View)
+    (chains : ChainsAreThere) (stay : GuardedCellsStay) (live : HandedMergesLive) (layout : Layout) (v u : View)
     (d : Duty) (rest : List Duty) (index : ℕ) (becomes : Becomes layout v u) (is_at : IsAt u d rest index) where
   -- An object's word says what it is.
   pub itself : (word : ℕ) → read_of u d word ≡ word
@@ -370,7 +380,7 @@ pub record Seen {S : Type 0} (words : TableState) (hand : HandState) (layout : L
   pub view_is : me.0 ≡ hand.view
 
 module _ (kept : DutiesAreKept) (within : DutiesAreWithin) (law : AccountsAreThere)
-    (chains : ChainsAreThere) (stay : LockedCellsStay) (live : HandedMergesLive) (words : TableState)
+    (chains : ChainsAreThere) (stay : GuardedCellsStay) (live : HandedMergesLive) (words : TableState)
     (hand : HandState) (begins : View → View) {T : Type 0} (layout : Layout) (slots id index : ℕ)
     (me : Me (Option T) View) (seen : Seen words hand layout me) (becomes : Becomes words.layout hand.view (begins hand.view)) where
   -- What the hand learns is what a step that goes on says.

@@ -81,9 +81,9 @@ module _ (layout : Layout) (words : List ℕ) (views : List View) (id : ℕ) (v 
               ∙ old.no_variables k i y
         ];
         kinds_stay = λ y word more is. is;
-        cells_stay = λ other y i w apart is locked. refl;
+        cells_stay = λ other y w apart is guards. (guards, λ i. refl);
         kinds_here = λ y word more seen. old.kinds_seen id y word v here more seen;
-        cells_here = λ y i word locked seen. old.cells_seen id y i word v here locked seen;
+        cells_here = λ y i word guards seen. old.cells_seen id y i word v here guards seen;
         threads = λ i there. threads_same layout words views i v u old there refl refl refl;
       }) v.taken v.locked (λ x which. refl)
 
@@ -305,7 +305,7 @@ has_at_hand law layout words views id v x rests (inr borrowed) =
     let old = rests.stands in
     let list = borrowed.list in
     let cell = borrowed.cell in
-    let word = old.cells_seen id list cell (suc x) (rested v) rests.here borrowed.locked borrowed.seen in
+    let word = old.cells_seen id list cell (suc x) (rested v) rests.here (inl borrowed.locked) borrowed.seen in
     record {
       stands = old;
       slots = λ y. refl;

@@ -1,5 +1,5 @@
 -- One hand's view changes, and with it the machine, so that the rule holds again.
-use Rattle.std.proofs.Common.{◌≡◌, ◌≢◌, ℕ, ◌+◌, ◌<◌, true, List, length, set, Option, Some, ◌⊎◌, ⊎_elim, refl, sym, ap, ◌∙◌, subst, arith}
+use Rattle.std.proofs.Common.{◌≡◌, ◌≢◌, ℕ, ◌+◌, ◌<◌, true, List, length, set, Option, Some, ◌⊎◌, ⊎_elim, inl, inr, refl, sym, ap, ◌∙◌, subst, arith}
 use Rattle.std.specs.Prelude.{slice_get, slice_index}
 use Rattle.std.proofs.lemmas.Option.{slice_get_within}
 use mathlib.Core.Option.{some, some-injective}
@@ -7,23 +7,31 @@ use lib.ListN.{get_elem?}
 use Rattle.atomic_table.proofs.Lists.{at_set, set_else, set_again}
 use Rattle.brc_model.specs.declared.duty.Holding.TheVariants.{ByVariable, AsCaller}
 use Rattle.brc_model.specs.declared.address.Address.{Address}
-use Rattle.brc_model.specs.declared.address.Address.TheVariants.{KindOf, Cell, Slot}
+use Rattle.brc_model.specs.declared.address.Address.TheVariants.{Gate, KindOf, Cell, Slot}
 use Rattle.brc_model.specs.declared.layout.Layout.{Layout}
 use Rattle.brc_word.specs.Words.{half}
 use Rattle.brc_model.specs.Layout.{none_row, IsCounted}
 use Rattle.brc_model.specs.Machine.{Actor, Machine, idle_actor}
 use Rattle.brc_model.specs.Accounts.{Account, Accounts, HoldsNone}
+use Rattle.brc_model.specs.Knowledge.{IsDyingWord}
 use Rattle.brc_model.specs.Counting.{Counts, IsPlainLayout}
 use Rattle.brc_table.specs.declared.view.View.{View}
 use Rattle.brc_table.specs.Places.{place, HasWord, word_count}
 use Rattle.brc_table.specs.Views.{actor_of, holds}
 use Rattle.brc_table.specs.Seen.{has_seen_kind, cell_seen}
-use Rattle.brc_table.specs.Rule.{reading, Stands}
+use Rattle.brc_table.specs.Rule.{reading, Guards, Stands}
 use Rattle.brc_table.specs.Threads.{ThreadsStand}
 use Rattle.brc_table.specs.Views.{is_given}
 use Rattle.brc_table.specs.Homes.{times_in}
 use Rattle.brc_table.specs.Begins.{Passes, KeepsSlots, Becomes}
 use Rattle.brc_table.proofs.Lists.{slice_get-set_same, slice_get-set_other, set_view}
+
+-- A hand guards what it guarded, if lives and gates are as before.
+pub guards_before : (m new : Machine) (v : View) (x : ℕ) → new.life x ≡ m.life x
+    → new.memory (Gate x) ≡ m.memory (Gate x) → Guards new v x → Guards m v x
+guards_before m new v x life gate (inl locked) = inl locked
+guards_before m new v x life gate (inr chained) =
+    inr (sym life ∙ chained.0, subst (IsDyingWord v.thread) gate chained.1)
 
 -- ---- what the change has to show
 
@@ -46,11 +54,11 @@ pub record Changes (layout : Layout) (words : List ℕ) (views : List View) (v u
   pub no_variables : (t i x : ℕ) → accounts t (ByVariable i) x ≡ 0
   -- what the other hands have seen stays
   pub kinds_stay : (x word : ℕ) → 0 < word → old.machine.memory (KindOf x) ≡ word → machine.memory (KindOf x) ≡ word
-  pub cells_stay : (other x i : ℕ) (w : View) → w.thread ≢ v.thread → get_elem? views other ≡ some w
-      → w.locked ≡ Some x → machine.memory (Cell x i) ≡ old.machine.memory (Cell x i)
+  pub cells_stay : (other x : ℕ) (w : View) → w.thread ≢ v.thread → get_elem? views other ≡ some w → Guards machine w x
+      → Guards old.machine w x × ((i : ℕ) → machine.memory (Cell x i) ≡ old.machine.memory (Cell x i))
   -- what this hand has seen is there
   pub kinds_here : (x word : ℕ) → 0 < word → has_seen_kind x word u ≡ true → machine.memory (KindOf x) ≡ word
-  pub cells_here : (x i word : ℕ) → u.locked ≡ Some x → cell_seen x i u ≡ Some word
+  pub cells_here : (x i word : ℕ) → Guards machine u x → cell_seen x i u ≡ Some word
       → machine.memory (Cell x i) ≡ word
   -- the words of threads say what they should
   pub threads : (id : ℕ) → get_elem? views id ≡ some v → ThreadsStand old.machine.layout after (set views id u)
@@ -91,14 +99,14 @@ module _ (layout : Layout) (words : List ℕ) (views : List View) (id : ℕ) (v 
       (λ t. new.kinds_stay x word more (old.kinds_seen other x word w t.1 more seen))
       (at_set views id other u w is)
 
-  cells_after : (other x i word : ℕ) (w : View) → get_elem? (set views id u) other ≡ some w → w.locked ≡ Some x
+  cells_after : (other x i word : ℕ) (w : View) → get_elem? (set views id u) other ≡ some w → Guards new.machine w x
       → cell_seen x i w ≡ Some word → new.machine.memory (Cell x i) ≡ word
-  cells_after other x i word w is locked seen =
+  cells_after other x i word w is guards seen =
       ⊎_elim
-      (λ t. new.cells_here x i word (subst (λ (z : View). z.locked ≡ Some x) (sym t.1) locked)
+      (λ t. new.cells_here x i word (subst (λ (z : View). Guards new.machine z x) (sym t.1) guards)
       (subst (λ (z : View). cell_seen x i z ≡ Some word) (sym t.1) seen))
-      (λ t. new.cells_stay other x i w (elsewhere other w t.0 t.1) t.1 locked
-      ∙ old.cells_seen other x i word w t.1 locked seen)
+      (λ t. let stay = new.cells_stay other x w (elsewhere other w t.0 t.1) t.1 guards in
+      stay.1 i ∙ old.cells_seen other x i word w t.1 stay.0 seen)
       (at_set views id other u w is)
 
   holding_after : (other : ℕ) (w : View) (x : ℕ) → get_elem? (set views id u) other ≡ some w

@@ -25,7 +25,7 @@ use Rattle.brc_table.specs.Seen.{has_seen_kind}
 use Rattle.brc_table.specs.Uses.{IsDue}
 use Rattle.brc_model.specs.declared.duty.Holding.{Holding}
 use Rattle.brc_table.specs.Views.{RowsAreThere, slot_filled_by, done, did, work_about, retaining, releasing, bearing, next_row}
-use Rattle.brc_table.specs.Hands.{HoldsOne, MayUse}
+use Rattle.brc_table.specs.Hands.{HoldsOne, MayUse, MayLook}
 use Rattle.brc_table.specs.Begins.{IsQuiet, Makes, MakesQuietly, StoresWord, StoresWithSlot, KeepsThread}
 use Rattle.brc_table.specs.Plays.{overwritten_by}
 use Rattle.brc_table.specs.Calls.{ReleasesItem, LoadsShared, SwapsLocal, StoresLocal, AddsShared, ExchangesShared, ChainsRow, OwnsFirst}
@@ -45,6 +45,11 @@ held_there v x plain rows (inr held) = rows.held x held
 pub usable_there : (v : View) (x : ℕ) → IsPlainLayout v.layout → RowsAreThere v → MayUse v x → x < row_count v.layout
 usable_there v x plain rows (inl holding) = held_there v x plain rows holding
 usable_there v x plain rows (inr borrowed) = borrowed.there
+
+-- So has an object at which it may look.
+pub looks_there : (v : View) (x : ℕ) → IsPlainLayout v.layout → RowsAreThere v → MayLook v x → x < row_count v.layout
+looks_there v x plain rows (inl usable) = usable_there v x plain rows usable
+looks_there v x plain rows (inr first) = omega (arith, rows.head, first)
 
 -- ---- words
 

@@ -13,12 +13,12 @@ use Rattle.brc_model.specs.declared.duty.Holding.TheVariants.{ByVariable, AsCall
 use Rattle.brc_model.specs.declared.duty.Duty.{Duty}
 use Rattle.brc_model.specs.declared.duty.Duty.TheVariants.{ReleaseLoad}
 use Rattle.brc_model.specs.declared.address.Address.{Address}
-use Rattle.brc_model.specs.declared.address.Address.TheVariants.{Local, KindOf, Cell, Slot}
+use Rattle.brc_model.specs.declared.address.Address.TheVariants.{Local, Gate, KindOf, Cell, Slot}
 use Rattle.brc_model.specs.declared.layout.Layout.{Layout}
 use Rattle.brc_model.specs.Layout.{none_row, first_immortal_list, is_immortal_row}
 use Rattle.brc_model.specs.Duties.{continuation, ready}
 use Rattle.brc_model.specs.References.{one_if}
-use Rattle.brc_model.specs.Machine.{Actor, Machine, same_address, written, is_running, actor_by, done_by, with_actor}
+use Rattle.brc_model.specs.Machine.{Actor, Machine, same_address, written, is_running, life_by, actor_by, done_by, with_actor}
 use Rattle.brc_model.specs.Accounts.{Account, Accounts}
 use Rattle.brc_model.specs.OpenWork.{is_about, about_of}
 use Rattle.brc_model.specs.Counting.{Counts, IsPlainLayout, with_account, with_one_less, working, HasNoneAbout}
@@ -31,7 +31,7 @@ use Rattle.brc_table.proofs.Lists.{and_first, and_second, slice_get-set_same}
 use Rattle.brc_table.proofs.Accounts.{with_account_same, with_account_other, immortal_apart}
 use Rattle.brc_table.proofs.Stepping.{same_is}
 use Rattle.brc_table.proofs.ThreadsKept.{threads_same}
-use Rattle.brc_table.proofs.Changing.{Changes, changed, changed_accounts, changed_machine}
+use Rattle.brc_table.proofs.Changing.{guards_before, Changes, changed, changed_accounts, changed_machine}
 use Rattle.brc_table.proofs.Duties.{runs_on}
 
 -- The only immortal object of a table is none.
@@ -126,6 +126,16 @@ module _ (kept : DutiesAreKept) (law : ReleasesBegin) (layout : Layout) (words :
         s.counts.kept.core.immortal_words none_row refl in
         ap left_to_do immortal ∙ sym free.agenda
 
+    abbrev dropped : Machine
+    dropped = done_by (with_actor m t busy) t busy (ReleaseLoad none_row AsCaller) []
+
+    -- Each row lives as before.
+    still : (x : ℕ) → dropped.life x ≡ m.life x
+    still x =
+        ap (λ (word : ℕ). life_by m.life t (ReleaseLoad none_row AsCaller)
+        (continuation m.layout t (is_running v.status) v.head (ReleaseLoad none_row AsCaller) word) x)
+        (s.counts.kept.core.immortal_words none_row refl)
+
     -- The machine after the release of none is one in which the hand is as before.
     abbrev changes : Changes layout words views v v s words
     changes = record {
@@ -164,11 +174,16 @@ module _ (kept : DutiesAreKept) (law : ReleasesBegin) (layout : Layout) (words :
             ∙ s.no_variables u i y
       ];
       kinds_stay = λ x word more is. unwritten m.memory (Local none_row) (KindOf x) ∙ is;
-      cells_stay = λ other x i w apart is locked. unwritten m.memory (Local none_row) (Cell x i);
+      cells_stay = λ other x w apart is guards. (
+        guards_before m dropped w x (still x) (unwritten m.memory (Local none_row) (Gate x)) guards,
+        λ i. unwritten m.memory (Local none_row) (Cell x i),
+      );
       kinds_here = λ x word more seen.
           unwritten m.memory (Local none_row) (KindOf x) ∙ s.kinds_seen id x word v here more seen;
-      cells_here = λ x i word locked seen.
-          unwritten m.memory (Local none_row) (Cell x i) ∙ s.cells_seen id x i word v here locked seen;
+      cells_here = λ x i word guards seen.
+          unwritten m.memory (Local none_row) (Cell x i)
+          ∙ s.cells_seen id x i word v here
+          (guards_before m dropped v x (still x) (unwritten m.memory (Local none_row) (Gate x)) guards) seen;
       threads = λ i there. threads_same layout words views i v v s there refl refl refl;
     }
 

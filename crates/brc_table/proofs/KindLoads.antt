@@ -1,5 +1,5 @@
--- A hand asks for the kind of an object that it may use.
-use Rattle.std.proofs.Common.{◌≡◌, ℕ, ◌+◌, ◌<◌, Option, [], ◌∷◌, refl, sym, ap, ◌∙◌, subst}
+-- A hand asks for the kind of an object that it may use, or is to finalise.
+use Rattle.std.proofs.Common.{◌≡◌, ℕ, ◌+◌, ◌<◌, Option, [], ◌∷◌, inl, inr, refl, sym, ap, ◌∙◌, subst, arith}
 use Rattle.std.specs.Prelude.{slice_index}
 use Rattle.atomic_table.specs.Table.{State, Me, Allows}
 use Rattle.brc_model.specs.declared.address.Address.TheVariants.{KindOf}
@@ -9,24 +9,24 @@ use Rattle.brc_model.specs.declared.layout.Layout.{Layout}
 use Rattle.brc_model.specs.Layout.{row_count}
 use Rattle.brc_model.specs.Duties.{resources_of}
 use Rattle.brc_model.specs.CountingLaws.{WorkIsPutAside, KindsAreAsked, ImmortalsAreFree, DutiesAreKept, DutiesAreWithin, AccountsAreThere, ChainsAreThere, HandedMergesLive}
-use Rattle.brc_model.specs.GuardLaws.{LockedCellsStay}
+use Rattle.brc_model.specs.GuardLaws.{GuardedCellsStay}
 use Rattle.brc_model.specs.SlotLaws.{LockedSlotsAreFull}
 use Rattle.brc_table.specs.declared.view.View.{View}
 use Rattle.brc_table.specs.Places.{in_tile}
 use Rattle.brc_table.specs.Views.{actor_of, open_work, asking}
 use Rattle.brc_table.specs.Homes.{TableStands}
 use Rattle.brc_table.specs.Plays.{Asks}
-use Rattle.brc_table.specs.Hands.{TableState, HandState, MayUse, HasNoWork, IsRunning}
+use Rattle.brc_table.specs.Hands.{TableState, HandState, MayLook, HasNoWork, IsRunning}
 use Rattle.brc_table.specs.Begins.{Becomes, MakesQuietly, MakesWithoutSlot}
 use Rattle.brc_table.proofs.Allowed.{Seen, step_allowed}
 use Rattle.brc_table.proofs.Becoming.{then_begins, rested, rearranged, is_ready, alone, has_at_hand, with_at_hand}
 use Rattle.brc_table.proofs.Duties.{runs_on}
 use Rattle.brc_table.proofs.LockedSlots.{slot_full}
 
--- A hand begins to ask for the kind of an object that it may use.
+-- A hand begins to ask for the kind of an object that it may use, or is to finalise.
 pub asking_becomes : WorkIsPutAside → KindsAreAsked → ImmortalsAreFree → (layout : Layout) (v : View) (x : ℕ)
-    → IsRunning v → HasNoWork v x → MayUse v x → Becomes layout v (asking v x)
-asking_becomes put law free layout v x running none may =
+    → IsRunning v → HasNoWork v x → MayLook v x → Becomes layout v (asking v x)
+asking_becomes put law free layout v x running none (inl may) =
     then_begins put layout v (asking v x) running.1 (refl, (λ y locks. refl), refl)
     (λ words views id stands here.
     let usable =
@@ -36,7 +36,13 @@ asking_becomes put law free layout v x running none may =
     with_at_hand usable
     (rearranged layout words views id (rested v) s here (KindLoad x ∷ []) (open_work v)
     (law s.accounts (1 + s.machine.layout.workers) s.machine v.thread (actor_of (rested v)) x s.counts
-    (is_ready layout words views id v s here running.0) (alone v x none) usable.at_hand)))
+    (is_ready layout words views id v s here running.0) (alone v x none) (inl usable.at_hand))))
+asking_becomes put law free layout v x running none (inr first) =
+    then_begins put layout v (asking v x) running.1 (refl, (λ y locks. refl), refl)
+    (λ words views id s here.
+    rearranged layout words views id (rested v) s here (KindLoad x ∷ []) (open_work v)
+    (law s.accounts (1 + s.machine.layout.workers) s.machine v.thread (actor_of (rested v)) x s.counts
+    (is_ready layout words views id v s here running.0) (alone v x none) (inr (omega (arith, first)))))
 
 -- Its first duty then is to load the object's kind word.
 pub asking_makes : (v : View) (x : ℕ) → v.status ≡ Running → MakesQuietly (asking v x) (in_tile 3 x) (λ found. found)
@@ -51,9 +57,9 @@ asking_makes v x runs = record {
 }
 
 module _ (kept : DutiesAreKept) (within : DutiesAreWithin) (law : AccountsAreThere) (chains : ChainsAreThere)
-    (stay : LockedCellsStay) (live : HandedMergesLive) (put : WorkIsPutAside) (asked : KindsAreAsked)
+    (stay : GuardedCellsStay) (live : HandedMergesLive) (put : WorkIsPutAside) (asked : KindsAreAsked)
     (free : ImmortalsAreFree) (full : LockedSlotsAreFull) (words : TableState) (hand : HandState) (x : ℕ)
-    (running : IsRunning hand.view) (none : HasNoWork hand.view x) (may : MayUse hand.view x)
+    (running : IsRunning hand.view) (none : HasNoWork hand.view x) (may : MayLook hand.view x)
     (there : x < row_count words.layout) where
   -- The step is allowed, and tells what the slot of the locked object has.
   pub asks_allowed : {T : Type 0} (layout : Layout) (slots id index : ℕ) (me : Me (Option T) View)

@@ -13,7 +13,7 @@ use Rattle.brc_table.specs.declared.view.View.{View}
 use Rattle.brc_table.specs.Places.{in_tile, cell_place}
 use Rattle.brc_table.specs.Views.{RowsAreThere, actor_of, open_work, locking, unlocking, loading_cell}
 use Rattle.brc_table.specs.Seen.{KnowsCell}
-use Rattle.brc_table.specs.Hands.{HoldsOne, HasNoWork, HasNoRetain, IsRunning}
+use Rattle.brc_table.specs.Hands.{HoldsOne, MayLoad, HasNoWork, HasNoRetain, IsRunning}
 use Rattle.brc_table.specs.Begins.{Becomes, MakesQuietly, StoresWithSlot}
 use Rattle.brc_model.specs.SlotLaws.{Gives}
 use Rattle.brc_table.proofs.Becoming.{then_begins, rested, rearranged, rearranged_with, is_ready, alone, has_one, with_one}
@@ -66,11 +66,10 @@ kind_some word i low = elim (cases_lt 0 word) [
       absurd (omega (arith, low'))
 ]
 
--- A hand begins to load a cell of the list that it has locked.
+-- A hand begins to load a cell of the list that it has locked, or is to finalise.
 pub loading_becomes : WorkIsPutAside → CellLoadsBegin → ImmortalsAreFree → (layout : Layout) (v : View) (x i : ℕ)
-    → IsRunning v → HasNoWork v x → HoldsOne v x → v.locked ≡ Some x → KnowsCell v x i
-    → Becomes layout v (loading_cell v x i)
-loading_becomes put law free layout v x i running none holding locked knows =
+    → IsRunning v → HasNoWork v x → MayLoad v x → KnowsCell v x i → Becomes layout v (loading_cell v x i)
+loading_becomes put law free layout v x i running none (inl (locked, holding)) knows =
     then_begins put layout v (loading_cell v x i) running.1 (refl, (λ y locks. refl), refl)
     (λ words views id stands here.
     let one =
@@ -82,8 +81,17 @@ loading_becomes put law free layout v x i running none holding locked knows =
     with_one one
     (rearranged layout words views id (rested v) s here (CellLoad x i ∷ []) (open_work v)
     (law s.accounts (1 + s.machine.layout.workers) s.machine v.thread (actor_of (rested v)) x i s.counts
-    (is_ready layout words views id v s here running.0) (alone v x none) one.more locked
+    (is_ready layout words views id v s here running.0) (alone v x none) (inl (one.more, locked))
     (subst (λ (w : ℕ). i < cells_of w) (sym kind) knows.low))))
+loading_becomes put law free layout v x i running none (inr first) knows =
+    then_begins put layout v (loading_cell v x i) running.1 (refl, (λ y locks. refl), refl)
+    (λ words views id s here.
+    let more : 0 < knows.word = kind_some knows.word i knows.low in
+    let kind = s.kinds_seen id x knows.word (rested v) here more knows.seen in
+    rearranged layout words views id (rested v) s here (CellLoad x i ∷ []) (open_work v)
+    (law s.accounts (1 + s.machine.layout.workers) s.machine v.thread (actor_of (rested v)) x i s.counts
+    (is_ready layout words views id v s here running.0) (alone v x none) (inr (omega (arith, first)))
+    (subst (λ (w : ℕ). i < cells_of w) (sym kind) knows.low)))
 
 -- ---- the steps
 

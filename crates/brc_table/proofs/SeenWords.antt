@@ -1,4 +1,4 @@
--- What hands have seen of kind words and of the cells of their locked lists stays true when a hand does its first duty.
+-- What hands have seen of kind words and of the cells that they guard stays true when a hand does its first duty.
 use Rattle.std.proofs.Common.{◌≡◌, ℕ, ◌<◌, Bool, true, false, cond, List, [], ◌∷◌, ◌++◌, Option, None, Some, inl, inr, sym, ap, ◌∙◌, subst, arith}
 use Rattle.std.specs.Prelude.{◌==◌, ◌||◌, if◌then◌else◌, fold}
 use Rattle.std.specs.List.{list_any}
@@ -50,7 +50,7 @@ some_is : {A : Type 0} (x y : A) → Some x ≡ Some y → x ≡ y
 some_is x y e = cc
 
 -- A hand that has locked the list after a step that isn't on the list's gate had locked it before.
-lock_before : (layout : Layout) (t head : ℕ) (d : Duty) (x found : ℕ) (locked : Option ℕ)
+pub lock_before : (layout : Layout) (t head : ℕ) (d : Duty) (x found : ℕ) (locked : Option ℕ)
     → same_address (address_of layout t head d) (Gate x) ≡ false → locked_by locked d found ≡ Some x → locked ≡ Some x
 lock_before layout t head (LockGate y) x found locked apart is =
     elim (cases_Bool (found == free_word)) [
@@ -102,12 +102,13 @@ module _ (layout : Layout) (memory : Address → ℕ) (t head : ℕ) (d : Duty) 
         ]
       ]
 
-  -- A cell that the hand has seen since it locked the list has that word after the step, too.
-  pub cell_here : (x i word : ℕ) (locked : Option ℕ)
-      → (locked ≡ Some x → fold (cell_known x i) None trace ≡ Some word → memory (Cell x i) ≡ word)
-      → locked_by locked d (memory (address_of layout t head d)) ≡ Some x
+  -- A cell that the hand has seen while it guards the list has that word after the step, too. The hand begins to guard the
+  -- list by a step on its gate.
+  pub cell_here : (x i word : ℕ) (Before After : Type 0)
+      → (same_address (address_of layout t head d) (Gate x) ≡ false → After → Before)
+      → (Before → fold (cell_known x i) None trace ≡ Some word → memory (Cell x i) ≡ word) → After
       → fold (cell_known x i) None (trace ++ e ∷ []) ≡ Some word → after (Cell x i) ≡ word
-  cell_here x i word locked old now seen =
+  cell_here x i word Before After guarded old now seen =
       let known = fold (cell_known x i) None trace in
       let last : cell_known x i known e ≡ Some word = sym (fold-append (cell_known x i) None trace (e ∷ [])) ∙ seen in
       ap (λ (f : Address → ℕ). f (Cell x i)) after_is
@@ -132,6 +133,6 @@ module _ (layout : Layout) (memory : Address → ℕ) (t head : ℕ) (d : Duty) 
                   sym (ap (λ (b : Bool). if b then None else known) off_gate) ∙ rest in
                   let apart : same_address (address_of layout t head d) (Gate x) ≡ false =
                   ap (λ (a : Address). same_address a (Gate x)) (sym is_step.address) ∙ off_gate in
-                  old (lock_before layout t head d x (memory (address_of layout t head d)) locked apart now) before
+                  old (guarded apart now) before
             ]
       ]

@@ -13,20 +13,20 @@ use Rattle.brc_model.specs.declared.duty.Holding.{Holding}
 use Rattle.brc_model.specs.declared.duty.Duty.{Duty}
 use Rattle.brc_model.specs.declared.duty.Duty.TheVariants.{BirthSlot, BirthLocal, TakeSlot, CloseResource, SettleEnd}
 use Rattle.brc_model.specs.declared.layout.Layout.{Layout}
-use Rattle.brc_model.specs.Duties.{address_of, new_word, ready}
-use Rattle.brc_model.specs.Machine.{Actor, Machine, written, actor_by, done_by}
+use Rattle.brc_model.specs.Duties.{address_of, new_word, continuation, ready}
+use Rattle.brc_model.specs.Machine.{Actor, Machine, Life, written, is_running, life_by, actor_by, done_by}
 use Rattle.brc_model.specs.CountingLaws.{ComesNext, DutiesAreKept}
 use Rattle.brc_model.specs.SlotLaws.{needs_slot, UsesSlot, NeededSlotsAreUnlocked}
 use Rattle.brc_table.specs.declared.view.View.{View}
 use Rattle.brc_table.specs.Places.{HasWord}
 use Rattle.brc_table.specs.Views.{actor_of, slot_filled_by, slot_emptied_by}
 use Rattle.brc_table.specs.Homes.{times_in}
-use Rattle.brc_table.specs.Rule.{Stands}
+use Rattle.brc_table.specs.Rule.{Guards, Stands}
 use Rattle.brc_table.specs.Begins.{Passes, KeepsThread, Becomes}
 use Rattle.brc_table.specs.Calls.{OwnsFirst, ClosesRow}
 use Rattle.brc_table.proofs.Passing.{becomes_then}
 use Rattle.brc_table.proofs.SlotsUsed.{or_true}
-use Rattle.brc_table.proofs.Changing.{passes, itself_becomes}
+use Rattle.brc_table.proofs.Changing.{guards_before, passes, itself_becomes}
 use Rattle.brc_table.proofs.ThreadsKept.{threads_same}
 
 -- ---- duties about slots and resources
@@ -69,6 +69,12 @@ cell_away : (x : ℕ) (a : Address) → IsSilent x a → (memory : Address → �
 cell_away x _ AtSlot memory word y i = refl
 cell_away x _ AtResource memory word y i = refl
 
+-- no gate,
+gate_away : (x : ℕ) (a : Address) → IsSilent x a → (memory : Address → ℕ) (word y : ℕ)
+    → written memory a word (Gate y) ≡ memory (Gate y)
+gate_away x _ AtSlot memory word y = refl
+gate_away x _ AtResource memory word y = refl
+
 -- and no other row's slot.
 slot_apart : (x : ℕ) (a : Address) → IsSilent x a → (memory : Address → ℕ) (word y : ℕ) → y ≢ x
     → written memory a word (Slot y) ≡ memory (Slot y)
@@ -81,6 +87,8 @@ record Silent (x : ℕ) (d next : Duty) : Type 0 where
   at : (layout : Layout) (t head : ℕ) → IsSilent x (address_of layout t head d)
   needs : needs_slot x d ≡ true
   on : (y : ℕ) → needs_slot y d ≡ true → needs_slot y next ≡ true
+  lives : (life : ℕ → Life) (layout : Layout) (t : ℕ) (running : Bool) (head found y : ℕ)
+      → life_by life t d (continuation layout t running head d found) y ≡ life y
   actor : (layout : Layout) (t found : ℕ) (v : View) (rest : List Duty)
       → actor_by layout t (actor_of v) d rest found ≡ actor_of (record v { agenda = next ∷ rest })
 
@@ -113,6 +121,7 @@ birth_silent x h = record {
   at = λ layout t head. AtSlot;
   needs = same_row x;
   on = λ y is. is;
+  lives = λ life layout t running head found y. refl;
   actor = λ layout t found v rest. birth_actor layout t found x h v rest v.head refl;
 }
 
@@ -121,6 +130,7 @@ take_silent x = record {
   at = λ layout t head. AtSlot;
   needs = same_row x;
   on = λ y is. is;
+  lives = λ life layout t running head found y. refl;
   actor = λ layout t found v rest. take_actor layout t found x v rest v.head refl;
 }
 
@@ -129,6 +139,7 @@ close_silent x = record {
   at = λ layout t head. AtResource;
   needs = same_row x;
   on = λ y is. is;
+  lives = λ life layout t running head found y. refl;
   actor = λ layout t found v rest. close_actor layout t found x v rest v.head refl;
 }
 
@@ -176,6 +187,14 @@ module _ (kept : DutiesAreKept) (unlocked : NeededSlotsAreUnlocked) (layout : La
       other_row y (inr locks) same =
           unlocked s.accounts (1 + m.layout.workers) m t a d rest x s.counts comes silent.needs (locks ∙ ap Some same)
 
+      -- Each row lives as before.
+      still : (y : ℕ) → (done_by m t a d rest).life y ≡ m.life y
+      still y = silent.lives m.life m.layout t (is_running v.status) v.head (m.memory address) y
+
+      guards_of : {y : ℕ} → Guards (done_by m t a d rest) u y → Guards (done_by m t a d rest) v y
+      guards_of (inl locked) = inl locked
+      guards_of (inr chained) = inr chained
+
       passed : Passes layout words (set views id u) v.taken v.locked m
       passed =
           let at = silent.at m.layout t a.head in
@@ -196,11 +215,17 @@ module _ (kept : DutiesAreKept) (unlocked : NeededSlotsAreUnlocked) (layout : La
             others = λ k apart. refl;
             no_variables = s.no_variables;
             kinds_stay = λ y w more is. kind_away x address at m.memory word y ∙ is;
-            cells_stay = λ other y i w apart is locked. cell_away x address at m.memory word y i;
+            cells_stay = λ other y w apart is guards. (
+              guards_before m (done_by m t a d rest) w y (still y) (gate_away x address at m.memory word y) guards,
+              λ i. cell_away x address at m.memory word y i,
+            );
             kinds_here = λ y w more seen.
                 kind_away x address at m.memory word y ∙ s.kinds_seen id y w v here more seen;
-            cells_here = λ y i w locked seen.
-                cell_away x address at m.memory word y i ∙ s.cells_seen id y i w v here locked seen;
+            cells_here = λ y i w guards seen.
+                cell_away x address at m.memory word y i
+                ∙ s.cells_seen id y i w v here
+                (guards_before m (done_by m t a d rest) v y (still y) (gate_away x address at m.memory word y)
+                (guards_of guards)) seen;
             threads = λ i there. threads_same layout words views i v u s there refl refl refl;
           }) v.taken v.locked
           (λ y which. slot_apart x address at m.memory word y (other_row y which))

@@ -15,7 +15,7 @@ use Rattle.brc_model.specs.declared.layout.Layout.{Layout}
 use Rattle.brc_model.specs.Layout.{IsCounted}
 use Rattle.brc_model.specs.Duties.{new_word}
 use Rattle.brc_model.specs.CountingLaws.{WorkIsPutAside, LocksBegin, ImmortalsAreFree, DutiesAreKept, DutiesAreWithin, AccountsAreThere, ChainsAreThere, HandedMergesLive}
-use Rattle.brc_model.specs.GuardLaws.{LockedCellsStay}
+use Rattle.brc_model.specs.GuardLaws.{GuardedCellsStay}
 use Rattle.brc_model.specs.SlotLaws.{Stays, Takes, Gives, use_of, GivenSlotsAreUnlocked, LockedSlotsAreFull, SlotsAreFree, SlotsAreKnown}
 use Rattle.brc_table.specs.declared.view.View.{View}
 use Rattle.brc_table.specs.Views.{done, did, taken_after, locking}
@@ -36,7 +36,7 @@ use Rattle.brc_table.proofs.SlotsTaken as taken
 use Rattle.brc_table.proofs.SlotsGiven as given
 
 module _ (kept : DutiesAreKept) (within : DutiesAreWithin) (law : AccountsAreThere) (chains : ChainsAreThere)
-    (stay : LockedCellsStay) (live : HandedMergesLive) where
+    (stay : GuardedCellsStay) (live : HandedMergesLive) where
   -- ---- taking a slot, and giving one back
 
   module _ (words : TableState) (hand : HandState) (begins : View → View) {T : Type 0} (layout : Layout)

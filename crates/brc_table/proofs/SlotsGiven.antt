@@ -16,7 +16,7 @@ use Rattle.brc_model.specs.Duties.{address_of, resources_of}
 use Rattle.brc_model.specs.Machine.{Machine}
 use Rattle.brc_model.specs.Within.{IsThere}
 use Rattle.brc_model.specs.CountingLaws.{DutiesAreKept, DutiesAreWithin, AccountsAreThere, ChainsAreThere, HandedMergesLive}
-use Rattle.brc_model.specs.GuardLaws.{LockedCellsStay}
+use Rattle.brc_model.specs.GuardLaws.{GuardedCellsStay}
 use Rattle.brc_model.specs.SlotLaws.{SlotUse, Stays, Takes, Gives, use_of, Unlocks, GivenSlotsAreUnlocked, SlotsAreKnown}
 use Rattle.brc_table.specs.declared.view.View.{View}
 use Rattle.brc_table.specs.Views.{actor_of, did, behind_first, taken_after}
@@ -87,7 +87,7 @@ due_is law layout words views id v u _ rest does found x n is same in_slot locke
 -- ---- the step
 
 module _ (kept : DutiesAreKept) (within : DutiesAreWithin) (law : AccountsAreThere) (chains : ChainsAreThere)
-    (stay : LockedCellsStay) (live : HandedMergesLive) (unlocked : GivenSlotsAreUnlocked) (known : SlotsAreKnown)
+    (stay : GuardedCellsStay) (live : HandedMergesLive) (unlocked : GivenSlotsAreUnlocked) (known : SlotsAreKnown)
     (layout : Layout) (v u : View) (d : Duty) (rest : List Duty) (index : ℕ) (becomes : Becomes layout v u)
     (next : IsNextAt u d rest index) (x : ℕ) where
   module _ {T : Type 0} (s : State (Option T) View) (holds : TableStands layout s.words s.homes s.views) (id : ℕ)

@@ -18,7 +18,7 @@ use Rattle.brc_model.specs.Duties.{address_of}
 use Rattle.brc_model.specs.Machine.{Machine, locked_by}
 use Rattle.brc_model.specs.Within.{IsThere}
 use Rattle.brc_model.specs.CountingLaws.{DutiesAreKept, DutiesAreWithin, AccountsAreThere, ChainsAreThere, HandedMergesLive}
-use Rattle.brc_model.specs.GuardLaws.{LockedCellsStay}
+use Rattle.brc_model.specs.GuardLaws.{GuardedCellsStay}
 use Rattle.brc_model.specs.SlotLaws.{SlotUse, Stays, Takes, Gives, use_of, UsesSlot, SlotsAreFree, SlotsAreKnown}
 use Rattle.brc_table.specs.declared.view.View.{View}
 use Rattle.brc_table.specs.Views.{actor_of, did, taken_after}
@@ -90,7 +90,7 @@ due_known law layout words views id u _ rest does x all =
 -- ---- the step
 
 module _ (kept : DutiesAreKept) (within : DutiesAreWithin) (law : AccountsAreThere) (chains : ChainsAreThere)
-    (stay : LockedCellsStay) (live : HandedMergesLive) (free : SlotsAreFree) (layout : Layout) (v u : View) (d : Duty)
+    (stay : GuardedCellsStay) (live : HandedMergesLive) (free : SlotsAreFree) (layout : Layout) (v u : View) (d : Duty)
     (rest : List Duty) (index : ℕ) (becomes : Becomes layout v u) (next : IsNextAt u d rest index) (x : ℕ) where
   module _ {T : Type 0} (s : State (Option T) View) (holds : TableStands layout s.words s.homes s.views) (id : ℕ)
       (here : get_elem? s.views id ≡ some v) (takes_it : use_of d (read_of u d (slice_index s.words index)) ≡ Takes x)

@@ -23,7 +23,7 @@ use Rattle.brc_model.specs.Counting.{Counts, HasNoneAbout, with_account, with_on
 use Rattle.brc_model.specs.CountingLaws.{ReferencesAreHandedOver}
 use Rattle.brc_table.specs.declared.view.View.{View}
 use Rattle.brc_table.specs.Views.{actor_of, holds, is_given, giving, worker_view}
-use Rattle.brc_table.specs.Rule.{Stands}
+use Rattle.brc_table.specs.Rule.{Guards, Stands}
 use Rattle.brc_table.specs.Homes.{TableStands}
 use Rattle.brc_table.proofs.SlotsKept.{slots_kept, slots_longer}
 use Rattle.brc_table.specs.Seen.{has_seen_kind, cell_seen, has_started, started_word, has_seen_gone}
@@ -191,14 +191,14 @@ module _ (law : ReferencesAreHandedOver) (layout : Layout) (words : List ℕ) (v
   kinds_after other x word z (New same is) high seen =
       absurd (false≢true (subst (λ (w : View). has_seen_kind x word w ≡ true) (sym is) seen))
 
-  cells_after : (other x i word : ℕ) (z : View) → Whose other z → z.locked ≡ Some x → cell_seen x i z ≡ Some word
+  cells_after : (other x i word : ℕ) (z : View) → Whose other z → Guards machine z x → cell_seen x i z ≡ Some word
       → old.machine.memory (Cell x i) ≡ word
-  cells_after other x i word z (Mains same is) locked seen =
-      old.cells_seen id x i word v here (subst (λ (w : View). w.locked ≡ Some x) (sym is) locked)
+  cells_after other x i word z (Mains same is) guards seen =
+      old.cells_seen id x i word v here (subst (λ (w : View). Guards machine w x) (sym is) guards)
       (subst (λ (w : View). cell_seen x i w ≡ Some word) (sym is) seen)
-  cells_after other x i word z (Another apart is) locked seen = old.cells_seen other x i word z is locked seen
-  cells_after other x i word z (New same is) locked seen =
-      absurd (let wrong : None ≡ Some x = subst (λ (w : View). w.locked ≡ Some x) (sym is) locked in cc)
+  cells_after other x i word z (Another apart is) guards seen = old.cells_seen other x i word z is guards seen
+  cells_after other x i word z (New same is) guards seen =
+      absurd (let wrong : None ≡ Some word = subst (λ (w : View). cell_seen x i w ≡ Some word) (sym is) seen in cc)
 
   holding_after : (other : ℕ) (z : View) (x : ℕ) → Whose other z → IsCounted machine.layout x
       → after z.thread AsCaller x ≡ holds z x
@@ -360,8 +360,8 @@ module _ (law : ReferencesAreHandedOver) (layout : Layout) (words : List ℕ) (v
     told = λ other z is. told_after other z (whose other z is);
     named = old.named;
     kinds_seen = λ other x word z is high seen. kinds_after other x word z (whose other z is) high seen;
-    cells_seen = λ other x i word z is locked seen.
-        cells_after other x i word z (whose other z is) locked seen;
+    cells_seen = λ other x i word z is guards seen.
+        cells_after other x i word z (whose other z is) guards seen;
     holding = λ other z x is counted. holding_after other z x (whose other z is) counted;
     no_variables = none_after;
     apart = λ one other w z is that same. apart_after one other w z (whose one w is) (whose other z that) same;

@@ -147,11 +147,11 @@ module _ (accounts : AccountsAreThere) (chains : ChainsAreThere) (layout : Layou
       others = λ k apart. refl;
       no_variables = s.no_variables;
       kinds_stay = λ x word more is. is;
-      cells_stay = λ other x i w apart is locked. refl;
+      cells_stay = λ other x w apart is guards. (guards, λ i. refl);
       kinds_here = λ x word more seen.
           s.kinds_seen id x word v here more (sym (any_same (shows_kind x word) v.trace event refl) ∙ seen);
-      cells_here = λ x i word locked seen.
-          s.cells_seen id x i word v here locked (sym (fold-append (cell_known x i) None v.trace (event ∷ [])) ∙ seen);
+      cells_here = λ x i word guards seen.
+          s.cells_seen id x i word v here guards (sym (fold-append (cell_known x i) None v.trace (event ∷ [])) ∙ seen);
       threads = λ k there_k.
           threads_kept layout words (set words (place (ThreadWord t)) 1) views k v after s there_k keeps_threads;
     }

@@ -1,5 +1,5 @@
 -- A hand does its first duty, which is one step on a word, and the rule holds again.
-use Rattle.std.proofs.Common.{◌≡◌, ◌≢◌, ℕ, ◌+◌, ◌≤◌, Bool, true, cond, None, List, [], ◌∷◌, length, set, inl, inr, refl, sym, ap, ◌∙◌, subst, arith}
+use Rattle.std.proofs.Common.{◌≡◌, ◌≢◌, ℕ, ◌+◌, ◌≤◌, Bool, true, false, cond, None, List, [], ◌∷◌, length, set, inl, inr, refl, sym, ap, ◌∙◌, subst, arith}
 use Rattle.std.specs.Prelude.{◌==◌, slice_index}
 use Rattle.std.proofs.lemmas.List.{length-set, get_or-set_same, get_or-set_other}
 use Rattle.std.proofs.lemmas.Bool.{eqb-true, cases_Bool}
@@ -16,17 +16,17 @@ use Rattle.brc_model.specs.Duties.{address_of, new_word}
 use Rattle.brc_model.specs.Machine.{Machine, same_address, written, actor_by, done_by, locked_by}
 use Rattle.brc_model.specs.Within.{IsThere}
 use Rattle.brc_model.specs.CountingLaws.{ComesNext, DutiesAreKept, DutyWithin, DutiesAreWithin}
-use Rattle.brc_model.specs.GuardLaws.{LockedCellsStay}
+use Rattle.brc_model.specs.GuardLaws.{LeavesGuarded, GuardedCellsStay}
 use Rattle.brc_table.specs.declared.view.View.{View}
 use Rattle.brc_table.specs.Places.{place, HasWord, IsObjectWord, IsTableWord, word_count}
 use Rattle.brc_table.specs.Views.{actor_of, event_of, did}
-use Rattle.brc_table.specs.Rule.{reading, Stands}
+use Rattle.brc_table.specs.Rule.{reading, Guards, Stands}
 use Rattle.brc_table.specs.Begins.{Passes}
 use Rattle.brc_table.proofs.Lists.{and_first, and_second}
 use Rattle.brc_table.proofs.Places.{place_apart, place_within}
 use Rattle.brc_table.proofs.Changing.{Changes, passes}
 use Rattle.brc_table.proofs.ThreadsKept.{KeepsThreads, threads_kept}
-use Rattle.brc_table.proofs.SeenWords.{kind_stays, IsStep, kind_here, cell_here}
+use Rattle.brc_table.proofs.SeenWords.{kind_stays, IsStep, kind_here, lock_before, cell_here}
 
 -- ---- words and addresses
 
@@ -122,7 +122,7 @@ place_of v d = place (address_of v.layout v.thread v.head d)
 abbrev pub read_of : View → Duty → ℕ → ℕ
 read_of v d word = reading (address_of v.layout v.thread v.head d) word
 
-module _ (kept : DutiesAreKept) (within : DutiesAreWithin) (stay : LockedCellsStay) (layout : Layout) (words : List ℕ)
+module _ (kept : DutiesAreKept) (within : DutiesAreWithin) (stay : GuardedCellsStay) (layout : Layout) (words : List ℕ)
     (views : List View) (id : ℕ)
     (v : View) (d : Duty) (rest : List Duty) (does : Does layout words views id v d rest) where
   abbrev m : Machine
@@ -152,6 +152,18 @@ module _ (kept : DutiesAreKept) (within : DutiesAreWithin) (stay : LockedCellsSt
 
   module _ (left : ℕ) (leaves : read_of v d left ≡ new_word v.thread v.head d found)
       (keeps : KeepsThreads m.layout words (set words (place_of v d) left) v (did v (d ∷ rest) found)) where
+    stays : LeavesGuarded m v.thread (actor_of v) d rest
+    stays = stay does.stands.accounts (1 + m.layout.workers) m v.thread (actor_of v) d rest does.stands.counts comes
+
+    -- The hand begins to guard a list by a step on its gate.
+    guarded_before : (x : ℕ) → same_address (address_of m.layout v.thread v.head d) (Gate x) ≡ false
+        → m.memory (address_of m.layout v.thread v.head d) ≡ found
+        → Guards (done_by m v.thread (actor_of v) d rest) (did v (d ∷ rest) found) x → Guards m v x
+    guarded_before x apart seen (inl locked) =
+        inl (lock_before m.layout v.thread v.head d x (m.memory (address_of m.layout v.thread v.head d)) v.locked apart
+        (ap (locked_by v.locked d) seen ∙ locked))
+    guarded_before x apart seen (inr chained) = inr (stays.own x apart chained)
+
     changes : Changes layout words views v (did v (d ∷ rest) found) does.stands (set words (place_of v d) left)
     changes =
         let old = does.stands in
@@ -187,16 +199,16 @@ module _ (kept : DutiesAreKept) (within : DutiesAreWithin) (stay : LockedCellsSt
           no_variables = old.no_variables;
           kinds_stay = λ x word more is.
               kind_stays m.layout m.memory t v.head d x word relies.overwrites more is;
-          cells_stay = λ other x i w apart is locked.
-              stay old.accounts (1 + m.layout.workers) m t a d rest w.thread (actor_of w) x i old.counts comes
-              (old.acts other w is) apart locked;
+          cells_stay = λ other x w apart is guards.
+              stays.others w.thread (actor_of w) x (old.acts other w is) apart guards;
           kinds_here = λ x word more shown.
               kind_here m.layout m.memory t v.head d (event_of v d found) is_step v.trace x word relies.overwrites more
               (λ before. old.kinds_seen id x word v does.here more before) shown;
-          cells_here = λ x i word locked shown.
-              cell_here m.layout m.memory t v.head d (event_of v d found) is_step v.trace x i word v.locked
-              (λ before known. old.cells_seen id x i word v does.here before known)
-              (ap (locked_by v.locked d) seen ∙ locked) shown;
+          cells_here = λ x i word guards shown.
+              cell_here m.layout m.memory t v.head d (event_of v d found) is_step v.trace x i word (Guards m v x)
+              (Guards (done_by m t a d rest) (did v (d ∷ rest) found) x)
+              (λ apart now. guarded_before x apart seen now)
+              (λ before known. old.cells_seen id x i word v does.here before known) guards shown;
           threads = λ i there.
               threads_kept layout words (set words (place_of v d) left) views i v (did v (d ∷ rest) found) old there
               keeps;

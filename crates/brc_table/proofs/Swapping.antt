@@ -1,7 +1,7 @@
--- A hand swaps a cell of the list that it has locked, and the rule holds again. No duty says so: the step puts a
+-- A hand swaps a cell of a list that it has locked, or is to finalise, and the rule holds again. No duty says so: the step puts a
 -- reference in and takes one out at once, so the new machine is the one of the model's law of swaps.
 use Rattle.std.proofs.Common.{◌≡◌, ◌≢◌, ℕ, zero, suc, ◌+◌, ◌<◌, ◌≤◌, Bool, false, cond, List, set, Option, Some, inl, inr, refl, sym, ap, ◌∙◌, subst, arith}
-use Rattle.std.specs.Prelude.{◌==◌, ◌&&◌, slice_index, count_by}
+use Rattle.std.specs.Prelude.{◌==◌, ◌&&◌, ◌⊎◌, slice_index, count_by}
 use Rattle.std.proofs.lemmas.Bool.{ne_eqb}
 use Rattle.std.proofs.lemmas.Bool.Decides.{eqb_tells}
 use Rattle.std.proofs.lemmas.Option.{slice_get_within}
@@ -19,23 +19,24 @@ use Rattle.brc_model.specs.declared.layout.Layout.{Layout}
 use Rattle.brc_model.specs.Layout.{row_count, IsCounted}
 use Rattle.brc_model.specs.References.{one_if}
 use Rattle.brc_model.specs.Duties.{address_of, new_word, cells_of}
-use Rattle.brc_model.specs.Machine.{Machine, written, locked_by}
+use Rattle.brc_model.specs.Machine.{Machine, Dying, written}
 use Rattle.brc_model.specs.Accounts.{Account}
 use Rattle.brc_model.specs.Stores.{Overwrites}
 use Rattle.brc_model.specs.Counting.{with_account}
-use Rattle.brc_model.specs.CountingLaws.{WorkIsPutAside, ImmortalsAreFree, AccountsAreThere, ChainsAreThere}
+use Rattle.brc_model.specs.CountingLaws.{IsFirstOfChain, WorkIsPutAside, ImmortalsAreFree, AccountsAreThere, ChainsAreThere}
 use Rattle.brc_model.specs.CellLaws as law
 use Rattle.brc_model.specs.CellLaws.{cell_swapped, HasRoomFor, CellsAreSwapped, ItemsAreThere}
 use Rattle.brc_table.specs.declared.view.View.{View}
 use Rattle.brc_table.specs.Places.{HasWord, cell_place}
 use Rattle.brc_table.specs.Views.{actor_of, holds, RowsAreThere, without_reference}
 use Rattle.brc_table.specs.Seen.{cell_seen}
-use Rattle.brc_table.specs.Rule.{Stands}
+use Rattle.brc_table.specs.Hands.{MayChange, MayLoad}
+use Rattle.brc_table.specs.Rule.{Guards, Stands}
 use Rattle.brc_table.specs.Homes.{SlotsStand, TableStands}
 use Rattle.brc_table.specs.Begins.{Passes}
 use Rattle.brc_table.specs.Swaps.{with_item, without_item, swapped, MayPut, MaySwap, Swaps}
 use Rattle.brc_table.proofs.Accounts.{with_account_same, with_account_other, count_with_reference, count_without_reference}
-use Rattle.brc_table.proofs.Allowed.{rows_there}
+use Rattle.brc_table.proofs.Allowed.{rows_there, change_guards}
 use Rattle.brc_table.proofs.Passing.{waiting_keeps}
 use Rattle.brc_table.proofs.Becoming.{rested, rested_becomes, is_ready, alone, has_one}
 use Rattle.brc_table.proofs.Changing.{Changes, passes}
@@ -45,6 +46,58 @@ use Rattle.brc_table.proofs.Locking.{kind_some, known_low}
 use Rattle.brc_table.proofs.Stepping.{written_reads}
 use Rattle.brc_table.proofs.ThreadsKept.{object_step, threads_kept}
 use Rattle.brc_table.proofs.SeenWords.{IsStep, kind_here, cell_here}
+
+-- ---- a list whose cells a hand may change
+
+-- It has a row.
+pub change_there : (v : View) (x : ℕ) → RowsAreThere v → MayChange v x → x < row_count v.layout
+change_there v x rows (inl locked) = rows.locked x locked
+change_there v x rows (inr first) = omega (arith, rows.head, first)
+
+-- A hand may change the cells that it may load.
+pub load_changes : (v : View) (x : ℕ) → MayLoad v x → MayChange v x
+load_changes v x (inl (locked, held)) = inl locked
+load_changes v x (inr first) = inr first
+
+-- It is the one that the thread has locked, or the first of its chain.
+change_by : (v : View) (x : ℕ) → MayChange v x → (v.locked ≡ Some x) ⊎ IsFirstOfChain (actor_of (rested v)) x
+change_by v x (inl locked) = inl locked
+change_by v x (inr first) = inr (omega (arith, first))
+
+-- Two hands don't guard one list: its gate names one thread.
+guards_apart : (layout : Layout) (words : List ℕ) (views : List View) (id other : ℕ) (v w : View) (x : ℕ)
+    (s : Stands layout words views) → get_elem? views id ≡ some v → get_elem? views other ≡ some w
+    → v.thread ≢ w.thread → Guards s.machine v x → Guards s.machine w x → ⊥
+guards_apart layout words views id other v w x s here there apart (inl locked) (inl theirs) =
+    let one = (s.counts.kept.core.each v.thread (actor_of v) (s.acts id v here)).0.locks x locked in
+    let two = (s.counts.kept.core.each w.thread (actor_of w) (s.acts other w there)).0.locks x theirs in
+    apart (omega (arith, one.gate, two.gate))
+guards_apart layout words views id other v w x s here there apart (inl locked) (inr (dies, (next, word, low))) =
+    let core = s.counts.kept.core in
+    let one = (core.each v.thread (actor_of v) (s.acts id v here)).0.locks x locked in
+    absurd (omega (
+      arith,
+      one.gate,
+      word,
+      slice_get_within s.machine.actors v.thread (actor_of v) (s.acts id v here),
+      core.threads,
+      core.few_threads,
+    ))
+guards_apart layout words views id other v w x s here there apart (inr (dies, (next, word, low))) (inl theirs) =
+    let core = s.counts.kept.core in
+    let two = (core.each w.thread (actor_of w) (s.acts other w there)).0.locks x theirs in
+    absurd (omega (
+      arith,
+      two.gate,
+      word,
+      slice_get_within s.machine.actors w.thread (actor_of w) (s.acts other w there),
+      core.threads,
+      core.few_threads,
+    ))
+guards_apart layout words views id other v w x s here there apart (inr (dies, word)) (inr (theirs, other_word)) =
+    let both : Dying v.thread ≡ Dying w.thread = sym dies ∙ theirs in
+    let threads : v.thread ≡ w.thread = cc in
+    apart threads
 
 -- ---- a duty that stores the word
 
@@ -68,14 +121,10 @@ stored_is layout memory t head x i zero b = refl
 stored_is layout memory t head x i (suc y) b =
     let same : y + 1 ≡ suc y = omega arith in ap (λ (w : ℕ). written memory (Cell x i) w b) same
 
--- It overwrites any word, and leaves the lock.
+-- It overwrites any word.
 overwrites_any : (t x i word found : ℕ) → Overwrites t (storing x i word) found
 overwrites_any t x i zero found = tt
 overwrites_any t x i (suc y) found = tt
-
-leaves_lock : (locked : Option ℕ) (x i word found : ℕ) → locked_by locked (storing x i word) found ≡ locked
-leaves_lock locked x i zero found = refl
-leaves_lock locked x i (suc y) found = refl
 
 -- ---- the references that the hand lists
 
@@ -160,7 +209,7 @@ module _ (put : WorkIsPutAside) (free : ImmortalsAreFree) (there : AccountsAreTh
 
     cell_has : HasWord m.layout (Cell x i)
     cell_has = (
-      subst (λ (l : Layout). x < row_count l) told (rows.locked x may.locked),
+      subst (λ (l : Layout). x < row_count l) told (change_there (rested v) x rows may.changes),
       known_low (rested v) x i rows (record { word = may.knows.word; seen = may.knows.seen; low = may.knows.low }),
     )
 
@@ -219,16 +268,17 @@ module _ (put : WorkIsPutAside) (free : ImmortalsAreFree) (there : AccountsAreTh
               ∙ s.no_variables k j y
         ]
 
-    -- Another hand has locked another list.
-    other_lock : (other y : ℕ) (w : View) → w.thread ≢ v.thread → get_elem? views other ≡ some w → w.locked ≡ Some y
+    -- No other hand changes the list's cells.
+    guards : Guards m (rested v) x
+    guards = change_guards chains layout words views id (rested v) x s here may.changes
+
+    -- The cells that another hand guards are another list's.
+    other_list : (other y : ℕ) (w : View) → w.thread ≢ v.thread → get_elem? views other ≡ some w → Guards m w y
         → (x == y) ≡ false
-    other_lock other y w apart is locked =
+    other_list other y w apart is theirs =
         ne_eqb x y (λ same.
-        let mine =
-        (s.counts.kept.core.each v.thread (actor_of (rested v)) (s.acts id (rested v) here)).0.locks x may.locked in
-        let theirs = (s.counts.kept.core.each w.thread (actor_of w) (s.acts other w is)).0.locks y locked in
-        let gate = ap (λ (z : ℕ). m.memory (Gate z)) same in
-        apart (omega (arith, mine.gate, theirs.gate, gate)))
+        guards_apart layout words views other id w (rested v) x s is here apart
+        (subst (λ (z : ℕ). Guards m w z) (sym same) theirs) guards)
 
     changes : Changes layout words views (rested v) after s (set words (cell_place x i) word)
     changes = record {
@@ -236,7 +286,7 @@ module _ (put : WorkIsPutAside) (free : ImmortalsAreFree) (there : AccountsAreTh
       machine = cell_swapped m v.thread x i word;
       counts =
           swap s.accounts (1 + m.layout.workers) m v.thread (actor_of (rested v)) x i word s.counts
-          (is_ready layout words views id v s here may.running.0) may.locked may.retains low puts.may_put
+          (is_ready layout words views id v s here may.running.0) (change_by v x may.changes) may.retains low puts.may_put
           (room (m.memory (Cell x i)));
       layout_same = refl;
       length_is = length-set words (cell_place x i) word;
@@ -256,21 +306,23 @@ module _ (put : WorkIsPutAside) (free : ImmortalsAreFree) (there : AccountsAreTh
       others = with_account_other s.accounts v.thread account;
       no_variables = no_variables_after;
       kinds_stay = λ y w more is. is;
-      cells_stay = λ other y j w apart is locked.
-          ap (λ (b : Bool). cond (b && (i == j)) word (m.memory (Cell y j))) (other_lock other y w apart is locked);
+      cells_stay = λ other y w apart is theirs. (
+        theirs,
+        λ j. ap (λ (b : Bool). cond (b && (i == j)) word (m.memory (Cell y j))) (other_list other y w apart is theirs),
+      );
       kinds_here = λ y w more shown.
           sym (stored_is m.layout m.memory v.thread v.head x i word (KindOf y))
           ∙ kind_here m.layout m.memory v.thread v.head (storing x i word)
           (record { address = Cell x i; found = found; left = word })
           (is_storing m.layout m.memory v.thread v.head x i word found) v.trace y w
           (overwrites_any v.thread x i word _) more (λ before. s.kinds_seen id y w (rested v) here more before) shown;
-      cells_here = λ y j w locked shown.
+      cells_here = λ y j w own shown.
           sym (stored_is m.layout m.memory v.thread v.head x i word (Cell y j))
           ∙ cell_here m.layout m.memory v.thread v.head (storing x i word)
           (record { address = Cell x i; found = found; left = word })
-          (is_storing m.layout m.memory v.thread v.head x i word found) v.trace y j w v.locked
-          (λ before known. s.cells_seen id y j w (rested v) here before known)
-          (leaves_lock v.locked x i word _ ∙ locked) shown;
+          (is_storing m.layout m.memory v.thread v.head x i word found) v.trace y j w (Guards m (rested v) y)
+          (Guards m (rested v) y) (λ off now. now)
+          (λ before known. s.cells_seen id y j w (rested v) here before known) own shown;
       threads = λ k there_k.
           threads_kept layout words (set words (cell_place x i) word) views k (rested v) after s there_k
           (object_step m.layout words (rested v) after (record { address = Cell x i; found = found; left = word }) word
@@ -292,7 +344,7 @@ module _ (put : WorkIsPutAside) (free : ImmortalsAreFree) (there : AccountsAreTh
 
     -- The hand finds what it has last seen or stored there.
     pub finds_seen : (seen : ℕ) → cell_seen x i v ≡ Some seen → found ≡ seen
-    finds_seen seen is = sym finds ∙ s.cells_seen id x i seen (rested v) here may.locked is
+    finds_seen seen is = sym finds ∙ s.cells_seen id x i seen (rested v) here guards is
 
     -- What it finds names a row.
     item_there : (w : ℕ) → found ≡ w → w ≤ row_count v.layout

@@ -16,7 +16,7 @@ use Rattle.brc_model.specs.declared.address.Address.{Address}
 use Rattle.brc_model.specs.declared.layout.Layout.{Layout}
 use Rattle.brc_model.specs.Duties.{address_of, new_word}
 use Rattle.brc_model.specs.CountingLaws.{DutiesAreKept, DutiesAreWithin, AccountsAreThere, ChainsAreThere, HandedMergesLive}
-use Rattle.brc_model.specs.GuardLaws.{LockedCellsStay}
+use Rattle.brc_model.specs.GuardLaws.{GuardedCellsStay}
 use Rattle.brc_table.specs.declared.view.View.{View}
 use Rattle.brc_table.specs.Views.{actor_of, event_of, did, taken_after}
 use Rattle.brc_table.specs.Rule.{thread_reading, reading}
@@ -49,7 +49,7 @@ thread_stays layout t head (SettleEnd x) u is found = absurd cc
 thread_stays layout t head _ u is found = refl
 
 module _ (kept : DutiesAreKept) (within : DutiesAreWithin) (law : AccountsAreThere)
-    (chains : ChainsAreThere) (stay : LockedCellsStay) (live : HandedMergesLive) (words : TableState)
+    (chains : ChainsAreThere) (stay : GuardedCellsStay) (live : HandedMergesLive) (words : TableState)
     (hand : HandState) (begins : View → View) {T : Type 0} (layout : Layout) (slots id index : ℕ)
     (me : Me (Option T) View) (seen : Seen words hand layout me) (becomes : Becomes words.layout hand.view (begins hand.view)) where
   becoming : Becomes layout me.0 (begins me.0)

@@ -60,6 +60,22 @@ pub record Borrows (v : View) (x : ℕ) : Type 0 where
 abbrev pub MayUse : View → ℕ → Type 0
 MayUse v x = HoldsOne v x ⊎ Borrows v x
 
+-- The object is the first one of the hand's dying chain: no reference to it is left, and the hand is to finalise it.
+abbrev pub IsFirst : View → ℕ → Type 0
+IsFirst v x = v.head ≡ suc x
+
+-- The hand may look at the object: it may use it, or is to finalise it.
+abbrev pub MayLook : View → ℕ → Type 0
+MayLook v x = MayUse v x ⊎ IsFirst v x
+
+-- The hand may change the list's cells, and no other hand does: it has locked the list, or is to finalise it.
+abbrev pub MayChange : View → ℕ → Type 0
+MayChange v x = (v.locked ≡ Some x) ⊎ IsFirst v x
+
+-- The hand may load the list's cells: it has locked the list, to which it holds a reference, or is to finalise it.
+abbrev pub MayLoad : View → ℕ → Type 0
+MayLoad v x = ((v.locked ≡ Some x) × HoldsOne v x) ⊎ IsFirst v x
+
 -- The hand keeps a reference to the object if it has locked it: it holds a second one.
 abbrev pub KeepsLock : View → ℕ → Type 0
 KeepsLock v x = v.locked ≡ Some x → 2 ≤ holds v x

@@ -14,6 +14,7 @@ use Rattle.brc_word.specs.Words.{half, free_word, locked_word, merged_word, dead
 use Rattle.brc_table.specs.declared.view.View.{View}
 use Rattle.brc_table.specs.Views.{done, asking, RowsAreThere}
 use Rattle.brc_table.specs.Seen.{has_seen_kind, cell_seen}
+use Rattle.brc_table.specs.Hands.{MayChange}
 use Rattle.brc_table.specs.Rule.{thread_reading}
 
 -- The value found suits the view's first duty.
@@ -27,10 +28,10 @@ FirstFindsOwner v [] found = Unit {0}
 FirstFindsOwner v (d ∷ rest) found = FindsOwner v.layout d found
 
 -- What a hand knows of what its first duty finds. A load of a kind word finds what the hand has seen there, and so does
--- a load of a cell of the locked list. A merge for a handed reference that wins leaves that reference counted.
+-- a load of a cell that no other hand changes. A merge for a handed reference that wins leaves that reference counted.
 abbrev pub FindsKnown : View → List Duty → ℕ → Type 0
 FindsKnown v (KindLoad x ∷ rest) found = (word : ℕ) → 0 < word → has_seen_kind x word v ≡ true → found ≡ word
-FindsKnown v (CellLoad x i ∷ rest) found = (word : ℕ) → v.locked ≡ Some x → cell_seen x i v ≡ Some word → found ≡ word
+FindsKnown v (CellLoad x i ∷ rest) found = (word : ℕ) → MayChange v x → cell_seen x i v ≡ Some word → found ≡ word
 FindsKnown v (MergeExchange x c w Handed ∷ rest) found = found ≡ w → merged_word w c ≢ dead_word
 FindsKnown v _ found = Unit {0}
 

@@ -10,6 +10,7 @@ use Rattle.brc_word.specs.Words.{half}
 use Rattle.brc_model.specs.Layout.{none_row, IsCounted}
 use Rattle.brc_model.specs.Machine.{Machine, idle_actor}
 use Rattle.brc_model.specs.Accounts.{Accounts, HoldsNone}
+use Rattle.brc_model.specs.Knowledge.{GuardsCells}
 use Rattle.brc_model.specs.Counting.{Counts, IsPlainLayout}
 use Rattle.brc_table.specs.declared.view.View.{View}
 use Rattle.brc_table.specs.Places.{place, HasWord, word_count}
@@ -25,6 +26,10 @@ thread_reading word = if word == 0 then 1 else word
 abbrev pub reading : Address → ℕ → ℕ
 reading (ThreadWord t) word = thread_reading word
 reading address word = word
+
+-- No other hand changes the list's cells: the hand has locked the list, or has chained it to finalise it.
+abbrev pub Guards : Machine → View → ℕ → Type 0
+Guards m v x = GuardsCells m v.thread (actor_of v) x
 
 -- There is a counting machine with the invariant whose words, threads and accounts are those of the table.
 pub record Stands (layout : Layout) (words : List ℕ) (views : List View) : Type 0 where
@@ -47,8 +52,8 @@ pub record Stands (layout : Layout) (words : List ℕ) (views : List View) : Typ
   -- a kind word that a hand has seen is still there
   pub kinds_seen : (id x word : ℕ) (v : View) → get_elem? views id ≡ some v → 0 < word
       → has_seen_kind x word v ≡ true → machine.memory (KindOf x) ≡ word
-  -- while a hand has locked a list, a cell has what the hand last saw or stored there
-  pub cells_seen : (id x i word : ℕ) (v : View) → get_elem? views id ≡ some v → v.locked ≡ Some x
+  -- while a hand guards a list's cells, a cell has what the hand last saw or stored there
+  pub cells_seen : (id x i word : ℕ) (v : View) → get_elem? views id ≡ some v → Guards machine v x
       → cell_seen x i v ≡ Some word → machine.memory (Cell x i) ≡ word
   -- no hand holds a reference by a variable
   pub no_variables : (t i x : ℕ) → accounts t (ByVariable i) x ≡ 0

@@ -1,4 +1,4 @@
--- A hand swaps a cell of the list that it has locked (Python/C API manual, List Objects: `PyList_SetItem` steals the
+-- A hand swaps a cell of a list that it has locked, or is to finalise (Python/C API manual, List Objects: `PyList_SetItem` steals the
 -- reference to the new item). The new item's reference goes from the hand into the cell, and the old one's from the
 -- cell to the hand. A cell's word is 0, or the row of its item plus 1.
 use Rattle.std.specs.Prelude.{◌≡◌, ℕ, zero, suc, ◌<◌, ◌≤◌, Some, List, [], ◌∷◌, ◌++◌, length}
@@ -9,7 +9,7 @@ use Rattle.brc_model.specs.Layout.{row_count}
 use Rattle.brc_table.specs.declared.view.View.{View}
 use Rattle.brc_table.specs.Views.{RowsAreThere, with_reference, without_reference, open_work}
 use Rattle.brc_table.specs.Seen.{KnowsCell, cell_seen}
-use Rattle.brc_table.specs.Hands.{most_references, HoldsOne, KeepsLock, HasNoWork, HasNoRetain, IsRunning}
+use Rattle.brc_table.specs.Hands.{most_references, HoldsOne, KeepsLock, MayChange, HasNoWork, HasNoRetain, IsRunning}
 
 -- the references with that to the item of the word, and without it
 abbrev pub with_item : Layout → ℕ → List ℕ → List ℕ
@@ -35,11 +35,11 @@ abbrev pub MayPut : View → ℕ → Type 0
 MayPut v zero = Unit {0}
 MayPut v (suc y) = HoldsOne v y × HasNoWork v y × KeepsLock v y
 
--- The hand may swap the cell: it has locked the list, knows that the list has the cell, retains nothing, and may put the
--- item in. It has room for the reference that comes out.
+-- The hand may swap the cell: it may change the list's cells, knows that the list has the cell, retains nothing, and may
+-- put the item in. It has room for the reference that comes out.
 pub record MaySwap (v : View) (x i word : ℕ) : Type 0 where
   pub running : IsRunning v
-  pub locked : v.locked ≡ Some x
+  pub changes : MayChange v x
   pub knows : KnowsCell v x i
   pub retains : HasNoRetain v
   pub puts : MayPut v word

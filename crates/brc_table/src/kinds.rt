@@ -1,5 +1,5 @@
-//! The step by which a hand asks for the kind of an object that it may use (Python/C API manual, Common Object
-//! Structures: `Py_IS_TYPE`).
+//! The step by which a hand asks for the kind of an object that it may use, or is to finalise (Python/C API manual,
+//! Common Object Structures: `Py_IS_TYPE`).
 
 ghost use Rattle.std.specs.Prelude.{◌≡◌, ◌<◌, ℕ, true, None, Some};
 ghost use Rattle.brc_model.specs.Duties.{resources_of};
@@ -7,27 +7,27 @@ ghost use Rattle.brc_word.specs.Words.{half};
 ghost use Rattle.brc_model.specs.Layout.{none_row, row_count};
 ghost use Rattle.brc_table.specs.Views.{done, asking};
 ghost use Rattle.brc_table.specs.Seen.{has_seen_kind};
-ghost use Rattle.brc_table.specs.Hands.{IsOf, IsRunning, MayUse, HasNoWork};
+ghost use Rattle.brc_table.specs.Hands.{IsOf, IsRunning, MayLook, HasNoWork};
 
 use crate::hand::Hand;
 use crate::place::{KIND, in_line};
 use crate::rule::{Asked, OfRow};
 use crate::words::Words;
 use brc_model::{
-    accounts_are_there, chains_are_there, duties_are_kept, duties_are_within, handed_merges_live,
-    immortals_are_free, kinds_are_asked, locked_cells_stay, locked_slots_are_full,
+    accounts_are_there, chains_are_there, duties_are_kept, duties_are_within, guarded_cells_stay,
+    handed_merges_live, immortals_are_free, kinds_are_asked, locked_slots_are_full,
     work_is_put_aside,
 };
 use std::marker::Brand;
 
 impl<T: Drop> Words<T> {
-    /// Asks for the kind of an object that the hand holds, or borrows from the list that it has locked: loads its kind
-    /// word, which its birth stored. The word is the one that the hand has seen there before, if it has. If the hand has
+    /// Asks for the kind of an object that the hand holds, borrows from the list that it has locked, or is to finalise as
+    /// the first of its dying chain: loads its kind word, which its birth stored. The word is the one that the hand has seen there before, if it has. If the hand has
     /// locked the object, and has lent no resource, the kind tells whether the object's slot has one.
     pub fn kind_load(&self, hand: &mut Hand<T>, row: u32) -> u64
         requires table { IsOf self.now hand.old }
         requires running { IsRunning hand.old.view }
-        requires usable { MayUse hand.old.view row }
+        requires usable { MayLook hand.old.view row }
         requires idle { HasNoWork hand.old.view row }
         ensures table { hand.new.table ≡ hand.old.table }
         ensures carried { hand.new.carried ≡ hand.old.carried }
@@ -48,7 +48,7 @@ impl<T: Drop> Words<T> {
         requires row { row ≡ R.target }
         requires table { IsOf self.now hand.old }
         requires running { IsRunning hand.old.view }
-        requires usable { MayUse hand.old.view row }
+        requires usable { MayLook hand.old.view row }
         requires idle { HasNoWork hand.old.view row }
         requires there { row < row_count self.now.layout }
         ensures table { hand.new.table ≡ hand.old.table }
@@ -67,7 +67,7 @@ impl<T: Drop> Words<T> {
         duties_are_within();
         accounts_are_there();
         chains_are_there();
-        locked_cells_stay();
+        guarded_cells_stay();
         handed_merges_live();
         locked_slots_are_full();
         let index = in_line(KIND, row);

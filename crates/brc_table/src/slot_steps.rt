@@ -21,7 +21,7 @@ use crate::rule::{Begins, Locked, OfRow, Used, UsedStored};
 use crate::words::Words;
 use brc_model::{
     accounts_are_there, chains_are_there, duties_are_kept, duties_are_within,
-    given_slots_are_unlocked, handed_merges_live, immortals_are_free, locked_cells_stay,
+    given_slots_are_unlocked, guarded_cells_stay, handed_merges_live, immortals_are_free,
     locked_slots_are_full, locks_begin, slots_are_free, slots_are_known, work_is_put_aside,
 };
 
@@ -56,7 +56,7 @@ impl<T: Drop> Words<T> {
         duties_are_within();
         accounts_are_there();
         chains_are_there();
-        locked_cells_stay();
+        guarded_cells_stay();
         handed_merges_live();
         slots_are_free();
         locked_slots_are_full();
@@ -84,7 +84,7 @@ impl<T: Drop> Words<T> {
         duties_are_within();
         accounts_are_there();
         chains_are_there();
-        locked_cells_stay();
+        guarded_cells_stay();
         handed_merges_live();
         slots_are_free();
         slots_are_known();
@@ -117,7 +117,7 @@ impl<T: Drop> Words<T> {
         duties_are_within();
         accounts_are_there();
         chains_are_there();
-        locked_cells_stay();
+        guarded_cells_stay();
         handed_merges_live();
         given_slots_are_unlocked();
         slots_are_known();
@@ -153,7 +153,7 @@ impl<T: Drop> Words<T> {
         duties_are_within();
         accounts_are_there();
         chains_are_there();
-        locked_cells_stay();
+        guarded_cells_stay();
         handed_merges_live();
         slots_are_free();
         slots_are_known();
@@ -196,7 +196,7 @@ impl<T: Drop> Words<T> {
         duties_are_within();
         accounts_are_there();
         chains_are_there();
-        locked_cells_stay();
+        guarded_cells_stay();
         handed_merges_live();
         given_slots_are_unlocked();
         slots_are_known();

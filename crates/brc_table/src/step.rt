@@ -20,7 +20,7 @@ use crate::size::block_of;
 use crate::words::Words;
 use brc_model::{
     accounts_are_there, cells_are_swapped, chains_are_there, duties_are_kept, duties_are_within,
-    handed_merges_live, immortals_are_free, items_are_there, locked_cells_stay, work_is_put_aside,
+    guarded_cells_stay, handed_merges_live, immortals_are_free, items_are_there, work_is_put_aside,
 };
 use brc_word::next_of_dying;
 
@@ -51,7 +51,7 @@ impl<T: Drop> Words<T> {
         duties_are_within();
         accounts_are_there();
         chains_are_there();
-        locked_cells_stay();
+        guarded_cells_stay();
         handed_merges_live();
         let index = in_line(line, row);
         self.table
@@ -78,7 +78,7 @@ impl<T: Drop> Words<T> {
         duties_are_within();
         accounts_are_there();
         chains_are_there();
-        locked_cells_stay();
+        guarded_cells_stay();
         handed_merges_live();
         let index = in_cell(row, cell);
         self.table
@@ -102,7 +102,7 @@ impl<T: Drop> Words<T> {
         duties_are_within();
         accounts_are_there();
         chains_are_there();
-        locked_cells_stay();
+        guarded_cells_stay();
         handed_merges_live();
         self.layout_is_plain();
         let thread = block_of(self.layout, row) as usize;
@@ -126,7 +126,7 @@ impl<T: Drop> Words<T> {
         duties_are_within();
         accounts_are_there();
         chains_are_there();
-        locked_cells_stay();
+        guarded_cells_stay();
         handed_merges_live();
         hand.rows_are_there();
         let index = in_line(GATE, hand.head - 1);
@@ -159,7 +159,7 @@ impl<T: Drop> Words<T> {
         duties_are_within();
         accounts_are_there();
         chains_are_there();
-        locked_cells_stay();
+        guarded_cells_stay();
         handed_merges_live();
         self.layout_is_plain();
         hand.rows_are_there();
@@ -188,7 +188,7 @@ impl<T: Drop> Words<T> {
         duties_are_within();
         accounts_are_there();
         chains_are_there();
-        locked_cells_stay();
+        guarded_cells_stay();
         handed_merges_live();
         let index = in_line(line, row);
         self.table
@@ -220,7 +220,7 @@ impl<T: Drop> Words<T> {
         duties_are_within();
         accounts_are_there();
         chains_are_there();
-        locked_cells_stay();
+        guarded_cells_stay();
         handed_merges_live();
         let index = in_cell(row, cell);
         self.table
@@ -281,7 +281,7 @@ impl<T: Drop> Words<T> {
         duties_are_within();
         accounts_are_there();
         chains_are_there();
-        locked_cells_stay();
+        guarded_cells_stay();
         handed_merges_live();
         let index = in_line(line, row);
         self.table
@@ -315,7 +315,7 @@ impl<T: Drop> Words<T> {
         duties_are_within();
         accounts_are_there();
         chains_are_there();
-        locked_cells_stay();
+        guarded_cells_stay();
         handed_merges_live();
         let index = in_line(line, row);
         self.table
@@ -352,7 +352,7 @@ impl<T: Drop> Words<T> {
         duties_are_within();
         accounts_are_there();
         chains_are_there();
-        locked_cells_stay();
+        guarded_cells_stay();
         handed_merges_live();
         let index = in_line(line, row);
         self.table

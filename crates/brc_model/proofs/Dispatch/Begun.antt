@@ -1,5 +1,5 @@
 -- Work that a thread begins fits it: it weighs nothing, finalises nothing, and knows what it has to know.
-use Rattle.std.proofs.Common.{◌≡◌, ℕ, zero, suc, ◌<◌, true, List, [], ◌∷◌, Some, refl, sym, ap, arith}
+use Rattle.std.proofs.Common.{◌≡◌, ℕ, zero, suc, ◌<◌, true, List, [], ◌∷◌, inl, Some, refl, sym, ap, arith}
 use Rattle.std.specs.Prelude.{count_by, sum_by}
 use Rattle.std.proofs.lemmas.List.Sums.{sum_by-cons}
 use Rattle.brc_model.specs.declared.duty.Duty.{Duty}
@@ -260,7 +260,7 @@ begun_knows p n m t a d rest at alone (Gives row h behind some) = tt
 begun_knows p n m t a d rest at alone (Takes row h behind backs) = backs_duty m t a (d ∷ rest) row backs
 begun_knows p n m t a d rest at alone (Bears h w room few said) =
     (next_is p n m t a (BirthKind (row_at m.layout t a.used) h w ∷ []) at room, refl, said)
-begun_knows p n m t a d rest at alone (Asks row backs) = backs_duty m t a (d ∷ rest) row backs
+begun_knows p n m t a d rest at alone (Asks row backs) = inl (backs_duty m t a (d ∷ rest) row backs)
 begun_knows p n m t a d rest at alone (Locks row backs counted none) =
     (counted, backs_duty m t a (d ∷ rest) row backs, none)
 begun_knows p n m t a d rest at alone (Unlocks row backs has none) = (
@@ -271,7 +271,7 @@ begun_knows p n m t a d rest at alone (Unlocks row backs has none) = (
   none,
 )
 begun_knows p n m t a d rest at alone (Loads row i backs has within) =
-    (((at.core.each t a at.found).0.locks row has).counted, backs_duty m t a (d ∷ rest) row backs, has, within)
+    (((at.core.each t a at.found).0.locks row has).counted, inl (backs_duty m t a (d ∷ rest) row backs), inl has, within)
 begun_knows p n m t a d rest at alone (Swaps row i item h behind backs has within some) = (has, within)
 begun_knows p n m t a d rest at alone (Lends row backs has none some) =
     (((at.core.each t a at.found).0.locks row has).counted, has, none, some)

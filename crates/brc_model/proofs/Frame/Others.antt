@@ -19,7 +19,7 @@ use Rattle.brc_model.specs.Gates.{LocksFit}
 use Rattle.brc_model.specs.Invariant.{Fits, ActorFits}
 use Rattle.brc_model.specs.Accounts.{Accounts, HoldsAt, Account, IsBounded}
 use Rattle.brc_model.proofs.Frame.Known.{LeavesRow, LeavesList, KeepsList, backed_kept, known_kept}
-use Rattle.brc_model.specs.Knowledge.{OwnsLocally, IsNext, HasCountedKind, BehindFits, HeadFits, HeadOf, AllBehind, BehindOf, IsDyingWord}
+use Rattle.brc_model.specs.Knowledge.{OwnsLocally, IsNext, HasCountedKind, MayLook, HasChained, GuardsCells, BehindFits, HeadFits, HeadOf, AllBehind, BehindOf, IsDyingWord}
 use Rattle.brc_model.proofs.Basics.Lists.{some_is, slice_get-set_same, slice_get-set_other}
 use Rattle.brc_model.proofs.Basics.Bag.{one_if_true}
 use Rattle.brc_model.specs.declared.layout.Layout.{Layout}
@@ -85,7 +85,7 @@ is_dying Live u e = absurd cc
 is_dying (Dying v) u e = ap Dying (eqb-true v u e)
 is_dying Closed u e = absurd cc
 
-life_kept : (m new : Machine) (t u x : ℕ) → LeavesOthers m new t → u ≢ t → m.life x ≡ Dying u → new.life x ≡ Dying u
+pub life_kept : (m new : Machine) (t u x : ℕ) → LeavesOthers m new t → u ≢ t → m.life x ≡ Dying u → new.life x ≡ Dying u
 life_kept m new t u x leaves ne is = is_dying (new.life x) u (leaves.lives u x ne ∙ dying_is (m.life x) u is)
 
 gate_kept : (m new : Machine) (t u x : ℕ) → LeavesOthers m new t → u ≢ t → m.life x ≡ Dying u
@@ -124,6 +124,25 @@ resources_kept : (m new : Machine) (t u x : ℕ) → LeavesOthers m new t → m.
     → resources_of (new.memory (KindOf x)) ≡ resources_of (m.memory (KindOf x))
 resources_kept m new t u x leaves dies =
     ap resources_of (leaves.words_born x (λ unborn. let wrong : Dying u ≡ Unborn = sym dies ∙ unborn in cc))
+
+-- What another thread has chained it still has chained.
+pub chained_kept : (m new : Machine) (t u x : ℕ) → LeavesOthers m new t → u ≢ t → HasChained m u x
+    → HasChained new u x
+chained_kept m new t u x leaves ne chained =
+    (life_kept m new t u x leaves ne chained.0, dying_word_kept m new t u x leaves ne chained.0 chained.1)
+
+-- Another thread may still look at an object, and still guards the cells that it guarded.
+look_kept : (m new : Machine) (t u : ℕ) (b : Actor) (x : ℕ) → LeavesOthers m new t → u ≢ t
+    → slice_get m.actors u ≡ Some b → MayLook m u b x → MayLook new u b x
+look_kept m new t u b x leaves ne found (inl backed) =
+    inl (backed_kept m new u b b x (row_left m new t u b leaves ne found x) (list_left m new t u b leaves ne found)
+    backed)
+look_kept m new t u b x leaves ne found (inr chained) = inr (chained_kept m new t u x leaves ne chained)
+
+guard_kept : (m new : Machine) (t u : ℕ) (b : Actor) (x : ℕ) → LeavesOthers m new t → u ≢ t → GuardsCells m u b x
+    → GuardsCells new u b x
+guard_kept m new t u b x leaves ne (inl locked) = inl locked
+guard_kept m new t u b x leaves ne (inr chained) = inr (chained_kept m new t u x leaves ne chained)
 
 -- A duty behind the first knows what it knew.
 behind_fits_kept : (m new : Machine) (t u : ℕ) (d : Duty) → LeavesOthers m new t → u ≢ t → BehindFits m u d
@@ -198,8 +217,7 @@ head_kept m new t u b (BirthLocal x h) rest leaves ne found fits =
       leaves.kinds x fits.2,
       same.1 ∙ fits.3 ∙ ap resources_of (sym same.0),
     )
-head_kept m new t u b (KindLoad x) rest leaves ne found fits =
-    backed_kept m new u b b x (row_left m new t u b leaves ne found x) (list_left m new t u b leaves ne found) fits
+head_kept m new t u b (KindLoad x) rest leaves ne found fits = look_kept m new t u b x leaves ne found fits
 head_kept m new t u b (LockGate x) rest leaves ne found fits = (
   counted_kept m new t x leaves fits.0,
   backed_kept m new u b b x (row_left m new t u b leaves ne found x) (list_left m new t u b leaves ne found) fits.1,
@@ -214,9 +232,9 @@ head_kept m new t u b (UnlockGate x) rest leaves ne found fits = (
 )
 head_kept m new t u b (CellLoad x i) rest leaves ne found fits = (
   counted_kept m new t x leaves fits.0,
-  backed_kept m new u b b x (row_left m new t u b leaves ne found x) (list_left m new t u b leaves ne found) fits.1,
-  fits.2,
-  subst (λ (w : ℕ). i < cells_of w) (sym (leaves.lists u x b ne found fits.2).kind) fits.3,
+  look_kept m new t u b x leaves ne found fits.1,
+  guard_kept m new t u b x leaves ne fits.2,
+  cells_kept m new t x i leaves fits.3,
 )
 head_kept m new t u b (CellSwap x i y h) rest leaves ne found fits =
     (fits.0, cells_kept m new t x i leaves fits.1)

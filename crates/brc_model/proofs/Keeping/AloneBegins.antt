@@ -1,7 +1,7 @@
 -- A ready thread that has put nothing aside begins what it does in one go: to settle, to claim a mark, or to leave. And
 -- a ready thread asks for an object's kind.
-use Rattle.std.proofs.Common.{◌≡◌, ℕ, ◌+◌, ◌<◌, Bool, cond, true, false, List, [], ◌∷◌, inl, refl, ap, subst, arith}
-use Rattle.std.specs.Prelude.{◌==◌, count_by}
+use Rattle.std.proofs.Common.{◌≡◌, ℕ, ◌+◌, ◌<◌, Bool, cond, true, false, List, [], ◌∷◌, inl, inr, refl, ap, subst, arith}
+use Rattle.std.specs.Prelude.{◌==◌, ◌⊎◌, count_by}
 use Rattle.std.proofs.lemmas.Bool.{eq-eqb, false≢true}
 use Rattle.std.proofs.lemmas.List.Sums.{sum_by-cons}
 use Rattle.brc_model.specs.declared.duty.Holding.{Holding}
@@ -14,16 +14,17 @@ use Rattle.brc_model.specs.Machine.{Actor, Life, Machine, with_actor}
 use Rattle.brc_model.specs.References.{one_if}
 use Rattle.brc_model.specs.RowInvariant.{waits, carries, merges, decides}
 use Rattle.brc_model.specs.Accounts.{Account, Accounts, lacks, extra, HoldsNone}
-use Rattle.brc_model.specs.Knowledge.{HeadFits}
+use Rattle.brc_model.specs.Knowledge.{MayLook, HeadFits}
 use Rattle.brc_model.specs.OpenWork.{Linked, dies_by, is_about, is_finalising, has_leave, Agenda, IsSettled}
 use Rattle.brc_model.specs.Gates.{LocksFit}
-use Rattle.brc_model.specs.Invariant.{looks, Invariant}
+use Rattle.brc_model.specs.Invariant.{looks, CoreInvariant, Invariant}
 use Rattle.brc_model.specs.Ranges.{IsSmall}
-use Rattle.brc_model.specs.Counting.{Counts, working, IsReady}
-use Rattle.brc_model.specs.CountingLaws.{SettlesBegin, ClaimsBegin, ExitsBegin, KindsAreAsked, ChainsAreThere}
+use Rattle.brc_model.specs.Counting.{Counts, working, IsReady, HasNoneAbout, IsAtHand}
+use Rattle.brc_model.specs.CountingLaws.{SettlesBegin, ClaimsBegin, ExitsBegin, IsFirstOfChain, KindsAreAsked, ChainsAreThere}
 use Rattle.brc_model.proofs.Basics.Bag.{one_if_low}
 use Rattle.brc_model.proofs.Frame.Leaves.{locked_alive}
 use Rattle.brc_model.proofs.Limits.Ranges.{row_small, head_small}
+use Rattle.brc_model.proofs.Keeping.FirstOfChain.{first_counts, first_chained, first_row}
 use Rattle.brc_model.proofs.Keeping.Rearranging.{still_wait}
 use Rattle.brc_model.proofs.Keeping.Replaced.{with_account_itself}
 use Rattle.brc_model.proofs.Keeping.Sits.{Sits}
@@ -33,15 +34,6 @@ use Rattle.brc_model.proofs.Keeping.WorkBegins.{ready_rests, ready_holds, at_han
 
 -- ---- chains
 
--- The first row of a chain is one of its rows.
-first_counts : (memory : Address → ℕ) (t head x : ℕ) (chained : List ℕ) → Linked memory t head chained
-    → head ≡ x + 1 → 0 < count_by (λ y. y == x) chained
-first_counts memory t head x [] linked first = absurd (omega (arith, linked, first))
-first_counts memory t head x (y ∷ ys) linked first =
-    let same : y ≡ x = omega (arith, linked.0, first) in
-    let one : one_if (y == x) ≡ 1 = ap one_if (eq-eqb y x same) in
-    omega (arith, sum_by-cons (λ z. cond (z == x) 1 0) y ys, one)
-
 -- The head of a thread's chain is a row of the machine, plus 1, or 0. A row that the thread has locked lives, so nobody
 -- finalises it.
 pub chains_there : ChainsAreThere
@@ -50,6 +42,7 @@ chains_there p n m t a counts found =
     let chain = (core.each t a found).0.chain in
     record {
       head = head_small p n m t a core found;
+      first = λ x first. first_chained p n m t a x core found first;
       locked = λ x is.
           let none : one_if (dies_by (m.life x) t) ≡ 0 =
           ap (λ (l : Life). one_if (dies_by l t)) (locked_alive p n m t a x core found is).life in
@@ -237,13 +230,31 @@ kind_load_begins x = record {
   looks = λ y. refl;
 }
 
+-- The thread may look at the object for whose kind it asks.
+asked_looks : (p : Accounts) (n : ℕ) (m : Machine) (t : ℕ) (a : Actor) (x : ℕ) → CoreInvariant p n m → IsReady m t a
+    → HasNoneAbout a x → IsAtHand (p t) m a x ⊎ IsFirstOfChain a x → MayLook m t a x
+asked_looks p n m t a x core ready alone (inl at_hand) = inl (at_hand_backed p n m t a x core ready alone at_hand)
+asked_looks p n m t a x core ready alone (inr first) = inr (first_chained p n m t a x core ready.found first)
+
+asked_row : (p : Accounts) (n : ℕ) (m : Machine) (t : ℕ) (a : Actor) (x : ℕ) → CoreInvariant p n m → IsReady m t a
+    → HasNoneAbout a x → IsAtHand (p t) m a x ⊎ IsFirstOfChain a x → x < row_count m.layout
+asked_row p n m t a x core ready alone (inl at_hand) =
+    backed_row p n m t a x core (at_hand_backed p n m t a x core ready alone at_hand)
+asked_row p n m t a x core ready alone (inr first) = first_row p n m t a x core ready.found first
+
+-- New work leaves what the thread may look at.
+pub looks_still : (m : Machine) (t : ℕ) (a : Actor) (x : ℕ) (d : Duty) → MayLook m t a x
+    → MayLook (with_actor m t (working a (d ∷ []) a.aside)) t (working a (d ∷ []) a.aside) x
+looks_still m t a x d (inl backed) = inl (backed_still m t a x d backed)
+looks_still m t a x d (inr chained) = inr chained
+
 -- The invariant and the ranges hold after a ready thread begins to ask for the kind of an object that it holds or may
--- borrow.
+-- borrow, or of the first one of its chain.
 pub kinds_asked : KindsAreAsked
-kinds_asked p n m t a x counts ready alone at_hand =
+kinds_asked p n m t a x counts ready alone asks =
     let core = counts.kept.core in
     let holds = ready_holds p n m t a core ready in
-    let backed = at_hand_backed p n m t a x core ready alone at_hand in
+    let looks = asked_looks p n m t a x core ready alone asks in
     subst (λ (q : Accounts). Counts q n (with_actor m t (working a (KindLoad x ∷ []) a.aside))) (with_account_itself p t)
     (work_begins p n m t a x (KindLoad x) (p t) counts ready alone (record {
       begins = kind_load_begins x;
@@ -251,7 +262,7 @@ kinds_asked p n m t a x counts ready alone at_hand =
       holds = λ k object. omega (arith, holds.each k object);
       bounded = (core.each t a ready.found).0.bounded;
       locks = same_locks (p t) m t a (KindLoad x) (core.each t a ready.found).0.locks (λ k y. refl);
-      knows = backed_still m t a x (KindLoad x) backed;
+      knows = looks_still m t a x (KindLoad x) looks;
       small =
-          row_small (row_count m.layout) x (KindLoad x) (backed_row p n m t a x core backed) (λ y. refl) (omega arith);
+          row_small (row_count m.layout) x (KindLoad x) (asked_row p n m t a x core ready alone asks) (λ y. refl) (omega arith);
     }))

@@ -1,6 +1,5 @@
--- A thread changes the word of a cell of the list that it has locked, and references of its own or of the cell alone go
--- elsewhere. If bag, account and the new word fit together, the invariant holds again.
-use Rattle.std.proofs.Common.{◌≡◌, ◌≢◌, ℕ, ◌+◌, ◌<◌, ◌≤◌, Bool, false, cond, List, [], ◌∷◌, inl, inr, Some, refl, sym, ap, ◌∙◌, subst, arith}
+-- A thread changes the word of a cell that it guards, and references of its own or of the cell alone go elsewhere. If bag, account and the new word fit together, the invariant holds again.
+use Rattle.std.proofs.Common.{◌≡◌, ◌≢◌, ℕ, ◌+◌, ◌<◌, ◌≤◌, Bool, true, false, cond, List, [], ◌∷◌, inl, inr, Some, refl, sym, ap, ◌∙◌, subst, arith}
 use Rattle.std.specs.Prelude.{◌==◌, ◌&&◌, slice_get, count_by}
 use Rattle.std.proofs.lemmas.Bool.{cases_Bool, eqb-true, ne_eqb, false≢true}
 use Rattle.std.proofs.lemmas.List.Sums.{sum_by-cons}
@@ -15,20 +14,19 @@ use Rattle.brc_model.specs.AbstractState.{Reference, references_to}
 use Rattle.brc_model.specs.References.{held, one_if, reference_of, cell_reference, word_holds}
 use Rattle.brc_model.specs.Layout.{block_of}
 use Rattle.brc_model.specs.Duties.{cells_of}
-use Rattle.brc_model.specs.Machine.{Actor, Machine, Life, written, same_address}
+use Rattle.brc_model.specs.Machine.{Actor, Machine, Life, Live, Dying, written, same_address}
 use Rattle.brc_model.specs.RowInvariant.{Numbers, RowInvariant}
 use Rattle.brc_model.specs.Accounts.{Account, Accounts, HoldsAt, IsBounded}
-use Rattle.brc_model.specs.Knowledge.{HasNoRetainAside, is_retain, HeadOf, BehindOf}
-use Rattle.brc_model.specs.OpenWork.{is_about, exits, AllWait, Linked}
+use Rattle.brc_model.specs.Knowledge.{GuardsCells, HasNoRetainAside, is_retain, HeadOf, BehindOf}
+use Rattle.brc_model.specs.OpenWork.{is_about, exits, AllWait, Linked, dies_by}
 use Rattle.brc_model.specs.Gates.{LocksFit}
 use Rattle.brc_model.specs.Invariant.{numbers_of, Fits, CellFits, IsWatched, ByRunning, ByExit, ByLook, CoreInvariant}
 use Rattle.brc_model.specs.Counting.{Counts, with_account, IsReady}
 use Rattle.brc_model.proofs.Basics.Lists.{and_first, and_second, set_found}
 use Rattle.brc_model.proofs.Basics.Written.{written_apart}
-use Rattle.brc_model.proofs.Frame.Alive.{Alive}
 use Rattle.brc_model.proofs.Frame.Known.{LeavesRow, known_kept}
 use Rattle.brc_model.proofs.Frame.Leaves.{locked_alive, living_clash}
-use Rattle.brc_model.proofs.Frame.Others.{LeavesOthers, each_fits}
+use Rattle.brc_model.proofs.Frame.Others.{LeavesOthers, is_dying, each_fits}
 use Rattle.brc_model.proofs.Frame.Items.{one_locker}
 use Rattle.brc_model.proofs.Keeping.Replaced.{flight_with, with_account_same, with_account_other}
 
@@ -50,7 +48,7 @@ changed m x i word bag = record {
 -- What the change of a cell has to show.
 pub record ChangesCell (m : Machine) (t : ℕ) (a : Actor) (x i word : ℕ) (bag : List Reference) (account : Account)
     : Type 0 where
-  pub locked : a.locked ≡ Some x
+  pub guards : GuardsCells m t a x
   pub retains : HasNoRetainAside a
   pub within : cells_of (m.memory (KindOf x)) ≤ i → word ≡ 0
   -- the references of other threads and of other cells stay, and no object has more or fewer
@@ -75,10 +73,6 @@ module _ (p : Accounts) (n : ℕ) (m : Machine) (t : ℕ) (a : Actor) (x i word 
   new = changed m x i word bag
 
   -- ---- cells
-
-  -- The list lives.
-  alive : Alive m x
-  alive = locked_alive p n m t a x core ready.found change.locked
 
   other_list : (y j : ℕ) → (x ≡ y → ⊥) → same_address (Cell x i) (Cell y j) ≡ false
   other_list y j ne = ap (λ (b : Bool). b && (i == j)) (ne_eqb x y ne)
@@ -105,6 +99,30 @@ module _ (p : Accounts) (n : ℕ) (m : Machine) (t : ℕ) (a : Actor) (x i word 
 
   -- ---- other threads
 
+  -- No other thread has locked the list, or has chained it.
+  no_other_lock : (u y : ℕ) (b : Actor) → u ≢ t → slice_get m.actors u ≡ Some b → b.locked ≡ Some y
+      → GuardsCells m t a x → x ≡ y → ⊥
+  no_other_lock u y b ne found e (inl locked) same =
+      ne (one_locker p n m t a u y b core ready.found found e (subst (λ (z : ℕ). a.locked ≡ Some z) same locked))
+  no_other_lock u y b ne found e (inr chained) same =
+      let alive = locked_alive p n m u b y core found e in
+      let wrong : Live ≡ Dying t = sym alive.life ∙ (ap m.life (sym same) ∙ chained.0) in
+      absurd cc
+
+  no_other_chain : (u y : ℕ) → u ≢ t → dies_by (m.life y) u ≡ true → GuardsCells m t a x → x ≡ y → ⊥
+  no_other_chain u y ne dies (inl locked) same =
+      living_clash m u y x (locked_alive p n m t a x core ready.found locked) dies same
+  no_other_chain u y ne dies (inr chained) same =
+      let wrong : Dying u ≡ Dying t = sym (is_dying (m.life y) u dies) ∙ (ap m.life (sym same) ∙ chained.0) in
+      let threads : u ≡ t = cc in
+      ne threads
+
+  -- The cell of a list that lives, or that the thread has chained, may have any word.
+  cell_fits : GuardsCells m t a x → CellFits (m.life x) word
+  cell_fits (inl locked) =
+      subst (λ (l : Life). CellFits l word) (sym (locked_alive p n m t a x core ready.found locked).life) tt
+  cell_fits (inr chained) = subst (λ (l : Life). CellFits l word) (sym chained.0) tt
+
   leaves : LeavesOthers m new t
   leaves = record {
     layout = refl;
@@ -116,13 +134,8 @@ module _ (p : Accounts) (n : ℕ) (m : Machine) (t : ℕ) (a : Actor) (x i word 
     gates = λ u y ne dies. refl;
     locks = λ u y b ne found e. refl;
     lists = λ u y b ne found e.
-        record {
-          kind = refl;
-          cells = λ j. list_stays y j (λ same.
-              ne (one_locker p n m t a u y b core ready.found found e
-              (subst (λ (z : ℕ). a.locked ≡ Some z) same change.locked)));
-        };
-    cells = λ u y j ne dies empty. list_stays y j (living_clash m u y x alive dies) ∙ empty;
+        record { kind = refl; cells = λ j. list_stays y j (no_other_lock u y b ne found e change.guards) };
+    cells = λ u y j ne dies empty. list_stays y j (no_other_chain u y ne dies change.guards) ∙ empty;
     kinds = λ y was. was;
     lives = λ u y ne. refl;
     born = λ y was. was;
@@ -260,7 +273,7 @@ module _ (p : Accounts) (n : ℕ) (m : Machine) (t : ℕ) (a : Actor) (x i word 
         by_cell (λ z k w. held (cell_reference z k object) bag ≡ word_holds w object) (change.cell_holds object)
         (λ z k apart. change.other_cells z k object apart ∙ core.cells_hold z k object) y j;
     cells =
-        by_cell (λ z k w. CellFits (m.life z) w) (subst (λ (l : Life). CellFits l word) (sym alive.life) tt)
+        by_cell (λ z k w. CellFits (m.life z) w) (cell_fits change.guards)
         (λ z k apart. core.cells z k);
     cells_end =
         by_cell (λ z k w. cells_of (m.memory (KindOf z)) ≤ k → w ≡ 0) change.within

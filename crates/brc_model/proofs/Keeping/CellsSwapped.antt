@@ -1,7 +1,7 @@
--- A ready thread swaps a cell of the list that it has locked: first it takes out what the cell holds, and then it puts
+-- A ready thread swaps a cell that it guards: first it takes out what the cell holds, and then it puts
 -- a reference of its own in. After each the invariant holds.
 use Rattle.std.proofs.Common.{◌≡◌, ℕ, zero, suc, ◌<◌, Bool, true, false, cond, List, [], ◌∷◌, inl, inr, Some, refl, sym, ap, ◌∙◌, subst, arith}
-use Rattle.std.specs.Prelude.{◌==◌, ◌&&◌, count_by}
+use Rattle.std.specs.Prelude.{◌==◌, ◌&&◌, ◌⊎◌, count_by}
 use Rattle.std.specs.List.{list_any}
 use Rattle.std.proofs.lemmas.Bool.{cases_Bool}
 use Rattle.std.proofs.Math.Path.{fun_ext}
@@ -13,10 +13,12 @@ use Rattle.brc_model.specs.References.{one_if, reference_of, cell_reference, wor
 use Rattle.brc_model.specs.Duties.{cells_of}
 use Rattle.brc_model.specs.Machine.{Actor, Machine, written, same_address}
 use Rattle.brc_model.specs.Accounts.{Account, Accounts}
-use Rattle.brc_model.specs.Knowledge.{HasNoRetainAside}
+use Rattle.brc_model.specs.Knowledge.{GuardsCells, HasNoRetainAside}
+use Rattle.brc_model.specs.Invariant.{CoreInvariant}
 use Rattle.brc_model.specs.OpenWork.{is_about}
 use Rattle.brc_model.specs.Counting.{Counts, with_account, with_one_more, with_one_less, IsReady}
 use Rattle.brc_model.specs.CellLaws.{with_item, without_item, take_item, put_item, cell_swapped, MayPut, HasRoomFor, CellsAreSwapped}
+use Rattle.brc_model.specs.CountingLaws.{IsFirstOfChain}
 use Rattle.brc_model.proofs.Basics.Bag.{eqb_swapped, held_has, held-cons, held-without, references_to-cons, references_to-without, other_thread}
 use Rattle.brc_model.proofs.Basics.MovesApart.{held-without_apart, moved_aside}
 use Rattle.brc_model.proofs.Basics.Written.{written_here, written_load}
@@ -28,6 +30,7 @@ use Rattle.brc_model.proofs.Keeping.OneReference.{account_held, held_elsewhere, 
 use Rattle.brc_model.proofs.Keeping.Replaced.{with_account_itself, with_account_same}
 use Rattle.brc_model.proofs.Keeping.WorkBegins.{more_bounded}
 use Rattle.brc_model.proofs.Keeping.CellChanges.{changed, counts_changed}
+use Rattle.brc_model.proofs.Keeping.FirstOfChain.{first_chained}
 
 -- the holders of two cells are different if their addresses are
 other_cell : (x i y j : ℕ) → same_address (Cell x i) (Cell y j) ≡ false → same_holder (ByCell y j) (ByCell x i) ≡ false
@@ -35,7 +38,7 @@ other_cell x i y j apart =
     ap (λ (b : Bool). b && (j == i)) (eqb_swapped y x) ∙ (ap (λ (b : Bool). (x == y) && b) (eqb_swapped j i) ∙ apart)
 
 module _ (p : Accounts) (n : ℕ) (m : Machine) (t : ℕ) (a : Actor) (x i y : ℕ) (counts : Counts p n m)
-    (ready : IsReady m t a) (locked : a.locked ≡ Some x) (retains : HasNoRetainAside a) where
+    (ready : IsReady m t a) (guards : GuardsCells m t a x) (retains : HasNoRetainAside a) where
   -- ---- what the cell holds is taken out
 
   abbrev out : Reference
@@ -55,7 +58,7 @@ module _ (p : Accounts) (n : ℕ) (m : Machine) (t : ℕ) (a : Actor) (x i y : �
       let old = (counts.kept.core.each t a ready.found).0 in
       let mine = reference_of t AsCaller y in
       counts_changed p n m t a x i 0 taken (with_one_more (p t) AsCaller y) counts ready (record {
-        locked = locked;
+        guards = guards;
         retains = retains;
         within = λ past. refl;
         others = λ u k object ne.
@@ -107,7 +110,7 @@ module _ (p : Accounts) (n : ℕ) (m : Machine) (t : ℕ) (a : Actor) (x i y : �
       let mine = reference_of t AsCaller y in
       let has = account_held bag t (p t) a AsCaller y old.0.holds may.0 may.1 in
       counts_changed p n m t a x i (suc y) put (with_one_less (p t) AsCaller y) counts ready (record {
-        locked = locked;
+        guards = guards;
         retains = retains;
         within = λ past. absurd (omega (arith, past, low));
         others = λ u k object ne.
@@ -189,9 +192,9 @@ emptied m t x i w = record {
 }
 
 taken_any : (p : Accounts) (n : ℕ) (m : Machine) (t : ℕ) (a : Actor) (x i w : ℕ) → Counts p n m → IsReady m t a
-    → a.locked ≡ Some x → HasNoRetainAside a → m.memory (Cell x i) ≡ w → HasRoomFor m.layout (p t) w
+    → GuardsCells m t a x → HasNoRetainAside a → m.memory (Cell x i) ≡ w → HasRoomFor m.layout (p t) w
     → Counts (with_account p t (with_item (p t) w)) n (emptied m t x i w)
-taken_any p n m t a x i zero counts ready locked retains is room =
+taken_any p n m t a x i zero counts ready guards retains is room =
     subst (λ (q : Accounts). Counts q n (emptied m t x i 0)) (sym (with_account_itself p t))
     (subst (λ (memory : Address → ℕ). Counts p n (record {
       layout = m.layout;
@@ -200,8 +203,8 @@ taken_any p n m t a x i zero counts ready locked retains is room =
       abstract = m.abstract;
       life = m.life;
     })) (sym (same_memory m.memory x i is)) counts)
-taken_any p n m t a x i (suc y) counts ready locked retains is room =
-    item_taken p n m t a x i y counts ready locked retains is room
+taken_any p n m t a x i (suc y) counts ready guards retains is room =
+    item_taken p n m t a x i y counts ready guards retains is room
 
 -- the machine after the item of the word is put into the cell
 abbrev filled : Machine → ℕ → ℕ → ℕ → ℕ → Machine
@@ -214,9 +217,9 @@ filled m t x i w = record {
 }
 
 put_any : (p : Accounts) (n : ℕ) (m : Machine) (t : ℕ) (a : Actor) (x i w : ℕ) → Counts p n m → IsReady m t a
-    → a.locked ≡ Some x → HasNoRetainAside a → m.memory (Cell x i) ≡ 0 → i < cells_of (m.memory (KindOf x))
+    → GuardsCells m t a x → HasNoRetainAside a → m.memory (Cell x i) ≡ 0 → i < cells_of (m.memory (KindOf x))
     → MayPut (p t) a w → Counts (with_account p t (without_item (p t) w)) n (filled m t x i w)
-put_any p n m t a x i zero counts ready locked retains is low may =
+put_any p n m t a x i zero counts ready guards retains is low may =
     subst (λ (q : Accounts). Counts q n (filled m t x i 0)) (sym (with_account_itself p t))
     (subst (λ (memory : Address → ℕ). Counts p n (record {
       layout = m.layout;
@@ -225,10 +228,16 @@ put_any p n m t a x i zero counts ready locked retains is low may =
       abstract = m.abstract;
       life = m.life;
     })) (sym (same_memory m.memory x i is)) counts)
-put_any p n m t a x i (suc y) counts ready locked retains is low may =
-    item_put p n m t a x i y counts ready locked retains is low may
+put_any p n m t a x i (suc y) counts ready guards retains is low may =
+    item_put p n m t a x i y counts ready guards retains is low may
 
 -- ---- both
+
+-- The thread still guards the cells once it has taken the item out.
+still_guards : (m : Machine) (t : ℕ) (a : Actor) (x i w : ℕ) → GuardsCells m t a x
+    → GuardsCells (emptied m t x i w) t a x
+still_guards m t a x i w (inl locked) = inl locked
+still_guards m t a x i w (inr chained) = inr chained
 
 -- What the thread may put in it may still put in once it has taken the item out.
 still_may_put : (account : Account) (a : Actor) (found word : ℕ) → MayPut account a word
@@ -241,18 +250,25 @@ still_may_put account a (suc z) (suc y) may = (
   λ e. omega (arith, may.2 e),
 )
 
+-- The thread guards the cells of the list that it has locked, and of the first object of its chain.
+swap_guards : (p : Accounts) (n : ℕ) (m : Machine) (t : ℕ) (a : Actor) (x : ℕ) → CoreInvariant p n m → IsReady m t a
+    → (a.locked ≡ Some x) ⊎ IsFirstOfChain a x → GuardsCells m t a x
+swap_guards p n m t a x core ready (inl locked) = inl locked
+swap_guards p n m t a x core ready (inr first) = inr (first_chained p n m t a x core ready.found first)
+
 pub cells_are_swapped : CellsAreSwapped
-cells_are_swapped p n m t a x i word counts ready locked retains low may room =
+cells_are_swapped p n m t a x i word counts ready may_swap retains low may room =
+    let guards = swap_guards p n m t a x counts.kept.core ready may_swap in
     let found = m.memory (Cell x i) in
     let more = with_item (p t) found in
     let q = with_account p t more in
     let mid = emptied m t x i found in
-    let first : Counts q n mid = taken_any p n m t a x i found counts ready locked retains refl room in
+    let first : Counts q n mid = taken_any p n m t a x i found counts ready guards retains refl room in
     let ready_still : IsReady mid t a =
     record { found = ready.found; running = ready.running; agenda = ready.agenda } in
     let own : more ≡ q t = with_account_same p t more in
     let second : Counts (with_account q t (without_item (q t) word)) n (filled mid t x i word) =
-    put_any q n mid t a x i word first ready_still locked retains (written_here m.memory (Cell x i) 0) low
+    put_any q n mid t a x i word first ready_still (still_guards m t a x i found guards) retains (written_here m.memory (Cell x i) 0) low
     (subst (λ (c : Account). MayPut c a word) own (still_may_put (p t) a found word may)) in
     let accounts : with_account q t (without_item (q t) word) ≡ with_account p t (without_item more word) =
     ap (λ (c : Account). with_account q t (without_item c word)) (sym own)

@@ -1,22 +1,25 @@
 -- A ready thread begins to lock an object, to unlock the one that it has locked, or to load a cell of it.
-use Rattle.std.proofs.Common.{◌≡◌, ℕ, ◌≤◌, false, [], ◌∷◌, refl, ap, subst, arith}
+use Rattle.std.proofs.Common.{◌≡◌, ℕ, ◌<◌, ◌≤◌, false, [], ◌∷◌, inl, inr, Some, refl, ap, subst, arith}
+use Rattle.std.specs.Prelude.{◌⊎◌}
 use Rattle.brc_model.specs.declared.duty.Holding.{Holding}
 use Rattle.brc_model.specs.declared.duty.Holding.TheVariants.{AsCaller}
 use Rattle.brc_model.specs.declared.duty.Duty.{Duty}
 use Rattle.brc_model.specs.declared.duty.Duty.TheVariants.{LockGate, UnlockGate, CellLoad}
-use Rattle.brc_model.specs.Layout.{row_count}
+use Rattle.brc_model.specs.Layout.{row_count, IsCounted}
 use Rattle.brc_model.specs.Limits.{cell_limit}
 use Rattle.brc_model.specs.Machine.{Actor, Machine, with_actor}
 use Rattle.brc_model.specs.References.{one_if}
 use Rattle.brc_model.specs.Accounts.{Accounts, lacks, extra}
-use Rattle.brc_model.specs.Knowledge.{IsBacked, ByReference, HeadFits}
+use Rattle.brc_model.specs.Knowledge.{IsBacked, ByReference, MayLook, GuardsCells, HeadFits}
+use Rattle.brc_model.specs.Invariant.{CoreInvariant}
 use Rattle.brc_model.specs.Ranges.{cells_named}
 use Rattle.brc_model.specs.Counting.{Counts, working, IsReady, HasNoneAbout}
-use Rattle.brc_model.specs.CountingLaws.{LocksBegin, UnlocksBegin, CellLoadsBegin}
+use Rattle.brc_model.specs.CountingLaws.{IsFirstOfChain, LocksBegin, UnlocksBegin, CellLoadsBegin}
 use Rattle.brc_model.proofs.Limits.Ranges.{row_small}
 use Rattle.brc_model.proofs.Keeping.Replaced.{with_account_itself}
 use Rattle.brc_model.proofs.Keeping.WorkBegins.{ready_holds, none_about_held, held_row, backed_still, BeginsWork, work_begins}
-use Rattle.brc_model.proofs.Keeping.AloneBegins.{same_locks}
+use Rattle.brc_model.proofs.Keeping.AloneBegins.{same_locks, looks_still}
+use Rattle.brc_model.proofs.Keeping.FirstOfChain.{first_chained, chained_counted, first_row}
 
 -- ---- work that makes and gives up no reference
 
@@ -25,16 +28,14 @@ pub record BeginsLook (x : ℕ) (d : Duty) : Type 0 where
   pub lacks : (k : Holding) (y : ℕ) → lacks d k y ≡ false
   pub extra : (k : Holding) (y : ℕ) → extra d k y ≡ false
 
--- A ready thread takes up such work about an object to which it holds a reference.
+-- A ready thread takes up such work about an object that has a row.
 look_begins : (p : Accounts) (n : ℕ) (m : Machine) (t : ℕ) (a : Actor) (x : ℕ) (d : Duty) → Counts p n m
-    → IsReady m t a → HasNoneAbout a x → 1 ≤ p t AsCaller x → BeginsLook x d → cells_named d ≤ cell_limit
-    → (IsBacked m t a x
-    → HeadFits (with_actor m t (working a (d ∷ []) a.aside)) t (working a (d ∷ []) a.aside) d [])
+    → IsReady m t a → HasNoneAbout a x → x < row_count m.layout → BeginsLook x d → cells_named d ≤ cell_limit
+    → HeadFits (with_actor m t (working a (d ∷ []) a.aside)) t (working a (d ∷ []) a.aside) d []
     → Counts p n (with_actor m t (working a (d ∷ []) a.aside))
-look_begins p n m t a x d counts ready alone some begins few knows =
+look_begins p n m t a x d counts ready alone there begins few knows =
     let core = counts.kept.core in
     let holds = ready_holds p n m t a core ready in
-    let in_bag = none_about_held p n m t a x AsCaller core ready alone in
     subst (λ (q : Accounts). Counts q n (with_actor m t (working a (d ∷ []) a.aside))) (with_account_itself p t)
     (work_begins p n m t a x d (p t) counts ready alone (record {
       begins = begins.work;
@@ -48,10 +49,17 @@ look_begins p n m t a x d counts ready alone some begins few knows =
           );
       bounded = (core.each t a ready.found).0.bounded;
       locks = same_locks (p t) m t a d (core.each t a ready.found).0.locks begins.lacks;
-      knows = knows (ByReference AsCaller (omega (arith, in_bag, some)));
-      small =
-          row_small (row_count m.layout) x d (held_row p n m t a x core ready alone some) begins.work.about few;
+      knows = knows;
+      small = row_small (row_count m.layout) x d there begins.work.about few;
     }))
+
+-- A reference that the thread holds as the caller backs the object, while new work begins.
+held_backs : (p : Accounts) (n : ℕ) (m : Machine) (t : ℕ) (a : Actor) (x : ℕ) (d : Duty) → CoreInvariant p n m
+    → IsReady m t a → HasNoneAbout a x → 1 ≤ p t AsCaller x
+    → IsBacked (with_actor m t (working a (d ∷ []) a.aside)) t (working a (d ∷ []) a.aside) x
+held_backs p n m t a x d core ready alone some =
+    backed_still m t a x d
+    (ByReference AsCaller (omega (arith, none_about_held p n m t a x AsCaller core ready alone, some)))
 
 -- ---- locks and cells
 
@@ -115,21 +123,58 @@ cell_looks x i = record {
 -- The invariant and the ranges hold after a ready thread begins to lock an object that it holds.
 pub locks_begin : LocksBegin
 locks_begin p n m t a x counts ready alone counted some unlocked =
-    look_begins p n m t a x (LockGate x) counts ready alone some (lock_looks x) (omega arith)
-    (λ backed. (counted, backed_still m t a x (LockGate x) backed, unlocked))
+    let core = counts.kept.core in
+    look_begins p n m t a x (LockGate x) counts ready alone (held_row p n m t a x core ready alone some) (lock_looks x)
+    (omega arith) (counted, held_backs p n m t a x (LockGate x) core ready alone some, unlocked)
 
 -- The invariant and the ranges hold after a ready thread begins to unlock the object that it has locked.
 pub unlocks_begin : UnlocksBegin
 unlocks_begin p n m t a x counts ready alone some locked none lent =
-    let fits = (counts.kept.core.each t a ready.found).0 in
-    look_begins p n m t a x (UnlockGate x) counts ready alone some (unlock_looks x) (omega arith)
-    (λ backed.
-    ((fits.locks x locked).counted, backed_still m t a x (UnlockGate x) backed, locked, none, lent))
+    let core = counts.kept.core in
+    look_begins p n m t a x (UnlockGate x) counts ready alone (held_row p n m t a x core ready alone some)
+    (unlock_looks x) (omega arith) (
+      ((core.each t a ready.found).0.locks x locked).counted,
+      held_backs p n m t a x (UnlockGate x) core ready alone some,
+      locked,
+      none,
+      lent,
+    )
 
--- The invariant and the ranges hold after a ready thread begins to load a cell of the list that it has locked.
+-- The thread may look at the list of which it loads a cell, guards its cells, and the list is counted and has a row.
+record LoadsCells (m : Machine) (t : ℕ) (a : Actor) (x : ℕ) : Type 0 where
+  pub looks : MayLook m t a x
+  pub guards : GuardsCells m t a x
+  pub counted : IsCounted m.layout x
+  pub there : x < row_count m.layout
+
+loads_cells : (p : Accounts) (n : ℕ) (m : Machine) (t : ℕ) (a : Actor) (x : ℕ) → CoreInvariant p n m → IsReady m t a
+    → HasNoneAbout a x → ((1 ≤ p t AsCaller x) × (a.locked ≡ Some x)) ⊎ IsFirstOfChain a x → LoadsCells m t a x
+loads_cells p n m t a x core ready alone (inl (some, locked)) = record {
+  looks = inl (ByReference AsCaller (omega (arith, none_about_held p n m t a x AsCaller core ready alone, some)));
+  guards = inl locked;
+  counted = ((core.each t a ready.found).0.locks x locked).counted;
+  there = held_row p n m t a x core ready alone some;
+}
+loads_cells p n m t a x core ready alone (inr first) =
+    let chained = first_chained p n m t a x core ready.found first in
+    record {
+      looks = inr chained;
+      guards = inr chained;
+      counted = chained_counted p n m t x core chained;
+      there = first_row p n m t a x core ready.found first;
+    }
+
+guards_still : (m : Machine) (t : ℕ) (a : Actor) (x : ℕ) (d : Duty) → GuardsCells m t a x
+    → GuardsCells (with_actor m t (working a (d ∷ []) a.aside)) t (working a (d ∷ []) a.aside) x
+guards_still m t a x d (inl locked) = inl locked
+guards_still m t a x d (inr chained) = inr chained
+
+-- The invariant and the ranges hold after a ready thread begins to load a cell of the list that it has locked, or of the
+-- first one of its chain.
 pub cell_loads_begin : CellLoadsBegin
-cell_loads_begin p n m t a x i counts ready alone some locked low =
-    let fits = (counts.kept.core.each t a ready.found).0 in
-    look_begins p n m t a x (CellLoad x i) counts ready alone some (cell_looks x i)
+cell_loads_begin p n m t a x i counts ready alone loads low =
+    let core = counts.kept.core in
+    let it = loads_cells p n m t a x core ready alone loads in
+    look_begins p n m t a x (CellLoad x i) counts ready alone it.there (cell_looks x i)
     (omega (arith, low, counts.ranges.kinds x))
-    (λ backed. ((fits.locks x locked).counted, backed_still m t a x (CellLoad x i) backed, locked, low))
+    (it.counted, looks_still m t a x (CellLoad x i) it.looks, guards_still m t a x (CellLoad x i) it.guards, low)

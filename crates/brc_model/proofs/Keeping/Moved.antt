@@ -1,6 +1,6 @@
 -- Moves of references change no word. So every thread fits afterwards, if the moves are of one thread's references to one
 -- object, and none of that thread's open work is about the object.
-use Rattle.std.proofs.Common.{◌≡◌, ◌≢◌, ℕ, Bool, true, false, List, [], ◌∷◌, Some, refl, sym, ap, ◌∙◌, subst, arith, eq-eqb}
+use Rattle.std.proofs.Common.{◌≡◌, ◌≢◌, ℕ, Bool, true, false, List, [], ◌∷◌, inl, inr, Some, refl, sym, ap, ◌∙◌, subst, arith, eq-eqb}
 use Rattle.std.specs.Prelude.{count_by, slice_get}
 use Rattle.std.proofs.lemmas.Bool.{false≢true}
 use Rattle.std.proofs.lemmas.List.Sums.{sum_by-cons}
@@ -11,7 +11,7 @@ use Rattle.brc_model.specs.AbstractState.{Move, ByThread, moved}
 use Rattle.brc_model.specs.References.{held, one_if, reference_of}
 use Rattle.brc_model.specs.Machine.{Actor, Machine, with_moves}
 use Rattle.brc_model.specs.Accounts.{Account, Accounts, HoldsAt, IsBounded}
-use Rattle.brc_model.specs.Knowledge.{IsNext, BehindFits, HeadFits, HeadOf, AllBehind, BehindOf}
+use Rattle.brc_model.specs.Knowledge.{IsNext, MayLook, GuardsCells, BehindFits, HeadFits, HeadOf, AllBehind, BehindOf}
 use Rattle.brc_model.specs.OpenWork.{AllWait, about_of, exits, is_about}
 use Rattle.brc_model.specs.Gates.{LocksFit}
 use Rattle.brc_model.specs.Invariant.{Fits, IsWatched, ByRunning, ByExit, ByLook}
@@ -108,6 +108,17 @@ module _ (m : Machine) (moves : List Move) (t : ℕ) (a : Actor) (x : ℕ) (else
   list_left : KeepsList m (with_moves m moves) a a
   list_left y locked = (locked, record { kind = refl; cells = λ i. refl })
 
+  -- The thread may still look at another row's object, and still guards the cells that it guarded.
+  look_kept : (d : Duty) (y : ℕ) → is_about x d ≡ false → is_about y d ≡ true → MayLook m t a y
+      → MayLook (with_moves m moves) t a y
+  look_kept d y other about (inl backed) =
+      inl (backed_kept m (with_moves m moves) t a a y (row_left d y other about) list_left backed)
+  look_kept d y other about (inr chained) = inr chained
+
+  guard_kept : (y : ℕ) → GuardsCells m t a y → GuardsCells (with_moves m moves) t a y
+  guard_kept y (inl locked) = inl locked
+  guard_kept y (inr chained) = inr chained
+
   -- A duty about another row knows what it knew.
   head_kept : (d : Duty) (rest : List Duty) → is_about x d ≡ false → HeadFits m t a d rest
       → HeadFits (with_moves m moves) t a d rest
@@ -125,8 +136,7 @@ module _ (m : Machine) (moves : List Move) (t : ℕ) (a : Actor) (x : ℕ) (else
   head_kept (BirthKind y h w) rest other fits = (next_kept y fits.0, fits.1, fits.2)
   head_kept (BirthSlot y h) rest other fits = (next_kept y fits.0, fits.1, fits.2, fits.3)
   head_kept (BirthLocal y h) rest other fits = (next_kept y fits.0, fits.1, fits.2, fits.3)
-  head_kept (KindLoad y) rest other fits =
-      backed_kept m (with_moves m moves) t a a y (row_left (KindLoad y) y other (eq-eqb y y refl)) list_left fits
+  head_kept (KindLoad y) rest other fits = look_kept (KindLoad y) y other (eq-eqb y y refl) fits
   head_kept (LockGate y) rest other fits = (
     fits.0,
     backed_kept m (with_moves m moves) t a a y (row_left (LockGate y) y other (eq-eqb y y refl)) list_left fits.1,
@@ -141,8 +151,8 @@ module _ (m : Machine) (moves : List Move) (t : ℕ) (a : Actor) (x : ℕ) (else
   )
   head_kept (CellLoad y i) rest other fits = (
     fits.0,
-    backed_kept m (with_moves m moves) t a a y (row_left (CellLoad y i) y other (eq-eqb y y refl)) list_left fits.1,
-    fits.2,
+    look_kept (CellLoad y i) y other (eq-eqb y y refl) fits.1,
+    guard_kept y fits.2,
     fits.3,
   )
   head_kept (CellSwap y i z h) rest other fits = fits

@@ -23,7 +23,7 @@ use Rattle.brc_model.proofs.Basics.Bag.{same_holding-refl, held_has, no_cell_hol
 use Rattle.brc_model.specs.References.{held, one_if, reference_of, word_holds, cell_reference}
 use Rattle.brc_model.specs.RowInvariant.{decides, InOwned, InSwapped, InMerged}
 use Rattle.brc_model.specs.Accounts.{Accounts, extra_of, lacks_of}
-use Rattle.brc_model.specs.Knowledge.{IsBacked, IsNext, IsEmpty}
+use Rattle.brc_model.specs.Knowledge.{IsBacked, MayLook, IsNext, IsEmpty}
 use Rattle.brc_model.specs.OpenWork.{Linked, dies_by}
 use Rattle.brc_model.specs.Invariant.{AtDuty, CoreInvariant}
 use Rattle.brc_model.proofs.Promises.Agreeing.{is_free_of}
@@ -87,6 +87,12 @@ backed_free p n m t a x core backed =
       | inr counted ↦ alive_free m t x (alive_backed p n m t a x core counted backed)
     ]
 
+-- Nor is an object that the thread has chained itself.
+look_free : (p : Accounts) (n : ℕ) (m : Machine) (t : ℕ) (a : Actor) (x : ℕ) → CoreInvariant p n m → MayLook m t a x
+    → is_freed_for t (m.life x) ≡ false
+look_free p n m t a x core (inl backed) = backed_free p n m t a x core backed
+look_free p n m t a x core (inr chained) = dying_free m t x chained.0
+
 touches_none : (p : Accounts) (n : ℕ) (m : Machine) (t : ℕ) (a : Actor) (d : Duty) (rest : List Duty)
     → AtDuty p n m t a d rest → touches_freed m t (touched_row (address_of m.layout t a.head d)) ≡ false
 touches_none p n m t a (RetainLoad x h) rest here =
@@ -130,13 +136,13 @@ touches_none p n m t a (BirthLocal x h) rest here =
     next_free p n m t a x here.core here.found (head_of p n m t a (BirthLocal x h) rest here).0
 touches_none p n m t a (SettleEnd x) rest here = dying_free m t x (head_of p n m t a (SettleEnd x) rest here).1
 touches_none p n m t a (KindLoad x) rest here =
-    backed_free p n m t a x here.core (head_of p n m t a (KindLoad x) rest here)
+    look_free p n m t a x here.core (head_of p n m t a (KindLoad x) rest here)
 touches_none p n m t a (LockGate x) rest here =
     backed_free p n m t a x here.core (head_of p n m t a (LockGate x) rest here).1
 touches_none p n m t a (UnlockGate x) rest here =
     backed_free p n m t a x here.core (head_of p n m t a (UnlockGate x) rest here).1
 touches_none p n m t a (CellLoad x i) rest here =
-    backed_free p n m t a x here.core (head_of p n m t a (CellLoad x i) rest here).1
+    look_free p n m t a x here.core (head_of p n m t a (CellLoad x i) rest here).1
 touches_none p n m t a (CellSwap x i y h) rest here =
     let locked = (head_of p n m t a (CellSwap x i y h) rest here).0 in
     alive_free m t x (locked_alive p n m t a x here.core here.found locked)

@@ -1,7 +1,8 @@
 -- What holds between any two steps of running threads beside the counts: who watches a mark, who may change a cell, a
 -- slot or a local word, and what a thread that is gone holds.
-use Rattle.std.proofs.Common.{true, ◌≡◌, ◌≢◌, ◌⊎◌, ℕ, ◌+◌, ◌-◌, Bool, cond, List, Option, None, Some, inl, inr, refl, sym, ap, ◌∙◌, subst, arith}
+use Rattle.std.proofs.Common.{true, false, ◌≡◌, ◌≢◌, ◌⊎◌, ℕ, ◌+◌, ◌-◌, Bool, cond, List, Option, None, Some, inl, inr, refl, sym, ap, ◌∙◌, subst, arith}
 use Rattle.std.specs.Prelude.{◌==◌, ◌&&◌, slice_get}
+use Rattle.std.proofs.lemmas.Option.{slice_get_within}
 use Rattle.std.proofs.lemmas.Bool.{eq-eqb}
 use Rattle.std.proofs.lemmas.Bool.Decides.{eqb_tells}
 use Rattle.brc_word.specs.Words.{local_word}
@@ -10,23 +11,27 @@ use Rattle.brc_model.specs.declared.duty.Duty.TheVariants.{RetainLoad, RetainSto
 use Rattle.brc_model.specs.declared.duty.Reason.TheVariants.{Own, Handed}
 use Rattle.brc_model.specs.declared.duty.Holding.TheVariants.{InFlight}
 use Rattle.brc_model.specs.declared.actor.Status.{Status}
-use Rattle.brc_model.specs.declared.address.Address.TheVariants.{Local, Cell, Slot, ThreadWord}
+use Rattle.brc_model.specs.declared.address.Address.TheVariants.{Local, Gate, Cell, Slot, ThreadWord}
 use Rattle.brc_model.specs.Layout.{block_of}
-use Rattle.brc_model.specs.Machine.{Actor, Machine, Unborn, Live, Dying, written}
+use Rattle.brc_model.specs.Duties.{address_of, new_word}
+use Rattle.brc_model.specs.Machine.{Actor, Machine, Unborn, Live, Dying, Closed, same_address, written, done_by}
 use Rattle.brc_model.specs.References.{one_if}
 use Rattle.brc_model.specs.RowInvariant.{decides}
 use Rattle.brc_model.specs.Accounts.{Account, Accounts, HoldsNone}
-use Rattle.brc_model.specs.Knowledge.{status_word, OwnsLocally}
-use Rattle.brc_model.specs.OpenWork.{AgendaFits, exits, is_finalising}
-use Rattle.brc_model.specs.Invariant.{ActorFits, AtDuty}
+use Rattle.brc_model.specs.Knowledge.{status_word, OwnsLocally, IsDyingWord, HasChained, GuardsCells}
+use Rattle.brc_model.specs.Gates.{IsFree, IsLocked, GateFits}
+use Rattle.brc_model.specs.OpenWork.{AgendaFits, dies_by, exits, is_finalising}
+use Rattle.brc_model.specs.Invariant.{ActorFits, AtDuty, CoreInvariant}
 use Rattle.brc_model.specs.Progress.{HasLock, Runs}
 use Rattle.brc_model.specs.Counting.{Counts}
 use Rattle.brc_model.specs.CountingLaws.{ComesNext}
-use Rattle.brc_model.specs.GuardLaws.{QueuedMarksAreWatched, HoldsGate, CellsAreGuarded, LockedCellsStay, SlotsAreGuarded, OwnersCountAlone, GoneThreadsHoldNothing}
+use Rattle.brc_model.specs.GuardLaws.{QueuedMarksAreWatched, HoldsGate, CellsAreGuarded, GuardedCellsStay, SlotsAreGuarded, OwnersCountAlone, GoneThreadsHoldNothing}
 use Rattle.brc_model.proofs.Basics.Blocks.{next_block, next_unborn}
 use Rattle.brc_model.proofs.Basics.Written.{written_apart, written_load, apart_local}
 use Rattle.brc_model.proofs.Frame.Alive.{Alive, alive_backed, alive_deciding, first_weighs}
 use Rattle.brc_model.proofs.Frame.Leaves.{head_of, given_alive, locked_alive}
+use Rattle.brc_model.proofs.Frame.Lives.{leaves_others}
+use Rattle.brc_model.proofs.Frame.Others.{dying_is, is_dying, life_kept}
 use Rattle.brc_model.proofs.Limits.StepsAreWithin.{live_owner}
 use Rattle.brc_model.proofs.Stepping.Neutral.{memory_by}
 use Rattle.brc_model.proofs.Promises.MarksWatched.{mark_watched}
@@ -82,26 +87,95 @@ cells_guarded p n m t a d rest x i counts next changed =
       | inr dies ↦ inr dies
     ]
 
--- Two threads don't hold one gate, and a locked list isn't dying.
+-- Two threads don't guard the same cells, and a locked list isn't dying.
 no_other : (p : Accounts) (n : ℕ) (m : Machine) (t u : ℕ) (b : Actor) (d : Duty) (x : ℕ) → Counts p n m
-    → slice_get m.actors u ≡ Some b → u ≢ t → b.locked ≡ Some x → MayEdit m t d x → ⊥
-no_other p n m t u b d x counts found apart locked (inl lock) =
+    → slice_get m.actors u ≡ Some b → u ≢ t → GuardsCells m u b x → MayEdit m t d x → ⊥
+no_other p n m t u b d x counts found apart (inl locked) (inl lock) =
     let mine = ((counts.kept.core.each u b found).0.locks x locked).gate in
     let other = (gate_of p n m t x counts lock).gate in
     apart (omega (arith, mine, other))
-no_other p n m t u b d x counts found apart locked (inr dies) =
+no_other p n m t u b d x counts found apart (inl locked) (inr dies) =
     let alive = locked_alive p n m u b x counts.kept.core found locked in
     let wrong : Live ≡ Dying t = sym alive.life ∙ dies.0 in
     absurd cc
+no_other p n m t u b d x counts found apart (inr chained) (inl (a, at, locked)) =
+    let alive = locked_alive p n m t a x counts.kept.core at locked in
+    let wrong : Live ≡ Dying u = sym alive.life ∙ chained.0 in
+    absurd cc
+no_other p n m t u b d x counts found apart (inr chained) (inr dies) =
+    let both : Dying u ≡ Dying t = sym chained.0 ∙ dies.0 in
+    let same : u ≡ t = cc in
+    apart same
 
-pub cells_stay : LockedCellsStay
-cells_stay p n m t a d rest u b x i counts next found apart locked =
-    elim (eqb_tells (memory_by m t a d (Cell x i)) (m.memory (Cell x i))) [
-      | inl same ↦ same.1
+-- No thread chains a row for another one.
+guarded_before : (p : Accounts) (n : ℕ) (m : Machine) (t : ℕ) (a : Actor) (d : Duty) (rest : List Duty) (u : ℕ)
+    (b : Actor) (x : ℕ) → AtDuty p n m t a d rest → u ≢ t → GuardsCells (done_by m t a d rest) u b x
+    → GuardsCells m u b x
+guarded_before p n m t a d rest u b x here apart (inl locked) = inl locked
+guarded_before p n m t a d rest u b x here apart (inr chained) =
+    let leaves = leaves_others p n m t a d rest here in
+    let dies : dies_by (m.life x) u ≡ true =
+    sym (leaves.lives u x apart) ∙ dying_is ((done_by m t a d rest).life x) u chained.0 in
+    inr (is_dying (m.life x) u dies, subst (IsDyingWord u) (leaves.gates u x apart dies) chained.1)
+
+-- A gate with a dying word is that of a dying row.
+dying_gate : (p : Accounts) (n : ℕ) (m : Machine) (t : ℕ) (a : Actor) (x : ℕ) → CoreInvariant p n m
+    → slice_get m.actors t ≡ Some a → IsDyingWord t (m.memory (Gate x)) → (w : ℕ) × (m.life x ≡ Dying w)
+dying_gate p n m t a x core found (next, word, low) =
+    let few = slice_get_within m.actors t a found in
+    elim (m.life x) as (λ l. m.life x ≡ l → GateFits m.actors x l (m.memory (Gate x)) → (w : ℕ) × (m.life x ≡ Dying w)) [
+      | Unborn ↦ λ is fits. absurd (omega (arith, fits, word))
+      | Live ↦ λ is fits. elim fits [
+        | IsFree free ↦ absurd (omega (arith, free, word))
+        | IsLocked u b at locked gate ↦
+            absurd (omega (
+              arith,
+              gate,
+              word,
+              slice_get_within m.actors u b at,
+              core.threads,
+              core.few_threads,
+            ))
+      ]
+      | Dying w ↦ λ is fits. (w, is)
+      | Closed ↦ λ is fits. absurd (omega (arith, fits, word, low, few, core.threads, core.few_threads))
+    ] refl (core.gates x)
+
+-- A thread chains a row by a step on the row's gate.
+chained_before : (p : Accounts) (n : ℕ) (m : Machine) (t : ℕ) (a : Actor) (d : Duty) (rest : List Duty) (x : ℕ)
+    → AtDuty p n m t a d rest → same_address (address_of m.layout t a.head d) (Gate x) ≡ false
+    → HasChained (done_by m t a d rest) t x → HasChained m t x
+chained_before p n m t a d rest x here apart chained =
+    let word : IsDyingWord t (m.memory (Gate x)) =
+    subst (IsDyingWord t)
+    (written_apart m.memory (address_of m.layout t a.head d) (Gate x)
+    (new_word t a.head d (m.memory (address_of m.layout t a.head d))) apart) chained.1 in
+    let dying = dying_gate p n m t a x here.core here.found word in
+    elim (eqb_tells dying.0 t) [
+      | inl same ↦ (dying.1 ∙ ap Dying same.1, word)
       | inr other ↦
-          absurd (no_other p n m t u b d x counts found apart locked
-          (edited_by p n m t a d rest x i (at_next counts next) other.1))
+          let still : (done_by m t a d rest).life x ≡ Dying dying.0 =
+          life_kept m (done_by m t a d rest) t dying.0 x (leaves_others p n m t a d rest here) other.1 dying.1 in
+          let both : Dying dying.0 ≡ Dying t = sym still ∙ chained.0 in
+          let threads : dying.0 ≡ t = cc in
+          absurd (other.1 threads)
     ]
+
+pub cells_stay : GuardedCellsStay
+cells_stay p n m t a d rest counts next =
+    let here = at_next counts next in
+    record {
+      others = λ u b x found apart guards.
+          let before = guarded_before p n m t a d rest u b x here apart guards in (
+            before,
+            λ i. elim (eqb_tells (memory_by m t a d (Cell x i)) (m.memory (Cell x i))) [
+              | inl same ↦ same.1
+              | inr other ↦
+                  absurd (no_other p n m t u b d x counts found apart before (edited_by p n m t a d rest x i here other.1))
+            ],
+          );
+      own = λ x apart chained. chained_before p n m t a d rest x here apart chained;
+    }
 
 abbrev MayMove : Machine → ℕ → ℕ → Type 0
 MayMove m t x = HasLock m t x ⊎ ((m.life x ≡ Dying t) ⊎ ((m.life x ≡ Unborn) × (block_of m.layout x ≡ t)))

@@ -21,11 +21,11 @@ overflow_cast-result g c =
     omega (arith, there, most, plain.immortals)
 
 pub returns-else-word-eq0-clause-borrows : goal.returns-else-word-eq0-clause-borrows
-returns-else-word-eq0-clause-borrows g c = λ x same.
+returns-else-word-eq0-clause-borrows g c = λ x same locked.
     let v = c.args.hand.now.view in
     let found = c.cell_load-word.result in
     let word : found ≡ suc x = omega (arith, c.if-word-eq0.false, ap word_of same) in
     subst (λ (u : View). Borrows u x)
     (ap (done (loading_cell v c.args.row c.args.cell)) (sym word) ∙ sym c.cell_load-word.ensures.view)
-    (item_borrowed v c.args.row c.args.cell x c.requires.locked
+    (item_borrowed v c.args.row c.args.cell x locked
     (subst (λ (k : ℕ). k ≤ row_count v.layout) word c.cell_load-word.ensures.there))

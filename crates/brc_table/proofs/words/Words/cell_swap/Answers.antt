@@ -2,6 +2,7 @@ use Rattle.std.proofs.Common.{◌<◌, subst}
 use Rattle.brc_model.specs.declared.layout.Layout.{Layout}
 use Rattle.brc_model.specs.Layout.{row_count}
 use Rattle.brc_table.proofs.Locking.{known_low}
+use Rattle.brc_table.proofs.Swapping.{change_there}
 use Rattle.brc_table.proofs.words.Words.cell_swap.Goals as goal
 
 pub swap_item-requires-clause-cell : goal.swap_item-requires-clause-cell
@@ -11,4 +12,4 @@ swap_item-requires-clause-cell g c =
 pub swap_item-requires-clause-there : goal.swap_item-requires-clause-there
 swap_item-requires-clause-there g c =
     subst (λ (l : Layout). c.args.row < row_count l) c.requires.table.1
-    (c.rows_are_there.ensures.locked c.args.row c.requires.locked)
+    (change_there c.args.hand.now.view c.args.row c.rows_are_there.ensures c.requires.changes)

@@ -20,7 +20,7 @@ load-requires g c =
           (sym (c.self.invariant.1 ∙ ap word_count layout_is)) there),
       step_allowed c.duties_are_kept.ensures c.duties_are_within.ensures
           c.accounts_are_there.ensures c.chains_are_there.ensures
-          c.locked_cells_stay.ensures c.handed_merges_live.ensures c.args.self.now
+          c.guarded_cells_stay.ensures c.handed_merges_live.ensures c.args.self.now
           c.args.hand.now begins shared.key shared.table_id.slots hand.seat.id c.in_cell-index.result hand.seat.me
           (record { layout_is = layout_is; view_is = ap (λ (h : HandState). h.view) c.hand.view_is }) c.requires.begins
           (λ found. found)

@@ -28,7 +28,7 @@ load-word-requires g c =
       subst (λ (i : ℕ). i < shared.table_id.words) (sym at) (subst (λ (k : ℕ). in_tile 2 (v.head - 1) < k)
           (sym (c.self.invariant.1 ∙ ap word_count layout_is)) there),
       step_allowed c.duties_are_kept.ensures c.duties_are_within.ensures c.accounts_are_there.ensures
-          c.chains_are_there.ensures c.locked_cells_stay.ensures c.handed_merges_live.ensures c.args.self.now
+          c.chains_are_there.ensures c.guarded_cells_stay.ensures c.handed_merges_live.ensures c.args.self.now
           c.args.hand.now begins shared.key shared.table_id.slots hand.seat.id c.in_line-index.result hand.seat.me
           (record { layout_is = layout_is; view_is = ap (λ (h : HandState). h.view) c.hand.view_is }) c.requires.begins
           (λ found. found)

@@ -1,6 +1,6 @@
 use Rattle.std.proofs.Common.{◌≡◌, ℕ, ◌<◌, arith, ap, sym, ◌∙◌, subst}
 use Rattle.brc_model.specs.Layout.{row_count}
-use Rattle.brc_table.specs.Hands.{TableState, HandState, HasNoWork, MayUse}
+use Rattle.brc_table.specs.Hands.{TableState, HandState, HasNoWork, MayLook}
 use Rattle.brc_table.specs.Places.{word_count, in_tile}
 use Rattle.brc_table.proofs.Places.{header_within}
 use Rattle.brc_table.proofs.KindLoads.{asks_allowed}
@@ -22,10 +22,10 @@ load-requires g c =
           (sym (c.self.invariant.1 ∙ ap word_count layout_is)) there),
       asks_allowed c.duties_are_kept.ensures c.duties_are_within.ensures
           c.accounts_are_there.ensures c.chains_are_there.ensures
-          c.locked_cells_stay.ensures c.handed_merges_live.ensures c.work_is_put_aside.ensures
+          c.guarded_cells_stay.ensures c.handed_merges_live.ensures c.work_is_put_aside.ensures
           c.kinds_are_asked.ensures c.immortals_are_free.ensures c.locked_slots_are_full.ensures c.args.self.now now x
           c.requires.running (subst (HasNoWork now.view) same c.requires.idle)
-          (subst (MayUse now.view) same c.requires.usable)
+          (subst (MayLook now.view) same c.requires.usable)
           (subst (λ (y : ℕ). y < row_count c.args.self.now.layout) same c.requires.there) shared.key
           shared.table_id.slots hand.seat.id c.in_line-index.result hand.seat.me
           (record { layout_is = layout_is; view_is = ap (λ (h : HandState). h.view) c.hand.view_is })

@@ -1,4 +1,4 @@
-use Rattle.std.proofs.Common.{ℕ, ◌<◌, List, length, Option, None, Some, inr, refl, sym, ap, ◌∙◌, subst}
+use Rattle.std.proofs.Common.{ℕ, ◌<◌, List, length, Option, None, Some, inl, inr, refl, sym, ap, ◌∙◌, subst}
 use Rattle.brc_lang.specs.declared.kind.Kind.TheVariants as kinds
 use Rattle.brc_lang.specs.declared.module.Instr.TheVariants as instructions
 use Rattle.brc_model.specs.declared.slot.Slot.TheVariants.{Empty, Owned}
@@ -25,12 +25,12 @@ row_in-row-requires g c =
     names_object may.first may.state c.args.rows.now c.args.hand.now may.fits c.args.list
     (kept (is_empty (slot_of may.state c.args.list)) met.not_empty)
 
-pub size-requires-clause-held : goal.size-requires-clause-held
-size-requires-clause-held g c =
+pub size-requires-clause-usable : goal.size-requires-clause-usable
+size-requires-clause-usable g c =
     let may = c.requires.may in
     let met = are_met (instructions.Fetch c.args.to c.args.list c.args.index c.args.otherwise) may.state may.passes in
-    (on_list may.first may.state c.args.rows.now c.args.hand.now c.args.list c.row_in-row.result may.fits
-    (not_false (names may.state.locked c.args.list) (kept _ met.has_lock)) c.row_in-row.ensures).one
+    inl (inl (on_list may.first may.state c.args.rows.now c.args.hand.now c.args.list c.row_in-row.result may.fits
+    (not_false (names may.state.locked c.args.list) (kept _ met.has_lock)) c.row_in-row.ensures).one)
 
 pub returns-then-cell-size-clause-done : goal.returns-then-cell-size-clause-done
 returns-then-cell-size-clause-done g c = λ first s fits passes.
@@ -48,8 +48,8 @@ returns-then-cell-size-clause-done g c = λ first s fits passes.
     (nothing first.view.layout (slot_of s c.args.to) Empty (row_of c.args.rows.now c.args.to) None hand mid can.free refl
     c.size.ensures.keeps.references))
 
-pub item-found-requires-clause-held : goal.item-found-requires-clause-held
-item-found-requires-clause-held g c =
+pub item-found-requires-clause-loads : goal.item-found-requires-clause-loads
+item-found-requires-clause-loads g c =
     let may = c.requires.may in
     let hand = c.args.hand.now in
     let mid = c.size.new.hand in
@@ -60,11 +60,27 @@ item-found-requires-clause-held g c =
     (c.size.ensures.table.0 ∙ (ap (λ (w : TableState). w.table) (c.new-lists.ensures ∙ c.self.view_is) ∙ sym may.of.0))
     c.size.ensures.carried c.size.ensures.slots c.size.ensures.locked c.size.ensures.events.1 in
     let later = same_fits may.first may.state c.args.rows.now hand mid may.fits sized c.size.ensures.keeps.references in
-    (on_list may.first may.state c.args.rows.now mid c.args.list row later
-    (not_false (names may.state.locked c.args.list) (kept _ met.has_lock)) c.row_in-row.ensures).one
+    let on =
+    on_list may.first may.state c.args.rows.now mid c.args.list row later
+    (not_false (names may.state.locked c.args.list) (kept _ met.has_lock)) c.row_in-row.ensures in
+    inl (on.locked, on.one)
 
 pub retain-requires-clause-usable : goal.retain-requires-clause-usable
-retain-requires-clause-usable g c = inr (c.item-found.ensures.borrows c.in-Some.item c.in-Some.is)
+retain-requires-clause-usable g c =
+    let may = c.requires.may in
+    let hand = c.args.hand.now in
+    let mid = c.size.new.hand in
+    let row = c.row_in-row.result in
+    let met = are_met (instructions.Fetch c.args.to c.args.list c.args.index c.args.otherwise) may.state may.passes in
+    let sized =
+    sized_acts hand mid row c.size.ensures.events.0 may.fits.rests c.size.ensures.keeps
+    (c.size.ensures.table.0 ∙ (ap (λ (w : TableState). w.table) (c.new-lists.ensures ∙ c.self.view_is) ∙ sym may.of.0))
+    c.size.ensures.carried c.size.ensures.slots c.size.ensures.locked c.size.ensures.events.1 in
+    let later = same_fits may.first may.state c.args.rows.now hand mid may.fits sized c.size.ensures.keeps.references in
+    let on =
+    on_list may.first may.state c.args.rows.now mid c.args.list row later
+    (not_false (names may.state.locked c.args.list) (kept _ met.has_lock)) c.row_in-row.ensures in
+    inr (c.item-found.ensures.borrows c.in-Some.item c.in-Some.is on.locked)
 
 pub retain-requires-clause-few : goal.retain-requires-clause-few
 retain-requires-clause-few g c =
@@ -94,7 +110,7 @@ returns-in-Some-clause-done g c = λ first s fits passes.
     let looked =
     item_acts mid seen row c.from-cell.result c.item-found.ensures.sees.0 later.rests c.item-found.ensures.keeps
     (c.item-found.ensures.table.0 ∙ sym c.size.ensures.table.0) c.item-found.ensures.carried c.item-found.ensures.slots
-    on.locked c.item-found.ensures.locked c.item-found.ensures.sees.1 in
+    on.locked (c.item-found.ensures.locked ∙ on.locked) c.item-found.ensures.sees.1 in
     let found = same_fits first s c.args.rows.now mid seen later looked c.item-found.ensures.keeps.references in
     let retained =
     left_acts seen after c.in-Some.item found.rests c.retain.ensures.left
@@ -130,7 +146,7 @@ returns-in-None-clause-done g c = λ first s fits passes.
     let looked =
     item_acts mid after row c.from-cell.result c.item-found.ensures.sees.0 later.rests c.item-found.ensures.keeps
     (c.item-found.ensures.table.0 ∙ sym c.size.ensures.table.0) c.item-found.ensures.carried c.item-found.ensures.slots
-    on.locked c.item-found.ensures.locked c.item-found.ensures.sees.1 in
+    on.locked (c.item-found.ensures.locked ∙ on.locked) c.item-found.ensures.sees.1 in
     subst (λ (rows : List (Option ℕ)). Fits first (put s c.args.to Empty) rows after) (sym c.name-in-None.ensures.named)
     (refits first s c.args.rows.now mid after c.args.to Empty None later c.name-in-None.ensures.low can.unlocked looked tt
     (nothing first.view.layout (slot_of s c.args.to) Empty (row_of c.args.rows.now c.args.to) None mid after can.free refl

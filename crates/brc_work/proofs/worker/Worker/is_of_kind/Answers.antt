@@ -1,4 +1,4 @@
-use Rattle.std.proofs.Common.{sym, ap, ◌∙◌}
+use Rattle.std.proofs.Common.{inl, sym, ap, ◌∙◌}
 use Rattle.brc_lang.specs.declared.module.Instr.TheVariants as instructions
 use Rattle.brc_model.specs.Slots.{slot_of, is_empty}
 use Rattle.brc_model.specs.Kinds.{kind_numbered}
@@ -24,8 +24,8 @@ pub kind_of-requires-clause-usable : goal.kind_of-requires-clause-usable
 kind_of-requires-clause-usable g c =
     let may = c.requires.may in
     let met = are_met (instructions.As c.args.from c.args.kind c.args.otherwise) may.state may.passes in
-    usable may.first may.state c.args.rows.now c.args.hand.now may.fits c.args.from c.row_in-row.result
-    (kept (is_empty (slot_of may.state c.args.from)) met.not_empty) c.row_in-row.ensures
+    inl (usable may.first may.state c.args.rows.now c.args.hand.now may.fits c.args.from c.row_in-row.result
+    (kept (is_empty (slot_of may.state c.args.from)) met.not_empty) c.row_in-row.ensures)
 
 pub returns-then-kind_number-clause-done : goal.returns-then-kind_number-clause-done
 returns-then-kind_number-clause-done g c = λ first s fits passes.

@@ -1,4 +1,4 @@
-use Rattle.std.proofs.Common.{ℕ, ◌≤◌, List, Option, sym, ap, ◌∙◌, subst}
+use Rattle.std.proofs.Common.{ℕ, ◌≤◌, List, Option, inl, sym, ap, ◌∙◌, subst}
 use Rattle.std.specs.Prelude.{IfOk}
 use Rattle.brc_lang.specs.declared.kind.Kind.TheVariants as kinds
 use Rattle.brc_lang.specs.declared.module.Instr.TheVariants as instructions
@@ -35,8 +35,8 @@ row_in-row-requires g c =
     names_object may.first may.state c.args.rows.now hand may.fits c.args.file
     (kept (is_empty (slot_of may.state c.args.file)) met.not_empty)
 
-pub lend-resource-requires-clause-locked : goal.lend-resource-requires-clause-locked
-lend-resource-requires-clause-locked g c =
+pub lend-resource-requires-clause-slot : goal.lend-resource-requires-clause-slot
+lend-resource-requires-clause-slot g c =
     let may = c.requires.may in
     let hand = c.args.hand.now in
     let met = are_met (instructions.Read c.args.to c.args.file c.args.most c.args.otherwise) may.state may.passes in
@@ -45,7 +45,7 @@ lend-resource-requires-clause-locked g c =
     (not_false (names may.state.locked c.args.file) (kept _ met.has_lock))
     (not_false (is_one_of (kind_of (slot_of may.state c.args.file)) with_resource) (kept _ met.right_kind))
     c.row_in-row.ensures in
-    on.locked
+    inl on.locked
 
 pub lend-resource-requires-clause-there : goal.lend-resource-requires-clause-there
 lend-resource-requires-clause-there g c =
@@ -69,7 +69,19 @@ give_back-requires-clause-whole g c =
     (not_false (names may.state.locked c.args.file) (kept _ met.has_lock))
     (not_false (is_one_of (kind_of (slot_of may.state c.args.file)) with_resource) (kept _ met.right_kind))
     c.row_in-row.ensures in
-    ap (λ (v : View). v.in_slot) c.lend-resource.ensures.view ∙ on.whole
+    λ locked. ap (λ (v : View). v.in_slot) c.lend-resource.ensures.view ∙ on.whole
+
+pub give_back-requires-clause-slot : goal.give_back-requires-clause-slot
+give_back-requires-clause-slot g c =
+    let may = c.requires.may in
+    let hand = c.args.hand.now in
+    let met = are_met (instructions.Read c.args.to c.args.file c.args.most c.args.otherwise) may.state may.passes in
+    let on =
+    on_file may.first may.state c.args.rows.now hand c.args.file c.row_in-row.result may.fits
+    (not_false (names may.state.locked c.args.file) (kept _ met.has_lock))
+    (not_false (is_one_of (kind_of (slot_of may.state c.args.file)) with_resource) (kept _ met.right_kind))
+    c.row_in-row.ensures in
+    inl (ap (λ (v : View). v.locked) c.lend-resource.ensures.view ∙ on.locked)
 
 pub bear-requires-clause-fits : goal.bear-requires-clause-fits
 bear-requires-clause-fits g c =

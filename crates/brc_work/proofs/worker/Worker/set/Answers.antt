@@ -1,4 +1,4 @@
-use Rattle.std.proofs.Common.{ℕ, List, Option, None, refl, sym, ap, ◌∙◌, subst}
+use Rattle.std.proofs.Common.{ℕ, List, Option, None, inl, refl, sym, ap, ◌∙◌, subst}
 use Rattle.std.specs.Prelude.{slice_set}
 use Rattle.brc_lang.specs.declared.module.Instr.TheVariants as instructions
 use Rattle.brc_model.specs.declared.layout.Layout.{Layout}
@@ -25,12 +25,12 @@ row_in-row-requires g c =
     names_object may.first may.state c.args.rows.now c.args.hand.now may.fits c.args.list
     (kept (is_empty (slot_of may.state c.args.list)) (second_false (is_empty (slot_of may.state c.args.from)) _ met.not_empty))
 
-pub size-requires-clause-held : goal.size-requires-clause-held
-size-requires-clause-held g c =
+pub size-requires-clause-usable : goal.size-requires-clause-usable
+size-requires-clause-usable g c =
     let may = c.requires.may in
     let met = are_met (instructions.Set c.args.list c.args.index c.args.from c.args.otherwise) may.state may.passes in
-    (on_list may.first may.state c.args.rows.now c.args.hand.now c.args.list c.row_in-row.result may.fits
-    (not_false (names may.state.locked c.args.list) (kept _ met.has_lock)) c.row_in-row.ensures).one
+    inl (inl (on_list may.first may.state c.args.rows.now c.args.hand.now c.args.list c.row_in-row.result may.fits
+    (not_false (names may.state.locked c.args.list) (kept _ met.has_lock)) c.row_in-row.ensures).one)
 
 pub give_up-requires-clause-fits : goal.give_up-requires-clause-fits
 give_up-requires-clause-fits g c = λ κs lives.

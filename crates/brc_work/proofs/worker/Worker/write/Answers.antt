@@ -1,4 +1,4 @@
-use Rattle.std.proofs.Common.{false, [], ◌∷◌, sym, ap, ◌∙◌, subst}
+use Rattle.std.proofs.Common.{false, [], ◌∷◌, inl, sym, ap, ◌∙◌, subst}
 use Rattle.std.specs.Prelude.{◌||◌, not}
 use Rattle.brc_lang.specs.declared.kind.Kind.TheVariants as kinds
 use Rattle.brc_lang.specs.declared.module.Instr.TheVariants as instructions
@@ -30,9 +30,9 @@ pub arg_of-value-requires-clause-usable : goal.arg_of-value-requires-clause-usab
 arg_of-value-requires-clause-usable g c =
     let may = c.requires.may in
     let met = are_met (instructions.Write c.args.file c.args.number c.args.otherwise) may.state may.passes in
-    usable may.first may.state c.args.rows.now c.args.hand.now may.fits c.args.number c.row_in-object.result
+    inl (usable may.first may.state c.args.rows.now c.args.hand.now may.fits c.args.number c.row_in-object.result
     (kept (is_empty (slot_of may.state c.args.number)) (second_false (is_empty (slot_of may.state c.args.file)) _ met.not_empty))
-    c.row_in-object.ensures
+    c.row_in-object.ensures)
 
 pub row_in-row-requires : goal.row_in-row-requires
 row_in-row-requires g c =
@@ -41,8 +41,8 @@ row_in-row-requires g c =
     names_object may.first may.state c.args.rows.now c.args.hand.now may.fits c.args.file
     (first_false (is_empty (slot_of may.state c.args.file)) _ met.not_empty)
 
-pub lend-resource-requires-clause-locked : goal.lend-resource-requires-clause-locked
-lend-resource-requires-clause-locked g c =
+pub lend-resource-requires-clause-slot : goal.lend-resource-requires-clause-slot
+lend-resource-requires-clause-slot g c =
     let may = c.requires.may in
     let hand = c.args.hand.now in
     let mid = c.arg_of-value.new.hand in
@@ -59,7 +59,7 @@ lend-resource-requires-clause-locked g c =
     (not_false (is_one_of (kind_of (slot_of may.state c.args.file)) with_resource)
     (first_false _ (not (is_one_of (kind_of (slot_of may.state c.args.number)) (kinds.Num ∷ [])) || false) met.right_kind))
     c.row_in-row.ensures in
-    on.locked
+    inl on.locked
 
 pub lend-resource-requires-clause-there : goal.lend-resource-requires-clause-there
 lend-resource-requires-clause-there g c =
@@ -99,10 +99,10 @@ give_back-requires-clause-whole g c =
     (not_false (is_one_of (kind_of (slot_of may.state c.args.file)) with_resource)
     (first_false _ (not (is_one_of (kind_of (slot_of may.state c.args.number)) (kinds.Num ∷ [])) || false) met.right_kind))
     c.row_in-row.ensures in
-    ap (λ (v : View). v.in_slot) c.lend-resource.ensures.view ∙ on.whole
+    λ locked. ap (λ (v : View). v.in_slot) c.lend-resource.ensures.view ∙ on.whole
 
-pub give_back-requires-clause-locked : goal.give_back-requires-clause-locked
-give_back-requires-clause-locked g c =
+pub give_back-requires-clause-slot : goal.give_back-requires-clause-slot
+give_back-requires-clause-slot g c =
     let may = c.requires.may in
     let hand = c.args.hand.now in
     let mid = c.arg_of-value.new.hand in
@@ -119,7 +119,7 @@ give_back-requires-clause-locked g c =
     (not_false (is_one_of (kind_of (slot_of may.state c.args.file)) with_resource)
     (first_false _ (not (is_one_of (kind_of (slot_of may.state c.args.number)) (kinds.Num ∷ [])) || false) met.right_kind))
     c.row_in-row.ensures in
-    ap (λ (v : View). v.locked) c.lend-resource.ensures.view ∙ on.locked
+    inl (ap (λ (v : View). v.locked) c.lend-resource.ensures.view ∙ on.locked)
 
 pub returns-in-Ok-clause-done : goal.returns-in-Ok-clause-done
 returns-in-Ok-clause-done g c = λ first s fits passes.
