@@ -13,6 +13,7 @@ ghost use Rattle.brc_free.specs.Works.{HasWorked, ComesToSettle, EmptiesNext, Ce
 use crate::merging::merge;
 use brc_heap::{Hand, Heap, Marker};
 use brc_host::Host;
+use brc_list::Lists;
 use brc_word::{kind_argument, kind_number};
 use std::marker::Model;
 use std::sync::Wait;
@@ -168,7 +169,7 @@ impl<'h, T: Drop, Q: Marker<T>> Finaliser<'h, T, Q> {
     {
         hand.rows_are_there();
         let words = self.heap.words();
-        let resource = words.slot_take(hand, row);
+        let resource = Lists::new(self.heap).lend(hand, row);
         let failed = if host.close(resource).is_err() { 1 } else { 0 };
         words.gate_close(hand, row);
         failed

@@ -1,14 +1,19 @@
-use Rattle.std.proofs.Common.{List, ◌∷◌, refl, sym, ap, ◌∙◌, subst}
+use Rattle.std.proofs.Common.{List, ◌∷◌, inr, refl, sym, ap, ◌∙◌, subst}
 use Rattle.std.proofs.lemmas.Bool.{eq-eqb}
 use Rattle.brc_model.specs.declared.duty.Duty.{Duty}
 use Rattle.brc_model.specs.declared.duty.Duty.TheVariants.{TakeSlot}
 use Rattle.brc_table.specs.declared.view.View.{View}
 use Rattle.brc_table.specs.Views.{done, slot_emptied}
+use Rattle.brc_list.specs.Calls.{TakesSlot}
 use Rattle.brc_free.specs.Works.{HasWorked, behind}
 use Rattle.brc_free.proofs.FirstDuties.{take_slot_first}
 use Rattle.brc_free.proofs.Working.{finalising_unlocked, worked_first}
 use Rattle.brc_free.proofs.SettleDuties.{ended_empty}
 use Rattle.brc_free.proofs.finaliser.Finaliser.close_resource.Goals as goal
+
+pub lend-resource-requires-clause-slot : goal.lend-resource-requires-clause-slot
+lend-resource-requires-clause-slot g c =
+    inr (subst (TakesSlot c.args.row) (sym c.requires.duty.next) refl)
 
 pub returns-clause-work : goal.returns-clause-work
 returns-clause-work g c =
@@ -19,6 +24,6 @@ returns-clause-work g c =
     subst (λ (ds : List Duty). HasWorked v 0 ds w) (sym (ap behind duty.next))
     (ended_empty v v w 0 c.args.row found duty.rest
     (worked_first v (TakeSlot c.args.row ∷ duty.rest) (duty.next ∙ sym (take_slot_first v.head c.args.row duty.rest)))
-    (c.gate_close.ensures.view ∙ ap (λ (z : View). done (slot_emptied z) found) c.slot_take-resource.ensures.view)
+    (c.gate_close.ensures.view ∙ ap (λ (z : View). done (slot_emptied z) found) c.lend-resource.ensures.view)
     (finalising_unlocked v (TakeSlot c.args.row) duty.rest c.args.row c.rows_are_there.ensures duty.next
     (eq-eqb c.args.row c.args.row refl)))
