@@ -1,4 +1,5 @@
--- A thread changes the word of a cell that it guards, and references of its own or of the cell alone go elsewhere. If bag, account and the new word fit together, the invariant holds again.
+-- A thread changes the word of a cell that it guards, and references of its own or of the cell alone go elsewhere. If
+-- bag, account and the new word fit together, the invariant holds again.
 use Rattle.std.proofs.Common.{◌≡◌, ◌≢◌, ℕ, ◌+◌, ◌<◌, ◌≤◌, Bool, true, false, cond, List, [], ◌∷◌, inl, inr, Some, refl, sym, ap, ◌∙◌, subst, arith}
 use Rattle.std.specs.Prelude.{◌==◌, ◌&&◌, slice_get, count_by}
 use Rattle.std.proofs.lemmas.Bool.{cases_Bool, eqb-true, ne_eqb, false≢true}
