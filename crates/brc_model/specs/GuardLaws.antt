@@ -37,7 +37,7 @@ CellsAreGuarded =
     → HoldsGate m t x ⊎ ((m.life x ≡ Dying t) × (is_finalising d x ≡ true))
 
 -- What a thread's step leaves of the cells that threads guard. Of a list that another thread has locked or chained it
--- leaves every cell. It chains for no other thread, and for its own only by a step on the row's gate.
+-- leaves every cell. It chains no row for another thread, and one for its own only by a step on the row's gate.
 pub record LeavesGuarded (m : Machine) (t : ℕ) (a : Actor) (d : Duty) (rest : List Duty) : Type 0 where
   pub others : (u : ℕ) (b : Actor) (x : ℕ) → slice_get m.actors u ≡ Some b → u ≢ t
       → GuardsCells (done_by m t a d rest) u b x
