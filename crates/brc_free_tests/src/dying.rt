@@ -51,8 +51,8 @@ fn asked(heap: &Heap<FakeResource>, hand: &mut Hand<FakeResource>, row: u32) -> 
     Some((kind, heap.arg_of(hand, row)))
 }
 
-/// Returns what the first cell of a list has, or `None` if the list isn't the first object of the hand's dying chain, or
-/// has no cell.
+/// Returns what the first cell of a list has, or `None` if the list isn't the first object of the hand's dying chain,
+/// or has no cell.
 fn first_item(
     heap: &Heap<FakeResource>,
     hand: &mut Hand<FakeResource>,
@@ -72,8 +72,8 @@ fn first_item(
     Some(lists.item(hand, row, 0))
 }
 
-/// Takes an object out of the first cell of a list. Returns its row, or `None` if the list isn't the first object of the
-/// hand's dying chain, or has nothing there.
+/// Takes an object out of the first cell of a list. Returns its row, or `None` if the list isn't the first object of
+/// the hand's dying chain, or has nothing there.
 #[tactic(auto, using(crate::proofs::Resting::some_counted, crate::proofs::Resting::lists_one_more))]
 fn taken_out(heap: &Heap<FakeResource>, hand: &mut Hand<FakeResource>, row: u32) -> Option<u32>
     requires resting { IsResting heap.now hand.old None }
@@ -97,8 +97,8 @@ fn taken_out(heap: &Heap<FakeResource>, hand: &mut Hand<FakeResource>, row: u32)
     Some(item)
 }
 
-/// What a hand sees of a dying list: its kind and how many cells it has, and what is in its first cell before the item is
-/// taken out and afterwards.
+/// What a hand sees of a dying list: its kind and how many cells it has, and what is in its first cell before the item
+/// is taken out and afterwards.
 #[derive(Clone, Copy, Debug, PartialEq, Eq)]
 struct Seen {
     list: Option<(Kind, u32)>,
@@ -107,8 +107,8 @@ struct Seen {
     after: Option<Option<u32>>,
 }
 
-/// Lets a list with a number die, takes the number out of it, settles, and gives the number up. Returns what the hand has
-/// seen, or `None` if the heap has no room, or a close has failed.
+/// Lets a list with a number die, takes the number out of it, settles, and gives the number up. Returns what the hand
+/// has seen, or `None` if the heap has no room, or a close has failed.
 #[tactic(auto, using(crate::proofs::Resting::holds_first, crate::proofs::Resting::without_first))]
 fn taken_from_dying<R: Wait>(
     rt: &R,
@@ -147,8 +147,8 @@ fn all_closed(end: &Final<FakeResource>) -> bool {
     end.rows() >= 4 && end.closed(2) && end.closed(3) && end.cell(3, 0).is_none()
 }
 
-/// Lets a worker take an item out of a dying list and leave, lets main leave, and ends the heap. Returns what the worker
-/// has seen, and whether the number and the list are closed.
+/// Lets a worker take an item out of a dying list and leave, lets main leave, and ends the heap. Returns what the
+/// worker has seen, and whether the number and the list are closed.
 fn dying_list<R: Wait>(rt: &R, alloc: Global) -> Result<Option<(Seen, bool)>, Fail> {
     let mut host = FakeHost::new(&[]);
     let (heap, mut main) = opened(alloc, 2)?;

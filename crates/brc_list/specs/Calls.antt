@@ -53,8 +53,8 @@ KeepsBesides v u = Keeps (record v { references = u.references }) u
 abbrev pub KeepsButSlot : View → View → Type 0
 KeepsButSlot v u = Keeps (record v { in_slot = u.in_slot }) u
 
--- The hand has loaded the list's cell. It has what the hand last saw or stored there since it locked or chained the list,
--- if it did, and now the hand has seen it. What it has seen of the other cells is as before.
+-- The hand has loaded the list's cell. It has what the hand last saw or stored there since it locked or chained the
+-- list, if it did, and now the hand has seen it. What it has seen of the other cells is as before.
 pub record SeesItem (x cell word : ℕ) (v u : View) : Type 0 where
   pub view_is : u ≡ done (loading_cell v x cell) word
   pub there : word ≤ row_count v.layout

@@ -89,8 +89,8 @@ impl<'h, T: Drop> Lists<'h, T> {
         self.heap.words().gate_unlock(hand, row);
     }
 
-    /// Returns how many cells an object has that the hand may use, or is to finalise: a list has those of its birth, and
-    /// any other object none. The hand needs no lock for it. Afterwards it may ask for each of the cells.
+    /// Returns how many cells an object has that the hand may use, or is to finalise: a list has those of its birth,
+    /// and any other object none. The hand needs no lock for it. Afterwards it may ask for each of the cells.
     pub fn size(&self, hand: &mut Hand<T>, row: u32) -> u32
         requires table { IsOf self.now hand.old }
         requires running { IsRunning hand.old.view }
@@ -114,10 +114,10 @@ impl<'h, T: Drop> Lists<'h, T> {
         }
     }
 
-    /// Returns what is in a cell of the list that the hand has locked, or is to finalise as the first of its dying chain:
-    /// the row of an object, or `None` if the cell is empty. The list keeps its reference to the object. From a list that
-    /// it has locked the hand borrows the object (`PyList_GetItem`): until it unlocks the list or takes the object out of
-    /// the cell, it may ask for the object's kind, or retain it.
+    /// Returns what is in a cell of the list that the hand has locked, or is to finalise as the first of its dying
+    /// chain: the row of an object, or `None` if the cell is empty. The list keeps its reference to the object. From a
+    /// list that it has locked the hand borrows the object (`PyList_GetItem`): until it unlocks the list or takes the
+    /// object out of the cell, it may ask for the object's kind, or retain it.
     pub fn item(&self, hand: &mut Hand<T>, row: u32, cell: u32) -> Option<u32>
         requires table { IsOf self.now hand.old }
         requires running { IsRunning hand.old.view }
@@ -142,9 +142,9 @@ impl<'h, T: Drop> Lists<'h, T> {
         }
     }
 
-    /// Puts an object into a cell of the list that the hand has locked, or is to finalise as the first of its dying chain,
-    /// or empties the cell with `None`. The hand's reference to the new item goes into the cell (`PyList_SetItem` steals
-    /// it). Returns what was there: the reference to it is the hand's from then on.
+    /// Puts an object into a cell of the list that the hand has locked, or is to finalise as the first of its dying
+    /// chain, or empties the cell with `None`. The hand's reference to the new item goes into the cell
+    /// (`PyList_SetItem` steals it). Returns what was there: the reference to it is the hand's from then on.
     pub fn swap_item(
         &self,
         hand: &mut Hand<T>,
@@ -182,8 +182,8 @@ impl<'h, T: Drop> Lists<'h, T> {
     }
 
     /// Takes the resource of the file or socket that the hand has locked, or finalises just now, out of its slot, for a
-    /// call of the host. While the resource is lent the hand can't unlock the object; from a dying object it is taken to
-    /// be closed.
+    /// call of the host. While the resource is lent the hand can't unlock the object; from a dying object it is taken
+    /// to be closed.
     pub fn lend(&self, hand: &mut Hand<T>, row: u32) -> T
         requires table { IsOf self.now hand.old }
         requires slot { HasSlot hand.old.view row }
@@ -196,7 +196,8 @@ impl<'h, T: Drop> Lists<'h, T> {
         self.heap.words().slot_take(hand, row)
     }
 
-    /// Puts the lent resource of the file or socket that the hand has locked, or finalises just now, back into its slot.
+    /// Puts the lent resource of the file or socket that the hand has locked, or finalises just now, back into its
+    /// slot.
     pub fn give_back(&self, hand: &mut Hand<T>, row: u32, resource: T)
         requires table { IsOf self.now hand.old }
         requires slot { HasSlot hand.old.view row }

@@ -69,8 +69,8 @@ pub record IsUnfinalised (x head : ℕ) (agenda : List Duty) : Type 0 where
 abbrev pub IsFirstOfChain : Actor → ℕ → Type 0
 IsFirstOfChain a x = a.head ≡ x + 1
 
--- The head of a thread's dying chain is 0, or the number of a row plus 1, and the thread has chained that row. The thread
--- doesn't deallocate the object that it has locked.
+-- The head of a thread's dying chain is 0, or the number of a row plus 1, and the thread has chained that row. The
+-- thread doesn't deallocate the object that it has locked.
 pub record ChainIsThere (m : Machine) (t : ℕ) (a : Actor) : Type 0 where
   pub head : a.head ≤ row_count m.layout
   pub first : (x : ℕ) → IsFirstOfChain a x → HasChained m t x

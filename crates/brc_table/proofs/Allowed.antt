@@ -29,12 +29,13 @@ use Rattle.brc_model.specs.CountingLaws.{DutiesAreKept, DutiesAreWithin, Account
 use Rattle.brc_model.specs.GuardLaws.{GuardedCellsStay}
 use Rattle.brc_table.specs.declared.view.View.{View}
 use Rattle.brc_table.specs.Views.{actor_of, event_of, did, taken_after, holds, NamesFewCells, RowsAreThere}
-use Rattle.brc_table.specs.Rule.{Guards, Stands}
+use Rattle.brc_table.specs.Rule.{Stands}
 use Rattle.brc_table.specs.Homes.{SlotsStand, TableStands}
 use Rattle.brc_table.specs.Plays.{SuitsFirst, FirstFindsOwner, FindsKnown, Continues, overwritten, Stores}
-use Rattle.brc_table.specs.Hands.{TableState, HandState, MayChange}
+use Rattle.brc_table.specs.Hands.{TableState, HandState}
 use Rattle.brc_table.specs.Begins.{Passes, Becomes, IsAt, MakesWithoutSlot, StoresWord}
 use Rattle.brc_table.specs.Places.{place, IsTableWord}
+use Rattle.brc_table.proofs.CellGuards.{change_guards}
 use Rattle.brc_table.proofs.Lists.{set_view, and_second}
 use Rattle.brc_table.proofs.ThreadsKept.{KeepsThreads, object_step}
 use Rattle.brc_table.proofs.Stepping.{Does, place_of, read_of, finds, has, relies, passes_after, object_in_table, object_reads}
@@ -123,14 +124,6 @@ pub record Knows (v : View) (d : Duty) (found : ℕ) : Type 0 where
   pub overwrites : Overwrites v.thread d found
   pub owner : FindsOwner v.layout d found
   pub finds : FindsKnown v (d ∷ []) found
-
--- No other hand changes the cells that the hand may change.
-pub change_guards : ChainsAreThere → (layout : Layout) (words : List ℕ) (views : List View) (id : ℕ) (v : View) (x : ℕ)
-    (stands : Stands layout words views) → get_elem? views id ≡ some v → MayChange v x → Guards stands.machine v x
-change_guards chains layout words views id v x stands here (inl locked) = inl locked
-change_guards chains layout words views id v x stands here (inr first) =
-    inr ((chains stands.accounts (1 + stands.machine.layout.workers) stands.machine v.thread (actor_of v) stands.counts
-    (stands.acts id v here)).first x (omega (arith, first)))
 
 -- The hand's first duty finds what the hand knows of it.
 finds_known : HandedMergesLive → ChainsAreThere

@@ -6,6 +6,7 @@ mod SlotsUsed
 mod ThreadsKept
 mod SeenWords
 mod Stepping
+mod CellGuards
 mod Allowed
 mod ThreadsAllowed
 mod SlotLists

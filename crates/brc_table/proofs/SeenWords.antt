@@ -102,8 +102,8 @@ module _ (layout : Layout) (memory : Address → ℕ) (t head : ℕ) (d : Duty) 
         ]
       ]
 
-  -- A cell that the hand has seen while it guards the list has that word after the step, too. The hand begins to guard the
-  -- list by a step on its gate.
+  -- A cell that the hand has seen while it guards the list has that word after the step, too. The hand begins to guard
+  -- the list by a step on its gate.
   pub cell_here : (x i word : ℕ) (Before After : Type 0)
       → (same_address (address_of layout t head d) (Gate x) ≡ false → After → Before)
       → (Before → fold (cell_known x i) None trace ≡ Some word → memory (Cell x i) ≡ word) → After

@@ -1,7 +1,7 @@
--- A hand swaps a cell of a list that it has locked, or is to finalise, and the rule holds again. No duty says so: the step puts a
--- reference in and takes one out at once, so the new machine is the one of the model's law of swaps.
+-- A hand swaps a cell of a list that it has locked, or is to finalise, and the rule holds again. No duty says so: the
+-- step puts a reference in and takes one out at once, so the new machine is the one of the model's law of swaps.
 use Rattle.std.proofs.Common.{◌≡◌, ◌≢◌, ℕ, zero, suc, ◌+◌, ◌<◌, ◌≤◌, Bool, false, cond, List, set, Option, Some, inl, inr, refl, sym, ap, ◌∙◌, subst, arith}
-use Rattle.std.specs.Prelude.{◌==◌, ◌&&◌, ◌⊎◌, slice_index, count_by}
+use Rattle.std.specs.Prelude.{◌==◌, ◌&&◌, slice_index, count_by}
 use Rattle.std.proofs.lemmas.Bool.{ne_eqb}
 use Rattle.std.proofs.lemmas.Bool.Decides.{eqb_tells}
 use Rattle.std.proofs.lemmas.Option.{slice_get_within}
@@ -19,24 +19,24 @@ use Rattle.brc_model.specs.declared.layout.Layout.{Layout}
 use Rattle.brc_model.specs.Layout.{row_count, IsCounted}
 use Rattle.brc_model.specs.References.{one_if}
 use Rattle.brc_model.specs.Duties.{address_of, new_word, cells_of}
-use Rattle.brc_model.specs.Machine.{Machine, Dying, written}
+use Rattle.brc_model.specs.Machine.{Machine, written}
 use Rattle.brc_model.specs.Accounts.{Account}
 use Rattle.brc_model.specs.Stores.{Overwrites}
 use Rattle.brc_model.specs.Counting.{with_account}
-use Rattle.brc_model.specs.CountingLaws.{IsFirstOfChain, WorkIsPutAside, ImmortalsAreFree, AccountsAreThere, ChainsAreThere}
+use Rattle.brc_model.specs.CountingLaws.{WorkIsPutAside, ImmortalsAreFree, AccountsAreThere, ChainsAreThere}
 use Rattle.brc_model.specs.CellLaws as law
 use Rattle.brc_model.specs.CellLaws.{cell_swapped, HasRoomFor, CellsAreSwapped, ItemsAreThere}
 use Rattle.brc_table.specs.declared.view.View.{View}
 use Rattle.brc_table.specs.Places.{HasWord, cell_place}
 use Rattle.brc_table.specs.Views.{actor_of, holds, RowsAreThere, without_reference}
 use Rattle.brc_table.specs.Seen.{cell_seen}
-use Rattle.brc_table.specs.Hands.{MayChange, MayLoad}
 use Rattle.brc_table.specs.Rule.{Guards, Stands}
 use Rattle.brc_table.specs.Homes.{SlotsStand, TableStands}
 use Rattle.brc_table.specs.Begins.{Passes}
 use Rattle.brc_table.specs.Swaps.{with_item, without_item, swapped, MayPut, MaySwap, Swaps}
 use Rattle.brc_table.proofs.Accounts.{with_account_same, with_account_other, count_with_reference, count_without_reference}
-use Rattle.brc_table.proofs.Allowed.{rows_there, change_guards}
+use Rattle.brc_table.proofs.CellGuards.{change_there, change_by, change_guards, guards_apart}
+use Rattle.brc_table.proofs.Allowed.{rows_there}
 use Rattle.brc_table.proofs.Passing.{waiting_keeps}
 use Rattle.brc_table.proofs.Becoming.{rested, rested_becomes, is_ready, alone, has_one}
 use Rattle.brc_table.proofs.Changing.{Changes, passes}
@@ -46,58 +46,6 @@ use Rattle.brc_table.proofs.Locking.{kind_some, known_low}
 use Rattle.brc_table.proofs.Stepping.{written_reads}
 use Rattle.brc_table.proofs.ThreadsKept.{object_step, threads_kept}
 use Rattle.brc_table.proofs.SeenWords.{IsStep, kind_here, cell_here}
-
--- ---- a list whose cells a hand may change
-
--- It has a row.
-pub change_there : (v : View) (x : ℕ) → RowsAreThere v → MayChange v x → x < row_count v.layout
-change_there v x rows (inl locked) = rows.locked x locked
-change_there v x rows (inr first) = omega (arith, rows.head, first)
-
--- A hand may change the cells that it may load.
-pub load_changes : (v : View) (x : ℕ) → MayLoad v x → MayChange v x
-load_changes v x (inl (locked, held)) = inl locked
-load_changes v x (inr first) = inr first
-
--- It is the one that the thread has locked, or the first of its chain.
-change_by : (v : View) (x : ℕ) → MayChange v x → (v.locked ≡ Some x) ⊎ IsFirstOfChain (actor_of (rested v)) x
-change_by v x (inl locked) = inl locked
-change_by v x (inr first) = inr (omega (arith, first))
-
--- Two hands don't guard one list: its gate names one thread.
-guards_apart : (layout : Layout) (words : List ℕ) (views : List View) (id other : ℕ) (v w : View) (x : ℕ)
-    (s : Stands layout words views) → get_elem? views id ≡ some v → get_elem? views other ≡ some w
-    → v.thread ≢ w.thread → Guards s.machine v x → Guards s.machine w x → ⊥
-guards_apart layout words views id other v w x s here there apart (inl locked) (inl theirs) =
-    let one = (s.counts.kept.core.each v.thread (actor_of v) (s.acts id v here)).0.locks x locked in
-    let two = (s.counts.kept.core.each w.thread (actor_of w) (s.acts other w there)).0.locks x theirs in
-    apart (omega (arith, one.gate, two.gate))
-guards_apart layout words views id other v w x s here there apart (inl locked) (inr (dies, (next, word, low))) =
-    let core = s.counts.kept.core in
-    let one = (core.each v.thread (actor_of v) (s.acts id v here)).0.locks x locked in
-    absurd (omega (
-      arith,
-      one.gate,
-      word,
-      slice_get_within s.machine.actors v.thread (actor_of v) (s.acts id v here),
-      core.threads,
-      core.few_threads,
-    ))
-guards_apart layout words views id other v w x s here there apart (inr (dies, (next, word, low))) (inl theirs) =
-    let core = s.counts.kept.core in
-    let two = (core.each w.thread (actor_of w) (s.acts other w there)).0.locks x theirs in
-    absurd (omega (
-      arith,
-      two.gate,
-      word,
-      slice_get_within s.machine.actors w.thread (actor_of w) (s.acts other w there),
-      core.threads,
-      core.few_threads,
-    ))
-guards_apart layout words views id other v w x s here there apart (inr (dies, word)) (inr (theirs, other_word)) =
-    let both : Dying v.thread ≡ Dying w.thread = sym dies ∙ theirs in
-    let threads : v.thread ≡ w.thread = cc in
-    apart threads
 
 -- ---- a duty that stores the word
 
@@ -286,7 +234,8 @@ module _ (put : WorkIsPutAside) (free : ImmortalsAreFree) (there : AccountsAreTh
       machine = cell_swapped m v.thread x i word;
       counts =
           swap s.accounts (1 + m.layout.workers) m v.thread (actor_of (rested v)) x i word s.counts
-          (is_ready layout words views id v s here may.running.0) (change_by v x may.changes) may.retains low puts.may_put
+          (is_ready layout words views id v s here may.running.0) (change_by v x may.changes) may.retains low
+          puts.may_put
           (room (m.memory (Cell x i)));
       layout_same = refl;
       length_is = length-set words (cell_place x i) word;

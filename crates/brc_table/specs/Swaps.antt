@@ -1,6 +1,6 @@
--- A hand swaps a cell of a list that it has locked, or is to finalise (Python/C API manual, List Objects: `PyList_SetItem` steals the
--- reference to the new item). The new item's reference goes from the hand into the cell, and the old one's from the
--- cell to the hand. A cell's word is 0, or the row of its item plus 1.
+-- A hand swaps a cell of a list that it has locked, or is to finalise (Python/C API manual, List Objects:
+-- `PyList_SetItem` steals the reference to the new item). The new item's reference goes from the hand into the cell,
+-- and the old one's from the cell to the hand. A cell's word is 0, or the row of its item plus 1.
 use Rattle.std.specs.Prelude.{◌≡◌, ℕ, zero, suc, ◌<◌, ◌≤◌, Some, List, [], ◌∷◌, ◌++◌, length}
 use Rattle.atomic_table.specs.Table.{Me}
 use Rattle.brc_model.specs.declared.address.Address.TheVariants.{Cell}
@@ -35,8 +35,8 @@ abbrev pub MayPut : View → ℕ → Type 0
 MayPut v zero = Unit {0}
 MayPut v (suc y) = HoldsOne v y × HasNoWork v y × KeepsLock v y
 
--- The hand may swap the cell: it may change the list's cells, knows that the list has the cell, retains nothing, and may
--- put the item in. It has room for the reference that comes out.
+-- The hand may swap the cell: it may change the list's cells, knows that the list has the cell, retains nothing, and
+-- may put the item in. It has room for the reference that comes out.
 pub record MaySwap (v : View) (x i word : ℕ) : Type 0 where
   pub running : IsRunning v
   pub changes : MayChange v x

@@ -1,4 +1,5 @@
-//! The steps of a hand on the cells of the list that it has locked, or is to finalise (Python/C API manual, List Objects).
+//! The steps of a hand on the cells of the list that it has locked, or is to finalise (Python/C API manual, List
+//! Objects).
 
 ghost use Rattle.std.specs.Prelude.{◌≡◌, ◌<◌, ◌≤◌, ℕ, Some, length};
 ghost use Rattle.brc_model.specs.Layout.{row_count};
@@ -13,9 +14,9 @@ use brc_model::{cell_loads_begin, immortals_are_free, work_is_put_aside};
 use std::marker::Brand;
 
 impl<T: Drop> Words<T> {
-    /// Loads a cell of the list that the hand has locked, or is to finalise as the first of its dying chain. Returns what
-    /// is there: a row plus 1, or 0 if the cell is empty. Since the hand locked or chained the list, no other thread has
-    /// changed the cell.
+    /// Loads a cell of the list that the hand has locked, or is to finalise as the first of its dying chain. Returns
+    /// what is there: a row plus 1, or 0 if the cell is empty. Since the hand locked or chained the list, no other
+    /// thread has changed the cell.
     pub fn cell_load(&self, hand: &mut Hand<T>, row: u32, cell: u32) -> u64
         requires table { IsOf self.now hand.old }
         requires running { IsRunning hand.old.view }
@@ -36,10 +37,10 @@ impl<T: Drop> Words<T> {
         self.load_cell::<Brand>(hand, row, cell)
     }
 
-    /// Swaps a cell of the list that the hand has locked, or is to finalise as the first of its dying chain, for `item`,
-    /// a row plus 1, or 0 for an empty cell. The hand's reference to the new item goes into the cell. Returns what was
-    /// there, also a row plus 1 or 0: the reference to it is the hand's from then on. Since the hand locked or chained
-    /// the list, no other thread has changed the cell.
+    /// Swaps a cell of the list that the hand has locked, or is to finalise as the first of its dying chain, for
+    /// `item`, a row plus 1, or 0 for an empty cell. The hand's reference to the new item goes into the cell. Returns
+    /// what was there, also a row plus 1 or 0: the reference to it is the hand's from then on. Since the hand locked or
+    /// chained the list, no other thread has changed the cell.
     pub fn cell_swap(&self, hand: &mut Hand<T>, row: u32, cell: u32, item: u64) -> u64
         requires table { IsOf self.now hand.old }
         requires running { IsRunning hand.old.view }

@@ -271,7 +271,8 @@ begun_knows p n m t a d rest at alone (Unlocks row backs has none) = (
   none,
 )
 begun_knows p n m t a d rest at alone (Loads row i backs has within) =
-    (((at.core.each t a at.found).0.locks row has).counted, inl (backs_duty m t a (d ∷ rest) row backs), inl has, within)
+    let lock = (at.core.each t a at.found).0.locks row has in
+    (lock.counted, inl (backs_duty m t a (d ∷ rest) row backs), inl has, within)
 begun_knows p n m t a d rest at alone (Swaps row i item h behind backs has within some) = (has, within)
 begun_knows p n m t a d rest at alone (Lends row backs has none some) =
     (((at.core.each t a at.found).0.locks row has).counted, has, none, some)

@@ -264,5 +264,6 @@ kinds_asked p n m t a x counts ready alone asks =
       locks = same_locks (p t) m t a (KindLoad x) (core.each t a ready.found).0.locks (λ k y. refl);
       knows = looks_still m t a x (KindLoad x) looks;
       small =
-          row_small (row_count m.layout) x (KindLoad x) (asked_row p n m t a x core ready alone asks) (λ y. refl) (omega arith);
+          row_small (row_count m.layout) x (KindLoad x) (asked_row p n m t a x core ready alone asks) (λ y. refl)
+          (omega arith);
     }))

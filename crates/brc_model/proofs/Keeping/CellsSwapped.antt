@@ -268,7 +268,8 @@ cells_are_swapped p n m t a x i word counts ready may_swap retains low may room 
     record { found = ready.found; running = ready.running; agenda = ready.agenda } in
     let own : more ≡ q t = with_account_same p t more in
     let second : Counts (with_account q t (without_item (q t) word)) n (filled mid t x i word) =
-    put_any q n mid t a x i word first ready_still (still_guards m t a x i found guards) retains (written_here m.memory (Cell x i) 0) low
+    put_any q n mid t a x i word first ready_still (still_guards m t a x i found guards) retains
+    (written_here m.memory (Cell x i) 0) low
     (subst (λ (c : Account). MayPut c a word) own (still_may_put (p t) a found word may)) in
     let accounts : with_account q t (without_item (q t) word) ≡ with_account p t (without_item more word) =
     ap (λ (c : Account). with_account q t (without_item c word)) (sym own)

@@ -169,8 +169,8 @@ guards_still : (m : Machine) (t : ℕ) (a : Actor) (x : ℕ) (d : Duty) → Guar
 guards_still m t a x d (inl locked) = inl locked
 guards_still m t a x d (inr chained) = inr chained
 
--- The invariant and the ranges hold after a ready thread begins to load a cell of the list that it has locked, or of the
--- first one of its chain.
+-- The invariant and the ranges hold after a ready thread begins to load a cell of the list that it has locked, or of
+-- the first one of its chain.
 pub cell_loads_begin : CellLoadsBegin
 cell_loads_begin p n m t a x i counts ready alone loads low =
     let core = counts.kept.core in

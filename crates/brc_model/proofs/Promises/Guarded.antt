@@ -123,7 +123,8 @@ dying_gate : (p : Accounts) (n : ℕ) (m : Machine) (t : ℕ) (a : Actor) (x : �
     → slice_get m.actors t ≡ Some a → IsDyingWord t (m.memory (Gate x)) → (w : ℕ) × (m.life x ≡ Dying w)
 dying_gate p n m t a x core found (next, word, low) =
     let few = slice_get_within m.actors t a found in
-    elim (m.life x) as (λ l. m.life x ≡ l → GateFits m.actors x l (m.memory (Gate x)) → (w : ℕ) × (m.life x ≡ Dying w)) [
+    elim (m.life x) as
+    (λ l. m.life x ≡ l → GateFits m.actors x l (m.memory (Gate x)) → (w : ℕ) × (m.life x ≡ Dying w)) [
       | Unborn ↦ λ is fits. absurd (omega (arith, fits, word))
       | Live ↦ λ is fits. elim fits [
         | IsFree free ↦ absurd (omega (arith, free, word))
@@ -171,7 +172,8 @@ cells_stay p n m t a d rest counts next =
             λ i. elim (eqb_tells (memory_by m t a d (Cell x i)) (m.memory (Cell x i))) [
               | inl same ↦ same.1
               | inr other ↦
-                  absurd (no_other p n m t u b d x counts found apart before (edited_by p n m t a d rest x i here other.1))
+                  absurd (no_other p n m t u b d x counts found apart before
+                  (edited_by p n m t a d rest x i here other.1))
             ],
           );
       own = λ x apart chained. chained_before p n m t a d rest x here apart chained;

@@ -2,7 +2,7 @@ use Rattle.std.proofs.Common.{◌<◌, subst}
 use Rattle.brc_model.specs.declared.layout.Layout.{Layout}
 use Rattle.brc_model.specs.Layout.{row_count}
 use Rattle.brc_table.proofs.Locking.{loading_becomes, loading_makes, known_low}
-use Rattle.brc_table.proofs.Swapping.{change_there, load_changes}
+use Rattle.brc_table.proofs.CellGuards.{change_there, load_changes}
 use Rattle.brc_table.proofs.words.Words.cell_load.Goals as goal
 
 pub load_cell-requires-clause-begins : goal.load_cell-requires-clause-begins

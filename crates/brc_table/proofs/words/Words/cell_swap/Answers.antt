@@ -2,7 +2,7 @@ use Rattle.std.proofs.Common.{◌<◌, subst}
 use Rattle.brc_model.specs.declared.layout.Layout.{Layout}
 use Rattle.brc_model.specs.Layout.{row_count}
 use Rattle.brc_table.proofs.Locking.{known_low}
-use Rattle.brc_table.proofs.Swapping.{change_there}
+use Rattle.brc_table.proofs.CellGuards.{change_there}
 use Rattle.brc_table.proofs.words.Words.cell_swap.Goals as goal
 
 pub swap_item-requires-clause-cell : goal.swap_item-requires-clause-cell
