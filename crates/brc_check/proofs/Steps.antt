@@ -3,8 +3,8 @@ use Rattle.std.proofs.Common.{◌≡◌, ℕ, ◌<◌, Bool, true, false, cond, 
 use Rattle.std.specs.Prelude.{None, Some, slice_get, nat_lt}
 use Rattle.std.proofs.lemmas.Bool.{ltb-true}
 use Rattle.brc_lang.specs.declared.module.Instr.{Instr}
-use Rattle.brc_model.specs.declared.code.CheckCode.{CheckCode}
-use Rattle.brc_model.specs.declared.code.CheckCode.TheVariants.{RunsOff}
+use Rattle.brc_lang.specs.declared.check_code.CheckCode.{CheckCode}
+use Rattle.brc_lang.specs.declared.check_code.CheckCode.TheVariants.{RunsOff}
 use Rattle.brc_model.specs.declared.slot.State.{State}
 use Rattle.brc_model.specs.declared.slot.Exit.{Exit}
 use Rattle.brc_model.specs.Slots.{lowest, after, target}

@@ -9,7 +9,7 @@ use Rattle.std.proofs.lemmas.Option.{none-some, same_Some, slice_get_read, slice
 use Rattle.brc_lang.specs.declared.module.Function.{Function}
 use Rattle.brc_lang.specs.declared.module.Module.{Module}
 use Rattle.brc_lang.specs.declared.module.Instr.{Instr}
-use Rattle.brc_model.specs.declared.code.CheckCode.{CheckCode}
+use Rattle.brc_lang.specs.declared.check_code.CheckCode.{CheckCode}
 use Rattle.brc_model.specs.declared.slot.State.{State}
 use Rattle.brc_model.specs.Paths.{IsAcceptableCode, IsAcceptable}
 use Rattle.brc_model.specs.Tables.{HasShape, IsTrueTable, IsTrueWhereReached, entries_of}

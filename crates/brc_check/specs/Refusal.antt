@@ -2,8 +2,8 @@
 use Rattle.std.specs.Prelude.{◌≡◌, ◌⊎◌, ℕ, List, Contains, Option, Some, slice_get}
 use Rattle.brc_lang.specs.declared.module.Function.{Function}
 use Rattle.brc_lang.specs.declared.module.Instr.{Instr}
-use Rattle.brc_model.specs.declared.code.CheckCode.{CheckCode}
-use Rattle.brc_model.specs.declared.code.CheckCode.TheVariants.{StatesDiffer, NoMemory}
+use Rattle.brc_lang.specs.declared.check_code.CheckCode.{CheckCode}
+use Rattle.brc_lang.specs.declared.check_code.CheckCode.TheVariants.{StatesDiffer, NoMemory}
 use Rattle.brc_model.specs.declared.slot.State.{State}
 use Rattle.brc_model.specs.Paths.{ReportsCode}
 use Rattle.brc_model.specs.Tables.{StatesDifferAt, HasShape, entries_of}

@@ -7,7 +7,8 @@ ghost use Rattle.brc_check.specs.Entries.{end_of, StaysOn, IsBlocked};
 use crate::refused::CodeAt;
 use crate::state::same_state;
 use crate::step::Step;
-use brc_model::{CheckCode, State};
+use brc_lang::CheckCode;
+use brc_model::State;
 
 /// Returns the entry of the point, or `None` if there is no such point.
 pub fn entry_at(entries: &[Option<State>], at: usize) -> Option<State>

@@ -14,8 +14,8 @@ use crate::refused::{CodeAt, Refused};
 use crate::step::{Step, follow};
 use crate::trail::{exits_by, exits_to};
 use crate::visits::{Visit, Visits, add, first_visits, is_visited};
-use brc_lang::{Function, Instr, Module};
-use brc_model::{CheckCode, Exit};
+use brc_lang::{CheckCode, Function, Instr, Module};
+use brc_model::Exit;
 use std::alloc::{AllocError, Global};
 
 fn is_wanted(wanted: CodeAt, at: usize, code: CheckCode) -> bool

@@ -14,8 +14,8 @@ use crate::filling::{Filling, first_filling, found_at, settle};
 use crate::refused::{CodeAt, Refused};
 use crate::step::{Step, follow};
 use crate::table::Table;
-use brc_lang::{Function, Instr, Module, Name, Sequence};
-use brc_model::{CheckCode, Exit, State};
+use brc_lang::{CheckCode, Function, Instr, Module, Name, Sequence};
+use brc_model::{Exit, State};
 use std::alloc::{AllocError, Global};
 
 /// Follows one exit of a point. The state that it leaves becomes the entry of the target, or is compared with it.

@@ -10,8 +10,8 @@ use crate::refusing_host::{read_refusal, write_refusal};
 use crate::refusing_items::{item_refusal, put_refusal, set_refusal};
 use crate::refusing_locks::{lock_refusal, unlock_refusal};
 use crate::slots::{forget_items, kind_of, put, slot, with_kind};
-use brc_lang::{Instr, Kind};
-use brc_model::{CheckCode, Exit, Slot, State};
+use brc_lang::{CheckCode, Instr, Kind};
+use brc_model::{Exit, Slot, State};
 
 /// Returns the lowest code that the instruction reports in the state, or `None`.
 pub fn refusal(instr: Instr, state: &State) -> Option<CheckCode>

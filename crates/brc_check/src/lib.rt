@@ -25,7 +25,8 @@ mod trail;
 mod verifying;
 mod visits;
 
-pub use brc_model::{CheckCode, Exit, Slot, State};
+pub use brc_lang::CheckCode;
+pub use brc_model::{Exit, Slot, State};
 pub use checked::Checked;
 pub use checker::check;
 pub use finding::path_to;

@@ -1,7 +1,6 @@
 ghost use Rattle.std.specs.Prelude.{◌≡◌};
 
-use brc_lang::Name;
-use brc_model::CheckCode;
+use brc_lang::{CheckCode, Name};
 
 /// Why a module or a table isn't accepted: a function, a point, and the code that is reported there. With the code
 /// `NoMemory` the function and the point have no meaning.

@@ -4,8 +4,8 @@ ghost use Rattle.std.specs.Prelude.{◌≡◌};
 ghost use Rattle.brc_model.specs.Slots.{lowest};
 
 use crate::slots::{any_owned, is_locked, kind_of, may_be, put, slot};
-use brc_lang::{Instr, Kind, Variable};
-use brc_model::{CheckCode, Slot, State};
+use brc_lang::{CheckCode, Instr, Kind, Variable};
+use brc_model::{Slot, State};
 
 /// Returns the lowest code that `none`, `num`, `list`, `open` or `connect` reports in the state.
 pub fn into_refusal(state: &State, to: Variable) -> Option<CheckCode>

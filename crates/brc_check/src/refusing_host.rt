@@ -4,8 +4,8 @@ ghost use Rattle.std.specs.Prelude.{◌≡◌};
 ghost use Rattle.brc_model.specs.Slots.{lowest};
 
 use crate::slots::{has_resource, is_locked, is_num, slot};
-use brc_lang::{Instr, Variable};
-use brc_model::{CheckCode, Slot, State};
+use brc_lang::{CheckCode, Instr, Variable};
+use brc_model::{Slot, State};
 
 /// Returns the lowest code that `read` reports in the state.
 pub fn read_refusal(state: &State, to: Variable, file: Variable) -> Option<CheckCode>

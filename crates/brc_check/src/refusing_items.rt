@@ -4,8 +4,8 @@ ghost use Rattle.std.specs.Prelude.{◌≡◌};
 ghost use Rattle.brc_model.specs.Slots.{lowest};
 
 use crate::slots::{is_list, is_locked, slot};
-use brc_lang::{Instr, Variable};
-use brc_model::{CheckCode, Slot, State};
+use brc_lang::{CheckCode, Instr, Variable};
+use brc_model::{Slot, State};
 
 /// Returns the lowest code that `borrow` or `fetch` reports in the state.
 pub fn item_refusal(state: &State, to: Variable, list: Variable) -> Option<CheckCode>

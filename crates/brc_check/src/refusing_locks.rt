@@ -4,8 +4,8 @@ ghost use Rattle.std.specs.Prelude.{◌≡◌};
 ghost use Rattle.brc_model.specs.Slots.{lowest};
 
 use crate::slots::{is_lockable, is_locked, kind_of, slot};
-use brc_lang::{Instr, Variable};
-use brc_model::{CheckCode, Slot, State};
+use brc_lang::{CheckCode, Instr, Variable};
+use brc_model::{Slot, State};
 
 pub fn lock_refusal(state: &State, object: Variable) -> Option<CheckCode>
     ensures { result ≡ lowest (Instr.Lock object) state.now }

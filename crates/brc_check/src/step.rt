@@ -6,8 +6,8 @@ ghost use Rattle.brc_model.specs.Paths.{At, follow};
 ghost use Rattle.brc_check.specs.Entries.{end_of};
 
 use crate::instruction::{apply, refusal, target_of};
-use brc_lang::Instr;
-use brc_model::{CheckCode, Exit, State};
+use brc_lang::{CheckCode, Instr};
+use brc_model::{Exit, State};
 
 /// The end of a step.
 #[derive(Clone, Copy, Debug)]

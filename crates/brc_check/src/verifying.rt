@@ -17,8 +17,8 @@ use crate::refused::{CodeAt, Refused};
 use crate::state::entry;
 use crate::step::{Step, follow};
 use crate::table::Table;
-use brc_lang::{Function, Instr, Module, Sequence};
-use brc_model::{CheckCode, Exit, State, accepted_is_safe};
+use brc_lang::{CheckCode, Function, Instr, Module, Sequence};
+use brc_model::{Exit, State, accepted_is_safe};
 
 /// Compares the entry of a point with those of the targets of its two exits.
 fn point_error(code: &[Instr], entries: &[Option<State>], at: usize) -> Option<CodeAt>

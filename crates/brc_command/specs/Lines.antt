@@ -4,8 +4,8 @@ use Rattle.brc_lang.specs.Grammar.{line}
 use Rattle.brc_lang.specs.declared.fault.FaultCode.{FaultCode}
 use Rattle.brc_lang.specs.declared.fault.FaultCode.TheVariants as faults
 use Rattle.brc_lang.specs.declared.fault.ReadFault.{ReadFault}
-use Rattle.brc_model.specs.declared.code.CheckCode.{CheckCode}
-use Rattle.brc_model.specs.declared.code.CheckCode.TheVariants as checks
+use Rattle.brc_lang.specs.declared.check_code.CheckCode.{CheckCode}
+use Rattle.brc_lang.specs.declared.check_code.CheckCode.TheVariants as checks
 use Rattle.brc_check.specs.declared.refused.Refused.{Refused as Refusal}
 use Rattle.brc_command.specs.declared.load.LoadError.{LoadError}
 use Rattle.brc_command.specs.declared.load.LoadError.TheVariants as loads

@@ -3,9 +3,9 @@ use Rattle.std.specs.Prelude.{ℕ, if◌then◌else◌, List, Option, None, Some
 use Rattle.std.specs.Str.{bytes_eq}
 use Rattle.brc_lang.specs.declared.fault.FaultCode.TheVariants.{FirstLine, UnknownWord, Number, Target, NameTwice}
 use Rattle.brc_lang.specs.declared.fault.FaultCode.TheVariants.{OverLimit, CutOff, NoMemory as MemoryOfReader}
-use Rattle.brc_model.specs.declared.code.CheckCode.TheVariants.{EmptyUsed, WrongKind, NotOwned, StillOwns, LeftOwned}
-use Rattle.brc_model.specs.declared.code.CheckCode.TheVariants.{LeftLocked, SecondLock, NotLocked, LockedChanged}
-use Rattle.brc_model.specs.declared.code.CheckCode.TheVariants.{StatesDiffer, RunsOff, NoMemory}
+use Rattle.brc_lang.specs.declared.check_code.CheckCode.TheVariants.{EmptyUsed, WrongKind, NotOwned, StillOwns, LeftOwned}
+use Rattle.brc_lang.specs.declared.check_code.CheckCode.TheVariants.{LeftLocked, SecondLock, NotLocked, LockedChanged}
+use Rattle.brc_lang.specs.declared.check_code.CheckCode.TheVariants.{StatesDiffer, RunsOff, NoMemory}
 use Rattle.brc_explain.specs.declared.topic.Topic.{Topic}
 use Rattle.brc_explain.specs.declared.topic.Topic.TheVariants.{Check, Read}
 

@@ -1,6 +1,7 @@
 //! The text of a native extension module: its types, its one spelling, and the functions that read and write it.
 #![tactic(auto)]
 
+mod check_code;
 mod cursor;
 mod fault;
 mod instruction;
@@ -18,6 +19,7 @@ mod targets;
 mod variable;
 mod writing;
 
+pub use check_code::CheckCode;
 pub use cursor::Cursor;
 pub use fault::{FaultCode, ReadFault};
 pub use kind::Kind;

@@ -5,8 +5,8 @@ use Rattle.std.specs.List.{AllByRecursion}
 use Rattle.brc_lang.specs.declared.module.Instr.{Instr}
 use Rattle.brc_lang.specs.declared.module.Function.{Function}
 use Rattle.brc_lang.specs.declared.module.Module.{Module}
-use Rattle.brc_model.specs.declared.code.CheckCode.{CheckCode}
-use Rattle.brc_model.specs.declared.code.CheckCode.TheVariants.{RunsOff}
+use Rattle.brc_lang.specs.declared.check_code.CheckCode.{CheckCode}
+use Rattle.brc_lang.specs.declared.check_code.CheckCode.TheVariants.{RunsOff}
 use Rattle.brc_model.specs.declared.slot.State.{State}
 use Rattle.brc_model.specs.declared.slot.Exit.{Exit}
 use Rattle.brc_model.specs.Slots.{lowest, after, target, entry}

@@ -9,7 +9,6 @@ mod actor;
 mod address;
 mod call_laws;
 mod cell_laws;
-mod code;
 mod counting_laws;
 mod duty;
 mod guard_laws;
@@ -30,7 +29,6 @@ pub use actor::{Counters, Place, Stage, Status};
 pub use address::Address;
 pub use call_laws::calls_are_bounded;
 pub use cell_laws::{cells_are_swapped, items_are_there};
-pub use code::CheckCode;
 pub use counting_laws::{
     accounts_are_there, chains_are_there, counts_agree, duties_are_kept, duties_are_within,
     handed_merges_live,
