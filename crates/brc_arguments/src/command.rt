@@ -1,7 +1,7 @@
 use crate::not_asked::NotAsked;
 use brc_command::{Asked, MOST_NAMES, MOST_ROWS, MOST_THREADS, MOST_TIMES, Run, VERSION};
-use brc_explain::topic_named;
 use brc_lang::number;
+use brc_pages::topic_named;
 use clap::error::ErrorKind;
 use clap::{Arg, ArgAction, ArgMatches, Command, Error, value_parser};
 use std::alloc::{AllocError, Global};

@@ -2,7 +2,7 @@ ghost use Rattle.std.specs.Prelude.{◌<◌, ◌≤◌, length};
 ghost use Rattle.brc_command.specs.declared.asked.TheConstants.{MOST_NAMES};
 ghost use Rattle.brc_model.specs.Limits.{worker_limit, row_limit, times_limit};
 
-use brc_explain::Topic;
+use brc_pages::Topic;
 
 /// The greatest number of workers.
 pub const MOST_THREADS: u32 = 32;

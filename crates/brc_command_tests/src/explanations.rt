@@ -3,8 +3,8 @@ use crate::commands::{
 };
 use brc_check::CheckCode;
 use brc_command::{Asked, LoadError, execute};
-use brc_explain::Topic;
 use brc_lang::FaultCode;
+use brc_pages::Topic;
 use brc_run::System;
 use std::process::Abort;
 

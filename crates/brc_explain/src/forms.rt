@@ -1,7 +1,7 @@
 //! The forms of the instructions, as a reader of a fault wants to see them.
 
-use crate::text::write_gap;
 use brc_lang::{Function, Instr, write_pieces};
+use brc_pages::write_gap;
 use std::io;
 use std::io::Write;
 

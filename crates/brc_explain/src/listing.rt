@@ -2,9 +2,9 @@
 
 use crate::fault::ExplainFault;
 use crate::state_text::write_state;
-use crate::text::{write_gap, write_heading, write_in};
 use brc_check::State;
 use brc_lang::{Function, Instr, write_bytes, write_instruction, write_number, write_pieces};
+use brc_pages::{write_gap, write_heading, write_in};
 use brc_report::{Paint, Role};
 use std::alloc::Global;
 use std::io;

@@ -1,13 +1,12 @@
 //! A path, one line a step: the instruction, the exit taken there, and the state after it.
 
-use crate::check_pages::check_page;
 use crate::fault::ExplainFault;
 use crate::listing::write_numbered;
 use crate::state_text::write_state;
-use crate::text::{write_gap, write_in};
 use crate::walking::reached;
 use brc_check::{Exit, State, Step, follow};
 use brc_lang::{Instr, write_bytes};
+use brc_pages::{Topic, page_of, write_gap, write_in};
 use brc_report::{Paint, Role};
 use std::alloc::Global;
 use std::io;
@@ -61,7 +60,7 @@ fn write_step<W: Write>(
         }
         Step::Ends => write_bytes(b"the call ends", out)?,
         Step::Error(reported) => {
-            let page = check_page(reported);
+            let page = page_of(Topic::Check(reported));
             let pieces: [&[u8]; 3] = [page.code.as_bytes(), b": ", page.title.as_bytes()];
             write_in(Role::Code, &pieces, walk.paint, out)?;
         }

@@ -5,18 +5,18 @@ ghost use Rattle.brc_lang.specs.Grammar.{IsModule};
 ghost use Rattle.brc_check.specs.Refusal.{IsRefusal, IsRefusedFor, IsForMemory};
 ghost use Rattle.brc_explain.specs.declared.fault.ExplainFault.TheVariants.{NoMemory};
 
-use crate::check_pages::check_page;
 use crate::fault::ExplainFault;
 use crate::forms::write_forms;
 use crate::listing::{Marked, width_of, write_listing};
-use crate::page::Page;
 use crate::path_text::{Walk, write_path};
 use crate::state_text::write_legend;
-use crate::text::{write_heading, write_in, write_paragraph, write_section, write_title};
 use crate::walking::reached;
 use crate::why::{write_differences, write_why};
 use brc_check::{CheckCode, Exit, Path, Refused, first_states, path_to};
 use brc_lang::{Function, Module, Name, write_bytes, write_number, write_pieces};
+use brc_pages::{
+    Page, Topic, page_of, write_heading, write_in, write_paragraph, write_section, write_title,
+};
 use brc_report::{Paint, Role};
 use std::alloc::Global;
 use std::io;
@@ -59,7 +59,7 @@ fn explain_reported<W: Write>(
     requires refusal { IsRefusedFor «module».now.functions refused.now }
 {
     let path = path_to(alloc, module, refused)?;
-    let page = check_page(refused.code);
+    let page = page_of(Topic::Check(refused.code));
     write_head(&page, refused, paint, out)?;
     let functions = module.functions.as_slice();
     if let Some(asked) = asked_for(functions, only, &refused.function) {

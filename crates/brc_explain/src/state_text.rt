@@ -1,8 +1,8 @@
 //! The state of the variables in a few words.
 
-use crate::text::write_in;
 use brc_check::{Slot, State};
 use brc_lang::{Kind, Variable, write_bytes, write_number, write_pieces};
+use brc_pages::write_in;
 use brc_report::{Paint, Role};
 use std::io;
 use std::io::Write;

@@ -3,11 +3,10 @@
 use crate::above::{Situation, count_instructions, find_line, first_equal, wrong_target};
 use crate::forms::{Form, Operand, hint_for};
 use crate::line_fault::{LineFault, Wanted, heading_fault, instruction_fault};
-use crate::read_pages::read_page;
-use crate::text::write_in;
 use crate::visible::{Span, behind, part, whole, write_marked_line, write_plain_line};
 use crate::words::word_at;
 use brc_lang::{FaultCode, ReadFault, is_word, write_bytes, write_number, write_pieces};
+use brc_pages::{Topic, page_of, write_in};
 use brc_report::{Paint, Role};
 use std::io;
 use std::io::Write;
@@ -20,7 +19,7 @@ pub fn explain_unreadable<W: Write>(
     paint: Paint,
     out: &mut W,
 ) -> io::Result<()> {
-    let page = read_page(fault.code);
+    let page = page_of(Topic::Read(fault.code));
     write_bytes(b"Line ", out)?;
     write_number(fault.line, out)?;
     write_bytes(b" can't be read. ", out)?;

@@ -1,7 +1,7 @@
 //! A line of a text as a terminal can show it: cut around the part that matters, with a mark below that part.
 
-use crate::text::write_in;
 use brc_lang::{write_bytes, write_number, write_pieces};
+use brc_pages::write_in;
 use brc_report::{Paint, Role};
 use std::io;
 use std::io::Write;

@@ -1,7 +1,7 @@
 //! The pages: each example is a text with that code, and its mended form has none.
 
 use crate::explaining::{check_line, has_part};
-use brc_explain::{ExampleLine, Topic, page_of, topic_named, write_page};
+use brc_pages::{ExampleLine, Topic, page_of, topic_named, write_page};
 use brc_report::Paint;
 use std::alloc::Global;
 use std::test::*;

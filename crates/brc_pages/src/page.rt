@@ -1,7 +1,7 @@
 //! The page of a code: its meaning, the rule behind it, the usual mend, and an example with its mended form.
 
 ghost use Rattle.std.specs.Prelude.{◌≡◌, Some};
-ghost use Rattle.brc_explain.specs.Topics.{topic_named};
+ghost use Rattle.brc_pages.specs.Topics.{topic_named};
 
 use crate::check_pages::check_page;
 use crate::read_pages::read_page;

@@ -2,12 +2,12 @@
 //! number.
 
 ghost use Rattle.std.specs.Prelude.{◌≡◌, Some};
-ghost use Rattle.brc_explain.specs.Topics.{topic_named};
-ghost use Rattle.brc_explain.specs.declared.topic.Topic.TheVariants.{Check};
+ghost use Rattle.brc_pages.specs.Topics.{topic_named};
+ghost use Rattle.brc_pages.specs.declared.topic.Topic.TheVariants.{Check};
 
 use crate::lock_pages::{LEFT_LOCKED, LOCKED_CHANGED, NOT_LOCKED, SECOND_LOCK};
 use crate::page::Page;
-use brc_check::CheckCode;
+use brc_lang::CheckCode;
 
 pub const API_RULE: &str = "The rule of the Python/C API";
 

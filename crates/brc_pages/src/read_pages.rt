@@ -1,8 +1,8 @@
 //! The pages of L1 to L8.
 
 ghost use Rattle.std.specs.Prelude.{◌≡◌, Some};
-ghost use Rattle.brc_explain.specs.Topics.{topic_named};
-ghost use Rattle.brc_explain.specs.declared.topic.Topic.TheVariants.{Read};
+ghost use Rattle.brc_pages.specs.Topics.{topic_named};
+ghost use Rattle.brc_pages.specs.declared.topic.Topic.TheVariants.{Read};
 
 use crate::page::Page;
 use brc_lang::FaultCode;

@@ -6,8 +6,8 @@ use Rattle.brc_lang.specs.declared.fault.FaultCode.TheVariants.{OverLimit, CutOf
 use Rattle.brc_lang.specs.declared.check_code.CheckCode.TheVariants.{EmptyUsed, WrongKind, NotOwned, StillOwns, LeftOwned}
 use Rattle.brc_lang.specs.declared.check_code.CheckCode.TheVariants.{LeftLocked, SecondLock, NotLocked, LockedChanged}
 use Rattle.brc_lang.specs.declared.check_code.CheckCode.TheVariants.{StatesDiffer, RunsOff, NoMemory}
-use Rattle.brc_explain.specs.declared.topic.Topic.{Topic}
-use Rattle.brc_explain.specs.declared.topic.Topic.TheVariants.{Check, Read}
+use Rattle.brc_pages.specs.declared.topic.Topic.{Topic}
+use Rattle.brc_pages.specs.declared.topic.Topic.TheVariants.{Check, Read}
 
 -- why a text can't be read: L1 to L8
 abbrev pub read_topic_named : List ℕ → Option Topic

@@ -1,10 +1,9 @@
 //! What can be explained by its code alone.
 
 ghost use Rattle.std.specs.Prelude.{◌≡◌};
-ghost use Rattle.brc_explain.specs.Topics.{topic_named, read_topic_named};
+ghost use Rattle.brc_pages.specs.Topics.{topic_named, read_topic_named};
 
-use brc_check::CheckCode;
-use brc_lang::{FaultCode, is_word};
+use brc_lang::{CheckCode, FaultCode, is_word};
 
 /// A code that can be explained.
 #[derive(Clone, Copy, Debug, PartialEq, Eq)]
