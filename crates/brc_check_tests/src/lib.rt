@@ -1,4 +1,5 @@
-//! Tests of the checker: what it accepts, what it refuses, and its tables.
+//! Tests of the texts (modules, schedules and reports), and of the checker: what it accepts, what it refuses, and its
+//! tables.
 #![tactic(auto)]
 
 #[cfg(test)]
@@ -6,7 +7,13 @@ mod functions;
 #[cfg(test)]
 mod host;
 #[cfg(test)]
+mod host_cases;
+#[cfg(test)]
+mod host_instructions;
+#[cfg(test)]
 mod items;
+#[cfg(test)]
+mod line_cases;
 #[cfg(test)]
 mod locked_tables;
 #[cfg(test)]
@@ -14,6 +21,16 @@ mod locks;
 #[cfg(test)]
 mod loops;
 #[cfg(test)]
+mod modules;
+#[cfg(test)]
 mod paths_to;
 #[cfg(test)]
+mod reports;
+#[cfg(test)]
+mod schedules;
+#[cfg(test)]
 mod tables;
+#[cfg(test)]
+mod target_cases;
+#[cfg(test)]
+mod writing;

@@ -1,9 +1,18 @@
-//! Tests of header words, and of the step world.
+//! Tests of header words, of the step world, and of explanations: the pages of the codes, the word at fault in a text, and
+//! paths to a refusal.
 #![tactic(auto)]
 
 #[cfg(test)]
+mod explaining;
+#[cfg(test)]
 mod interleavings;
+#[cfg(test)]
+mod modules;
+#[cfg(test)]
+mod pages;
 #[cfg(test)]
 mod steps;
 #[cfg(test)]
 mod words;
+#[cfg(test)]
+mod words_at_fault;
