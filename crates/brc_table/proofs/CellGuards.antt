@@ -1,5 +1,5 @@
 -- Who guards a list's cells: a hand that has locked the list, or has chained it. No other hand changes them.
-use Rattle.std.proofs.Common.{◌≡◌, ◌≢◌, ℕ, ◌<◌, List, Some, inl, inr, sym, ◌∙◌, arith}
+use Rattle.std.proofs.Common.{◌≡◌, ◌≢◌, ℕ, ◌+◌, ◌<◌, List, Some, inl, inr, sym, ◌∙◌, arith}
 use Rattle.std.specs.Prelude.{◌⊎◌}
 use Rattle.std.proofs.lemmas.Option.{slice_get_within}
 use mathlib.Core.Option.{some}
@@ -26,7 +26,7 @@ load_changes v x (inl (locked, held)) = inl locked
 load_changes v x (inr first) = inr first
 
 -- It is the one that the thread has locked, or the first of its chain.
-change_by : (v : View) (x : ℕ) → MayChange v x → (v.locked ≡ Some x) ⊎ IsFirstOfChain (actor_of v) x
+pub change_by : (v : View) (x : ℕ) → MayChange v x → (v.locked ≡ Some x) ⊎ IsFirstOfChain (actor_of v) x
 change_by v x (inl locked) = inl locked
 change_by v x (inr first) = inr (omega (arith, first))
 
@@ -41,7 +41,7 @@ change_guards chains layout words views id v x stands here (inr first) =
 -- ---- one guard
 
 -- Two hands don't guard one list: its gate names one thread.
-guards_apart : (layout : Layout) (words : List ℕ) (views : List View) (id other : ℕ) (v w : View) (x : ℕ)
+pub guards_apart : (layout : Layout) (words : List ℕ) (views : List View) (id other : ℕ) (v w : View) (x : ℕ)
     (s : Stands layout words views) → get_elem? views id ≡ some v → get_elem? views other ≡ some w
     → v.thread ≢ w.thread → Guards s.machine v x → Guards s.machine w x → ⊥
 guards_apart layout words views id other v w x s here there apart (inl locked) (inl theirs) =
