@@ -1,64 +1,56 @@
-use Rattle.std.proofs.Common.{ℕ, ◌+◌, ◌-◌, List, ◌∷◌, ◌++◌, refl, sym, ap, ◌∙◌, subst}
+use Rattle.std.proofs.Common.{◌≡◌, ◌≢◌, ℕ, ◌+◌, ◌-◌, List, ◌∷◌, ◌++◌, refl, sym, ap, ◌∙◌, subst}
 use Rattle.std.proofs.lemmas.Bool.{eq-eqb}
 use Rattle.brc_model.specs.declared.duty.Holding.TheVariants.{InFlight}
 use Rattle.brc_model.specs.declared.duty.Duty.{Duty}
 use Rattle.brc_model.specs.declared.duty.Duty.TheVariants.{SettleCell, ReleaseLoad}
 use Rattle.brc_model.specs.Duties.{cells_from, release_found}
-use Rattle.brc_free.specs.Works.{HasWorked, behind, cells_left}
+use Rattle.brc_table.specs.declared.view.View.{View}
+use Rattle.brc_table.specs.Views.{RowsAreThere, done}
+use Rattle.brc_free.specs.Works.{HasWorked, CellNext, behind, cells_left}
 use Rattle.brc_free.proofs.FirstDuties.{settle_cell_first, release_load_first}
 use Rattle.brc_free.proofs.Working.{finalising_unlocked, worked_first, worked_call}
 use Rattle.brc_free.proofs.SettleDuties.{cell_emptied, item_found}
 use Rattle.brc_free.proofs.finaliser.Finaliser.empty_cell.Goals as goal
 
+-- The cell is empty. What was there is given up next, and then come the cells that are left.
+emptied : (v w : View) (row cell found : ℕ) (duty : CellNext row cell v.agenda) → RowsAreThere v → w ≡ done v found
+    → HasWorked v 0 (release_found found ++ (cells_from row (cell + 1) duty.count ++ duty.rest)) w
+emptied v w row cell found duty there is =
+    let begins = worked_first v (SettleCell row cell duty.count ∷ duty.rest)
+    (duty.next ∙ sym (settle_cell_first v.head row cell duty.count duty.rest)) in
+    cell_emptied v v w 0 row cell duty.count found duty.rest begins is
+    (finalising_unlocked v (SettleCell row cell duty.count) duty.rest row there duty.next (eq-eqb row row refl))
+
+-- There was an item, which is given up next.
+item_next : (v w : View) (row cell found : ℕ) (duty : CellNext row cell v.agenda) → RowsAreThere v → w ≡ done v found
+    → found ≢ 0
+    → HasWorked v 0 (ReleaseLoad (found - 1) InFlight ∷ (cells_from row (cell + 1) duty.count ++ duty.rest)) w
+item_next v w row cell found duty there is some =
+    subst (λ (ds : List Duty). HasWorked v 0 (ds ++ (cells_from row (cell + 1) duty.count ++ duty.rest)) w)
+    (item_found found some) (emptied v w row cell found duty there is)
+
 pub returns-then-item-eq0-clause-work : goal.returns-then-item-eq0-clause-work
 returns-then-item-eq0-clause-work g c =
-    let v = c.args.hand.now.view in
-    let w = c.dying_cell_swap-item.new.hand.view in
     let duty = c.requires.duty in
-    let found = c.dying_cell_swap-item.result in
-    let apart = finalising_unlocked v (SettleCell c.args.row c.args.cell duty.count) duty.rest c.args.row
-    c.rows_are_there.ensures duty.next (eq-eqb c.args.row c.args.row refl) in
-    let begins = worked_first v (SettleCell c.args.row c.args.cell duty.count ∷ duty.rest)
-    (duty.next ∙ sym (settle_cell_first v.head c.args.row c.args.cell duty.count duty.rest)) in
     let left = cells_from c.args.row (c.args.cell + 1) duty.count ++ duty.rest in
-    subst (λ (ds : List Duty). HasWorked v 0 ds w)
+    subst (λ (ds : List Duty). HasWorked c.args.hand.now.view 0 ds c.dying_cell_swap-item.new.hand.view)
     (ap (λ (n : ℕ). release_found n ++ left) c.if-item-eq0.true ∙ sym (ap cells_left duty.next))
-    (cell_emptied v v w 0 c.args.row c.args.cell duty.count found duty.rest begins
-    c.dying_cell_swap-item.ensures.view apart)
+    (emptied _ _ c.args.row c.args.cell _ duty c.rows_are_there.ensures c.dying_cell_swap-item.ensures.view)
 
 pub release_item-requires-clause-duty : goal.release_item-requires-clause-duty
 release_item-requires-clause-duty g c =
-    let v = c.args.hand.now.view in
-    let w = c.dying_cell_swap-item.new.hand.view in
-    let duty = c.requires.duty in
-    let found = c.dying_cell_swap-item.result in
-    let apart = finalising_unlocked v (SettleCell c.args.row c.args.cell duty.count) duty.rest c.args.row
-    c.rows_are_there.ensures duty.next (eq-eqb c.args.row c.args.row refl) in
-    let begins = worked_first v (SettleCell c.args.row c.args.cell duty.count ∷ duty.rest)
-    (duty.next ∙ sym (settle_cell_first v.head c.args.row c.args.cell duty.count duty.rest)) in
-    let left = cells_from c.args.row (c.args.cell + 1) duty.count ++ duty.rest in
-    let at : HasWorked v 0 (ReleaseLoad (found - 1) InFlight ∷ left) w =
-    subst (λ (ds : List Duty). HasWorked v 0 (ds ++ left) w) (item_found found c.if-item-eq0.false)
-    (cell_emptied v v w 0 c.args.row c.args.cell duty.count found duty.rest begins
-    c.dying_cell_swap-item.ensures.view apart) in
-    record { rest = left; next = at.agenda ∙ release_load_first w.head (found - 1) InFlight left }
+    let at = item_next _ _ c.args.row c.args.cell _ c.requires.duty c.rows_are_there.ensures
+    c.dying_cell_swap-item.ensures.view c.if-item-eq0.false in
+    record {
+      rest = cells_from c.args.row (c.args.cell + 1) c.requires.duty.count ++ c.requires.duty.rest;
+      next = at.agenda ∙ release_load_first _ _ InFlight _;
+    }
 
 pub returns-clause-work : goal.returns-clause-work
 returns-clause-work g c =
-    let v = c.args.hand.now.view in
-    let w = c.dying_cell_swap-item.new.hand.view in
-    let z = c.release_item.new.hand.view in
-    let duty = c.requires.duty in
-    let found = c.dying_cell_swap-item.result in
-    let apart = finalising_unlocked v (SettleCell c.args.row c.args.cell duty.count) duty.rest c.args.row
-    c.rows_are_there.ensures duty.next (eq-eqb c.args.row c.args.row refl) in
-    let begins = worked_first v (SettleCell c.args.row c.args.cell duty.count ∷ duty.rest)
-    (duty.next ∙ sym (settle_cell_first v.head c.args.row c.args.cell duty.count duty.rest)) in
-    let left = cells_from c.args.row (c.args.cell + 1) duty.count ++ duty.rest in
-    let at : HasWorked v 0 (ReleaseLoad (found - 1) InFlight ∷ left) w =
-    subst (λ (ds : List Duty). HasWorked v 0 (ds ++ left) w) (item_found found c.if-item-eq0.false)
-    (cell_emptied v v w 0 c.args.row c.args.cell duty.count found duty.rest begins
-    c.dying_cell_swap-item.ensures.view apart) in
-    subst (λ (ds : List Duty). HasWorked v 0 ds z) (sym (ap cells_left duty.next))
-    (worked_call v w z 0 (ReleaseLoad (found - 1) InFlight ∷ left) behind at
-    (release_load_first w.head (found - 1) InFlight left) c.release_item.ensures.work)
+    subst (λ (ds : List Duty). HasWorked c.args.hand.now.view 0 ds c.release_item.new.hand.view)
+    (sym (ap cells_left c.requires.duty.next))
+    (worked_call _ _ _ 0 _ behind
+    (item_next _ _ c.args.row c.args.cell _ c.requires.duty c.rows_are_there.ensures
+    c.dying_cell_swap-item.ensures.view c.if-item-eq0.false)
+    (release_load_first _ _ InFlight _) c.release_item.ensures.work)

@@ -1,156 +1,119 @@
-use Rattle.std.proofs.Common.{ℕ, ◌-◌, ◌∷◌, refl, sym, ap, ◌∙◌, subst}
-use Rattle.brc_model.specs.declared.duty.Duty.TheVariants.{Settle, TakeSlot}
+use Rattle.std.proofs.Common.{◌≡◌, ℕ, ◌-◌, true, List, ◌∷◌, ◌++◌, refl, sym, ap, ◌∙◌, subst}
+use Rattle.brc_model.specs.declared.duty.Duty.{Duty}
+use Rattle.brc_model.specs.declared.duty.Duty.TheVariants.{Settle, SettleKind, SettleEnd, TakeSlot}
+use Rattle.brc_model.specs.Duties.{has_resource, cells_from}
+use Rattle.brc_table.specs.declared.view.View.{View}
 use Rattle.brc_table.specs.Hands.{TableState}
 use Rattle.brc_table.specs.Calls.{LoadsDyingKind, ClosesRow}
-use Rattle.brc_free.specs.Works.{behind}
+use Rattle.brc_free.specs.Works.{HasWorked, ComesToSettle, behind}
 use Rattle.brc_free.proofs.FirstDuties.{settle_kind_first, take_slot_first, settle_end_first}
 use Rattle.brc_free.proofs.Working.{head_unlocked, worked_call}
-use Rattle.brc_free.proofs.SettleDuties.{comes_alive, taken_off, kind_has_resource, kind_has_cells, cells_next, cells_first, all_emptied, ended}
+use Rattle.brc_free.proofs.SettleDuties.{comes_alive, taken_off, kind_has_resource, cells_next, cells_first, all_emptied, ended}
 use Rattle.brc_free.proofs.Closes.{none_closed}
+use Rattle.brc_free.proofs.finaliser.Finaliser.finalise_first.Given as given
+use Rattle.brc_free.proofs.finaliser.Finaliser.finalise_first.Goals.{After-dying_kind_load-kind, After-cells_of}
 use Rattle.brc_free.proofs.finaliser.Finaliser.finalise_first.Goals as goal
+
+-- The object is off the chain, and its kind is loaded next.
+off : (g : given.Over) (c : After-dying_kind_load-kind g) (rest : List Duty) → ComesToSettle c.args.hand.now.view rest
+    → HasWorked c.args.hand.now.view 0 (SettleKind (c.head-row.result - 1) ∷ Settle ∷ rest) c.gate_load.new.hand.view
+off g c rest comes =
+    taken_off _ _ _ c.gate_load.result rest c.requires.chain (ap (λ (n : ℕ). n - 1) c.head-row.ensures) comes
+    c.gate_load.ensures.view c.rows_are_there.ensures
+
+-- An object that has a resource: it is taken out of its slot next.
+resource : (g : given.Over) (c : After-dying_kind_load-kind g) (rest : List Duty)
+    → ComesToSettle c.args.hand.now.view rest → has_resource c.dying_kind_load-kind.result ≡ true
+    → HasWorked c.args.hand.now.view 1 (TakeSlot (c.head-row.result - 1) ∷ Settle ∷ rest)
+    c.dying_kind_load-kind.new.hand.view
+resource g c rest comes has =
+    kind_has_resource _ _ _ 0 _ c.dying_kind_load-kind.result (Settle ∷ rest) (off g c rest comes)
+    c.dying_kind_load-kind.ensures.view has
+
+-- Any other object: its cells are emptied next.
+cells : (g : given.Over) (c : After-cells_of g) (rest : List Duty) → ComesToSettle c.args.hand.now.view rest
+    → HasWorked c.args.hand.now.view 0 (cells_from (c.head-row.result - 1) 0 c.cells_of.result ++ Settle ∷ rest)
+    c.dying_kind_load-kind.new.hand.view
+cells g c rest comes =
+    cells_next _ _ _ _ c.dying_kind_load-kind.result _ rest
+    (off g (goal.at.empty_cells-requires-clause-duty g c).After-dying_kind_load-kind rest comes)
+    c.dying_kind_load-kind.ensures.view (sym c.has_resource.ensures ∙ c.if-has_resource.false) c.cells_of.ensures
+
+-- Once they are empty, the object is closed next.
+empty : (g : given.Over) (c : After-cells_of g) (w : View) (rest : List Duty)
+    → ((later : List Duty) → c.dying_kind_load-kind.new.hand.view.agenda
+    ≡ cells_from (c.head-row.result - 1) 0 c.cells_of.result ++ later
+    → HasWorked c.dying_kind_load-kind.new.hand.view 0 (SettleEnd (c.head-row.result - 1) ∷ later) w)
+    → ComesToSettle c.args.hand.now.view rest
+    → HasWorked c.args.hand.now.view 0 (SettleEnd (c.head-row.result - 1) ∷ Settle ∷ rest) w
+empty g c w rest emptied comes = all_emptied _ _ w _ c.cells_of.result rest (cells g c rest comes) emptied
 
 pub dying_kind_load-kind-requires-clause-duty : goal.dying_kind_load-kind-requires-clause-duty
 dying_kind_load-kind-requires-clause-duty g c =
-    let v = c.args.hand.now.view in
-    let w = c.gate_load.new.hand.view in
-    let row = c.head-row.result - 1 in
-    let rest = c.requires.duty.0 in
-    let off = taken_off v w row c.gate_load.result rest c.requires.chain (ap (λ (n : ℕ). n - 1) c.head-row.ensures)
-    c.requires.duty.1 c.gate_load.ensures.view c.rows_are_there.ensures in
-    subst (LoadsDyingKind row) (sym (off.agenda ∙ settle_kind_first w.head row (Settle ∷ rest))) refl
+    let at = taken_off _ _ _ c.gate_load.result c.requires.duty.0 c.requires.chain
+    (ap (λ (n : ℕ). n - 1) c.head-row.ensures) c.requires.duty.1 c.gate_load.ensures.view c.rows_are_there.ensures in
+    subst (LoadsDyingKind (c.head-row.result - 1)) (sym (at.agenda ∙ settle_kind_first _ _ _)) refl
 
 pub close_resource-requires-clause-alive : goal.close_resource-requires-clause-alive
 close_resource-requires-clause-alive g c = λ κs lives gone.
-    let v = c.args.hand.now.view in
-    let u = c.gate_load.new.hand.view in
-    let w = c.dying_kind_load-kind.new.hand.view in
-    let row = c.head-row.result - 1 in
-    let rest = c.requires.duty.0 in
-    let off = taken_off v u row c.gate_load.result rest c.requires.chain (ap (λ (n : ℕ). n - 1) c.head-row.ensures)
-    c.requires.duty.1 c.gate_load.ensures.view c.rows_are_there.ensures in
-    let at = kind_has_resource v u w 0 row c.dying_kind_load-kind.result (Settle ∷ rest) off
-    c.dying_kind_load-kind.ensures.view (sym c.has_resource.ensures ∙ c.if-has_resource.true) in
-    comes_alive v rest c.requires.duty.1 (sym at.keeps.status ∙ gone)
+    let at = resource g (goal.at.close_resource-requires-clause-alive g c).After-dying_kind_load-kind _
+    c.requires.duty.1 (sym c.has_resource.ensures ∙ c.if-has_resource.true) in
+    comes_alive _ _ c.requires.duty.1 (sym at.keeps.status ∙ gone)
 
 pub close_resource-requires-clause-duty : goal.close_resource-requires-clause-duty
 close_resource-requires-clause-duty g c = λ κs lives.
-    let v = c.args.hand.now.view in
-    let u = c.gate_load.new.hand.view in
-    let w = c.dying_kind_load-kind.new.hand.view in
-    let row = c.head-row.result - 1 in
-    let rest = c.requires.duty.0 in
-    let off = taken_off v u row c.gate_load.result rest c.requires.chain (ap (λ (n : ℕ). n - 1) c.head-row.ensures)
-    c.requires.duty.1 c.gate_load.ensures.view c.rows_are_there.ensures in
-    let at = kind_has_resource v u w 0 row c.dying_kind_load-kind.result (Settle ∷ rest) off
-    c.dying_kind_load-kind.ensures.view (sym c.has_resource.ensures ∙ c.if-has_resource.true) in
-    record { rest = Settle ∷ rest; next = at.agenda ∙ take_slot_first w.head row (Settle ∷ rest) }
+    let at = resource g (goal.at.close_resource-requires-clause-duty g c).After-dying_kind_load-kind _ c.requires.duty.1
+    (sym c.has_resource.ensures ∙ c.if-has_resource.true) in
+    record { rest = Settle ∷ c.requires.duty.0; next = at.agenda ∙ take_slot_first _ _ _ }
 
 pub returns-then-has_resource-clause-work : goal.returns-then-has_resource-clause-work
 returns-then-has_resource-clause-work g c = λ rest comes.
-    let v = c.args.hand.now.view in
-    let u = c.gate_load.new.hand.view in
-    let w = c.dying_kind_load-kind.new.hand.view in
-    let z = c.close_resource.new.hand.view in
-    let row = c.head-row.result - 1 in
-    let off = taken_off v u row c.gate_load.result rest c.requires.chain (ap (λ (n : ℕ). n - 1) c.head-row.ensures)
-    comes c.gate_load.ensures.view c.rows_are_there.ensures in
-    let at = kind_has_resource v u w 0 row c.dying_kind_load-kind.result (Settle ∷ rest) off
-    c.dying_kind_load-kind.ensures.view (sym c.has_resource.ensures ∙ c.if-has_resource.true) in (
+    let at = resource g (goal.at.returns-then-has_resource-clause-work g c).After-dying_kind_load-kind rest comes
+    (sym c.has_resource.ensures ∙ c.if-has_resource.true) in (
       1,
-      worked_call v w z 1 (TakeSlot row ∷ Settle ∷ rest) behind at (take_slot_first w.head row (Settle ∷ rest))
-          c.close_resource.ensures.work,
+      worked_call _ _ _ 1 _ behind at (take_slot_first _ _ _) c.close_resource.ensures.work,
       c.close_resource.ensures.closed,
     )
 
 pub empty_cells-requires-clause-alive : goal.empty_cells-requires-clause-alive
-empty_cells-requires-clause-alive g c =
-    let v = c.args.hand.now.view in
-    let u = c.gate_load.new.hand.view in
-    let w = c.dying_kind_load-kind.new.hand.view in
-    let row = c.head-row.result - 1 in
-    let rest = c.requires.duty.0 in
-    let off = taken_off v u row c.gate_load.result rest c.requires.chain (ap (λ (n : ℕ). n - 1) c.head-row.ensures)
-    c.requires.duty.1 c.gate_load.ensures.view c.rows_are_there.ensures in
-    let at = kind_has_cells v u w 0 row c.dying_kind_load-kind.result (Settle ∷ rest) off
-    c.dying_kind_load-kind.ensures.view (sym c.has_resource.ensures ∙ c.if-has_resource.false) in
-    λ gone. comes_alive v rest c.requires.duty.1 (sym at.keeps.status ∙ gone)
+empty_cells-requires-clause-alive g c = λ gone.
+    comes_alive _ _ c.requires.duty.1 (sym (cells g c _ c.requires.duty.1).keeps.status ∙ gone)
 
 pub empty_cells-requires-clause-duty : goal.empty_cells-requires-clause-duty
-empty_cells-requires-clause-duty g c =
-    let v = c.args.hand.now.view in
-    let u = c.gate_load.new.hand.view in
-    let w = c.dying_kind_load-kind.new.hand.view in
-    let row = c.head-row.result - 1 in
-    let rest = c.requires.duty.0 in
-    let off = taken_off v u row c.gate_load.result rest c.requires.chain (ap (λ (n : ℕ). n - 1) c.head-row.ensures)
-    c.requires.duty.1 c.gate_load.ensures.view c.rows_are_there.ensures in
-    let at = cells_next v u w row c.dying_kind_load-kind.result c.cells_of.result rest off
-    c.dying_kind_load-kind.ensures.view (sym c.has_resource.ensures ∙ c.if-has_resource.false) c.cells_of.ensures in
-    record { rest = Settle ∷ rest; next = at.agenda ∙ cells_first w.head row 0 c.cells_of.result (Settle ∷ rest) }
+empty_cells-requires-clause-duty g c = record {
+  rest = Settle ∷ c.requires.duty.0;
+  next = (cells g c _ c.requires.duty.1).agenda ∙ cells_first _ _ 0 c.cells_of.result _;
+}
 
 pub gate_close-requires-clause-table : goal.gate_close-requires-clause-table
 gate_close-requires-clause-table g c =
-    let v = c.args.hand.now.view in
-    let u = c.gate_load.new.hand.view in
-    let w = c.dying_kind_load-kind.new.hand.view in
-    let z = c.empty_cells.new.hand.view in
-    let row = c.head-row.result - 1 in
-    let rest = c.requires.duty.0 in
-    let off = taken_off v u row c.gate_load.result rest c.requires.chain (ap (λ (n : ℕ). n - 1) c.head-row.ensures)
-    c.requires.duty.1 c.gate_load.ensures.view c.rows_are_there.ensures in
-    let at = cells_next v u w row c.dying_kind_load-kind.result c.cells_of.result rest off
-    c.dying_kind_load-kind.ensures.view (sym c.has_resource.ensures ∙ c.if-has_resource.false) c.cells_of.ensures in
-    let empty = all_emptied v w z row c.cells_of.result rest at c.empty_cells.ensures.work in
+    let at = empty g (goal.at.gate_close-requires-clause-table g c).After-cells_of c.empty_cells.new.hand.view _
+    c.empty_cells.ensures.work c.requires.duty.1 in
     let words = c.words-words.ensures ∙ c.self.view_is in (
       c.empty_cells.ensures.table ∙ (c.dying_kind_load-kind.ensures.table
           ∙ (c.gate_load.ensures.table ∙ (c.requires.table.0 ∙ sym (ap (λ (t : TableState). t.table) words)))),
-      empty.keeps.layout ∙ (c.requires.table.1 ∙ sym (ap (λ (t : TableState). t.layout) words)),
+      at.keeps.layout ∙ (c.requires.table.1 ∙ sym (ap (λ (t : TableState). t.layout) words)),
     )
 
 pub gate_close-requires-clause-alive : goal.gate_close-requires-clause-alive
-gate_close-requires-clause-alive g c =
-    let v = c.args.hand.now.view in
-    let u = c.gate_load.new.hand.view in
-    let w = c.dying_kind_load-kind.new.hand.view in
-    let z = c.empty_cells.new.hand.view in
-    let row = c.head-row.result - 1 in
-    let rest = c.requires.duty.0 in
-    let off = taken_off v u row c.gate_load.result rest c.requires.chain (ap (λ (n : ℕ). n - 1) c.head-row.ensures)
-    c.requires.duty.1 c.gate_load.ensures.view c.rows_are_there.ensures in
-    let at = cells_next v u w row c.dying_kind_load-kind.result c.cells_of.result rest off
-    c.dying_kind_load-kind.ensures.view (sym c.has_resource.ensures ∙ c.if-has_resource.false) c.cells_of.ensures in
-    let empty = all_emptied v w z row c.cells_of.result rest at c.empty_cells.ensures.work in
-    λ gone. comes_alive v rest c.requires.duty.1 (sym empty.keeps.status ∙ gone)
+gate_close-requires-clause-alive g c = λ gone.
+    let at = empty g (goal.at.gate_close-requires-clause-alive g c).After-cells_of c.empty_cells.new.hand.view _
+    c.empty_cells.ensures.work c.requires.duty.1 in
+    comes_alive _ _ c.requires.duty.1 (sym at.keeps.status ∙ gone)
 
 pub gate_close-requires-clause-duty : goal.gate_close-requires-clause-duty
 gate_close-requires-clause-duty g c =
-    let v = c.args.hand.now.view in
-    let u = c.gate_load.new.hand.view in
-    let w = c.dying_kind_load-kind.new.hand.view in
-    let z = c.empty_cells.new.hand.view in
-    let row = c.head-row.result - 1 in
-    let rest = c.requires.duty.0 in
-    let off = taken_off v u row c.gate_load.result rest c.requires.chain (ap (λ (n : ℕ). n - 1) c.head-row.ensures)
-    c.requires.duty.1 c.gate_load.ensures.view c.rows_are_there.ensures in
-    let at = cells_next v u w row c.dying_kind_load-kind.result c.cells_of.result rest off
-    c.dying_kind_load-kind.ensures.view (sym c.has_resource.ensures ∙ c.if-has_resource.false) c.cells_of.ensures in
-    let empty = all_emptied v w z row c.cells_of.result rest at c.empty_cells.ensures.work in
-    subst (ClosesRow row) (sym (empty.agenda ∙ settle_end_first z.head row (Settle ∷ rest))) refl
+    let at = empty g (goal.at.gate_close-requires-clause-duty g c).After-cells_of c.empty_cells.new.hand.view _
+    c.empty_cells.ensures.work c.requires.duty.1 in
+    subst (ClosesRow (c.head-row.result - 1)) (sym (at.agenda ∙ settle_end_first _ _ _)) refl
 
 pub returns-clause-work : goal.returns-clause-work
 returns-clause-work g c = λ rest comes.
-    let v = c.args.hand.now.view in
-    let u = c.gate_load.new.hand.view in
-    let w = c.dying_kind_load-kind.new.hand.view in
-    let z = c.empty_cells.new.hand.view in
-    let row = c.head-row.result - 1 in
-    let off = taken_off v u row c.gate_load.result rest c.requires.chain (ap (λ (n : ℕ). n - 1) c.head-row.ensures)
-    comes c.gate_load.ensures.view c.rows_are_there.ensures in
-    let at = cells_next v u w row c.dying_kind_load-kind.result c.cells_of.result rest off
-    c.dying_kind_load-kind.ensures.view (sym c.has_resource.ensures ∙ c.if-has_resource.false) c.cells_of.ensures in
-    let empty = all_emptied v w z row c.cells_of.result rest at c.empty_cells.ensures.work in (
+    let at = empty g (goal.at.returns-clause-work g c).After-cells_of c.empty_cells.new.hand.view rest
+    c.empty_cells.ensures.work comes in (
       0,
-      ended v z c.gate_close.new.hand.view 0 row c.gate_close.result (Settle ∷ rest) empty c.gate_close.ensures.view
-          (head_unlocked v row c.rows_are_there.ensures c.requires.chain (ap (λ (n : ℕ). n - 1) c.head-row.ensures)),
+      ended _ _ _ 0 _ c.gate_close.result (Settle ∷ rest) at c.gate_close.ensures.view
+          (head_unlocked c.args.hand.now.view _ c.rows_are_there.ensures c.requires.chain
+          (ap (λ (n : ℕ). n - 1) c.head-row.ensures)),
       sym (none_closed (g.H.Host.counts c.args.host.now)),
     )
