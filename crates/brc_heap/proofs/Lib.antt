@@ -5,6 +5,7 @@ mod Dying
 pub mod Sight
 pub mod Leaving
 mod Ending
+mod Looks
 mod Merging
 mod Bearing
 mod Asking

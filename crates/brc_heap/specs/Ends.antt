@@ -1,11 +1,11 @@
 -- What a heap's end tells, and when it comes.
-use Rattle.std.specs.Prelude.{◌≡◌, ◌⊎◌, ℕ, zero, suc, ◌<◌, Bool, ◌==◌, nat_lt, Option, None, Some, List, [], ◌∷◌, ◌++◌}
+use Rattle.std.specs.Prelude.{◌≡◌, ◌⊎◌, ℕ, zero, suc, ◌+◌, ◌<◌, Bool, ◌==◌, nat_lt, Option, None, Some, List, [], ◌∷◌, ◌++◌, length, All}
 use Rattle.brc_word.specs.Words.{closed_word}
 use Rattle.brc_model.specs.declared.address.Address.TheVariants.{ThreadWord}
 use Rattle.brc_model.specs.Layout.{row_count, IsCounted}
 use Rattle.brc_table.specs.declared.view.View.{View}
 use Rattle.brc_table.specs.declared.view.Event.{Event}
-use Rattle.brc_table.specs.Ending.{EndState, HaveEnded, RowEnds, SlotEnds, kind_at, gate_at}
+use Rattle.brc_table.specs.Ending.{EndState, EndsWith, HaveEnded, RowEnds, SlotEnds, kind_at, gate_at}
 
 -- Says whether an object was born in the row.
 abbrev pub was_born : EndState → ℕ → Bool
@@ -28,15 +28,35 @@ pub record HasEnded (end : EndState) : Type 0 where
   pub rows : (x : ℕ) → IsCounted end.layout x → x < row_count end.layout → RowEnds end.layout end.words x
   pub slots : (x : ℕ) → IsCounted end.layout x → x < row_count end.layout → SlotEnds end x
 
--- The last step of the hand loaded the word of a thread that runs or is leaving.
-pub record FoundRunning (v : View) : Type 0 where
-  pub before : List Event
-  pub thread : ℕ
-  pub word : ℕ
-  pub last : v.trace ≡ before ++ record { address = ThreadWord thread; found = word; left = word } ∷ []
-  pub runs : (word ≡ 1) ⊎ (word ≡ 2)
+-- the step of a hand that loads a thread's word, and finds this there
+abbrev pub look_at : ℕ → ℕ → Event
+look_at thread word = record { address = ThreadWord thread; found = word; left = word }
 
--- The hand has looked at words and done nothing else: it is as it was, with these steps more in its trace.
-pub record HasLooked (v u : View) : Type 0 where
-  pub steps : List Event
-  pub view_is : u ≡ record v { trace = v.trace ++ steps }
+-- the steps of a hand that loads the words of this thread and of those behind it, by rising number
+abbrev pub looks_from : ℕ → List ℕ → List Event
+looks_from thread [] = []
+looks_from thread (word ∷ words) = look_at thread word ∷ looks_from (suc thread) words
+
+-- the hand after it has looked at the words of the threads 0, 1, .. and done nothing else: it is as it was, with these
+-- steps more in its trace
+abbrev pub having_looked : View → List ℕ → View
+having_looked v words = record v { trace = v.trace ++ looks_from 0 words }
+
+-- These are words of threads that are gone or were never started.
+abbrev pub AllEnded : List ℕ → Type 0
+AllEnded words = All (λ word. (word ≡ 0) ⊎ (word ≡ 3)) words
+
+-- The hand has looked at the words of threads by rising number, up to the first that runs or is leaving.
+pub record FoundRunning (v u : View) : Type 0 where
+  pub before : List ℕ
+  pub ended : AllEnded before
+  pub word : ℕ
+  pub runs : (word ≡ 1) ⊎ (word ≡ 2)
+  pub view_is : u ≡ having_looked v (before ++ word ∷ [])
+
+-- The table was closed with the hand, after that had looked at the word of each thread by rising number. None ran.
+pub record ClosedBy (v : View) (end : EndState) : Type 0 where
+  pub words : List ℕ
+  pub each : length words ≡ 1 + end.layout.workers
+  pub ended : AllEnded words
+  pub ends : EndsWith (having_looked v words) end

@@ -7,7 +7,7 @@ ghost use Rattle.brc_model.specs.Limits.{cell_limit};
 ghost use Rattle.brc_table.specs.Hands.{IsOf};
 ghost use Rattle.brc_table.specs.Ending.{kind_at, cell_at, slot_at};
 ghost use Rattle.brc_table.specs.Homes.{resources};
-ghost use Rattle.brc_heap.specs.Ends.{was_born, is_closed, named_row, HasEnded, HasLooked, FoundRunning};
+ghost use Rattle.brc_heap.specs.Ends.{was_born, is_closed, named_row, HasEnded, FoundRunning, ClosedBy};
 
 use crate::heap::Heap;
 use crate::kinds::kind_numbered;
@@ -24,7 +24,8 @@ const RUNNING: u64 = 1;
 /// The word of a thread that is leaving.
 const LEAVING: u64 = 2;
 
-/// H3: a thread that was started, main or a worker, isn't gone. Let it leave, and finish then. The heap and the hand come back as they were.
+/// H3: a thread that was started, main or a worker, isn't gone. Let it leave, and finish then. The heap and the hand
+/// come back as they were.
 #[derive(Drop)]
 pub struct StillRunning<T: Drop> {
     /// The heap, as it was.
@@ -56,11 +57,13 @@ impl<T: Drop> Heap<T> {
     pub fn finish(self, main: Hand<T>) -> Result<Final<T>, StillRunning<T>>
         requires table { IsOf self main }
         requires main { main.view.thread ≡ 0 }
+        ensures table { IfOk result (λ end. end.table ≡ self.table) }
         ensures layout { IfOk result (λ end. end.layout ≡ self.layout) }
         ensures ended { IfOk result HasEnded }
+        ensures closed { IfOk result (ClosedBy main.view) }
         ensures back { IfErr result (λ back. IsOf back.heap back.main × (back.heap ≡ self)) }
-        ensures running { IfErr result (λ back. FoundRunning back.main.view) }
-        ensures kept { IfErr result (λ back. HasLooked main.view back.main.view × (back.main.carried ≡ main.carried)) }
+        ensures running { IfErr result (λ back. FoundRunning main.view back.main.view) }
+        ensures kept { IfErr result (λ back. (back.main.carried ≡ main.carried) × (back.main.slots ≡ main.slots)) }
     {
         rows_end_in_every_table();
         slots_end_in_every_table();

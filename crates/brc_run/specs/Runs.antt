@@ -29,7 +29,7 @@ abbrev pub totals_in : List (HandState × Totals) → List Totals
 totals_in gone = map (λ w. w.1) gone
 
 -- The tally of a run with this number of workers, and of rows for each. Each worker makes the call `call.times` times:
--- its thread is gone, and has made the events of the calls and then those of its exit. The tally is of an end of the heap
+-- its thread is gone, and has made the events of the calls and then those of its exit. The tally is of the end of the heap
 -- that they share, at which each thread is gone, of what each worker has counted, and of the closes of main that failed.
 pub record IsTallyOf (m : Module) (workers rows : ℕ) (call : Call) (close_faults : ℕ) (tally : Tally) : Type 0 where
   pub heap : TableState
@@ -39,6 +39,7 @@ pub record IsTallyOf (m : Module) (workers rows : ℕ) (call : Call) (close_faul
   pub one_each : length gone ≡ workers
   pub each : (k : ℕ) (w : HandState × Totals) → k < workers
       → HasGone (job heap m call.function call.times (k + 1)) (slice_index_or gone k w).0 (slice_index_or gone k w).1
+  pub of : end.table ≡ heap.table
   pub layout : end.layout ≡ plain_layout workers rows
   pub ended : HasEnded end
   pub counted : tally ≡ tally_at_end end workers (totals_in gone) close_faults

@@ -21,6 +21,7 @@ pub(crate) fn ended<R: Wait, T: Drop, H: Host<Res = T>>(
 ) -> (Final<T>, u64)
     requires of { IsOf heap main }
     requires may { MayEnd main.view }
+    ensures table { result.0.table ≡ heap.table }
     ensures layout { result.0.layout ≡ heap.layout }
     ensures ended { HasEnded result.0 }
     ensures counted { (closes : ℕ) × (failed : ℕ) × (result.1 ≡ raised failed 0)
@@ -35,6 +36,7 @@ pub(crate) fn ended<R: Wait, T: Drop, H: Host<Res = T>>(
 fn finished<R: Wait, T: Drop>(rt: &R, heap: Heap<T>, main: Hand<T>) -> Final<T>
     requires of { IsOf heap main }
     requires main { main.view.thread ≡ 0 }
+    ensures table { result.table ≡ heap.table }
     ensures layout { result.layout ≡ heap.layout }
     ensures ended { HasEnded result }
 {

@@ -6,6 +6,7 @@ use Rattle.std.proofs.lemmas.Bool.{cases_lt}
 use Rattle.std.proofs.lemmas.Option.{slice_get_within}
 use mathlib.Core.Option as home
 use mathlib.Core.Option.{some, some-injective, some-ne-none}
+use Rattle.atomic_table.specs.Seated.{TableId}
 use lib.ListN.{get_elem?}
 use Rattle.brc_word.specs.Words.{closed_word}
 use Rattle.brc_model.specs.declared.actor.Status.{Status}
@@ -182,11 +183,11 @@ slot_found (s ∷ ss) (suc x) slot is = slot_found ss x slot is
 
 -- A table whose last words and views meet the rule was closed with each of its hands.
 pub ends_with : {T : Type 0} (layout : Layout) (words : List ℕ) (homes : List (home.Option (Option T)))
-    (views : List View) (slots : List (Option T)) (v : View) (id : ℕ)
+    (views : List View) (slots : List (Option T)) (table : TableId) (v : View) (id : ℕ)
     → TableStands layout words homes views → get_elem? views id ≡ some v
     → ((k : ℕ) (slot : Option T) → get_elem? homes k ≡ some (some slot) → get_elem? slots k ≡ some slot)
-    → EndsWith v (record { layout = layout; words = words; slots = resources_in slots })
-ends_with layout words homes views slots v id holds here same =
+    → EndsWith v (record { table = table; layout = layout; words = words; slots = resources_in slots })
+ends_with layout words homes views slots table v id holds here same =
     let s = holds.stands in
     record {
       views = views;

@@ -2,6 +2,7 @@
 use Rattle.std.specs.Prelude.{◌≡◌, ◌≢◌, ◌⊎◌, ℕ, ◌+◌, ◌<◌, ◌≤◌, true, ◌==◌, if◌then◌else◌, Option, List, map, slice_index}
 use mathlib.Core.Option.{some}
 use lib.ListN.{get_elem?}
+use Rattle.atomic_table.specs.Seated.{TableId}
 use Rattle.brc_word.specs.Words.{closed_word}
 use Rattle.brc_model.specs.declared.address.Address.TheVariants.{Gate, KindOf, Cell, Slot}
 use Rattle.brc_model.specs.declared.layout.Layout.{Layout}
@@ -18,8 +19,10 @@ use Rattle.brc_table.specs.Threads.{thread_word}
 use Rattle.brc_table.specs.Peeks.{NeverStarted}
 use Rattle.brc_table.specs.Views.{actor_of}
 
--- A closed table, as contracts see it: its size, its last words, and how many resources each row's slot holds.
+-- A closed table, as contracts see it: which one it was, its size, its last words, and how many resources each row's
+-- slot holds.
 pub record EndState : Type 0 where
+  pub table : TableId
   pub layout : Layout
   pub words : List ℕ
   pub slots : List ℕ

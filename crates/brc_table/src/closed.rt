@@ -16,11 +16,14 @@ use atomic_table::Closed as ClosedTable;
 use brc_model::{Layout, items_are_there};
 use std::alloc::Global;
 use std::marker::Model;
+use std::snapshot::Snapshot;
 
 /// A table that no thread shares any more: its last words, and what is left in its slots.
 pub struct Closed<T: Drop> {
     table: ClosedTable<Option<T>, Global>,
     layout: Layout,
+    /// Which table it was. It takes no memory.
+    of: Snapshot<Words<T>>,
 }
 
 impl<T: Drop> Model for Closed<T> {
@@ -34,6 +37,7 @@ impl<T: Drop> Model for Closed<T> {
     ghost Value = { EndState };
 
     ghost view = { λ c. record {
+      table = c.of.value.table;
       layout = c.layout;
       words = slots_items c.table.words;
       slots = resources_in (slots_items c.table.slots);
@@ -49,10 +53,12 @@ impl<T: Drop> Words<T> {
     /// Closes the table, with a hand of it. Its words no longer change.
     pub fn close(self, hand: Hand<T>) -> Closed<T>
         requires table { IsOf self hand }
+        ensures table { result.table ≡ self.table }
         ensures layout { result.layout ≡ self.layout }
         ensures ends { EndsWith hand.view result }
     {
         items_are_there();
+        let of = Snapshot::of(&self);
         let Hand {
             seat,
             thread: _,
@@ -68,6 +74,7 @@ impl<T: Drop> Words<T> {
         Closed {
             table: table.close_with(seat),
             layout,
+            of,
         }
     }
 }
@@ -127,6 +134,7 @@ impl<T: Drop> Drop for Closed<T> {
         let Closed {
             mut table,
             layout: _,
+            of: _,
         } = self;
         let mut i = 0;
         while i < table.slot_count() {
