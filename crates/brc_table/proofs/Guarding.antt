@@ -1,9 +1,9 @@
 -- The laws of a table beside the counts follow from those of the counting machine whose words and threads are the
 -- table's.
-use Rattle.std.proofs.Common.{◌≡◌, ◌≢◌, ◌⊎◌, ℕ, zero, suc, ◌+◌, ◌<◌, List, [], ◌∷◌, Some, inl, inr, refl, sym, ap, ◌∙◌, subst, arith}
-use Rattle.std.specs.Prelude.{◌||◌, slice_get, slice_index}
+use Rattle.std.proofs.Common.{◌≡◌, ◌≢◌, ◌⊎◌, ℕ, zero, suc, ◌+◌, ◌<◌, ◌≤◌, List, [], ◌∷◌, None, Some, inl, inr, refl, sym, ap, ◌∙◌, subst, arith}
+use Rattle.std.specs.Prelude.{◌||◌, ◌==◌, slice_get, slice_index}
 use Rattle.std.specs.List.{list_any}
-use Rattle.std.proofs.lemmas.Bool.{false≢true}
+use Rattle.std.proofs.lemmas.Bool.{false≢true, eq-eqb}
 use Rattle.std.proofs.lemmas.Bool.Decides.{eqb_tells}
 use Rattle.std.proofs.lemmas.List.Folds.{list_any-append}
 use Rattle.std.proofs.lemmas.Option.{slice_get_within}
@@ -25,15 +25,19 @@ use Rattle.brc_model.specs.Watched.{looks_at, scans_over}
 use Rattle.brc_model.specs.Watched as machine
 use Rattle.brc_model.specs.CountingLaws.{ComesNext}
 use Rattle.brc_model.specs.GuardLaws as guard
+use Rattle.brc_model.specs.References.{one_if}
+use Rattle.brc_model.specs.SlotLaws.{UsesSlot, needs_slot}
 use Rattle.brc_model.proofs.Basics.Blocks.{block_within}
 use Rattle.brc_model.proofs.Basics.Lists.{some_is}
 use Rattle.brc_model.proofs.Basics.Written.{written_here}
 use Rattle.brc_table.specs.declared.view.View.{View}
 use Rattle.brc_table.specs.Places.{place, HasWord}
 use Rattle.brc_table.specs.Views.{actor_of, holds}
+use Rattle.brc_table.specs.Homes.{times_in}
 use Rattle.brc_table.specs.Rule.{reading, Stands}
 use Rattle.brc_table.specs.Guarding.{thread_says, IsWatched, ByRunning, ByExit, ByLook, SetMarksAreWatched, ChangesWord, OnlyHoldersChangeCells, OnlyRunningOwnersCount, GoneHandsHoldNothing}
 use Rattle.brc_table.proofs.Agreeing.{there_is}
+use Rattle.brc_table.proofs.Picked.{count_more}
 
 -- ---- the hand of a thread
 
@@ -198,8 +202,21 @@ owners_count law layout words views v d x it says =
     (law s.accounts (1 + s.machine.layout.workers) s.machine v.thread (actor_of v) d it.rest x s.counts
     (next layout words views v d (Local x) it) runs (changed layout words views v d (Local x) it (λ word. refl)))
 
-pub gone_hold : guard.GoneThreadsHoldNothing → GoneHandsHoldNothing
-gone_hold law layout words views id v s here gone =
+-- A thread with nothing to do and no lock uses no slot.
+uses_none : (a : Actor) (x : ℕ) → a.agenda ≡ [] → a.locked ≡ None → UsesSlot a x → ⊥
+uses_none a x agenda unlocked (inl locked) = let wrong : None ≡ Some x = sym unlocked ∙ locked in absurd cc
+uses_none a x agenda unlocked (inr needs) = absurd (false≢true (sym (ap (list_any (needs_slot x)) agenda) ∙ needs))
+
+-- A list that has no number is empty.
+none_listed : (rows : List ℕ) → ((x : ℕ) → 1 ≤ times_in x rows → ⊥) → rows ≡ []
+none_listed [] none = refl
+none_listed (x ∷ rows) none =
+    let one : one_if (x == x) ≡ 1 = ap one_if (eq-eqb x x refl) in
+    absurd (none x (omega (arith, count_more x x rows, one)))
+
+pub gone_hold : {T : Type 0} → guard.GoneThreadsHoldNothing → GoneHandsHoldNothing T
+gone_hold law layout words homes views id v table here gone =
+    let s = table.stands in
     let it = law s.accounts (1 + s.machine.layout.workers) s.machine v.thread (actor_of v) s.counts (s.acts id v here)
     gone in
     record {
@@ -210,5 +227,6 @@ gone_hold law layout words views id v s here gone =
       aside = it.aside;
       settled = it.settled;
       unlocked = it.unlocked;
-      returned = it.returned;
+      none_taken = none_listed v.taken (λ x taken. uses_none (actor_of v) x it.agenda it.unlocked
+          (table.slots.used id x v here taken));
     }

@@ -1,8 +1,9 @@
 -- What holds of a table between any two steps of its hands, beside the counts: marks that are set are watched, cells
 -- change under their list's lock alone, a running thread alone changes the local words of its block, and a hand whose
 -- thread is gone holds nothing.
-use Rattle.std.specs.Prelude.{◌≡◌, ◌≢◌, ◌⊎◌, ℕ, ◌<◌, true, List, [], ◌∷◌, None, Some, slice_index}
+use Rattle.std.specs.Prelude.{◌≡◌, ◌≢◌, ◌⊎◌, ℕ, ◌<◌, true, Option, List, [], ◌∷◌, None, Some, slice_index}
 use Rattle.std.specs.List.{list_any}
+use mathlib.Core.Option as home
 use mathlib.Core.Option.{some}
 use lib.ListN.{get_elem?}
 use Rattle.brc_word.specs.Words.{locked_word}
@@ -19,6 +20,7 @@ use Rattle.brc_table.specs.declared.view.View.{View}
 use Rattle.brc_table.specs.Places.{place, HasWord}
 use Rattle.brc_table.specs.Views.{holds, open_work}
 use Rattle.brc_table.specs.Rule.{thread_reading, Stands}
+use Rattle.brc_table.specs.Homes.{TableStands}
 use Rattle.brc_table.specs.Threads.{thread_word}
 use Rattle.brc_table.specs.Agreeing.{mark_at}
 
@@ -68,19 +70,21 @@ OnlyRunningOwnersCount = (layout : Layout) (words : List ℕ) (views : List View
     → ChangesWord layout words views v d (Local x) → thread_says words (block_of layout x) ≡ 1
     → v.thread ≡ block_of layout x
 
--- The hand has nothing to do, holds no reference to a counted object, no lock and no resource, and its chain is empty.
+-- The hand has nothing to do, holds no reference to a counted object and no lock, has taken no row's slot, and its chain
+-- is empty.
 pub record HoldsNothing (layout : Layout) (v : View) : Type 0 where
   pub none : (x : ℕ) → IsCounted layout x → holds v x ≡ 0
   pub agenda : v.agenda ≡ []
   pub aside : v.aside ≡ []
   pub settled : v.head ≡ 0
   pub unlocked : v.locked ≡ None
-  pub returned : v.lent ≡ None
+  pub none_taken : v.taken ≡ []
 
--- A hand whose thread is gone holds nothing.
-abbrev pub GoneHandsHoldNothing : Type 0
-GoneHandsHoldNothing = (layout : Layout) (words : List ℕ) (views : List View) (id : ℕ) (v : View)
-    → Stands layout words views → get_elem? views id ≡ some v → v.status ≡ Gone → HoldsNothing layout v
+-- A hand whose thread is gone holds nothing. `T` is the type of the table's resources.
+abbrev pub GoneHandsHoldNothing : Type 0 → Type 0
+GoneHandsHoldNothing T =
+    (layout : Layout) (words : List ℕ) (homes : List (home.Option (Option T))) (views : List View) (id : ℕ) (v : View)
+    → TableStands layout words homes views → get_elem? views id ≡ some v → v.status ≡ Gone → HoldsNothing layout v
 
 -- A thread that has a hand is started.
 abbrev pub HandsAreStarted : Type 0

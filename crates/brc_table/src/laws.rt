@@ -47,9 +47,9 @@ pub fn only_running_owners_count()
     owners_count_alone();
 }
 
-/// States that a hand whose thread is gone holds no reference, lock, resource, duty or chain.
-pub fn gone_hands_hold_nothing()
-    ensures { GoneHandsHoldNothing }
+/// States that a hand whose thread is gone holds no reference, lock, slot, duty or chain.
+pub fn gone_hands_hold_nothing<T>()
+    ensures { GoneHandsHoldNothing T }
 {
     gone_threads_hold_nothing();
 }
