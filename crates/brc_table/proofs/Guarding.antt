@@ -23,7 +23,7 @@ use Rattle.brc_model.specs.Machine.{Actor, Machine, idle_actor, done_by, written
 use Rattle.brc_model.specs.Progress.{Runs}
 use Rattle.brc_model.specs.Watched.{looks_at, scans_over}
 use Rattle.brc_model.specs.Watched as machine
-use Rattle.brc_model.specs.CountingLaws.{ComesNext}
+use Rattle.brc_model.specs.CountingLaws.{ComesNext, AccountsAreThere}
 use Rattle.brc_model.specs.GuardLaws as guard
 use Rattle.brc_model.specs.References.{one_if}
 use Rattle.brc_model.specs.SlotLaws.{UsesSlot, needs_slot}
@@ -35,7 +35,7 @@ use Rattle.brc_table.specs.Places.{place, HasWord}
 use Rattle.brc_table.specs.Views.{actor_of, holds}
 use Rattle.brc_table.specs.Homes.{times_in}
 use Rattle.brc_table.specs.Rule.{reading, Stands}
-use Rattle.brc_table.specs.Guarding.{thread_says, IsWatched, ByRunning, ByExit, ByLook, SetMarksAreWatched, ChangesWord, OnlyHoldersChangeCells, OnlyRunningOwnersCount, GoneHandsHoldNothing}
+use Rattle.brc_table.specs.Guarding.{thread_says, IsWatched, ByRunning, ByExit, ByLook, SetMarksAreWatched, ChangesWord, OnlyHoldersChangeCells, OnlyHoldersSwapCells, OnlyRunningOwnersCount, GoneHandsHoldNothing}
 use Rattle.brc_table.proofs.Agreeing.{there_is}
 use Rattle.brc_table.proofs.Picked.{count_more}
 
@@ -188,6 +188,17 @@ holders_change law layout words views v d x i it =
           )
       | inr dies ↦ inr dies.1
     ]
+
+pub holders_swap : AccountsAreThere → OnlyHoldersSwapCells
+holders_swap law layout words views id v x i word s here may = elim may.changes [
+  | inl locked ↦
+      let found = s.acts id v here in
+      let fits = (s.counts.kept.core.each v.thread (actor_of v) found).0.locks x locked in
+      let there = law s.accounts (1 + s.machine.layout.workers) s.machine v.thread (actor_of v) fits.by x s.counts found
+      (omega (arith, fits.held_so)) in
+      inl (locked, sym (s.reads (Gate x) there) ∙ fits.gate)
+  | inr first ↦ inr first
+]
 
 pub owners_count : guard.OwnersCountAlone → OnlyRunningOwnersCount
 owners_count law layout words views v d x it says =

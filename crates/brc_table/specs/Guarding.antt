@@ -19,6 +19,8 @@ use Rattle.brc_model.specs.Watched.{looks_at, scans_over}
 use Rattle.brc_table.specs.declared.view.View.{View}
 use Rattle.brc_table.specs.Places.{place, HasWord}
 use Rattle.brc_table.specs.Views.{holds, open_work}
+use Rattle.brc_table.specs.Hands.{IsFirst}
+use Rattle.brc_table.specs.Swaps.{MaySwap}
 use Rattle.brc_table.specs.Rule.{thread_reading, Stands}
 use Rattle.brc_table.specs.Homes.{TableStands}
 use Rattle.brc_table.specs.Threads.{thread_word}
@@ -59,10 +61,17 @@ pub record ChangesWord (layout : Layout) (words : List ℕ) (views : List View) 
 abbrev pub HoldsGate : List ℕ → View → ℕ → Type 0
 HoldsGate words v x = (v.locked ≡ Some x) × (slice_index words (place (Gate x)) ≡ locked_word v.thread)
 
--- A step that changes a cell is of the hand that has locked the list, or it is a step of the list's deallocation.
+-- A duty that changes a cell is of the hand that has locked the list, or it is a step of the list's deallocation.
 abbrev pub OnlyHoldersChangeCells : Type 0
 OnlyHoldersChangeCells = (layout : Layout) (words : List ℕ) (views : List View) (v : View) (d : Duty) (x i : ℕ)
     → ChangesWord layout words views v d (Cell x i) → HoldsGate words v x ⊎ (is_finalising d x ≡ true)
+
+-- A hand that may swap a cell, which is a step of no duty, holds the list's gate, or deallocates the list: the list is
+-- the first object of the hand's dying chain.
+abbrev pub OnlyHoldersSwapCells : Type 0
+OnlyHoldersSwapCells = (layout : Layout) (words : List ℕ) (views : List View) (id : ℕ) (v : View) (x i word : ℕ)
+    → Stands layout words views → get_elem? views id ≡ some v → MaySwap v x i word
+    → HoldsGate words v x ⊎ IsFirst v x
 
 -- While the thread of a row's block runs, a step that changes the row's local word is of that thread's hand.
 abbrev pub OnlyRunningOwnersCount : Type 0
@@ -70,8 +79,8 @@ OnlyRunningOwnersCount = (layout : Layout) (words : List ℕ) (views : List View
     → ChangesWord layout words views v d (Local x) → thread_says words (block_of layout x) ≡ 1
     → v.thread ≡ block_of layout x
 
--- The hand has nothing to do, holds no reference to a counted object and no lock, has taken no row's slot, and its chain
--- is empty.
+-- The hand has nothing to do, holds no reference to a counted object and no lock, has taken no row's slot, and its
+-- chain is empty.
 pub record HoldsNothing (layout : Layout) (v : View) : Type 0 where
   pub none : (x : ℕ) → IsCounted layout x → holds v x ≡ 0
   pub agenda : v.agenda ≡ []

@@ -7,11 +7,11 @@ ghost use Rattle.brc_table.specs.declared.view.View.{View};
 ghost use Rattle.brc_table.specs.Rule.{Stands};
 ghost use Rattle.brc_table.specs.Agreeing.{AgreesInTable};
 ghost use Rattle.brc_table.specs.Ending.{RowsEnd, SeenEndsAreSo, SlotsEnd};
-ghost use Rattle.brc_table.specs.Guarding.{SetMarksAreWatched, OnlyHoldersChangeCells, OnlyRunningOwnersCount, GoneHandsHoldNothing, HandsAreStarted};
+ghost use Rattle.brc_table.specs.Guarding.{SetMarksAreWatched, OnlyHoldersChangeCells, OnlyHoldersSwapCells, OnlyRunningOwnersCount, GoneHandsHoldNothing, HandsAreStarted};
 
 use brc_model::{
-    cells_are_guarded, cells_hold, counts_agree, gone_threads_hold_nothing, owners_count_alone,
-    queued_marks_are_watched, rows_end, slots_end,
+    accounts_are_there, cells_are_guarded, cells_hold, counts_agree, gone_threads_hold_nothing,
+    owners_count_alone, queued_marks_are_watched, rows_end, slots_end,
 };
 
 /// States that in each table, between any two steps of any threads, the counts of every counted object add up to the
@@ -33,11 +33,13 @@ pub fn set_marks_are_watched()
     queued_marks_are_watched();
 }
 
-/// States that a step changes a cell only if its hand has locked the list, or deallocates it.
+/// States that a step changes a cell only if its hand has locked the list, or deallocates it: a duty, and a swap.
 pub fn only_holders_change_cells()
-    ensures { OnlyHoldersChangeCells }
+    ensures duties { OnlyHoldersChangeCells }
+    ensures swaps { OnlyHoldersSwapCells }
 {
     cells_are_guarded();
+    accounts_are_there();
 }
 
 /// States that while the thread of a block runs, no other hand changes the local words of the block.
