@@ -1,21 +1,25 @@
 -- The words and all hands of a table agree about each counted object's references.
-use Rattle.std.proofs.Common.{◌≡◌, ℕ, zero, suc, ◌+◌, ◌<◌, ◌≤◌, List, [], ◌∷◌, length, Some, refl, sym, ap, ◌∙◌, subst, arith}
-use Rattle.std.specs.Prelude.{slice_get, slice_index, sum_by}
+use Rattle.std.proofs.Common.{◌≡◌, ◌⊎◌, ℕ, zero, suc, ◌+◌, ◌<◌, ◌≤◌, List, [], ◌∷◌, length, Bool, Some, inl, inr, refl, sym, ap, ◌∙◌, subst, arith}
+use Rattle.std.specs.Prelude.{◌||◌, slice_get, slice_index, sum_by}
+use Rattle.std.specs.List.{list_any}
+use Rattle.std.proofs.lemmas.Bool.{false≢true}
+use Rattle.std.proofs.lemmas.List.Folds.{list_any-append}
 use Rattle.std.proofs.lemmas.Option.{slice_get_within}
 use Rattle.std.proofs.lemmas.List.Sums.{sum_by-append}
 use mathlib.Core.Option.{some}
 use lib.ListN.{get_elem?}
-use Rattle.brc_word.specs.Words.{local_part, biased_part, phase_part, bias}
+use Rattle.brc_word.specs.Words.{owner_part, local_part, biased_part, phase_part, bias}
 use Rattle.brc_model.specs.declared.duty.Duty.{Duty}
 use Rattle.brc_model.specs.declared.duty.Holding.TheVariants.{AsCaller}
-use Rattle.brc_model.specs.declared.address.Address.TheVariants.{Local, Shared, Mark, Cell}
+use Rattle.brc_model.specs.declared.address.Address.TheVariants.{Local, Shared, Gate, Mark, Cell}
 use Rattle.brc_model.specs.declared.layout.Layout.{Layout}
 use Rattle.brc_model.specs.Layout.{row_count, block_of, IsCounted}
 use Rattle.brc_model.specs.AbstractState.{references_to}
 use Rattle.brc_model.specs.Limits.{cell_limit}
 use Rattle.brc_model.specs.References.{word_holds}
 use Rattle.brc_table.specs.Places.{place}
-use Rattle.brc_model.specs.Agreement.{awaits, carries, weighed, IsPhase, biased_total, awaiting}
+use Rattle.brc_model.specs.Agreement.{awaits, carries, weighed, HasDuty, SomeThreadHas, OwnerHas, decides_or_merges, has_swapped, IsPhase, biased_total, awaiting}
+use Rattle.brc_model.specs.Agreement as model
 use Rattle.brc_model.specs.Machine.{Actor, Life, Unborn, Live, Dying, Closed, Machine, idle_actor}
 use Rattle.brc_model.specs.RowInvariant.{Numbers, Phased, IsDefault, IsQueued, Mode, InOwned, InSwapped, InMerged, IsDead, IsUnborn, RowInvariant}
 use Rattle.brc_model.specs.Invariant.{numbers_of}
@@ -26,8 +30,11 @@ use Rattle.brc_model.specs.CountingLaws as laws
 use Rattle.brc_table.specs.declared.view.View.{View}
 use Rattle.brc_table.specs.Views.{actor_of, holds, open_work}
 use Rattle.brc_table.specs.Rule.{Stands}
-use Rattle.brc_table.specs.Agreeing.{local_at, shared_at, mark_at, gives_up, makes, over_work, listed, in_cells, pending, IsInUse, AgreesInTable}
-use Rattle.brc_table.proofs.Summing.{over_each, over_sum, weight_at, weight_there, over_list, over_hands}
+use Rattle.brc_table.specs.Agreeing.{local_at, shared_at, mark_at, gives_up, makes, over_work, listed, in_cells, pending, IsInUse, IsCountedLocally, SomeHandHas, OwnersHandHas, IsDeadGate, IsFreeOf, AgreesInTable}
+use Rattle.brc_table.specs.Ending.{gate_at}
+use Rattle.brc_table.proofs.Dead.{IsDeadRow, dead_row, makes_none}
+use Rattle.brc_table.proofs.ThreadHands.{thread_is}
+use Rattle.brc_table.proofs.Summing.{over_each, over_sum, over_none, weight_at, weight_there, over_list, over_hands}
 use Rattle.brc_table.proofs.Sharing.{share, share_all, share_one}
 
 -- ---- a row of the machine
@@ -57,6 +64,10 @@ record RowSays (m : Machine) (x : ℕ) : Type 0 where
   merged_free : 1 ≤ uses m x → phase_part (m.memory (Shared x)) ≡ 3 → m.memory (Local x) ≡ 0
   merged_counts : 1 ≤ uses m x → phase_part (m.memory (Shared x)) ≡ 3 → bias < biased_part (m.memory (Shared x))
   phase : 1 ≤ uses m x → IsPhase (phase_part (m.memory (Shared x)))
+  default_local : 1 ≤ uses m x → phase_part (m.memory (Shared x)) ≡ 0
+      → model.IsCountedLocally m x ⊎ SomeThreadHas m (decides_or_merges x)
+  queued_local : 1 ≤ uses m x → phase_part (m.memory (Shared x)) ≡ 2
+      → model.IsCountedLocally m x ⊎ OwnerHas m x (decides_or_merges x) ⊎ SomeThreadHas m (has_swapped x)
 
 -- An unborn row has the numbers of a dead one.
 unborn_dead : (n : Numbers) → IsUnborn n → IsDead n
@@ -84,6 +95,8 @@ dead_says m x row =
       merged_free = λ used. absurd (omega (arith, none, used));
       merged_counts = λ used. absurd (omega (arith, none, used));
       phase = λ used. absurd (omega (arith, none, used));
+      default_local = λ used. absurd (omega (arith, none, used));
+      queued_local = λ used. absurd (omega (arith, none, used));
     }
 
 -- Each row says so, whatever its life.
@@ -101,6 +114,8 @@ row_says law p n m x counts is Live life row =
       merged_free = λ used. says.merged_free life;
       merged_counts = λ used. says.merged_counts life;
       phase = λ used. says.phase life;
+      default_local = λ used. says.default_local life;
+      queued_local = λ used. says.queued_local life;
     }
 row_says law p n m x counts is (Dying t) life row = dead_says m x row
 row_says law p n m x counts is Closed life row = dead_says m x row
@@ -211,6 +226,92 @@ module _ (layout : Layout) (words : List ℕ) (views : List View) (s : Stands la
         held_by_cells hold x,
       )
 
+  -- ---- the hands behind the machine's threads
+
+  -- A duty of one of the machine's threads is a duty of its hand.
+  hand_has : (t : ℕ) (is_such : Duty → Bool) → HasDuty m t is_such
+      → (has : SomeHandHas views is_such) × (has.view.thread ≡ t)
+  hand_has t is_such duty = elim (thread_is layout words views s t duty.actor duty.found) [
+    | inl hand ↦ (
+      record {
+        id = hand.0.id;
+        view = hand.0.view;
+        here = hand.0.here;
+        listed = list_any-append is_such hand.0.view.agenda hand.0.view.aside
+            ∙ (ap (λ (b : Actor). list_any is_such b.agenda || list_any is_such b.aside) (sym hand.1) ∙ duty.listed);
+      },
+      hand.0.thread,
+    )
+    | inr idle ↦
+        absurd (false≢true (ap (λ (b : Actor). list_any is_such b.agenda || list_any is_such b.aside) (sym idle)
+        ∙ duty.listed))
+  ]
+
+  -- What the machine says of a local count the words say.
+  counted_so : (x : ℕ) → m.memory (Local x) ≡ local_at words x → model.IsCountedLocally m x
+      → IsCountedLocally layout words x
+  counted_so x local says = record {
+    owner = ap owner_part (sym local) ∙ (says.owner ∙ ap (λ (l : Layout). block_of l x + 1) s.layout_is);
+    counted = subst (λ (w : ℕ). 1 ≤ local_part w) local says.counted;
+  }
+
+  -- What the machine says of an owner's duty is so of its hand.
+  owner_so : (x : ℕ) (is_such : Duty → Bool) → m.memory (Local x) ≡ local_at words x → OwnerHas m x is_such
+      → OwnersHandHas words views x is_such
+  owner_so x is_such local owner =
+      let found = hand_has owner.0 is_such owner.2 in
+      record {
+        has = found.0;
+        owner = ap owner_part (sym local) ∙ (owner.1 ∙ ap (λ (t : ℕ). t + 1) (sym found.1));
+      }
+
+  -- What it says of a default object is so of the words and the hands.
+  default_so : (x : ℕ) → m.memory (Local x) ≡ local_at words x
+      → model.IsCountedLocally m x ⊎ SomeThreadHas m (decides_or_merges x)
+      → IsCountedLocally layout words x ⊎ SomeHandHas views (decides_or_merges x)
+  default_so x local (inl counted) = inl (counted_so x local counted)
+  default_so x local (inr duty) = inr (hand_has duty.0 (decides_or_merges x) duty.1).0
+
+  -- What it says of a queued one, too.
+  queued_so : (x : ℕ) → m.memory (Local x) ≡ local_at words x
+      → model.IsCountedLocally m x ⊎ OwnerHas m x (decides_or_merges x) ⊎ SomeThreadHas m (has_swapped x)
+      → IsCountedLocally layout words x ⊎ OwnersHandHas words views x (decides_or_merges x)
+      ⊎ SomeHandHas views (has_swapped x)
+  queued_so x local (inl counted) = inl (counted_so x local counted)
+  queued_so x local (inr (inl owner)) = inr (inl (owner_so x (decides_or_merges x) local owner))
+  queued_so x local (inr (inr duty)) = inr (inr (hand_has duty.0 (has_swapped x) duty.1).0)
+
+  -- ---- dying and closed objects
+
+  -- Nobody makes a reference to a dead object.
+  none_made : (x : ℕ) → IsDeadRow m x → over_work (makes x) views ≡ 0
+  none_made x dead =
+      sym (work (makes x))
+      ∙ (over_actors (makes x)
+      ∙ (over_each (weight_at (work_of (makes x)) m.actors) (λ t. 0) threads (λ t under.
+      let it = there_is m.actors t (omega (arith, under, s.counts.kept.core.threads)) in
+      weight_there (work_of (makes x)) m.actors t it.0 it.1
+      ∙ makes_none s.accounts threads m s.counts.kept.core x dead t it.0 it.1) ∙ over_none threads))
+
+  -- So nobody has one, and none is given up.
+  dead_so : CellsHold → (x : ℕ) → IsCounted m.layout x → x < row_count m.layout → IsDeadGate (gate_at words x)
+      → IsFreeOf layout words views x
+  dead_so hold x counted there says =
+      let gate : m.memory (Gate x) ≡ gate_at words x = s.reads (Gate x) there in
+      let dead = dead_row s.accounts threads m x s.counts.kept.core counted (subst IsDeadGate (sym gate) says) in
+      let refs = references hold x counted in
+      let cells : in_cells m.layout words x ≡ in_cells layout words x =
+      ap (λ (l : Layout). in_cells l words x) s.layout_is in
+      let made = none_made x dead in
+      let mark : m.memory (Mark x) ≡ mark_at words x = s.reads (Mark x) there in
+      record {
+        unlisted = omega (arith, refs, made, dead.row.references);
+        unnamed = omega (arith, refs, made, dead.row.references, cells);
+        unmade = made;
+        given_up = omega (arith, refs, made, dead.row.references);
+        none_pending = omega (arith, mark, work (awaits x), dead.row.mark, dead.row.waiting);
+      }
+
 -- ---- agreement
 
 -- The words and the hands of a table agree about each counted object.
@@ -243,4 +344,9 @@ agrees_in_table law hold layout words views x s is there =
       merged_free = λ used e. sym local ∙ says.merged_free (in_use used) (phase ∙ e);
       merged_counts = λ used e. omega (arith, says.merged_counts (in_use used) (phase ∙ e), biased);
       phase = λ used. subst IsPhase phase (says.phase (in_use used));
+      default_local = λ used e.
+          default_so layout words views s x local (says.default_local (in_use used) (phase ∙ e));
+      queued_local = λ used e.
+          queued_so layout words views s x local (says.queued_local (in_use used) (phase ∙ e));
+      dead_free = dead_so layout words views s hold x is' there';
     }

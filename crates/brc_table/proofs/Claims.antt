@@ -245,6 +245,19 @@ behind s used status Finish [] fits = refl
 behind s used status Finish (e ∷ rest) fits = absurd fits
 behind s used status _ rest fits = none_later s used status rest fits
 
+-- Behind an agenda's first duty no duty weighs.
+pub first_alone : (s : Claims) (a : Actor) (status : Status) (d : Duty) (rest : List Duty) → AgendaFits a status
+    → a.agenda ≡ d ∷ rest → sum_by s.weight rest ≡ 0
+first_alone s a Running d rest fits is =
+    sym (all_long s rest)
+    ∙ ap (λ (l : List ℕ). length l)
+    (behind s a.used Running d rest (subst (λ (l : List Duty). Agenda a.used Running l) is fits))
+first_alone s a Leaving d rest fits is =
+    sym (all_long s rest)
+    ∙ ap (λ (l : List ℕ). length l)
+    (behind s a.used Leaving d rest (subst (λ (l : List Duty). Agenda a.used Leaving l) is fits))
+first_alone s a Gone d rest fits is = let wrong : [] ≡ d ∷ rest = sym fits.0 ∙ is in absurd cc
+
 -- says whether the agenda's first duty claims a reference by the holding
 abbrev pub first_of : Claims → Holding → List Duty → Bool
 first_of s k [] = false

@@ -37,33 +37,8 @@ use Rattle.brc_table.specs.Homes.{times_in}
 use Rattle.brc_table.specs.Rule.{reading, Stands}
 use Rattle.brc_table.specs.Guarding.{thread_says, IsWatched, ByRunning, ByExit, ByLook, SetMarksAreWatched, ChangesWord, OnlyHoldersChangeCells, OnlyHoldersSwapCells, OnlyRunningOwnersCount, GoneHandsHoldNothing}
 use Rattle.brc_table.proofs.Agreeing.{there_is}
+use Rattle.brc_table.proofs.ThreadHands.{thread_is}
 use Rattle.brc_table.proofs.Picked.{count_more}
-
--- ---- the hand of a thread
-
--- The thread has a hand.
-record HandOf (views : List View) (t : ℕ) : Type 0 where
-  id : ℕ
-  view : View
-  here : get_elem? views id ≡ some view
-  thread : view.thread ≡ t
-
-abbrev HasNoHand : List View → ℕ → Type 0
-HasNoHand views t = (id : ℕ) (v : View) → get_elem? views id ≡ some v → v.thread ≡ t → ⊥
-
-none_in : (v : View) (views : List View) (t : ℕ) → v.thread ≢ t → HasNoHand views t → HasNoHand (v ∷ views) t
-none_in v views t apart none zero w is same = apart (ap (λ (u : View). u.thread) (some-injective v w is) ∙ same)
-none_in v views t apart none (suc id) w is same = none id w is same
-
-hand_of : (views : List View) (t : ℕ) → HandOf views t ⊎ HasNoHand views t
-hand_of [] t = inr (λ id v is same. some-ne-none v (sym is))
-hand_of (v ∷ views) t = elim (eqb_tells v.thread t) [
-  | inl same ↦ inl (record { id = 0; view = v; here = refl; thread = same.1 })
-  | inr apart ↦ elim (hand_of views t) [
-    | inl found ↦ inl (record { id = suc found.id; view = found.view; here = found.here; thread = found.thread })
-    | inr none ↦ inr (none_in v views t apart.1 none)
-  ]
-]
 
 -- The word of a thread that runs.
 word_runs : (s : Status) → status_word s ≡ 1 → s ≡ Running
@@ -77,22 +52,6 @@ module _ (layout : Layout) (words : List ℕ) (views : List View) (s : Stands la
 
   abbrev n : ℕ
   n = 1 + m.layout.workers
-
-  -- A thread of the machine is its hand's, or it has done nothing.
-  thread_is : (t : ℕ) (a : Actor) → slice_get m.actors t ≡ Some a
-      → ((h : HandOf views t) × (a ≡ actor_of h.view)) ⊎ (a ≡ idle_actor 0)
-  thread_is t a found = elim (hand_of views t) [
-    | inl h ↦
-        inl (
-          h,
-          some_is a (actor_of h.view) (sym found ∙ (ap (slice_get m.actors) (sym h.thread)
-              ∙ s.acts h.id h.view h.here)),
-        )
-    | inr none ↦
-        let low = slice_get_within m.actors t a found in
-        let idle = s.idle t (omega (arith, low, s.counts.kept.core.threads)) none in
-        inr (some_is a (idle_actor 0) (sym found ∙ idle.0))
-  ]
 
   -- ---- marks
 
@@ -110,7 +69,7 @@ module _ (layout : Layout) (words : List ℕ) (views : List View) (s : Stands la
   watched_so : (x : ℕ) → machine.IsWatched m x → IsWatched m.layout words views x
   watched_so x (machine.ByRunning runs) =
       ByRunning (running_says (block_of m.layout x) (block_low x) runs.0 runs.1 runs.2)
-  watched_so x (machine.ByExit a found leaves scans) = elim (thread_is (block_of m.layout x) a found) [
+  watched_so x (machine.ByExit a found leaves scans) = elim (thread_is layout words views s (block_of m.layout x) a found) [
     | inl hand ↦
         ByExit hand.0.id hand.0.view hand.0.here hand.0.thread
         (ap (λ (b : Actor). b.status) (sym hand.1) ∙ leaves)
@@ -119,7 +78,7 @@ module _ (layout : Layout) (words : List ℕ) (views : List View) (s : Stands la
     | inr idle ↦
         let wrong : Running ≡ Leaving = ap (λ (b : Actor). b.status) (sym idle) ∙ leaves in absurd cc
   ]
-  watched_so x (machine.ByLook t a found looks) = elim (thread_is t a found) [
+  watched_so x (machine.ByLook t a found looks) = elim (thread_is layout words views s t a found) [
     | inl hand ↦
         ByLook hand.0.id hand.0.view hand.0.here
         (list_any-append (looks_at x) hand.0.view.agenda hand.0.view.aside
@@ -189,6 +148,7 @@ holders_change law layout words views v d x i it =
       | inr dies ↦ inr dies.1
     ]
 
+-- A lock that a hand has is in the gate's word.
 pub holders_swap : AccountsAreThere → OnlyHoldersSwapCells
 holders_swap law layout words views id v x i word s here may = elim may.changes [
   | inl locked ↦
@@ -225,6 +185,7 @@ none_listed (x ∷ rows) none =
     let one : one_if (x == x) ≡ 1 = ap one_if (eq-eqb x x refl) in
     absurd (none x (omega (arith, count_more x x rows, one)))
 
+-- A hand whose thread is gone holds nothing, and uses no slot, so it has taken none.
 pub gone_hold : {T : Type 0} → guard.GoneThreadsHoldNothing → GoneHandsHoldNothing T
 gone_hold law layout words homes views id v table here gone =
     let s = table.stands in

@@ -38,6 +38,8 @@ mod Summing
 mod Tally
 mod Claims
 mod Sharing
+mod ThreadHands
+mod Dead
 mod Agreeing
 mod Guarding
 mod Spares

@@ -1,20 +1,25 @@
 -- What the words and the hands of a table say together: an object's counts add up to its references. (PEP 703, Biased
 -- Reference Counting: an object has as many references as its local and its shared count say together; it is freed only
 -- in the states default and merged.)
-use Rattle.std.specs.Prelude.{◌≡◌, ℕ, ◌+◌, ◌<◌, ◌≤◌, List, slice_index, sum_by}
-use Rattle.brc_word.specs.Words.{local_part, biased_part, phase_part, bias}
+use Rattle.std.specs.Prelude.{◌≡◌, ◌⊎◌, ℕ, ◌+◌, ◌<◌, ◌≤◌, Bool, true, List, slice_index, sum_by}
+use Rattle.std.specs.List.{list_any}
+use mathlib.Core.Option.{some}
+use lib.ListN.{get_elem?}
+use Rattle.brc_word.specs.Words.{owner_part, local_part, biased_part, phase_part, bias, closed_word}
 use Rattle.brc_model.specs.declared.duty.Reason.TheVariants.{Own}
 use Rattle.brc_model.specs.declared.duty.Duty.{Duty}
 use Rattle.brc_model.specs.declared.duty.Duty.TheVariants.{RetainLoad, RetainStore, RetainAdd, ReleaseLoad, ReleaseStore, SharedLoad, SharedExchange, BirthKind, BirthSlot, BirthLocal, CellSwap}
 use Rattle.brc_model.specs.declared.address.Address.TheVariants.{Local, Shared, Mark, Cell}
 use Rattle.brc_model.specs.declared.layout.Layout.{Layout}
-use Rattle.brc_model.specs.Layout.{row_count}
+use Rattle.brc_model.specs.Layout.{row_count, block_of}
+use Rattle.brc_model.specs.Knowledge.{IsDyingWord}
 use Rattle.brc_model.specs.References.{word_holds}
 use Rattle.brc_model.specs.CountingLaws.{over_cells}
-use Rattle.brc_model.specs.Agreement.{at_row, awaits, carries, IsPhase}
+use Rattle.brc_model.specs.Agreement.{at_row, awaits, carries, decides_or_merges, has_swapped, IsPhase}
 use Rattle.brc_table.specs.declared.view.View.{View}
 use Rattle.brc_table.specs.Places.{place}
 use Rattle.brc_table.specs.Views.{holds, open_work}
+use Rattle.brc_table.specs.Ending.{gate_at}
 
 -- ---- the words of an object
 
@@ -83,11 +88,46 @@ IsInUse layout words views x =
     over_work (makes x) views
     < listed views x + in_cells layout words x + over_work (gives_up x) views + pending words views x
 
+-- ---- who counts an object locally
+
+-- The thread of the row's block owns the object, and its local count is at least 1.
+pub record IsCountedLocally (layout : Layout) (words : List ℕ) (x : ℕ) : Type 0 where
+  pub owner : owner_part (local_at words x) ≡ block_of layout x + 1
+  pub counted : 1 ≤ local_part (local_at words x)
+
+-- Some hand has such a duty.
+pub record SomeHandHas (views : List View) (is_such : Duty → Bool) : Type 0 where
+  pub id : ℕ
+  pub view : View
+  pub here : get_elem? views id ≡ some view
+  pub listed : list_any is_such (open_work view) ≡ true
+
+-- The hand of the thread that the local word names as its owner has such a duty.
+pub record OwnersHandHas (words : List ℕ) (views : List View) (x : ℕ) (is_such : Duty → Bool) : Type 0 where
+  pub has : SomeHandHas views is_such
+  pub owner : owner_part (local_at words x) ≡ has.view.thread + 1
+
+-- ---- dying and closed objects
+
+-- The gate says that the object is dying, or that it is closed.
+abbrev pub IsDeadGate : ℕ → Type 0
+IsDeadGate gate = ((t : ℕ) × IsDyingWord t gate) ⊎ (gate ≡ closed_word)
+
+-- No hand lists the object, no cell names it, no hand makes a reference to it or gives one up, and no decrement is
+-- pending.
+pub record IsFreeOf (layout : Layout) (words : List ℕ) (views : List View) (x : ℕ) : Type 0 where
+  pub unlisted : listed views x ≡ 0
+  pub unnamed : in_cells layout words x ≡ 0
+  pub unmade : over_work (makes x) views ≡ 0
+  pub given_up : over_work (gives_up x) views ≡ 0
+  pub none_pending : pending words views x ≡ 0
+
 -- ---- agreement
 
 -- The words and all hands agree about the object's references. The total and the first clauses hold of every row, also
--- before a birth and after a death, when the object has no reference. Whether an object lives can't be read off its
--- words, so the other clauses ask that it is in use.
+-- before a birth and after a death, when the object has no reference. The words don't say whether an object is born
+-- while its birth is under way, so the clauses about states ask that it is in use. Its gate says whether it is dying or
+-- closed.
 pub record AgreesInTable (layout : Layout) (words : List ℕ) (views : List View) (x : ℕ) : Type 0 where
   -- the counts add up to the references and the pending decrements; the references are those that hands list and those
   -- that cells hold, without those that hands are making, and with those that hands are giving up
@@ -104,3 +144,13 @@ pub record AgreesInTable (layout : Layout) (words : List ℕ) (views : List View
   pub merged_free : IsInUse layout words views x → phase_at words x ≡ 3 → local_at words x ≡ 0
   pub merged_counts : IsInUse layout words views x → phase_at words x ≡ 3 → bias < biased_part (shared_at words x)
   pub phase : IsInUse layout words views x → IsPhase (phase_at words x)
+  -- default: the owner counts the object locally, unless a hand has found the last local reference gone, or merges it
+  pub default_local : IsInUse layout words views x → phase_at words x ≡ 0
+      → IsCountedLocally layout words x ⊎ SomeHandHas views (decides_or_merges x)
+  -- queued: the owner counts the object locally, unless the owner decides about it or merges it, or a hand has swapped
+  -- the local count out
+  pub queued_local : IsInUse layout words views x → phase_at words x ≡ 2
+      → IsCountedLocally layout words x ⊎ OwnersHandHas words views x (decides_or_merges x)
+      ⊎ SomeHandHas views (has_swapped x)
+  -- dying or closed: the object has no reference, and no decrement is pending
+  pub dead_free : IsDeadGate (gate_at words x) → IsFreeOf layout words views x
