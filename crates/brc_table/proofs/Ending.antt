@@ -34,7 +34,8 @@ use Rattle.brc_table.specs.Ending.{EndState, EndsWith, HaveEnded, SeenEndsAreSo,
 
 -- ---- threads
 
-status_gone : (s : Status) → status_word s ≡ 3 → s ≡ Gone
+-- The word of a thread that is gone.
+pub status_gone : (s : Status) → status_word s ≡ 3 → s ≡ Gone
 status_gone Running is = absurd (omega (arith, is))
 status_gone Leaving is = absurd (omega (arith, is))
 status_gone Gone is = refl

@@ -1,12 +1,12 @@
 -- The laws of a table beside the counts follow from those of the counting machine whose words and threads are the
 -- table's.
-use Rattle.std.proofs.Common.{◌≡◌, ◌≢◌, ◌⊎◌, ℕ, zero, suc, ◌+◌, ◌<◌, ◌≤◌, List, [], ◌∷◌, None, Some, inl, inr, refl, sym, ap, ◌∙◌, subst, arith}
+use Rattle.std.proofs.Common.{◌≡◌, ◌≢◌, ◌⊎◌, ℕ, zero, suc, ◌+◌, ◌<◌, ◌≤◌, Bool, cond, List, [], ◌∷◌, None, Some, inl, inr, refl, sym, ap, ◌∙◌, subst, arith}
 use Rattle.std.specs.Prelude.{◌||◌, ◌==◌, slice_get, slice_index}
 use Rattle.std.specs.List.{list_any}
-use Rattle.std.proofs.lemmas.Bool.{false≢true, eq-eqb}
-use Rattle.std.proofs.lemmas.Bool.Decides.{eqb_tells}
+use Rattle.std.proofs.lemmas.Bool.{false≢true, eq-eqb, ne_eqb, cases_lt}
 use Rattle.std.proofs.lemmas.List.Folds.{list_any-append}
 use Rattle.std.proofs.lemmas.Option.{slice_get_within}
+use mathlib.Core.Option as home
 use mathlib.Core.Option.{some, some-injective, some-ne-none}
 use lib.ListN.{get_elem?}
 use Rattle.brc_model.specs.declared.duty.Duty.{Duty}
@@ -19,7 +19,7 @@ use Rattle.brc_model.specs.declared.layout.Layout.{Layout}
 use Rattle.brc_model.specs.Layout.{row_count, block_of, index_of, IsCounted}
 use Rattle.brc_model.specs.Duties.{address_of, new_word}
 use Rattle.brc_model.specs.Knowledge.{status_word}
-use Rattle.brc_model.specs.Machine.{Actor, Machine, idle_actor, done_by, written}
+use Rattle.brc_model.specs.Machine.{Actor, Machine, done_by, written}
 use Rattle.brc_model.specs.Progress.{Runs}
 use Rattle.brc_model.specs.Watched.{looks_at, scans_over}
 use Rattle.brc_model.specs.Watched as machine
@@ -33,12 +33,14 @@ use Rattle.brc_model.proofs.Basics.Written.{written_here}
 use Rattle.brc_table.specs.declared.view.View.{View}
 use Rattle.brc_table.specs.Places.{place, HasWord}
 use Rattle.brc_table.specs.Views.{actor_of, holds}
-use Rattle.brc_table.specs.Homes.{times_in}
-use Rattle.brc_table.specs.Rule.{reading, Stands}
-use Rattle.brc_table.specs.Guarding.{thread_says, IsWatched, ByRunning, ByExit, ByLook, SetMarksAreWatched, ChangesWord, OnlyHoldersChangeCells, OnlyHoldersSwapCells, OnlyRunningOwnersCount, GoneHandsHoldNothing}
+use Rattle.brc_table.specs.Homes.{times_in, times_taken, IsHome}
+use Rattle.brc_table.specs.Rule.{thread_reading, reading, Stands}
+use Rattle.brc_table.specs.Threads.{thread_word}
+use Rattle.brc_table.specs.Guarding.{thread_says, IsWatched, ByRunning, ByExit, ByLook, SetMarksAreWatched, ChangesWord, OnlyHoldersChangeCells, OnlyHoldersSwapCells, OnlyRunningOwnersCount, GoneHandsHoldNothing, GoneWordsTell, ViewsKeepTheLayout, TakenSlotsAreAlone}
 use Rattle.brc_table.proofs.Agreeing.{there_is}
 use Rattle.brc_table.proofs.ThreadHands.{thread_is}
 use Rattle.brc_table.proofs.Picked.{count_more}
+use Rattle.brc_table.proofs.Ending.{status_gone}
 
 -- The word of a thread that runs.
 word_runs : (s : Status) → status_word s ≡ 1 → s ≡ Running
@@ -202,3 +204,92 @@ gone_hold law layout words homes views id v table here gone =
       none_taken = none_listed v.taken (λ x taken. uses_none (actor_of v) x it.agenda it.unlocked
           (table.slots.used id x v here taken));
     }
+
+-- ---- gone threads
+
+-- The word of a thread that is gone.
+reading_three : (word : ℕ) → thread_reading word ≡ 3 → word ≡ 3
+reading_three zero e = absurd (omega (arith, e))
+reading_three (suc k) e =
+    sym (ap (λ (b : Bool). cond b 1 (suc k)) (ne_eqb (suc k) 0 (λ zero_is. absurd (omega (arith, zero_is))))) ∙ e
+
+-- A thread's word says that it is gone exactly if its hand does.
+pub gone_words : GoneWordsTell
+gone_words = record {
+  told = λ layout words views id v s here gone.
+      let found = s.acts id v here in
+      let low = slice_get_within s.machine.actors v.thread (actor_of v) found in
+      reading_three (thread_word words v.thread)
+      (sym (s.reads (ThreadWord v.thread) (omega (arith, low, s.counts.kept.core.threads)))
+      ∙ ((s.counts.kept.core.each v.thread (actor_of v) found).0.word ∙ ap status_word gone));
+  gone = λ layout words views t s there says.
+      let under : t < 1 + s.machine.layout.workers =
+      omega (arith, there, ap (λ (l : Layout). l.workers) s.layout_is) in
+      let (a, found) = there_is s.machine.actors t (omega (arith, under, s.counts.kept.core.threads)) in
+      let is_gone : a.status ≡ Gone =
+      status_gone a.status (sym (s.counts.kept.core.each t a found).0.word
+      ∙ (s.reads (ThreadWord t) under ∙ ap thread_reading says)) in
+      elim (thread_is layout words views s t a found) [
+        | inl hand ↦ record {
+          id = hand.0.id;
+          view = hand.0.view;
+          here = hand.0.here;
+          thread = hand.0.thread;
+          status = ap (λ (b : Actor). b.status) (sym hand.1) ∙ is_gone;
+        }
+        | inr idle ↦
+            let wrong : Running ≡ Gone = ap (λ (b : Actor). b.status) (sym idle) ∙ is_gone in absurd cc
+      ];
+}
+
+-- ---- sizes and slots
+
+-- Each view has the table's layout.
+pub views_keep : ViewsKeepTheLayout
+views_keep layout words views id v s here = s.told id v here ∙ s.layout_is
+
+-- Some hand has taken the row's slot.
+record IsTaken (views : List View) (x : ℕ) : Type 0 where
+  id : ℕ
+  view : View
+  here : get_elem? views id ≡ some view
+  taken : 1 ≤ times_taken x view
+
+-- A slot that neither the first hand nor another one has taken is at home.
+home_in : (v : View) (views : List View) (x : ℕ) → times_taken x v ≡ 0 → IsHome views x → IsHome (v ∷ views) x
+home_in v views x none rest zero w is = ap (times_taken x) (sym (some-injective v w is)) ∙ none
+home_in v views x none rest (suc id) w is = rest id w is
+
+-- Some hand has taken a slot, or the slot is at home.
+taken_or_home : (views : List View) (x : ℕ) → IsTaken views x ⊎ IsHome views x
+taken_or_home [] x = inr (λ id v is. absurd (some-ne-none v (sym is)))
+taken_or_home (v ∷ views) x = elim (cases_lt 0 (times_taken x v)) [
+  | inl taken ↦ inl (record { id = 0; view = v; here = refl; taken = omega (arith, taken) })
+  | inr none ↦ elim (taken_or_home views x) [
+    | inl found ↦ inl (record { id = suc found.id; view = found.view; here = found.here; taken = found.taken })
+    | inr rest ↦ inr (home_in v views x (omega (arith, none)) rest)
+  ]
+]
+
+-- A slot that isn't at home is with one hand.
+pub taken_alone : {T : Type 0} → TakenSlotsAreAlone T
+taken_alone layout words homes views x table there out = elim (taken_or_home views x) [
+  | inl found ↦ record {
+    id = found.id;
+    view = found.view;
+    here = found.here;
+    once = omega (arith, found.taken, table.slots.once found.id x found.view found.here);
+    used = table.slots.used found.id x found.view found.here found.taken;
+    others = λ other w is apart. elim (cases_lt 0 (times_taken x w)) [
+      | inl taken ↦
+          absurd (apart (table.slots.alone other found.id x w found.view is found.here (omega (arith, taken))
+          found.taken))
+      | inr none ↦ omega (arith, none)
+    ];
+  }
+  | inr at_home ↦
+      let there' : x < row_count table.stands.machine.layout =
+      subst (λ (l : Layout). x < row_count l) (sym table.stands.layout_is) there in
+      let held = table.slots.at_home x there' at_home in
+      absurd (some-ne-none held.slot (some-injective (some held.slot) home.none (sym held.there ∙ out)))
+]

@@ -1,7 +1,7 @@
 -- What holds of a table between any two steps of its hands, beside the counts: marks that are set are watched, cells
 -- change under their list's lock alone, a running thread alone changes the local words of its block, and a hand whose
 -- thread is gone holds nothing.
-use Rattle.std.specs.Prelude.{◌≡◌, ◌≢◌, ◌⊎◌, ℕ, ◌<◌, true, Option, List, [], ◌∷◌, None, Some, slice_index}
+use Rattle.std.specs.Prelude.{◌≡◌, ◌≢◌, ◌⊎◌, ℕ, ◌<◌, ◌≤◌, true, Option, List, [], ◌∷◌, None, Some, slice_index}
 use Rattle.std.specs.List.{list_any}
 use mathlib.Core.Option as home
 use mathlib.Core.Option.{some}
@@ -18,11 +18,12 @@ use Rattle.brc_model.specs.OpenWork.{is_finalising}
 use Rattle.brc_model.specs.Watched.{looks_at, scans_over}
 use Rattle.brc_table.specs.declared.view.View.{View}
 use Rattle.brc_table.specs.Places.{place, HasWord}
-use Rattle.brc_table.specs.Views.{holds, open_work}
+use Rattle.brc_model.specs.SlotLaws.{UsesSlot}
+use Rattle.brc_table.specs.Views.{actor_of, holds, open_work}
 use Rattle.brc_table.specs.Hands.{IsFirst}
 use Rattle.brc_table.specs.Swaps.{MaySwap}
 use Rattle.brc_table.specs.Rule.{thread_reading, Stands}
-use Rattle.brc_table.specs.Homes.{TableStands}
+use Rattle.brc_table.specs.Homes.{times_taken, TableStands}
 use Rattle.brc_table.specs.Threads.{thread_word}
 use Rattle.brc_table.specs.Agreeing.{mark_at}
 
@@ -89,13 +90,51 @@ pub record HoldsNothing (layout : Layout) (v : View) : Type 0 where
   pub unlocked : v.locked ≡ None
   pub none_taken : v.taken ≡ []
 
+-- The thread has a hand, and is gone.
+pub record HasGone (views : List View) (t : ℕ) : Type 0 where
+  pub id : ℕ
+  pub view : View
+  pub here : get_elem? views id ≡ some view
+  pub thread : view.thread ≡ t
+  pub status : view.status ≡ Gone
+
 -- A hand whose thread is gone holds nothing. `T` is the type of the table's resources.
 abbrev pub GoneHandsHoldNothing : Type 0 → Type 0
 GoneHandsHoldNothing T =
     (layout : Layout) (words : List ℕ) (homes : List (home.Option (Option T))) (views : List View) (id : ℕ) (v : View)
     → TableStands layout words homes views → get_elem? views id ≡ some v → v.status ≡ Gone → HoldsNothing layout v
 
+-- A thread's word is 3 exactly where the thread has a hand and is gone.
+pub record GoneWordsTell : Type 0 where
+  pub told : (layout : Layout) (words : List ℕ) (views : List View) (id : ℕ) (v : View) → Stands layout words views
+      → get_elem? views id ≡ some v → v.status ≡ Gone → thread_word words v.thread ≡ 3
+  pub gone : (layout : Layout) (words : List ℕ) (views : List View) (t : ℕ) → Stands layout words views
+      → t ≤ layout.workers → thread_word words t ≡ 3 → HasGone views t
+
 -- A thread that has a hand is started.
 abbrev pub HandsAreStarted : Type 0
 HandsAreStarted = (layout : Layout) (words : List ℕ) (views : List View) (id : ℕ) (v : View)
     → Stands layout words views → get_elem? views id ≡ some v → 0 < thread_word words v.thread
+
+-- ---- sizes and slots
+
+-- Each hand's view has the table's number of workers and rows, so it is the same in all views.
+abbrev pub ViewsKeepTheLayout : Type 0
+ViewsKeepTheLayout = (layout : Layout) (words : List ℕ) (views : List View) (id : ℕ) (v : View)
+    → Stands layout words views → get_elem? views id ≡ some v → v.layout ≡ layout
+
+-- One hand has taken the row's slot, once, and uses it; no other hand has taken it.
+pub record IsTakenAlone (views : List View) (x : ℕ) : Type 0 where
+  pub id : ℕ
+  pub view : View
+  pub here : get_elem? views id ≡ some view
+  pub once : times_taken x view ≡ 1
+  pub used : UsesSlot (actor_of view) x
+  pub others : (other : ℕ) (w : View) → get_elem? views other ≡ some w → other ≢ id → times_taken x w ≡ 0
+
+-- While a row's slot isn't at home in the table, one hand has taken it. `T` is the type of the table's resources.
+abbrev pub TakenSlotsAreAlone : Type 0 → Type 0
+TakenSlotsAreAlone T =
+    (layout : Layout) (words : List ℕ) (homes : List (home.Option (Option T))) (views : List View) (x : ℕ)
+    → TableStands layout words homes views → x < row_count layout → get_elem? homes x ≡ some home.none
+    → IsTakenAlone views x

@@ -7,7 +7,7 @@ ghost use Rattle.brc_table.specs.declared.view.View.{View};
 ghost use Rattle.brc_table.specs.Rule.{Stands};
 ghost use Rattle.brc_table.specs.Agreeing.{AgreesInTable};
 ghost use Rattle.brc_table.specs.Ending.{RowsEnd, SeenEndsAreSo, SlotsEnd};
-ghost use Rattle.brc_table.specs.Guarding.{SetMarksAreWatched, OnlyHoldersChangeCells, OnlyHoldersSwapCells, OnlyRunningOwnersCount, GoneHandsHoldNothing, HandsAreStarted};
+ghost use Rattle.brc_table.specs.Guarding.{SetMarksAreWatched, OnlyHoldersChangeCells, OnlyHoldersSwapCells, OnlyRunningOwnersCount, GoneHandsHoldNothing, GoneWordsTell, HandsAreStarted, ViewsKeepTheLayout, TakenSlotsAreAlone};
 
 use brc_model::{
     accounts_are_there, cells_are_guarded, cells_hold, counts_agree, gone_threads_hold_nothing,
@@ -56,9 +56,24 @@ pub fn gone_hands_hold_nothing<T>()
     gone_threads_hold_nothing();
 }
 
+/// States that a thread's word says that it is gone exactly if the thread has a hand, and is gone.
+pub fn gone_words_tell()
+    ensures { GoneWordsTell }
+{}
+
 /// States that a thread whose word says that it isn't started has no hand, so that it holds nothing either.
 pub fn hands_are_started()
     ensures { HandsAreStarted }
+{}
+
+/// States that the view of each hand has the table's number of workers and rows, the same in all.
+pub fn views_keep_the_layout()
+    ensures { ViewsKeepTheLayout }
+{}
+
+/// States that while a row's slot is out of the table, one hand has taken it, and uses it, and no other has.
+pub fn taken_slots_are_alone<T>()
+    ensures { TakenSlotsAreAlone T }
 {}
 
 /// States that once each thread is gone or was never started, exactly the born objects that no cell of an open list
