@@ -238,6 +238,7 @@ gains_one law layout words views id v x rests immortal =
         acts = old.acts;
         told = old.told;
         named = old.named;
+        rooted = old.rooted;
         kinds_seen = old.kinds_seen;
         cells_seen = old.cells_seen;
         holding = λ other w y is counted.

@@ -10,7 +10,9 @@ use Rattle.brc_model.specs.declared.address.Address.{Address}
 use Rattle.brc_model.specs.declared.address.Address.TheVariants.{Gate, KindOf, Cell, Slot}
 use Rattle.brc_model.specs.declared.layout.Layout.{Layout}
 use Rattle.brc_word.specs.Words.{half}
-use Rattle.brc_model.specs.Layout.{none_row, IsCounted}
+use Rattle.brc_model.specs.Limits.{cell_limit}
+use Rattle.brc_model.specs.Actions.{list_word}
+use Rattle.brc_model.specs.Layout.{none_row, root_row, IsCounted}
 use Rattle.brc_model.specs.Machine.{Actor, Machine, idle_actor}
 use Rattle.brc_model.specs.Accounts.{Account, Accounts, HoldsNone}
 use Rattle.brc_model.specs.Knowledge.{IsDyingWord}
@@ -182,6 +184,7 @@ module _ (layout : Layout) (words : List ℕ) (views : List View) (id : ℕ) (v 
     acts = acts_after;
     told = told_after;
     named = new.kinds_stay none_row half (omega arith) old.named;
+    rooted = new.kinds_stay root_row (list_word cell_limit) (omega arith) old.rooted;
     kinds_seen = kinds_after;
     cells_seen = cells_after;
     holding = holding_after;

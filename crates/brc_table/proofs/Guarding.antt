@@ -14,9 +14,9 @@ use Rattle.brc_model.specs.declared.duty.Holding.TheVariants.{AsCaller}
 use Rattle.brc_model.specs.declared.actor.Status.{Status}
 use Rattle.brc_model.specs.declared.actor.Status.TheVariants.{Running, Leaving, Gone}
 use Rattle.brc_model.specs.declared.address.Address.{Address}
-use Rattle.brc_model.specs.declared.address.Address.TheVariants.{Local, Gate, Mark, Cell, ThreadWord}
+use Rattle.brc_model.specs.declared.address.Address.TheVariants.{Local, Gate, KindOf, Mark, Cell, ThreadWord}
 use Rattle.brc_model.specs.declared.layout.Layout.{Layout}
-use Rattle.brc_model.specs.Layout.{row_count, block_of, index_of, IsCounted}
+use Rattle.brc_model.specs.Layout.{row_count, block_of, index_of, root_row, IsCounted}
 use Rattle.brc_model.specs.Duties.{address_of, new_word}
 use Rattle.brc_model.specs.Knowledge.{status_word}
 use Rattle.brc_model.specs.Machine.{Actor, Machine, done_by, written}
@@ -36,7 +36,7 @@ use Rattle.brc_table.specs.Views.{actor_of, holds}
 use Rattle.brc_table.specs.Homes.{times_in, times_taken, IsHome}
 use Rattle.brc_table.specs.Rule.{thread_reading, reading, Stands}
 use Rattle.brc_table.specs.Threads.{thread_word}
-use Rattle.brc_table.specs.Guarding.{thread_says, IsWatched, ByRunning, ByExit, ByLook, SetMarksAreWatched, ChangesWord, OnlyHoldersChangeCells, OnlyHoldersSwapCells, OnlyRunningOwnersCount, GoneHandsHoldNothing, GoneWordsTell, ViewsKeepTheLayout, TakenSlotsAreAlone}
+use Rattle.brc_table.specs.Guarding.{thread_says, IsWatched, ByRunning, ByExit, ByLook, SetMarksAreWatched, ChangesWord, OnlyHoldersChangeCells, OnlyHoldersSwapCells, OnlyRunningOwnersCount, GoneHandsHoldNothing, GoneWordsTell, ViewsKeepTheLayout, RootIsAList, TakenSlotsAreAlone}
 use Rattle.brc_table.proofs.Agreeing.{there_is}
 use Rattle.brc_table.proofs.ThreadHands.{thread_is}
 use Rattle.brc_table.proofs.Picked.{count_more}
@@ -71,15 +71,16 @@ module _ (layout : Layout) (words : List ℕ) (views : List View) (s : Stands la
   watched_so : (x : ℕ) → machine.IsWatched m x → IsWatched m.layout words views x
   watched_so x (machine.ByRunning runs) =
       ByRunning (running_says (block_of m.layout x) (block_low x) runs.0 runs.1 runs.2)
-  watched_so x (machine.ByExit a found leaves scans) = elim (thread_is layout words views s (block_of m.layout x) a found) [
-    | inl hand ↦
-        ByExit hand.0.id hand.0.view hand.0.here hand.0.thread
-        (ap (λ (b : Actor). b.status) (sym hand.1) ∙ leaves)
-        (ap (λ (b : Actor). list_any (scans_over (index_of m.layout (block_of m.layout x) x)) b.agenda) (sym hand.1)
-        ∙ scans)
-    | inr idle ↦
-        let wrong : Running ≡ Leaving = ap (λ (b : Actor). b.status) (sym idle) ∙ leaves in absurd cc
-  ]
+  watched_so x (machine.ByExit a found leaves scans) =
+      elim (thread_is layout words views s (block_of m.layout x) a found) [
+        | inl hand ↦
+            ByExit hand.0.id hand.0.view hand.0.here hand.0.thread
+            (ap (λ (b : Actor). b.status) (sym hand.1) ∙ leaves)
+            (ap (λ (b : Actor). list_any (scans_over (index_of m.layout (block_of m.layout x) x)) b.agenda) (sym hand.1)
+            ∙ scans)
+        | inr idle ↦
+            let wrong : Running ≡ Leaving = ap (λ (b : Actor). b.status) (sym idle) ∙ leaves in absurd cc
+      ]
   watched_so x (machine.ByLook t a found looks) = elim (thread_is layout words views s t a found) [
     | inl hand ↦
         ByLook hand.0.id hand.0.view hand.0.here
@@ -247,6 +248,10 @@ gone_words = record {
 -- Each view has the table's layout.
 pub views_keep : ViewsKeepTheLayout
 views_keep layout words views id v s here = s.told id v here ∙ s.layout_is
+
+-- The root's kind word is the machine's.
+pub root_is : RootIsAList
+root_is layout words views s = sym (s.reads (KindOf root_row) (omega arith)) ∙ s.rooted
 
 -- Some hand has taken the row's slot.
 record IsTaken (views : List View) (x : ℕ) : Type 0 where

@@ -97,6 +97,7 @@ module _ (begin : HandsBegin) (layout : Layout) (plain : IsPlainLayout layout) (
         of_main (λ w. slice_get (hands_machine layout).actors w.thread ≡ Some (actor_of w)) id v is refl;
     told = λ id v is. of_main (λ w. w.layout ≡ layout) id v is refl;
     named = refl;
+    rooted = refl;
     kinds_seen = λ id x word v is more seen.
         absurd (false≢true (sym (of_main (λ w. has_seen_kind x word w ≡ false) id v is refl) ∙ seen));
     cells_seen = λ id x i word v is locked seen.

@@ -359,6 +359,7 @@ module _ (law : ReferencesAreHandedOver) (layout : Layout) (words : List ℕ) (v
     acts = λ other z is. acts_after other z (whose other z is);
     told = λ other z is. told_after other z (whose other z is);
     named = old.named;
+    rooted = old.rooted;
     kinds_seen = λ other x word z is high seen. kinds_after other x word z (whose other z is) high seen;
     cells_seen = λ other x i word z is guards seen.
         cells_after other x i word z (whose other z is) guards seen;

@@ -12,7 +12,9 @@ use Rattle.brc_model.specs.declared.actor.Status.TheVariants.{Leaving, Gone}
 use Rattle.brc_model.specs.declared.address.Address.{Address}
 use Rattle.brc_model.specs.declared.address.Address.TheVariants.{Local, Gate, Cell, ThreadWord}
 use Rattle.brc_model.specs.declared.layout.Layout.{Layout}
-use Rattle.brc_model.specs.Layout.{row_count, block_of, index_of, IsCounted}
+use Rattle.brc_model.specs.Layout.{row_count, block_of, index_of, root_row, IsCounted}
+use Rattle.brc_model.specs.Limits.{cell_limit}
+use Rattle.brc_model.specs.Actions.{list_word}
 use Rattle.brc_model.specs.Duties.{address_of, new_word}
 use Rattle.brc_model.specs.OpenWork.{is_finalising}
 use Rattle.brc_model.specs.Watched.{looks_at, scans_over}
@@ -25,6 +27,7 @@ use Rattle.brc_table.specs.Swaps.{MaySwap}
 use Rattle.brc_table.specs.Rule.{thread_reading, Stands}
 use Rattle.brc_table.specs.Homes.{times_taken, TableStands}
 use Rattle.brc_table.specs.Threads.{thread_word}
+use Rattle.brc_table.specs.Ending.{kind_at}
 use Rattle.brc_table.specs.Agreeing.{mark_at}
 
 -- what the word of a thread says of it
@@ -91,7 +94,7 @@ pub record HoldsNothing (layout : Layout) (v : View) : Type 0 where
   pub none_taken : v.taken ≡ []
 
 -- The thread has a hand, and is gone.
-pub record HasGone (views : List View) (t : ℕ) : Type 0 where
+pub record HasGoneHand (views : List View) (t : ℕ) : Type 0 where
   pub id : ℕ
   pub view : View
   pub here : get_elem? views id ≡ some view
@@ -109,7 +112,7 @@ pub record GoneWordsTell : Type 0 where
   pub told : (layout : Layout) (words : List ℕ) (views : List View) (id : ℕ) (v : View) → Stands layout words views
       → get_elem? views id ≡ some v → v.status ≡ Gone → thread_word words v.thread ≡ 3
   pub gone : (layout : Layout) (words : List ℕ) (views : List View) (t : ℕ) → Stands layout words views
-      → t ≤ layout.workers → thread_word words t ≡ 3 → HasGone views t
+      → t ≤ layout.workers → thread_word words t ≡ 3 → HasGoneHand views t
 
 -- A thread that has a hand is started.
 abbrev pub HandsAreStarted : Type 0
@@ -122,6 +125,11 @@ HandsAreStarted = (layout : Layout) (words : List ℕ) (views : List View) (id :
 abbrev pub ViewsKeepTheLayout : Type 0
 ViewsKeepTheLayout = (layout : Layout) (words : List ℕ) (views : List View) (id : ℕ) (v : View)
     → Stands layout words views → get_elem? views id ≡ some v → v.layout ≡ layout
+
+-- The root is a list of eight cells.
+abbrev pub RootIsAList : Type 0
+RootIsAList = (layout : Layout) (words : List ℕ) (views : List View) → Stands layout words views
+    → kind_at words root_row ≡ list_word cell_limit
 
 -- One hand has taken the row's slot, once, and uses it; no other hand has taken it.
 pub record IsTakenAlone (views : List View) (x : ℕ) : Type 0 where

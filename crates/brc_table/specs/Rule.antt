@@ -7,7 +7,9 @@ use Rattle.brc_model.specs.declared.address.Address.{Address}
 use Rattle.brc_model.specs.declared.address.Address.TheVariants.{KindOf, Cell, ThreadWord}
 use Rattle.brc_model.specs.declared.layout.Layout.{Layout}
 use Rattle.brc_word.specs.Words.{half}
-use Rattle.brc_model.specs.Layout.{none_row, IsCounted}
+use Rattle.brc_model.specs.Layout.{none_row, root_row, IsCounted}
+use Rattle.brc_model.specs.Limits.{cell_limit}
+use Rattle.brc_model.specs.Actions.{list_word}
 use Rattle.brc_model.specs.Machine.{Machine, idle_actor}
 use Rattle.brc_model.specs.Accounts.{Accounts, HoldsNone}
 use Rattle.brc_model.specs.Knowledge.{GuardsCells}
@@ -49,6 +51,8 @@ pub record Stands (layout : Layout) (words : List ℕ) (views : List View) : Typ
       → accounts v.thread AsCaller x ≡ holds v x
   -- none's kind word is the one that it has from the start
   pub named : machine.memory (KindOf none_row) ≡ half
+  -- and the root's is that of a list of eight cells
+  pub rooted : machine.memory (KindOf root_row) ≡ list_word cell_limit
   -- a kind word that a hand has seen is still there
   pub kinds_seen : (id x word : ℕ) (v : View) → get_elem? views id ≡ some v → 0 < word
       → has_seen_kind x word v ≡ true → machine.memory (KindOf x) ≡ word

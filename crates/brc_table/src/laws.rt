@@ -7,7 +7,7 @@ ghost use Rattle.brc_table.specs.declared.view.View.{View};
 ghost use Rattle.brc_table.specs.Rule.{Stands};
 ghost use Rattle.brc_table.specs.Agreeing.{AgreesInTable};
 ghost use Rattle.brc_table.specs.Ending.{RowsEnd, SeenEndsAreSo, SlotsEnd};
-ghost use Rattle.brc_table.specs.Guarding.{SetMarksAreWatched, OnlyHoldersChangeCells, OnlyHoldersSwapCells, OnlyRunningOwnersCount, GoneHandsHoldNothing, GoneWordsTell, HandsAreStarted, ViewsKeepTheLayout, TakenSlotsAreAlone};
+ghost use Rattle.brc_table.specs.Guarding.{SetMarksAreWatched, OnlyHoldersChangeCells, OnlyHoldersSwapCells, OnlyRunningOwnersCount, GoneHandsHoldNothing, GoneWordsTell, HandsAreStarted, ViewsKeepTheLayout, RootIsAList, TakenSlotsAreAlone};
 
 use brc_model::{
     accounts_are_there, cells_are_guarded, cells_hold, counts_agree, gone_threads_hold_nothing,
@@ -69,6 +69,11 @@ pub fn hands_are_started()
 /// States that the view of each hand has the table's number of workers and rows, the same in all.
 pub fn views_keep_the_layout()
     ensures { ViewsKeepTheLayout }
+{}
+
+/// States that the root is a list of eight cells.
+pub fn root_is_a_list()
+    ensures { RootIsAList }
 {}
 
 /// States that while a row's slot is out of the table, one hand has taken it, and uses it, and no other has.

@@ -31,7 +31,7 @@ pub use closed::Closed;
 pub use hand::Hand;
 pub use laws::{
     counts_agree_in_every_table, gone_hands_hold_nothing, gone_words_tell, hands_are_started,
-    only_holders_change_cells, only_running_owners_count, rows_end_in_every_table,
+    only_holders_change_cells, only_running_owners_count, root_is_a_list, rows_end_in_every_table,
     seen_ends_are_so, set_marks_are_watched, slots_end_in_every_table, taken_slots_are_alone,
     views_keep_the_layout,
 };
