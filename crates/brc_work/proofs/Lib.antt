@@ -13,6 +13,7 @@ mod Stepping
 mod Calling
 mod NewObjects
 mod Moving
+mod Passing
 mod Counting
 mod Places
 mod Mains

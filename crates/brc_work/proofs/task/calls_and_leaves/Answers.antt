@@ -1,4 +1,4 @@
-use Rattle.std.proofs.Common.{ap, ◌∙◌}
+use Rattle.std.proofs.Common.{ap}
 use Rattle.brc_work.specs.Totals.{no_totals}
 use Rattle.brc_work.proofs.Calling.{keeps_root}
 use Rattle.brc_work.proofs.Counting.{closes_counted, counted_then}

@@ -1,117 +1,132 @@
-use Rattle.std.proofs.Common.{ℕ, ◌<◌, List, length, Option, None, Some, inl, inr, refl, sym, ap, ◌∙◌, subst}
+use Rattle.std.proofs.Common.{◌≡◌, ℕ, ◌<◌, List, length, Option, None, Some, inl, inr, refl, sym, ap, ◌∙◌, subst}
 use Rattle.brc_lang.specs.declared.kind.Kind.TheVariants as kinds
 use Rattle.brc_lang.specs.declared.module.Instr.TheVariants as instructions
 use Rattle.brc_model.specs.declared.slot.Slot.TheVariants.{Empty, Owned}
-use Rattle.brc_model.specs.Slots.{slot_of, is_empty, names, put}
+use Rattle.brc_model.specs.declared.slot.State.{State}
+use Rattle.brc_model.specs.Slots.{slot_of, is_empty, names, put, lowest}
 use Rattle.brc_model.specs.Threads.{row_of}
 use Rattle.brc_model.proofs.Dispatch.Passing.{are_met}
 use Rattle.brc_model.specs.declared.layout.Layout.{Layout}
 use Rattle.brc_table.specs.Views.{with_reference}
-use Rattle.brc_table.specs.Hands.{TableState, most_references}
+use Rattle.brc_table.specs.Hands.{TableState, HandState, most_references}
+use Rattle.brc_work.specs.Acts.{ActsElsewhere}
+use Rattle.brc_work.specs.Changes.{CanFill}
+use Rattle.brc_work.specs.Fits.{Unknown, Rests, Fits}
 use Rattle.brc_work.proofs.CallsBelow.{left_acts}
-use Rattle.brc_work.specs.Fits.{Unknown, Fits}
 use Rattle.brc_work.proofs.Conditions.{kept, can_fill, not_false}
+use Rattle.brc_work.proofs.Passing.{none_broken}
 use Rattle.brc_work.proofs.Fitting.{refits, same_fits}
 use Rattle.brc_work.proofs.Holding.{names_object, few_held}
-use Rattle.brc_work.proofs.LockedList.{on_list, sized_acts, item_acts}
+use Rattle.brc_work.proofs.LockedList.{OnList, on_list, sized_acts, item_acts}
 use Rattle.brc_work.proofs.Trading.{nothing, gains}
 use Rattle.brc_work.proofs.Traces.Items.{HasSized, fetches_outside, fetches_none, fetches_item}
+use Rattle.brc_work.proofs.worker.Worker.fetch.Given as given
+use Rattle.brc_work.proofs.worker.Worker.fetch.Goals.{After-size, After-item-found}
 use Rattle.brc_work.proofs.worker.Worker.fetch.Goals as goal
+
+-- By asking for the list's size the hand does nothing else,
+sized : (g : given.Over) (c : After-size g) → Rests c.args.hand.now → ActsElsewhere c.args.hand.now c.size.new.hand
+sized g c rests =
+    sized_acts c.args.hand.now c.size.new.hand c.row_in-row.result c.size.ensures.events.0 rests c.size.ensures.keeps
+    (c.size.ensures.table.0
+    ∙ (ap (λ (w : TableState). w.table) (c.new-lists.ensures ∙ c.self.view_is) ∙ sym c.requires.may.of.0))
+    c.size.ensures.carried c.size.ensures.slots c.size.ensures.locked c.size.ensures.events.1
+
+-- and the variables and the hand are still as the state says.
+later : (g : given.Over) (c : After-size g) (first : HandState) (s : State)
+    → Fits first s c.args.rows.now c.args.hand.now → Fits first s c.args.rows.now c.size.new.hand
+later g c first s fits =
+    same_fits first s c.args.rows.now c.args.hand.now c.size.new.hand fits (sized g c fits.rests)
+    c.size.ensures.keeps.references
+
+-- The list is the one that the hand has locked.
+on : (g : given.Over) (c : After-size g) (first : HandState) (s : State) → Fits first s c.args.rows.now c.args.hand.now
+    → lowest (instructions.Fetch c.args.to c.args.list c.args.index c.args.otherwise) s ≡ None
+    → OnList c.size.new.hand c.row_in-row.result
+on g c first s fits passes =
+    let met = are_met (instructions.Fetch c.args.to c.args.list c.args.index c.args.otherwise) s passes in
+    on_list first s c.args.rows.now c.size.new.hand c.args.list c.row_in-row.result (later g c first s fits)
+    (not_false (names s.locked c.args.list) (kept _ met.has_lock)) c.row_in-row.ensures
+
+-- The variable may be filled.
+can : (g : given.Over) (c : After-size g) (s : State)
+    → lowest (instructions.Fetch c.args.to c.args.list c.args.index c.args.otherwise) s ≡ None → CanFill s c.args.to
+can g c s passes =
+    let all = are_met (instructions.Fetch c.args.to c.args.list c.args.index c.args.otherwise) s passes in
+    can_fill s c.args.to all.free all.unlocked
+
+-- By loading the cell the hand does nothing else.
+looked : (g : given.Over) (c : After-item-found g) → Rests c.size.new.hand → OnList c.size.new.hand c.row_in-row.result
+    → ActsElsewhere c.size.new.hand c.item-found.new.hand
+looked g c rests list =
+    item_acts c.size.new.hand c.item-found.new.hand c.row_in-row.result c.from-cell.result c.item-found.ensures.sees.0
+    rests c.item-found.ensures.keeps (c.item-found.ensures.table.0 ∙ sym c.size.ensures.table.0)
+    c.item-found.ensures.carried c.item-found.ensures.slots list.locked (c.item-found.ensures.locked ∙ list.locked)
+    c.item-found.ensures.sees.1
+
+-- The hand has asked for the list's size.
+has_sized : (g : given.Over) (c : After-size g)
+    → HasSized c.args.list c.row_in-row.result c.args.index c.from-cell.result c.size.result
+    c.size.ensures.events.0 c.args.rows.now c.args.hand.now.view c.size.new.hand.view
+has_sized g c = record {
+  none = c.requires.may.fits.rests.agenda;
+  names = c.row_in-row.ensures;
+  same = c.from-cell.ensures;
+  size_is = c.size.ensures.events.2;
+  view_is = c.size.ensures.events.1;
+}
 
 pub row_in-row-requires : goal.row_in-row-requires
 row_in-row-requires g c =
-    let may = c.requires.may in
-    let met = are_met (instructions.Fetch c.args.to c.args.list c.args.index c.args.otherwise) may.state may.passes in
-    names_object may.first may.state c.args.rows.now c.args.hand.now may.fits c.args.list
-    (kept (is_empty (slot_of may.state c.args.list)) met.not_empty)
+    names_object _ _ _ _ c.requires.may.fits c.args.list
+    (kept (is_empty (slot_of c.requires.may.state c.args.list)) (none_broken c.requires.may).not_empty)
 
 pub size-requires-clause-usable : goal.size-requires-clause-usable
 size-requires-clause-usable g c =
     let may = c.requires.may in
-    let met = are_met (instructions.Fetch c.args.to c.args.list c.args.index c.args.otherwise) may.state may.passes in
     inl (inl (on_list may.first may.state c.args.rows.now c.args.hand.now c.args.list c.row_in-row.result may.fits
-    (not_false (names may.state.locked c.args.list) (kept _ met.has_lock)) c.row_in-row.ensures).one)
+    (not_false (names may.state.locked c.args.list) (kept _ (none_broken may).has_lock)) c.row_in-row.ensures).one)
 
 pub returns-then-cell-size-clause-done : goal.returns-then-cell-size-clause-done
 returns-then-cell-size-clause-done g c = λ first s fits passes.
-    let hand = c.args.hand.now in
-    let mid = c.size.new.hand in
-    let row = c.row_in-row.result in
-    let met = are_met (instructions.Fetch c.args.to c.args.list c.args.index c.args.otherwise) s passes in
-    let can = can_fill s c.args.to met.free met.unlocked in
-    let sized =
-    sized_acts hand mid row c.size.ensures.events.0 fits.rests c.size.ensures.keeps
-    (c.size.ensures.table.0 ∙ (ap (λ (w : TableState). w.table) (c.new-lists.ensures ∙ c.self.view_is) ∙ sym c.requires.may.of.0))
-    c.size.ensures.carried c.size.ensures.slots c.size.ensures.locked c.size.ensures.events.1 in
-    subst (λ (rows : List (Option ℕ)). Fits first (put s c.args.to Empty) rows mid) (sym c.name.ensures.named)
-    (refits first s c.args.rows.now hand mid c.args.to Empty None fits c.name.ensures.low can.unlocked sized tt
-    (nothing first.view.layout (slot_of s c.args.to) Empty (row_of c.args.rows.now c.args.to) None hand mid can.free refl
-    c.size.ensures.keeps.references))
+    let at = (goal.at.returns-then-cell-size-clause-done g c).After-size in
+    let fills = can g at s passes in
+    subst (λ (rows : List (Option ℕ)). Fits first (put s c.args.to Empty) rows c.size.new.hand)
+    (sym c.name.ensures.named)
+    (refits first s c.args.rows.now c.args.hand.now c.size.new.hand c.args.to Empty None fits c.name.ensures.low
+    fills.unlocked (sized g at fits.rests) tt
+    (nothing first.view.layout (slot_of s c.args.to) Empty (row_of c.args.rows.now c.args.to) None c.args.hand.now
+    c.size.new.hand fills.free refl c.size.ensures.keeps.references))
 
 pub item-found-requires-clause-loads : goal.item-found-requires-clause-loads
 item-found-requires-clause-loads g c =
-    let may = c.requires.may in
-    let hand = c.args.hand.now in
-    let mid = c.size.new.hand in
-    let row = c.row_in-row.result in
-    let met = are_met (instructions.Fetch c.args.to c.args.list c.args.index c.args.otherwise) may.state may.passes in
-    let sized =
-    sized_acts hand mid row c.size.ensures.events.0 may.fits.rests c.size.ensures.keeps
-    (c.size.ensures.table.0 ∙ (ap (λ (w : TableState). w.table) (c.new-lists.ensures ∙ c.self.view_is) ∙ sym may.of.0))
-    c.size.ensures.carried c.size.ensures.slots c.size.ensures.locked c.size.ensures.events.1 in
-    let later = same_fits may.first may.state c.args.rows.now hand mid may.fits sized c.size.ensures.keeps.references in
-    let on =
-    on_list may.first may.state c.args.rows.now mid c.args.list row later
-    (not_false (names may.state.locked c.args.list) (kept _ met.has_lock)) c.row_in-row.ensures in
-    inl (on.locked, on.one)
+    let list = on g (goal.at.item-found-requires-clause-loads g c).After-size c.requires.may.first c.requires.may.state
+    c.requires.may.fits c.requires.may.passes in
+    inl (list.locked, list.one)
 
 pub retain-requires-clause-usable : goal.retain-requires-clause-usable
 retain-requires-clause-usable g c =
     let may = c.requires.may in
-    let hand = c.args.hand.now in
-    let mid = c.size.new.hand in
-    let row = c.row_in-row.result in
-    let met = are_met (instructions.Fetch c.args.to c.args.list c.args.index c.args.otherwise) may.state may.passes in
-    let sized =
-    sized_acts hand mid row c.size.ensures.events.0 may.fits.rests c.size.ensures.keeps
-    (c.size.ensures.table.0 ∙ (ap (λ (w : TableState). w.table) (c.new-lists.ensures ∙ c.self.view_is) ∙ sym may.of.0))
-    c.size.ensures.carried c.size.ensures.slots c.size.ensures.locked c.size.ensures.events.1 in
-    let later = same_fits may.first may.state c.args.rows.now hand mid may.fits sized c.size.ensures.keeps.references in
-    let on =
-    on_list may.first may.state c.args.rows.now mid c.args.list row later
-    (not_false (names may.state.locked c.args.list) (kept _ met.has_lock)) c.row_in-row.ensures in
-    inr (c.item-found.ensures.borrows c.in-Some.item c.in-Some.is on.locked)
+    let list = on g (goal.at.retain-requires-clause-usable g c).After-size may.first may.state may.fits may.passes in
+    inr (c.item-found.ensures.borrows c.in-Some.item c.in-Some.is list.locked)
 
 pub retain-requires-clause-few : goal.retain-requires-clause-few
 retain-requires-clause-few g c =
-    let may = c.requires.may in
     subst (λ (l : List ℕ). length l < most_references)
     (sym (c.item-found.ensures.keeps.references ∙ c.size.ensures.keeps.references))
-    (few_held may.first may.state c.args.rows.now c.args.hand.now may.fits)
+    (few_held _ _ _ _ c.requires.may.fits)
 
 pub returns-in-Some-clause-done : goal.returns-in-Some-clause-done
 returns-in-Some-clause-done g c = λ first s fits passes.
-    let hand = c.args.hand.now in
-    let mid = c.size.new.hand in
+    let at = goal.at.returns-in-Some-clause-done g c in
     let seen = c.item-found.new.hand in
     let after = c.retain.new.hand in
-    let row = c.row_in-row.result in
-    let met = are_met (instructions.Fetch c.args.to c.args.list c.args.index c.args.otherwise) s passes in
-    let can = can_fill s c.args.to met.free met.unlocked in
+    let fills = can g at.After-size s passes in
+    let asked = later g at.After-size first s fits in
+    let found = same_fits first s c.args.rows.now c.size.new.hand seen asked
+    (looked g at.After-item-found asked.rests (on g at.After-size first s fits passes))
+    c.item-found.ensures.keeps.references in
     let of_lists = ap (λ (w : TableState). w.table) (c.new-lists.ensures ∙ c.self.view_is) in
-    let sized =
-    sized_acts hand mid row c.size.ensures.events.0 fits.rests c.size.ensures.keeps
-    (c.size.ensures.table.0 ∙ (of_lists ∙ sym c.requires.may.of.0))
-    c.size.ensures.carried c.size.ensures.slots c.size.ensures.locked c.size.ensures.events.1 in
-    let later = same_fits first s c.args.rows.now hand mid fits sized c.size.ensures.keeps.references in
-    let on =
-    on_list first s c.args.rows.now mid c.args.list row later
-    (not_false (names s.locked c.args.list) (kept _ met.has_lock)) c.row_in-row.ensures in
-    let looked =
-    item_acts mid seen row c.from-cell.result c.item-found.ensures.sees.0 later.rests c.item-found.ensures.keeps
-    (c.item-found.ensures.table.0 ∙ sym c.size.ensures.table.0) c.item-found.ensures.carried c.item-found.ensures.slots
-    on.locked (c.item-found.ensures.locked ∙ on.locked) c.item-found.ensures.sees.1 in
-    let found = same_fits first s c.args.rows.now mid seen later looked c.item-found.ensures.keeps.references in
     let retained =
     left_acts seen after c.in-Some.item found.rests c.retain.ensures.left
     (c.retain.ensures.table.0 ∙ (ap (λ (w : TableState). w.table) c.self.view_is
@@ -120,84 +135,42 @@ returns-in-Some-clause-done g c = λ first s fits passes.
     subst (λ (rows : List (Option ℕ)). Fits first (put s c.args.to (Owned kinds.Any)) rows after)
     (sym c.name-in-Some.ensures.named)
     (refits first s c.args.rows.now seen after c.args.to (Owned kinds.Any) (Some c.in-Some.item) found
-    c.name-in-Some.ensures.low can.unlocked retained
+    c.name-in-Some.ensures.low fills.unlocked retained
     (record { object = c.in-Some.item; is = refl; knows = Unknown refl })
-    (gains first.view.layout (slot_of s c.args.to) (row_of c.args.rows.now c.args.to) kinds.Any c.in-Some.item seen after
-    can.free (c.retain.ensures.references
+    (gains first.view.layout (slot_of s c.args.to) (row_of c.args.rows.now c.args.to) kinds.Any c.in-Some.item seen
+    after fills.free (c.retain.ensures.references
     ∙ ap (λ (l : Layout). with_reference l c.in-Some.item seen.view.references) found.follows.layout)))
 
 pub returns-in-None-clause-done : goal.returns-in-None-clause-done
 returns-in-None-clause-done g c = λ first s fits passes.
-    let hand = c.args.hand.now in
-    let mid = c.size.new.hand in
-    let after = c.item-found.new.hand in
-    let row = c.row_in-row.result in
-    let met = are_met (instructions.Fetch c.args.to c.args.list c.args.index c.args.otherwise) s passes in
-    let can = can_fill s c.args.to met.free met.unlocked in
-    let of_lists = ap (λ (w : TableState). w.table) (c.new-lists.ensures ∙ c.self.view_is) in
-    let sized =
-    sized_acts hand mid row c.size.ensures.events.0 fits.rests c.size.ensures.keeps
-    (c.size.ensures.table.0 ∙ (of_lists ∙ sym c.requires.may.of.0))
-    c.size.ensures.carried c.size.ensures.slots c.size.ensures.locked c.size.ensures.events.1 in
-    let later = same_fits first s c.args.rows.now hand mid fits sized c.size.ensures.keeps.references in
-    let on =
-    on_list first s c.args.rows.now mid c.args.list row later
-    (not_false (names s.locked c.args.list) (kept _ met.has_lock)) c.row_in-row.ensures in
-    let looked =
-    item_acts mid after row c.from-cell.result c.item-found.ensures.sees.0 later.rests c.item-found.ensures.keeps
-    (c.item-found.ensures.table.0 ∙ sym c.size.ensures.table.0) c.item-found.ensures.carried c.item-found.ensures.slots
-    on.locked (c.item-found.ensures.locked ∙ on.locked) c.item-found.ensures.sees.1 in
-    subst (λ (rows : List (Option ℕ)). Fits first (put s c.args.to Empty) rows after) (sym c.name-in-None.ensures.named)
-    (refits first s c.args.rows.now mid after c.args.to Empty None later c.name-in-None.ensures.low can.unlocked looked tt
-    (nothing first.view.layout (slot_of s c.args.to) Empty (row_of c.args.rows.now c.args.to) None mid after can.free refl
-    c.item-found.ensures.keeps.references))
+    let at = goal.at.returns-in-None-clause-done g c in
+    let fill = can g at.After-size s passes in
+    let asked = later g at.After-size first s fits in
+    let loads = looked g at.After-item-found asked.rests (on g at.After-size first s fits passes) in
+    subst (λ (rows : List (Option ℕ)). Fits first (put s c.args.to Empty) rows c.item-found.new.hand)
+    (sym c.name-in-None.ensures.named)
+    (refits first s c.args.rows.now c.size.new.hand c.item-found.new.hand c.args.to Empty None asked
+    c.name-in-None.ensures.low fill.unlocked loads tt
+    (nothing first.view.layout (slot_of s c.args.to) Empty (row_of c.args.rows.now c.args.to) None c.size.new.hand
+    c.item-found.new.hand fill.free refl c.item-found.ensures.keeps.references))
 
 pub returns-then-cell-size-clause-made : goal.returns-then-cell-size-clause-made
 returns-then-cell-size-clause-made g c =
-    let events = c.size.ensures.events in
-    let sized : HasSized c.args.list c.row_in-row.result c.args.index c.from-cell.result c.size.result events.0
-    c.args.rows.now c.args.hand.now.view c.size.new.hand.view = record {
-      none = c.requires.may.fits.rests.agenda;
-      names = c.row_in-row.ensures;
-      same = c.from-cell.ensures;
-      size_is = events.2;
-      view_is = events.1;
-    } in
-    fetches_outside c.args.list c.row_in-row.result c.args.index c.from-cell.result c.size.result events.0
-    c.args.rows.now c.args.hand.now.view c.size.new.hand.view sized c.args.to c.args.otherwise c.name.new.rows
-    c.if-cell-size.true c.name.ensures.named
+    fetches_outside _ _ _ _ _ _ _ _ _ (has_sized g (goal.at.returns-then-cell-size-clause-made g c).After-size)
+    c.args.to c.args.otherwise c.name.new.rows c.if-cell-size.true c.name.ensures.named
 
 pub returns-in-Some-clause-made : goal.returns-in-Some-clause-made
 returns-in-Some-clause-made g c =
-    let events = c.size.ensures.events in
-    let sized : HasSized c.args.list c.row_in-row.result c.args.index c.from-cell.result c.size.result events.0
-    c.args.rows.now c.args.hand.now.view c.size.new.hand.view = record {
-      none = c.requires.may.fits.rests.agenda;
-      names = c.row_in-row.ensures;
-      same = c.from-cell.ensures;
-      size_is = events.2;
-      view_is = events.1;
-    } in
     let sees = c.item-found.ensures.sees in
     let steps = c.retain.ensures.events in
-    fetches_item c.args.list c.row_in-row.result c.args.index c.from-cell.result c.size.result events.0
-    c.args.rows.now c.args.hand.now.view c.size.new.hand.view sized c.args.to c.args.otherwise c.name-in-Some.new.rows
-    sees.0 c.in-Some.item steps.0 steps.1 c.item-found.new.hand.view c.retain.new.hand.view c.if-cell-size.false
+    fetches_item _ _ _ _ _ _ _ _ _ (has_sized g (goal.at.returns-in-Some-clause-made g c).After-size) c.args.to
+    c.args.otherwise c.name-in-Some.new.rows sees.0 c.in-Some.item steps.0 steps.1 c.item-found.new.hand.view
+    c.retain.new.hand.view c.if-cell-size.false
     (record { view_is = sees.1.view_is; item_is = sym sees.2 ∙ c.in-Some.is }) steps.3 c.name-in-Some.ensures.named
 
 pub returns-in-None-clause-made : goal.returns-in-None-clause-made
 returns-in-None-clause-made g c =
-    let events = c.size.ensures.events in
-    let sized : HasSized c.args.list c.row_in-row.result c.args.index c.from-cell.result c.size.result events.0
-    c.args.rows.now c.args.hand.now.view c.size.new.hand.view = record {
-      none = c.requires.may.fits.rests.agenda;
-      names = c.row_in-row.ensures;
-      same = c.from-cell.ensures;
-      size_is = events.2;
-      view_is = events.1;
-    } in
-    let sees = c.item-found.ensures.sees in
-    fetches_none c.args.list c.row_in-row.result c.args.index c.from-cell.result c.size.result events.0
-    c.args.rows.now c.args.hand.now.view c.size.new.hand.view sized c.args.to c.args.otherwise c.name-in-None.new.rows
-    sees.0 c.item-found.new.hand.view c.if-cell-size.false
-    (record { view_is = sees.1.view_is; item_is = sym sees.2 ∙ c.in-None.is }) c.name-in-None.ensures.named
+    let saw = c.item-found.ensures.sees in
+    fetches_none _ _ _ _ _ _ _ _ _ (has_sized g (goal.at.returns-in-None-clause-made g c).After-size) c.args.to
+    c.args.otherwise c.name-in-None.new.rows saw.0 c.item-found.new.hand.view c.if-cell-size.false
+    (record { view_is = saw.1.view_is; item_is = sym saw.2 ∙ c.in-None.is }) c.name-in-None.ensures.named

@@ -1,27 +1,33 @@
-use Rattle.std.proofs.Common.{ℕ, List, Option, sym, ◌∙◌, subst}
+use Rattle.std.proofs.Common.{◌≡◌, None, sym, ◌∙◌}
 use Rattle.brc_lang.specs.declared.module.Instr.TheVariants as instructions
-use Rattle.brc_model.specs.declared.slot.Slot.TheVariants.{Empty}
+use Rattle.brc_model.specs.declared.slot.State.{State}
 use Rattle.brc_model.specs.Actions.{file_word}
-use Rattle.brc_model.specs.Slots.{put}
+use Rattle.brc_model.specs.Slots.{lowest}
 use Rattle.brc_model.proofs.Dispatch.Passing.{are_met}
-use Rattle.brc_work.specs.Fits.{Fits}
+use Rattle.brc_work.specs.Changes.{CanFill}
 use Rattle.brc_work.proofs.Conditions.{can_fill}
-use Rattle.brc_work.proofs.Moving.{cleared}
+use Rattle.brc_work.proofs.Passing.{left_empty}
 use Rattle.brc_work.proofs.Counting.{quiet_counted, opening_ok}
 use Rattle.brc_work.proofs.Traces.HostCalls.{asks_open, grants, refuses, asks_nothing}
+use Rattle.brc_work.proofs.worker.Worker.open.Given as given
+use Rattle.brc_work.proofs.worker.Worker.open.Goals.{Start}
 use Rattle.brc_work.proofs.worker.Worker.open.Goals as goal
+
+-- The variable may be filled.
+can : (g : given.Over) (c : Start g) (s : State)
+    → lowest (instructions.Open c.args.to c.args.path c.args.mode c.args.otherwise) s ≡ None → CanFill s c.args.to
+can g c s passes =
+    let met = are_met (instructions.Open c.args.to c.args.path c.args.mode c.args.otherwise) s passes in
+    can_fill s c.args.to met.free met.unlocked
 
 pub returns-then-not-room-clause-done : goal.returns-then-not-room-clause-done
 returns-then-not-room-clause-done g c = λ first s fits passes.
-    let hand = c.args.hand.now in
-    let met = are_met (instructions.Open c.args.to c.args.path c.args.mode c.args.otherwise) s passes in
-    subst (λ (rows : List (Option ℕ)). Fits first (put s c.args.to Empty) rows hand) (sym c.name.ensures.named)
-    (cleared first s c.args.rows.now hand c.args.to fits (can_fill s c.args.to met.free met.unlocked) c.name.ensures.low)
+    left_empty first s c.args.rows.now c.name.new.rows c.args.hand.now c.args.to fits
+    (can g (goal.at.returns-then-not-room-clause-done g c).Start s passes) c.name.ensures.low c.name.ensures.named
 
 pub returns-in-Ok-clause-done : goal.returns-in-Ok-clause-done
 returns-in-Ok-clause-done g c = λ first s fits passes.
-    let met = are_met (instructions.Open c.args.to c.args.path c.args.mode c.args.otherwise) s passes in
-    c.bear.ensures.goes first s fits (can_fill s c.args.to met.free met.unlocked)
+    c.bear.ensures.goes first s fits (can g (goal.at.returns-in-Ok-clause-done g c).Start s passes)
 
 pub returns-in-Ok-clause-counted : goal.returns-in-Ok-clause-counted
 returns-in-Ok-clause-counted g c =
@@ -30,32 +36,24 @@ returns-in-Ok-clause-counted g c =
 
 pub returns-in-Err-clause-done : goal.returns-in-Err-clause-done
 returns-in-Err-clause-done g c = λ first s fits passes.
-    let hand = c.args.hand.now in
-    let met = are_met (instructions.Open c.args.to c.args.path c.args.mode c.args.otherwise) s passes in
-    subst (λ (rows : List (Option ℕ)). Fits first (put s c.args.to Empty) rows hand) (sym c.name-in-Err.ensures.named)
-    (cleared first s c.args.rows.now hand c.args.to fits (can_fill s c.args.to met.free met.unlocked)
-    c.name-in-Err.ensures.low)
+    left_empty first s c.args.rows.now c.name-in-Err.new.rows c.args.hand.now c.args.to fits
+    (can g (goal.at.returns-in-Err-clause-done g c).Start s passes) c.name-in-Err.ensures.low
+    c.name-in-Err.ensures.named
 
 pub returns-then-not-room-clause-made : goal.returns-then-not-room-clause-made
 returns-then-not-room-clause-made g c =
-    let i = instructions.Open c.args.to c.args.path c.args.mode c.args.otherwise in
-    let asks = asks_open c.args.to c.args.path c.args.mode c.args.otherwise in
-    let v = c.args.hand.now.view in
-    asks_nothing i c.args.to c.args.otherwise file_word asks c.args.rows.now c.name.new.rows v
+    asks_nothing _ c.args.to c.args.otherwise file_word (asks_open c.args.to c.args.path c.args.mode c.args.otherwise)
+    c.args.rows.now c.name.new.rows c.args.hand.now.view
     (sym c.room.ensures ∙ c.if-not-room.true) c.name.ensures.named
 
 pub returns-in-Ok-clause-made : goal.returns-in-Ok-clause-made
 returns-in-Ok-clause-made g c =
-    let i = instructions.Open c.args.to c.args.path c.args.mode c.args.otherwise in
-    let asks = asks_open c.args.to c.args.path c.args.mode c.args.otherwise in
-    let v = c.args.hand.now.view in
-    grants i c.args.to c.args.otherwise file_word asks c.args.rows.now c.bear.new.rows v c.bear.new.hand.view
+    grants _ c.args.to c.args.otherwise file_word (asks_open c.args.to c.args.path c.args.mode c.args.otherwise)
+    c.args.rows.now c.bear.new.rows c.args.hand.now.view c.bear.new.hand.view
     (sym c.room.ensures ∙ c.if-not-room.false) c.bear.ensures.made
 
 pub returns-in-Err-clause-made : goal.returns-in-Err-clause-made
 returns-in-Err-clause-made g c =
-    let i = instructions.Open c.args.to c.args.path c.args.mode c.args.otherwise in
-    let asks = asks_open c.args.to c.args.path c.args.mode c.args.otherwise in
-    let v = c.args.hand.now.view in
-    refuses i c.args.to c.args.otherwise file_word asks c.args.rows.now c.name-in-Err.new.rows v
+    refuses _ c.args.to c.args.otherwise file_word (asks_open c.args.to c.args.path c.args.mode c.args.otherwise)
+    c.args.rows.now c.name-in-Err.new.rows c.args.hand.now.view
     (sym c.room.ensures ∙ c.if-not-room.false) c.name-in-Err.ensures.named

@@ -1,4 +1,4 @@
-use Rattle.std.proofs.Common.{ℕ, ◌≤◌, List, Option, inl, sym, ap, ◌∙◌, subst}
+use Rattle.std.proofs.Common.{◌≡◌, ℕ, ◌≤◌, List, Option, inl, sym, ap, ◌∙◌, subst}
 use Rattle.std.specs.Prelude.{IfOk}
 use Rattle.brc_lang.specs.declared.kind.Kind.TheVariants as kinds
 use Rattle.brc_lang.specs.declared.module.Instr.TheVariants as instructions
@@ -13,120 +13,89 @@ use Rattle.brc_heap.specs.Calls.{kind_word}
 use Rattle.brc_work.specs.Fits.{Fits}
 use Rattle.brc_work.specs.Performs.{Performs, MakesBirth}
 use Rattle.brc_work.proofs.Conditions.{kept, can_fill, not_false}
+use Rattle.brc_work.proofs.Passing.{none_broken}
 use Rattle.brc_work.proofs.Counting.{nothing_counted, quiet_counted, fault_counted, use_ok, use_err}
 use Rattle.brc_work.proofs.Holding.{names_object}
-use Rattle.brc_work.proofs.Lending.{on_file, there, lent_back}
+use Rattle.brc_work.proofs.Lending.{OnFile, on_file, there, lent_back}
 use Rattle.brc_work.proofs.Moving.{cleared}
 use Rattle.brc_work.proofs.Traces.HostCalls.{reads_nothing, makes_read, fails_to_read}
+use Rattle.brc_work.proofs.worker.Worker.read.Given as given
+use Rattle.brc_work.proofs.worker.Worker.read.Goals.{After-row_in-row, After-give_back}
 use Rattle.brc_work.proofs.worker.Worker.read.Goals as goal
+
+-- The file is the one that the hand has locked.
+on : (g : given.Over) (c : After-row_in-row g) → OnFile c.args.hand.now c.row_in-row.result
+on g c =
+    let may = c.requires.may in
+    let met = none_broken may in
+    on_file may.first may.state c.args.rows.now c.args.hand.now c.args.file c.row_in-row.result may.fits
+    (not_false (names may.state.locked c.args.file) (kept _ met.has_lock))
+    (not_false (is_one_of (kind_of (slot_of may.state c.args.file)) with_resource) (kept _ met.right_kind))
+    c.row_in-row.ensures
+
+-- With the resource lent and given back, the hand is the same.
+back : (g : given.Over) (c : After-give_back g) → OnFile c.args.hand.now c.row_in-row.result
+    → c.give_back.new.hand ≡ c.args.hand.now
+back g c file =
+    lent_back c.args.hand.now c.lend-resource.new.hand c.give_back.new.hand c.row_in-row.result file
+    (c.give_back.ensures.table.0
+    ∙ (ap (λ (w : TableState). w.table) (c.new-lists.ensures ∙ c.self.view_is) ∙ sym c.requires.may.of.0))
+    c.lend-resource.ensures.view c.give_back.ensures.view c.lend-resource.ensures.carried c.give_back.ensures.carried
+    c.lend-resource.ensures.slots c.give_back.ensures.slots
 
 pub returns-then-not-room-clause-done : goal.returns-then-not-room-clause-done
 returns-then-not-room-clause-done g c = λ first s fits passes.
-    let hand = c.args.hand.now in
     let met = are_met (instructions.Read c.args.to c.args.file c.args.most c.args.otherwise) s passes in
-    subst (λ (rows : List (Option ℕ)). Fits first (put s c.args.to Empty) rows hand) (sym c.name.ensures.named)
-    (cleared first s c.args.rows.now hand c.args.to fits (can_fill s c.args.to met.free met.unlocked) c.name.ensures.low)
+    subst (λ (rows : List (Option ℕ)). Fits first (put s c.args.to Empty) rows c.args.hand.now)
+    (sym c.name.ensures.named)
+    (cleared first s c.args.rows.now c.args.hand.now c.args.to fits (can_fill s c.args.to met.free met.unlocked)
+    c.name.ensures.low)
 
 pub row_in-row-requires : goal.row_in-row-requires
 row_in-row-requires g c =
-    let may = c.requires.may in
-    let hand = c.args.hand.now in
-    let met = are_met (instructions.Read c.args.to c.args.file c.args.most c.args.otherwise) may.state may.passes in
-    names_object may.first may.state c.args.rows.now hand may.fits c.args.file
-    (kept (is_empty (slot_of may.state c.args.file)) met.not_empty)
+    names_object _ _ _ _ c.requires.may.fits c.args.file
+    (kept (is_empty (slot_of c.requires.may.state c.args.file)) (none_broken c.requires.may).not_empty)
 
 pub lend-resource-requires-clause-slot : goal.lend-resource-requires-clause-slot
 lend-resource-requires-clause-slot g c =
-    let may = c.requires.may in
-    let hand = c.args.hand.now in
-    let met = are_met (instructions.Read c.args.to c.args.file c.args.most c.args.otherwise) may.state may.passes in
-    let on =
-    on_file may.first may.state c.args.rows.now hand c.args.file c.row_in-row.result may.fits
-    (not_false (names may.state.locked c.args.file) (kept _ met.has_lock))
-    (not_false (is_one_of (kind_of (slot_of may.state c.args.file)) with_resource) (kept _ met.right_kind))
-    c.row_in-row.ensures in
-    inl on.locked
+    inl (on g (goal.at.lend-resource-requires-clause-slot g c).After-row_in-row).locked
 
 pub lend-resource-requires-clause-there : goal.lend-resource-requires-clause-there
 lend-resource-requires-clause-there g c =
-    let may = c.requires.may in
-    let hand = c.args.hand.now in
-    let met = are_met (instructions.Read c.args.to c.args.file c.args.most c.args.otherwise) may.state may.passes in
-    let on =
-    on_file may.first may.state c.args.rows.now hand c.args.file c.row_in-row.result may.fits
-    (not_false (names may.state.locked c.args.file) (kept _ met.has_lock))
-    (not_false (is_one_of (kind_of (slot_of may.state c.args.file)) with_resource) (kept _ met.right_kind))
-    c.row_in-row.ensures in
-    there hand c.row_in-row.result on
+    there _ _ (on g (goal.at.lend-resource-requires-clause-there g c).After-row_in-row)
 
 pub give_back-requires-clause-whole : goal.give_back-requires-clause-whole
-give_back-requires-clause-whole g c =
-    let may = c.requires.may in
-    let hand = c.args.hand.now in
-    let met = are_met (instructions.Read c.args.to c.args.file c.args.most c.args.otherwise) may.state may.passes in
-    let on =
-    on_file may.first may.state c.args.rows.now hand c.args.file c.row_in-row.result may.fits
-    (not_false (names may.state.locked c.args.file) (kept _ met.has_lock))
-    (not_false (is_one_of (kind_of (slot_of may.state c.args.file)) with_resource) (kept _ met.right_kind))
-    c.row_in-row.ensures in
-    λ locked. ap (λ (v : View). v.in_slot) c.lend-resource.ensures.view ∙ on.whole
+give_back-requires-clause-whole g c = λ locked.
+    ap (λ (v : View). v.in_slot) c.lend-resource.ensures.view
+    ∙ (on g (goal.at.give_back-requires-clause-whole g c).After-row_in-row).whole
 
 pub give_back-requires-clause-slot : goal.give_back-requires-clause-slot
 give_back-requires-clause-slot g c =
-    let may = c.requires.may in
-    let hand = c.args.hand.now in
-    let met = are_met (instructions.Read c.args.to c.args.file c.args.most c.args.otherwise) may.state may.passes in
-    let on =
-    on_file may.first may.state c.args.rows.now hand c.args.file c.row_in-row.result may.fits
-    (not_false (names may.state.locked c.args.file) (kept _ met.has_lock))
-    (not_false (is_one_of (kind_of (slot_of may.state c.args.file)) with_resource) (kept _ met.right_kind))
-    c.row_in-row.ensures in
-    inl (ap (λ (v : View). v.locked) c.lend-resource.ensures.view ∙ on.locked)
+    inl (ap (λ (v : View). v.locked) c.lend-resource.ensures.view
+    ∙ (on g (goal.at.give_back-requires-clause-slot g c).After-row_in-row).locked)
 
 pub bear-requires-clause-fits : goal.bear-requires-clause-fits
 bear-requires-clause-fits g c =
     let may = c.requires.may in
-    let hand = c.args.hand.now in
-    let met = are_met (instructions.Read c.args.to c.args.file c.args.most c.args.otherwise) may.state may.passes in
-    let on =
-    on_file may.first may.state c.args.rows.now hand c.args.file c.row_in-row.result may.fits
-    (not_false (names may.state.locked c.args.file) (kept _ met.has_lock))
-    (not_false (is_one_of (kind_of (slot_of may.state c.args.file)) with_resource) (kept _ met.right_kind))
-    c.row_in-row.ensures in
-    let back =
-    lent_back hand c.lend-resource.new.hand c.give_back.new.hand c.row_in-row.result on
-    (c.give_back.ensures.table.0
-    ∙ (ap (λ (w : TableState). w.table) (c.new-lists.ensures ∙ c.self.view_is) ∙ sym c.requires.may.of.0))
-    c.lend-resource.ensures.view c.give_back.ensures.view c.lend-resource.ensures.carried c.give_back.ensures.carried
-    c.lend-resource.ensures.slots c.give_back.ensures.slots in
+    let at = goal.at.bear-requires-clause-fits g c in
+    let same = back g at.After-give_back (on g at.After-row_in-row) in
     record {
       first = may.first;
       state = may.state;
       of = subst (λ (w : TableState). IsOf w c.give_back.new.hand) (c.new-lists.ensures ∙ c.self.view_is)
           c.give_back.ensures.table;
-      fits = subst (λ (h : HandState). Fits may.first may.state c.args.rows.now h) (sym back) may.fits;
-      can_do = can_fill may.state c.args.to met.free met.unlocked;
+      fits = subst (λ (h : HandState). Fits may.first may.state c.args.rows.now h) (sym same) may.fits;
+      can_do = can_fill may.state c.args.to (none_broken may).free (none_broken may).unlocked;
     }
 
 pub returns-in-Ok-clause-done : goal.returns-in-Ok-clause-done
 returns-in-Ok-clause-done g c = λ first s fits passes.
-    let may = c.requires.may in
-    let hand = c.args.hand.now in
-    let met = are_met (instructions.Read c.args.to c.args.file c.args.most c.args.otherwise) may.state may.passes in
-    let on =
-    on_file may.first may.state c.args.rows.now hand c.args.file c.row_in-row.result may.fits
-    (not_false (names may.state.locked c.args.file) (kept _ met.has_lock))
-    (not_false (is_one_of (kind_of (slot_of may.state c.args.file)) with_resource) (kept _ met.right_kind))
-    c.row_in-row.ensures in
-    let back =
-    lent_back hand c.lend-resource.new.hand c.give_back.new.hand c.row_in-row.result on
-    (c.give_back.ensures.table.0
-    ∙ (ap (λ (w : TableState). w.table) (c.new-lists.ensures ∙ c.self.view_is) ∙ sym c.requires.may.of.0))
-    c.lend-resource.ensures.view c.give_back.ensures.view c.lend-resource.ensures.carried c.give_back.ensures.carried
-    c.lend-resource.ensures.slots c.give_back.ensures.slots in
-    let mine = are_met (instructions.Read c.args.to c.args.file c.args.most c.args.otherwise) s passes in
-    c.bear.ensures.goes first s (subst (λ (h : HandState). Fits first s c.args.rows.now h) (sym back) fits)
-    (can_fill s c.args.to mine.free mine.unlocked)
+    let at = goal.at.returns-in-Ok-clause-done g c in
+    let met = are_met (instructions.Read c.args.to c.args.file c.args.most c.args.otherwise) s passes in
+    c.bear.ensures.goes first s
+    (subst (λ (h : HandState). Fits first s c.args.rows.now h)
+    (sym (back g at.After-give_back (on g at.After-row_in-row))) fits)
+    (can_fill s c.args.to met.free met.unlocked)
 
 pub returns-in-Ok-clause-counted : goal.returns-in-Ok-clause-counted
 returns-in-Ok-clause-counted g c =
@@ -135,26 +104,14 @@ returns-in-Ok-clause-counted g c =
 
 pub returns-in-Err-clause-done : goal.returns-in-Err-clause-done
 returns-in-Err-clause-done g c = λ first s fits passes.
-    let may = c.requires.may in
-    let hand = c.args.hand.now in
-    let met = are_met (instructions.Read c.args.to c.args.file c.args.most c.args.otherwise) may.state may.passes in
-    let on =
-    on_file may.first may.state c.args.rows.now hand c.args.file c.row_in-row.result may.fits
-    (not_false (names may.state.locked c.args.file) (kept _ met.has_lock))
-    (not_false (is_one_of (kind_of (slot_of may.state c.args.file)) with_resource) (kept _ met.right_kind))
-    c.row_in-row.ensures in
-    let back =
-    lent_back hand c.lend-resource.new.hand c.give_back.new.hand c.row_in-row.result on
-    (c.give_back.ensures.table.0
-    ∙ (ap (λ (w : TableState). w.table) (c.new-lists.ensures ∙ c.self.view_is) ∙ sym c.requires.may.of.0))
-    c.lend-resource.ensures.view c.give_back.ensures.view c.lend-resource.ensures.carried c.give_back.ensures.carried
-    c.lend-resource.ensures.slots c.give_back.ensures.slots in
-    let mine = are_met (instructions.Read c.args.to c.args.file c.args.most c.args.otherwise) s passes in
-    let later = subst (λ (h : HandState). Fits first s c.args.rows.now h) (sym back) fits in
+    let at = goal.at.returns-in-Err-clause-done g c in
+    let met = are_met (instructions.Read c.args.to c.args.file c.args.most c.args.otherwise) s passes in
+    let later = subst (λ (h : HandState). Fits first s c.args.rows.now h)
+    (sym (back g at.After-give_back (on g at.After-row_in-row))) fits in
     subst (λ (rows : List (Option ℕ)). Fits first (put s c.args.to Empty) rows c.give_back.new.hand)
     (sym c.name-in-Err.ensures.named)
     (cleared first s c.args.rows.now c.give_back.new.hand c.args.to later
-    (can_fill s c.args.to mine.free mine.unlocked) c.name-in-Err.ensures.low)
+    (can_fill s c.args.to met.free met.unlocked) c.name-in-Err.ensures.low)
 
 pub returns-then-not-room-clause-counted : goal.returns-then-not-room-clause-counted
 returns-then-not-room-clause-counted g c = nothing_counted c.args.totals.now _

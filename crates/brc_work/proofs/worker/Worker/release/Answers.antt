@@ -1,18 +1,25 @@
 use Rattle.std.proofs.Common.{[], sym, ap, ◌∙◌, subst}
-use Rattle.brc_free.specs.Works.{AtOnce}
+use Rattle.brc_free.specs.Works.{ComesToSettle, AtOnce}
 use Rattle.brc_table.specs.Hands.{TableState, IsOf}
 use Rattle.brc_work.proofs.CallsBelow.{released_rests, released_acts}
 use Rattle.brc_work.proofs.Counting.{closes_counted}
 use Rattle.brc_work.proofs.Traces.Releasing.{releases}
+use Rattle.brc_work.proofs.worker.Worker.release.Given as given
+use Rattle.brc_work.proofs.worker.Worker.release.Goals.{After-release}
 use Rattle.brc_work.proofs.worker.Worker.release.Goals as goal
 
+-- Once the reference is given up, the hand settles next.
+comes : (g : given.Over) (c : After-release g) → ComesToSettle c.release.new.hand.view []
+comes g c =
+    let released = c.release.ensures.released in
+    AtOnce (released.status ∙ c.requires.rests.running)
+    (released_rests c.args.hand.now c.release.new.hand c.args.row c.requires.rests released) released.agenda
+
 pub settle-failed-requires-clause-duty : goal.settle-failed-requires-clause-duty
-settle-failed-requires-clause-duty g c = λ κs lives.
-    let released = c.release.ensures.released in (
-      [],
-      AtOnce (released.status ∙ c.requires.rests.running)
-          (released_rests c.args.hand.now c.release.new.hand c.args.row c.requires.rests released) released.agenda,
-    )
+settle-failed-requires-clause-duty g c = λ κs lives. (
+  [],
+  comes g (goal.at.settle-failed-requires-clause-duty g c).After-release,
+)
 
 pub returns-clause-of : goal.returns-clause-of
 returns-clause-of g c =
@@ -21,46 +28,28 @@ returns-clause-of g c =
 
 pub returns-clause-acts : goal.returns-clause-acts
 returns-clause-acts g c =
-    let released = c.release.ensures.released in
-    let hand = c.args.hand.now in
-    let mid = c.release.new.hand in
-    let at = AtOnce (released.status ∙ c.requires.rests.running)
-    (released_rests hand mid c.args.row c.requires.rests released) released.agenda in
-    let work = c.settle-failed.ensures.work [] at in
-    released_acts hand mid c.settle-failed.new.hand c.args.row work.0 c.requires.rests released work.2
-    c.settle-failed.ensures.chain (c.settle-failed.ensures.table.0
+    let work = c.settle-failed.ensures.work [] (comes g (goal.at.returns-clause-acts g c).After-release) in
+    released_acts c.args.hand.now c.release.new.hand c.settle-failed.new.hand c.args.row work.0 c.requires.rests
+    c.release.ensures.released work.2 c.settle-failed.ensures.chain
+    (c.settle-failed.ensures.table.0
     ∙ (ap (λ (w : TableState). w.table) (c.new-finaliser.ensures ∙ c.self.view_is) ∙ sym c.requires.of.0))
-    (c.settle-failed.ensures.carried ∙ c.release.ensures.carried) (c.settle-failed.ensures.slots ∙ c.release.ensures.slots)
+    (c.settle-failed.ensures.carried ∙ c.release.ensures.carried)
+    (c.settle-failed.ensures.slots ∙ c.release.ensures.slots)
 
 pub returns-clause-less : goal.returns-clause-less
 returns-clause-less g c =
-    let released = c.release.ensures.released in
-    let hand = c.args.hand.now in
-    let mid = c.release.new.hand in
-    let at = AtOnce (released.status ∙ c.requires.rests.running)
-    (released_rests hand mid c.args.row c.requires.rests released) released.agenda in
-    let work = c.settle-failed.ensures.work [] at in
-    work.2.keeps.references ∙ released.references
+    let work = c.settle-failed.ensures.work [] (comes g (goal.at.returns-clause-less g c).After-release) in
+    work.2.keeps.references ∙ c.release.ensures.released.references
 
 pub returns-clause-counted : goal.returns-clause-counted
 returns-clause-counted g c =
-    let released = c.release.ensures.released in
-    let hand = c.args.hand.now in
-    let mid = c.release.new.hand in
-    let at = AtOnce (released.status ∙ c.requires.rests.running)
-    (released_rests hand mid c.args.row c.requires.rests released) released.agenda in
-    let work = c.settle-failed.ensures.work [] at in
+    let work = c.settle-failed.ensures.work [] (comes g (goal.at.returns-clause-counted g c).After-release) in
     closes_counted c.args.totals.now c.count_close_faults.new.self _ _ work.0 work.1 c.settle-failed.result
     work.3 work.4 c.count_close_faults.ensures
 
 pub returns-clause-made : goal.returns-clause-made
 returns-clause-made g c =
-    let released = c.release.ensures.released in
-    let hand = c.args.hand.now in
-    let mid = c.release.new.hand in
-    let at = AtOnce (released.status ∙ c.requires.rests.running)
-    (released_rests hand mid c.args.row c.requires.rests released) released.agenda in
-    let given = c.release.ensures.work in
-    let work = c.settle-failed.ensures.work [] at in
-    releases c.args.row given.0 work.0 hand.view mid.view c.settle-failed.new.hand.view c.requires.rests.agenda given.1
-    work.2 c.settle-failed.ensures.chain
+    let steps = c.release.ensures.work in
+    let work = c.settle-failed.ensures.work [] (comes g (goal.at.returns-clause-made g c).After-release) in
+    releases c.args.row steps.0 work.0 c.args.hand.now.view c.release.new.hand.view c.settle-failed.new.hand.view
+    c.requires.rests.agenda steps.1 work.2 c.settle-failed.ensures.chain
