@@ -5,21 +5,25 @@ use Rattle.brc_model.specs.StepMachine.{at_place}
 use Rattle.brc_world.specs.Storage.{word_in}
 use Rattle.brc_world.specs.Actors.{actor_of, actor_done}
 use Rattle.brc_world.specs.Starts.{did_of, place_after}
+use Rattle.brc_world.proofs.doing.act.Goals.{After-first_duty-start}
 use Rattle.brc_world.proofs.doing.act.Goals as goal
+
+-- The thread, which isn't gone, has started its step as the model does.
+begun : (c : After-first_duty-start)
+    → HasStarted c.args.functions.now c.args.layout c.args.number (actor_of c.args.thread.now)
+    c.first_duty-start.new.thread c.first_duty-start.result
+begun c = record {
+  alive = c.in_default.not-Gone;
+  starts = rw c.in_ok-reserve.ensures.items at c.first_duty-start.ensures.starts;
+  actor = λ exit found. rw c.in_ok-reserve.ensures.items at (c.first_duty-start.ensures.actor exit found);
+}
 
 -- ---- a duty
 
 pub do_duty-found-requires : goal.do_duty-found-requires
 do_duty-found-requires c =
-    let has : HasStarted c.args.functions.now c.args.layout c.args.number (actor_of c.args.thread.now)
-    c.first_duty-start.new.thread c.first_duty-start.result = record {
-      alive = c.in_default.not-Gone;
-      starts = rw c.in_ok-reserve.ensures.items at c.first_duty-start.ensures.starts;
-      actor = λ exit found. rw c.in_ok-reserve.ensures.items at (c.first_duty-start.ensures.actor exit found);
-    } in
-    let can =
-    can_do c.args.functions.now c.args.layout c.args.number (word_in c.args.memory.now) _ c.args.exit _ _ _ _ _ has
-    (sym c.in-Some.ensures) c.requires.can in
+    let can = can_do c.args.functions.now c.args.layout c.args.number (word_in c.args.memory.now) _ c.args.exit _ _ _ _
+    _ (begun (goal.at.do_duty-found-requires c).After-first_duty-start) (sym c.in-Some.ensures) c.requires.can in
     record {
       some_rows = c.requires.some_rows;
       small = c.requires.small;
@@ -32,27 +36,15 @@ do_duty-found-requires c =
 
 pub finish-requires : goal.finish-requires
 finish-requires c =
-    let has : HasStarted c.args.functions.now c.args.layout c.args.number (actor_of c.args.thread.now)
-    c.first_duty-start.new.thread c.first_duty-start.result = record {
-      alive = c.in_default.not-Gone;
-      starts = rw c.in_ok-reserve.ensures.items at c.first_duty-start.ensures.starts;
-      actor = λ exit found. rw c.in_ok-reserve.ensures.items at (c.first_duty-start.ensures.actor exit found);
-    } in
-    let can =
-    can_do c.args.functions.now c.args.layout c.args.number (word_in c.args.memory.now) _ c.args.exit _ _ _ _ _ has
-    (sym c.in-Some.ensures) c.requires.can in
+    let can = can_do c.args.functions.now c.args.layout c.args.number (word_in c.args.memory.now) _ c.args.exit _ _ _ _
+    _ (begun (goal.at.finish-requires c).After-first_duty-start) (sym c.in-Some.ensures) c.requires.can in
     rw c.do_duty-found.ensures.found
     (can_answer c.first_duty-start.result c.in-Some.duty _ _ _ _ c.requires.small (sym c.in-Some.ensures)
     c.first_duty-start.ensures.question can.suits)
 
 pub returns-in-Some : goal.returns-in-Some
 returns-in-Some c =
-    let has : HasStarted c.args.functions.now c.args.layout c.args.number (actor_of c.args.thread.now)
-    c.first_duty-start.new.thread c.first_duty-start.result = record {
-      alive = c.in_default.not-Gone;
-      starts = rw c.in_ok-reserve.ensures.items at c.first_duty-start.ensures.starts;
-      actor = λ exit found. rw c.in_ok-reserve.ensures.items at (c.first_duty-start.ensures.actor exit found);
-    } in
+    let has = begun (goal.at.returns-in-Some c).After-first_duty-start in
     let start = c.first_duty-start.result in
     let before = c.first_duty-start.new.thread in
     let duty = c.do_duty-found.ensures in
@@ -85,12 +77,7 @@ returns-in-None c =
     let step =
     silent_step c.args.functions.now c.args.layout c.args.number (word_in c.args.memory.now)
     (actor_of c.args.thread.now) c.args.exit c.first_duty-start.new.thread c.first_duty-start.result
-    (record {
-      alive = c.in_default.not-Gone;
-      starts = rw c.in_ok-reserve.ensures.items at c.first_duty-start.ensures.starts;
-      actor = λ exit found. rw c.in_ok-reserve.ensures.items at (c.first_duty-start.ensures.actor exit found);
-    })
-    (sym c.in-None.ensures) in
+    (begun (goal.at.returns-in-None c).After-first_duty-start) (sym c.in-None.ensures) in
     record {
       did = c.finish-in-None.ensures.did ∙ step.answer;
       words = step.memory_is;

@@ -1,14 +1,43 @@
-use Rattle.std.proofs.Common.{◌≡◌, ◌≢◌, refl, sym, arith}
+use Rattle.std.proofs.Common.{◌≡◌, ◌≢◌, false, Some, refl, sym, arith}
+use Rattle.std.specs.Prelude.{slice_get}
+use Rattle.brc_model.specs.declared.actor.Status.TheVariants.{Gone}
 use Rattle.brc_model.specs.Actions.{status_action}
-use Rattle.brc_world.specs.Actors.{actor_of, memory_by, actor_by, faults_by}
+use Rattle.brc_world.specs.Actors.{actor_of, memory_by, actor_by, faults_by, waits}
 use Rattle.brc_world.specs.Storage.{word_in}
 use Rattle.brc_world.specs.Worlds.{seen, choice_of}
 use Rattle.brc_world.proofs.Outcomes.{contents, Turned, Outcome, outcome, answered, refusal, thread_at}
 use Rattle.brc_world.proofs.Answering.{going_answers}
 use Rattle.brc_world.proofs.Waiting.{waits_locked, moves_unless_waiting}
-use Rattle.brc_model.specs.World.{step}
+use Rattle.brc_model.specs.World.{World, step}
 use Rattle.brc_world.proofs.Stepping.{going_on, at_exit, can_go_on}
+use Rattle.brc_world.proofs.world.World.go_on.Goals.{After-index_mut}
 use Rattle.brc_world.proofs.world.World.go_on.Goals as goal
+
+-- The world that the model sees before the step.
+abbrev old_world : After-index_mut → World
+old_world c =
+    seen (contents c.self.inside.accepted.now.functions c.self.inside.layout c.self.inside.memory
+    c.self.inside.threads.items c.self.inside.faults)
+
+-- The thread is there.
+here : (c : After-index_mut)
+    → slice_get (old_world c).actors c.args.thread ≡ Some (actor_of c.index_mut.result.now)
+here c =
+    thread_at c.self.inside.accepted.now.functions c.self.inside.layout c.self.inside.memory
+    c.self.inside.threads.items c.args.thread c.self.inside.faults c.index_mut.result.now c.index_mut.ensures.value
+    (rw (sym c.self.view_is) at c.requires)
+
+-- Unless it is gone or waits, it changes the world.
+moves : (c : After-index_mut) → let a = actor_of c.index_mut.result.now in a.actor.status ≢ Gone
+    → waits (old_world c).memory a.actor.agenda
+    (status_action (old_world c).functions (old_world c).layout c.args.thread a a.actor.status) ≡ false
+    → step (old_world c) c.args.thread (choice_of c.args.exit) ≢ old_world c
+moves c = λ alive quiet.
+    let a = actor_of c.index_mut.result.now in
+    moves_unless_waiting (old_world c) c.args.thread a c.args.exit (here c)
+    (λ free. at_exit (λ choice. step (old_world c) c.args.thread choice ≢ old_world c) c.args.exit
+    (c.steps_move.ensures.goes_on c.self.inside.accepted.now (old_world c) c.args.thread a
+    c.self.invariant.reachable (here c) alive free)) alive quiet
 
 pub overflow_cast-thread : goal.overflow_cast-thread
 overflow_cast-thread c =
@@ -32,12 +61,8 @@ act-requires-clause-known c =
 
 pub act-requires-clause-can : goal.act-requires-clause-can
 act-requires-clause-can c =
-    let within = rw (sym c.self.view_is) at c.requires in
-    let here =
-    thread_at c.self.inside.accepted.now.functions c.self.inside.layout c.self.inside.memory
-    c.self.inside.threads.items c.args.thread c.self.inside.faults c.index_mut.result.now c.index_mut.ensures.value
-    within in
-    let steps = c.steps_are_within.ensures _ _ c.args.thread _ c.self.invariant.reachable here in
+    let steps = c.steps_are_within.ensures _ _ c.args.thread _ c.self.invariant.reachable
+    (here (goal.at.act-requires-clause-can c).After-index_mut) in
     rw (c.as_slice.ensures, c.self.invariant.rows, c.self.invariant.threads) (can_go_on _ _ _ steps)
 
 -- The world after the step is the model's next world or, if memory was refused, the same world.
@@ -88,44 +113,21 @@ returns-clause-unchanged c = rw (sym c.self.view_is) (outcome_of c).stays
 
 pub returns-clause-answer : goal.returns-clause-answer
 returns-clause-answer c =
+    let place = (goal.at.returns-clause-answer c).After-index_mut in
     let p = c.self.inside.accepted.now in
-    let threads = c.self.inside.threads.items in
     let t = c.args.thread in
-    let exit = c.args.exit in
-    let before = c.index_mut.result.now in
-    let w = seen (contents p.functions c.self.inside.layout c.self.inside.memory threads c.self.inside.faults) in
-    let within = rw (sym c.self.view_is) at c.requires in
-    let here =
-    thread_at p.functions c.self.inside.layout c.self.inside.memory threads t c.self.inside.faults before
-    c.index_mut.ensures.value within in
+    let a = actor_of c.index_mut.result.now in
+    let w = old_world place in
     rw (sym c.self.view_is) (answered w _ _ t c.act.result _ (outcome_of c).made
     (rw c.as_slice.ensures at c.act.ensures.did)
-    (going_answers w t exit (actor_of before) before.status here refl
-    (λ alive quiet. moves_unless_waiting w t (actor_of before) exit here
-    (λ free. at_exit (λ choice. step w t choice ≢ w) exit
-    (c.steps_move.ensures.goes_on p w t (actor_of before) c.self.invariant.reachable here alive free))
-    alive quiet)
-    (λ waiting. at_exit (λ choice. step w t choice ≡ w) exit
-    (c.steps_move.ensures.waits p w t (actor_of before) c.self.invariant.reachable here
-    (waits_locked w.memory (actor_of before).actor.agenda
-    (status_action w.functions w.layout t (actor_of before) before.status) waiting)))
-    (going_on w t (actor_of before) exit here)))
+    (going_answers w t c.args.exit a a.actor.status (here place) refl (moves place)
+    (λ waiting. at_exit (λ choice. step w t choice ≡ w) c.args.exit
+    (c.steps_move.ensures.waits p w t a c.self.invariant.reachable (here place)
+    (waits_locked w.memory a.actor.agenda (status_action w.functions w.layout t a a.actor.status) waiting)))
+    (going_on w t a c.args.exit (here place))))
 
 pub returns-clause-refused : goal.returns-clause-refused
 returns-clause-refused c =
-    let p = c.self.inside.accepted.now in
-    let threads = c.self.inside.threads.items in
-    let t = c.args.thread in
-    let exit = c.args.exit in
-    let before = c.index_mut.result.now in
-    let w = seen (contents p.functions c.self.inside.layout c.self.inside.memory threads c.self.inside.faults) in
-    let within = rw (sym c.self.view_is) at c.requires in
-    let here =
-    thread_at p.functions c.self.inside.layout c.self.inside.memory threads t c.self.inside.faults before
-    c.index_mut.ensures.value within in
     rw (sym c.self.view_is) (refusal c.act.result
-    (λ refused. moves_unless_waiting w t (actor_of before) exit here
-    (λ free. at_exit (λ choice. step w t choice ≢ w) exit
-    (c.steps_move.ensures.goes_on p w t (actor_of before) c.self.invariant.reachable here refused.0 free))
-    refused.0 refused.1)
+    (λ refused. moves (goal.at.returns-clause-refused c).After-index_mut refused.0 refused.1)
     (rw c.as_slice.ensures at c.act.ensures.refused))

@@ -1,12 +1,39 @@
-use Rattle.std.proofs.Common.{refl, sym, arith}
+use Rattle.std.proofs.Common.{◌≡◌, ◌≢◌, true, Some, refl, sym, arith}
+use Rattle.std.specs.Prelude.{slice_get}
+use Rattle.brc_model.specs.World.{World, step}
 use Rattle.brc_model.specs.declared.thread.Choice.TheVariants.{Claim}
-use Rattle.brc_world.specs.Actors.{actor_of, memory_claimed, actor_claimed}
+use Rattle.brc_world.specs.Actors.{actor_of, finds_mark, memory_claimed, actor_claimed}
 use Rattle.brc_world.specs.Storage.{word_in}
 use Rattle.brc_world.specs.Worlds.{seen}
 use Rattle.brc_world.proofs.Outcomes.{contents, Turned, Outcome, outcome, on_ok, on_err, answered, refusal, thread_at}
 use Rattle.brc_world.proofs.Answering.{claim_answers}
 use Rattle.brc_world.proofs.Stepping.{can_claim, claim_is, claim_moves, claim_stays}
+use Rattle.brc_world.proofs.world.World.look_for.Goals.{After-index_mut}
 use Rattle.brc_world.proofs.world.World.look_for.Goals as goal
+
+-- The world that the model sees before the step.
+abbrev old_world : After-index_mut → World
+old_world c =
+    seen (contents c.self.inside.accepted.now.functions c.self.inside.layout c.self.inside.memory
+    c.self.inside.threads.items c.self.inside.faults)
+
+-- The thread is there.
+here : (c : After-index_mut)
+    → slice_get (old_world c).actors c.args.thread ≡ Some (actor_of c.index_mut.result.now)
+here c =
+    thread_at c.self.inside.accepted.now.functions c.self.inside.layout c.self.inside.memory
+    c.self.inside.threads.items c.args.thread c.self.inside.faults c.index_mut.result.now c.index_mut.ensures.value
+    (rw (sym c.self.view_is) at c.requires)
+
+-- If it finds a mark, it changes the world.
+moves : (c : After-index_mut)
+    → finds_mark (old_world c).layout c.args.thread (old_world c).memory (actor_of c.index_mut.result.now) c.args.row
+    ≡ true
+    → step (old_world c) c.args.thread (Claim c.args.row) ≢ old_world c
+moves c found =
+    let a = actor_of c.index_mut.result.now in
+    claim_moves (old_world c) c.args.thread a c.args.row found
+    (λ may marked. c.steps_move.ensures.claims (old_world c) c.args.thread a c.args.row (here c) may marked)
 
 pub overflow_cast-thread : goal.overflow_cast-thread
 overflow_cast-thread c =
@@ -30,12 +57,8 @@ claim-requires-clause-known c =
 
 pub claim-requires-clause-can : goal.claim-requires-clause-can
 claim-requires-clause-can c =
-    let within = rw (sym c.self.view_is) at c.requires in
-    let here =
-    thread_at c.self.inside.accepted.now.functions c.self.inside.layout c.self.inside.memory
-    c.self.inside.threads.items c.args.thread c.self.inside.faults c.index_mut.result.now c.index_mut.ensures.value
-    within in
-    let steps = c.steps_are_within.ensures _ _ c.args.thread _ c.self.invariant.reachable here in
+    let steps = c.steps_are_within.ensures _ _ c.args.thread _ c.self.invariant.reachable
+    (here (goal.at.claim-requires-clause-can c).After-index_mut) in
     rw (c.self.invariant.rows, c.self.invariant.threads) (can_claim _ _ _ c.args.row steps)
 
 -- The world after the claim is the model's next world or, if memory was refused, the same world.
@@ -88,35 +111,18 @@ returns-clause-unchanged c = rw (sym c.self.view_is) (outcome_of c).stays
 
 pub returns-clause-answer : goal.returns-clause-answer
 returns-clause-answer c =
+    let place = (goal.at.returns-clause-answer c).After-index_mut in
     let p = c.self.inside.accepted.now in
-    let threads = c.self.inside.threads.items in
     let t = c.args.thread in
-    let before = c.index_mut.result.now in
-    let w = seen (contents p.functions c.self.inside.layout c.self.inside.memory threads c.self.inside.faults) in
-    let within = rw (sym c.self.view_is) at c.requires in
-    let here =
-    thread_at p.functions c.self.inside.layout c.self.inside.memory threads t c.self.inside.faults before
-    c.index_mut.ensures.value within in
+    let a = actor_of c.index_mut.result.now in
+    let w = old_world place in
     rw (sym c.self.view_is) (answered w _ _ t c.claim.result _ (outcome_of c).made c.claim.ensures.did
-    (claim_answers w t (actor_of before) c.args.row before.status here refl
-    (λ found. claim_moves w t (actor_of before) c.args.row found
-    (λ may marked. c.steps_move.ensures.claims w t (actor_of before) c.args.row here may marked))
-    (λ missed. claim_stays w t (actor_of before) c.args.row missed
-    (c.steps_move.ensures.misses p w t (actor_of before) c.args.row c.self.invariant.reachable here)
-    (c.steps_move.ensures.stays w t (actor_of before) c.args.row here))))
+    (claim_answers w t a c.args.row a.actor.status (here place) refl (moves place)
+    (λ missed. claim_stays w t a c.args.row missed
+    (c.steps_move.ensures.misses p w t a c.args.row c.self.invariant.reachable (here place))
+    (c.steps_move.ensures.stays w t a c.args.row (here place)))))
 
 pub returns-clause-refused : goal.returns-clause-refused
 returns-clause-refused c =
-    let p = c.self.inside.accepted.now in
-    let threads = c.self.inside.threads.items in
-    let t = c.args.thread in
-    let before = c.index_mut.result.now in
-    let w = seen (contents p.functions c.self.inside.layout c.self.inside.memory threads c.self.inside.faults) in
-    let within = rw (sym c.self.view_is) at c.requires in
-    let here =
-    thread_at p.functions c.self.inside.layout c.self.inside.memory threads t c.self.inside.faults before
-    c.index_mut.ensures.value within in
-    rw (sym c.self.view_is) (refusal c.claim.result
-    (λ found. claim_moves w t (actor_of before) c.args.row found
-    (λ may marked. c.steps_move.ensures.claims w t (actor_of before) c.args.row here may marked))
+    rw (sym c.self.view_is) (refusal c.claim.result (moves (goal.at.returns-clause-refused c).After-index_mut)
     c.claim.ensures.refused)
