@@ -21,6 +21,7 @@ returns g c =
         end = c.ended-end.result.0;
         one_each = search (rules, as_many);
         each = λ k w below. c.in_ok-gone.ensures.gone k w (omega (arith, below, as_many));
+        of = c.ended-end.ensures.table;
         layout = c.ended-end.ensures.layout ∙ c.in_ok-heap.ensures.layout;
         ended = c.ended-end.ensures.ended;
         counted = search (rules, c.in_ok-tally_of.ensures, c.in_ok-totals.ensures, counted.2);
