@@ -29,8 +29,9 @@ abbrev pub totals_in : List (HandState × Totals) → List Totals
 totals_in gone = map (λ w. w.1) gone
 
 -- The tally of a run with this number of workers, and of rows for each. Each worker makes the call `call.times` times:
--- its thread is gone, and has made the events of the calls and then those of its exit. The tally is of the end of the heap
--- that they share, at which each thread is gone, of what each worker has counted, and of the closes of main that failed.
+-- its thread is gone, and has made the events of the calls and then those of its exit. The tally is of the end of the
+-- heap that they share, at which each thread is gone, of what each worker has counted, and of the closes of main that
+-- failed.
 pub record IsTallyOf (m : Module) (workers rows : ℕ) (call : Call) (close_faults : ℕ) (tally : Tally) : Type 0 where
   pub heap : TableState
   pub same : heap.layout ≡ plain_layout workers rows

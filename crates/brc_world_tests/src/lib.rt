@@ -1,5 +1,5 @@
-//! Tests of header words, of the step world, and of explanations: the pages of the codes, the word at fault in a text, and
-//! paths to a refusal.
+//! Tests of header words, of the step world, and of explanations: the pages of the codes, the word at fault in a text,
+//! and paths to a refusal.
 #![tactic(auto)]
 
 #[cfg(test)]

@@ -43,5 +43,5 @@ returns-clause-ends g c =
     (subst (λ (ws : List ℕ). TableStands c.self.inside.table.shared.key ws homes views) last.2 last.1.0) in
     let here : get_elem? views c.hand.inside.seat.id ≡ some c.args.hand.view =
     last.1.1 ∙ ap (λ (h : HandState). some h.view) c.hand.view_is in
-    ends_with layout words homes views (slots_items c.close_with.result.slots) c.of-of.result.value.table c.args.hand.view
-    c.hand.inside.seat.id holds here last.4
+    ends_with layout words homes views (slots_items c.close_with.result.slots) c.of-of.result.value.table
+    c.args.hand.view c.hand.inside.seat.id holds here last.4
