@@ -1,7 +1,8 @@
 //! Worked examples of host calls: which of them fail, and what is counted and closed.
 
-use crate::commands::both;
-use crate::worked::{CHECK, RUN, STEP, assert_acts, assert_cases};
+use crate::cases::{CHECK, Case, STEP, UNREAD, assert_cases, to_run};
+use crate::command_lines::acts;
+use crate::worked::NUMBER_REPORT;
 use std::test::Fail;
 use std::{env, fs, process};
 
@@ -15,134 +16,213 @@ const COPY: &[u8] =
       unlock v1\nlock v2\nwrite v2 v3 else @7\nunlock v2\ndrop v3\ngoto @11\nunlock v1\ndrop v2\ndrop v1\n\
       fail\nend\n";
 
-// Opening the file is a host call and three steps of its birth. Whatever fails afterwards is its close, by which it
-// counts as closed all the same. `brc run` is given no path and no peer.
-#[test]
-fn host_faults(rt: HostRuntime) {
-    let not_opened: &[u8] =
-        b"threads 1\nrunning 0\ncreated 1\nclosed 1\nalive 0\nhost faults 1\nclose faults 0\n";
-    let open: &[u8] =
-        b"threads 1\nrunning 2\ncreated 2\nclosed 0\nalive 2\nhost faults 0\nclose faults 0\nleft 1 list\nleft 2 file\n";
-    let connected: &[u8] =
-        b"threads 1\nrunning 2\ncreated 2\nclosed 0\nalive 2\nhost faults 0\nclose faults 0\nleft 1 list\nleft 2 sock\n";
-    let closed: &[u8] =
-        b"threads 1\nrunning 0\ncreated 2\nclosed 2\nalive 0\nhost faults 0\nclose faults 0\n";
-    let not_closed: &[u8] =
-        b"threads 1\nrunning 0\ncreated 2\nclosed 2\nalive 0\nhost faults 0\nclose faults 1\n";
-    let cases: [(&'static [u8], &'static [u8], &[u8]); 6] = [
-        (
-            OPENS,
-            b"schedule 1\nworkers 1\nrows 4\ncall 1 f 1\nstep 1 fault 1000\nstep 0 ok 1000\n",
-            not_opened,
-        ),
-        (
-            OPENS,
-            b"schedule 1\nworkers 1\nrows 4\ncall 1 f 1\nstep 1 ok 4\n",
-            open,
-        ),
-        (
-            CONNECTS,
-            b"schedule 1\nworkers 1\nrows 4\ncall 1 f 1\nstep 1 ok 1\nstep 1 fault 3\n",
-            connected,
-        ),
-        (
-            OPENS,
-            b"schedule 1\nworkers 1\nrows 4\ncall 1 f 1\nstep 1 ok 1000\nstep 0 ok 1000\n",
-            closed,
-        ),
-        (
-            OPENS,
-            b"schedule 1\nworkers 1\nrows 4\ncall 1 f 1\nstep 1 ok 4\nstep 1 fault 1000\nstep 0 ok 1000\n",
-            not_closed,
-        ),
-        // with one row, the second call has no room and doesn't call the host
-        (
-            OPENS,
-            b"schedule 1\nworkers 1\nrows 1\ncall 1 f 2\nstep 1 ok 4\nstep 1 fault 1000\nstep 0 ok 1000\n",
-            not_closed,
-        ),
-    ];
-    for (module, schedule, report) in cases {
-        assert_acts(&rt, STEP, both(module, schedule), (report, b"", 0));
-    }
-    assert_cases(&rt, &[(CONNECTS, RUN, not_opened, b"", 0)]);
-}
+const NOT_OPENED: &[u8] =
+    b"threads 1\nrunning 0\ncreated 1\nclosed 1\nalive 0\nhost faults 1\nclose faults 0\n";
 
-// The worker's steps, if every host call succeeds. The file: 1 is the host call, 2 to 4 its birth. The socket: 5 is the
-// host call, 6 to 8 its birth. 9 locks the file. The read: 10 takes the resource out, 11 is the host call, 12 puts it
-// back, 13 and 14 are the birth of the number. 15 and 16 unlock the file and lock the socket. The write: 17 loads the
-// number's value, 18 takes the resource out, 19 is the host call, 20 puts it back. 21 unlocks the socket. The drop of
-// the number takes 7 steps, 22 to 28, and `goto` is 29. The drop of the socket: a load and a store of the local word, a
-// load of the shared word, gate, gate read, kind, and with 36 the resource is taken out; 37 is its close, and 38 closes
-// the object. The drop of the file is the same, and its close is 46.
-#[test]
-fn each_host_call_fails_in_turn(rt: HostRuntime) {
-    let none_fails: &[u8] =
-        b"threads 1\nrunning 0\ncreated 4\nclosed 4\nalive 0\nhost faults 0\nclose faults 0\n";
-    let open_fails: &[u8] =
-        b"threads 1\nrunning 0\ncreated 1\nclosed 1\nalive 0\nhost faults 1\nclose faults 0\n";
-    let connect_fails: &[u8] =
-        b"threads 1\nrunning 0\ncreated 2\nclosed 2\nalive 0\nhost faults 1\nclose faults 0\n";
-    let read_fails: &[u8] =
-        b"threads 1\nrunning 0\ncreated 3\nclosed 3\nalive 0\nhost faults 1\nclose faults 0\n";
-    let write_fails: &[u8] =
-        b"threads 1\nrunning 0\ncreated 4\nclosed 4\nalive 0\nhost faults 1\nclose faults 0\n";
-    let close_fails: &[u8] =
-        b"threads 1\nrunning 0\ncreated 4\nclosed 4\nalive 0\nhost faults 0\nclose faults 1\n";
-    let closes_fail: &[u8] =
-        b"threads 1\nrunning 0\ncreated 4\nclosed 4\nalive 0\nhost faults 0\nclose faults 2\n";
-    let cases: [(&'static [u8], &[u8]); 9] = [
+const NOT_CLOSED: &[u8] =
+    b"threads 1\nrunning 0\ncreated 2\nclosed 2\nalive 0\nhost faults 0\nclose faults 1\n";
+
+// Opening the file is a host call and three steps of its birth. Whatever fails afterwards is its close, by which it
+// counts as closed all the same.
+const STEPPED: &[Case<'static>] = &[
+    (
+        "host_faults, not opened",
+        Ok(OPENS),
+        Ok(b"schedule 1\nworkers 1\nrows 4\ncall 1 f 1\nstep 1 fault 1000\nstep 0 ok 1000\n"),
+        (NOT_OPENED, b"", 0),
+    ),
+    (
+        "host_faults, open",
+        Ok(OPENS),
+        Ok(b"schedule 1\nworkers 1\nrows 4\ncall 1 f 1\nstep 1 ok 4\n"),
         (
-            b"schedule 1\nworkers 1\nrows 4\ncall 1 copy 1\nstep 1 ok 1000\nstep 0 ok 1000\n",
-            none_fails,
+            b"threads 1\nrunning 2\ncreated 2\nclosed 0\nalive 2\nhost faults 0\nclose faults 0\nleft 1 list\n\
+              left 2 file\n",
+            b"",
+            0,
         ),
+    ),
+    (
+        "host_faults, connected",
+        Ok(CONNECTS),
+        Ok(b"schedule 1\nworkers 1\nrows 4\ncall 1 f 1\nstep 1 ok 1\nstep 1 fault 3\n"),
         (
+            b"threads 1\nrunning 2\ncreated 2\nclosed 0\nalive 2\nhost faults 0\nclose faults 0\nleft 1 list\n\
+              left 2 sock\n",
+            b"",
+            0,
+        ),
+    ),
+    (
+        "host_faults, closed",
+        Ok(OPENS),
+        Ok(b"schedule 1\nworkers 1\nrows 4\ncall 1 f 1\nstep 1 ok 1000\nstep 0 ok 1000\n"),
+        (
+            b"threads 1\nrunning 0\ncreated 2\nclosed 2\nalive 0\nhost faults 0\nclose faults 0\n",
+            b"",
+            0,
+        ),
+    ),
+    (
+        "host_faults, not closed",
+        Ok(OPENS),
+        Ok(
+            b"schedule 1\nworkers 1\nrows 4\ncall 1 f 1\nstep 1 ok 4\nstep 1 fault 1000\nstep 0 ok 1000\n",
+        ),
+        (NOT_CLOSED, b"", 0),
+    ),
+    // With one row, the second call has no room and doesn't call the host.
+    (
+        "host_faults, one row",
+        Ok(OPENS),
+        Ok(
+            b"schedule 1\nworkers 1\nrows 1\ncall 1 f 2\nstep 1 ok 4\nstep 1 fault 1000\nstep 0 ok 1000\n",
+        ),
+        (NOT_CLOSED, b"", 0),
+    ),
+    // The steps of the worker, if every host call succeeds. The file: 1 is the host call, 2 to 4 its birth. The socket:
+    // 5 is the host call, 6 to 8 its birth. 9 locks the file. The read: 10 takes the resource out, 11 is the host call,
+    // 12 puts it back, 13 and 14 are the birth of the number. 15 and 16 unlock the file and lock the socket. The write:
+    // 17 loads the number's value, 18 takes the resource out, 19 is the host call, 20 puts it back. 21 unlocks the
+    // socket. The drop of the number takes 7 steps, 22 to 28, and `goto` is 29. The drop of the socket: a load and a
+    // store of the local word, a load of the shared word, gate, gate read, kind, and with 36 the resource is taken out;
+    // 37 is its close, and 38 closes the object. The drop of the file is the same, and its close is 46.
+    (
+        "no host call fails",
+        Ok(COPY),
+        Ok(b"schedule 1\nworkers 1\nrows 4\ncall 1 copy 1\nstep 1 ok 1000\nstep 0 ok 1000\n"),
+        (
+            b"threads 1\nrunning 0\ncreated 4\nclosed 4\nalive 0\nhost faults 0\nclose faults 0\n",
+            b"",
+            0,
+        ),
+    ),
+    (
+        "open fails",
+        Ok(COPY),
+        Ok(
             b"schedule 1\nworkers 1\nrows 4\ncall 1 copy 1\nstep 1 fault 1\nstep 1 ok 1000\nstep 0 ok 1000\n",
-            open_fails,
         ),
         (
+            b"threads 1\nrunning 0\ncreated 1\nclosed 1\nalive 0\nhost faults 1\nclose faults 0\n",
+            b"",
+            0,
+        ),
+    ),
+    (
+        "connect fails",
+        Ok(COPY),
+        Ok(
             b"schedule 1\nworkers 1\nrows 4\ncall 1 copy 1\nstep 1 ok 4\nstep 1 fault 1\nstep 1 ok 1000\n\
               step 0 ok 1000\n",
-            connect_fails,
         ),
         (
+            b"threads 1\nrunning 0\ncreated 2\nclosed 2\nalive 0\nhost faults 1\nclose faults 0\n",
+            b"",
+            0,
+        ),
+    ),
+    (
+        "read fails",
+        Ok(COPY),
+        Ok(
             b"schedule 1\nworkers 1\nrows 4\ncall 1 copy 1\nstep 1 ok 10\nstep 1 fault 1\nstep 1 ok 1000\n\
               step 0 ok 1000\n",
-            read_fails,
         ),
         (
+            b"threads 1\nrunning 0\ncreated 3\nclosed 3\nalive 0\nhost faults 1\nclose faults 0\n",
+            b"",
+            0,
+        ),
+    ),
+    (
+        "write fails",
+        Ok(COPY),
+        Ok(
             b"schedule 1\nworkers 1\nrows 4\ncall 1 copy 1\nstep 1 ok 18\nstep 1 fault 1\nstep 1 ok 1000\n\
               step 0 ok 1000\n",
-            write_fails,
         ),
         (
+            b"threads 1\nrunning 0\ncreated 4\nclosed 4\nalive 0\nhost faults 1\nclose faults 0\n",
+            b"",
+            0,
+        ),
+    ),
+    (
+        "the close of the socket fails",
+        Ok(COPY),
+        Ok(
             b"schedule 1\nworkers 1\nrows 4\ncall 1 copy 1\nstep 1 ok 36\nstep 1 fault 1\nstep 1 ok 1000\n\
               step 0 ok 1000\n",
-            close_fails,
         ),
         (
+            b"threads 1\nrunning 0\ncreated 4\nclosed 4\nalive 0\nhost faults 0\nclose faults 1\n",
+            b"",
+            0,
+        ),
+    ),
+    (
+        "the close of the file fails",
+        Ok(COPY),
+        Ok(
             b"schedule 1\nworkers 1\nrows 4\ncall 1 copy 1\nstep 1 ok 45\nstep 1 fault 1\nstep 1 ok 1000\n\
               step 0 ok 1000\n",
-            close_fails,
         ),
         (
+            b"threads 1\nrunning 0\ncreated 4\nclosed 4\nalive 0\nhost faults 0\nclose faults 1\n",
+            b"",
+            0,
+        ),
+    ),
+    (
+        "both closes fail",
+        Ok(COPY),
+        Ok(
             b"schedule 1\nworkers 1\nrows 4\ncall 1 copy 1\nstep 1 ok 36\nstep 1 fault 1\nstep 1 ok 8\n\
               step 1 fault 1\nstep 1 ok 1000\nstep 0 ok 1000\n",
-            closes_fail,
         ),
-        // every step but the host calls by `fault`
         (
+            b"threads 1\nrunning 0\ncreated 4\nclosed 4\nalive 0\nhost faults 0\nclose faults 2\n",
+            b"",
+            0,
+        ),
+    ),
+    (
+        "every step but the host calls by `fault`",
+        Ok(COPY),
+        Ok(
             b"schedule 1\nworkers 1\nrows 4\ncall 1 copy 1\nstep 1 ok 1\nstep 1 fault 3\nstep 1 ok 1\n\
               step 1 fault 5\nstep 1 ok 1\nstep 1 fault 7\nstep 1 ok 1\nstep 1 fault 17\nstep 1 ok 1\n\
               step 1 fault 8\nstep 1 ok 1\nstep 1 fault 1000\nstep 0 fault 1000\n",
-            none_fails,
         ),
-    ];
-    let accepted = b"accepted 1 functions 14 instructions\n";
-    assert_cases(&rt, &[(COPY, CHECK, accepted, b"", 0)]);
-    for (schedule, report) in cases {
-        assert_acts(&rt, STEP, both(COPY, schedule), (report, b"", 0));
-    }
+        (
+            b"threads 1\nrunning 0\ncreated 4\nclosed 4\nalive 0\nhost faults 0\nclose faults 0\n",
+            b"",
+            0,
+        ),
+    ),
+];
+
+// `brc run` is given no path and no peer.
+const RUN: &[Case<'static>] = &[(
+    "host_faults, no peer",
+    Ok(CONNECTS),
+    UNREAD,
+    (NOT_OPENED, b"", 0),
+)];
+
+const CHECKED: &[Case<'static>] = &[(
+    "copy",
+    Ok(COPY),
+    UNREAD,
+    (b"accepted 1 functions 14 instructions\n", b"", 0),
+)];
+
+#[test]
+fn host_faults(rt: HostRuntime) {
+    assert_cases(&rt, &CHECK, CHECKED);
+    assert_cases(&rt, &to_run("f", 1, 1024, 1), RUN);
+    assert_cases(&rt, &STEP, STEPPED);
 }
 
 // Opens the first path for writing, makes the file where it is absent, and closes it.
@@ -164,9 +244,10 @@ fn a_run_leaves_its_file(rt: HostRuntime) -> Result<(), Fail> {
         "--path",
         path.as_str(),
     ];
-    let report =
-        b"threads 1\nrunning 0\ncreated 2\nclosed 2\nalive 0\nhost faults 0\nclose faults 0\n";
-    assert_acts(&rt, &words, both(MAKES, b""), (report, b"", 0));
+    let (out, err, status) = acts(&rt, words.as_slice(), Ok(MAKES), UNREAD);
+    assert_eq!(rt; out.as_slice(), NUMBER_REPORT);
+    assert!(rt; err.is_empty());
+    assert_eq!(rt; status, 0);
     assert_eq!(rt; fs::read(&rt, path.as_str())?.as_slice(), b"".as_slice());
     fs::remove_file(&rt, path.as_str())?;
     Ok(())

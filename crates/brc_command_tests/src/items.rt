@@ -1,26 +1,16 @@
-//! Worked examples of lists and their items: what `brc check`, `brc run` and `brc step` print.
+//! Worked examples of lists and their items.
 
-use crate::commands::both;
-use crate::worked::{CHECK, RUN, STEP, assert_acts, assert_cases};
+use crate::cases::{CHECK, Case, STEP, UNREAD, assert_cases, to_run};
+use crate::worked::NUMBER_REPORT;
 
-const RUN_SWAP: &[&str] = &["brc", "run", "m.brc", "--call", "swap"];
-
-const RUN_SWAP_OFTEN: &[&str] = &[
-    "brc",
-    "run",
-    "m.brc",
-    "--call",
-    "swap",
-    "--threads",
-    "4",
-    "--times",
-    "1000",
-];
-
-// Stores a number in the root's first cell, and gives up a number that stood there.
-const SWAP: &[u8] =
+/// Stores a number in the root's first cell, and gives up a number that stood there.
+pub const SWAP: &[u8] =
     b"module 1\nfunc swap\nnum v1 7 else @7\nlock v0\nset v0 0 v1 else @6\nunlock v0\nnone v1\nret v1\n\
       unlock v0\nfail\nend\n";
+
+/// The report of 4 threads that call `swap` 1000 times each.
+pub const SWAPS_REPORT: &[u8] =
+    b"threads 4\nrunning 0\ncreated 4001\nclosed 4001\nalive 0\nhost faults 0\nclose faults 0\n";
 
 // `swap`, and a function that puts none in its place.
 const SWAP_AND_CLEAR: &[u8] =
@@ -47,101 +37,158 @@ const TWO_CLOSED: &[u8] =
     b"threads 2\nrunning 0\ncreated 2\nclosed 2\nalive 0\nhost faults 0\nclose faults 0\n";
 
 // `set` steals the number on both exits, `put` on neither. What is borrowed ends with the lock.
-#[test]
-fn items_are_checked(rt: HostRuntime) {
-    let dropped_after_set =
-        b"module 1\nfunc f\nnum v1 7 else @7\nlock v0\nset v0 200 v1 else @5\nunlock v0\nfail\n\
-          drop v1\nunlock v0\nfail\nend\n";
-    let kept_after_put =
-        b"module 1\nfunc f\nnum v1 7 else @5\nlock v0\nput v0 200 v1 else @6\nunlock v0\ndrop v1\n\
-          fail\nunlock v0\nfail\nend\n";
-    let used_after_unlock =
-        b"module 1\nfunc f\nlock v0\nborrow v1 v0 0 else @6\nunlock v0\nnewref v2 v1\ndrop v2\n\
-          fail\nunlock v0\nfail\nend\n";
-    let used_before_unlock =
-        b"module 1\nfunc f\nlock v0\nborrow v1 v0 0 else @6\nnewref v2 v1\nunlock v0\ndrop v2\n\
-          fail\nunlock v0\nfail\nend\n";
-    let locks_twice = b"module 1\nfunc f\nlock v0\nnewref v1 v0\nlock v1\nend\n";
-    let eight = b"accepted 1 functions 8 instructions\n";
-    let seven = b"accepted 1 functions 7 instructions\n";
-    assert_cases(
-        &rt,
-        &[
-            (dropped_after_set, CHECK, b"", b"refused f @5 C1\n", 1),
-            (SET_PAST_THE_END, CHECK, seven, b"", 0),
-            (kept_after_put, CHECK, b"", b"refused f @7 C5\n", 1),
-            (used_after_unlock, CHECK, b"", b"refused f @3 C1\n", 1),
-            (used_before_unlock, CHECK, eight, b"", 0),
-            (CYCLE, CHECK, seven, b"", 0),
-            (locks_twice, CHECK, b"", b"refused f @2 C7\n", 1),
-        ],
-    );
-}
+const CHECKED: &[Case<'static>] = &[
+    (
+        "set_steals_on_fault",
+        Ok(
+            b"module 1\nfunc f\nnum v1 7 else @7\nlock v0\nset v0 200 v1 else @5\nunlock v0\nfail\n\
+              drop v1\nunlock v0\nfail\nend\n",
+        ),
+        UNREAD,
+        (b"", b"refused f @5 C1\n", 1),
+    ),
+    (
+        "set_out_of_range",
+        Ok(SET_PAST_THE_END),
+        UNREAD,
+        (b"accepted 1 functions 7 instructions\n", b"", 0),
+    ),
+    (
+        "put_does_not_steal",
+        Ok(
+            b"module 1\nfunc f\nnum v1 7 else @5\nlock v0\nput v0 200 v1 else @6\nunlock v0\ndrop v1\n\
+              fail\nunlock v0\nfail\nend\n",
+        ),
+        UNREAD,
+        (b"", b"refused f @7 C5\n", 1),
+    ),
+    (
+        "borrow_ends_at_unlock",
+        Ok(
+            b"module 1\nfunc f\nlock v0\nborrow v1 v0 0 else @6\nunlock v0\nnewref v2 v1\ndrop v2\n\
+              fail\nunlock v0\nfail\nend\n",
+        ),
+        UNREAD,
+        (b"", b"refused f @3 C1\n", 1),
+    ),
+    (
+        "borrow_ends_at_unlock, used before",
+        Ok(
+            b"module 1\nfunc f\nlock v0\nborrow v1 v0 0 else @6\nnewref v2 v1\nunlock v0\ndrop v2\n\
+              fail\nunlock v0\nfail\nend\n",
+        ),
+        UNREAD,
+        (b"accepted 1 functions 8 instructions\n", b"", 0),
+    ),
+    (
+        "list_in_itself",
+        Ok(CYCLE),
+        UNREAD,
+        (b"accepted 1 functions 7 instructions\n", b"", 0),
+    ),
+    (
+        "locks twice",
+        Ok(b"module 1\nfunc f\nlock v0\nnewref v1 v0\nlock v1\nend\n"),
+        UNREAD,
+        (b"", b"refused f @2 C7\n", 1),
+    ),
+];
 
 // Main merges the number that is left in the root, and closes it. A list that is its own item is left alive.
-#[test]
-fn items_are_closed_or_left(rt: HostRuntime) {
-    let one =
-        b"threads 1\nrunning 0\ncreated 2\nclosed 2\nalive 0\nhost faults 0\nclose faults 0\n";
-    let cycle =
-        b"threads 1\nrunning 0\ncreated 2\nclosed 1\nalive 1\nhost faults 0\nclose faults 0\nleft 2 list\n";
-    let often =
-        b"threads 4\nrunning 0\ncreated 4001\nclosed 4001\nalive 0\nhost faults 0\nclose faults 0\n";
-    assert_cases(
-        &rt,
-        &[
-            (SET_PAST_THE_END, RUN, one, b"", 0),
-            (SWAP, RUN_SWAP, one, b"", 0),
-            (SWAP, RUN_SWAP_OFTEN, often, b"", 0),
-            (CYCLE, RUN, cycle, b"", 0),
-        ],
-    );
-}
-
-// With `own` and `other`, worker 2 takes worker 1's number out of the root's first cell, finds the shared field as it
-// was at birth and queues the number; then it fetches the number from the second cell and stores it in the first. Worker
-// 1 gives up its three references and merges, and at its exit it finds the mark and closes the number.
-//
-// With `swap` and `clear`, worker 2 takes worker 1's number out of the root and queues it. Its ninth step sets the mark,
-// which worker 1 finds at its exit: worker 1 closes the number. After eight steps there is no mark yet, worker 1 leaves
-// without it, and worker 2 closes the number.
-#[test]
-fn items_are_queued(rt: HostRuntime) {
-    let number_left: &[u8] =
-        b"threads 2\nrunning 2\ncreated 2\nclosed 0\nalive 2\nhost faults 0\nclose faults 0\nleft 1 list\nleft 2 num\n";
-    let number_closed: &[u8] =
-        b"threads 2\nrunning 2\ncreated 2\nclosed 1\nalive 1\nhost faults 0\nclose faults 0\nleft 1 list\n";
-    let cases: [(&'static [u8], &'static [u8], &[u8]); 5] = [
+const RUN: &[Case<'static>] = &[
+    (
+        "set_out_of_range",
+        Ok(SET_PAST_THE_END),
+        UNREAD,
+        (NUMBER_REPORT, b"", 0),
+    ),
+    (
+        "list_in_itself",
+        Ok(CYCLE),
+        UNREAD,
         (
-            OWN_AND_OTHER,
+            b"threads 1\nrunning 0\ncreated 2\nclosed 1\nalive 1\nhost faults 0\nclose faults 0\nleft 2 list\n",
+            b"",
+            0,
+        ),
+    ),
+];
+
+const RUN_SWAP: &[Case<'static>] = &[("swap_once", Ok(SWAP), UNREAD, (NUMBER_REPORT, b"", 0))];
+
+const RUN_SWAP_OFTEN: &[Case<'static>] = &[(
+    "swap_by_four_threads",
+    Ok(SWAP),
+    UNREAD,
+    (SWAPS_REPORT, b"", 0),
+)];
+
+const STEPPED: &[Case<'static>] = &[
+    // Worker 2 takes worker 1's number out of the root's first cell, finds the shared field as it was at birth and
+    // queues the number; then it fetches the number from the second cell and stores it in the first. Worker 1 gives up
+    // its three references and merges, and at its exit it finds the mark and closes the number.
+    (
+        "queued_then_merged_at_exit",
+        Ok(OWN_AND_OTHER),
+        Ok(
             b"schedule 1\nworkers 2\nrows 4\ncall 1 own 1\ncall 2 other 1\nstep 1 ok 12\nstep 2 ok 1000\n\
               step 1 ok 1000\nstep 0 ok 1000\n",
-            TWO_CLOSED,
         ),
-        (
-            SWAP_AND_CLEAR,
+        (TWO_CLOSED, b"", 0),
+    ),
+    // Worker 2 takes worker 1's number out of the root and queues it. Its ninth step sets the mark, which worker 1
+    // finds at its exit: worker 1 closes the number. After eight steps there is no mark yet, worker 1 leaves without
+    // it, and worker 2 closes the number.
+    (
+        "between_mark_and_look, worker 1 gone",
+        Ok(SWAP_AND_CLEAR),
+        Ok(
             b"schedule 1\nworkers 2\nrows 4\ncall 1 swap 1\ncall 2 clear 1\nstep 1 ok 6\nstep 2 ok 9\nstep 1 ok 1000\n",
-            number_closed,
         ),
         (
-            SWAP_AND_CLEAR,
+            b"threads 2\nrunning 2\ncreated 2\nclosed 1\nalive 1\nhost faults 0\nclose faults 0\nleft 1 list\n",
+            b"",
+            0,
+        ),
+    ),
+    (
+        "between_mark_and_look",
+        Ok(SWAP_AND_CLEAR),
+        Ok(
             b"schedule 1\nworkers 2\nrows 4\ncall 1 swap 1\ncall 2 clear 1\nstep 1 ok 6\nstep 2 ok 9\nstep 1 ok 1000\n\
               step 2 ok 1000\nstep 0 ok 1000\n",
-            TWO_CLOSED,
         ),
-        (
-            SWAP_AND_CLEAR,
+        (TWO_CLOSED, b"", 0),
+    ),
+    (
+        "no mark yet, worker 1 gone",
+        Ok(SWAP_AND_CLEAR),
+        Ok(
             b"schedule 1\nworkers 2\nrows 4\ncall 1 swap 1\ncall 2 clear 1\nstep 1 ok 6\nstep 2 ok 8\nstep 1 ok 1000\n",
-            number_left,
         ),
         (
-            SWAP_AND_CLEAR,
+            b"threads 2\nrunning 2\ncreated 2\nclosed 0\nalive 2\nhost faults 0\nclose faults 0\nleft 1 list\n\
+              left 2 num\n",
+            b"",
+            0,
+        ),
+    ),
+    (
+        "no mark yet",
+        Ok(SWAP_AND_CLEAR),
+        Ok(
             b"schedule 1\nworkers 2\nrows 4\ncall 1 swap 1\ncall 2 clear 1\nstep 1 ok 6\nstep 2 ok 8\nstep 1 ok 1000\n\
               step 2 ok 1000\nstep 0 ok 1000\n",
-            TWO_CLOSED,
         ),
-    ];
-    for (module, schedule, report) in cases {
-        assert_acts(&rt, STEP, both(module, schedule), (report, b"", 0));
-    }
+        (TWO_CLOSED, b"", 0),
+    ),
+];
+
+#[test]
+fn items_are_closed_left_or_queued(rt: HostRuntime) {
+    assert_cases(&rt, &CHECK, CHECKED);
+    assert_cases(&rt, &to_run("f", 1, 1024, 1), RUN);
+    assert_cases(&rt, &to_run("swap", 1, 1024, 1), RUN_SWAP);
+    assert_cases(&rt, &to_run("swap", 4, 1024, 1000), RUN_SWAP_OFTEN);
+    assert_cases(&rt, &STEP, STEPPED);
 }

@@ -4,9 +4,11 @@
 #[cfg(test)]
 mod births;
 #[cfg(test)]
-mod command_lines;
+mod cases;
 #[cfg(test)]
-mod commands;
+mod checks;
+#[cfg(test)]
+mod command_lines;
 #[cfg(test)]
 mod explanations;
 #[cfg(test)]
@@ -20,7 +22,11 @@ mod locks;
 #[cfg(test)]
 mod loops;
 #[cfg(test)]
-mod paths;
+mod narrow;
+#[cfg(test)]
+mod reasons;
+#[cfg(test)]
+mod runs;
 #[cfg(test)]
 mod steps;
 #[cfg(test)]

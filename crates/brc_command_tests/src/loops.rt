@@ -1,63 +1,88 @@
-//! Worked examples of loops: what `brc check` and `brc run` print.
+//! Worked examples of loops.
 
-use crate::commands::both;
-use crate::worked::{CHECK, RUN, acts, assert_cases};
-use brc_run::System;
-use std::process::Abort;
+use crate::cases::{CHECK, Case, UNREAD, assert_cases, to_run};
 
-const RUN_TWICE: &[&str] = &["brc", "run", "m.brc", "--call", "f", "--times", "2"];
+/// Makes a number and gives it up, and does both three times more.
+pub const NUMBERS: &[u8] = b"module 1\nfunc f\nnum v1 1 else @3\ndrop v1\nagain @0 3\nfail\nend\n";
 
-const RUN_WITH_THREE_ROWS: &[&str] = &["brc", "run", "m.brc", "--call", "f", "--rows", "3"];
+/// The report of a run that makes three numbers.
+pub const THREE_NUMBERS_REPORT: &[u8] =
+    b"threads 1\nrunning 0\ncreated 4\nclosed 4\nalive 0\nhost faults 0\nclose faults 0\n";
 
-// Makes a number and gives it up, and does both three times more.
-const NUMBERS: &[u8] = b"module 1\nfunc f\nnum v1 1 else @3\ndrop v1\nagain @0 3\nfail\nend\n";
+/// The report of a run that makes eight numbers.
+pub const EIGHT_NUMBERS_REPORT: &[u8] =
+    b"threads 1\nrunning 0\ncreated 9\nclosed 9\nalive 0\nhost faults 0\nclose faults 0\n";
 
-// The inner loop leads back twice in the first pass of the outer one, and in its other passes never again.
-const NESTED: &[u8] =
-    b"module 1\nfunc f\nnum v1 1 else @4\ndrop v1\nagain @0 2\nagain @0 3\nfail\nend\n";
+const CHECKED: &[Case<'static>] = &[
+    (
+        "numbers",
+        Ok(NUMBERS),
+        UNREAD,
+        (b"accepted 1 functions 4 instructions\n", b"", 0),
+    ),
+    (
+        "leads on",
+        Ok(b"module 1\nfunc f\nagain @1 1\nfail\nend\n"),
+        UNREAD,
+        (b"", b"unreadable line 5 L4\n", 2),
+    ),
+];
 
-const ITSELF: &[u8] = b"module 1\nfunc f\nagain @0 65535\nfail\nend\n";
+const RUN: &[Case<'static>] = &[
+    (
+        "numbers",
+        Ok(NUMBERS),
+        UNREAD,
+        (
+            b"threads 1\nrunning 0\ncreated 5\nclosed 5\nalive 0\nhost faults 0\nclose faults 0\n",
+            b"",
+            0,
+        ),
+    ),
+    // The inner loop leads back twice in the first pass of the outer one, and in its other passes never again. So the
+    // first pass of the outer loop makes three numbers, and each of its three further passes one.
+    (
+        "nested",
+        Ok(b"module 1\nfunc f\nnum v1 1 else @4\ndrop v1\nagain @0 2\nagain @0 3\nfail\nend\n"),
+        UNREAD,
+        (
+            b"threads 1\nrunning 0\ncreated 7\nclosed 7\nalive 0\nhost faults 0\nclose faults 0\n",
+            b"",
+            0,
+        ),
+    ),
+    (
+        "leads to itself",
+        Ok(b"module 1\nfunc f\nagain @0 65535\nfail\nend\n"),
+        UNREAD,
+        (
+            b"threads 1\nrunning 0\ncreated 1\nclosed 1\nalive 0\nhost faults 0\nclose faults 0\n",
+            b"",
+            0,
+        ),
+    ),
+];
 
-// The second pass would overwrite the reference of the first one. Two paths then reach the first instruction in
-// different states too, so either code may be reported.
-fn assert_pass_is_refused<R: System + Abort + AllocGlobal>(rt: &R) {
-    let module = b"module 1\nfunc f\nnewref v1 v0\nagain @0 1\ndrop v1\nfail\nend\n";
-    let (out, err, status) = acts(rt, CHECK, both(module, b""));
-    let overwritten: &[u8] = b"refused f @0 C4\n";
-    let states_differ: &[u8] = b"refused f @0 C10\n";
-    let line = err.as_slice();
-    assert!(rt; out.is_empty());
-    assert!(rt; line == overwritten || line == states_differ);
-    assert_eq!(rt; status, 1);
-}
+// A call makes four numbers, and the next call counts anew.
+const RUN_TWICE: &[Case<'static>] = &[(
+    "numbers",
+    Ok(NUMBERS),
+    UNREAD,
+    (EIGHT_NUMBERS_REPORT, b"", 0),
+)];
 
-// A call of `NUMBERS` makes four numbers, and the next call counts anew. With three rows the fourth number isn't made.
-// Of `NESTED` the first pass of the outer loop makes three numbers, and each of its three further passes one.
+// The fourth number isn't made.
+const RUN_WITH_THREE_ROWS: &[Case<'static>] = &[(
+    "numbers",
+    Ok(NUMBERS),
+    UNREAD,
+    (THREE_NUMBERS_REPORT, b"", 0),
+)];
+
 #[test]
 fn loops_end(rt: HostRuntime) {
-    let four = b"accepted 1 functions 4 instructions\n";
-    let root_alone =
-        b"threads 1\nrunning 0\ncreated 1\nclosed 1\nalive 0\nhost faults 0\nclose faults 0\n";
-    let three_numbers =
-        b"threads 1\nrunning 0\ncreated 4\nclosed 4\nalive 0\nhost faults 0\nclose faults 0\n";
-    let four_numbers =
-        b"threads 1\nrunning 0\ncreated 5\nclosed 5\nalive 0\nhost faults 0\nclose faults 0\n";
-    let six_numbers =
-        b"threads 1\nrunning 0\ncreated 7\nclosed 7\nalive 0\nhost faults 0\nclose faults 0\n";
-    let eight_numbers =
-        b"threads 1\nrunning 0\ncreated 9\nclosed 9\nalive 0\nhost faults 0\nclose faults 0\n";
-    let leads_on = b"module 1\nfunc f\nagain @1 1\nfail\nend\n";
-    assert_cases(
-        &rt,
-        &[
-            (NUMBERS, CHECK, four, b"", 0),
-            (NUMBERS, RUN, four_numbers, b"", 0),
-            (NUMBERS, RUN_TWICE, eight_numbers, b"", 0),
-            (NUMBERS, RUN_WITH_THREE_ROWS, three_numbers, b"", 0),
-            (NESTED, RUN, six_numbers, b"", 0),
-            (ITSELF, RUN, root_alone, b"", 0),
-            (leads_on, CHECK, b"", b"unreadable line 5 L4\n", 2),
-        ],
-    );
-    assert_pass_is_refused(&rt);
+    assert_cases(&rt, &CHECK, CHECKED);
+    assert_cases(&rt, &to_run("f", 1, 1024, 1), RUN);
+    assert_cases(&rt, &to_run("f", 1, 1024, 2), RUN_TWICE);
+    assert_cases(&rt, &to_run("f", 1, 3, 1), RUN_WITH_THREE_ROWS);
 }

@@ -1,13 +1,12 @@
 ghost use Rattle.std.specs.Prelude.{◌≡◌};
 ghost use Rattle.brc_report.specs.declared.paint.Paint.TheVariants.{Ansi};
 
-use crate::commands::{FIRST, STEP, both, outputs, to_run};
+use crate::cases::{CHECK, FIRST, LEAKING, STEP, Shelf, UNREAD, outputs, to_run};
 use brc_arguments::act_on;
 use brc_command::{Asked, Terminal, execute_on};
 use brc_report::Paint;
 use brc_run::System;
 use brc_work::Gate;
-use std::process::Abort;
 use std::sync::atomic::{AtomicU64, Ordering};
 
 // A terminal that notes what it is given.
@@ -20,20 +19,6 @@ struct Notes {
     // The calls of workers that have begun, and those that have ended.
     begun: AtomicU64,
     ended: AtomicU64,
-}
-
-impl Notes {
-    // A terminal that was given nothing.
-    fn new() -> Notes {
-        Notes {
-            times: 0,
-            last: 0,
-            falls: false,
-            clears: 0,
-            begun: AtomicU64::new(0),
-            ended: AtomicU64::new(0),
-        }
-    }
 }
 
 impl Gate for Notes {
@@ -64,17 +49,27 @@ impl Terminal for Notes {
     }
 }
 
-// What the terminal was told, and the bytes on standard output.
+// What a terminal that was given nothing yet was told, and the bytes on standard output.
 fn told<R: System + AllocGlobal>(
     rt: &R,
     asked: &Asked<'_>,
     module: &[u8],
     schedule: &[u8],
 ) -> (Notes, Vec<u8>) {
-    let mut notes = Notes::new();
+    let mut notes = Notes {
+        times: 0,
+        last: 0,
+        falls: false,
+        clears: 0,
+        begun: AtomicU64::new(0),
+        ended: AtomicU64::new(0),
+    };
     let mut out: Vec<u8> = Vec::new(rt.alloc());
     let mut err: Vec<u8> = Vec::new(rt.alloc());
-    let mut load = both(module, schedule);
+    let mut load = Shelf {
+        module: Ok(module),
+        schedule: Ok(schedule),
+    };
     execute_on(
         rt,
         rt.alloc(),
@@ -87,68 +82,48 @@ fn told<R: System + AllocGlobal>(
     (notes, out)
 }
 
-// A terminal is given the steps in rising order, and its line is wiped once; it changes no report.
-fn assert_told<R: System + Abort + AllocGlobal>(
-    rt: &R,
-    asked: &Asked<'_>,
-    schedule: &[u8],
-    (times, last): (u64, u64),
-) {
-    let (notes, out) = told(rt, asked, FIRST, schedule);
-    assert_eq!(rt; notes.times, times, "{asked:?}");
-    assert_eq!(rt; notes.last, last, "{asked:?}");
-    assert!(rt; !notes.falls, "{asked:?}");
-    assert_eq!(rt; notes.clears, 1, "{asked:?}");
-    let (plain, _, _) = outputs(rt, asked, both(FIRST, schedule));
-    assert_eq!(rt; out.as_slice(), plain.as_slice(), "{asked:?}");
-}
+// The schedules of one worker, how often the terminal is given the steps, and the steps that it is given last.
+const SCHEDULES: &[(&[u8], (u64, u64))] = &[
+    (
+        b"schedule 1\nworkers 1\nrows 4\ncall 1 f 1\nstep 1 ok 65535\n",
+        (0, 0),
+    ),
+    (
+        b"schedule 1\nworkers 1\nrows 4\ncall 1 f 1\nstep 1 ok 200000\n",
+        (3, 196_608),
+    ),
+    (
+        b"schedule 1\nworkers 1\nrows 4\ncall 1 f 1\nstep 1 ok 65535\nstep 0 ok 65537\n",
+        (2, 131_072),
+    ),
+];
 
+// A terminal is given the steps in rising order, and its line is wiped once; it changes no report.
 #[test]
 fn tells_how_far_a_schedule_is(rt: HostRuntime) {
-    let few = b"schedule 1\nworkers 1\nrows 4\ncall 1 f 1\nstep 1 ok 65535\n";
-    assert_told(&rt, &STEP, few, (0, 0));
-    let one_line = b"schedule 1\nworkers 1\nrows 4\ncall 1 f 1\nstep 1 ok 200000\n";
-    assert_told(&rt, &STEP, one_line, (3, 196_608));
-    let two_lines =
-        b"schedule 1\nworkers 1\nrows 4\ncall 1 f 1\nstep 1 ok 65535\nstep 0 ok 65537\n";
-    assert_told(&rt, &STEP, two_lines, (2, 131_072));
+    for (schedule, (times, last)) in SCHEDULES {
+        let (notes, out) = told(&rt, &STEP, FIRST, schedule);
+        assert_eq!(rt; (notes.times, notes.last), (*times, *last), "{last}");
+        assert!(rt; !notes.falls, "{last}");
+        assert_eq!(rt; notes.clears, 1, "{last}");
+        let (plain, _, _) = outputs(&rt, &STEP, Ok(FIRST), Ok(*schedule));
+        assert_eq!(rt; out.as_slice(), plain.as_slice(), "{last}");
+    }
 }
 
-// Of a run on threads the terminal hears each call, as its gate.
+// Of a run on threads the terminal hears each call, as its gate. `act_on` gives it one call more.
 #[test]
 fn hears_each_call_of_a_run(rt: HostRuntime) {
-    let (notes, _) = told(&rt, &to_run("f", 4, 4, 200), FIRST, b"");
+    let (mut notes, _) = told(&rt, &to_run("f", 4, 4, 200), FIRST, b"");
     assert_eq!(rt; notes.begun.load(Ordering::SeqCst), 800);
     assert_eq!(rt; notes.ended.load(Ordering::SeqCst), 800);
     assert_eq!(rt; (notes.times, notes.clears), (0, 1));
-}
-
-#[test]
-fn colours_explanations_alone(rt: HostRuntime) {
-    let escape: &[u8] = b"\x1b";
-    let leaked = b"module 1\nfunc f\nnewref v1 v0\nfail\nend\n";
-    let explain = Asked::Explain {
-        file: "m.brc",
-        function: None,
-    };
-    let (_, out) = told(&rt, &explain, leaked, b"");
-    assert!(rt; out.as_slice().contains(&escape[0]));
-    let (out, _, _) = outputs(&rt, &explain, both(leaked, b""));
-    assert!(rt; !out.as_slice().contains(&escape[0]));
-    let check = Asked::Check { file: "m.brc" };
-    let (_, out) = told(&rt, &check, FIRST, b"");
-    assert_eq!(rt;
-        out.as_slice(),
-        b"accepted 1 functions 3 instructions\n".as_slice()
-    );
-}
-
-#[test]
-fn acts_before_a_terminal(rt: HostRuntime) {
-    let mut notes = Notes::new();
     let mut out: Vec<u8> = Vec::new(rt.alloc());
     let mut err: Vec<u8> = Vec::new(rt.alloc());
-    let mut load = both(FIRST, b"");
+    let mut load = Shelf {
+        module: Ok(FIRST),
+        schedule: UNREAD,
+    };
     let words = ["brc", "run", "m.brc", "--call", "f"];
     let status = act_on(
         &rt,
@@ -161,5 +136,24 @@ fn acts_before_a_terminal(rt: HostRuntime) {
     );
     assert_eq!(rt; status, 0);
     assert!(rt; out.as_slice().starts_with(b"threads 1\n"));
-    assert_eq!(rt; notes.clears, 1);
+    assert_eq!(rt; notes.begun.load(Ordering::SeqCst), 801);
+    assert_eq!(rt; notes.clears, 2);
+}
+
+#[test]
+fn colours_explanations_alone(rt: HostRuntime) {
+    let escape: &[u8] = b"\x1b";
+    let explain = Asked::Explain {
+        file: "m.brc",
+        function: None,
+    };
+    let (_, out) = told(&rt, &explain, LEAKING, b"");
+    assert!(rt; out.as_slice().contains(&escape[0]));
+    let (out, _, _) = outputs(&rt, &explain, Ok(LEAKING), UNREAD);
+    assert!(rt; !out.as_slice().contains(&escape[0]));
+    let (_, out) = told(&rt, &CHECK, FIRST, b"");
+    assert_eq!(rt;
+        out.as_slice(),
+        b"accepted 1 functions 3 instructions\n".as_slice()
+    );
 }

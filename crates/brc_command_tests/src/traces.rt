@@ -1,5 +1,5 @@
-use crate::commands::{SMALLEST, both};
-use brc_arguments::act;
+use crate::cases::SMALLEST;
+use crate::command_lines::acts;
 use brc_command::trace_text;
 
 // Worker 1 calls `f` once and exits. Main then claims the root, which the worker has queued.
@@ -31,37 +31,20 @@ close faults 0
 left 1 list
 ";
 
+// By the command line, and by its texts. Nothing is traced of a text that can't be read.
 #[test]
 fn traces_the_smallest_module(rt: HostRuntime) {
-    let mut out: Vec<u8> = Vec::new(rt.alloc());
-    let mut err: Vec<u8> = Vec::new(rt.alloc());
-    let mut load = both(SMALLEST, PLAN);
     let words = ["brc", "step", "m.brc", "s.txt", "--trace"];
-    let status = act(
-        &rt,
-        rt.alloc(),
-        words.as_slice(),
-        &mut load,
-        &mut out,
-        &mut err,
-    );
+    let (out, err, status) = acts(&rt, words.as_slice(), Ok(SMALLEST), Ok(PLAN));
     assert!(rt; out.as_slice() == TRACE);
     assert!(rt; err.is_empty());
     assert_eq!(rt; status, 0);
-}
-
-#[test]
-fn traces_texts(rt: HostRuntime) {
-    let mut out: Vec<u8> = Vec::new(rt.alloc());
-    let result = trace_text(rt.alloc(), SMALLEST, PLAN, &mut out);
+    let mut traced: Vec<u8> = Vec::new(rt.alloc());
+    let result = trace_text(rt.alloc(), SMALLEST, PLAN, &mut traced);
     assert!(rt; result.is_ok());
-    assert!(rt; out.as_slice() == TRACE);
-}
-
-#[test]
-fn traces_nothing_of_faulty_texts(rt: HostRuntime) {
-    let mut out: Vec<u8> = Vec::new(rt.alloc());
-    let result = trace_text(rt.alloc(), b"module 1\nfunc f\n", PLAN, &mut out);
+    assert!(rt; traced.as_slice() == TRACE);
+    let mut untraced: Vec<u8> = Vec::new(rt.alloc());
+    let result = trace_text(rt.alloc(), b"module 1\nfunc f\n", PLAN, &mut untraced);
     assert!(rt; result.is_err());
-    assert!(rt; out.is_empty());
+    assert!(rt; untraced.is_empty());
 }

@@ -1,0 +1,159 @@
+//! Commands over a writer that stops taking bytes.
+
+use crate::cases::{
+    CHECK, FIRST, LEAKING, MISSPELT, ONE_REPORT, SMALLEST, STEP, Shelf, UNREAD, outputs, to_run,
+};
+use brc_check::CheckCode;
+use brc_command::{Asked, execute};
+use brc_pages::Topic;
+use brc_run::System;
+use std::io;
+use std::io::{ErrorKind, Write};
+use std::process::Abort;
+
+/// Takes one byte a call, until none is left to take. Then it takes none, or is interrupted.
+#[derive(Drop)]
+struct Narrow {
+    taken: Vec<u8>,
+    left: usize,
+    interrupts: bool,
+}
+
+impl Write for Narrow {
+    fn write(&mut self, buf: &[u8]) -> io::Result<usize> {
+        if self.left == 0 || buf.is_empty() {
+            return if self.interrupts {
+                Err(io::Error::from(ErrorKind::Interrupted))
+            } else {
+                Ok(0)
+            };
+        }
+        self.taken.push(buf[0])?;
+        self.left -= 1;
+        Ok(1)
+    }
+
+    fn flush(&mut self) -> io::Result<()> {
+        Ok(())
+    }
+}
+
+const LONG: usize = 100;
+
+const SCHEDULE: &[u8] = b"schedule 1\nworkers 1\nrows 4\ncall 1 f 1\n";
+
+const RUNNING: &[u8] =
+    b"threads 1\nrunning 2\ncreated 1\nclosed 0\nalive 1\nhost faults 0\nclose faults 0\nleft 1 list\n";
+
+// A writer that takes only some bytes gets a prefix of the text. One that takes them all changes neither the line on
+// standard error nor the status, which are the module's own. A text of more than `LONG` bytes is cut at some bytes
+// alone.
+fn assert_stops<R: System + Abort + AllocGlobal>(
+    rt: &R,
+    asked: &Asked<'_>,
+    module: &[u8],
+    text: &[u8],
+    (own_line, own_status): (&[u8], u8),
+) {
+    let some = [
+        0,
+        1,
+        text.len() / 2,
+        text.len().saturating_sub(1),
+        text.len(),
+    ];
+    for interrupts in [false, true] {
+        for most in 0..=text.len() {
+            if text.len() > LONG && !some.contains(&most) {
+                continue;
+            }
+            let mut out = Narrow {
+                taken: Vec::new(rt.alloc()),
+                left: most,
+                interrupts,
+            };
+            let mut err: Vec<u8> = Vec::new(rt.alloc());
+            let mut files = Shelf {
+                module: Ok(module),
+                schedule: Ok(SCHEDULE),
+            };
+            let found = execute(rt, rt.alloc(), asked, &mut files, &mut out, &mut err);
+            let whole = most == text.len();
+            let line: &[u8] = if whole { own_line } else { b"cannot write\n" };
+            let status = if whole { own_status } else { 2 };
+            assert_eq!(rt;
+                out.taken.as_slice(),
+                &text[..most],
+                "{asked:?} after {most}, interrupts: {interrupts}"
+            );
+            assert_eq!(rt;
+                err.as_slice(),
+                line,
+                "{asked:?} after {most}, interrupts: {interrupts}"
+            );
+            assert_eq!(rt;
+                found,
+                status,
+                "{asked:?} after {most}, interrupts: {interrupts}"
+            );
+        }
+    }
+}
+
+#[test]
+fn stops_at_an_output_error(rt: HostRuntime) {
+    let accepted = b"accepted 1 functions 1 instructions\n";
+    assert_stops(
+        &rt,
+        &to_run("f", 1, 1024, 1),
+        SMALLEST,
+        ONE_REPORT,
+        (b"", 0),
+    );
+    assert_stops(&rt, &CHECK, SMALLEST, accepted, (b"", 0));
+    assert_stops(&rt, &STEP, SMALLEST, RUNNING, (b"", 0));
+    assert_stops(&rt, &Asked::Version, SMALLEST, b"brc 0.1.0\n", (b"", 0));
+}
+
+// The modules, and their lines and statuses.
+const EXPLAINED: &[(&[u8], (&[u8], u8))] = &[
+    (FIRST, (b"", 0)),
+    (LEAKING, (b"refused f @1 C5\n", 1)),
+    (MISSPELT, (b"unreadable line 3 L2\n", 2)),
+];
+
+#[test]
+fn stops_explaining_at_an_output_error(rt: HostRuntime) {
+    let explain = Asked::Explain {
+        file: "m.brc",
+        function: None,
+    };
+    for (module, own) in EXPLAINED {
+        let (text, _, _) = outputs(&rt, &explain, Ok(*module), UNREAD);
+        assert_stops(&rt, &explain, module, text.as_slice(), *own);
+    }
+    let page = Asked::Page {
+        topic: Topic::Check(CheckCode::LeftOwned),
+    };
+    let (text, _, _) = outputs(&rt, &page, UNREAD, UNREAD);
+    assert_stops(&rt, &page, b"", text.as_slice(), (b"", 0));
+}
+
+// If standard error takes nothing, the status still gives the reason.
+#[test]
+fn keeps_the_status_without_standard_error(rt: HostRuntime) {
+    let mut out: Vec<u8> = Vec::new(rt.alloc());
+    let mut err = Narrow {
+        taken: Vec::new(rt.alloc()),
+        left: 0,
+        interrupts: false,
+    };
+    let mut load = Shelf {
+        module: Ok(SMALLEST),
+        schedule: UNREAD,
+    };
+    let asked = to_run("g", 1, 1024, 1);
+    let status = execute(&rt, rt.alloc(), &asked, &mut load, &mut out, &mut err);
+    assert_eq!(rt; status, 2);
+    assert!(rt; err.taken.is_empty());
+}
