@@ -5,3 +5,5 @@
 mod fake_host;
 #[cfg(test)]
 mod os_host;
+#[cfg(test)]
+mod repeating;

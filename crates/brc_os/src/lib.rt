@@ -4,7 +4,9 @@
 mod devices;
 mod os_host;
 mod os_resource;
+mod repeating;
 
 pub use devices::Devices;
 pub use os_host::OsHost;
 pub use os_resource::OsResource;
+pub use repeating::{read_some, write_some, write_whole};

@@ -1,10 +1,10 @@
 ghost use Rattle.std.specs.Prelude.{◌≤◌, IfOk, length};
 ghost use Rattle.brc_lang.specs.Limits.{read_limit};
 
+use crate::repeating::{read_some, write_whole};
 use brc_host::Fault;
 use std::fs::File;
 use std::io;
-use std::io::{ErrorKind, Read, Write};
 use std::net::{Shutdown, TcpStream};
 
 /// The most bytes of one read.
@@ -28,31 +28,26 @@ impl OsResource {
         ensures { IfOk result (λ got. got ≤ most) }
     {
         let mut room = [0u8; MOST_BYTES];
-        // std repeats any other call that a signal interrupts, but not a read, which has then read nothing.
-        for _ in 0..u64::MAX {
-            match self.read_into(&mut room[..usize::from(most)]) {
-                Ok(got) => return Ok(got as u16),
-                Err(error) if error.kind() == ErrorKind::Interrupted => {}
-                Err(_) => return Err(Fault),
-            }
+        match self.read_into(&mut room[..usize::from(most)]) {
+            Ok(got) => Ok(got as u16),
+            Err(_) => Err(Fault),
         }
-        Err(Fault)
     }
 
     fn read_into(&mut self, room: &mut [u8]) -> io::Result<usize>
         ensures { IfOk result (λ got. got ≤ length room.old) }
     {
         match self {
-            OsResource::ReadFile(file) | OsResource::WrittenFile(file) => file.read(room),
-            OsResource::Peer(stream) => stream.read(room),
+            OsResource::ReadFile(file) | OsResource::WrittenFile(file) => read_some(file, room),
+            OsResource::Peer(stream) => read_some(stream, room),
         }
     }
 
     /// Writes all bytes, or fails.
     pub(crate) fn write(&mut self, bytes: &[u8]) -> Result<(), Fault> {
         let written = match self {
-            OsResource::ReadFile(file) | OsResource::WrittenFile(file) => file.write_all(bytes),
-            OsResource::Peer(stream) => stream.write_all(bytes),
+            OsResource::ReadFile(file) | OsResource::WrittenFile(file) => write_whole(file, bytes),
+            OsResource::Peer(stream) => write_whole(stream, bytes),
         };
         written.or(Err(Fault))
     }
