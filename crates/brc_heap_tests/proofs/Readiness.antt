@@ -1,6 +1,6 @@
 -- Hands stay ready to retain and release the root.
 use Rattle.std.proofs.Common.{◌≡◌, ◌≢◌, ◌≤◌, ◌<◌, ℕ, ◌+◌, Bool, true, false, List, [], ◌∷◌, ◌++◌, ◌%◌, length, Option, None, Some, inl, inr, refl, sym, ap, ◌∙◌, subst, arith}
-use Rattle.std.specs.Prelude.{◌==◌, ◌⊎◌, not, cond, count_by, slice_index_or, if◌then◌else◌}
+use Rattle.std.specs.Prelude.{◌==◌, ◌⊎◌, not, cond, count_by, slice_index_or, if◌then◌else◌, OnSome}
 use Rattle.std.proofs.lemmas.Bool.{cases_Bool, eq-eqb}
 use Rattle.std.proofs.lemmas.List.Sums.{sum_by-cons}
 use Rattle.brc_model.specs.declared.actor.Status.TheVariants.{Running, Gone}
@@ -9,7 +9,7 @@ use Rattle.brc_model.specs.declared.layout.Layout.{Layout}
 use Rattle.brc_model.specs.Limits.{row_limit}
 use Rattle.brc_model.specs.Layout.{root_row, is_immortal_row}
 use Rattle.brc_table.specs.declared.view.View.{View}
-use Rattle.brc_table.specs.Views.{holds, work_about, open_work, with_reference, without_reference, without_one, worker_view, next_row}
+use Rattle.brc_table.specs.Views.{holds, work_about, open_work, with_reference, without_reference, without_one, main_view, worker_view, next_row}
 use Rattle.brc_table.specs.Opening.{plain_layout}
 use Rattle.brc_model.specs.OpenWork.{is_about}
 use Rattle.std.specs.List.{filter}
@@ -18,7 +18,12 @@ use Rattle.brc_table.specs.Calls.{CanAct}
 use Rattle.brc_heap.specs.Calls.{Leaves, HasGiven, HasBorn}
 use Rattle.brc_heap.proofs.Leaving.{leaves_then}
 use Rattle.brc_heap.proofs.Borrowing.{borrows_still}
-use Rattle.brc_heap_tests.specs.Ready.{IsReady, IsReadyAt}
+use Rattle.brc_heap_tests.specs.Ready.{IsReady, IsReadyAt, IsAlone, IsResting}
+
+-- What follows from a fact holds where the fact does.
+pub on_some : {A P Q : Type 0} (o : Option A) → (P → Q) → OnSome o P → OnSome o Q
+on_some None follows fact = fact
+on_some (Some x) follows fact = follows fact
 
 -- What two calls about the same row leave.
 pub both_leave : {x : ℕ} {left next : List Duty} {v u w : View} → Leaves x left v u → Leaves x next u w
@@ -97,20 +102,89 @@ ready_again ready table leaves same = record {
   unlocked = leaves.sight.locked ∙ ready.unlocked;
 }
 
--- Main's work is as it was.
-given_work : {thread : ℕ} {v u : View} → HasGiven thread v u → open_work u ≡ open_work v
-given_work {thread} {v} {u} gives = ap (λ (ds : List Duty). ds ++ u.aside) gives.agenda ∙ gives.aside
+-- ---- one reference, to the root
 
--- Main is ready again after it has given out a worker's hand.
-pub ready_after_giving : {heap : TableState} {before after : HandState} {thread : ℕ} → IsReady heap before
-    → IsOf heap after → HasGiven thread before.view after.view → IsReady heap after
-ready_after_giving ready table gives = record {
+-- Main's hand has nothing to do at first, and holds the root,
+pub main_alone : {heap : TableState} {main : HandState} {layout : Layout} → IsOf heap main
+    → main.view ≡ main_view layout → IsAlone heap main
+main_alone table is = record {
   table = table;
-  running = (gives.status ∙ ready.running.0, subst MayWait (sym gives.agenda) tt);
-  held = subst (λ (rows : List ℕ). 1 ≤ count_by (λ y. y == root_row) rows) (sym gives.references) ready.held;
-  idle = ap (filter (is_about root_row)) (given_work gives) ∙ ready.idle;
-  few = subst (λ (rows : List ℕ). length rows < most_references) (sym gives.references) ready.few;
-  unlocked = gives.sight.locked ∙ ready.unlocked;
+  status = ap (λ (v : View). v.status) is;
+  agenda = ap (λ (v : View). v.agenda) is;
+  aside = ap (λ (v : View). v.aside) is;
+  references = ap (λ (v : View). v.references) is;
+  unlocked = ap (λ (v : View). v.locked) is;
+  lent = ap (λ (v : View). v.lent) is;
+}
+
+-- and so does a worker's.
+pub worker_alone : {heap : TableState} {hand : HandState} {thread : ℕ} → IsOf heap hand
+    → hand.view ≡ worker_view heap.layout thread → IsAlone heap hand
+worker_alone table is = record {
+  table = table;
+  status = ap (λ (v : View). v.status) is;
+  agenda = ap (λ (v : View). v.agenda) is;
+  aside = ap (λ (v : View). v.aside) is;
+  references = ap (λ (v : View). v.references) is;
+  unlocked = ap (λ (v : View). v.locked) is;
+  lent = ap (λ (v : View). v.lent) is;
+}
+
+-- Such a hand has no work at all,
+pub alone_work : {heap : TableState} {hand : HandState} → IsAlone heap hand → open_work hand.view ≡ []
+alone_work {heap} {hand} alone = ap (λ (ds : List Duty). ds ++ hand.view.aside) alone.agenda ∙ alone.aside
+
+-- is ready to retain and release the root,
+pub ready_alone : {heap : TableState} {hand : HandState} → IsAlone heap hand → IsReady heap hand
+ready_alone {heap} {hand} alone = record {
+  table = alone.table;
+  running = (alone.status, subst MayWait (sym alone.agenda) tt);
+  held =
+      let one : 1 ≤ count_by (λ y. y == root_row) (root_row ∷ []) = omega arith in
+      subst (λ (rows : List ℕ). 1 ≤ count_by (λ y. y == root_row) rows) (sym alone.references) one;
+  idle = ap (filter (is_about root_row)) (alone_work alone);
+  few =
+      let one : length (root_row ∷ []) < most_references = omega arith in
+      subst (λ (rows : List ℕ). length rows < most_references) (sym alone.references) one;
+  unlocked = alone.unlocked;
+}
+
+-- and rests.
+pub alone_rests : {heap : TableState} {hand : HandState} → IsAlone heap hand → IsResting heap hand None
+alone_rests alone = record {
+  table = alone.table;
+  running = (ready_alone alone).running;
+  held = (ready_alone alone).held;
+  rests = alone_work alone;
+  locked_is = alone.unlocked;
+  lent = alone.lent;
+  returned = tt;
+}
+
+-- Main's hand is as before after it has given out a worker's,
+pub alone_after_giving : {heap : TableState} {before after : HandState} {thread : ℕ} → IsAlone heap before
+    → IsOf heap after → HasGiven thread before.view after.view → IsAlone heap after
+alone_after_giving alone table gives = record {
+  table = table;
+  status = gives.status ∙ alone.status;
+  agenda = gives.agenda;
+  aside = gives.aside ∙ alone_work alone;
+  references = gives.references ∙ alone.references;
+  unlocked = gives.sight.locked ∙ alone.unlocked;
+  lent = gives.sight.lent ∙ alone.lent;
+}
+
+-- and any hand after a call that leaves nothing to do, and the same references.
+pub alone_again : {heap : TableState} {before after : HandState} {x : ℕ} → IsAlone heap before → IsOf heap after
+    → Leaves x [] before.view after.view → after.view.references ≡ before.view.references → IsAlone heap after
+alone_again {heap} {before} {after} {x} alone table leaves same = record {
+  table = table;
+  status = leaves.status ∙ alone.status;
+  agenda = leaves.agenda;
+  aside = leaves.aside ∙ ap (filter (λ (d : Duty). not (is_about x d))) (alone_work alone);
+  references = same ∙ alone.references;
+  unlocked = leaves.sight.locked ∙ alone.unlocked;
+  lent = leaves.sight.lent ∙ alone.lent;
 }
 
 -- Work about another row is as it was.
@@ -196,23 +270,23 @@ pub borrows_again : {x : ℕ} {v u : View} → Leaves x [] v u → Borrows v x �
 borrows_again {x} {v} {u} leaves = borrows_still x v u leaves.sight leaves.layout
 
 -- A hand that has just given birth to an object is ready to retain and release it.
-pub ready_at_birth : {heap : TableState} {before after : HandState} {x : ℕ} → IsReady heap before
-    → length before.view.references ≤ 1 → open_work before.view ≡ [] → x ≡ next_row before.view → IsOf heap after
-    → HasBorn before.view after.view → IsReadyAt heap after x
-ready_at_birth {heap} {before} {after} {x} ready few rests is table born =
-    let refs : after.view.references ≡ x ∷ before.view.references =
-    born.references ∙ ap (λ (y : ℕ). y ∷ before.view.references) (sym is) in
+pub ready_at_birth : {heap : TableState} {before after : HandState} {x : ℕ} → IsAlone heap before
+    → x ≡ next_row before.view → IsOf heap after → HasBorn before.view after.view → IsReadyAt heap after x
+ready_at_birth {heap} {before} {after} {x} alone is table born =
+    let refs : after.view.references ≡ x ∷ root_row ∷ [] =
+    born.references
+    ∙ (ap (λ (y : ℕ). y ∷ before.view.references) (sym is) ∙ ap (λ (rows : List ℕ). x ∷ rows) alone.references) in
     record {
       table = table;
-      running = (born.status ∙ ready.running.0, born.waits);
+      running = (born.status ∙ alone.status, born.waits);
       held =
           omega (
             arith,
             ap (count_by (λ y. y == x)) refs,
-            sum_by-cons (λ (y : ℕ). cond (y == x) 1 0) x before.view.references,
+            sum_by-cons (λ (y : ℕ). cond (y == x) 1 0) x (root_row ∷ []),
             ap {B = ℕ} (λ (b : Bool). cond b 1 0) (eq-eqb x x refl),
           );
-      idle = ap (filter (is_about x)) (born.work ∙ rests);
-      few = omega (arith, few, ap length refs);
-      unlocked = born.sight.locked ∙ ready.unlocked;
+      idle = ap (filter (is_about x)) (born.work ∙ alone_work alone);
+      few = omega (arith, ap length refs);
+      unlocked = born.sight.locked ∙ alone.unlocked;
     }

@@ -1,22 +1,11 @@
 -- What the tests' helpers require of a hand.
-use Rattle.std.specs.Prelude.{◌≡◌, ◌≤◌, ◌<◌, ℕ, Option, None, Some, length, List, [], ◌∷◌}
-use Rattle.std.specs.Coded.{Unit-prop}
+use Rattle.std.specs.Prelude.{◌≡◌, ◌≤◌, ◌<◌, ℕ, Option, None, Some, length, [], ◌∷◌}
 use Rattle.std.proofs.Props.{props}
 use Rattle.brc_model.specs.declared.actor.Status.TheVariants.{Running}
-use Rattle.brc_model.specs.declared.duty.Duty.{Duty}
 use Rattle.brc_model.specs.Layout.{root_row}
 use Rattle.brc_table.specs.Views.{holds, open_work}
 use Rattle.brc_table.specs.Uses.{FirstSlot}
-use Rattle.brc_table.specs.Hands.{TableState, HandState, IsOf, IsRunning, HasNoWork, MayWait, most_references}
-
--- The hand runs, holds a reference to the root, has nothing to do about it, and has locked nothing.
-pub record IsReady (heap : TableState) (hand : HandState) : Type 0 where
-  pub table : IsOf heap hand
-  pub running : IsRunning hand.view
-  pub held : 1 ≤ holds hand.view root_row
-  pub idle : HasNoWork hand.view root_row
-  pub few : length hand.view.references < most_references
-  pub unlocked : hand.view.locked ≡ None
+use Rattle.brc_table.specs.Hands.{TableState, HandState, IsOf, IsRunning, HasNoWork, most_references}
 
 -- The hand runs, holds a reference to the row's object, has nothing to do about it, and has locked nothing.
 pub record IsReadyAt (heap : TableState) (hand : HandState) (x : ℕ) : Type 0 where
@@ -26,6 +15,10 @@ pub record IsReadyAt (heap : TableState) (hand : HandState) (x : ℕ) : Type 0 w
   pub idle : HasNoWork hand.view x
   pub few : length hand.view.references < most_references
   pub unlocked : hand.view.locked ≡ None
+
+-- The same of the root's object.
+abbrev pub IsReady : TableState → HandState → Type 0
+IsReady heap hand = IsReadyAt heap hand root_row
 
 -- If the hand has locked this row's object, then the slot that it took last is that one, with what it held.
 abbrev pub HasBack : HandState → Option ℕ → Type 0
@@ -42,7 +35,7 @@ pub record IsResting (heap : TableState) (hand : HandState) (locked : Option ℕ
   pub lent : hand.view.lent ≡ None
   pub returned : HasBack hand locked
 
--- The hand runs, has nothing to do, not even aside, and holds one reference, to the root.
+-- The hand runs, has nothing to do, not even aside, holds one reference, to the root, and has locked and lent nothing.
 pub record IsAlone (heap : TableState) (hand : HandState) : Type 0 where
   pub table : IsOf heap hand
   pub status : hand.view.status ≡ Running
@@ -50,15 +43,8 @@ pub record IsAlone (heap : TableState) (hand : HandState) : Type 0 where
   pub aside : hand.view.aside ≡ []
   pub references : hand.view.references ≡ root_row ∷ []
   pub unlocked : hand.view.locked ≡ None
+  pub lent : hand.view.lent ≡ None
 
--- ---- a fact that a struct can keep
-
-pub waits-prop : (ds : List Duty) → IsProp (MayWait ds)
-waits-prop [] = Unit-prop
-waits-prop (d ∷ []) = Prim.hlevel props
-waits-prop (d ∷ e ∷ ds) = λ one other. absurd one
-
-pub ruleset ready_props = (props, waits-prop)
-
-pub ready-prop : (heap : TableState) (hand : HandState) → IsProp (IsReady heap hand)
-ready-prop heap hand = Prim.hlevel ready_props
+-- a fact that a struct can keep
+pub alone-prop : (heap : TableState) (hand : HandState) → IsProp (IsAlone heap hand)
+alone-prop heap hand = Prim.hlevel props

@@ -1,3 +1,5 @@
+//! Births, until a hand's block is full, and what becomes of a newborn number that is released.
+
 ghost use Rattle.std.specs.Prelude.{◌≡◌, ◌≢◌, [], ◌∷◌};
 ghost use Rattle.brc_model.specs.declared.duty.Duty.TheVariants.{DecideAtZero};
 ghost use Rattle.brc_model.specs.Layout.{root_row};
@@ -14,29 +16,17 @@ use std::test::*;
 /// The value of the numbers that are born.
 const VALUE: u32 = 7;
 
-/// Gives birth to a number, if there is room. Returns its row.
-fn number(heap: &Heap<u32>, hand: &mut Hand<u32>) -> Option<u32>
-    requires table { IsOf heap.now hand.old }
-    requires running { IsRunning hand.old.view }
-    ensures table { IsOf heap.now hand.new }
-    ensures running { IsRunning hand.new.view }
-{
-    if heap.room(hand) {
-        Some(heap.birth(hand, Kind::Num, VALUE, None))
-    } else {
-        None
-    }
-}
-
 /// Returns the rows of five births by one of three workers, with room for four.
 fn five_births(alloc: Global, thread: u8) -> Result<[Option<u32>; 5], Fail> {
     let (heap, mut main) = opened(alloc, 3, 4)?;
     let mut hand = worker(&heap, &mut main, thread)?;
-    let first = number(&heap, &mut hand);
-    let second = number(&heap, &mut hand);
-    let third = number(&heap, &mut hand);
-    let fourth = number(&heap, &mut hand);
-    Ok([first, second, third, fourth, number(&heap, &mut hand)])
+    let mut rows = [None; 5];
+    for row in &mut rows {
+        if heap.room(&hand) {
+            *row = Some(heap.birth(&mut hand, Kind::Num, VALUE, None));
+        }
+    }
+    Ok(rows)
 }
 
 #[test]
@@ -55,39 +45,40 @@ fn births_until_no_room(rt: HostRuntime) -> Result<(), Fail> {
     Ok(())
 }
 
-#[test]
-fn zero_then_dying(rt: HostRuntime) -> Result<(), Fail> {
-    let (heap, mut main) = opened(rt.alloc(), 1, 1)?;
-    let mut hand = worker(&heap, &mut main, 1)?;
-    let row = heap.birth(&mut hand, Kind::Num, VALUE, None);
-    let zero = heap.release_local(&mut hand, row);
-    assert_eq!(rt; zero, LocalRelease::Zero);
-    assert_eq!(rt; heap.zero_step(&mut hand, row), ZeroStep::Dying);
-    Ok(())
-}
-
-/// Retains and releases the root, with an object at zero meanwhile. Returns what then becomes of the object.
-fn decided_after_root(heap: &Heap<u32>, hand: &mut Hand<u32>, row: u32) -> Option<ZeroStep>
+/// Decides what becomes of an object at zero, at once, or after the root is retained and released meanwhile. Returns
+/// `None` if that leaves no reference to the root.
+fn decided(heap: &Heap<u32>, hand: &mut Hand<u32>, row: u32, meanwhile: bool) -> Option<ZeroStep>
     requires ready { IsReady heap.now hand.old }
     requires apart { row ≢ root_row }
     requires work { work_about row hand.old.view ≡ DecideAtZero row ∷ [] }
 {
-    if retain_and_release(heap, hand) {
-        Some(heap.zero_step(hand, row))
-    } else {
-        None
+    if !meanwhile {
+        return Some(heap.zero_step(hand, row));
+    }
+    match retain_and_release(heap, hand) {
+        Some(_) => Some(heap.zero_step(hand, row)),
+        None => None,
+    }
+}
+
+/// Gives birth to a number, and releases it. Returns how its local release ended, and what becomes of it.
+fn released(alloc: Global, meanwhile: bool) -> Result<(LocalRelease, Option<ZeroStep>), Fail> {
+    let (heap, mut main) = opened(alloc, 1, 1)?;
+    let mut hand = worker(&heap, &mut main, 1)?;
+    let row = heap.birth(&mut hand, Kind::Num, VALUE, None);
+    let release = heap.release_local(&mut hand, row);
+    match release {
+        LocalRelease::Zero => Ok((release, decided(&heap, &mut hand, row, meanwhile))),
+        _ => Ok((release, None)),
     }
 }
 
 #[test]
-fn two_pieces_of_work(rt: HostRuntime) -> Result<(), Fail> {
-    let (heap, mut main) = opened(rt.alloc(), 1, 1)?;
-    let mut hand = worker(&heap, &mut main, 1)?;
-    let row = heap.birth(&mut hand, Kind::Num, VALUE, None);
-    let decided = match heap.release_local(&mut hand, row) {
-        LocalRelease::Zero => decided_after_root(&heap, &mut hand, row),
-        _ => None,
-    };
-    assert_eq!(rt; decided, Some(ZeroStep::Dying));
+fn zero_then_dying(rt: HostRuntime) -> Result<(), Fail> {
+    for meanwhile in [false, true] {
+        let became = released(rt.alloc(), meanwhile)?;
+        let want = (LocalRelease::Zero, Some(ZeroStep::Dying));
+        assert_eq!(rt; became, want, "the root meanwhile: {meanwhile}");
+    }
     Ok(())
 }

@@ -1,16 +1,16 @@
 //! Hands that retain and release the root.
 
-ghost use Rattle.std.specs.Prelude.{◌≡◌, ◌<◌, ◌≤◌, [], ◌∷◌, true, IfOk, OnOk};
+ghost use Rattle.std.specs.Prelude.{◌≡◌, ◌<◌, ◌≤◌, [], ◌∷◌, IfOk, OnOk, OnSome};
 ghost use Rattle.brc_model.specs.declared.duty.Reason.TheVariants.{Own};
 ghost use Rattle.brc_model.specs.declared.duty.Duty.TheVariants.{SharedLoad};
 ghost use Rattle.brc_model.specs.Layout.{root_row};
 ghost use Rattle.brc_model.specs.Limits.{worker_limit, row_limit};
 ghost use Rattle.brc_table.specs.Opening.{plain_layout};
-ghost use Rattle.brc_table.specs.Views.{work_about, without_reference, main_view, worker_view};
+ghost use Rattle.brc_table.specs.Views.{work_about, without_reference, worker_view};
 ghost use Rattle.brc_table.specs.Hands.{IsOf, IsRunning, HoldsOne, KeepsLock, HasNoWork, CarriesNothing};
 ghost use Rattle.brc_table.specs.Calls.{CanAct};
-ghost use Rattle.brc_heap.specs.Calls.{Leaves, HasGiven, shared_left};
-ghost use Rattle.brc_heap_tests.specs.Ready.{IsReady};
+ghost use Rattle.brc_heap.specs.Calls.{Leaves, shared_left};
+ghost use Rattle.brc_heap_tests.specs.Ready.{IsReady, IsAlone};
 
 use brc_heap::{Hand, Heap, LocalRelease, SharedRelease};
 use std::alloc::Global;
@@ -26,26 +26,26 @@ pub const ROOT: u32 = 1;
 const TRIES: u32 = 100_000_000;
 
 /// Returns a heap, and main's hand.
+#[tactic(auto, using(crate::proofs::Readiness::main_alone))]
 pub fn opened(alloc: Global, workers: u8, rows: u16) -> Result<(Heap<u32>, Hand<u32>), Fail>
     requires workers { (0 < workers) × (workers ≤ worker_limit) }
     requires rows { (0 < rows) × (rows ≤ row_limit) }
     ensures layout { IfOk result (λ made. made.0.layout ≡ plain_layout workers rows) }
-    ensures view { IfOk result (λ made. made.1.view ≡ main_view (plain_layout workers rows)) }
-    ensures ready { IfOk result (λ made. IsReady made.0 made.1) }
+    ensures alone { IfOk result (λ made. IsAlone made.0 made.1) }
     ensures main { IfOk result (λ made. made.1.view.thread ≡ 0) }
 {
     Ok(Heap::new(alloc, workers, rows)?)
 }
 
-/// Gives out the worker's hand. Main's hand is ready for more.
+/// Gives out the worker's hand. Main's hand is as before.
+#[tactic(auto, using(crate::proofs::Readiness::alone_after_giving, crate::proofs::Readiness::worker_alone))]
 pub fn worker(heap: &Heap<u32>, main: &mut Hand<u32>, thread: u8) -> Result<Hand<u32>, Fail>
-    requires ready { IsReady heap.now main.old }
+    requires alone { IsAlone heap.now main.old }
     requires main { main.old.view.thread ≡ 0 }
     ensures view { IfOk result (λ hand. hand.view ≡ worker_view heap.now.layout thread) }
-    ensures worker { IfOk result (λ hand. IsReady heap.now hand) }
+    ensures worker { IfOk result (λ hand. IsAlone heap.now hand) }
     ensures none { IfOk result CarriesNothing }
-    ensures given { OnOk result (HasGiven thread main.old.view main.new.view) }
-    ensures ready { OnOk result (IsReady heap.now main.new) }
+    ensures alone { OnOk result (IsAlone heap.now main.new) }
     ensures main { OnOk result (main.new.view.thread ≡ 0) }
 {
     Ok(heap.hand_out(main, thread)?)
@@ -70,32 +70,35 @@ pub fn release_shared(heap: &Heap<u32>, hand: &mut Hand<u32>) -> SharedRelease
     ended
 }
 
-/// Releases the root. Returns whether references are left, and nothing is left to do.
+/// Releases the root. Returns how its local release ended, or `None` if no reference is left, or something is left to do.
 #[tactic(auto, using(crate::proofs::Readiness::both_leave, crate::proofs::Readiness::still_acts))]
-pub fn release(heap: &Heap<u32>, hand: &mut Hand<u32>) -> bool
+fn release(heap: &Heap<u32>, hand: &mut Hand<u32>) -> Option<LocalRelease>
     requires table { IsOf heap.now hand.old }
     requires running { IsRunning hand.old.view }
     requires held { HoldsOne hand.old.view root_row }
     requires keeps { KeepsLock hand.old.view root_row }
     requires idle { HasNoWork hand.old.view root_row }
     ensures table { IsOf heap.now hand.new }
-    ensures left { result ≡ true → Leaves root_row [] hand.old.view hand.new.view }
+    ensures left { OnSome result (Leaves root_row [] hand.old.view hand.new.view) }
     ensures references { hand.new.view.references
         ≡ without_reference hand.old.view.layout root_row hand.old.view.references }
 {
     match heap.release_local(hand, ROOT) {
-        LocalRelease::Kept => true,
-        LocalRelease::Share => matches!(release_shared(heap, hand), SharedRelease::Kept),
-        _ => false,
+        LocalRelease::Kept => Some(LocalRelease::Kept),
+        LocalRelease::Share => match release_shared(heap, hand) {
+            SharedRelease::Kept => Some(LocalRelease::Share),
+            _ => None,
+        },
+        _ => None,
     }
 }
 
-/// Retains the root and releases it again. Returns whether references are left, and nothing is left to do. The hand
-/// then holds what it held before.
-pub fn retain_and_release(heap: &Heap<u32>, hand: &mut Hand<u32>) -> bool
+/// Retains the root and releases it again. Returns how its local release ended, or `None` if no reference is left, or
+/// something is left to do. The hand then holds what it held before.
+pub fn retain_and_release(heap: &Heap<u32>, hand: &mut Hand<u32>) -> Option<LocalRelease>
     requires ready { IsReady heap.now hand.old }
-    ensures ready { result ≡ true → IsReady heap.now hand.new }
-    ensures left { result ≡ true → Leaves root_row [] hand.old.view hand.new.view }
+    ensures ready { OnSome result (IsReady heap.now hand.new) }
+    ensures left { OnSome result (Leaves root_row [] hand.old.view hand.new.view) }
     ensures references { hand.new.view.references ≡ hand.old.view.references }
 {
     heap.retain(hand, ROOT);

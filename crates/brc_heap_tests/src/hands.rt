@@ -1,13 +1,15 @@
+//! Hands that are given out once each.
+
 ghost use Rattle.std.specs.Prelude.{◌≡◌, true};
-ghost use Rattle.brc_heap_tests.specs.Ready.{IsReady};
+ghost use Rattle.brc_heap_tests.specs.Ready.{IsAlone};
 
 use crate::calls::{opened, retain_and_release, worker};
-use brc_heap::{Hand, Heap};
+use brc_heap::{Hand, Heap, LocalRelease};
 use std::test::*;
 
 /// Asks for the worker's hand. Returns whether it is refused; main's hand is then as before.
 fn refuses(heap: &Heap<u32>, main: &mut Hand<u32>, thread: u8) -> bool
-    requires ready { IsReady heap.now main.old }
+    requires alone { IsAlone heap.now main.old }
     requires main { main.old.view.thread ≡ 0 }
     ensures same { result ≡ true → main.new ≡ main.old }
 {
@@ -21,8 +23,21 @@ fn taken(rt: HostRuntime) -> Result<(), Fail> {
     assert!(rt; refuses(&heap, &mut main, 0));
     assert!(rt; refuses(&heap, &mut main, 1));
     assert!(rt; refuses(&heap, &mut main, 3));
-    assert!(rt; retain_and_release(&heap, &mut main));
-    assert!(rt; heap.hand_out(&mut main, 2).is_ok());
+    let _other = worker(&heap, &mut main, 2)?;
+    let kept = retain_and_release(&heap, &mut main);
+    assert_eq!(rt; kept, Some(LocalRelease::Kept));
+    Ok(())
+}
+
+#[test]
+fn running_threads_keep_the_heap(rt: HostRuntime) -> Result<(), Fail> {
+    let (heap, mut main) = opened(rt.alloc(), 2, 1)?;
+    let hand = worker(&heap, &mut main, 1)?;
+    drop(hand);
+    match heap.finish(main) {
+        Ok(_) => assert!(rt; false, "a heap ends while main runs"),
+        Err(back) => assert!(rt; back.main.has_given(1)),
+    }
     Ok(())
 }
 

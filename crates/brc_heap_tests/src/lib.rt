@@ -6,11 +6,7 @@ mod births;
 #[cfg(test)]
 mod calls;
 #[cfg(test)]
-mod claims;
-#[cfg(test)]
 mod files;
-#[cfg(test)]
-mod finish;
 #[cfg(test)]
 mod hands;
 #[cfg(test)]
@@ -18,12 +14,6 @@ mod kinds;
 #[cfg(test)]
 mod lists;
 #[cfg(test)]
-mod no_big_lock;
-#[cfg(test)]
 mod queue;
 #[cfg(test)]
-mod root;
-#[cfg(test)]
-mod single;
-#[cfg(test)]
-mod swaps;
+mod threads;

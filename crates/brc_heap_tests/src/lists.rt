@@ -1,22 +1,29 @@
 //! Locks, and the items of a locked list.
 
-ghost use Rattle.std.specs.Prelude.{◌≡◌, ◌<◌, ◌≤◌, true, None, Some, if◌then◌else◌};
+ghost use Rattle.std.specs.Prelude.{◌≡◌, ◌<◌, ◌≤◌, true, None, Some, if◌then◌else◌, length};
 ghost use Rattle.brc_model.specs.Layout.{root_row};
 ghost use Rattle.brc_table.specs.Seen.{KnowsCell};
+ghost use Rattle.brc_table.specs.Views.{next_row};
 ghost use Rattle.brc_heap_tests.specs.Ready.{IsResting};
 
-use crate::calls::{NONE, ROOT, opened, worker};
+use crate::calls::{ROOT, opened, worker};
 use brc_heap::{Hand, Heap};
+use brc_lang::Kind;
 use brc_list::Lists;
 use std::test::*;
 
 /// The cells of the root.
 const CELLS: u32 = 8;
 
+/// The value of the number.
+const VALUE: u32 = 7;
+
 /// Tries to lock the root. Returns whether the hand has locked it.
 pub fn locks(heap: &Heap<u32>, hand: &mut Hand<u32>) -> bool
     requires resting { IsResting heap.now hand.old None }
     ensures resting { IsResting heap.now hand.new (if result then Some root_row else None) }
+    ensures references { hand.new.view.references ≡ hand.old.view.references }
+    ensures next { next_row hand.new.view ≡ next_row hand.old.view }
 {
     Lists::new(heap).try_lock(hand, ROOT)
 }
@@ -25,6 +32,8 @@ pub fn locks(heap: &Heap<u32>, hand: &mut Hand<u32>) -> bool
 pub fn unlocks(heap: &Heap<u32>, hand: &mut Hand<u32>)
     requires resting { IsResting heap.now hand.old (Some root_row) }
     ensures resting { IsResting heap.now hand.new None }
+    ensures references { hand.new.view.references ≡ hand.old.view.references }
+    ensures next { next_row hand.new.view ≡ next_row hand.old.view }
 {
     Lists::new(heap).unlock(hand, ROOT);
 }
@@ -33,6 +42,8 @@ pub fn unlocks(heap: &Heap<u32>, hand: &mut Hand<u32>)
 fn items(heap: &Heap<u32>, hand: &mut Hand<u32>) -> Option<[Option<u32>; 2]>
     requires resting { IsResting heap.now hand.old (Some root_row) }
     ensures resting { IsResting heap.now hand.new (Some root_row) }
+    ensures references { hand.new.view.references ≡ hand.old.view.references }
+    ensures next { next_row hand.new.view ≡ next_row hand.old.view }
 {
     let lists = Lists::new(heap);
     if lists.size(hand, ROOT) < CELLS {
@@ -42,8 +53,49 @@ fn items(heap: &Heap<u32>, hand: &mut Hand<u32>) -> Option<[Option<u32>; 2]>
     Some([first, lists.item(hand, ROOT, CELLS - 1)])
 }
 
+/// Puts a new number into the root's last cell, and takes it out again. Returns what each of the two swaps found, and
+/// what the cell had after each.
+fn put_and_taken(heap: &Heap<u32>, hand: &mut Hand<u32>) -> Option<[Option<u32>; 4]>
+    requires resting { IsResting heap.now hand.old (Some root_row) }
+    requires few { length hand.old.view.references ≤ 1 }
+    requires next { next_row hand.old.view ≡ 2 }
+{
+    let lists = Lists::new(heap);
+    if !heap.room(hand) || lists.size(hand, ROOT) < CELLS {
+        return None;
+    }
+    let number = heap.birth(hand, Kind::Num, VALUE, None);
+    let before = lists.swap_item(hand, ROOT, CELLS - 1, Some(number));
+    let put = lists.item(hand, ROOT, CELLS - 1);
+    let taken = lists.swap_item(hand, ROOT, CELLS - 1, None);
+    Some([before, put, taken, lists.item(hand, ROOT, CELLS - 1)])
+}
+
+/// Puts a new number into the root's last cell, which has the only reference to it from then on, and borrows it from
+/// there. Returns its kind and its argument.
+#[tactic(auto, using(crate::proofs::Readiness::rests_still, crate::proofs::Readiness::borrows_again))]
+fn borrowed(heap: &Heap<u32>, hand: &mut Hand<u32>) -> Option<(Kind, u32)>
+    requires resting { IsResting heap.now hand.old (Some root_row) }
+    requires few { length hand.old.view.references ≤ 1 }
+    requires next { next_row hand.old.view ≡ 2 }
+{
+    let lists = Lists::new(heap);
+    if !heap.room(hand) || lists.size(hand, ROOT) < CELLS {
+        return None;
+    }
+    let number = heap.birth(hand, Kind::Num, VALUE, None);
+    lists.swap_item(hand, ROOT, CELLS - 1, Some(number));
+    match lists.item(hand, ROOT, CELLS - 1) {
+        Some(row) if row != ROOT => {
+            let kind = heap.kind_of(hand, row);
+            Some((kind, heap.arg_of(hand, row)))
+        }
+        _ => None,
+    }
+}
+
 #[test]
-fn one_hand_locks_at_a_time(rt: HostRuntime) -> Result<(), Fail> {
+fn a_locked_list_has_its_items(rt: HostRuntime) -> Result<(), Fail> {
     let (heap, mut main) = opened(rt.alloc(), 2, 1)?;
     let mut one = worker(&heap, &mut main, 1)?;
     let mut other = worker(&heap, &mut main, 2)?;
@@ -52,26 +104,25 @@ fn one_hand_locks_at_a_time(rt: HostRuntime) -> Result<(), Fail> {
     let meanwhile = locks(&heap, &mut other);
     assert!(rt; !meanwhile);
     unlocks(&heap, &mut one);
-    assert!(rt; locks(&heap, &mut other));
+    let second = locks(&heap, &mut other);
+    assert!(rt; second);
+    unlocks(&heap, &mut other);
+    let again = locks(&heap, &mut one);
+    assert!(rt; again);
+    assert_eq!(rt; items(&heap, &mut one), Some([None, None]));
+    assert_eq!(rt;
+        put_and_taken(&heap, &mut one),
+        Some([None, Some(2), Some(2), None])
+    );
     Ok(())
 }
 
 #[test]
-fn cells_of_the_root_are_empty(rt: HostRuntime) -> Result<(), Fail> {
+fn a_borrowed_number_has_its_value(rt: HostRuntime) -> Result<(), Fail> {
     let (heap, mut main) = opened(rt.alloc(), 1, 1)?;
     let mut hand = worker(&heap, &mut main, 1)?;
     let locked = locks(&heap, &mut hand);
     assert!(rt; locked);
-    assert_eq!(rt; items(&heap, &mut hand), Some([None, None]));
-    unlocks(&heap, &mut hand);
-    assert!(rt; locks(&heap, &mut hand));
-    Ok(())
-}
-
-#[test]
-fn none_has_no_cells(rt: HostRuntime) -> Result<(), Fail> {
-    let (heap, mut main) = opened(rt.alloc(), 1, 1)?;
-    let mut hand = worker(&heap, &mut main, 1)?;
-    assert_eq!(rt; Lists::new(&heap).size(&mut hand, NONE), 0);
+    assert_eq!(rt; borrowed(&heap, &mut hand), Some((Kind::Num, VALUE)));
     Ok(())
 }

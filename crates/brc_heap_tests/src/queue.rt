@@ -1,4 +1,4 @@
-//! Putting the root into main's queue, and looking after it.
+//! Putting the root into main's queue, and looking after it: the poster does, or main when it looks through its queue.
 
 ghost use Rattle.std.specs.Prelude.{◌≡◌, [], ◌∷◌, true};
 ghost use Rattle.brc_model.specs.declared.duty.Duty.TheVariants.{SetMark, Look};
@@ -6,16 +6,23 @@ ghost use Rattle.brc_model.specs.Layout.{root_row};
 ghost use Rattle.brc_table.specs.Views.{work_about};
 ghost use Rattle.brc_table.specs.Hands.{IsOf, CarriesNothing};
 ghost use Rattle.brc_table.specs.Calls.{CanAct};
-ghost use Rattle.brc_heap_tests.specs.Ready.{IsReady, IsAlone};
+ghost use Rattle.brc_heap_tests.specs.Ready.{IsAlone};
 
-use crate::calls::{ROOT, opened, release_shared, worker};
+use crate::calls::{ROOT, opened, retain_and_release, worker};
 use brc_heap::{Hand, Heap, LocalRelease, MergeStep, SharedRelease};
 use brc_queue::{Looked, Queue};
+use brc_word::{Phase, Shared, local_count, merged, pack, released};
 use std::test::*;
+
+/// The word of a running thread.
+const RUNNING: u64 = 1;
+
+/// The mark of an object that is in its owner's queue.
+const QUEUED: u64 = 1;
 
 /// Gives up the root as a worker. Returns whether the reference is to go into main's queue.
 fn hands_over(heap: &Heap<u32>, hand: &mut Hand<u32>) -> bool
-    requires ready { IsReady heap.now hand.old }
+    requires alone { IsAlone heap.now hand.old }
     ensures table { IsOf heap.now hand.new }
     ensures acts { result ≡ true → CanAct hand.new.view }
     ensures duty { result ≡ true → work_about root_row hand.new.view ≡ SetMark root_row ∷ [] }
@@ -30,15 +37,14 @@ fn hands_over(heap: &Heap<u32>, hand: &mut Hand<u32>) -> bool
     }
 }
 
-/// Posts the root as a worker. Returns what the hand found.
-pub fn posts(heap: &Heap<u32>, hand: &mut Hand<u32>) -> Option<Looked>
-    requires ready { IsReady heap.now hand.old }
+/// Sets the mark of the root, which a release has queued. Returns what main's thread word says.
+fn marked(heap: &Heap<u32>, hand: &mut Hand<u32>) -> u64
+    requires table { IsOf heap.now hand.old }
+    requires acts { CanAct hand.old.view }
+    requires duty { work_about root_row hand.old.view ≡ SetMark root_row ∷ [] }
 {
-    if hands_over(heap, hand) {
-        Some(Queue::new(heap).post(hand, ROOT))
-    } else {
-        None
-    }
+    heap.words().mark_store(hand, ROOT);
+    heap.words().thread_load(hand, ROOT)
 }
 
 /// Gives up main's reference to the root, and says that main leaves. Returns whether main has done so.
@@ -80,7 +86,7 @@ fn between_mark_and_look(
     hand: &mut Hand<u32>,
 ) -> Option<SharedRelease>
     requires alone { IsAlone heap.now main.old }
-    requires ready { IsReady heap.now hand.old }
+    requires worker { IsAlone heap.now hand.old }
     requires carries { CarriesNothing hand.old }
 {
     if !hands_over(heap, hand) {
@@ -94,11 +100,65 @@ fn between_mark_and_look(
     }
 }
 
+/// Takes the root out of main's queue, merges it, and gives the handed reference up. Returns the local count that was
+/// merged, and the shared words that the merge and the release found; or `None` if the root isn't in the queue, or another
+/// thread came between.
+fn merges_own(heap: &Heap<u32>, main: &mut Hand<u32>) -> Option<(u32, u64, u64)>
+    requires alone { IsAlone heap.now main.old }
+    requires main { main.old.view.thread ≡ 0 }
+{
+    let words = heap.words();
+    words.layout_is_plain();
+    if words.mark_claim(main, ROOT) != QUEUED {
+        return None;
+    }
+    let local = words.local_swap_next(main, ROOT);
+    if local == 0 {
+        return None;
+    }
+    let queued = words.shared_load_next(main, ROOT);
+    let next = merged(queued, local_count(local));
+    if words.shared_exchange(main, ROOT, queued, next) != queued {
+        return None;
+    }
+    let left = words.shared_load_next(main, ROOT);
+    if words.shared_exchange(main, ROOT, left, released(left)) != left {
+        return None;
+    }
+    Some((local_count(local), queued, left))
+}
+
 #[test]
-fn a_running_owner_is_left_to_merge(rt: HostRuntime) -> Result<(), Fail> {
+fn main_runs_when_the_root_is_queued(rt: HostRuntime) -> Result<(), Fail> {
+    let (heap, mut main) = opened(rt.alloc(), 2, 1)?;
+    let mut one = worker(&heap, &mut main, 1)?;
+    let mut other = worker(&heap, &mut main, 2)?;
+    let own = retain_and_release(&heap, &mut main);
+    let shared = retain_and_release(&heap, &mut one);
+    assert_eq!(rt; own, Some(LocalRelease::Kept));
+    assert_eq!(rt; shared, Some(LocalRelease::Share));
+    let over = hands_over(&heap, &mut other);
+    assert!(rt; over);
+    assert_eq!(rt; marked(&heap, &mut other), RUNNING);
+    Ok(())
+}
+
+#[test]
+fn the_owner_merges_what_is_in_its_queue(rt: HostRuntime) -> Result<(), Fail> {
     let (heap, mut main) = opened(rt.alloc(), 1, 1)?;
     let mut hand = worker(&heap, &mut main, 1)?;
-    assert_eq!(rt; posts(&heap, &mut hand), Some(Looked::Left));
+    let over = hands_over(&heap, &mut hand);
+    assert!(rt; over);
+    assert_eq!(rt; Queue::new(&heap).post(&mut hand, ROOT), Looked::Left);
+    let queued = pack(Shared {
+        count: 0,
+        phase: Phase::Queued,
+    });
+    let merged = pack(Shared {
+        count: 2,
+        phase: Phase::Merged,
+    });
+    assert_eq!(rt; merges_own(&heap, &mut main), Some((2, queued, merged)));
     Ok(())
 }
 

@@ -1,6 +1,6 @@
 use Rattle.std.proofs.Common.{◌∙◌}
 use Rattle.brc_model.specs.Layout.{root_row}
-use Rattle.brc_heap_tests.proofs.Readiness.{both_leave, still_runs, holds_root, holds_again, unlocked_keeps, ready_again}
+use Rattle.brc_heap_tests.proofs.Readiness.{on_some, both_leave, still_runs, holds_root, holds_again, unlocked_keeps, ready_again}
 use Rattle.brc_heap_tests.proofs.calls.retain_and_release.Goals as goal
 
 pub release-requires-clause-running : goal.release-requires-clause-running
@@ -22,8 +22,8 @@ returns c =
     let same = holds_again c.args.hand.now.view c.retain.new.hand.view c.release.new.hand.view
     c.retain.ensures.left.layout c.retain.ensures.references c.release.ensures.references in
     record {
-      ready = λ e. ready_again c.requires.ready c.release.ensures.table
-          (both_leave c.retain.ensures.left (c.release.ensures.left e)) same;
-      left = λ e. both_leave c.retain.ensures.left (c.release.ensures.left e);
+      ready = on_some c.release.result (λ left. ready_again c.requires.ready c.release.ensures.table
+          (both_leave c.retain.ensures.left left) same) c.release.ensures.left;
+      left = on_some c.release.result (both_leave c.retain.ensures.left) c.release.ensures.left;
       references = same;
     }

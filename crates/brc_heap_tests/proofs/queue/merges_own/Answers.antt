@@ -6,7 +6,7 @@ use Rattle.brc_model.specs.declared.duty.Duty.{Duty}
 use Rattle.brc_table.specs.Calls.{LoadsShared, ExchangesShared}
 use Rattle.brc_table.specs.Plays.{SuitsFirst}
 use Rattle.brc_heap_tests.proofs.Claiming.{never_gone, at_load, at_exchange, at_release, at_last}
-use Rattle.brc_heap_tests.proofs.claims.merges_own.Goals as goal
+use Rattle.brc_heap_tests.proofs.queue.merges_own.Goals as goal
 
 pub shared_load_next-queued-requires-clause-duty : goal.shared_load_next-queued-requires-clause-duty
 shared_load_next-queued-requires-clause-duty c =

@@ -2,7 +2,7 @@ use Rattle.std.proofs.Common.{◌≤◌, ◌<◌, ℕ, List, length, inr, sym, �
 use Rattle.std.specs.Prelude.{◌==◌, count_by}
 use Rattle.brc_table.specs.Hands.{most_references}
 use Rattle.brc_heap_tests.proofs.Readiness.{still_runs, unlocked_keeps, holds_row, row_again}
-use Rattle.brc_heap_tests.proofs.no_big_lock.pair.Goals as goal
+use Rattle.brc_heap_tests.proofs.threads.pair.Goals as goal
 
 pub release_local-requires-clause-running : goal.release_local-requires-clause-running
 release_local-requires-clause-running c = still_runs c.requires.ready.running c.retain.ensures.left

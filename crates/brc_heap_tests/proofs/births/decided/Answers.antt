@@ -1,9 +1,9 @@
 use Rattle.std.proofs.Common.{[], ◌∷◌}
 use Rattle.brc_model.specs.declared.duty.Duty.TheVariants.{DecideAtZero}
 use Rattle.brc_heap_tests.proofs.Readiness.{other_work}
-use Rattle.brc_heap_tests.proofs.births.decided_after_root.Goals as goal
+use Rattle.brc_heap_tests.proofs.births.decided.Goals as goal
 
-pub zero_step-requires-clause-duty : goal.zero_step-requires-clause-duty
-zero_step-requires-clause-duty c =
+pub zero_step-requires-in-Some-clause-duty : goal.zero_step-requires-in-Some-clause-duty
+zero_step-requires-in-Some-clause-duty c =
     other_work c.args.hand.now.view c.retain_and_release.new.hand.view c.args.row (DecideAtZero c.args.row ∷ [])
-    c.requires.work (c.retain_and_release.ensures.left c.if-retain_and_release.true) c.requires.apart
+    c.requires.work c.in-Some.ensures.left c.requires.apart

@@ -1,6 +1,6 @@
 use Rattle.brc_model.specs.Layout.{root_row}
 use Rattle.brc_heap_tests.proofs.Marking.{sets, looks, still_marks}
-use Rattle.brc_heap_tests.proofs.single.marked.Goals as goal
+use Rattle.brc_heap_tests.proofs.queue.marked.Goals as goal
 
 pub mark_store-requires-clause-duty : goal.mark_store-requires-clause-duty
 mark_store-requires-clause-duty c = sets c.args.hand.now.view root_row c.requires.duty

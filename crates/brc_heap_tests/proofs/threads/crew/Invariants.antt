@@ -1,0 +1,6 @@
+use Rattle.std.specs.Prelude.{◌≡◌}
+use Rattle.brc_heap_tests.specs.Ready.{IsAlone}
+use Rattle.brc_heap_tests.proofs.threads.crew.Given as goal
+
+abbrev pub invariant-loop-thread : goal.invariant-loop-thread
+invariant-loop-thread l = IsAlone l.heap l.main × (l.main.view.thread ≡ 0)
