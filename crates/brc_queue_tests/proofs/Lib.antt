@@ -1,3 +1,6 @@
 pub mod Steps
 mod Opening
 pub mod Rows
+mod Resting
+pub mod References
+pub mod Between

@@ -4,7 +4,7 @@ use Rattle.brc_table.specs.declared.view.View.{View}
 use Rattle.brc_table.specs.Hands.{TableState, HandState, IsOf, CarriesNothing}
 use Rattle.brc_table.specs.Views.{main_view, worker_view}
 use Rattle.brc_heap.specs.Calls.{HasGiven}
-use Rattle.brc_queue_tests.specs.Ready.{HoldsRoot, small_layout, shared_row}
+use Rattle.brc_queue_tests.specs.Sharing.{HoldsRoot, small_layout, shared_row}
 use Rattle.brc_queue_tests.proofs.Steps.{open_is, none_still}
 
 -- Main's hand has nothing to do, and holds the root.

@@ -14,7 +14,7 @@ use Rattle.brc_model.specs.OpenWork.{is_about}
 use Rattle.brc_table.specs.Hands.{TableState, HandState, IsOf, carried_of}
 use Rattle.brc_table.specs.Views.{open_work}
 use Rattle.brc_heap.specs.Calls.{Leaves, Merges, merge_left}
-use Rattle.brc_queue_tests.specs.Ready.{HasWork, shared_row}
+use Rattle.brc_queue_tests.specs.Sharing.{HasWork, shared_row}
 
 -- All that the hand has to do.
 pub open_is : {heap : TableState} {hand : HandState} {rows : List ℕ} {work : List Duty} → HasWork heap hand rows work

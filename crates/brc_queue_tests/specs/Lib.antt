@@ -1,1 +1,3 @@
-pub mod Ready
+pub mod Sharing
+pub mod Resting
+pub mod Embedded

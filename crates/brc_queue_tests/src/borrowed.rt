@@ -2,9 +2,9 @@
 
 ghost use Rattle.std.specs.Prelude.{◌≡◌, true};
 ghost use Rattle.brc_table.specs.Hands.{IsOf};
-ghost use Rattle.brc_queue_tests.specs.Ready.{HoldsRoot, HoldsBoth};
+ghost use Rattle.brc_queue_tests.specs.Sharing.{HoldsRoot, HoldsBoth};
 
-use crate::calls::{CELLS, ROW, all_closed, bears, leaves, opened, puts, settles, takes};
+use crate::sharing::{CELLS, ROW, all_closed, bears, leaves, opened, puts, settles, takes};
 use brc_heap::{Hand, Heap, LocalRelease, ROOT, SharedRelease, ZeroStep};
 use brc_host::{FakeHost, FakeResource};
 use brc_lang::Kind;
@@ -72,7 +72,10 @@ fn borrowed_and_retained<R: Wait>(
     ensures thread { main.new.view.thread ≡ main.old.view.thread }
 {
     let mut host = FakeHost::new(&[]);
-    if !(bears(heap, one, Kind::Num, None) && puts(heap, one) && retains_item(heap, two)) {
+    if !(bears(heap, one, ROW, Kind::Num, None)
+        && puts(heap, one, false)
+        && retains_item(heap, two))
+    {
         return false;
     }
     if !(takes(heap, one) && gives_up_shared(heap, two) && gives_up_last(heap, one)) {

@@ -6,27 +6,30 @@ ghost use Rattle.brc_model.specs.Duties.{resources_of};
 ghost use Rattle.brc_heap.specs.Calls.{IsBornWith, kind_word};
 ghost use Rattle.brc_table.specs.Hands.{IsOf};
 ghost use Rattle.brc_table.specs.Homes.{resources};
-ghost use Rattle.brc_queue_tests.specs.Ready.{HoldsRoot, HasLeft, shared_row};
+ghost use Rattle.brc_queue_tests.specs.Sharing.{HoldsRoot, HasLeft, shared_row};
 
-use crate::calls::{
-    all_closed, bears, hands_over, leaves, looks, looks_through, marks, merges_and_settles, opened,
-    puts, takes,
+use crate::sharing::{
+    ROW, bears, hands_over, leaves, looks, looks_through, marks, merges_and_settles, puts, takes,
 };
 use brc_heap::{Hand, Heap, MergeStep, SharedRelease};
 use brc_host::{FakeHost, FakeResource, Host};
 use brc_lang::{Kind, Mode};
 use brc_queue::Looked;
 use std::sync::Wait;
-use std::test::*;
 
-/// The first worker's object goes through the root's cell to the second worker, which gives it up. Returns whether the
-/// second worker is to set its mark.
+/// How a post went: what the poster found when it looked, how its merge and its release ended, if it had to merge, and how
+/// many files the owner has closed by then.
+pub type Posted = (Looked, Option<(MergeStep, SharedRelease)>, u64);
+
+/// The first worker's object goes through the root's first cell to the second worker, which gives it up. The object may
+/// stay in another cell too. Returns whether the second worker is to set its mark.
 fn goes_over(
     heap: &Heap<FakeResource>,
     one: &mut Hand<FakeResource>,
     two: &mut Hand<FakeResource>,
     kind: Kind,
     resource: Option<FakeResource>,
+    stays: bool,
 ) -> bool
     requires one { HoldsRoot heap.now one.old }
     requires two { HoldsRoot heap.now two.old }
@@ -35,18 +38,21 @@ fn goes_over(
     ensures one { result ≡ true → HoldsRoot heap.now one.new }
     ensures two { result ≡ true → HasLeft heap.now two.new (SetMark shared_row ∷ []) }
 {
-    bears(heap, one, kind, resource) && puts(heap, one) && takes(heap, two) && hands_over(heap, two)
+    bears(heap, one, ROW, kind, resource)
+        && puts(heap, one, stays)
+        && takes(heap, two)
+        && hands_over(heap, two)
 }
 
 /// The second worker sets the mark of the first worker's number. The first worker leaves, and then the second one looks.
-/// Returns what it found, once all have left.
-fn merged_by_exit<R: Wait>(
+/// Returns how that went, once all have left.
+pub fn merged_by_exit<R: Wait>(
     rt: &R,
     heap: &Heap<FakeResource>,
     main: &mut Hand<FakeResource>,
     one: &mut Hand<FakeResource>,
     two: &mut Hand<FakeResource>,
-) -> Option<Looked>
+) -> Option<Posted>
     requires main { HoldsRoot heap.now main.old }
     requires one { HoldsRoot heap.now one.old }
     requires two { HoldsRoot heap.now two.old }
@@ -54,7 +60,7 @@ fn merged_by_exit<R: Wait>(
     ensures thread { main.new.view.thread ≡ main.old.view.thread }
 {
     let mut host = FakeHost::new(&[]);
-    if !goes_over(heap, one, two, Kind::Num, None) {
+    if !goes_over(heap, one, two, Kind::Num, None, false) {
         return None;
     }
     marks(heap, two);
@@ -63,21 +69,22 @@ fn merged_by_exit<R: Wait>(
     }
     match looks(heap, two) {
         Looked::Left if leaves(rt, heap, two, &mut host) && leaves(rt, heap, main, &mut host) => {
-            Some(Looked::Left)
+            Some((Looked::Left, None, 0))
         }
         _ => None,
     }
 }
 
-/// The first worker leaves before the second worker sets the mark of its number. Returns how the second worker's merge
-/// and its release ended, once all have left.
-fn merged_by_poster<R: Wait>(
+/// The first worker leaves before the second worker sets the mark of its number, which may stay in a cell. Returns how that
+/// went, once all have left.
+pub fn merged_by_poster<R: Wait>(
     rt: &R,
     heap: &Heap<FakeResource>,
     main: &mut Hand<FakeResource>,
     one: &mut Hand<FakeResource>,
     two: &mut Hand<FakeResource>,
-) -> Option<(MergeStep, SharedRelease)>
+    stays: bool,
+) -> Option<Posted>
     requires main { HoldsRoot heap.now main.old }
     requires one { HoldsRoot heap.now one.old }
     requires two { HoldsRoot heap.now two.old }
@@ -85,7 +92,7 @@ fn merged_by_poster<R: Wait>(
     ensures thread { main.new.view.thread ≡ main.old.view.thread }
 {
     let mut host = FakeHost::new(&[]);
-    if !goes_over(heap, one, two, Kind::Num, None) || !leaves(rt, heap, one, &mut host) {
+    if !goes_over(heap, one, two, Kind::Num, None, stays) || !leaves(rt, heap, one, &mut host) {
         return None;
     }
     marks(heap, two);
@@ -94,7 +101,7 @@ fn merged_by_poster<R: Wait>(
         Looked::Claimed => {
             let ended = merges_and_settles(rt, heap, two, &mut host)?;
             if leaves(rt, heap, two, &mut host) && leaves(rt, heap, main, &mut host) {
-                Some(ended)
+                Some((Looked::Claimed, Some(ended), 0))
             } else {
                 None
             }
@@ -103,15 +110,14 @@ fn merged_by_poster<R: Wait>(
 }
 
 /// The second worker sets the mark of the first worker's file and looks, and then the first worker looks through its
-/// queue. Returns what the second worker found, and how many files the first worker's host has closed by then, once all
-/// have left.
-fn closed_while_running<R: Wait>(
+/// queue. Returns how that went, once all have left.
+pub fn closed_while_running<R: Wait>(
     rt: &R,
     heap: &Heap<FakeResource>,
     main: &mut Hand<FakeResource>,
     one: &mut Hand<FakeResource>,
     two: &mut Hand<FakeResource>,
-) -> Option<(Looked, u64)>
+) -> Option<Posted>
     requires main { HoldsRoot heap.now main.old }
     requires one { HoldsRoot heap.now one.old }
     requires two { HoldsRoot heap.now two.old }
@@ -123,7 +129,7 @@ fn closed_while_running<R: Wait>(
     let Ok(file) = host.open(0, Mode::READ) else {
         return None;
     };
-    if !goes_over(heap, one, two, Kind::File, Some(file)) {
+    if !goes_over(heap, one, two, Kind::File, Some(file), false) {
         return None;
     }
     marks(heap, two);
@@ -137,41 +143,11 @@ fn closed_while_running<R: Wait>(
                 && leaves(rt, heap, two, &mut other)
                 && leaves(rt, heap, main, &mut other)
             {
-                Some((Looked::Left, closed))
+                Some((Looked::Left, None, closed))
             } else {
                 None
             }
         }
         Looked::Claimed => None,
     }
-}
-
-#[test]
-fn an_exit_merges_what_was_marked(rt: HostRuntime) -> Result<(), Fail> {
-    let (heap, mut main, mut one, mut two) = opened(rt.alloc())?;
-    let looked = merged_by_exit(&rt, &heap, &mut main, &mut one, &mut two);
-    let closed = all_closed(heap, main);
-    assert_eq!(rt; looked, Some(Looked::Left));
-    assert_eq!(rt; closed, Some(true));
-    Ok(())
-}
-
-#[test]
-fn the_poster_merges_for_an_owner_that_is_gone(rt: HostRuntime) -> Result<(), Fail> {
-    let (heap, mut main, mut one, mut two) = opened(rt.alloc())?;
-    let ended = merged_by_poster(&rt, &heap, &mut main, &mut one, &mut two);
-    let closed = all_closed(heap, main);
-    assert_eq!(rt; ended, Some((MergeStep::Kept, SharedRelease::Dying)));
-    assert_eq!(rt; closed, Some(true));
-    Ok(())
-}
-
-#[test]
-fn a_running_owner_closes_what_is_in_its_queue(rt: HostRuntime) -> Result<(), Fail> {
-    let (heap, mut main, mut one, mut two) = opened(rt.alloc())?;
-    let found = closed_while_running(&rt, &heap, &mut main, &mut one, &mut two);
-    let closed = all_closed(heap, main);
-    assert_eq!(rt; found, Some((Looked::Left, 1)));
-    assert_eq!(rt; closed, Some(true));
-    Ok(())
 }

@@ -1,13 +1,30 @@
-//! Tests of the queues of objects that other threads have handed to their owners.
+//! Tests of queues, of deallocation and of heaps that end; and an example, a runtime of its own threads and its own host,
+//! as `docs/EMBED.md` explains it.
 #![tactic(auto)]
 
 #[cfg(test)]
+mod at_rest;
+#[cfg(test)]
 mod borrowed;
 #[cfg(test)]
-mod calls;
+mod chain;
+#[cfg(test)]
+mod dying;
+#[cfg(test)]
+mod embedded;
+#[cfg(test)]
+mod ends;
+#[cfg(test)]
+mod files;
 #[cfg(test)]
 mod held_post;
 #[cfg(test)]
-mod kept;
+mod in_itself;
 #[cfg(test)]
 mod meeting;
+#[cfg(test)]
+mod no_files;
+#[cfg(test)]
+mod posts;
+#[cfg(test)]
+mod sharing;

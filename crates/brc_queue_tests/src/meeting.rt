@@ -2,9 +2,9 @@
 
 ghost use Rattle.std.specs.Prelude.{◌≡◌, ◌≢◌, ◌<◌, [], ◌∷◌, true};
 ghost use Rattle.brc_model.specs.Layout.{IsCounted, root_row};
-ghost use Rattle.brc_queue_tests.specs.Ready.{HasWork, HoldsRoot, small_layout, holds-prop};
+ghost use Rattle.brc_queue_tests.specs.Sharing.{HasWork, HoldsRoot, small_layout, holds-prop};
 
-use crate::calls::{ROW, all_closed, leaves, opened, settles, tries_put, tries_take};
+use crate::sharing::{ROW, all_closed, bears, leaves, opened, settles, tries_put, tries_take};
 use brc_free::Finaliser;
 use brc_heap::{Hand, Heap};
 use brc_host::{FakeHost, FakeResource};
@@ -28,14 +28,6 @@ struct Worker<'a> {
     heap: &'a Heap<FakeResource>,
     hand: Hand<FakeResource>,
     ghost holds: { HoldsRoot heap.now hand } by { holds-prop heap.now hand },
-}
-
-/// Gives birth to the number of the row. Returns whether it is there.
-fn bears_at(heap: &Heap<FakeResource>, hand: &mut Hand<FakeResource>, row: u32) -> bool
-    requires holds { HoldsRoot heap.now hand.old }
-    ensures holds { result ≡ true → HasWork heap.now hand.new (row ∷ root_row ∷ []) [] }
-{
-    heap.room(hand) && heap.birth(hand, Kind::Num, 0, None) == row
 }
 
 /// Puts the number of the row into a cell of the root. Returns whether it is there.
@@ -90,7 +82,7 @@ fn exchanges<R: Wait>(rt: &R, worker: Worker<'_>, own: (u32, u32), other: (u32, 
     requires other_cell { other.0 < 8 }
 {
     let Worker { heap, mut hand } = worker;
-    if !bears_at(heap, &mut hand, own.1) || !puts_at(heap, &mut hand, own.0, own.1) {
+    if !bears(heap, &mut hand, own.1, Kind::Num, None) || !puts_at(heap, &mut hand, own.0, own.1) {
         return false;
     }
     if !takes_at(heap, &mut hand, other.0, other.1) {

@@ -1,6 +1,6 @@
 use Rattle.std.specs.Prelude.{[], ◌∷◌}
 use Rattle.brc_model.specs.Layout.{root_row}
-use Rattle.brc_queue_tests.specs.Ready.{HasWork}
+use Rattle.brc_queue_tests.specs.Sharing.{HasWork}
 use Rattle.brc_queue_tests.proofs.meeting.puts_at.Given as goal
 
 abbrev pub invariant-loop : goal.invariant-loop

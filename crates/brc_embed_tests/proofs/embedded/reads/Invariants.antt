@@ -1,6 +1,0 @@
-use Rattle.std.specs.Prelude.{None}
-use Rattle.brc_embed_tests.specs.Ready.{Holds}
-use Rattle.brc_embed_tests.proofs.embedded.reads.Given as goal
-
-abbrev pub invariant-loop : goal.invariant-loop
-invariant-loop g l = Holds l.heap l.hand None

@@ -1,0 +1,193 @@
+-- Hands without work stay so.
+use Rattle.std.proofs.Common.{◌≡◌, ◌≤◌, ◌+◌, ℕ, Bool, true, false, List, [], ◌∷◌, ◌++◌, None, Some, inl, inr, refl, sym, ap, ◌∙◌, subst, arith}
+use Rattle.std.specs.Prelude.{not, cond, count_by, ◌==◌, ◌&&◌, ◌||◌, nat_le, nat_lt, if◌then◌else◌}
+use Rattle.std.specs.List.{filter}
+use Rattle.std.proofs.lemmas.Bool.{cases_Bool, eq-eqb, leb-true, ltb-true}
+use Rattle.std.proofs.lemmas.List.Sums.{sum_by-cons}
+use Rattle.brc_model.specs.declared.duty.Duty.{Duty}
+use Rattle.brc_model.specs.declared.layout.Layout.{Layout}
+use Rattle.brc_model.specs.Layout.{first_immortal_list, IsCounted}
+use Rattle.brc_model.specs.Counting.{IsPlainLayout}
+use Rattle.brc_model.specs.OpenWork.{is_about}
+use Rattle.brc_table.specs.declared.view.View.{View}
+use Rattle.brc_table.specs.Views.{holds, without_one, with_reference, without_reference}
+use Rattle.brc_table.specs.Hands.{TableState, HandState, IsOf, KeepsLock, MayWait}
+use Rattle.brc_table.specs.Calls.{IsFree}
+use Rattle.brc_heap.specs.Calls.{HasGiven, HasBorn, Leaves}
+use Rattle.brc_free.specs.Works.{HasReleased, HasWorked, ComesToSettle, AtOnce}
+use Rattle.brc_queue_tests.specs.Resting.{IsAtRest}
+
+no_first : (ds es : List Duty) → ds ++ es ≡ [] → ds ≡ []
+no_first [] es e = refl
+no_first (d ∷ ds) es e = absurd cc
+
+no_second : (ds es : List Duty) → ds ++ es ≡ [] → es ≡ []
+no_second [] es e = e
+no_second (d ∷ ds) es e = absurd cc
+
+-- A hand without work has nothing to do next, and nothing aside.
+pub free_at_rest : {heap : TableState} {hand : HandState} → IsAtRest heap hand None → IsFree hand.view
+free_at_rest {heap} {hand} rest = record {
+  running = rest.running.0;
+  agenda = no_first hand.view.agenda hand.view.aside rest.rests;
+  aside = no_second hand.view.agenda hand.view.aside rest.rests;
+}
+
+-- Main still has no work after it has given out a worker's hand,
+pub rests_after_giving : {heap : TableState} {before after : HandState} {thread : ℕ} → IsAtRest heap before None
+    → IsOf heap after → HasGiven thread before.view after.view → IsAtRest heap after None
+rests_after_giving {heap} {before} {after} rest table gives = record {
+  table = table;
+  running = (gives.status ∙ rest.running.0, subst MayWait (sym gives.agenda) tt);
+  rests = ap (λ (ds : List Duty). ds ++ after.view.aside) gives.agenda ∙ (gives.aside ∙ rest.rests);
+  locked_is = gives.sight.locked ∙ rest.locked_is;
+  lent = gives.sight.lent ∙ rest.lent;
+  returned = tt;
+}
+
+-- a hand after it has given birth,
+pub rests_after_birth : {heap : TableState} {before after : HandState} → IsAtRest heap before None → IsOf heap after
+    → HasBorn before.view after.view → IsAtRest heap after None
+rests_after_birth rest table born = record {
+  table = table;
+  running = (born.status ∙ rest.running.0, born.waits);
+  rests = born.work ∙ rest.rests;
+  locked_is = born.sight.locked ∙ rest.locked_is;
+  lent = born.sight.lent ∙ rest.lent;
+  returned = tt;
+}
+
+-- after it has retained an object,
+pub rests_after_call : {heap : TableState} {before after : HandState} {x : ℕ} → IsAtRest heap before None
+    → IsOf heap after → Leaves x [] before.view after.view → IsAtRest heap after None
+rests_after_call {heap} {before} {after} {x} rest table leaves = record {
+  table = table;
+  running = (leaves.status ∙ rest.running.0, leaves.waits);
+  rests =
+      ap (λ (ds : List Duty). ds ++ after.view.aside) leaves.agenda
+      ∙ (leaves.aside ∙ ap (filter (λ (d : Duty). not (is_about x d))) rest.rests);
+  locked_is = leaves.sight.locked ∙ rest.locked_is;
+  lent = leaves.sight.lent ∙ rest.lent;
+  returned = tt;
+}
+
+-- after it has given up a reference,
+pub rests_after_release : {heap : TableState} {before after : HandState} {x : ℕ} → IsAtRest heap before None
+    → IsOf heap after → HasReleased x before.view after.view → IsAtRest heap after None
+rests_after_release {heap} {before} {after} {x} rest table released = record {
+  table = table;
+  running = (released.status ∙ rest.running.0, subst MayWait (sym released.agenda) tt);
+  rests =
+      ap (λ (ds : List Duty). ds ++ after.view.aside) released.agenda
+      ∙ (released.aside ∙ ap (filter (λ (d : Duty). not (is_about x d))) rest.rests);
+  locked_is = released.locked ∙ rest.locked_is;
+  lent = released.lent ∙ rest.lent;
+  returned = tt;
+}
+
+-- A hand without work may settle,
+pub settles_at_rest : {heap : TableState} {hand : HandState} → IsAtRest heap hand None → ComesToSettle hand.view []
+settles_at_rest rest = let free = free_at_rest rest in AtOnce free.running free.aside free.agenda
+
+-- and has no work then.
+pub rests_after_settling : {heap : TableState} {before after : HandState} {closes : ℕ} → IsAtRest heap before None
+    → IsOf heap after → after.view.head ≡ 0 → HasWorked before.view closes [] after.view → IsAtRest heap after None
+rests_after_settling {heap} {before} {after} rest table empty stands =
+    let none : after.view.agenda ≡ [] = stands.agenda in
+    record {
+      table = table;
+      running = (stands.keeps.status ∙ rest.running.0, subst MayWait (sym none) tt);
+      rests =
+          ap (λ (ds : List Duty). ds ++ after.view.aside) none
+          ∙ (stands.keeps.aside ∙ (free_at_rest rest).aside);
+      locked_is = stands.keeps.locked ∙ rest.locked_is;
+      lent = stands.keeps.lent ∙ rest.lent;
+      returned = tt;
+    }
+
+-- ---- references
+
+-- A hand holds the object of its latest reference,
+pub holds_first : (v : View) (x : ℕ) (rows : List ℕ) → v.references ≡ x ∷ rows → 1 ≤ holds v x
+holds_first v x rows is =
+    omega (
+      arith,
+      ap (count_by (λ y. y == x)) is,
+      sum_by-cons (λ (y : ℕ). cond (y == x) 1 0) x rows,
+      ap {B = ℕ} (λ (b : Bool). cond b 1 0) (eq-eqb x x refl),
+    )
+
+-- and twice if that of the one before is the same object.
+pub holds_both : (v : View) (x : ℕ) (rows : List ℕ) → v.references ≡ x ∷ x ∷ rows → 2 ≤ holds v x
+holds_both v x rows is =
+    omega (
+      arith,
+      ap (count_by (λ y. y == x)) is,
+      sum_by-cons (λ (y : ℕ). cond (y == x) 1 0) x (x ∷ rows),
+      sum_by-cons (λ (y : ℕ). cond (y == x) 1 0) x rows,
+      ap {B = ℕ} (λ (b : Bool). cond b 1 0) (eq-eqb x x refl),
+    )
+
+-- Without the latest reference the others are left.
+pub without_first : (x : ℕ) (rows : List ℕ) → without_one x (x ∷ rows) ≡ rows
+without_first x rows = ap (λ (b : Bool). if b then rows else x ∷ without_one x rows) (eq-eqb x x refl)
+
+-- The same of the reference before the latest one.
+pub holds_second : (v : View) (x y : ℕ) (rows : List ℕ) → v.references ≡ y ∷ x ∷ rows → 1 ≤ holds v x
+holds_second v x y rows is =
+    omega (
+      arith,
+      ap (count_by (λ z. z == x)) is,
+      sum_by-cons (λ (z : ℕ). cond (z == x) 1 0) y (x ∷ rows),
+      sum_by-cons (λ (z : ℕ). cond (z == x) 1 0) x rows,
+      ap {B = ℕ} (λ (b : Bool). cond b 1 0) (eq-eqb x x refl),
+    )
+
+pub without_second : (x y : ℕ) (rows : List ℕ) → (y == x) ≡ false → without_one x (y ∷ x ∷ rows) ≡ y ∷ rows
+without_second x y rows apart =
+    ap (λ (b : Bool). if b then x ∷ rows else y ∷ without_one x (x ∷ rows)) apart
+    ∙ ap (λ (ys : List ℕ). y ∷ ys) (without_first x rows)
+
+-- A hand that has locked another object may give up any reference to this one.
+pub keeps_other : (v : View) (x y : ℕ) → v.locked ≡ Some y → (y == x) ≡ false → KeepsLock v x
+keeps_other v x y locked apart = λ this.
+    let same : Some y ≡ Some x = sym locked ∙ this in
+    absurd (let wrong : true ≡ false = sym (eq-eqb y x cc) ∙ apart in cc)
+
+-- A counted object's references are listed.
+pub lists_one_more : {layout other : Layout} (x : ℕ) (rows : List ℕ) → IsCounted layout x → other ≡ layout
+    → with_reference other x rows ≡ x ∷ rows
+lists_one_more {layout} {other} x rows counted same =
+    ap (λ (l : Layout). with_reference l x rows) same ∙ ap (λ (b : Bool). if b then rows else x ∷ rows) counted
+
+pub lists_one_less : {layout other : Layout} (x : ℕ) (rows : List ℕ) → IsCounted layout x → other ≡ layout
+    → without_reference other x rows ≡ without_one x rows
+lists_one_less {layout} {other} x rows counted same =
+    ap (λ (l : Layout). without_reference l x rows) same
+    ∙ ap (λ (b : Bool). if b then rows else without_one x rows) counted
+
+-- ---- rows
+
+and_first : (a b : Bool) → (a && b) ≡ true → a ≡ true
+and_first true b e = refl
+and_first false b e = absurd cc
+
+and_second : (a b : Bool) → (a && b) ≡ true → b ≡ true
+and_second true b e = e
+and_second false b e = absurd cc
+
+no_range : (first x n : ℕ) → n ≡ 0 → (nat_le first x && nat_lt x (first + n)) ≡ false
+no_range first x n none = elim (cases_Bool (nat_le first x && nat_lt x (first + n))) [
+  | inl within ↦
+      let low = leb-true first x (and_first (nat_le first x) (nat_lt x (first + n)) within) in
+      let high = ltb-true x (first + n) (and_second (nat_le first x) (nat_lt x (first + n)) within) in
+      absurd (omega (arith, low, high, none))
+  | inr apart ↦ apart
+]
+
+-- A plain layout has no immortal object but none.
+pub some_counted : {layout : Layout} (x : ℕ) → IsPlainLayout layout → (x == 0) ≡ false → IsCounted layout x
+some_counted {layout} x plain some =
+    ap (λ (b : Bool).
+    b || (nat_le (first_immortal_list layout) x && nat_lt x (first_immortal_list layout + layout.immortal_lists))) some
+    ∙ no_range (first_immortal_list layout) x layout.immortal_lists plain.immortals

@@ -1,0 +1,6 @@
+use Rattle.std.specs.Prelude.{None}
+use Rattle.brc_queue_tests.specs.Embedded.{Holds}
+use Rattle.brc_queue_tests.proofs.embedded.reads.Given as goal
+
+abbrev pub invariant-loop : goal.invariant-loop
+invariant-loop g l = Holds l.heap l.hand None
