@@ -1,4 +1,4 @@
-//! A soak of workers in plain Rust: the program that `crates/brc_soak` is compared with.
+//! A soak of workers in plain Rust: the program that `brc_bench soak` is compared with.
 //!
 //! References are `Arc`s, and a list has its cells behind a `Mutex`. The functions do what those of the proved program's
 //! modules do, but they are compiled, where the proved program's workers read their instructions one by one.

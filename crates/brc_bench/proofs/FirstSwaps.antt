@@ -1,20 +1,23 @@
--- A worker that has just got its hand is ready for locked swaps.
-use Rattle.std.proofs.Common.{◌≡◌, ◌<◌, ◌≤◌, ℕ, zero, suc, Bool, Some, List, [], ◌∷◌, length, refl, sym, ap, ◌∙◌, subst, inr, arith}
+-- What a hand may do that has just got its object.
+use Rattle.std.proofs.Common.{◌≡◌, ◌<◌, ◌≤◌, ◌+◌, ℕ, Bool, Option, None, Some, List, [], ◌∷◌, length, refl, sym, ap, ◌∙◌, subst, inr, arith}
 use Rattle.std.specs.Prelude.{count_by, cond, ◌==◌, if◌then◌else◌}
-use Rattle.std.specs.List.{filter}
 use Rattle.std.proofs.lemmas.List.Sums.{sum_by-cons}
+use Rattle.std.specs.List.{filter}
 use Rattle.brc_model.specs.declared.layout.Layout.{Layout}
-use Rattle.brc_model.specs.Layout.{root_row, row_at, IsCounted}
+use Rattle.brc_model.specs.Counting.{IsPlainLayout}
+use Rattle.brc_model.specs.Layout.{root_row, IsCounted}
 use Rattle.brc_model.specs.OpenWork.{is_about}
 use Rattle.brc_table.specs.declared.view.View.{View}
 use Rattle.brc_table.specs.Views.{holds, behind_first, open_work, next_row, worker_view}
 use Rattle.brc_table.specs.Seen.{KnowsCell}
+use Rattle.brc_table.specs.Swaps.{with_item}
 use Rattle.brc_table.specs.Hands.{TableState, HandState, IsOf, IsRunning, HoldsOne, HasNoWork}
 use Rattle.brc_heap.specs.Calls.{HasBorn}
-use Rattle.brc_list.specs.Calls.{Keeps}
-use Rattle.brc_bench.specs.Swaps.{IsAtRest, HoldsListAndItem, IsReadyToSwap}
-use Rattle.brc_bench.proofs.Readiness.{counted_row}
-use Rattle.brc_bench.proofs.LockedSwaps.{count_here}
+use Rattle.brc_list.specs.Calls.{Keeps, word_of}
+use Rattle.brc_bench.specs.Ready.{IsReady}
+use Rattle.brc_bench.specs.Swaps.{IsAtRest, IsAtPlace, HoldsBeside, IsReadyToSwap}
+use Rattle.brc_bench.proofs.AtRest.{some_counted}
+use Rattle.brc_bench.proofs.LockedSwaps.{count_here, count_more, length_with}
 
 -- A worker's hand is at rest at first,
 pub rests_at_first : (heap : TableState) (hand : HandState) (t : ℕ) → hand.view ≡ worker_view heap.layout t
@@ -40,99 +43,164 @@ rests_after_birth after rest table born = record {
   returned = tt;
 }
 
-some_row : (layout : Layout) (t used : ℕ) → 0 < t → 0 < row_at layout t used
-some_row layout zero used some = absurd (omega (arith, some))
-some_row layout (suc t) used some = omega arith
-
--- The row of a worker's next object is none of an immortal object.
-counted_next : (v : View) → 0 < v.thread → v.layout.immortal_lists ≡ 0 → IsCounted v.layout (next_row v)
-counted_next v some none = counted_row v.layout (next_row v) (some_row v.layout v.thread v.used some) none
-
-holds_both : {heap : TableState} {hand : HandState} (row item : ℕ) (others : List ℕ) → IsAtRest heap hand
-    → IsCounted hand.view.layout row → IsCounted hand.view.layout item
-    → hand.view.references ≡ item ∷ row ∷ others → length others ≤ 1 → HoldsListAndItem heap hand row item
-holds_both row item others rest counted item_counted references few = record {
+-- A hand at rest that holds the row's object may use it,
+pub place_without : {heap : TableState} {hand : HandState} (row : ℕ) → IsAtRest heap hand
+    → IsCounted hand.view.layout row → 1 ≤ count_by (λ y. y == row) hand.view.references
+    → length hand.view.references ≤ 3 → IsAtPlace heap hand row None
+place_without row rest counted held few = record {
   rest = rest;
   counted = counted;
-  item_counted = item_counted;
-  references =
-      references
-      ∙ ap (λ (rows : List ℕ). item ∷ row ∷ behind_first (behind_first rows)) (sym references);
-  few = let all = ap length references in omega (arith, all, few);
+  holds = record { references = refl; list = held; few = omega (arith, few) };
 }
 
--- A worker holds an item, and a list to which it has given birth, or the root.
-pub holds_both_at_own : (heap : TableState) (first second third : HandState) (t : ℕ) → 0 < t
-    → heap.layout.immortal_lists ≡ 0 → first.view ≡ worker_view heap.layout t → IsOf heap first → IsOf heap second
-    → IsOf heap third → HasBorn first.view second.view → HasBorn second.view third.view
-    → HoldsListAndItem heap third (next_row first.view) (next_row second.view)
-holds_both_at_own heap first second third t some none is at_first at_second at_third list number =
-    let rest = rests_after_birth third
-    (rests_after_birth second (rests_at_first heap first t is at_first) at_second list) at_third number in
-    let thread : first.view.thread ≡ t = ap (λ (v : View). v.thread) is in
-    let none_here : (hand : HandState) → IsOf heap hand → hand.view.layout.immortal_lists ≡ 0 =
-    λ hand of. ap (λ (l : Layout). l.immortal_lists) of.1 ∙ none in
-    holds_both (next_row first.view) (next_row second.view) (root_row ∷ []) rest
-    (subst (λ (l : Layout). IsCounted l (next_row first.view)) (sym (number.layout ∙ list.layout))
-    (counted_next first.view (omega (arith, thread, some)) (none_here first at_first)))
-    (subst (λ (l : Layout). IsCounted l (next_row second.view)) (sym number.layout)
-    (counted_next second.view (omega (arith, thread, some, list.thread)) (none_here second at_second)))
-    (number.references
-    ∙ ap (λ (rows : List ℕ). next_row second.view ∷ rows)
-    (list.references ∙ ap (λ (v : View). next_row first.view ∷ v.references) is)) (omega arith)
+-- The latest of its references is to an item.
+pub holds_item : {hand : HandState} (row item : ℕ) (others : List ℕ) → IsCounted hand.view.layout item
+    → hand.view.references ≡ item ∷ others → 1 ≤ count_by (λ y. y == row) others → length others ≤ 2
+    → HoldsBeside hand row (Some item) others
+holds_item row item others counted is held few = record {
+  references = is ∙ sym (ap (λ (b : Bool). if b then others else item ∷ others) counted);
+  list = held;
+  few = omega (arith, few);
+}
 
-pub holds_both_at_root : (heap : TableState) (first second : HandState) (t : ℕ) → 0 < t
-    → heap.layout.immortal_lists ≡ 0 → first.view ≡ worker_view heap.layout t → IsOf heap first → IsOf heap second
-    → HasBorn first.view second.view → HoldsListAndItem heap second root_row (next_row first.view)
-holds_both_at_root heap first second t some none is at_first at_second number =
-    let thread : first.view.thread ≡ t = ap (λ (v : View). v.thread) is in
-    let none_here : (hand : HandState) → IsOf heap hand → hand.view.layout.immortal_lists ≡ 0 =
-    λ hand of. ap (λ (l : Layout). l.immortal_lists) of.1 ∙ none in
-    holds_both root_row (next_row first.view) []
-    (rests_after_birth second (rests_at_first heap first t is at_first) at_second number)
-    (counted_row second.view.layout root_row (omega arith) (none_here second at_second))
-    (subst (λ (l : Layout). IsCounted l (next_row first.view)) (sym number.layout)
-    (counted_next first.view (omega (arith, thread, some)) (none_here first at_first)))
-    (number.references ∙ ap (λ (v : View). next_row first.view ∷ v.references) is) (omega arith)
+-- and swap that item, if the latest of its references is to it.
+pub place_with : {heap : TableState} {hand : HandState} (row item : ℕ) (others : List ℕ) → IsAtRest heap hand
+    → IsCounted hand.view.layout row → IsCounted hand.view.layout item → hand.view.references ≡ item ∷ others
+    → 1 ≤ count_by (λ y. y == row) others → length others ≤ 2 → IsAtPlace heap hand row (Some item)
+place_with {heap} {hand} row item others rest counted item_counted is held few = record {
+  rest = rest;
+  counted = counted;
+  holds =
+      subst (HoldsBeside hand row (Some item)) (sym (ap behind_first is))
+      (holds_item {hand = hand} row item others item_counted is held few);
+}
 
--- ---- the first swap
+-- Main holds the root.
+pub main_place : {heap : TableState} {hand : HandState} → IsPlainLayout heap.layout → IsAtRest heap hand
+    → hand.view.references ≡ root_row ∷ [] → IsAtPlace heap hand root_row None
+main_place {heap} {hand} plain rest is =
+    let here = count_here root_row [] in
+    let all = ap (count_by (λ y. y == root_row)) is in
+    let few = ap length is in
+    place_without root_row rest
+    (subst (λ (l : Layout). IsCounted l root_row) (sym rest.table.1) (some_counted {layout = heap.layout} root_row plain refl))
+    (omega (arith, here, all)) (omega (arith, few))
 
-pub list_is_held : {heap : TableState} {hand : HandState} {row item : ℕ} → HoldsListAndItem heap hand row item
-    → HoldsOne hand.view row
-list_is_held {heap} {hand} {row} {item} may =
-    inr (let others = behind_first (behind_first hand.view.references) in
-    let all : holds hand.view row ≡ count_by (λ y. y == row) (item ∷ row ∷ others) =
-    ap (count_by (λ y. y == row)) may.references in
-    let first = sum_by-cons (λ (y : ℕ). cond (y == row) 1 0) item (row ∷ others) in
-    let second = count_here row others in omega (arith, all, first, second))
+-- A worker that has given birth to a list and to an item holds both, and the root.
+pub both_born : (first second third : HandState) (list item : ℕ) → HasBorn first.view second.view
+    → HasBorn second.view third.view → list ≡ next_row first.view → item ≡ next_row second.view
+    → first.view.references ≡ root_row ∷ [] → third.view.references ≡ item ∷ list ∷ root_row ∷ []
+both_born first second third list item one two list_is item_is is =
+    two.references
+    ∙ (ap (λ (rows : List ℕ). next_row second.view ∷ rows)
+    (one.references ∙ ap (λ (rows : List ℕ). next_row first.view ∷ rows) is)
+    ∙ (ap (λ (x : ℕ). x ∷ next_row first.view ∷ root_row ∷ []) (sym item_is)
+    ∙ ap (λ (x : ℕ). item ∷ x ∷ root_row ∷ []) (sym list_is)))
 
-pub list_is_idle : {heap : TableState} {hand : HandState} {row item : ℕ} (x : ℕ) → HoldsListAndItem heap hand row item
-    → HasNoWork hand.view x
-list_is_idle x may = ap (filter (is_about x)) may.rest.rests
+pub holds_list : (list : ℕ) → 1 ≤ count_by (λ y. y == list) (list ∷ root_row ∷ [])
+holds_list list = let here = count_here list (root_row ∷ []) in omega (arith, here)
 
--- Once it has asked how many cells the list has, the hand is ready.
-pub swaps_begin : {heap : TableState} {before : HandState} {row item cell : ℕ} (after : HandState)
-    → HoldsListAndItem heap before row item → IsOf heap after → Keeps before.view after.view
-    → after.view.locked ≡ before.view.locked → KnowsCell after.view row cell
-    → IsReadyToSwap heap after row cell (Some item)
-swaps_begin {heap} {before} {row} {item} {cell} after may table keeps locked knows =
-    let more = behind_first (behind_first before.view.references) in
-    let all = ap length may.references in
+pub holds_root : (list : ℕ) → 1 ≤ count_by (λ y. y == root_row) (list ∷ root_row ∷ [])
+holds_root list =
+    let more = sum_by-cons (λ (y : ℕ). cond (y == root_row) 1 0) list (root_row ∷ []) in
+    let here = count_here root_row [] in omega (arith, more, here)
+
+pub born_without : {heap : TableState} {hand : HandState} (row list item : ℕ) → IsAtRest heap hand
+    → hand.view.references ≡ item ∷ list ∷ root_row ∷ [] → IsCounted heap.layout row
+    → 1 ≤ count_by (λ y. y == row) (list ∷ root_row ∷ []) → IsAtPlace heap hand row None
+born_without {heap} {hand} row list item rest is counted held =
+    let more = sum_by-cons (λ (y : ℕ). cond (y == row) 1 0) item (list ∷ root_row ∷ []) in
+    let all = ap (count_by (λ y. y == row)) is in
+    let few = ap length is in
+    place_without row rest (subst (λ (l : Layout). IsCounted l row) (sym rest.table.1) counted)
+    (omega (arith, more, all, held)) (omega (arith, few))
+
+pub born_with : {heap : TableState} {hand : HandState} (row list item : ℕ) → IsAtRest heap hand
+    → hand.view.references ≡ item ∷ list ∷ root_row ∷ [] → IsCounted heap.layout row → IsCounted heap.layout item
+    → 1 ≤ count_by (λ y. y == row) (list ∷ root_row ∷ []) → IsAtPlace heap hand row (Some item)
+born_with {heap} {hand} row list item rest is counted item_counted held =
+    place_with row item (list ∷ root_row ∷ []) rest
+    (subst (λ (l : Layout). IsCounted l row) (sym rest.table.1) counted)
+    (subst (λ (l : Layout). IsCounted l item) (sym rest.table.1) item_counted) is held (omega arith)
+
+-- ---- before the first call
+
+module _ {hand : HandState} {row : ℕ} {held : Option ℕ} {others : List ℕ} (has : HoldsBeside hand row held others) where
+  pub row_is_held : 1 ≤ holds hand.view row
+  row_is_held =
+      let all : holds hand.view row ≡ count_by (λ y. y == row) (with_item hand.view.layout (word_of held) others) =
+      ap (count_by (λ y. y == row)) has.references in
+      let more = count_more hand.view.layout (word_of held) row others in
+      omega (arith, all, more, has.list)
+
+  pub few_are_held : length hand.view.references ≤ length others + 1
+  few_are_held =
+      let all = ap length has.references in
+      let most = length_with hand.view.layout (word_of held) others in
+      omega (arith, all, most)
+
+-- A call that keeps the hand's references keeps what it holds beside the item.
+pub holds_still : {before after : HandState} {row : ℕ} {held : Option ℕ} {others : List ℕ}
+    → after.view.references ≡ before.view.references → after.view.layout ≡ before.view.layout
+    → HoldsBeside before row held others → HoldsBeside after row held others
+holds_still {before} {after} {row} {held} {others} references layout has = record {
+  references =
+      references
+      ∙ (has.references ∙ ap (λ (l : Layout). with_item l (word_of held) others) (sym layout));
+  list = has.list;
+  few = has.few;
+}
+
+pub no_work_at_rest : {heap : TableState} {hand : HandState} (x : ℕ) → IsAtRest heap hand → HasNoWork hand.view x
+no_work_at_rest x rest = ap (filter (is_about x)) rest.rests
+
+-- Once the hand has asked how many cells the list has, it may swap an item of it,
+pub swaps_begin : {heap : TableState} {before : HandState} {row cell : ℕ} {held : Option ℕ} {others : List ℕ}
+    (after : HandState) → IsAtRest heap before → IsCounted before.view.layout row
+    → HoldsBeside before row held others → IsOf heap after → Keeps before.view after.view
+    → after.view.locked ≡ before.view.locked → KnowsCell after.view row cell → IsReadyToSwap heap after row cell held
+swaps_begin {heap} {before} {row} {cell} {held} {others} after rest counted has table keeps locked knows =
+    let still = holds_still {before = before} {after = after} keeps.references keeps.layout has in
     record {
       table = table;
-      running = (keeps.status ∙ may.rest.running.0, keeps.waits);
-      rests = keeps.work ∙ may.rest.rests;
-      lent = keeps.lent ∙ may.rest.lent;
-      locked_is = locked ∙ may.rest.locked_is;
+      running = (keeps.status ∙ rest.running.0, keeps.waits);
+      rests = keeps.work ∙ rest.rests;
+      lent = keeps.lent ∙ rest.lent;
+      locked_is = locked ∙ rest.locked_is;
       returned = tt;
-      counted = subst (λ (l : Layout). IsCounted l row) (sym keeps.layout) may.counted;
+      counted = subst (λ (l : Layout). IsCounted l row) (sym keeps.layout) counted;
       knows = knows;
-      others = row ∷ more;
-      references =
-          keeps.references
-          ∙ (may.references
-          ∙ sym (ap (λ (b : Bool). if b then row ∷ more else item ∷ row ∷ more)
-          (subst (λ (l : Layout). IsCounted l item) (sym keeps.layout) may.item_counted)));
-      list = let here = count_here row more in omega (arith, here);
-      few = omega (arith, all, may.few);
+      others = others;
+      references = still.references;
+      list = has.list;
+      few = has.few;
     }
+
+-- or retain and release the list.
+pub pairs_begin : {heap : TableState} {before : HandState} {row : ℕ} {held : Option ℕ} {others : List ℕ}
+    (after : HandState) → IsAtRest heap before → IsCounted before.view.layout row
+    → HoldsBeside before row held others → IsOf heap after → Keeps before.view after.view
+    → after.view.locked ≡ before.view.locked → IsReady heap after row
+pairs_begin {heap} {before} {row} {held} {others} after rest counted has table keeps locked =
+    let still = holds_still {before = before} {after = after} keeps.references keeps.layout has in
+    record {
+      table = table;
+      running = (keeps.status ∙ rest.running.0, keeps.waits);
+      counted = subst (λ (l : Layout). IsCounted l row) (sym keeps.layout) counted;
+      held = row_is_held still;
+      idle = ap (filter (is_about row)) (keeps.work ∙ rest.rests);
+      few = let most = few_are_held still in omega (arith, most, has.few);
+      unlocked = locked ∙ rest.locked_is;
+    }
+
+-- After a swap the hand rests.
+pub rests_after_swap : {heap : TableState} {hand : HandState} {row cell : ℕ} {held : Option ℕ}
+    → IsReadyToSwap heap hand row cell held → IsAtRest heap hand
+rests_after_swap ready = record {
+  table = ready.table;
+  running = ready.running;
+  rests = ready.rests;
+  lent = ready.lent;
+  locked_is = ready.locked_is;
+  returned = tt;
+}

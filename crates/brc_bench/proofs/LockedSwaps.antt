@@ -12,7 +12,7 @@ use Rattle.brc_table.specs.Views.{holds, without_one}
 use Rattle.brc_table.specs.Swaps.{with_item, without_item, MayPut}
 use Rattle.brc_table.specs.Hands.{TableState, HandState, IsOf, HasNoWork, HasNoRetain, HoldsOne, most_references}
 use Rattle.brc_list.specs.Calls.{Keeps, KeepsButSlot, KeepsBesides, SwapsItem, row_in, word_of}
-use Rattle.brc_bench.specs.Swaps.{IsAtList, HasBack}
+use Rattle.brc_bench.specs.Swaps.{IsAtList, HasBack, HoldsBeside}
 
 -- ---- references
 
@@ -23,7 +23,7 @@ count_here x others =
     ∙ ap (λ (b : Bool). cond b 1 0 + count_by (λ y. y == x) others) (eq-eqb x x refl)
 
 -- and for no other row fewer are counted than before.
-count_more : (layout : Layout) (word x : ℕ) (others : List ℕ)
+pub count_more : (layout : Layout) (word x : ℕ) (others : List ℕ)
     → count_by (λ y. y == x) others ≤ count_by (λ y. y == x) (with_item layout word others)
 count_more layout zero x others = omega arith
 count_more layout (suc z) x others = elim (cases_Bool (is_immortal_row layout z)) [
@@ -52,7 +52,7 @@ without_with layout (suc y) others = elim (cases_Bool (is_immortal_row layout y)
       ∙ ap (λ (b : Bool). if b then others else y ∷ without_one y others) (eq-eqb y y refl)
 ]
 
-length_with : (layout : Layout) (word : ℕ) (others : List ℕ)
+pub length_with : (layout : Layout) (word : ℕ) (others : List ℕ)
     → length (with_item layout word others) ≤ length others + 1
 length_with layout zero others = omega arith
 length_with layout (suc y) others = elim (cases_Bool (is_immortal_row layout y)) [
@@ -206,3 +206,29 @@ pub after_unlock : {heap : TableState} {before : HandState} {row cell : ℕ} {he
 after_unlock {heap} {before} after at_list table keeps is =
     still_there before.view.references before.view.in_slot at_list table keeps is tt at_list.others at_list.list
     at_list.few at_list.references
+
+-- A swap exchanges the item that the hand holds, and nothing else.
+pub beside_after_swap : (before first after last : HandState) (row cell found : ℕ) (held next : Option ℕ)
+    → first.view.references ≡ before.view.references → first.view.layout ≡ before.view.layout
+    → SwapsItem row cell (word_of held) found first.view after.view → after.view.layout ≡ first.view.layout
+    → next ≡ row_in found → last.view.references ≡ after.view.references → last.view.layout ≡ after.view.layout
+    → (others : List ℕ) → HoldsBeside before row held others → HoldsBeside last row next others
+beside_after_swap before first after last row cell found held next references layout swaps kept is later later_layout
+    others has =
+    let l = before.view.layout in
+    let word : word_of next ≡ found = ap word_of is ∙ word_row found in
+    let all : last.view.layout ≡ l = later_layout ∙ (kept ∙ layout) in
+    record {
+      references =
+          later
+          ∙ (swaps.references
+          ∙ (ap (λ (rows : List ℕ). with_item first.view.layout found (without_item first.view.layout (word_of held) rows))
+          (references ∙ has.references)
+          ∙ (ap (λ (k : Layout). with_item k found (without_item k (word_of held) (with_item l (word_of held) others)))
+          layout
+          ∙ (ap (with_item l found) (without_with l (word_of held) others)
+          ∙ (ap (λ (n : ℕ). with_item l n others) (sym word)
+          ∙ ap (λ (k : Layout). with_item k (word_of next) others) (sym all))))));
+      list = has.list;
+      few = has.few;
+    }

@@ -54,33 +54,3 @@ counted_row layout x some none =
       ]
     ] in
     ap (λ (b : Bool). b || (nat_le first x && nat_lt x (first + layout.immortal_lists))) apart ∙ behind
-
--- A worker that has just got its hand and given birth to an object is ready to retain and release it.
-pub born_ready : (heap : TableState) (hand before : HandState) (t : ℕ) → 0 < t → heap.layout.immortal_lists ≡ 0
-    → before.view ≡ worker_view heap.layout t → IsOf heap hand → HasBorn before.view hand.view
-    → IsReady heap hand (next_row before.view)
-born_ready heap hand before zero some none was table born = absurd (omega (arith, some))
-born_ready heap hand before (suc t) some none was table born =
-    let v = before.view in let x = next_row v in
-    let layout_is : hand.view.layout ≡ heap.layout = table.1 in
-    let row_is : x ≡ row_at heap.layout (suc t) 0 = ap next_row was in
-    let references : hand.view.references ≡ x ∷ root_row ∷ [] =
-    born.references ∙ ap (λ (u : View). x ∷ u.references) was in
-    record {
-      table = table;
-      running = (born.status ∙ ap (λ (u : View). u.status) was, born.waits);
-      counted =
-          subst (λ (l : Layout). IsCounted l x) (sym layout_is)
-          (subst (IsCounted heap.layout) (sym row_is)
-          (counted_row heap.layout (row_at heap.layout (suc t) 0) (omega arith) none));
-      held =
-          let here : one_if (x == x) ≡ 1 = ap one_if (eq-eqb x x refl) in
-          let all : count_by (λ y. y == x) hand.view.references
-          ≡ one_if (x == x) + count_by (λ y. y == x) (root_row ∷ []) =
-          ap (count_by (λ y. y == x)) references
-          ∙ sum_by-cons (λ (y : ℕ). cond (y == x) 1 0) x (root_row ∷ []) in
-          omega (arith, all, here);
-      idle = ap (filter (is_about x)) (born.work ∙ ap open_work was);
-      few = let two : length hand.view.references ≡ 2 = ap length references in omega (arith, two);
-      unlocked = born.sight.locked ∙ ap (λ (u : View). u.locked) was;
-    }

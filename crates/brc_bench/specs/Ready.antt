@@ -27,6 +27,3 @@ waits-prop (d ∷ []) = Prim.hlevel props
 waits-prop (d ∷ e ∷ ds) = λ one other. absurd one
 
 pub ruleset ready_props = (props, waits-prop)
-
-pub ready-prop : (heap : TableState) (hand : HandState) (row : ℕ) → IsProp (IsReady heap hand row)
-ready-prop heap hand row = Prim.hlevel ready_props

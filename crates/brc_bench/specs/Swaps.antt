@@ -27,14 +27,23 @@ pub record IsResting (heap : TableState) (hand : HandState) (locked : Option ℕ
 abbrev pub IsAtRest : TableState → HandState → Type 0
 IsAtRest heap hand = IsResting heap hand None
 
--- The hand is at rest. It holds few references, the first to the item and the second to the other object, both of which
--- are counted.
-pub record HoldsListAndItem (heap : TableState) (hand : HandState) (row item : ℕ) : Type 0 where
+-- The hand holds a reference to the item, if there is one, and these others, which are few. One of them is to the row's
+-- object.
+pub record HoldsBeside (hand : HandState) (row : ℕ) (held : Option ℕ) (others : List ℕ) : Type 0 where
+  pub references : hand.view.references ≡ with_item hand.view.layout (word_of held) others
+  pub list : 1 ≤ count_by (λ y. y == row) others
+  pub few : length others + 1 < most_references
+
+-- the references beside the latest one, if that is to the item
+abbrev pub beside : Option ℕ → List ℕ → List ℕ
+beside None rows = rows
+beside (Some x) rows = behind_first rows
+
+-- The hand is at rest. It holds references to the counted object of the row, and to the item.
+pub record IsAtPlace (heap : TableState) (hand : HandState) (row : ℕ) (item : Option ℕ) : Type 0 where
   pub rest : IsAtRest heap hand
   pub counted : IsCounted hand.view.layout row
-  pub item_counted : IsCounted hand.view.layout item
-  pub references : hand.view.references ≡ item ∷ row ∷ behind_first (behind_first hand.view.references)
-  pub few : length hand.view.references ≤ 3
+  pub holds : HoldsBeside hand row item (beside item hand.view.references)
 
 -- The hand runs, has nothing to do, has lent nothing, and has locked the object of the row `locked`, or none. It knows
 -- that the counted object of `row` is a list that has the cell. It holds a reference to the item, if there is one, and
@@ -62,7 +71,12 @@ IsReadyToSwap heap hand row cell held = IsAtList heap hand row cell held None
 pub rest-prop : (heap : TableState) (hand : HandState) → IsProp (IsAtRest heap hand)
 rest-prop heap hand = Prim.hlevel ready_props
 
-pub ruleset rest_props = (ready_props, rest-prop)
+pub beside-prop : (hand : HandState) (row : ℕ) (held : Option ℕ) (others : List ℕ)
+    → IsProp (HoldsBeside hand row held others)
+beside-prop hand row held others = Prim.hlevel ready_props
 
-pub holds-prop : (heap : TableState) (hand : HandState) (row item : ℕ) → IsProp (HoldsListAndItem heap hand row item)
-holds-prop heap hand row item = Prim.hlevel rest_props
+pub ruleset rest_props = (ready_props, rest-prop, beside-prop)
+
+pub place-prop : (heap : TableState) (hand : HandState) (row : ℕ) (item : Option ℕ)
+    → IsProp (IsAtPlace heap hand row item)
+place-prop heap hand row item = Prim.hlevel rest_props

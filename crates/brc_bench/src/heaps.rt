@@ -1,40 +1,32 @@
 //! What the program measures of objects that are born: it uses as many heaps as it takes, one after another.
 
-use crate::batches::{Batch, batch_of_two};
-use crate::lives::lives_by_all;
-use crate::posts::turns_by_two;
-use crate::rows::{Run, WORKERS, births_by_all};
-use brc_heap::Heap;
+ghost use Rattle.std.specs.Prelude.{◌≡◌, [], ◌∷◌};
+ghost use Rattle.brc_model.specs.Layout.{root_row};
+ghost use Rattle.brc_bench.specs.Swaps.{IsAtRest};
+
+use crate::lives::lives;
+use crate::pairs::births;
+use crate::posts::{hands_over, posts_each};
+use crate::resting::worker;
+use crate::work::{Run, WORKERS, Work};
+use anyhow::{Result, bail};
+use brc_heap::{Hand, Heap};
+use brc_host::{FakeHost, FakeResource};
+use brc_queue::Queue;
 use std::alloc::Global;
-use std::io;
-use std::io::ErrorKind;
+use std::collections::VecDeque;
 use std::sync::Wait;
-use std::time::{Clock, Duration};
+use std::time::{Clock, Duration, Instant};
 
 /// The rows of each worker. Such a heap has 209 KiB of words, which stay in a core's own cache from their first store on:
 /// a birth in a larger heap waits for memory, and how long depends on where the allocator took it.
-const ROWS_EACH: u16 = 512;
+pub const ROWS_EACH: u16 = 512;
 
 /// The most heaps that are used.
 const MOST_HEAPS: u32 = 10_000;
 
-/// What the workers of a heap do until their rows are used.
-#[derive(Clone, Copy)]
-pub enum Work {
-    Births,
-    Lives,
-    Turns,
-    Posts,
-    Merges,
-}
-
 /// Does the work `times` times, over as many heaps as it takes. The heaps are made outside the time.
-pub fn over_heaps<R: Clock + Wait>(
-    rt: &R,
-    alloc: Global,
-    work: Work,
-    times: u32,
-) -> io::Result<Run> {
+pub fn over_heaps<R: Clock + Wait>(rt: &R, alloc: Global, work: Work, times: u32) -> Result<Run> {
     let mut run = Run {
         done: 0,
         time: Duration::ZERO,
@@ -44,49 +36,80 @@ pub fn over_heaps<R: Clock + Wait>(
             break;
         }
         let most = times - run.done;
+        let (heap, mut main) = Heap::new(alloc, WORKERS, ROWS_EACH)?;
         let more = match work {
-            Work::Births => births_in(rt, alloc, most)?,
-            Work::Lives => lives_in(rt, alloc, most)?,
-            Work::Turns => turns_in(rt, alloc, most)?,
-            Work::Posts => batch_in(rt, alloc, most)?.posts,
-            Work::Merges => batch_in(rt, alloc, most)?.merges,
+            Work::Births | Work::Lives => in_turn(rt, &heap, &mut main, work, most)?,
+            _ => by_two(rt, alloc, &heap, &mut main, work, most)?,
         };
-        run = Run {
-            done: run.done.saturating_add(more.done),
-            time: run.time.saturating_add(more.time),
-        };
+        run.done = run.done.saturating_add(more.done);
+        run.time = run.time.saturating_add(more.time);
     }
     Ok(run)
 }
 
-/// Births in one heap.
-fn births_in<R: Clock>(rt: &R, alloc: Global, most: u32) -> io::Result<Run> {
-    match Heap::new(alloc, WORKERS, ROWS_EACH) {
-        Ok((heap, mut main)) => births_by_all(rt, &heap, &mut main, most),
-        Err(_) => Err(io::Error::from(ErrorKind::OutOfMemory)),
+/// Births or lives by one worker after another.
+fn in_turn<R: Clock + Wait>(
+    rt: &R,
+    heap: &Heap<FakeResource>,
+    main: &mut Hand<FakeResource>,
+    work: Work,
+    most: u32,
+) -> Result<Run>
+    requires resting { IsAtRest heap.now main.old }
+    requires references { main.old.view.references ≡ root_row ∷ [] }
+    requires main { main.old.view.thread ≡ 0 }
+{
+    let mut run = Run {
+        done: 0,
+        time: Duration::ZERO,
+    };
+    for thread in 1..=WORKERS {
+        let mut hand = worker(heap, main, thread)?;
+        let left = most.saturating_sub(run.done);
+        let start = Instant::now(rt)?;
+        let made = if matches!(work, Work::Births) {
+            births(heap, &mut hand, left)
+        } else {
+            lives(rt, heap, &mut hand, left)
+        };
+        run.time = run.time.saturating_add(start.elapsed(rt)?);
+        run.done = run.done.saturating_add(made);
     }
+    Ok(run)
 }
 
-/// Lives in one heap.
-fn lives_in<R: Clock + Wait>(rt: &R, alloc: Global, most: u32) -> io::Result<Run> {
-    match Heap::new(alloc, WORKERS, ROWS_EACH) {
-        Ok((heap, mut main)) => lives_by_all(rt, &heap, &mut main, most),
-        Err(_) => Err(io::Error::from(ErrorKind::OutOfMemory)),
+/// A batch of two workers, which one thread drives. The first gives birth to numbers and hands them to the second, the
+/// second posts them, and the first merges them.
+fn by_two<R: Clock + Wait>(
+    rt: &R,
+    alloc: Global,
+    heap: &Heap<FakeResource>,
+    main: &mut Hand<FakeResource>,
+    work: Work,
+    most: u32,
+) -> Result<Run>
+    requires resting { IsAtRest heap.now main.old }
+    requires references { main.old.view.references ≡ root_row ∷ [] }
+    requires main { main.old.view.thread ≡ 0 }
+{
+    let mut owner = worker(heap, main, 1)?;
+    let mut other = worker(heap, main, 2)?;
+    let mut rows = VecDeque::new(alloc);
+    let mut host = FakeHost::new(&[]);
+    let start = Instant::now(rt)?;
+    let at_once = matches!(work, Work::Turns);
+    let done = hands_over(heap, &mut owner, &mut other, &mut rows, most, at_once)?;
+    let handed = start.elapsed(rt)?;
+    posts_each(heap, &mut other, &mut rows)?;
+    let posted = start.elapsed(rt)?;
+    if owner.head() != 0 || Queue::new(heap).merge_pending(rt, &mut owner, &mut host) != 0 {
+        bail!("a close failed");
     }
-}
-
-/// Turns of two workers in one heap.
-fn turns_in<R: Clock + Wait>(rt: &R, alloc: Global, most: u32) -> io::Result<Run> {
-    match Heap::new(alloc, WORKERS, ROWS_EACH) {
-        Ok((heap, mut main)) => turns_by_two(rt, &heap, &mut main, most),
-        Err(_) => Err(io::Error::from(ErrorKind::OutOfMemory)),
-    }
-}
-
-/// A batch of two workers in one heap.
-fn batch_in<R: Clock + Wait>(rt: &R, alloc: Global, most: u32) -> io::Result<Batch> {
-    match Heap::new(alloc, WORKERS, ROWS_EACH) {
-        Ok((heap, mut main)) => batch_of_two(rt, alloc, &heap, &mut main, most),
-        Err(_) => Err(io::Error::from(ErrorKind::OutOfMemory)),
-    }
+    let merged = start.elapsed(rt)?;
+    let time = match work {
+        Work::Posts => posted.saturating_sub(handed),
+        Work::Merges => merged.saturating_sub(posted),
+        _ => merged,
+    };
+    Ok(Run { done, time })
 }

@@ -10,13 +10,14 @@ ghost use Rattle.brc_heap.specs.Calls.{Leaves};
 ghost use Rattle.brc_bench.specs.Ready.{IsReady};
 
 use brc_heap::{Hand, Heap, LocalRelease, SharedRelease};
+use brc_host::FakeResource;
 use brc_lang::Kind;
 
 /// More tries than a release through the shared word takes.
 const TRIES: u32 = 1_000_000_000;
 
 /// Retains and releases an object `times` times. Returns how often a reference was left, which is always.
-pub fn pairs(heap: &Heap<()>, hand: &mut Hand<()>, row: u32, times: u32) -> u32
+pub fn pairs(heap: &Heap<FakeResource>, hand: &mut Hand<FakeResource>, row: u32, times: u32) -> u32
     requires ready { IsReady heap.now hand.old row }
     ensures { result ≡ times → IsReady heap.now hand.new row }
 {
@@ -31,7 +32,7 @@ pub fn pairs(heap: &Heap<()>, hand: &mut Hand<()>, row: u32, times: u32) -> u32
 }
 
 /// Retains and releases an object. Returns whether a reference was left, and nothing to do.
-fn pair(heap: &Heap<()>, hand: &mut Hand<()>, row: u32) -> bool
+fn pair(heap: &Heap<FakeResource>, hand: &mut Hand<FakeResource>, row: u32) -> bool
     requires ready { IsReady heap.now hand.old row }
     ensures { result ≡ true → IsReady heap.now hand.new row }
 {
@@ -45,7 +46,7 @@ fn pair(heap: &Heap<()>, hand: &mut Hand<()>, row: u32) -> bool
 
 /// Releases an object through its shared word, until no other thread changes the word in between. Returns whether a
 /// reference was left, and nothing to do.
-fn release_shared(heap: &Heap<()>, hand: &mut Hand<()>, row: u32) -> bool
+fn release_shared(heap: &Heap<FakeResource>, hand: &mut Hand<FakeResource>, row: u32) -> bool
     requires table { IsOf heap.now hand.old }
     requires acts { CanAct hand.old.view }
     requires duty { work_about row hand.old.view ≡ SharedLoad row Own ∷ [] }
@@ -64,7 +65,7 @@ fn release_shared(heap: &Heap<()>, hand: &mut Hand<()>, row: u32) -> bool
 }
 
 /// Gives birth to numbers while there is room. Returns how many.
-pub fn births(heap: &Heap<()>, hand: &mut Hand<()>, most: u32) -> u32
+pub fn births(heap: &Heap<FakeResource>, hand: &mut Hand<FakeResource>, most: u32) -> u32
     requires table { IsOf heap.now hand.old }
     requires running { IsRunning hand.old.view }
 {

@@ -1,130 +1,43 @@
-//! Objects that their owner merges: a worker gives birth to a number and hands it over, another worker gives it up and
-//! posts it, and the first one merges it.
+//! Objects that their owner merges: a worker gives birth to numbers and hands them over, another worker gives them up and
+//! posts them, and the first one merges them.
 
-ghost use Rattle.std.specs.Prelude.{◌≡◌, ◌≤◌, ◌<◌, true, None, Some, [], ◌∷◌, length, if◌then◌else◌, IfSome, OnSome};
+ghost use Rattle.std.specs.Prelude.{◌≡◌, ◌≤◌, ◌<◌, ◌+◌, ℕ, List, true, [], ◌∷◌, ◌++◌, All, count_by, ◌==◌, length, IfOk, OnOk, IfSome, OnSome};
 ghost use Rattle.brc_model.specs.Layout.{root_row, IsCounted};
 ghost use Rattle.brc_table.specs.Views.{holds, without_one};
-ghost use Rattle.brc_table.specs.Hands.{KeepsLock, most_references};
-ghost use Rattle.brc_bench.specs.Swaps.{IsResting, IsAtRest};
+ghost use Rattle.brc_bench.specs.Swaps.{IsAtRest, HoldsBeside};
 
-use crate::resting::{number, worker};
-use crate::rows::{ROOT, Run};
-use crate::swaps::CELL;
+use crate::heaps::ROWS_EACH;
+use crate::swaps::{CELL, locked_swap};
+use crate::work::ROOT;
+use anyhow::{Result, bail};
 use brc_heap::{Hand, Heap, LocalRelease, Looked, SharedRelease};
-use brc_host::{FakeHost, FakeResource};
+use brc_host::FakeResource;
+use brc_lang::Kind;
 use brc_list::Lists;
 use brc_queue::Queue;
-use std::io;
-use std::io::ErrorKind;
-use std::sync::Wait;
-use std::time::{Clock, Instant};
+use std::collections::VecDeque;
 
-/// Tries to lock the root. Returns whether the hand has locked it.
-fn locks(heap: &Heap<FakeResource>, hand: &mut Hand<FakeResource>) -> bool
+/// Swaps the cell of the root for the item that the hand holds, or for none, under the root's lock. The hand then holds
+/// what was there. Returns whether the swap was made.
+fn at_root(heap: &Heap<FakeResource>, hand: &mut Hand<FakeResource>, held: &mut Option<u32>) -> bool
     requires resting { IsAtRest heap.now hand.old }
+    requires holds { (others : List ℕ) × HoldsBeside hand.old root_row held.old others }
     requires counted { IsCounted heap.now.layout root_row }
-    requires held { 1 ≤ holds hand.old.view root_row }
-    ensures resting { IsResting heap.now hand.new (if result then Some root_row else None) }
-    ensures references { hand.new.view.references ≡ hand.old.view.references }
-{
-    Lists::new(heap).try_lock(hand, ROOT)
-}
-
-/// Puts a number into the cell of the root, which the hand has locked. Returns whether the cell was empty.
-#[tactic(auto, using(crate::proofs::AtRest::lists_one_less))]
-fn puts(heap: &Heap<FakeResource>, hand: &mut Hand<FakeResource>, item: u32) -> bool
-    requires resting { IsResting heap.now hand.old (Some root_row) }
-    requires held { 1 ≤ holds hand.old.view root_row }
-    requires counted { IsCounted heap.now.layout item }
-    requires item { 1 ≤ holds hand.old.view item }
-    requires keeps { KeepsLock hand.old.view item }
-    requires few { length hand.old.view.references < most_references }
-    ensures resting { result ≡ true → IsResting heap.now hand.new (Some root_row) }
-    ensures references { result ≡ true
-        → hand.new.view.references ≡ without_one item hand.old.view.references }
-{
-    let lists = Lists::new(heap);
-    if lists.size(hand, ROOT) <= CELL {
-        return false;
-    }
-    lists.swap_item(hand, ROOT, CELL, Some(item)).is_none()
-}
-
-/// Takes what is in the cell of the root, which the hand has locked.
-#[tactic(auto, using(crate::proofs::AtRest::lists_one_more, crate::proofs::AtRest::some_counted))]
-fn takes(heap: &Heap<FakeResource>, hand: &mut Hand<FakeResource>) -> Option<u32>
-    requires resting { IsResting heap.now hand.old (Some root_row) }
-    requires held { 1 ≤ holds hand.old.view root_row }
-    requires few { length hand.old.view.references < most_references }
-    ensures resting { OnSome result (IsResting heap.now hand.new (Some root_row)) }
-    ensures counted { IfSome result (λ row. IsCounted heap.now.layout row) }
-    ensures references { IfSome result (λ row. hand.new.view.references ≡ row ∷ hand.old.view.references) }
-{
-    heap.words().layout_is_plain();
-    let lists = Lists::new(heap);
-    if lists.size(hand, ROOT) <= CELL {
-        return None;
-    }
-    let row = lists.swap_item(hand, ROOT, CELL, None)?;
-    if row == 0 {
-        return None;
-    }
-    Some(row)
-}
-
-/// Unlocks the root.
-fn unlocks(heap: &Heap<FakeResource>, hand: &mut Hand<FakeResource>)
-    requires resting { IsResting heap.now hand.old (Some root_row) }
-    requires held { 1 ≤ holds hand.old.view root_row }
-    ensures resting { IsAtRest heap.now hand.new }
-    ensures references { hand.new.view.references ≡ hand.old.view.references }
-{
-    Lists::new(heap).unlock(hand, ROOT);
-}
-
-/// Gives birth to a number, and puts it into the cell of the root. Returns whether it is there.
-#[tactic(auto, using(crate::proofs::AtRest::holds_first, crate::proofs::AtRest::holds_second, crate::proofs::AtRest::keeps_other, crate::proofs::AtRest::without_first, crate::proofs::AtRest::some_counted))]
-pub fn offers(heap: &Heap<FakeResource>, hand: &mut Hand<FakeResource>, value: u32) -> bool
-    requires resting { IsAtRest heap.now hand.old }
-    requires references { hand.old.view.references ≡ root_row ∷ [] }
     ensures resting { result ≡ true → IsAtRest heap.now hand.new }
-    ensures references { result ≡ true → hand.new.view.references ≡ root_row ∷ [] }
+    ensures holds { result ≡ true → (others : List ℕ) → HoldsBeside hand.old root_row held.old others
+        → HoldsBeside hand.new root_row held.new others }
 {
-    heap.words().layout_is_plain();
-    if !heap.room(hand) {
+    let lists = Lists::new(heap);
+    if lists.size(hand, ROOT) <= CELL {
         return false;
     }
-    let item = number(heap, hand, value);
-    if item == 0 || ROOT == item || !locks(heap, hand) || !puts(heap, hand, item) {
-        return false;
-    }
-    unlocks(heap, hand);
-    true
-}
-
-/// Takes the number from the cell of the root. Returns its row.
-#[tactic(auto, using(crate::proofs::HandedOver::holds_same, crate::proofs::HandedOver::holds_behind, crate::proofs::AtRest::some_counted))]
-pub fn accepts(heap: &Heap<FakeResource>, hand: &mut Hand<FakeResource>) -> Option<u32>
-    requires resting { IsAtRest heap.now hand.old }
-    requires held { 1 ≤ holds hand.old.view root_row }
-    requires few { length hand.old.view.references < most_references }
-    ensures resting { OnSome result (IsAtRest heap.now hand.new) }
-    ensures counted { IfSome result (λ row. IsCounted heap.now.layout row) }
-    ensures references { IfSome result (λ row. hand.new.view.references ≡ row ∷ hand.old.view.references) }
-{
-    heap.words().layout_is_plain();
-    if !locks(heap, hand) {
-        return None;
-    }
-    let row = takes(heap, hand)?;
-    unlocks(heap, hand);
-    Some(row)
+    locked_swap(&lists, hand, ROOT, held)
 }
 
 /// Gives up a reference to another worker's object, and puts the object into its owner's queue. Returns whether the
 /// owner has to merge it.
 #[tactic(auto, using(crate::proofs::AtRest::rests_after_posting, crate::proofs::AtRest::lists_one_less))]
-pub fn posts(heap: &Heap<FakeResource>, hand: &mut Hand<FakeResource>, row: u32) -> bool
+fn posts(heap: &Heap<FakeResource>, hand: &mut Hand<FakeResource>, row: u32) -> bool
     requires resting { IsAtRest heap.now hand.old }
     requires counted { IsCounted heap.now.layout row }
     requires held { 1 ≤ holds hand.old.view row }
@@ -144,87 +57,99 @@ pub fn posts(heap: &Heap<FakeResource>, hand: &mut Hand<FakeResource>, row: u32)
     }
 }
 
-/// The owner gives birth to a number and hands it to the other worker, which gives it up and posts it. Returns whether
-/// the owner has to merge it.
+/// Posts the object of the hand's latest reference at once, or puts its row before the rows of those that are to be
+/// posted.
 #[tactic(auto, using(crate::proofs::AtRest::holds_first, crate::proofs::AtRest::without_first))]
-fn turn(
+fn posts_or_keeps(
     heap: &Heap<FakeResource>,
-    owner: &mut Hand<FakeResource>,
-    other: &mut Hand<FakeResource>,
-    value: u32,
-) -> bool
-    requires owner { IsAtRest heap.now owner.old }
-    requires owns { owner.old.view.references ≡ root_row ∷ [] }
-    requires other { IsAtRest heap.now other.old }
-    requires holds { other.old.view.references ≡ root_row ∷ [] }
-    ensures owner { result ≡ true → IsAtRest heap.now owner.new }
-    ensures owns { result ≡ true → owner.new.view.references ≡ root_row ∷ [] }
-    ensures other { result ≡ true → IsAtRest heap.now other.new }
-    ensures holds { result ≡ true → other.new.view.references ≡ root_row ∷ [] }
+    hand: &mut Hand<FakeResource>,
+    rows: &mut VecDeque<u32>,
+    row: u32,
+    at_once: bool,
+) -> Result<()>
+    requires resting { IsAtRest heap.now hand.old }
+    requires holds { hand.old.view.references ≡ row ∷ rows.old.items ++ root_row ∷ [] }
+    requires first { IsCounted heap.now.layout row }
+    requires counted { All (λ x. IsCounted heap.now.layout x) rows.old.items }
+    ensures resting { OnOk result (IsAtRest heap.now hand.new) }
+    ensures holds { OnOk result (hand.new.view.references ≡ rows.new.items ++ root_row ∷ []) }
+    ensures counted { OnOk result (All (λ x. IsCounted heap.now.layout x) rows.new.items) }
+    ensures few { OnOk result (length rows.new.items ≤ length rows.old.items + 1) }
 {
-    if !offers(heap, owner, value) {
-        return false;
+    if !at_once {
+        rows.push_front(row)?;
+        return Ok(());
     }
-    let Some(row) = accepts(heap, other) else {
-        return false;
-    };
-    posts(heap, other, row)
+    if !posts(heap, hand, row) {
+        bail!("a number wasn't posted");
+    }
+    Ok(())
 }
 
-/// Makes turns while the owner has room, and then lets it merge what was posted. Returns how many turns, or 0 if a turn
-/// failed, or a close did.
-#[tactic(auto, using(crate::proofs::AtRest::free_at_rest))]
-fn turns<R: Wait>(
-    rt: &R,
+/// While the owner has room, it gives birth to numbers and hands them to the other worker, which posts each at once, or
+/// keeps it. Adds the rows of those that are kept, the newest first. Returns how many numbers were born.
+pub fn hands_over(
     heap: &Heap<FakeResource>,
     owner: &mut Hand<FakeResource>,
     other: &mut Hand<FakeResource>,
+    rows: &mut VecDeque<u32>,
     most: u32,
-) -> u32
+    at_once: bool,
+) -> Result<u32>
     requires owner { IsAtRest heap.now owner.old }
     requires owns { owner.old.view.references ≡ root_row ∷ [] }
     requires other { IsAtRest heap.now other.old }
     requires holds { other.old.view.references ≡ root_row ∷ [] }
+    requires empty { rows.old.items ≡ [] }
+    ensures owner { OnOk result (IsAtRest heap.now owner.new) }
+    ensures other { OnOk result (IsAtRest heap.now other.new) }
+    ensures holds { OnOk result (other.new.view.references ≡ rows.new.items ++ root_row ∷ []) }
+    ensures counted { OnOk result (All (λ row. IsCounted heap.now.layout row) rows.new.items) }
 {
+    heap.words().layout_is_plain();
     let mut made = 0;
-    for value in 0..most {
+    for value in 0..most.min(u32::from(ROWS_EACH)) {
         if !heap.room(owner) {
             break;
         }
-        if !turn(heap, owner, other, value) {
-            return 0;
+        let item = heap.birth(owner, Kind::Num, value, None);
+        let mut given = Some(item);
+        if !at_root(heap, owner, &mut given) {
+            bail!("the root can't be locked");
         }
+        let None = given else {
+            bail!("the root's cell isn't empty");
+        };
+        let mut taken = None;
+        if !at_root(heap, other, &mut taken) {
+            bail!("the root can't be locked");
+        }
+        let Some(row) = taken else {
+            bail!("the root's cell is empty");
+        };
+        if row == 0 {
+            bail!("no number was handed over");
+        }
+        posts_or_keeps(heap, other, rows, row, at_once)?;
         made += 1;
     }
-    if owner.head() != 0 {
-        return 0;
-    }
-    let mut host = FakeHost::new(&[]);
-    if Queue::new(heap).merge_pending(rt, owner, &mut host) == 0 {
-        made
-    } else {
-        0
-    }
+    Ok(made)
 }
 
-/// Turns of two workers, which one thread drives.
-pub fn turns_by_two<R: Clock + Wait>(
-    rt: &R,
+/// Posts each object of the rows.
+pub fn posts_each(
     heap: &Heap<FakeResource>,
-    main: &mut Hand<FakeResource>,
-    most: u32,
-) -> io::Result<Run>
-    requires resting { IsAtRest heap.now main.old }
-    requires references { main.old.view.references ≡ root_row ∷ [] }
-    requires main { main.old.view.thread ≡ 0 }
+    hand: &mut Hand<FakeResource>,
+    rows: &mut VecDeque<u32>,
+) -> Result<()>
+    requires resting { IsAtRest heap.now hand.old }
+    requires holds { hand.old.view.references ≡ rows.old.items ++ root_row ∷ [] }
+    requires counted { All (λ row. IsCounted heap.now.layout row) rows.old.items }
 {
-    let mut owner = worker(heap, main, 1)?;
-    let mut other = worker(heap, main, 2)?;
-    let start = Instant::now(rt)?;
-    let done = turns(rt, heap, &mut owner, &mut other, most);
-    let time = start.elapsed(rt)?;
-    if done == 0 {
-        return Err(io::Error::from(ErrorKind::InvalidData));
+    while let Some(row) = rows.pop_front() {
+        if !posts(heap, hand, row) {
+            bail!("a number wasn't posted");
+        }
     }
-    Ok(Run { done, time })
+    Ok(())
 }

@@ -1,9 +1,10 @@
 //! Locked swaps: a hand locks a list, swaps an item of it, and unlocks it.
 
-ghost use Rattle.std.specs.Prelude.{◌≡◌, true};
-ghost use Rattle.brc_bench.specs.Swaps.{IsReadyToSwap};
+ghost use Rattle.std.specs.Prelude.{◌≡◌, ℕ, List, true};
+ghost use Rattle.brc_bench.specs.Swaps.{IsReadyToSwap, HoldsBeside};
 
 use brc_heap::Hand;
+use brc_host::FakeResource;
 use brc_list::Lists;
 
 /// More tries than a lock takes.
@@ -15,8 +16,8 @@ pub const CELL: u32 = 0;
 /// Makes `times` locked swaps. The hand then holds what the last one took out. Returns how many it made, which is
 /// always all of them.
 pub fn locked_swaps(
-    lists: &Lists<'_, ()>,
-    hand: &mut Hand<()>,
+    lists: &Lists<'_, FakeResource>,
+    hand: &mut Hand<FakeResource>,
     row: u32,
     held: &mut Option<u32>,
     times: u32,
@@ -36,9 +37,16 @@ pub fn locked_swaps(
 
 /// Locks the list, in as many tries as it takes, puts what the hand holds into the cell, and unlocks the list. The hand
 /// then holds what was there. Returns whether it got the lock.
-fn locked_swap(lists: &Lists<'_, ()>, hand: &mut Hand<()>, row: u32, held: &mut Option<u32>) -> bool
+pub fn locked_swap(
+    lists: &Lists<'_, FakeResource>,
+    hand: &mut Hand<FakeResource>,
+    row: u32,
+    held: &mut Option<u32>,
+) -> bool
     requires ready { IsReadyToSwap lists.now hand.old row CELL held.old }
-    ensures { result ≡ true → IsReadyToSwap lists.now hand.new row CELL held.new }
+    ensures ready { result ≡ true → IsReadyToSwap lists.now hand.new row CELL held.new }
+    ensures holds { result ≡ true → (others : List ℕ) → HoldsBeside hand.old row held.old others
+        → HoldsBeside hand.new row held.new others }
 {
     for _ in 0..TRIES {
         if lists.try_lock(hand, row) {

@@ -1,7 +1,7 @@
 use Rattle.std.proofs.Common.{refl}
 use Rattle.brc_model.specs.Layout.{root_row}
 use Rattle.brc_bench.proofs.HandedOver.{holds_rest, counted_rest}
-use Rattle.brc_bench.proofs.batches.posts_each.Goals as goal
+use Rattle.brc_bench.proofs.posts.posts_each.Goals as goal
 
 pub loop-row-preserved : goal.loop-row-preserved
 loop-row-preserved c =

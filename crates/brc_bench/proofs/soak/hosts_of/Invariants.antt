@@ -1,5 +1,5 @@
 use Rattle.std.proofs.Common.{◌≡◌, length}
-use Rattle.brc_soak.proofs.heap.hosts_of.Given as goal
+use Rattle.brc_bench.proofs.soak.hosts_of.Given as goal
 
 -- one in each round
 abbrev pub invariant-loop : goal.invariant-loop

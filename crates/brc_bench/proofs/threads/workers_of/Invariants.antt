@@ -1,0 +1,8 @@
+use Rattle.std.specs.Prelude.{◌≡◌, [], ◌∷◌}
+use Rattle.brc_model.specs.Layout.{root_row}
+use Rattle.brc_bench.specs.Swaps.{IsAtRest}
+use Rattle.brc_bench.proofs.threads.workers_of.Given as goal
+
+abbrev pub invariant-loop-thread : goal.invariant-loop-thread
+invariant-loop-thread l =
+    IsAtRest l.heap l.main × (l.main.view.references ≡ root_row ∷ []) × (l.main.view.thread ≡ 0)

@@ -1,0 +1,203 @@
+//! A soak: 32 workers, each in a thread of its own, call the first function of an accepted module over a fresh heap, and
+//! then over the next heap that of the next module. At each heap's end the births and closes that it shows, and those that
+//! the workers and the hosts have counted, are compared with what the calls lead to.
+
+ghost use Rattle.std.specs.Prelude.{◌≡◌, length, IfOk};
+
+use crate::modules::{MODULES, ROWS, WORKERS};
+use anyhow::{Result, bail};
+use brc_check::{Checked, check};
+use brc_heap::{Final, Hand, Heap, ROOT};
+use brc_host::{FakeHost, FakeResource, Host};
+use brc_lang::read;
+use brc_queue::Queue;
+use brc_work::{Gate, Totals, fan_out};
+use std::alloc::{AllocError, Global};
+use std::sync::Wait;
+use std::thread::Threads;
+use std::time::{Clock, Instant};
+
+/// How many calls all workers make if there is one heap for each module.
+const ONE_HEAP_EACH: u64 = 481_696;
+
+/// What is counted of a heap that has ended.
+#[derive(Debug, Drop, PartialEq)]
+struct HeapCounts {
+    /// The objects that were born, the root too.
+    created: u64,
+    /// The births that the workers have counted.
+    births: u64,
+    /// The objects that are closed.
+    closed: u64,
+    /// The files and connections that the hosts have opened.
+    host_opened: u64,
+    /// The files and connections that the hosts have closed.
+    host_closed: u64,
+    /// The calls of the hosts that have failed.
+    faults: u64,
+}
+
+/// A gate that hears nothing.
+struct Deaf;
+
+impl Gate for Deaf {
+    fn before(&self, _thread: u8, _call: u32) {}
+
+    fn after(&self, _thread: u8, _call: u32) {}
+}
+
+/// Returns how many objects the workers of a heap make if each of them calls a function `times` times that makes
+/// `in_a_call` objects while the worker has rows for them.
+fn made_by_all(times: u32, in_a_call: u32) -> u64 {
+    let tried = u64::from(times) * u64::from(in_a_call);
+    tried.min(u64::from(ROWS)) * u64::from(WORKERS)
+}
+
+/// Runs one heap after another, for each module in turn, until so many calls have been made in all, or if none are asked
+/// for those of one heap for each module. Compares the counts of each heap, and prints what was done.
+///
+/// # Errors
+///
+/// If the counts of a heap aren't those that its module's calls lead to. The schedule doesn't change these: what the
+/// workers give birth to, and the root, is created, and all of it is closed but what keeps itself alive.
+pub fn soak<R: Threads + Wait + Sync + Clock + Print>(
+    rt: &R,
+    alloc: Global,
+    asked: Option<u64>,
+) -> Result<()> {
+    let start = Instant::now(rt)?;
+    let wanted_calls = asked.unwrap_or(ONE_HEAP_EACH);
+    let (mut heaps, mut calls, mut births, mut closes) = (0u64, 0u64, 0u64, 0u64);
+    // Each heap makes at least one call.
+    for _ in 0..wanted_calls {
+        for module in &MODULES {
+            let missing = wanted_calls
+                .saturating_sub(calls)
+                .div_ceil(u64::from(WORKERS));
+            let times = missing.min(u64::from(module.times)) as u32;
+            if times == 0 {
+                break;
+            }
+            let found = run_heap(rt, alloc, &accepted(alloc, module.text)?, times)?;
+            let made = made_by_all(times, module.births);
+            let opened = made_by_all(times, module.opened);
+            let wanted = HeapCounts {
+                created: made.saturating_add(1),
+                births: made,
+                closed: made
+                    .saturating_add(1)
+                    .saturating_sub(made_by_all(times, module.kept)),
+                host_opened: opened,
+                host_closed: opened,
+                faults: 0,
+            };
+            if found != wanted {
+                bail!("{}: wanted {wanted:?}, found {found:?}", module.name);
+            }
+            heaps = heaps.saturating_add(1);
+            calls = calls.saturating_add(u64::from(times) * u64::from(WORKERS));
+            births = births.saturating_add(found.created);
+            closes = closes.saturating_add(found.closed);
+        }
+        if calls >= wanted_calls {
+            break;
+        }
+    }
+    println!(rt; "heaps {heaps}\ncalls {calls}\nbirths {births}\ncloses {closes}")?;
+    println!(rt; "every heap ended with exact closes")?;
+    if asked.is_some() {
+        let time = start.elapsed(rt)?;
+        println!(rt; "seconds {}.{:03}", time.as_secs(), time.subsec_millis())?;
+    }
+    Ok(())
+}
+
+/// Returns the accepted module of the text.
+fn accepted(alloc: Global, text: &[u8]) -> Result<Checked> {
+    let Ok(module) = read(alloc, text) else {
+        bail!("a module can't be read");
+    };
+    match check(alloc, module) {
+        Ok(checked) => Ok(checked),
+        Err(_) => bail!("a module isn't accepted"),
+    }
+}
+
+/// Lets each worker of a fresh heap call the accepted module's first function `times` times, in a thread of its own and
+/// over a host of its own. Then main leaves, and the heap ends. Returns its counts.
+fn run_heap<R: Threads + Wait + Sync>(
+    rt: &R,
+    alloc: Global,
+    checked: &Checked,
+    times: u32,
+) -> Result<HeapCounts> {
+    // The accepted module has a first function.
+    let _module = checked.module();
+    let (heap, mut main) = Heap::new(alloc, WORKERS, ROWS)?;
+    let mut hosts = hosts_of(alloc)?;
+    let mut main_host = FakeHost::new(&[]);
+    let ran = fan_out(
+        rt,
+        alloc,
+        &heap,
+        &mut main,
+        checked,
+        0,
+        times,
+        hosts.as_mut_slice(),
+        &Deaf,
+    );
+    // Main leaves in any case: what dies only then has its files closed too.
+    let failed = Queue::new(&heap).leave(rt, &mut main, &mut main_host);
+    let gone = ran?;
+    let Ok(end) = heap.finish(main) else {
+        bail!("a thread isn't gone");
+    };
+    hosts.push(main_host)?;
+    Ok(counts_of(&end, gone.as_slice(), failed, hosts.as_slice()))
+}
+
+/// Returns a host for each worker. No call of theirs fails.
+fn hosts_of(alloc: Global) -> std::result::Result<Vec<FakeHost<'static>>, AllocError>
+    ensures { IfOk result (λ hosts. length hosts.items ≡ WORKERS) }
+{
+    let mut hosts = Vec::new(alloc);
+    for _ in 0..WORKERS {
+        hosts.push(FakeHost::new(&[]))?;
+    }
+    Ok(hosts)
+}
+
+/// Returns the counts of a heap: from its end, from what its workers have counted, from how many closes of main's have
+/// failed, and from what all hosts have counted.
+fn counts_of(
+    end: &Final<FakeResource>,
+    gone: &[(Hand<FakeResource>, Totals)],
+    failed: u64,
+    hosts: &[FakeHost<'_>],
+) -> HeapCounts {
+    let mut counts = HeapCounts {
+        created: 0,
+        births: 0,
+        closed: 0,
+        host_opened: 0,
+        host_closed: 0,
+        faults: failed,
+    };
+    for row in ROOT..end.rows() {
+        counts.created = counts.created.saturating_add(u64::from(end.born(row)));
+        counts.closed = counts.closed.saturating_add(u64::from(end.closed(row)));
+    }
+    for (_, totals) in gone {
+        counts.births = counts.births.saturating_add(u64::from(totals.created));
+        counts.faults = counts
+            .faults
+            .saturating_add(totals.host_faults)
+            .saturating_add(totals.close_faults);
+    }
+    for host in hosts {
+        counts.host_opened = counts.host_opened.saturating_add(host.opened());
+        counts.host_closed = counts.host_closed.saturating_add(host.closed());
+    }
+    counts
+}
