@@ -7,7 +7,8 @@ use Rattle.brc_os.proofs.repeating.write_whole.Goals as goal
 written_more : (all written rest : List ℕ) (n : ℕ) → all ≡ written ++ rest
     → all ≡ (written ++ take n rest) ++ take (length rest - n) (drop n rest)
 written_more all written rest n split =
-    split ∙ ap (λ l. written ++ l) (sym (take-append-drop n rest)) ∙ sym (append_assoc written (take n rest) (drop n rest))
+    split ∙ ap (λ l. written ++ l) (sym (take-append-drop n rest))
+    ∙ sym (append_assoc written (take n rest) (drop n rest))
     ∙ ap (λ l. (written ++ take n rest) ++ l) (sym (take_rest rest n))
 
 pub loop-rest-preserved : goal.loop-rest-preserved
