@@ -56,3 +56,13 @@ pub record CountsMain (m : Module) (workers rows : ℕ) (call : Call) (before af
   pub failed : ℕ
   pub host : after ≡ after_closes closes failed before
   pub counted : IsTallyOf m workers rows call (raised failed 0) tally
+
+-- Main has left, and the heap of a run with this number of workers, and of rows for each, has ended: each thread is gone.
+-- Main has made `closes` closes of its host then, of which `failed` failed.
+pub record MainHasLeft (workers rows : ℕ) (before after : HostCounts) : Type 0 where
+  pub end : EndState
+  pub layout : end.layout ≡ plain_layout workers rows
+  pub ended : HasEnded end
+  pub closes : ℕ
+  pub failed : ℕ
+  pub host : after ≡ after_closes closes failed before

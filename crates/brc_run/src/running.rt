@@ -1,7 +1,7 @@
 //! A run of a function: its workers in threads of their own, main's leave, and the tally.
 
-ghost use Rattle.std.specs.Prelude.{◌≡◌, ◌<◌, map, length, IfOk};
-ghost use Rattle.brc_run.specs.Runs.{CountsMain, totals_in};
+ghost use Rattle.std.specs.Prelude.{◌≡◌, ◌<◌, map, length, IfOk, IfErr};
+ghost use Rattle.brc_run.specs.Runs.{CountsMain, MainHasLeft, totals_in};
 
 use crate::ending::ended;
 use crate::error::RunFault;
@@ -20,6 +20,11 @@ use std::thread::Threads;
 /// over a host of its own, and main leaves once they are gone. Returns the tally.
 ///
 /// The gate hears of each call.
+///
+/// # Errors
+///
+/// `NoThread` if a worker's thread can't be started, or memory for the workers is refused. Main leaves, and the heap ends,
+/// before that is returned. `NoMemory` if memory is refused elsewhere.
 pub fn run<R: Threads + Wait + Sync, T: Send + Drop, H: Host<Res = T> + Send, G: Gate + Sync>(
     rt: &R,
     alloc: Global,
@@ -31,8 +36,10 @@ pub fn run<R: Threads + Wait + Sync, T: Send + Drop, H: Host<Res = T> + Send, G:
 ) -> Result<Tally, RunFault>
     requires function { plan.call.function < length checked.now.module.functions }
     requires one_each { length hosts.old ≡ plan.threads }
-    ensures { IfOk result (CountsMain checked.now.module plan.threads plan.rows plan.call (H.counts main_host.old)
+    ensures tally { IfOk result (CountsMain checked.now.module plan.threads plan.rows plan.call (H.counts main_host.old)
         (H.counts main_host.new)) }
+    ensures no_thread { IfErr result (λ fault. fault ≡ RunFault.NoThread
+        → MainHasLeft plan.threads plan.rows (H.counts main_host.old) (H.counts main_host.new)) }
 {
     let (heap, mut main) = Heap::new(alloc, plan.threads, plan.rows)?;
     let ran = fan_out(

@@ -5,8 +5,8 @@ use Rattle.brc_run.specs.Tallies.{tally_at_end}
 use Rattle.brc_run.proofs.running.run.Goals as goal
 
 -- The tally is that of the workers that `fan_out` answers, and of the end after main's leave.
-pub returns : goal.returns
-returns g c =
+pub returns-clause-tally : goal.returns-clause-tally
+returns-clause-tally g c =
     let as_many : vec_len c.in_ok-gone.gone ≡ c.args.plan.threads =
     c.in_ok-gone.ensures.one_each ∙ c.requires.one_each in
     let counted = c.ended-end.ensures.counted in
