@@ -1,6 +1,6 @@
 -- What holds of a table between any two steps of its hands, beside the counts: marks that are set are watched, cells
--- change under their list's lock alone, a running thread alone changes the local words of its block, and a hand whose
--- thread is gone holds nothing.
+-- change under their list's lock alone, a running thread alone changes the local words of its block, a hand whose thread
+-- is gone holds nothing, and one hand at a time has taken a slot that is out of the table.
 use Rattle.std.specs.Prelude.{◌≡◌, ◌≢◌, ◌⊎◌, ℕ, ◌<◌, ◌≤◌, true, Option, List, [], ◌∷◌, None, Some, slice_index}
 use Rattle.std.specs.List.{list_any}
 use mathlib.Core.Option as home
@@ -18,9 +18,9 @@ use Rattle.brc_model.specs.Actions.{list_word}
 use Rattle.brc_model.specs.Duties.{address_of, new_word}
 use Rattle.brc_model.specs.OpenWork.{is_finalising}
 use Rattle.brc_model.specs.Watched.{looks_at, scans_over}
+use Rattle.brc_model.specs.SlotLaws.{UsesSlot}
 use Rattle.brc_table.specs.declared.view.View.{View}
 use Rattle.brc_table.specs.Places.{place, HasWord}
-use Rattle.brc_model.specs.SlotLaws.{UsesSlot}
 use Rattle.brc_table.specs.Views.{actor_of, holds, open_work}
 use Rattle.brc_table.specs.Hands.{IsFirst}
 use Rattle.brc_table.specs.Swaps.{MaySwap}
