@@ -1,5 +1,5 @@
 -- What a hand may do that has just got its object.
-use Rattle.std.proofs.Common.{◌≡◌, ◌<◌, ◌≤◌, ◌+◌, ℕ, Bool, Option, None, Some, List, [], ◌∷◌, length, refl, sym, ap, ◌∙◌, subst, inr, arith}
+use Rattle.std.proofs.Common.{◌≡◌, ◌≤◌, ◌+◌, ℕ, Bool, Option, None, Some, List, [], ◌∷◌, length, refl, sym, ap, ◌∙◌, subst, arith}
 use Rattle.std.specs.Prelude.{count_by, cond, ◌==◌, if◌then◌else◌}
 use Rattle.std.proofs.lemmas.List.Sums.{sum_by-cons}
 use Rattle.std.specs.List.{filter}
@@ -11,7 +11,7 @@ use Rattle.brc_table.specs.declared.view.View.{View}
 use Rattle.brc_table.specs.Views.{holds, behind_first, open_work, next_row, worker_view}
 use Rattle.brc_table.specs.Seen.{KnowsCell}
 use Rattle.brc_table.specs.Swaps.{with_item}
-use Rattle.brc_table.specs.Hands.{TableState, HandState, IsOf, IsRunning, HoldsOne, HasNoWork}
+use Rattle.brc_table.specs.Hands.{TableState, HandState, IsOf, IsRunning, HasNoWork}
 use Rattle.brc_heap.specs.Calls.{HasBorn}
 use Rattle.brc_list.specs.Calls.{Keeps, word_of}
 use Rattle.brc_bench.specs.Ready.{IsReady}

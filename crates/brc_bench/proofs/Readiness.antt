@@ -1,21 +1,14 @@
 -- A hand stays ready to retain and release an object.
-use Rattle.std.proofs.Common.{◌≡◌, ◌⊎◌, ◌<◌, ℕ, zero, suc, ◌+◌, Bool, true, false, List, [], ◌∷◌, refl, sym, ap, ◌∙◌, subst, inl, inr, arith}
+use Rattle.std.proofs.Common.{◌≡◌, ◌⊎◌, ◌<◌, ℕ, ◌+◌, Bool, true, false, List, refl, sym, ap, ◌∙◌, subst, inl, inr, arith}
 use Rattle.brc_model.specs.declared.duty.Duty.{Duty}
 use Rattle.brc_table.specs.declared.view.View.{View}
 use Rattle.brc_table.specs.Calls.{CanAct}
-use Rattle.std.specs.List.{filter}
-use Rattle.std.proofs.lemmas.List.Sums.{sum_by-cons}
-use Rattle.brc_model.specs.References.{one_if}
-use Rattle.brc_model.specs.OpenWork.{is_about}
-use Rattle.std.specs.Prelude.{count_by, cond, length, ◌==◌, ◌&&◌, ◌||◌, nat_le, nat_lt}
-use Rattle.std.proofs.lemmas.Bool.{cases_Bool, eq-eqb, ne_eqb, ltb-true, leb-true}
+use Rattle.std.specs.Prelude.{◌==◌, ◌&&◌, ◌||◌, nat_le, nat_lt}
+use Rattle.std.proofs.lemmas.Bool.{cases_Bool, ne_eqb, ltb-true, leb-true}
 use Rattle.brc_model.specs.declared.layout.Layout.{Layout}
-use Rattle.brc_model.specs.Layout.{root_row, none_row, first_immortal_list, row_at, IsCounted}
-use Rattle.brc_table.specs.Views.{worker_view, next_row, open_work}
-use Rattle.brc_table.specs.Hands.{TableState, HandState, IsOf}
-use Rattle.brc_heap.specs.Calls.{Leaves, HasBorn}
+use Rattle.brc_model.specs.Layout.{none_row, first_immortal_list, IsCounted}
+use Rattle.brc_heap.specs.Calls.{Leaves}
 use Rattle.brc_heap.proofs.Leaving.{leaves_then}
-use Rattle.brc_bench.specs.Ready.{IsReady}
 
 -- What two calls about the same row leave.
 pub both_leave : {x : ℕ} {left next : List Duty} {v u w : View} → Leaves x left v u → Leaves x next u w

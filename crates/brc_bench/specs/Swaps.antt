@@ -1,5 +1,5 @@
 -- What a hand needs for a locked swap: to lock a list, swap a cell of it, and unlock it.
-use Rattle.std.specs.Prelude.{◌≡◌, ◌<◌, ◌≤◌, ◌+◌, ◌==◌, ℕ, Option, None, Some, List, [], ◌∷◌, length, count_by}
+use Rattle.std.specs.Prelude.{◌≡◌, ◌<◌, ◌≤◌, ◌+◌, ◌==◌, ℕ, Option, None, Some, List, [], length, count_by}
 use Rattle.brc_model.specs.Layout.{IsCounted}
 use Rattle.brc_table.specs.Views.{behind_first, open_work}
 use Rattle.brc_table.specs.Seen.{KnowsCell}

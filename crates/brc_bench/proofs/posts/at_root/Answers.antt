@@ -1,9 +1,9 @@
 use Rattle.std.proofs.Common.{inl, inr, subst, sym, arith}
 use Rattle.brc_model.specs.declared.layout.Layout.{Layout}
 use Rattle.brc_model.specs.Layout.{root_row, IsCounted}
-use Rattle.brc_table.specs.Hands.{TableState, IsOf}
+use Rattle.brc_table.specs.Hands.{TableState}
 use Rattle.brc_bench.specs.Swaps.{IsAtRest}
-use Rattle.brc_bench.proofs.FirstSwaps.{row_is_held, no_work_at_rest, swaps_begin, rests_after_swap, holds_still}
+use Rattle.brc_bench.proofs.FirstSwaps.{row_is_held, no_work_at_rest, swaps_begin}
 use Rattle.brc_bench.proofs.posts.at_root.Goals as goal
 
 pub size-requires-clause-usable : goal.size-requires-clause-usable

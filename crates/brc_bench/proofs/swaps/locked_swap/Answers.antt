@@ -1,7 +1,4 @@
-use Rattle.std.proofs.Common.{sym, ◌∙◌, subst}
-use Rattle.std.specs.Prelude.{ℕ, Option, List}
-use Rattle.brc_bench.specs.Swaps.{HoldsBeside}
-use Rattle.brc_bench.proofs.LockedSwaps.{after_lock, may_put, beside_after_swap}
+use Rattle.brc_bench.proofs.LockedSwaps.{after_lock, may_put}
 use Rattle.brc_bench.proofs.swaps.locked_swap.Goals as goal
 
 pub swap_item-requires-clause-puts : goal.swap_item-requires-clause-puts
