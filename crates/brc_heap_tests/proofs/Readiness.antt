@@ -149,18 +149,6 @@ ready_alone {heap} {hand} alone = record {
   unlocked = alone.unlocked;
 }
 
--- and rests.
-pub alone_rests : {heap : TableState} {hand : HandState} → IsAlone heap hand → IsResting heap hand None
-alone_rests alone = record {
-  table = alone.table;
-  running = (ready_alone alone).running;
-  held = (ready_alone alone).held;
-  rests = alone_work alone;
-  locked_is = alone.unlocked;
-  lent = alone.lent;
-  returned = tt;
-}
-
 -- Main's hand is as before after it has given out a worker's,
 pub alone_after_giving : {heap : TableState} {before after : HandState} {thread : ℕ} → IsAlone heap before
     → IsOf heap after → HasGiven thread before.view after.view → IsAlone heap after
@@ -191,34 +179,6 @@ alone_again {heap} {before} {after} {x} alone table leaves same = record {
 pub other_work : (v u : View) (x : ℕ) (work : List Duty) → work_about x v ≡ work → Leaves root_row [] v u
     → x ≢ root_row → work_about x u ≡ work
 other_work v u x work is leaves ne = leaves.others x ne ∙ is
-
--- The worker of the smallest heap gives birth to an object, which isn't the root, and releases it. The worker then
--- holds what it held before, and is ready again.
-pub ready_after_release : {heap : TableState} {before after : HandState} {x : ℕ} {left : List Duty} (born : View)
-    → before.view ≡ worker_view (plain_layout 1 1) 1 → IsReady heap before → x ≡ next_row before.view
-    → HasBorn before.view born → IsOf heap after → Leaves x left born after.view
-    → after.view.references ≡ without_reference born.layout x born.references → IsReady heap after
-ready_after_release {heap} {before} {after} {x} {left} born first ready here birth table leaves released =
-    let v = before.view in
-    let row : x ≡ 2 = here ∙ ap next_row first in
-    let back : without_reference v.layout (next_row v) (next_row v ∷ v.references) ≡ v.references =
-    subst (λ (z : View). without_reference z.layout (next_row z) (next_row z ∷ z.references) ≡ z.references)
-    (sym first) refl in
-    let same : after.view.references ≡ v.references =
-    released
-    ∙ (ap (λ (l : Layout). without_reference l x born.references) birth.layout
-    ∙ (ap (λ (rows : List ℕ). without_reference v.layout x rows) birth.references
-    ∙ (ap (λ (y : ℕ). without_reference v.layout y (next_row v ∷ v.references)) here ∙ back))) in
-    record {
-      table = table;
-      running = (leaves.status ∙ (birth.status ∙ ready.running.0), leaves.waits);
-      held = subst (λ (rows : List ℕ). 1 ≤ count_by (λ y. y == root_row) rows) (sym same) ready.held;
-      idle =
-          leaves.others root_row (λ e. absurd (omega (arith, row, e)))
-          ∙ (ap (filter (is_about root_row)) birth.work ∙ ready.idle);
-      few = subst (λ (rows : List ℕ). length rows < most_references) (sym same) ready.few;
-      unlocked = leaves.sight.locked ∙ (birth.sight.locked ∙ ready.unlocked);
-    }
 
 -- ---- another row
 

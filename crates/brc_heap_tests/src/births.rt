@@ -4,7 +4,6 @@ ghost use Rattle.std.specs.Prelude.{◌≡◌, ◌≢◌, [], ◌∷◌};
 ghost use Rattle.brc_model.specs.declared.duty.Duty.TheVariants.{DecideAtZero};
 ghost use Rattle.brc_model.specs.Layout.{root_row};
 ghost use Rattle.brc_table.specs.Views.{work_about};
-ghost use Rattle.brc_table.specs.Hands.{IsOf, IsRunning};
 ghost use Rattle.brc_heap_tests.specs.Ready.{IsReady};
 
 use crate::calls::{opened, retain_and_release, worker};

@@ -3,7 +3,7 @@
 ghost use Rattle.brc_table.specs.Hands.{IsOf, IsRunning, HoldsOne, HasNoWork};
 
 use crate::calls::{NONE, ROOT, opened, worker};
-use brc_heap::{Hand, Heap, LocalRelease, ZeroStep};
+use brc_heap::{Hand, Heap, LocalRelease};
 use brc_lang::Kind;
 use brc_list::Lists;
 use brc_word::{kind_argument, kind_number};

@@ -1,8 +1,7 @@
 //! Locks, and the items of a locked list.
 
-ghost use Rattle.std.specs.Prelude.{◌≡◌, ◌<◌, ◌≤◌, true, None, Some, if◌then◌else◌, length};
+ghost use Rattle.std.specs.Prelude.{◌≡◌, ◌<◌, ◌≤◌, None, Some, if◌then◌else◌, length};
 ghost use Rattle.brc_model.specs.Layout.{root_row};
-ghost use Rattle.brc_table.specs.Seen.{KnowsCell};
 ghost use Rattle.brc_table.specs.Views.{next_row};
 ghost use Rattle.brc_heap_tests.specs.Ready.{IsResting};
 

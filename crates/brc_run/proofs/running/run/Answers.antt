@@ -1,7 +1,5 @@
-use Rattle.std.specs.Prelude.{◌≡◌, ◌<◌, length, vec_len}
-use Rattle.std.proofs.Common.{rules, arith, sym, ap, ◌∙◌}
-use Rattle.brc_run.specs.Runs.{totals_in}
-use Rattle.brc_run.specs.Tallies.{tally_at_end}
+use Rattle.std.specs.Prelude.{◌≡◌, vec_len}
+use Rattle.std.proofs.Common.{rules, arith, ◌∙◌}
 use Rattle.brc_run.proofs.running.run.Goals as goal
 
 -- The tally is that of the workers that `fan_out` answers, and of the end after main's leave.
