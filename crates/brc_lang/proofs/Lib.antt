@@ -17,5 +17,6 @@ mod Uniqueness
 mod Bodies
 mod Functions
 mod EachText
+mod LongerTexts
 mod OwnFaults
 mod Written

@@ -77,6 +77,21 @@ pub line_cut : (text : List ℕ) → list_any is_line_feed text ≡ true
     ≡ before_first is_line_feed text ∷ slice_split is_line_feed (after_first is_line_feed text)
 line_cut text e = slice_split_first is_line_feed text 0 (has_line text e)
 
+pub line_kept : (text more : List ℕ) → list_any is_line_feed text ≡ true
+    → (list_any is_line_feed (text ++ more) ≡ true)
+    × (before_first is_line_feed (text ++ more) ≡ before_first is_line_feed text)
+line_kept text more e =
+    let first = before_first is_line_feed text in
+    let feed = get_or text (position_or_len is_line_feed text) 0 in
+    let below = after_first is_line_feed text in
+    let ends = passes_at_first is_line_feed text 0 (has_line text e) in
+    let parts : text ++ more ≡ first ++ (feed ∷ (below ++ more)) =
+    ap (λ (x : List ℕ). x ++ more) (split_at_first is_line_feed text 0 (has_line text e))
+    ∙ append_assoc first (feed ∷ below) more in (
+      rw parts (has_behind is_line_feed first feed (below ++ more) ends),
+      rw parts (cut_before is_line_feed first feed (below ++ more) (lacks_before is_line_feed text) ends),
+    )
+
 pub line_count-append : (a b : List ℕ) → line_count (a ++ b) ≡ line_count a + line_count b
 line_count-append a b = sum_by-append _ a b
 

@@ -4,7 +4,7 @@ use Rattle.std.specs.List.{slice_split}
 use Rattle.brc_lang.specs.Fault.{is_line_feed}
 use Rattle.brc_lang.specs.RoundTrips.{TextsRoundTrip}
 use Rattle.brc_lang.proofs.Cuts.{first_part, one_part}
-use Rattle.brc_lang.proofs.Lines.{line_at, line_any, line_before, line_cut, line_count_one}
+use Rattle.brc_lang.proofs.Lines.{line_at, line_any, line_before, line_cut, line_kept, line_count_one}
 use Rattle.brc_lang.proofs.Words.{joined, spaced_words, spaced_plain}
 use Rattle.brc_lang.proofs.Spelling.{number_spelled, number_again, number_plain, name_no_space, name_plain}
 
@@ -19,6 +19,7 @@ texts_round_trip = record {
     counted = line_count_one;
     cut = line_cut;
     uncut = one_part is_line_feed;
+    kept = line_kept;
   };
   word_laws = record {
     joined = joined;

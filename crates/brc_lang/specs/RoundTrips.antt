@@ -24,6 +24,10 @@ pub record LinesRoundTrip : Type 0 where
       → slice_split is_line_feed text
       ≡ before_first is_line_feed text ∷ slice_split is_line_feed (after_first is_line_feed text)
   pub uncut : (text : List ℕ) → list_any is_line_feed text ≡ false → slice_split is_line_feed text ≡ text ∷ []
+  -- a line that has its line feed is the first line of each longer text
+  pub kept : (text more : List ℕ) → list_any is_line_feed text ≡ true
+      → (list_any is_line_feed (text ++ more) ≡ true)
+      × (before_first is_line_feed (text ++ more) ≡ before_first is_line_feed text)
 
 -- one word or more
 pub record WordsRoundTrip : Type 0 where

@@ -1,10 +1,10 @@
 //! Laws of all texts. A function here does nothing: a call of it brings its law into a proof.
 
-ghost use Rattle.std.specs.Prelude.{◌≡◌, ◌≢◌, ◌⊎◌, ℕ, List};
+ghost use Rattle.std.specs.Prelude.{◌≡◌, ◌≢◌, ◌⊎◌, ℕ, ◌≤◌, List, ◌++◌, length};
 ghost use Rattle.brc_lang.specs.declared.fault.FaultCode.{FaultCode};
-ghost use Rattle.brc_lang.specs.declared.fault.FaultCode.TheVariants.{NoMemory};
+ghost use Rattle.brc_lang.specs.declared.fault.FaultCode.TheVariants.{CutOff, NoMemory};
 ghost use Rattle.brc_lang.specs.declared.module.Module.{Module};
-ghost use Rattle.brc_lang.specs.Grammar.{Spells, IsModule, text};
+ghost use Rattle.brc_lang.specs.Grammar.{Spells, IsModule, text, first_line};
 ghost use Rattle.brc_lang.specs.Fault.{HasFault};
 ghost use Rattle.brc_lang.specs.EachText.{SpellsAModule, HasAFault};
 ghost use Rattle.brc_lang.specs.RoundTrips.{TextsRoundTrip};
@@ -22,6 +22,12 @@ pub fn one_reading()
 pub fn each_text_reads()
     ensures a_module_or_a_fault { (bytes : List ℕ) → SpellsAModule bytes ⊎ HasAFault bytes }
     ensures own_fault { (bytes : List ℕ) (line : ℕ) (code : FaultCode) → HasFault bytes line code → code ≢ NoMemory }
+{}
+
+/// A fault other than `CutOff` stays, however the text goes on behind at least as many bytes as the first line has.
+pub fn fault_stays()
+    ensures { (bytes more : List ℕ) (line : ℕ) (code : FaultCode) → length first_line ≤ length bytes → code ≢ CutOff
+        → HasFault bytes line code → HasFault (bytes ++ more) line code }
 {}
 
 /// Two modules with the same text are equal.

@@ -23,7 +23,7 @@ pub use check_code::CheckCode;
 pub use cursor::Cursor;
 pub use fault::{FaultCode, ReadFault};
 pub use kind::Kind;
-pub use laws::{each_text_reads, one_reading, one_text, texts_round_trip};
+pub use laws::{each_text_reads, fault_stays, one_reading, one_text, texts_round_trip};
 pub use lexing::{
     four_words, is_name, is_word, number, number_between, one_word, split_line, split_word,
     three_words, two_words,

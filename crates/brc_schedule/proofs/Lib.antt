@@ -5,4 +5,5 @@ mod Machine
 mod LineToLine
 mod Uniqueness
 mod EachText
+mod LongerTexts
 mod OwnFaults

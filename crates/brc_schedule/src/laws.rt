@@ -1,10 +1,10 @@
 //! Laws of all schedules. A function here does nothing: a call of it brings its law into a proof.
 
-ghost use Rattle.std.specs.Prelude.{◌≡◌, ◌≢◌, ◌⊎◌, ℕ, List};
+ghost use Rattle.std.specs.Prelude.{◌≡◌, ◌≢◌, ◌⊎◌, ℕ, ◌≤◌, List, ◌++◌, length};
 ghost use Rattle.brc_lang.specs.declared.fault.FaultCode.{FaultCode};
-ghost use Rattle.brc_lang.specs.declared.fault.FaultCode.TheVariants.{NoMemory};
+ghost use Rattle.brc_lang.specs.declared.fault.FaultCode.TheVariants.{CutOff, NoMemory};
 ghost use Rattle.brc_schedule.specs.declared.schedule.Schedule.{Schedule};
-ghost use Rattle.brc_schedule.specs.Text.{Spells};
+ghost use Rattle.brc_schedule.specs.Text.{Spells, first_line};
 ghost use Rattle.brc_schedule.specs.Fault.{HasFault};
 ghost use Rattle.brc_schedule.specs.EachText.{SpellsASchedule, HasAFault};
 
@@ -25,6 +25,14 @@ pub fn one_schedule()
 pub fn each_text_reads()
     ensures a_schedule_or_a_fault { (bytes : List ℕ) → SpellsASchedule bytes ⊎ HasAFault bytes }
     ensures own_fault { (bytes : List ℕ) (line : ℕ) (code : FaultCode) → HasFault bytes line code → code ≢ NoMemory }
+{
+    texts_round_trip();
+}
+
+/// A fault other than `CutOff` stays, however the text goes on behind at least as many bytes as the first line has.
+pub fn fault_stays()
+    ensures { (bytes more : List ℕ) (line : ℕ) (code : FaultCode) → length first_line ≤ length bytes → code ≢ CutOff
+        → HasFault bytes line code → HasFault (bytes ++ more) line code }
 {
     texts_round_trip();
 }

@@ -7,6 +7,6 @@ mod line;
 mod reading;
 mod schedule;
 
-pub use laws::{each_text_reads, one_schedule};
+pub use laws::{each_text_reads, fault_stays, one_schedule};
 pub use reading::read_schedule;
 pub use schedule::{PlannedCall, Schedule, Steps};
