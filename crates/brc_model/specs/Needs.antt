@@ -1,6 +1,6 @@
 -- What an instruction needs of the world beside its variables: an object of a kind that can be locked, the lock of a
--- list before its items are used, the lock of a file or socket before its resource is, a number to write, and no lock
--- at the end of a call. (Python/C API manual, Critical Section API.)
+-- list before its items are used, the lock of a file or socket before its resource is, a number to write, an object to
+-- put into a list, whatever the index, and no lock at the end of a call. (Python/C API manual, Critical Section API.)
 use Rattle.std.specs.Prelude.{ℕ, zero, suc, Bool, true, false, ◌&&◌, ◌==◌, not, List, [], ◌∷◌, Option, None, Some, is_some, slice_get}
 use Rattle.brc_lang.specs.declared.kind.Kind.{Kind}
 use Rattle.brc_lang.specs.declared.kind.Kind.TheVariants as kinds
@@ -45,7 +45,7 @@ has_needs memory locked variables (Fetch to list index otherwise) =
 has_needs memory locked variables (Set list index from otherwise) =
     has_locked_list memory locked (row_of variables list)
 has_needs memory locked variables (Put list index from otherwise) =
-    has_locked_list memory locked (row_of variables list)
+    has_locked_list memory locked (row_of variables list) && is_some (row_of variables from)
 has_needs memory locked variables (Read to file most otherwise) =
     has_locked_resource memory locked (row_of variables file)
 has_needs memory locked variables (Write file number otherwise) =

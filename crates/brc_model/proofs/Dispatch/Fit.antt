@@ -112,10 +112,14 @@ instruction_fit memory locked variables s (Set list index from otherwise) meets 
     (not-false _ (first_false _ _ meets.met.right_kind)) (not-false _ (first_false _ _ meets.met.has_lock))
     meets.grounded meets.guards meets.kinds
 instruction_fit memory locked variables s (Put list index from otherwise) meets =
-    locked_fit memory locked variables s list (kinds.List ∷ []) refl
+    let row = named_row (slot_of s from) (row_of variables from) (first_false _ _ meets.met.not_empty)
+    (meets.grounded from) in
+    ap (λ (b : Bool). b && is_some (row_of variables from))
+    (locked_fit memory locked variables s list (kinds.List ∷ []) refl
     (first_false _ _ (second_false _ _ meets.met.not_empty))
     (not-false _ (first_false _ _ meets.met.right_kind)) (not-false _ (first_false _ _ meets.met.has_lock))
-    meets.grounded meets.guards meets.kinds
+    meets.grounded meets.guards meets.kinds)
+    ∙ ap is_some row.1
 instruction_fit memory locked variables s (Read to file most otherwise) meets =
     locked_fit memory locked variables s file with_resource refl (first_false _ _ meets.met.not_empty)
     (not-false _ (first_false _ _ meets.met.right_kind)) (not-false _ (first_false _ _ meets.met.has_lock))
