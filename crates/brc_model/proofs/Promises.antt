@@ -3,9 +3,9 @@
 -- In order: `Agreeing`; `Safe`, over `Keeping/StepCases`; `Counting`, the laws of the counting machine; `StatesRise` to
 -- `ClosedOnce`; `Gates`, `Births`, `MarksWatched`, `KindWords` and `CellsUnderLock`; `Guarded`, what of these holds of
 -- running threads, and `SlotsFree` and `SlotsKnown`, what they know of slots; `RowLaws`, which extends these laws to
--- every list of events; `KnownKinds` and `BorrowedItems`, what the checker says of kinds and of borrowed items; then
--- the laws of the world: `Worlds`, `AgendaMoves`, `Emptied`, `Leading`, `Turns`, `Elsewhere`, `StepsMove`, `LocksWait`,
--- `Trace`, `CallsLeft`, `Bounded`, `Faults`, `HostCalls`.
+-- every list of events, as `HandedMerges` does its own; `KnownKinds` and `BorrowedItems`, what the checker says of
+-- kinds and of borrowed items; then the laws of the world: `Worlds`, `AgendaMoves`, `Emptied`, `Leading`, `Turns`,
+-- `Elsewhere`, `StepsMove`, `LocksWait`, `Trace`, `CallsLeft`, `Bounded`, `Faults`, `HostCalls`.
 -- `Rules` proves that the named rules are the steps. `Worked` computes three schedules.
 
 pub mod Agreeing
@@ -26,6 +26,7 @@ pub mod Guarded
 pub mod SlotsFree
 pub mod SlotsKnown
 pub mod RowLaws
+pub mod HandedMerges
 pub mod KnownKinds
 pub mod BorrowedItems
 pub mod Worlds

@@ -7,12 +7,16 @@ use Rattle.brc_model.specs.declared.thread.Call.{Call}
 use Rattle.brc_model.specs.declared.thread.Choice.{Choice}
 use Rattle.brc_model.specs.AbstractState.{is_among}
 use Rattle.brc_model.specs.Safety.{AreCalls}
-use Rattle.brc_word.specs.Words.{owner_part, phase_part, is_immortal_word, closed_word}
+use Rattle.brc_word.specs.Words.{owner_part, phase_part, is_immortal_word, closed_word, dead_word, merged_word}
+use Rattle.brc_model.specs.declared.duty.Reason.TheVariants.{Handed}
+use Rattle.brc_model.specs.declared.duty.Duty.{Duty}
+use Rattle.brc_model.specs.declared.duty.Duty.TheVariants.{MergeExchange}
 use Rattle.brc_model.specs.declared.actor.Status.TheVariants.{Running}
 use Rattle.brc_model.specs.declared.address.Address.TheVariants.{Local, Shared, Gate, KindOf, Mark, Cell, Slot, Resource}
 use Rattle.brc_model.specs.Machine.{Actor, Unborn, Dying, Machine}
 use Rattle.brc_model.specs.Actions.{StepActor}
 use Rattle.brc_model.specs.StepMachine.{StepMachine, counting, next_machine, first_machine, machine_after}
+use Rattle.brc_model.specs.CountingLaws.{ComesNext}
 use Rattle.brc_model.specs.Limits.{row_limit}
 use Rattle.brc_model.specs.Layout.{row_count, block_of, index_of, IsCounted}
 
@@ -105,6 +109,15 @@ BornAreThere m = (x : ℕ) → m.life x ≢ Unborn → x < row_count m.layout
 abbrev pub UsedAreBorn : StepMachine → Type 0
 UsedAreBorn m = (x : ℕ) (a : StepActor) → slice_get m.actors (block_of m.layout x) ≡ Some a
     → index_of m.layout (block_of m.layout x) x < a.actor.used → m.life x ≢ Unborn
+
+-- ---- laws of each machine: merges
+
+-- A merge for a handed reference leaves a count of at least 1, so nothing dies by it.
+abbrev pub HandedMergesLeaveACount : StepMachine → Type 0
+HandedMergesLeaveACount m =
+    (t x carried word : ℕ) (a : Actor) (rest : List Duty)
+    → ComesNext (counting m) t a (MergeExchange x carried word Handed) rest → m.memory (Shared x) ≡ word
+    → merged_word word carried ≢ dead_word
 
 -- ---- laws of each machine: closed rows
 

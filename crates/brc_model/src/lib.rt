@@ -49,9 +49,9 @@ pub use row_laws::{
     a_row_is_finalised_once, an_event_closes_one_row_anew, an_object_is_born_once,
     born_rows_are_listed, born_rows_are_there, born_rows_are_used, borrowed_items_stay,
     cells_change_under_lock, closed_rows_stay_closed, closed_rows_were_born,
-    gates_tell_what_is_closed, immortal_words_stay, kinds_stay, marks_are_watched,
-    nobody_takes_a_row_over, only_a_running_owner_counts, states_only_rise, used_rows_are_born,
-    variables_have_their_kinds,
+    gates_tell_what_is_closed, handed_merges_leave_a_count, immortal_words_stay, kinds_stay,
+    marks_are_watched, nobody_takes_a_row_over, only_a_running_owner_counts, states_only_rise,
+    used_rows_are_born, variables_have_their_kinds,
 };
 pub use rule_laws::steps_go_by_rules;
 pub use slot::{Exit, Slot, State};

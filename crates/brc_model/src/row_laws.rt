@@ -3,7 +3,7 @@
 ghost use Rattle.brc_lang.specs.declared.module.Module.{Module};
 ghost use Rattle.brc_lang.specs.Grammar.{IsModule};
 ghost use Rattle.brc_model.specs.Paths.{IsAcceptable};
-ghost use Rattle.brc_model.specs.Progress.{Always, AtEachEvent, StatesRise, OnlyOwnersCount, OwnersStay, ClosedStays, ClosesAnew, ImmortalsStay, ClosedOnce, GatesTell, BornAreUsed, BornOnce, BornListed, BornAreThere, UsedAreBorn, ClosedWereBorn, CellsChangeUnderLock};
+ghost use Rattle.brc_model.specs.Progress.{Always, AtEachEvent, StatesRise, OnlyOwnersCount, OwnersStay, ClosedStays, ClosesAnew, ImmortalsStay, ClosedOnce, GatesTell, BornAreUsed, BornOnce, BornListed, BornAreThere, UsedAreBorn, ClosedWereBorn, CellsChangeUnderLock, HandedMergesLeaveACount};
 ghost use Rattle.brc_model.specs.Watched.{MarksWatched};
 ghost use Rattle.brc_model.specs.KnownKinds.{KindsAreKnown, KindsStay};
 ghost use Rattle.brc_model.specs.Items.{ItemsAreThere};
@@ -87,6 +87,12 @@ pub fn closed_rows_were_born()
 /// will look.
 pub fn marks_are_watched()
     ensures { (m : Module) → IsModule m → IsAcceptable m → Always MarksWatched m }
+{}
+
+/// States that a merge for a reference that was handed to the owner's queue leaves a count of at least 1. So the object
+/// doesn't die by the merge, and the model's steps don't ask whether it does.
+pub fn handed_merges_leave_a_count()
+    ensures { (m : Module) → IsModule m → IsAcceptable m → Always HandedMergesLeaveACount m }
 {}
 
 /// States that no event changes a kind word that a birth has stored.

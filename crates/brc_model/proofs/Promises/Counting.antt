@@ -1,6 +1,6 @@
 -- The laws of the counting machine: a thread's next duty keeps its invariant and is within its bounds, and the counts
 -- of each row agree.
-use Rattle.std.proofs.Common.{◌≡◌, ℕ, ◌<◌, ◌≤◌, cond, List, [], ◌∷◌, inl, inr, refl, ap, subst, arith}
+use Rattle.std.proofs.Common.{◌≡◌, ◌≢◌, ℕ, ◌<◌, ◌≤◌, cond, List, [], ◌∷◌, inl, inr, refl, ap, subst, arith}
 use Rattle.std.specs.Prelude.{◌==◌, count_by}
 use Rattle.std.proofs.lemmas.Bool.{cases_Bool, cases_lt, eq-eqb}
 use Rattle.std.proofs.lemmas.List.Sums.{sum_by-cons}
@@ -10,13 +10,13 @@ use Rattle.brc_model.specs.References.{one_if, reference_of}
 use Rattle.brc_model.specs.OpenWork.{is_about}
 use Rattle.brc_model.proofs.Basics.Bag.{held-le-references_to}
 use Rattle.brc_model.proofs.Frame.Aside.{lacks_about, lacks_counted}
-use Rattle.brc_word.specs.Words.{biased_part}
+use Rattle.brc_word.specs.Words.{biased_part, dead_word, merged_word}
 use Rattle.brc_model.specs.declared.duty.Duty.{Duty}
 use Rattle.brc_model.specs.declared.duty.Duty.TheVariants.{MergeExchange}
 use Rattle.brc_model.specs.declared.duty.Reason.TheVariants.{Handed}
-use Rattle.brc_model.specs.declared.address.Address.TheVariants.{Local}
+use Rattle.brc_model.specs.declared.address.Address.TheVariants.{Local, Shared}
 use Rattle.brc_model.specs.RowInvariant.{waits, merges, InOwned, InSwapped, InMerged}
-use Rattle.brc_model.specs.Invariant.{AtDuty}
+use Rattle.brc_model.specs.Invariant.{AtDuty, CoreInvariant}
 use Rattle.brc_model.specs.Layout.{row_count}
 use Rattle.brc_model.specs.Machine.{Actor, Machine}
 use Rattle.brc_model.specs.Accounts.{Accounts, lacks_of}
@@ -104,10 +104,12 @@ accounts_there p n m t a h x counts found holds =
 
 -- A merge for a handed reference leaves that reference counted: it is still pending, and the merge adds all that was
 -- swapped out of the local word.
-pub merges_live : HandedMergesLive
-merges_live p n m t a x c w rest counts next same dead =
+pub merge_lives : (p : Accounts) (n : ℕ) (m : Machine) (t : ℕ) (a : Actor) (x c w : ℕ) (rest : List Duty)
+    → CoreInvariant p n m → ComesNext m t a (MergeExchange x c w Handed) rest → m.memory (Shared x) ≡ w
+    → merged_word w c ≢ dead_word
+merge_lives p n m t a x c w rest core next same dead =
     let here : AtDuty p n m t a (MergeExchange x c w Handed) rest =
-    record { core = counts.kept.core; found = next.found; agenda = next.agenda } in
+    record { core = core; found = next.found; agenda = next.agenda } in
     let live = (merge_alive p n m t a x c w Handed rest here).live in
     let one : one_if (x == x) ≡ 1 = ap one_if (eq-eqb x x refl) in
     let merging =
@@ -121,3 +123,6 @@ merges_live p n m t a x c w rest counts next same dead =
     let carried = carried_is p n m t a x c w Handed rest here in
     let left = ap biased_part dead in
     omega (arith, live.sum, waiting, one, local, carried, same, (shared_merged w c).0, left)
+
+pub merges_live : HandedMergesLive
+merges_live p n m t a x c w rest counts = merge_lives p n m t a x c w rest counts.kept.core
