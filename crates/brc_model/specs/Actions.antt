@@ -41,8 +41,9 @@ pub data Action : Type 0 where
   Stuck : Action
   -- it takes a silent step: these of its references move, and it is then at this place
   Silent : List Move → Place → Action
-  -- it calls the host, and is then at the place that the call's exit decides
-  Calls : (Exit → Place) → Action
+  -- it calls the host, which reads or writes the resource of the row, if there is one; and is then at the place that
+  -- the call's exit decides
+  Calls : Option ℕ → (Exit → Place) → Action
   -- it does a duty, with these duties behind it, and is then at the place that the word found decides
   Does : Duty → List Duty → (ℕ → Place) → Action
 
@@ -110,7 +111,7 @@ birth_action layout t used counters at variables to word otherwise =
 abbrev pub grant_action : Layout → ℕ → ℕ → Counters → ℕ → List (Option ℕ) → ℕ → ℕ → Action
 grant_action layout t used counters at variables to otherwise =
     if has_room layout t used
-    then Calls (by_exit (Inside counters at variables Granted)
+    then Calls None (by_exit (Inside counters at variables Granted)
     (InCall counters otherwise (slice_set variables to None)))
     else Silent [] (InCall counters otherwise (slice_set variables to None))
 
@@ -246,7 +247,7 @@ dispatch_inside layout t used counters at variables Granted (Some (Open to path 
 dispatch_inside layout t used counters at variables Granted (Some (Connect to peer otherwise)) =
     granted_birth layout t used counters at variables to sock_word
 dispatch_inside layout t used counters at variables Lent (Some (Read to file most otherwise)) =
-    Calls (λ exit. Inside counters at variables (Called exit))
+    Calls (row_of variables file) (λ exit. Inside counters at variables (Called exit))
 dispatch_inside layout t used counters at variables (Called Success) (Some (Read to file most otherwise)) =
     return_action variables file (Inside counters at variables Granted)
 dispatch_inside layout t used counters at variables (Called FaultExit) (Some (Read to file most otherwise)) =
@@ -256,7 +257,7 @@ dispatch_inside layout t used counters at variables Granted (Some (Read to file 
 dispatch_inside layout t used counters at variables Loaded (Some (Write file number otherwise)) =
     lend_action counters at variables file
 dispatch_inside layout t used counters at variables Lent (Some (Write file number otherwise)) =
-    Calls (λ exit. Inside counters at variables (Called exit))
+    Calls (row_of variables file) (λ exit. Inside counters at variables (Called exit))
 dispatch_inside layout t used counters at variables (Called Success) (Some (Write file number otherwise)) =
     return_action variables file (InCall counters (at + 1) variables)
 dispatch_inside layout t used counters at variables (Called FaultExit) (Some (Write file number otherwise)) =

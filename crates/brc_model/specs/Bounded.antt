@@ -41,7 +41,7 @@ abbrev pub takes_step : (Address → ℕ) → Action → Bool
 takes_step memory Skip = false
 takes_step memory Stuck = false
 takes_step memory (Silent moves place) = true
-takes_step memory (Calls place) = true
+takes_step memory (Calls row place) = true
 takes_step memory (Does d rest place) = not (finds_locked memory (Does d rest place))
 
 -- Says whether a thread that makes no claim begins an instruction: it has no duty to do first, and takes the

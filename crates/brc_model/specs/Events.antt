@@ -5,7 +5,7 @@ use Rattle.brc_model.specs.AbstractState.{are_allowed}
 use Rattle.brc_model.specs.declared.duty.Duty.{Duty}
 use Rattle.brc_model.specs.declared.thread.Choice.{Choice}
 use Rattle.brc_model.specs.declared.thread.Choice.TheVariants.{Ok, Fault, Claim}
-use Rattle.brc_model.specs.BadDuties.{is_bad_duty}
+use Rattle.brc_model.specs.BadDuties.{touches_freed, is_bad_duty}
 use Rattle.brc_model.specs.Threads.{code_of}
 use Rattle.brc_model.specs.Actions.{StepActor, Action, Skip, Stuck, Silent, Calls, Does, action_of}
 use Rattle.brc_model.specs.Needs.{starts_unfit}
@@ -16,7 +16,7 @@ abbrev pub is_bad_action : StepMachine → ℕ → StepActor → Action → Bool
 is_bad_action m t a Skip = false
 is_bad_action m t a Stuck = true
 is_bad_action m t a (Silent moves place) = not (are_allowed m.layout m.abstract moves)
-is_bad_action m t a (Calls place) = false
+is_bad_action m t a (Calls row place) = touches_freed (counting m) t row
 is_bad_action m t a (Does d rest place) = is_bad_duty (counting m) t a.actor d
 
 -- Says whether the thread begins an instruction that lacks what it needs. A thread with duties is inside one.

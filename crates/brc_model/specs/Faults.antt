@@ -8,7 +8,7 @@ use Rattle.brc_model.specs.StepMachine.{StepMachine, of_thread, counted, closes,
 
 -- Says whether the action is a host call.
 abbrev pub calls_host : Action → Bool
-calls_host (Calls place) = true
+calls_host (Calls row place) = true
 calls_host _ = false
 
 -- Says whether the action asks the host to close a resource.

@@ -129,7 +129,7 @@ abbrev pub machine_by : StepMachine → ℕ → StepActor → Exit → Action �
 machine_by m t a exit Skip = m
 machine_by m t a exit Stuck = m
 machine_by m t a exit (Silent moves place) = silent_by m t a moves place
-machine_by m t a exit (Calls place) = called_by m t a exit place
+machine_by m t a exit (Calls row place) = called_by m t a exit place
 machine_by m t a exit (Does d rest place) = does_by m t a exit d rest place
 
 -- Returns the machine after the event; where there is no such thread, it stays as it is.

@@ -1,6 +1,6 @@
 -- Traces. A thread is an automaton: its steps depend on the values that it finds in words, on how its host calls end,
 -- and on nothing else that other threads do. Its trace is its word events, in order.
-use Rattle.std.specs.Prelude.{◌≡◌, ℕ, ◌==◌, Bool, true, false, if◌then◌else◌, List, [], ◌∷◌, ◌++◌, slice_get}
+use Rattle.std.specs.Prelude.{◌≡◌, ℕ, ◌==◌, Bool, true, false, if◌then◌else◌, List, [], ◌∷◌, ◌++◌, Option, slice_get}
 use Rattle.brc_lang.specs.declared.module.Function.{Function}
 use Rattle.brc_model.specs.declared.thread.Choice.{Choice}
 use Rattle.brc_model.specs.declared.duty.Duty.{Duty}
@@ -46,8 +46,8 @@ pub data MakesStep (functions : List Function) (layout : Layout) (t : ℕ) (a : 
       → action_of functions layout t a choice ≡ Silent moves place
       → MakesStep functions layout t a [] (at_place a place)
   -- a host call, which may end by any exit
-  CallsHost : (choice : Choice) (place : Exit → Place) (exit : Exit)
-      → action_of functions layout t a choice ≡ Calls place
+  CallsHost : (choice : Choice) (row : Option ℕ) (place : Exit → Place) (exit : Exit)
+      → action_of functions layout t a choice ≡ Calls row place
       → MakesStep functions layout t a [] (at_place a (place exit))
   -- a duty, which may find any value
   DoesDuty : (choice : Choice) (d : Duty) (rest : List Duty) (place : ℕ → Place) (found : ℕ)
@@ -73,7 +73,7 @@ abbrev pub made_by : StepMachine → ℕ → StepActor → Action → List WordE
 made_by m t a Skip = []
 made_by m t a Stuck = []
 made_by m t a (Silent moves place) = []
-made_by m t a (Calls place) = []
+made_by m t a (Calls row place) = []
 made_by m t a (Does d rest place) = event_by m t a.actor d
 
 -- Returns the thread's word events at the event: none if the event is another thread's.

@@ -74,6 +74,12 @@ pub record SilentFits (p : Module) (c : Accounts) (n : ℕ) (m : StepMachine) (t
   pub lent : a.actor.lent ≡ lent_at (code_of (slice_get p.functions a.function)) place
   pub sits : SilentSits (counting m) t a.actor moves account
 
+-- A call of the host by a thread at rest uses the resource that the thread has lent, and is silent.
+pub record CallFits (p : Module) (c : Accounts) (n : ℕ) (m : StepMachine) (t : ℕ) (a : StepActor) (row : Option ℕ)
+    (place : Exit → Place) : Type 0 where
+  pub uses : a.actor.lent ≡ row
+  pub silent : (exit : Exit) → SilentFits p c n m t a [] (place exit)
+
 -- A duty that the thread does, with the thread's account from then on. `doing` says it of the thread with the duty in
 -- its agenda. The duties are as small as those that the thread had.
 pub record DutyFits (p : Module) (c : Accounts) (n : ℕ) (m : StepMachine) (t : ℕ) (a : StepActor) (d : Duty)
@@ -94,7 +100,7 @@ abbrev pub ActionFits : Module → Accounts → ℕ → StepMachine → ℕ → 
 ActionFits p c n m t a Skip = Unit {0}
 ActionFits p c n m t a Stuck = ⊥
 ActionFits p c n m t a (Silent moves place) = SilentFits p c n m t a moves place
-ActionFits p c n m t a (Calls place) = (exit : Exit) → SilentFits p c n m t a [] (place exit)
+ActionFits p c n m t a (Calls row place) = CallFits p c n m t a row place
 ActionFits p c n m t a (Does d rest place) =
     DutyFits p c n m t a d rest (place (found_by (counting m) t a.actor d))
 
@@ -264,8 +270,10 @@ taken_fits p n m t a Skip whole found at taken lent = absurd taken
 taken_fits p n m t a Stuck whole found at taken lent = absurd taken
 taken_fits p n m t a (Silent moves place) whole found at taken lent =
     silent_fits p n m t a moves place whole found at taken lent
-taken_fits p n m t a (Calls place) whole found at taken lent = λ exit.
-    silent_fits p n m t a [] (place exit) whole found at (taken exit) (lent exit)
+taken_fits p n m t a (Calls row place) whole found at taken lent = record {
+  uses = lent.0;
+  silent = λ exit. silent_fits p n m t a [] (place exit) whole found at (taken exit) (lent.1 exit);
+}
 taken_fits p n m t a (Does d rest place) whole found at taken lent =
     let c = whole.accounts in
     let word = found_by (counting m) t a.actor d in

@@ -182,7 +182,7 @@ abbrev pub IsTaken : List Instr → Scene → Action → Type 0
 IsTaken code g Skip = ⊥
 IsTaken code g Stuck = ⊥
 IsTaken code g (Silent moves place) = SilentTaken code g moves place
-IsTaken code g (Calls place) = (exit : Exit) → SilentTaken code g [] (place exit)
+IsTaken code g (Calls row place) = (exit : Exit) → SilentTaken code g [] (place exit)
 IsTaken code g (Does d rest place) = (found : ℕ) → Taken code g found (place found) d rest
 
 pub taken_with_row : (code : List Instr) (g : Scene) (object : ℕ) (row : Option ℕ) (work : ℕ → Action)

@@ -37,7 +37,7 @@ abbrev pub LeavesItems : List Instr → (Address → ℕ) → Option ℕ → Act
 LeavesItems code memory locked Skip = Unit {0}
 LeavesItems code memory locked Stuck = Unit {0}
 LeavesItems code memory locked (Silent moves place) = KnowsItems code memory locked place
-LeavesItems code memory locked (Calls place) = (exit : Exit) → KnowsItems code memory locked (place exit)
+LeavesItems code memory locked (Calls row place) = (exit : Exit) → KnowsItems code memory locked (place exit)
 LeavesItems code memory locked (Does d rest place) =
     (new : Address → ℕ) (found : ℕ) → IsAfter memory new locked d found
     → KnowsItems code new (locked_by locked d found) (place found)

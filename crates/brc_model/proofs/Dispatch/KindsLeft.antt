@@ -47,7 +47,7 @@ abbrev pub Leaves : List Instr → (ℕ → ℕ) → Action → Type 0
 Leaves code words Skip = Unit {0}
 Leaves code words Stuck = Unit {0}
 Leaves code words (Silent moves place) = KnowsKinds code words place
-Leaves code words (Calls place) = (exit : Exit) → KnowsKinds code words (place exit)
+Leaves code words (Calls row place) = (exit : Exit) → KnowsKinds code words (place exit)
 Leaves code words (Does d rest place) = (found : ℕ) → SeesKind words d found → KnowsKinds code words (place found)
 
 row_leaves : (code : List Instr) (words : ℕ → ℕ) (row : Option ℕ) (work : ℕ → Action)

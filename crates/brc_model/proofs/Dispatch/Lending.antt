@@ -51,12 +51,12 @@ abbrev pub FindsFull : Duty → ℕ → Type 0
 FindsFull (LendSlot x) found = found ≡ 1
 FindsFull d found = Unit {0}
 
--- After the action of a thread that has lent this, its place says what it has lent.
+-- After the action of a thread that has lent this, its place says what it has lent. A call of the host uses just that.
 abbrev pub FollowsLent : List Instr → Option ℕ → Action → Type 0
 FollowsLent code lent Skip = Unit {0}
 FollowsLent code lent Stuck = Unit {0}
 FollowsLent code lent (Silent moves place) = lent ≡ lent_at code place
-FollowsLent code lent (Calls place) = (exit : Exit) → lent ≡ lent_at code (place exit)
+FollowsLent code lent (Calls row place) = (lent ≡ row) × ((exit : Exit) → lent ≡ lent_at code (place exit))
 FollowsLent code lent (Does d rest place) =
     (found : ℕ) → FindsFull d found → lent_by lent d found ≡ lent_at code (place found)
 
@@ -109,8 +109,11 @@ grant_lent : (code : List Instr) (lent : Option ℕ) (layout : Layout) (t used :
     → FollowsLent code lent (grant_action layout t used counters at variables to otherwise)
 grant_lent code lent layout t used counters at variables to otherwise none =
     either (FollowsLent code lent) (has_room layout t used) _ _
-    (λ room. exit_decides (λ (place : Place). lent ≡ lent_at code place) (Inside counters at variables Granted)
-    (InCall counters otherwise (slice_set variables to None)) none none) none
+    (λ room. (
+      none,
+      exit_decides (λ (place : Place). lent ≡ lent_at code place)
+          (Inside counters at variables Granted) (InCall counters otherwise (slice_set variables to None)) none none,
+    )) none
 
 -- A thread that lends the resource of a file has lent that one.
 lend_lent : (code : List Instr) (counters : Counters) (at : ℕ) (variables : List (Option ℕ)) (file : ℕ) (i : Instr)
@@ -213,8 +216,8 @@ inside_lent code layout t used counters at variables Granted (Some (Open to path
     λ found full. says
 inside_lent code layout t used counters at variables Granted (Some (Connect to peer otherwise)) lent is says =
     λ found full. says
-inside_lent code layout t used counters at variables Lent (Some (Read to file most otherwise)) lent is says = λ exit.
-    says ∙ sym (ap (λ (o : Option Instr). lent_to (Called exit) o variables) is)
+inside_lent code layout t used counters at variables Lent (Some (Read to file most otherwise)) lent is says =
+    (says, λ exit. says ∙ sym (ap (λ (o : Option Instr). lent_to (Called exit) o variables) is))
 inside_lent code layout t used counters at variables (Called Success) (Some (Read to file most otherwise)) lent is says
     =
     row_lent code lent (row_of variables file) _ (λ row found full. refl)
@@ -224,8 +227,8 @@ inside_lent code layout t used counters at variables Granted (Some (Read to file
     λ found full. says
 inside_lent code layout t used counters at variables Loaded (Some (Write file number otherwise)) lent is says =
     lend_lent code counters at variables file (Write file number otherwise) lent is refl
-inside_lent code layout t used counters at variables Lent (Some (Write file number otherwise)) lent is says = λ exit.
-    says ∙ sym (ap (λ (o : Option Instr). lent_to (Called exit) o variables) is)
+inside_lent code layout t used counters at variables Lent (Some (Write file number otherwise)) lent is says =
+    (says, λ exit. says ∙ sym (ap (λ (o : Option Instr). lent_to (Called exit) o variables) is))
 inside_lent code layout t used counters at variables (Called Success) (Some (Write file number otherwise)) lent is says
     =
     row_lent code lent (row_of variables file) _ (λ row found full. refl)

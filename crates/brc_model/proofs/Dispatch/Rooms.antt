@@ -61,7 +61,7 @@ abbrev pub FollowsRoom : List Instr → Bool → Action → Type 0
 FollowsRoom code room Skip = Unit {0}
 FollowsRoom code room Stuck = Unit {0}
 FollowsRoom code room (Silent moves place) = awaits_birth code place ≡ true → room ≡ true
-FollowsRoom code room (Calls place) = (exit : Exit) → awaits_birth code (place exit) ≡ true → room ≡ true
+FollowsRoom code room (Calls row place) = (exit : Exit) → awaits_birth code (place exit) ≡ true → room ≡ true
 FollowsRoom code room (Does d rest place) =
     (found : ℕ) → awaits_birth code (place found) ≡ true → (is_lending d ≡ true) × (rest ≡ []) × (room ≡ true)
 

@@ -21,7 +21,8 @@ use Rattle.brc_model.specs.Invariant.{AtDuty, Invariant}
 use Rattle.brc_model.specs.OpenWork.{IsSettled, exits}
 use Rattle.brc_model.proofs.Keeping.CodeInvariant.{CodeInvariant, KeepsOn, coded_set}
 use Rattle.brc_model.proofs.Keeping.SilentSteps.{silenced, silent_core, silent_allowed}
-use Rattle.brc_model.proofs.Dispatch.Counting.{counting_silent, counting_done}
+use Rattle.brc_model.proofs.Dispatch.Counting.{counting_silent, counting_done, its_found}
+use Rattle.brc_model.proofs.Keeping.NotBad.{lent_free}
 use Rattle.brc_model.proofs.Dispatch.AtOnce.{plain_after}
 use Rattle.brc_model.proofs.Dispatch.Fit.{choice_fit}
 use Rattle.brc_model.proofs.Keeping.KindsHold.{thread_holds}
@@ -88,10 +89,10 @@ action_keeps p n m t a exit Skip whole found fits kinds items rooms = (refl, who
 action_keeps p n m t a exit Stuck whole found fits kinds items rooms = absurd fits
 action_keeps p n m t a exit (Silent moves place) whole found fits kinds items rooms =
     silent_keeps p n m t a moves place whole found fits kinds items rooms
-action_keeps p n m t a exit (Calls place) whole found fits kinds items rooms =
-    let quiet = (silent_keeps p n m t a [] (place exit) whole found (fits exit)
+action_keeps p n m t a exit (Calls row place) whole found fits kinds items rooms =
+    let quiet = (silent_keeps p n m t a [] (place exit) whole found (fits.silent exit)
     (record { named = kinds.named; known = kinds.known }) items rooms).1 in (
-      refl,
+      lent_free whole.accounts n (counting m) t a.actor row whole.kept.core (its_found m t a found) fits.uses,
       record {
         accounts = quiet.accounts;
         kept = quiet.kept;

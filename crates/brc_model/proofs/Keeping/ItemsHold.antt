@@ -105,7 +105,7 @@ acted p c n m t a exit Skip found fits stored there others own = there
 acted p c n m t a exit Stuck found fits stored there others own = there
 acted p c n m t a exit (Silent moves place) found fits stored there others own =
     written_others (λ u b. Knows m m.memory b) m.actors t a (at_place a place) found own others
-acted p c n m t a exit (Calls place) found fits stored there others own =
+acted p c n m t a exit (Calls row place) found fits stored there others own =
     written_others (λ u b. Knows m m.memory b) m.actors t a (at_place a (place exit)) found (own exit) others
 acted p c n m t a exit (Does d rest place) found fits stored there others own =
     let word = found_by (counting m) t a.actor d in

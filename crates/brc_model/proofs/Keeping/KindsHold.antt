@@ -91,7 +91,7 @@ acted m t a exit (Silent moves place) found others own =
     written_actor
     (λ u b. KnowsKinds (code_of (slice_get m.functions b.function)) (kind_words m) b.place) m.actors t a
     (at_place a place) found own others
-acted m t a exit (Calls place) found others own =
+acted m t a exit (Calls row place) found others own =
     written_actor
     (λ u b. KnowsKinds (code_of (slice_get m.functions b.function)) (kind_words m) b.place) m.actors t a
     (at_place a (place exit)) found (own exit) others

@@ -1,6 +1,6 @@
 -- A thread's first duty touches no freed row, and makes no move of references that isn't allowed.
 use Rattle.std.proofs.Common.{◌≡◌, ℕ, zero, suc, ◌-◌, ◌<◌, Bool, true, false, cond, not, List, [], ◌∷◌, ◌++◌, refl, sym, ap, ◌∙◌, subst, arith, inl, inr}
-use Rattle.std.specs.Prelude.{◌==◌, ◌&&◌, ◌||◌, count_by, slice_get, Some}
+use Rattle.std.specs.Prelude.{◌==◌, ◌&&◌, ◌||◌, count_by, slice_get, Option, None, Some}
 use Rattle.std.specs.List.{list_any}
 use Rattle.std.proofs.lemmas.Bool.{eq-eqb, ne_eqb, lt-ltb}
 use Rattle.std.proofs.lemmas.List.Sums.{sum_by-cons}
@@ -92,6 +92,13 @@ look_free : (p : Accounts) (n : ℕ) (m : Machine) (t : ℕ) (a : Actor) (x : �
     → is_freed_for t (m.life x) ≡ false
 look_free p n m t a x core (inl backed) = backed_free p n m t a x core backed
 look_free p n m t a x core (inr chained) = dying_free m t x chained.0
+
+-- Nor is an object whose resource the thread has lent to a call of the host, since the thread has locked it.
+pub lent_free : (p : Accounts) (n : ℕ) (m : Machine) (t : ℕ) (a : Actor) (row : Option ℕ) → CoreInvariant p n m
+    → slice_get m.actors t ≡ Some a → a.lent ≡ row → touches_freed m t row ≡ false
+lent_free p n m t a None core found lent = refl
+lent_free p n m t a (Some x) core found lent =
+    alive_free m t x (locked_alive p n m t a x core found ((core.each t a found).0.lent x lent))
 
 touches_none : (p : Accounts) (n : ℕ) (m : Machine) (t : ℕ) (a : Actor) (d : Duty) (rest : List Duty)
     → AtDuty p n m t a d rest → touches_freed m t (touched_row (address_of m.layout t a.head d)) ≡ false

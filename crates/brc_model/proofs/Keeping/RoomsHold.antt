@@ -50,9 +50,9 @@ acted p c n m t a exit Stuck found fits rooms follows = rooms
 acted p c n m t a exit (Silent moves place) found fits rooms follows =
     written_actor (RoomFits m) m.actors t a (at_place a place) found
     (λ awaits. record { agenda = fits.at.agenda; room = follows awaits }) rooms
-acted p c n m t a exit (Calls place) found fits rooms follows =
+acted p c n m t a exit (Calls row place) found fits rooms follows =
     written_actor (RoomFits m) m.actors t a (at_place a (place exit)) found
-    (λ awaits. record { agenda = (fits exit).at.agenda; room = follows exit awaits }) rooms
+    (λ awaits. record { agenda = (fits.silent exit).at.agenda; room = follows exit awaits }) rooms
 acted p c n m t a exit (Does d rest place) found fits rooms follows =
     let word = found_by (counting m) t a.actor d in
     written_actor (RoomFits m) m.actors t a (step_actor m.layout t a d rest (place word) word) found

@@ -50,8 +50,8 @@ action_shows shows m t a exit Stuck whole found fits = absurd fits
 action_shows {Q = Q} shows m t a exit (Silent moves place) whole found fits =
     subst (Q t (counting m)) (counting_silent m t a moves place)
     (shows.moves whole.accounts t (counting m) a.actor moves whole.kept fits.at.found fits.sits.moves_fit)
-action_shows {Q = Q} shows m t a exit (Calls place) whole found fits =
-    let silent = fits exit in
+action_shows {Q = Q} shows m t a exit (Calls row place) whole found fits =
+    let silent = fits.silent exit in
     subst (Q t (counting m)) (counting_called m t a exit place)
     (shows.moves whole.accounts t (counting m) a.actor [] whole.kept silent.at.found silent.sits.moves_fit)
 action_shows {Q = Q} shows m t a exit (Does d rest place) whole found fits =

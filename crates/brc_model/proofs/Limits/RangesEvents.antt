@@ -44,7 +44,7 @@ action_ranges p n m t a exit Skip whole ranges found fits = ranges
 action_ranges p n m t a exit Stuck whole ranges found fits = ranges
 action_ranges p n m t a exit (Silent moves place) whole ranges found fits =
     subst (Ranges n) (counting_silent m t a moves place) (quiet_ranges p n m t a moves ranges found)
-action_ranges p n m t a exit (Calls place) whole ranges found fits =
+action_ranges p n m t a exit (Calls row place) whole ranges found fits =
     subst (Ranges n) (counting_called m t a exit place) (quiet_ranges p n m t a [] ranges found)
 action_ranges p n m t a exit (Does d rest place) whole ranges found fits =
     let there = its_found m t a found in

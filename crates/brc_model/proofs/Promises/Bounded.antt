@@ -38,7 +38,7 @@ abbrev next_place : StepMachine → ℕ → StepActor → Exit → Action → Pl
 next_place m t a exit Skip = a.place
 next_place m t a exit Stuck = a.place
 next_place m t a exit (Silent moves place) = place
-next_place m t a exit (Calls place) = place exit
+next_place m t a exit (Calls row place) = place exit
 next_place m t a exit (Does d rest place) = place (m.memory (address_of m.layout t a.actor.head d))
 
 -- The action lowers what the thread can begin, by one if it begins an instruction.
@@ -62,7 +62,7 @@ taken_lowers code m t a exit Skip leads = absurd leads
 taken_lowers code m t a exit Stuck leads = omega (arith, one_if-false (is_before_instruction a.place))
 taken_lowers code m t a exit (Silent moves place) leads =
     omega (arith, leads, one_if-true (is_before_instruction a.place))
-taken_lowers code m t a exit (Calls place) leads =
+taken_lowers code m t a exit (Calls row place) leads =
     omega (arith, leads exit, one_if-true (is_before_instruction a.place))
 taken_lowers code m t a exit (Does (LockGate x) rest place) leads =
     let word = m.memory (Gate x) in
@@ -163,7 +163,7 @@ action_goes m t a exit begins (Silent moves place) found lowers = record {
   function = refl;
   lowers = lowers;
 }
-action_goes m t a exit begins (Calls place) found lowers = record {
+action_goes m t a exit begins (Calls row place) found lowers = record {
   functions = refl;
   after = at_place a (place exit);
   is_there = slice_get-set_same m.actors t (at_place a (place exit)) (slice_get_within m.actors t a found);

@@ -134,7 +134,7 @@ abbrev ActionEmpties : ℕ → Action → Type 0
 ActionEmpties head Skip = Unit {0}
 ActionEmpties head Stuck = Unit {0}
 ActionEmpties head (Silent moves place) = Unit {0}
-ActionEmpties head (Calls place) = Unit {0}
+ActionEmpties head (Calls row place) = Unit {0}
 ActionEmpties head (Does d rest place) = Empties head (d ∷ rest)
 
 row_empties : (o : Option ℕ) (work : ℕ → Action) → ((row : ℕ) → ActionEmpties 0 (work row))
@@ -268,7 +268,7 @@ action_emptied m t a exit (Silent moves place) are found e =
     let there = its_found m t a found in
     subst AreEmptied (counting_silent m t a moves place)
     (sets_emptied (counting m).actors t a.actor a.actor there (are t a.actor there) are)
-action_emptied m t a exit (Calls place) are found e =
+action_emptied m t a exit (Calls row place) are found e =
     let there = its_found m t a found in
     subst AreEmptied (counting_called m t a exit place)
     (sets_emptied (counting m).actors t a.actor a.actor there (are t a.actor there) are)

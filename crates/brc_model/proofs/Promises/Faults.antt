@@ -26,7 +26,7 @@ action_counts : (m : StepMachine) (t : ℕ) (a : StepActor) (exit : Exit) (x : A
 action_counts m t a exit Skip = record { calls = refl; closings = refl }
 action_counts m t a exit Stuck = record { calls = refl; closings = refl }
 action_counts m t a exit (Silent moves place) = record { calls = refl; closings = refl }
-action_counts m t a exit (Calls place) = record { calls = refl; closings = refl }
+action_counts m t a exit (Calls row place) = record { calls = refl; closings = refl }
 action_counts m t a exit (Does d rest place) = record { calls = refl; closings = refl }
 
 abbrev after : StepMachine → ℕ × Choice → Option StepActor → StepMachine
@@ -96,7 +96,7 @@ action_alike : (m : StepMachine) (t : ℕ) (a : StepActor) (x : Action) → call
 action_alike m t a Skip quiet unclosed = refl
 action_alike m t a Stuck quiet unclosed = refl
 action_alike m t a (Silent moves place) quiet unclosed = refl
-action_alike m t a (Calls place) quiet unclosed = absurd cc
+action_alike m t a (Calls row place) quiet unclosed = absurd cc
 action_alike m t a (Does d rest place) quiet unclosed =
     let new = machine_by m t a Success (Does d rest place) in
     let counts : cond (closes d) (counted FaultExit m.close_faults) m.close_faults ≡ m.close_faults =

@@ -37,7 +37,7 @@ abbrev pub LeadsTo : (Place → Type 0) → Place → Action → Type 0
 LeadsTo P place Skip = ⊥
 LeadsTo P place Stuck = Unit {0}
 LeadsTo P place (Silent moves next) = P next
-LeadsTo P place (Calls next) = (exit : Exit) → P (next exit)
+LeadsTo P place (Calls row next) = (exit : Exit) → P (next exit)
 LeadsTo P place (Does d rest next) = (found : ℕ) → Leads P place d found (next found)
 
 -- The property holds of each place to which an instruction at the point of a call can lead.

@@ -57,14 +57,14 @@ abbrev Moves : StepActor → Action → Type 0
 Moves a Skip = ⊥
 Moves a Stuck = Unit {0}
 Moves a (Silent moves place) = place ≢ a.place
-Moves a (Calls place) = (exit : Exit) → place exit ≢ a.place
+Moves a (Calls row place) = (exit : Exit) → place exit ≢ a.place
 Moves a (Does d rest place) = IsElsewhere a.place (Does d rest place) ⊎ (a.actor.agenda ≡ d ∷ rest)
 
 elsewhere_moves : (a : StepActor) (x : Action) → IsElsewhere a.place x → Moves a x
 elsewhere_moves a Skip elsewhere = elsewhere
 elsewhere_moves a Stuck elsewhere = tt
 elsewhere_moves a (Silent moves place) elsewhere = elsewhere
-elsewhere_moves a (Calls place) elsewhere = elsewhere
+elsewhere_moves a (Calls row place) elsewhere = elsewhere
 elsewhere_moves a (Does d rest place) elsewhere = inl elsewhere
 
 agenda_moves_on : (functions : List Function) (layout : Layout) (t : ℕ) (a : StepActor) (agenda : List Duty)
@@ -102,8 +102,9 @@ action_moves p c n m t a exit Stuck found free fits moves = absurd fits
 action_moves p c n m t a exit (Silent refs place) found free fits moves =
     actor_apart (world_of (machine_by m t a exit (Silent refs place))) (world_of m) t a (at_place a place) found refl
     (λ e. moves (ap (λ (c : StepActor). c.place) e))
-action_moves p c n m t a exit (Calls place) found free fits moves =
-    actor_apart (world_of (machine_by m t a exit (Calls place))) (world_of m) t a (at_place a (place exit)) found refl
+action_moves p c n m t a exit (Calls row place) found free fits moves =
+    actor_apart (world_of (machine_by m t a exit (Calls row place))) (world_of m) t a (at_place a (place exit)) found
+    refl
     (λ e. moves exit (ap (λ (c : StepActor). c.place) e))
 action_moves p c n m t a exit (Does d rest place) found free fits moves =
     let word = m.memory (address_of m.layout t a.actor.head d) in

@@ -49,12 +49,12 @@ action_goes m t a choice (Silent moves place) found is = record {
   is_there = set_goes m t a (at_place a place) found;
   went = Steps (GoesSilently choice moves place is);
 }
-action_goes m t a choice (Calls place) found is = record {
+action_goes m t a choice (Calls row place) found is = record {
   functions = refl;
   layout = refl;
   after = at_place a (place (exit_of choice));
   is_there = set_goes m t a (at_place a (place (exit_of choice))) found;
-  went = Steps (CallsHost choice place (exit_of choice) is);
+  went = Steps (CallsHost choice row place (exit_of choice) is);
 }
 action_goes m t a choice (Does d rest place) found is =
     let word = found_by (counting m) t a.actor d in
@@ -83,7 +83,7 @@ action_leaves m u t a exit Skip ne = leaves_all m t
 action_leaves m u t a exit Stuck ne = leaves_all m t
 action_leaves m u t a exit (Silent moves place) ne =
     record { functions = refl; layout = refl; actor = slice_get-set_other m.actors u t (at_place a place) ne }
-action_leaves m u t a exit (Calls place) ne =
+action_leaves m u t a exit (Calls row place) ne =
     record { functions = refl; layout = refl; actor = slice_get-set_other m.actors u t (at_place a (place exit)) ne }
 action_leaves m u t a exit (Does d rest place) ne =
     let word = found_by (counting m) u a.actor d in

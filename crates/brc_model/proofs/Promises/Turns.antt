@@ -34,7 +34,7 @@ abbrev EachPlace : (Place → Type 0) → Action → Type 0
 EachPlace P Skip = Unit {0}
 EachPlace P Stuck = Unit {0}
 EachPlace P (Silent moves next) = P next
-EachPlace P (Calls next) = (exit : Exit) → P (next exit)
+EachPlace P (Calls row next) = (exit : Exit) → P (next exit)
 EachPlace P (Does d rest next) = (found : ℕ) → P (next found)
 
 leads_or_stays : (P : Place → Type 0) (place : Place) (d : Duty) (found : ℕ) (next : Place) → P place
@@ -50,7 +50,7 @@ each_place : (P : Place → Type 0) (place : Place) (x : Action) → P place →
 each_place P place Skip here leads = tt
 each_place P place Stuck here leads = tt
 each_place P place (Silent moves next) here leads = leads
-each_place P place (Calls next) here leads = leads
+each_place P place (Calls row next) here leads = leads
 each_place P place (Does d rest next) here leads =
     λ found. leads_or_stays P place d found (next found) here (leads found)
 
@@ -155,7 +155,7 @@ action_holds p m t a exit Skip holds found each = holds
 action_holds p m t a exit Stuck holds found each = holds
 action_holds p m t a exit (Silent moves place) holds found each =
     record { functions = holds.functions; counts = counts_set m.actors t a _ found each holds.counts }
-action_holds p m t a exit (Calls place) holds found each =
+action_holds p m t a exit (Calls row place) holds found each =
     record { functions = holds.functions; counts = counts_set m.actors t a _ found (each exit) holds.counts }
 action_holds p m t a exit (Does d rest place) holds found each =
     record { functions = holds.functions; counts = counts_set m.actors t a _ found (each _) holds.counts }

@@ -25,7 +25,7 @@ action_alike : (m : StepMachine) (t : ℕ) (a : StepActor) (exit : Exit) (x : Ac
 action_alike m t a exit Skip = refl
 action_alike m t a exit Stuck = refl
 action_alike m t a exit (Silent moves place) = refl
-action_alike m t a exit (Calls place) = refl
+action_alike m t a exit (Calls row place) = refl
 action_alike m t a exit (Does d rest place) = refl
 
 thread_alike : (m : StepMachine) (t : ℕ) (choice : Choice) (o : Option StepActor)
