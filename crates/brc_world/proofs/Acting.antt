@@ -79,7 +79,7 @@ module _ (layout : Layout) (t : ℕ) (memory : Address → ℕ) (a : StepActor) 
   stuck_by Stuck steps e found =
       record { answer = refl; memory_is = refl; actor = refl; faults = λ f. refl }
   stuck_by (Silent moves place) steps e found = absurd cc
-  stuck_by (Calls place) steps e found = absurd cc
+  stuck_by (Calls row place) steps e found = absurd cc
   stuck_by (Does (LockGate y) rest place) steps e found = absurd cc
   stuck_by (Does d rest place) steps e found = absurd cc
 
@@ -89,7 +89,7 @@ module _ (layout : Layout) (t : ℕ) (memory : Address → ℕ) (a : StepActor) 
   moved_by Stuck e found = absurd cc
   moved_by (Silent moves place) e found =
       record { answer = refl; memory_is = refl; actor = refl; faults = λ f. refl }
-  moved_by (Calls place) e found = absurd cc
+  moved_by (Calls row place) e found = absurd cc
   moved_by (Does (LockGate y) rest place) e found = absurd cc
   moved_by (Does d rest place) e found = absurd cc
 
@@ -99,7 +99,7 @@ module _ (layout : Layout) (t : ℕ) (memory : Address → ℕ) (a : StepActor) 
   called_by Skip e found = absurd cc
   called_by Stuck e found = absurd cc
   called_by (Silent moves place) e found = absurd cc
-  called_by (Calls place) e found =
+  called_by (Calls row place) e found =
       record { answer = refl; memory_is = refl; actor = refl; faults = λ f. refl }
   called_by (Does (LockGate y) rest place) e found = absurd cc
   called_by (Does d rest place) e found = absurd cc
@@ -120,7 +120,7 @@ module _ (layout : Layout) (t : ℕ) (memory : Address → ℕ) (a : StepActor) 
   does_by Skip d e = absurd cc
   does_by Stuck d e = absurd cc
   does_by (Silent moves place) d e = absurd cc
-  does_by (Calls place) d e = absurd cc
+  does_by (Calls row place) d e = absurd cc
   does_by (Does (LockGate y) rest place) d e = absurd cc
   does_by (Does c rest place) d e = done_by [] c d rest place answers.Moved (doing_is d c e) refl
 
@@ -129,7 +129,7 @@ module _ (layout : Layout) (t : ℕ) (memory : Address → ℕ) (a : StepActor) 
   locks_by Skip row left next e = absurd cc
   locks_by Stuck row left next e = absurd cc
   locks_by (Silent moves place) row left next e = absurd cc
-  locks_by (Calls place) row left next e = absurd cc
+  locks_by (Calls used place) row left next e = absurd cc
   locks_by (Does (LockGate y) rest place) row left next e =
       let same : y ≡ row = cc in
       subst (λ (z : ℕ). DoneBy layout t memory a [] exit (Does (LockGate y) rest place) (LockGate z)
@@ -218,7 +218,7 @@ started_head : (a : StepActor) (x : Action) (exit : Exit) (found : ℕ)
 started_head a Skip exit found = refl
 started_head a Stuck exit found = refl
 started_head a (Silent moves place) exit found = refl
-started_head a (Calls place) exit found = refl
+started_head a (Calls row place) exit found = refl
 started_head a (Does d rest place) exit found = refl
 
 module _ (functions : List Function) (layout : Layout) (t : ℕ) (memory : Address → ℕ) (a : StepActor)

@@ -1,6 +1,6 @@
 -- A step's answer says whether the world changed.
 use Rattle.std.proofs.Common.{◌≡◌, ◌≢◌, ℕ, Bool, true, false, List, [], ◌∷◌, Some, refl, ap, ◌∙◌}
-use Rattle.std.specs.Prelude.{if◌then◌else◌, slice_get}
+use Rattle.std.specs.Prelude.{if◌then◌else◌, Option, slice_get}
 use Rattle.brc_model.specs.AbstractState.{Move}
 use Rattle.brc_model.specs.declared.actor.Place.{Place}
 use Rattle.brc_model.specs.declared.actor.Status.{Status}
@@ -34,10 +34,10 @@ silent_goes_on : (memory : Address → ℕ) (agenda : List Duty) (moves : List M
 silent_goes_on memory [] moves place = refl
 silent_goes_on memory (d ∷ rest) moves place = refl
 
-calls_go_on : (memory : Address → ℕ) (agenda : List Duty) (place : Exit → Place)
-    → waits memory agenda (Calls place) ≡ false
-calls_go_on memory [] place = refl
-calls_go_on memory (d ∷ rest) place = refl
+calls_go_on : (memory : Address → ℕ) (agenda : List Duty) (row : Option ℕ) (place : Exit → Place)
+    → waits memory agenda (Calls row place) ≡ false
+calls_go_on memory [] row place = refl
+calls_go_on memory (d ∷ rest) row place = refl
 
 module _ (w : World) (t : ℕ) (exit : Exit) where
   abbrev next : World
@@ -61,8 +61,8 @@ module _ (w : World) (t : ℕ) (exit : Exit) where
   action_answers a Stuck found here moves stays is = (here, is ∙ unchanged w t a found)
   action_answers a (Silent refs place) found here moves stays is =
       (here, moves (silent_goes_on w.memory a.actor.agenda refs place))
-  action_answers a (Calls place) found here moves stays is =
-      (here, moves (calls_go_on w.memory a.actor.agenda place))
+  action_answers a (Calls row place) found here moves stays is =
+      (here, moves (calls_go_on w.memory a.actor.agenda row place))
   action_answers a (Does d rest place) found here moves stays is =
       waiting_answers (waits w.memory a.actor.agenda (Does d rest place)) here moves stays
 

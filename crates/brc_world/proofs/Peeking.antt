@@ -45,7 +45,7 @@ module _ (layout : Layout) (t : ℕ) (memory : Address → ℕ) (a : StepActor) 
   action_seen Skip = refl
   action_seen Stuck = refl
   action_seen (Silent moves place) = refl
-  action_seen (Calls place) = refl
+  action_seen (Calls row place) = refl
   action_seen (Does (LockGate row) rest place) = refl
   action_seen (Does d rest place) = refl
 
@@ -83,7 +83,7 @@ module _ (layout : Layout) (t n threads : ℕ) (memory : Address → ℕ) (a : S
   action_starts Skip can = tt
   action_starts Stuck can = tt
   action_starts (Silent moves place) can = tt
-  action_starts (Calls place) can = tt
+  action_starts (Calls row place) can = tt
   action_starts (Does (LockGate row) rest place) can = can
   action_starts (Does d rest place) can = can
 

@@ -77,7 +77,7 @@ action_as : (w : World) (t : ℕ) (a : StepActor) (exit : Exit) (x : Action) →
 action_as w t a exit Skip found = sym (unchanged w t a found)
 action_as w t a exit Stuck found = sym (unchanged w t a found)
 action_as w t a exit (Silent moves place) found = refl
-action_as w t a exit (Calls place) found = refl
+action_as w t a exit (Calls row place) found = refl
 action_as w t a exit (Does d rest place) found = refl
 
 -- the world after the thread's action, which ends by the exit
@@ -181,7 +181,7 @@ pub can_act : (w : World) (t : ℕ) (a : StepActor) (x : Action)
 can_act w t a Skip within = tt
 can_act w t a Stuck within = tt
 can_act w t a (Silent moves place) within = tt
-can_act w t a (Calls place) within = tt
+can_act w t a (Calls row place) within = tt
 can_act w t a (Does d rest place) within = able w t a d (within d rest place refl)
 
 -- The thread can take its next step, if its steps are within all bounds.

@@ -27,7 +27,7 @@ module _ (t : ℕ) (m : StepMachine) where
   action_shown a choice Skip = refl
   action_shown a choice Stuck = refl
   action_shown a choice (Silent moves place) = refl
-  action_shown a choice (Calls place) = refl
+  action_shown a choice (Calls row place) = refl
   action_shown a choice (Does d rest place) = kept_or_none (is_word (address_of m.layout t a.actor.head d)) _
 
   thread_shown : (choice : Choice) (o : Option StepActor)

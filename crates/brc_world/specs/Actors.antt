@@ -93,7 +93,7 @@ abbrev pub memory_by : Layout → ℕ → (Address → ℕ) → StepActor → Ac
 memory_by layout t memory a Skip = memory
 memory_by layout t memory a Stuck = memory
 memory_by layout t memory a (Silent moves place) = memory
-memory_by layout t memory a (Calls place) = memory
+memory_by layout t memory a (Calls row place) = memory
 memory_by layout t memory a (Does d rest place) = memory_done layout t memory a d
 
 -- Returns the thread after its action, which ends by the exit.
@@ -101,13 +101,13 @@ abbrev pub actor_by : Layout → ℕ → (Address → ℕ) → StepActor → Exi
 actor_by layout t memory a exit Skip = a
 actor_by layout t memory a exit Stuck = a
 actor_by layout t memory a exit (Silent moves place) = at_place a place
-actor_by layout t memory a exit (Calls place) = at_place a (place exit)
+actor_by layout t memory a exit (Calls row place) = at_place a (place exit)
 actor_by layout t memory a exit (Does d rest place) =
     actor_done layout t memory (with_agenda (at_place a (place (found_by layout t memory a d))) rest) d
 
 -- Returns the counts of faults after an action that ends by the exit: a host call or a close may have faulted.
 abbrev pub faults_by : Exit → Action → Faults → Faults
-faults_by exit (Calls place) faults = record { calls = counted exit faults.calls; closes = faults.closes }
+faults_by exit (Calls row place) faults = record { calls = counted exit faults.calls; closes = faults.closes }
 faults_by exit (Does d rest place) faults =
     record { calls = faults.calls; closes = if closes d then counted exit faults.closes else faults.closes }
 faults_by exit _ faults = faults
@@ -123,7 +123,7 @@ abbrev pub did_by : (Address → ℕ) → List Duty → Action → Did
 did_by memory agenda Skip = answers.Gone
 did_by memory agenda Stuck = answers.Same
 did_by memory agenda (Silent moves place) = answers.Moved
-did_by memory agenda (Calls place) = answers.Moved
+did_by memory agenda (Calls row place) = answers.Moved
 did_by memory agenda (Does d rest place) =
     if waits memory agenda (Does d rest place) then answers.Same else answers.Moved
 
@@ -139,7 +139,7 @@ abbrev pub CanAct : Layout → ℕ → ℕ → ℕ → (Address → ℕ) → Ste
 CanAct layout t n threads memory a Skip = Unit {0}
 CanAct layout t n threads memory a Stuck = Unit {0}
 CanAct layout t n threads memory a (Silent moves place) = Unit {0}
-CanAct layout t n threads memory a (Calls place) = Unit {0}
+CanAct layout t n threads memory a (Calls row place) = Unit {0}
 CanAct layout t n threads memory a (Does d rest place) = CanDo layout t n threads memory a d
 
 -- ---- a claim

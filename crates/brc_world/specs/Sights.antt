@@ -101,7 +101,7 @@ abbrev pub sight_by : Layout → ℕ → (Address → ℕ) → StepActor → Cho
 sight_by layout t memory a choice Skip = None
 sight_by layout t memory a choice Stuck = None
 sight_by layout t memory a choice (Silent moves place) = Some (sight_of a choice events.Silent None)
-sight_by layout t memory a choice (Calls place) = Some (sight_of a choice (events.Calls (exit_of choice)) None)
+sight_by layout t memory a choice (Calls row place) = Some (sight_of a choice (events.Calls (exit_of choice)) None)
 sight_by layout t memory a choice (Does d rest place) =
     Some (sight_of a choice (duty_event layout t memory a d) (kind_born memory d))
 

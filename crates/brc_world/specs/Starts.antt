@@ -74,7 +74,7 @@ abbrev pub start_by : Action → Start
 start_by Skip = starts.Stuck
 start_by Stuck = starts.Stuck
 start_by (Silent moves place) = starts.Moved
-start_by (Calls place) = starts.Calling calls.Uses
+start_by (Calls row place) = starts.Calling calls.Uses
 start_by (Does (LockGate x) rest place) = starts.Locking x (left_at (place free_word)) (point_at (place free_word))
 start_by (Does d rest place) = starts.Doing d
 
@@ -150,7 +150,7 @@ abbrev pub started : StepActor → Action → Exit → ℕ → StepActor
 started a Skip exit found = a
 started a Stuck exit found = a
 started a (Silent moves place) exit found = at_place a place
-started a (Calls place) exit found = at_place a (place exit)
+started a (Calls row place) exit found = at_place a (place exit)
 started a (Does d rest place) exit found = with_agenda (at_place a (place found)) rest
 
 -- ---- a dispatch
