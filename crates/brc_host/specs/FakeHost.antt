@@ -1,7 +1,8 @@
 -- What a contract sees of a host that fails by plan: how it answers, and what each call leaves.
-use Rattle.std.specs.Prelude.{ℕ, ◌+◌, List, Option, None, Some, IsSomeAnd, Contains, nat_lt, if◌then◌else◌}
+use Rattle.std.specs.Prelude.{◌≡◌, ◌↔◌, true, ℕ, ◌+◌, List, Option, None, Some, IsSomeAnd, Contains, nat_lt, if◌then◌else◌}
 use Rattle.brc_host.specs.declared.counts.HostCounts.{HostCounts}
 use Rattle.brc_host.specs.HostCounts.{count_limit, no_counts}
+use Rattle.brc_host.specs.HostCalls.{HostCall, has_failed, after_call}
 
 pub record Fake : Type 0 where
   -- the numbers of the calls that fail
@@ -26,3 +27,8 @@ number_after None = None
 -- the host after a call that changes its counts so
 abbrev pub called : (HostCounts → HostCounts) → Fake → Fake
 called count host = record { plan = host.plan; next = number_after host.next; counts = count host.counts }
+
+-- A call fails exactly if the plan has its number, and is counted.
+pub record AnswersByPlan (before : Fake) (call : HostCall) (after : Fake) : Type 0 where
+  pub planned : (has_failed call ≡ true) ↔ IsPlanned before
+  pub counted : after ≡ called (after_call call) before

@@ -1,2 +1,3 @@
 pub mod FakeHost
+pub mod HostCalls
 pub mod HostCounts

@@ -1,4 +1,4 @@
-ghost use Rattle.std.specs.Prelude.{◌≡◌};
+ghost use Rattle.std.specs.Prelude.{◌≡◌, is_err};
 
 use crate::host::Fault;
 
@@ -29,7 +29,7 @@ impl HostCounts {
 
     /// Counts how a call ended that opens a file or connects to a peer (`fault_uncounted`).
     pub fn count_opening<T>(&mut self, answer: &Result<T, Fault>)
-        ensures { self.new ≡ after_opening answer.now self.old }
+        ensures { self.new ≡ after_opening (is_err answer.now) self.old }
     {
         match answer {
             Ok(_) => self.opened = self.opened.saturating_add(1),
@@ -39,7 +39,7 @@ impl HostCounts {
 
     /// Counts how a call ended that reads or writes (`count_wraps`).
     pub fn count_use<T>(&mut self, answer: &Result<T, Fault>)
-        ensures { self.new ≡ after_use answer.now self.old }
+        ensures { self.new ≡ after_use (is_err answer.now) self.old }
     {
         if answer.is_err() {
             self.failures = self.failures.saturating_add(1);
@@ -49,7 +49,7 @@ impl HostCounts {
     /// Counts how a close ended. One that failed is a close too, since nobody can make it again
     /// (`failed_close_uncounted`).
     pub fn count_close(&mut self, answer: &Result<(), Fault>)
-        ensures { self.new ≡ after_close answer.now self.old }
+        ensures { self.new ≡ after_close (is_err answer.now) self.old }
     {
         self.count_use(answer);
         self.closed = self.closed.saturating_add(1);

@@ -1,6 +1,7 @@
-ghost use Rattle.std.specs.Prelude.{◌≡◌, ◌≤◌, ◌↔◌, IsErr, IfOk};
-ghost use Rattle.brc_host.specs.HostCounts.{after_close, after_opening, after_use};
-ghost use Rattle.brc_host.specs.FakeHost.{IsPlanned, called, first_fake};
+ghost use Rattle.std.specs.Prelude.{◌≡◌, ◌≤◌, ◌↔◌, IsErr, IfOk, is_err};
+ghost use Rattle.std.specs.Result.{result_ok};
+ghost use Rattle.brc_host.specs.HostCalls.{Open, Connect, Read, Write, Close};
+ghost use Rattle.brc_host.specs.FakeHost.{IsPlanned, AnswersByPlan, called, first_fake};
 
 use crate::counts::HostCounts;
 use crate::host::{Fault, Host};
@@ -64,9 +65,10 @@ impl Host for FakeHost<'_> {
 
     ghost counts = { λ host. host.counts };
 
+    ghost answers = { AnswersByPlan };
+
     fn open(&mut self, _path: u8, _mode: Mode) -> Result<FakeResource, Fault>
-        ensures planned { IsErr result ↔ IsPlanned self.old }
-        ensures counted { self.new ≡ called (after_opening result) self.old }
+        ensures answers { AnswersByPlan self.old (Open _path _mode (is_err result)) self.new }
     {
         let file = self.answer(FakeResource(()));
         self.counts.count_opening(&file);
@@ -74,8 +76,7 @@ impl Host for FakeHost<'_> {
     }
 
     fn connect(&mut self, _peer: u8) -> Result<FakeResource, Fault>
-        ensures planned { IsErr result ↔ IsPlanned self.old }
-        ensures counted { self.new ≡ called (after_opening result) self.old }
+        ensures answers { AnswersByPlan self.old (Connect _peer (is_err result)) self.new }
     {
         let connection = self.answer(FakeResource(()));
         self.counts.count_opening(&connection);
@@ -83,10 +84,9 @@ impl Host for FakeHost<'_> {
     }
 
     fn read(&mut self, _from: &mut FakeResource, most: u16) -> Result<u16, Fault>
-        ensures planned { IsErr result ↔ IsPlanned self.old }
         ensures at_most { IfOk result (λ got. got ≤ most) }
         ensures whole { IfOk result (λ got. got ≡ most) }
-        ensures counted { self.new ≡ called (after_use result) self.old }
+        ensures answers { AnswersByPlan self.old (Read most (result_ok result)) self.new }
     {
         let got = self.answer(most);
         self.counts.count_use(&got);
@@ -94,8 +94,7 @@ impl Host for FakeHost<'_> {
     }
 
     fn write(&mut self, _to: &mut FakeResource, _bytes: &[u8]) -> Result<(), Fault>
-        ensures planned { IsErr result ↔ IsPlanned self.old }
-        ensures counted { self.new ≡ called (after_use result) self.old }
+        ensures answers { AnswersByPlan self.old (Write _bytes.now (is_err result)) self.new }
     {
         let written = self.answer(());
         self.counts.count_use(&written);
@@ -103,8 +102,7 @@ impl Host for FakeHost<'_> {
     }
 
     fn close(&mut self, _resource: FakeResource) -> Result<(), Fault>
-        ensures planned { IsErr result ↔ IsPlanned self.old }
-        ensures counted { self.new ≡ called (after_close result) self.old }
+        ensures answers { AnswersByPlan self.old (Close (is_err result)) self.new }
     {
         let closed = self.answer(());
         self.counts.count_close(&closed);

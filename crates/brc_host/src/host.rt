@@ -1,7 +1,8 @@
-ghost use Rattle.std.specs.Prelude.{◌≡◌, ◌≤◌, IfOk};
+ghost use Rattle.std.specs.Prelude.{◌≡◌, ◌≤◌, IfOk, is_err};
+ghost use Rattle.std.specs.Result.{result_ok};
 ghost use Rattle.brc_lang.specs.Limits.{read_limit};
 ghost use Rattle.brc_host.specs.declared.counts.HostCounts.{HostCounts};
-ghost use Rattle.brc_host.specs.HostCounts.{after_close, after_opening, after_use};
+ghost use Rattle.brc_host.specs.HostCalls.{HostCall, Open, Connect, Read, Write, Close, after_call};
 
 use brc_lang::Mode;
 use thiserror::Error;
@@ -22,29 +23,38 @@ pub trait Host {
     // What it has counted so far.
     ghost counts: { Self → HostCounts };
 
+    // Asked for this call, it has answered as the call says, and has gone from the first state to the last. Of a host that
+    // isn't known only its calls promise this: a caller that can say which calls have led there has made just these.
+    ghost answers: { Self → HostCall → Self → Type 0 };
+
     /// Opens the file with this number, of those that the run was given (POSIX open). It fails if there is none.
     fn open(&mut self, path: u8, mode: Mode) -> Result<Self::Res, Fault>
-        ensures { counts self.new ≡ after_opening result (counts self.old) };
+        ensures counted { counts self.new ≡ after_call (Open path mode (is_err result)) (counts self.old) }
+        ensures answers { answers self.old (Open path mode (is_err result)) self.new };
 
     /// Connects to the peer with this number, of those that the run was given (POSIX connect). It fails if there is
     /// none.
     fn connect(&mut self, peer: u8) -> Result<Self::Res, Fault>
-        ensures { counts self.new ≡ after_opening result (counts self.old) };
+        ensures counted { counts self.new ≡ after_call (Connect peer (is_err result)) (counts self.old) }
+        ensures answers { answers self.old (Connect peer (is_err result)) self.new };
 
     /// Reads at most `most` bytes and returns how many it has read; 0 at the end of a file, or if the peer has shut its
     /// side (POSIX read).
     fn read(&mut self, from: &mut Self::Res, most: u16) -> Result<u16, Fault>
         requires { most ≤ read_limit }
         ensures at_most { IfOk result (λ got. got ≤ most) }
-        ensures counted { counts self.new ≡ after_use result (counts self.old) };
+        ensures counted { counts self.new ≡ after_call (Read most (result_ok result)) (counts self.old) }
+        ensures answers { answers self.old (Read most (result_ok result)) self.new };
 
     /// Writes all bytes. After a fault nothing is known of how many went out.
     fn write(&mut self, to: &mut Self::Res, bytes: &[u8]) -> Result<(), Fault>
-        ensures { counts self.new ≡ after_use result (counts self.old) };
+        ensures counted { counts self.new ≡ after_call (Write bytes.now (is_err result)) (counts self.old) }
+        ensures answers { answers self.old (Write bytes.now (is_err result)) self.new };
 
     /// Closes the file or the connection. It is closed after a fault too, and can't be closed again (Linux, close(2)).
     fn close(&mut self, resource: Self::Res) -> Result<(), Fault>
-        ensures { counts self.new ≡ after_close result (counts self.old) };
+        ensures counted { counts self.new ≡ after_call (Close (is_err result)) (counts self.old) }
+        ensures answers { answers self.old (Close (is_err result)) self.new };
 
     /// Returns the number of calls that have failed.
     fn failures(&self) -> u64

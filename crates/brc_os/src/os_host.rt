@@ -1,5 +1,6 @@
 ghost use Rattle.std.specs.Prelude.{◌≡◌};
 ghost use Rattle.brc_host.specs.HostCounts.{no_counts};
+ghost use Rattle.brc_host.specs.HostCalls.{after_call};
 
 use crate::devices::Devices;
 use crate::os_resource::OsResource;
@@ -83,6 +84,8 @@ impl<R: Devices> Host for OsHost<'_, R> {
     type Res = OsResource;
 
     ghost counts = { λ host. host };
+
+    ghost answers = { λ before call after. after ≡ after_call call before };
 
     fn open(&mut self, path: u8, mode: Mode) -> Result<OsResource, Fault> {
         let file = self.open_file(path, mode);
