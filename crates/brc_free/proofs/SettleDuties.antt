@@ -1,8 +1,9 @@
 -- What the steps leave by which a hand finalises an object.
 use Rattle.std.proofs.Common.{◌≡◌, ◌≢◌, ℕ, zero, suc, ◌+◌, ◌-◌, ◌<◌, Bool, true, false, List, [], ◌∷◌, ◌++◌, Some, refl, sym, ap, ◌∙◌, subst, arith}
-use Rattle.std.proofs.Math.Nat.{zero-add, lt_irrefl, le_refl}
+use Rattle.std.proofs.Math.Nat.{lt_irrefl, le_refl}
 use Rattle.std.proofs.lemmas.Bool.{lt-ltb, le-ltb}
 use Rattle.std.specs.Prelude.{◌==◌, ◌&&◌, nat_lt, if◌then◌else◌}
+use Rattle.brc_host.specs.HostCalls.{HostCall, Close}
 use Rattle.brc_model.specs.declared.actor.Status.TheVariants.{Running, Gone}
 use Rattle.brc_model.specs.declared.duty.Holding.TheVariants.{InFlight}
 use Rattle.brc_model.specs.declared.duty.Duty.{Duty}
@@ -11,8 +12,8 @@ use Rattle.brc_model.specs.Duties.{ready, has_resource, cells_of, cells_from, re
 use Rattle.brc_table.specs.declared.view.View.{View}
 use Rattle.brc_table.specs.Views.{RowsAreThere, did, done, settling, settle_first, slot_emptied, slot_emptied_by}
 use Rattle.brc_table.specs.Calls.{MaySettle, SettlesFrom}
-use Rattle.brc_free.specs.Works.{Works, Begun, Next, Comes, Keeps, HasWorked, ComesToSettle, AtOnce, InWork, found_by}
-use Rattle.brc_free.proofs.Working.{head_unlocked, gate_apart, keeps_beside, keeps_then, did_keeps, worked_found, worked_on, worked_then}
+use Rattle.brc_free.specs.Works.{Works, Begun, Next, Comes, Keeps, HasWorked, ComesToSettle, AtOnce, InWork, closes_by}
+use Rattle.brc_free.proofs.Working.{head_unlocked, gate_apart, keeps_beside, keeps_then, did_keeps, worked_on, worked_then}
 use Rattle.brc_free.proofs.FirstDuties.{settle_kind_first, settle_cell_first, take_slot_first, settle_end_first}
 
 -- ---- taking the first object off the chain
@@ -43,19 +44,19 @@ settles_first v rest some (AtOnce running aside idle) = ap settle_first idle
 settles_first v rest some (InWork duties alive next) =
     ap settle_first (next ∙ settle_ready v.head duties some)
 
-comes : (v : View) (rest : List Duty) → 0 < v.head → ComesToSettle v rest → HasWorked v 0 (Settle ∷ rest) (settling v)
+comes : (v : View) (rest : List Duty) → 0 < v.head → ComesToSettle v rest → HasWorked v [] (Settle ∷ rest) (settling v)
 comes v rest some at = record {
   agenda = settles_first v rest some at ∙ sym (settle_ready v.head rest some);
-  works = Comes 0 v Begun;
+  works = Comes [] v Begun;
   keeps = keeps_beside v (settle_first v.agenda);
 }
 
 -- The first object is off the chain.
 pub taken_off : (v w : View) (x found : ℕ) (rest : List Duty) → 0 < v.head → x ≡ v.head - 1 → ComesToSettle v rest
-    → w ≡ done (settling v) found → RowsAreThere v → HasWorked v 0 (SettleKind x ∷ Settle ∷ rest) w
+    → w ≡ done (settling v) found → RowsAreThere v → HasWorked v [] (SettleKind x ∷ Settle ∷ rest) w
 taken_off v w x found rest some row at is there =
     let apart = head_unlocked v (v.head - 1) there some refl in
-    worked_on v (settling v) w 0 Settle rest (SettleKind x ∷ Settle ∷ rest) found (comes v rest some at)
+    worked_on v (settling v) w [] Settle rest (SettleKind x ∷ Settle ∷ rest) found (comes v rest some at)
     (settle_ready v.head rest some) refl refl is
     (record {
       status = refl;
@@ -72,25 +73,24 @@ taken_off v w x found rest some row at is there =
 -- ---- its kind
 
 -- A file or a socket has a resource to be closed,
-pub kind_has_resource : (v u w : View) (n x found : ℕ) (rest : List Duty) → HasWorked v n (SettleKind x ∷ rest) u
-    → w ≡ done u found → has_resource found ≡ true → HasWorked v (1 + n) (TakeSlot x ∷ rest) w
-kind_has_resource v u w n x found rest at is has =
-    subst (λ (m : ℕ). HasWorked v m (TakeSlot x ∷ rest) w)
-    (ap (λ (b : Bool). (if b then 1 else 0) + n) has)
-    (worked_found v u w n (SettleKind x) rest (TakeSlot x ∷ rest) found at (settle_kind_first u.head x rest) refl is
+pub kind_has_resource : (v u w : View) (cs : List HostCall) (x found : ℕ) (rest : List Duty)
+    → HasWorked v cs (SettleKind x ∷ rest) u → w ≡ done u found → has_resource found ≡ true
+    → HasWorked v cs (TakeSlot x ∷ rest) w
+kind_has_resource v u w cs x found rest at is has =
+    worked_on v u w cs (SettleKind x) rest (TakeSlot x ∷ rest) found at (settle_kind_first u.head x rest) refl refl is
     (record {
       status = refl;
       used = refl;
       off = record { locked = refl; lent = refl; cells = λ y i is. refl; gates = λ y is. refl };
     })
-    (ap (λ (b : Bool). (if b then TakeSlot x ∷ [] else cells_from x 0 (cells_of found)) ++ rest) has))
+    (ap (λ (b : Bool). (if b then TakeSlot x ∷ [] else cells_from x 0 (cells_of found)) ++ rest) has)
 
 -- and any other object may have cells.
-pub kind_has_cells : (v u w : View) (n x found : ℕ) (rest : List Duty) → HasWorked v n (SettleKind x ∷ rest) u
-    → w ≡ done u found → has_resource found ≡ false → HasWorked v n (cells_from x 0 (cells_of found) ++ rest) w
-kind_has_cells v u w n x found rest at is none =
-    worked_on v u w n (SettleKind x) rest (cells_from x 0 (cells_of found) ++ rest) found at
-    (settle_kind_first u.head x rest) refl (ap (λ (b : Bool). if b then 1 else 0) none) is
+pub kind_has_cells : (v u w : View) (cs : List HostCall) (x found : ℕ) (rest : List Duty) → HasWorked v cs (SettleKind x ∷ rest) u
+    → w ≡ done u found → has_resource found ≡ false → HasWorked v cs (cells_from x 0 (cells_of found) ++ rest) w
+kind_has_cells v u w cs x found rest at is none =
+    worked_on v u w cs (SettleKind x) rest (cells_from x 0 (cells_of found) ++ rest) found at
+    (settle_kind_first u.head x rest) refl refl is
     (record {
       status = refl;
       used = refl;
@@ -99,12 +99,12 @@ kind_has_cells v u w n x found rest at is none =
     (ap (λ (b : Bool). (if b then TakeSlot x ∷ [] else cells_from x 0 (cells_of found)) ++ rest) none)
 
 -- These may be as many as the code has counted.
-pub cells_next : (v u w : View) (x found count : ℕ) (rest : List Duty) → HasWorked v 0 (SettleKind x ∷ Settle ∷ rest) u
+pub cells_next : (v u w : View) (x found count : ℕ) (rest : List Duty) → HasWorked v [] (SettleKind x ∷ Settle ∷ rest) u
     → w ≡ done u found → has_resource found ≡ false → count ≡ cells_of found
-    → HasWorked v 0 (cells_from x 0 count ++ Settle ∷ rest) w
+    → HasWorked v [] (cells_from x 0 count ++ Settle ∷ rest) w
 cells_next v u w x found count rest at is none same =
-    subst (λ (m : ℕ). HasWorked v 0 (cells_from x 0 m ++ Settle ∷ rest) w) (sym same)
-    (kind_has_cells v u w 0 x found (Settle ∷ rest) at is none)
+    subst (λ (m : ℕ). HasWorked v [] (cells_from x 0 m ++ Settle ∷ rest) w) (sym same)
+    (kind_has_cells v u w [] x found (Settle ∷ rest) at is none)
 
 -- ---- its cells
 
@@ -121,10 +121,10 @@ cell_next x i n rest low =
     ap (λ (b : Bool). (if b then SettleCell x i n ∷ [] else SettleEnd x ∷ []) ++ rest) (lt-ltb i n low)
 
 -- A cell is empty now, and what was there is given up next.
-pub cell_emptied : (v u w : View) (n x i m found : ℕ) (rest : List Duty) → HasWorked v n (SettleCell x i m ∷ rest) u
-    → w ≡ done u found → v.locked ≢ Some x → HasWorked v n (release_found found ++ (cells_from x (i + 1) m ++ rest)) w
-cell_emptied v u w n x i m found rest at is apart =
-    worked_on v u w n (SettleCell x i m) rest (release_found found ++ (cells_from x (i + 1) m ++ rest)) found at
+pub cell_emptied : (v u w : View) (cs : List HostCall) (x i m found : ℕ) (rest : List Duty) → HasWorked v cs (SettleCell x i m ∷ rest) u
+    → w ≡ done u found → v.locked ≢ Some x → HasWorked v cs (release_found found ++ (cells_from x (i + 1) m ++ rest)) w
+cell_emptied v u w cs x i m found rest at is apart =
+    worked_on v u w cs (SettleCell x i m) rest (release_found found ++ (cells_from x (i + 1) m ++ rest)) found at
     (settle_cell_first u.head x i m rest) refl refl is
     (record {
       status = refl;
@@ -150,11 +150,11 @@ item_found (suc y) some = ap (λ (x : ℕ). ReleaseLoad x InFlight ∷ []) (one_
   one_less y = omega (arith)
 
 -- All cells are empty now.
-pub all_emptied : (v u w : View) (x n : ℕ) (rest : List Duty) → HasWorked v 0 (cells_from x 0 n ++ Settle ∷ rest) u
-    → ((later : List Duty) → u.agenda ≡ cells_from x 0 n ++ later → HasWorked u 0 (SettleEnd x ∷ later) w)
-    → HasWorked v 0 (SettleEnd x ∷ Settle ∷ rest) w
+pub all_emptied : (v u w : View) (x n : ℕ) (rest : List Duty) → HasWorked v [] (cells_from x 0 n ++ Settle ∷ rest) u
+    → ((later : List Duty) → u.agenda ≡ cells_from x 0 n ++ later → HasWorked u [] (SettleEnd x ∷ later) w)
+    → HasWorked v [] (SettleEnd x ∷ Settle ∷ rest) w
 all_emptied v u w x n rest at emptied =
-    worked_then v u w 0 0 (cells_from x 0 n ++ Settle ∷ rest) (SettleEnd x ∷ Settle ∷ rest) at
+    worked_then v u w [] [] (cells_from x 0 n ++ Settle ∷ rest) (SettleEnd x ∷ Settle ∷ rest) at
     (emptied (Settle ∷ rest) (at.agenda ∙ cells_first u.head x 0 n (Settle ∷ rest)))
 
 -- After the last cell the object is closed.
@@ -165,11 +165,11 @@ cells_end x n rest =
 -- ---- its end
 
 -- The object is closed: one without a resource,
-pub ended : (v u w : View) (n x found : ℕ) (rest : List Duty) → HasWorked v n (SettleEnd x ∷ rest) u
-    → w ≡ done (slot_emptied u) found → v.locked ≢ Some x → HasWorked v n rest w
-ended v u w n x found rest at is apart =
+pub ended : (v u w : View) (cs : List HostCall) (x found : ℕ) (rest : List Duty) → HasWorked v cs (SettleEnd x ∷ rest) u
+    → w ≡ done (slot_emptied u) found → v.locked ≢ Some x → HasWorked v cs rest w
+ended v u w cs x found rest at is apart =
     let has : u.agenda ≡ SettleEnd x ∷ rest = at.agenda ∙ settle_end_first u.head x rest in
-    worked_on v u w n (SettleEnd x) rest rest found at (settle_end_first u.head x rest) refl refl
+    worked_on v u w cs (SettleEnd x) rest rest found at (settle_end_first u.head x rest) refl refl
     (is ∙ ap (λ (ds : List Duty). done (slot_emptied_by ds u) found) has)
     (record {
       status = refl;
@@ -182,21 +182,21 @@ ended v u w n x found rest at is apart =
       };
     }) refl
 
--- and one whose resource is out of its slot.
-pub ended_empty : (v u w : View) (n x found : ℕ) (rest : List Duty) → HasWorked v n (TakeSlot x ∷ rest) u
-    → w ≡ done (slot_emptied u) found → v.locked ≢ Some x → HasWorked v n rest w
-ended_empty v u w n x found rest at is apart =
+-- and one whose resource was closed.
+pub ended_empty : (v u w : View) (cs : List HostCall) (x found : ℕ) (failed : Bool) (rest : List Duty)
+    → HasWorked v cs (TakeSlot x ∷ rest) u → w ≡ done (slot_emptied u) found → v.locked ≢ Some x
+    → HasWorked v (cs ++ Close failed ∷ []) rest w
+ended_empty v u w cs x found failed rest at is apart =
     let has : u.agenda ≡ TakeSlot x ∷ rest = at.agenda ∙ take_slot_first u.head x rest in
     let emptied : View = record u { agenda = SettleEnd x ∷ rest } in
     let does : w ≡ did emptied (SettleEnd x ∷ rest) found =
     is ∙ ap (λ (ds : List Duty). done (slot_emptied_by ds u) found) has in
-    let work : Works v n (done (slot_emptied u) found) =
-    subst (λ (m : ℕ). Works v m (done (slot_emptied u) found)) (zero-add n)
-    (subst (λ (ds : List Duty). Works v (found_by ds found + n) (done (slot_emptied u) found)) has
-    (Next n u found at.works)) in
+    let work : Works v (cs ++ Close failed ∷ []) (done (slot_emptied u) found) =
+    subst (λ (ds : List Duty). Works v (cs ++ closes_by ds failed) (done (slot_emptied u) found)) has
+    (Next cs u found failed at.works) in
     record {
       agenda = ap (λ (z : View). z.agenda) does ∙ ap (λ (z : View). ready z.head rest) (sym does);
-      works = subst (Works v n) (sym is) work;
+      works = subst (Works v (cs ++ Close failed ∷ [])) (sym is) work;
       keeps =
           keeps_then v u w at.keeps
           (subst (Keeps u) (sym does)

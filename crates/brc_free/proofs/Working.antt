@@ -1,9 +1,11 @@
 -- How a hand that does duty after duty goes on.
-use Rattle.std.proofs.Common.{◌≡◌, ◌≢◌, ℕ, ◌+◌, ◌-◌, ◌<◌, Bool, true, false, List, [], ◌∷◌, ◌++◌, Some, refl, sym, ap, ◌∙◌, subst, arith}
+use Rattle.std.proofs.Common.{◌≡◌, ◌≢◌, ℕ, ◌+◌, ◌-◌, ◌<◌, Bool, true, false, List, [], ◌∷◌, ◌++◌, append_assoc, append-nil, Some, refl, sym, ap, ◌∙◌, subst, arith}
 use Rattle.std.specs.Prelude.{◌==◌, if◌then◌else◌}
-use Rattle.std.proofs.Math.Nat.{add_assoc, zero-add}
 use Rattle.std.proofs.lemmas.Bool.{ne_eqb}
+use Rattle.brc_host.specs.HostCalls.{HostCall, host_faults}
+use Rattle.brc_host.proofs.Answering.{host_faults_then}
 use Rattle.brc_model.specs.declared.duty.Duty.{Duty}
+use Rattle.brc_model.specs.declared.duty.Duty.TheVariants.{TakeSlot}
 use Rattle.brc_model.specs.Duties.{ready, continuation, new_head}
 use Rattle.brc_model.specs.Machine.{is_running, status_by, used_by}
 use Rattle.brc_model.specs.OpenWork.{is_finalising, finalised}
@@ -11,7 +13,7 @@ use Rattle.brc_table.specs.declared.view.View.{View}
 use Rattle.brc_table.specs.Views.{RowsAreThere, did, done, slot_emptied, slot_emptied_by}
 use Rattle.brc_heap.proofs.Sight.{StaysOff, away_off, did_sight}
 use Rattle.brc_heap.proofs.Leaving.{is_plain, plain_keeps}
-use Rattle.brc_free.specs.Works.{Works, Begun, Next, Comes, Keeps, HasWorked, found_by}
+use Rattle.brc_free.specs.Works.{Works, Begun, Next, Comes, Keeps, HasWorked, closes_by}
 
 -- ---- what is kept
 
@@ -102,7 +104,7 @@ gate_apart v u x apart same y is =
 -- ---- first steps
 
 -- A hand that hasn't done anything yet, of whose duties the first needs a step.
-pub worked_first : (v : View) (ds : List Duty) → v.agenda ≡ ready v.head ds → HasWorked v 0 ds v
+pub worked_first : (v : View) (ds : List Duty) → v.agenda ≡ ready v.head ds → HasWorked v [] ds v
 worked_first v ds is = record { agenda = is; works = Begun; keeps = keeps_first v }
 
 -- ---- one duty more
@@ -126,60 +128,67 @@ did_keeps u d rest found quiet =
       cells = sight.cells;
     }
 
--- One duty more, the first of those that come next, which may find a resource of a dying object,
-pub worked_found : (v u w : View) (n : ℕ) (d : Duty) (rest ds : List Duty) (found : ℕ) → HasWorked v n (d ∷ rest) u
-    → ready u.head (d ∷ rest) ≡ d ∷ rest → slot_emptied_by (d ∷ rest) u ≡ u → w ≡ done u found → IsQuiet u d found
+-- One duty more, the first of those that come next.
+pub worked_on : (v u w : View) (cs : List HostCall) (d : Duty) (rest ds : List Duty) (found : ℕ) → HasWorked v cs (d ∷ rest) u
+    → ready u.head (d ∷ rest) ≡ d ∷ rest → slot_emptied_by (d ∷ rest) u ≡ u → closes_by (d ∷ rest) false ≡ []
+    → w ≡ done u found → IsQuiet u d found
     → continuation u.layout u.thread (is_running u.status) u.head d found ++ rest ≡ ds
-    → HasWorked v (found_by (d ∷ rest) found + n) ds w
-worked_found v u w n d rest ds found at first unslotted is quiet next =
+    → HasWorked v cs ds w
+worked_on v u w cs d rest ds found at first unslotted none is quiet next =
     let has : u.agenda ≡ d ∷ rest = at.agenda ∙ first in
     let does : w ≡ did u (d ∷ rest) found = is ∙ ap (λ (es : List Duty). did u es found) has in
     let same : slot_emptied u ≡ u = ap (λ (es : List Duty). slot_emptied_by es u) has ∙ unslotted in
-    let work : Works v (found_by u.agenda found + n) (done (slot_emptied u) found) = Next n u found at.works in
+    let no_more : cs ++ closes_by u.agenda false ≡ cs =
+    ap (λ (es : List Duty). cs ++ closes_by es false) has ∙ (ap (λ (fs : List HostCall). cs ++ fs) none ∙ append-nil cs) in
+    let work : Works v (cs ++ closes_by u.agenda false) (done (slot_emptied u) found) = Next cs u found false at.works in
     record {
       agenda =
           ap (λ (z : View). z.agenda) does
           ∙ (ap (λ (es : List Duty). ready (new_head u.head d found) es) next
           ∙ ap (λ (z : View). ready z.head ds) (sym does));
       works =
-          subst (λ (z : View). Works v (found_by (d ∷ rest) found + n) z) (ap (λ (z : View). done z found) same ∙ sym is)
-          (subst (λ (es : List Duty). Works v (found_by es found + n) (done (slot_emptied u) found)) has work);
+          subst (λ (z : View). Works v cs z) (ap (λ (z : View). done z found) same ∙ sym is)
+          (subst (λ (fs : List HostCall). Works v fs (done (slot_emptied u) found)) no_more work);
       keeps =
           keeps_then v u w at.keeps
           (subst (Keeps u) (sym does) (did_keeps u d rest found quiet));
     }
 
--- and one that finds none.
-pub worked_on : (v u w : View) (n : ℕ) (d : Duty) (rest ds : List Duty) (found : ℕ) → HasWorked v n (d ∷ rest) u
-    → ready u.head (d ∷ rest) ≡ d ∷ rest → slot_emptied_by (d ∷ rest) u ≡ u → found_by (d ∷ rest) found ≡ 0
-    → w ≡ done u found → IsQuiet u d found
-    → continuation u.layout u.thread (is_running u.status) u.head d found ++ rest ≡ ds
-    → HasWorked v n ds w
-worked_on v u w n d rest ds found at first unslotted none is quiet next =
-    subst (λ (m : ℕ). HasWorked v m ds w) (ap (λ (m : ℕ). m + n) none ∙ zero-add n)
-    (worked_found v u w n d rest ds found at first unslotted is quiet next)
-
 -- ---- work after work
 
-pub works_then : (v u w : View) (n m : ℕ) → Works v n u → Works u m w → Works v (m + n) w
-works_then v u w n m one Begun = subst (λ (s : ℕ). Works v s u) (sym (zero-add n)) one
-works_then v u w n m one (Next k z found other) =
-    subst (λ (s : ℕ). Works v s (done (slot_emptied z) found)) (sym (add_assoc (found_by z.agenda found) k n))
-    (Next (k + n) z found (works_then v u z n k one other))
-works_then v u w n m one (Comes k z other) = Comes (m + n) z (works_then v u z n m one other)
+pub works_then : (v u w : View) (cs ds : List HostCall) → Works v cs u → Works u ds w → Works v (cs ++ ds) w
+works_then v u w cs ds one Begun = subst (λ (fs : List HostCall). Works v fs u) (sym (append-nil cs)) one
+works_then v u w cs ds one (Next es z found failed other) =
+    subst (λ (fs : List HostCall). Works v fs (done (slot_emptied z) found))
+    (append_assoc cs es (closes_by z.agenda failed))
+    (Next (cs ++ es) z found failed (works_then v u z cs es one other))
+works_then v u w cs ds one (Comes es z other) = Comes (cs ++ ds) z (works_then v u z cs ds one other)
 
 -- The same of what comes next.
-pub worked_then : (v u w : View) (n m : ℕ) (ds es : List Duty) → HasWorked v n ds u → HasWorked u m es w → HasWorked v (m + n) es w
-worked_then v u w n m ds es one other = record {
+pub worked_then : (v u w : View) (cs fs : List HostCall) (ds es : List Duty) → HasWorked v cs ds u → HasWorked u fs es w
+    → HasWorked v (cs ++ fs) es w
+worked_then v u w cs fs ds es one other = record {
   agenda = other.agenda;
-  works = works_then v u w n m one.works other.works;
+  works = works_then v u w cs fs one.works other.works;
   keeps = keeps_then v u w one.keeps other.keeps;
 }
 
 -- The same of a call that leaves what it makes of the duties that it finds, the first of which needs a step.
-pub worked_call : (v u w : View) (n : ℕ) (ds : List Duty) (left : List Duty → List Duty) → HasWorked v n ds u
-    → ready u.head ds ≡ ds → HasWorked u 0 (left u.agenda) w → HasWorked v n (left ds) w
-worked_call v u w n ds left at first other =
-    subst (λ (m : ℕ). HasWorked v m (left ds) w) (zero-add n)
-    (worked_then v u w n 0 ds (left ds) at
-    (subst (λ (es : List Duty). HasWorked u 0 (left es) w) (at.agenda ∙ first) other))
+pub worked_call : (v u w : View) (cs : List HostCall) (ds : List Duty) (left : List Duty → List Duty) → HasWorked v [] ds u
+    → ready u.head ds ≡ ds → HasWorked u cs (left u.agenda) w → HasWorked v cs (left ds) w
+worked_call v u w cs ds left at first other =
+    worked_then v u w [] cs ds (left ds) at
+    (subst (λ (es : List Duty). HasWorked u cs es w) (ap left (at.agenda ∙ first)) other)
+
+-- A hand that does its duties asks the host for closes alone.
+pub works_close : (v u : View) (cs : List HostCall) → Works v cs u → host_faults cs ≡ 0
+works_close v u cs Begun = refl
+works_close v u cs (Next closes z found failed other) =
+    host_faults_then closes (closes_by z.agenda failed)
+    ∙ (ap (λ (k : ℕ). k + host_faults (closes_by z.agenda failed)) (works_close v z closes other)
+    ∙ ap (λ (k : ℕ). 0 + k) (by_closes z.agenda failed)) where
+      by_closes : (ds : List Duty) (failed : Bool) → host_faults (closes_by ds failed) ≡ 0
+      by_closes [] failed = refl
+      by_closes (TakeSlot x ∷ rest) failed = refl
+      by_closes (d ∷ rest) failed = refl
+works_close v u cs (Comes closes z other) = works_close v z closes other

@@ -1,13 +1,14 @@
 -- What a hand does in the midst of other work: duty after duty, and which duties come next then.
-use Rattle.std.specs.Prelude.{◌≡◌, ◌≢◌, true, ℕ, ◌+◌, ◌<◌, List, [], ◌∷◌, ◌++◌, Some, not}
+use Rattle.std.specs.Prelude.{◌≡◌, ◌≢◌, Bool, true, ℕ, ◌+◌, ◌<◌, List, [], ◌∷◌, ◌++◌, Some, not}
 use Rattle.std.specs.List.{filter}
+use Rattle.brc_host.specs.HostCalls.{HostCall, Close}
 use Rattle.brc_model.specs.declared.actor.Status.TheVariants.{Running, Gone}
 use Rattle.brc_model.specs.declared.duty.Holding.TheVariants.{InFlight}
 use Rattle.brc_model.specs.declared.duty.Reason.{Reason}
 use Rattle.brc_model.specs.declared.duty.Reason.TheVariants.{Handed}
 use Rattle.brc_model.specs.declared.duty.Duty.{Duty}
-use Rattle.brc_model.specs.declared.duty.Duty.TheVariants.{ReleaseLoad, DecideAtZero, SharedLoad, MergeSwap, MergeLoad, Settle, SettleKind, SettleCell, TakeSlot}
-use Rattle.brc_model.specs.Duties.{ready, once_merged, resources_of, cells_from}
+use Rattle.brc_model.specs.declared.duty.Duty.TheVariants.{ReleaseLoad, DecideAtZero, SharedLoad, MergeSwap, MergeLoad, Settle, SettleCell, TakeSlot}
+use Rattle.brc_model.specs.Duties.{ready, once_merged, cells_from}
 use Rattle.brc_table.specs.declared.view.View.{View}
 use Rattle.brc_model.specs.OpenWork.{is_about}
 use Rattle.brc_table.specs.Seen.{has_seen_kind, cell_seen}
@@ -17,19 +18,19 @@ use Rattle.brc_free.specs.declared.giving_up.Tried.TheVariants as tried
 
 -- ---- work
 
--- how many resources the first duty finds: those of a dying object
-abbrev pub found_by : List Duty → ℕ → ℕ
-found_by (SettleKind x ∷ rest) found = resources_of found
-found_by _ found = 0
+-- the call by which the first duty closes the resource of a dying object
+abbrev pub closes_by : List Duty → Bool → List HostCall
+closes_by (TakeSlot x ∷ rest) failed = Close failed ∷ []
+closes_by _ failed = []
 
--- The hand has done duty after duty, and nothing else. In all it has found n resources of dying objects, and taken each out
--- of its slot before the object was closed.
-pub data Works (v : View) : ℕ → View → Type 0 where
-  Begun : Works v 0 v
-  Next : (n : ℕ) (u : View) (found : ℕ) → Works v n u
-      → Works v (found_by u.agenda found + n) (done (slot_emptied u) found)
+-- The hand has done duty after duty, and nothing else. Each resource of a dying object was taken out of its slot and closed
+-- before the object was closed: these are the calls of the host, in order.
+pub data Works (v : View) : List HostCall → View → Type 0 where
+  Begun : Works v [] v
+  Next : (closes : List HostCall) (u : View) (found : ℕ) (failed : Bool) → Works v closes u
+      → Works v (closes ++ closes_by u.agenda failed) (done (slot_emptied u) found)
   -- with nothing to do, it begins to settle its chain
-  Comes : (n : ℕ) (u : View) → Works v n u → Works v n (settling u)
+  Comes : (closes : List HostCall) (u : View) → Works v closes u → Works v closes (settling u)
 
 -- What no such work changes. The hand has seen the kinds that it had seen, and of the cells of the list that it has
 -- locked what it had seen.
@@ -47,11 +48,11 @@ pub record Keeps (v u : View) : Type 0 where
   pub kinds : (x word : ℕ) → has_seen_kind x word v ≡ true → has_seen_kind x word u ≡ true
   pub cells : (x i : ℕ) → v.locked ≡ Some x → cell_seen x i u ≡ cell_seen x i v
 
--- The hand has done duty after duty, by which it found n resources of dying objects, and these duties are left, but for
--- those that need no step.
-pub record HasWorked (v : View) (n : ℕ) (ds : List Duty) (u : View) : Type 0 where
+-- The hand has done duty after duty, with these closes of the host, and these duties are left, but for those that need no
+-- step.
+pub record HasWorked (v : View) (closes : List HostCall) (ds : List Duty) (u : View) : Type 0 where
   pub agenda : u.agenda ≡ ready u.head ds
-  pub works : Works v n u
+  pub works : Works v closes u
   pub keeps : Keeps v u
 
 -- ---- what comes next

@@ -1,7 +1,8 @@
 //! Finalising the objects of a hand's dying chain.
 
-ghost use Rattle.std.specs.Prelude.{◌≡◌, ◌≢◌, ◌<◌, ℕ, List, ◌∷◌, ◌++◌};
-ghost use Rattle.brc_host.specs.HostCounts.{after_closes, raised};
+ghost use Rattle.std.specs.Prelude.{◌≡◌, ◌≢◌, ◌<◌, is_err, List, [], ◌∷◌, ◌++◌};
+ghost use Rattle.brc_host.specs.HostCounts.{raised};
+ghost use Rattle.brc_host.specs.HostCalls.{HostCall, Close, HasAnswered, close_faults};
 ghost use Rattle.brc_model.specs.declared.actor.Status.TheVariants.{Gone};
 ghost use Rattle.brc_model.specs.declared.duty.Duty.{Duty};
 ghost use Rattle.brc_model.specs.declared.duty.Duty.TheVariants.{Settle, SettleEnd};
@@ -12,7 +13,7 @@ ghost use Rattle.brc_free.specs.Works.{HasWorked, ComesToSettle, EmptiesNext, Ce
 
 use crate::merging::merge;
 use brc_heap::{Hand, Heap, Marker};
-use brc_host::Host;
+use brc_host::{Fault, Host};
 use brc_list::Lists;
 use brc_word::{kind_argument, kind_number};
 use std::marker::Model;
@@ -44,6 +45,13 @@ fn cells_of(kind: u64) -> u32
     } else {
         0
     }
+}
+
+/// Returns how many faults a close has answered: one, or none.
+fn faults_of(closed: &Result<(), Fault>) -> u64
+    ensures { result ≡ close_faults (Close (is_err closed.now) ∷ []) }
+{
+    if closed.is_err() { 1 } else { 0 }
 }
 
 /// What finalises the dying objects of a heap. It puts objects that other threads own into the queues that it was given.
@@ -85,9 +93,9 @@ impl<'h, T: Drop, Q: Marker<T>> Finaliser<'h, T, Q> {
         ensures carried { hand.new.carried ≡ hand.old.carried }
         ensures slots { hand.new.slots ≡ hand.old.slots }
         ensures chain { hand.new.view.head ≡ 0 }
-        ensures work { (rest : List Duty) → ComesToSettle hand.old.view rest → (closes : ℕ) × (failed : ℕ)
-            × HasWorked hand.old.view closes rest hand.new.view × (result ≡ raised failed 0)
-            × (H.counts host.new ≡ after_closes closes failed (H.counts host.old)) }
+        ensures work { (rest : List Duty) → ComesToSettle hand.old.view rest → (closes : List HostCall)
+            × HasWorked hand.old.view closes rest hand.new.view × (result ≡ raised (close_faults closes) 0)
+            × HasAnswered H.answers H.counts host.old closes host.new }
     {
         let mut failed: u64 = 0;
         for _ in rt.forever() {
@@ -115,9 +123,10 @@ impl<'h, T: Drop, Q: Marker<T>> Finaliser<'h, T, Q> {
         ensures carried { hand.new.carried ≡ hand.old.carried }
         ensures slots { hand.new.slots ≡ hand.old.slots }
         ensures chain { hand.new.view.head ≡ 0 }
-        ensures work { (closes : ℕ) × (failed : ℕ)
-            × HasWorked hand.old.view closes (claimed_left hand.old.view.agenda) hand.new.view × (result ≡ raised failed 0)
-            × (H.counts host.new ≡ after_closes closes failed (H.counts host.old)) }
+        ensures work { (closes : List HostCall)
+            × HasWorked hand.old.view closes (claimed_left hand.old.view.agenda) hand.new.view
+            × (result ≡ raised (close_faults closes) 0)
+            × HasAnswered H.answers H.counts host.old closes host.new }
     {
         merge(rt, self.heap.words(), hand, row);
         self.give_up(rt, hand, row);
@@ -137,9 +146,9 @@ impl<'h, T: Drop, Q: Marker<T>> Finaliser<'h, T, Q> {
         ensures table { hand.new.table ≡ hand.old.table }
         ensures carried { hand.new.carried ≡ hand.old.carried }
         ensures slots { hand.new.slots ≡ hand.old.slots }
-        ensures work { (rest : List Duty) → ComesToSettle hand.old.view rest → (closes : ℕ)
-            × HasWorked hand.old.view closes (Settle ∷ rest) hand.new.view
-            × (H.counts host.new ≡ after_closes closes result (H.counts host.old)) }
+        ensures work { (rest : List Duty) → ComesToSettle hand.old.view rest → (closes : List HostCall)
+            × HasWorked hand.old.view closes (Settle ∷ rest) hand.new.view × (result ≡ close_faults closes)
+            × HasAnswered H.answers H.counts host.old closes host.new }
     {
         hand.rows_are_there();
         let words = self.heap.words();
@@ -164,15 +173,15 @@ impl<'h, T: Drop, Q: Marker<T>> Finaliser<'h, T, Q> {
         ensures table { hand.new.table ≡ hand.old.table }
         ensures carried { hand.new.carried ≡ hand.old.carried }
         ensures slots { hand.new.slots ≡ behind_slot hand.old.slots }
-        ensures work { HasWorked hand.old.view 0 (behind hand.old.view.agenda) hand.new.view }
-        ensures closed { H.counts host.new ≡ after_closes 1 result (H.counts host.old) }
+        ensures work { (closes : List HostCall) × HasWorked hand.old.view closes (behind hand.old.view.agenda) hand.new.view
+            × (result ≡ close_faults closes) × HasAnswered H.answers H.counts host.old closes host.new }
     {
         hand.rows_are_there();
         let words = self.heap.words();
         let resource = Lists::new(self.heap).lend(hand, row);
-        let failed = if host.close(resource).is_err() { 1 } else { 0 };
+        let closed = host.close(resource);
         words.gate_close(hand, row);
-        failed
+        faults_of(&closed)
     }
 
     /// Does the next duties, behind which others may come: empties the cells of a dying list, and gives up the references
@@ -185,7 +194,7 @@ impl<'h, T: Drop, Q: Marker<T>> Finaliser<'h, T, Q> {
         ensures carried { hand.new.carried ≡ hand.old.carried }
         ensures slots { hand.new.slots ≡ hand.old.slots }
         ensures work { (rest : List Duty) → hand.old.view.agenda ≡ cells_from row 0 cells ++ rest
-            → HasWorked hand.old.view 0 (SettleEnd row ∷ rest) hand.new.view }
+            → HasWorked hand.old.view [] (SettleEnd row ∷ rest) hand.new.view }
     {
         for cell in 0..cells {
             self.empty_cell(rt, hand, row, cell);
@@ -201,7 +210,7 @@ impl<'h, T: Drop, Q: Marker<T>> Finaliser<'h, T, Q> {
         ensures table { hand.new.table ≡ hand.old.table }
         ensures carried { hand.new.carried ≡ hand.old.carried }
         ensures slots { hand.new.slots ≡ hand.old.slots }
-        ensures work { HasWorked hand.old.view 0 (cells_left hand.old.view.agenda) hand.new.view }
+        ensures work { HasWorked hand.old.view [] (cells_left hand.old.view.agenda) hand.new.view }
     {
         hand.rows_are_there();
         let words = self.heap.words();

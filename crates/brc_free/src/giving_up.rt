@@ -1,6 +1,6 @@
 //! Giving references up in the midst of other work.
 
-ghost use Rattle.std.specs.Prelude.{◌≡◌, ◌≢◌};
+ghost use Rattle.std.specs.Prelude.{◌≡◌, ◌≢◌, []};
 ghost use Rattle.brc_model.specs.declared.actor.Status.TheVariants.{Gone};
 ghost use Rattle.brc_table.specs.Hands.{IsOf};
 ghost use Rattle.brc_free.specs.Works.{HasWorked, GivesUpNext, DecidesNext, ReleasesNext, behind, tried_left};
@@ -33,7 +33,7 @@ impl<'h, T: Drop, Q: Marker<T>> Finaliser<'h, T, Q> {
         ensures table { hand.new.table ≡ hand.old.table }
         ensures carried { hand.new.carried ≡ hand.old.carried }
         ensures slots { hand.new.slots ≡ hand.old.slots }
-        ensures work { HasWorked hand.old.view 0 (behind hand.old.view.agenda) hand.new.view }
+        ensures work { HasWorked hand.old.view [] (behind hand.old.view.agenda) hand.new.view }
     {
         let words = self.heap.words();
         let word = words.item_release_load(hand, row);
@@ -58,7 +58,7 @@ impl<'h, T: Drop, Q: Marker<T>> Finaliser<'h, T, Q> {
         ensures table { hand.new.table ≡ hand.old.table }
         ensures carried { hand.new.carried ≡ hand.old.carried }
         ensures slots { hand.new.slots ≡ hand.old.slots }
-        ensures work { HasWorked hand.old.view 0 (behind hand.old.view.agenda) hand.new.view }
+        ensures work { HasWorked hand.old.view [] (behind hand.old.view.agenda) hand.new.view }
     {
         let words = self.heap.words();
         let word = words.shared_load_next(hand, row);
@@ -80,7 +80,7 @@ impl<'h, T: Drop, Q: Marker<T>> Finaliser<'h, T, Q> {
         ensures table { hand.new.table ≡ hand.old.table }
         ensures carried { hand.new.carried ≡ hand.old.carried }
         ensures slots { hand.new.slots ≡ hand.old.slots }
-        ensures work { HasWorked hand.old.view 0 (behind hand.old.view.agenda) hand.new.view }
+        ensures work { HasWorked hand.old.view [] (behind hand.old.view.agenda) hand.new.view }
     {
         let backoff = Backoff::new();
         for _ in rt.forever() {
@@ -101,7 +101,7 @@ impl<'h, T: Drop, Q: Marker<T>> Finaliser<'h, T, Q> {
         ensures table { hand.new.table ≡ hand.old.table }
         ensures carried { hand.new.carried ≡ hand.old.carried }
         ensures slots { hand.new.slots ≡ hand.old.slots }
-        ensures work { HasWorked hand.old.view 0 (tried_left result hand.old.view.agenda) hand.new.view }
+        ensures work { HasWorked hand.old.view [] (tried_left result hand.old.view.agenda) hand.new.view }
     {
         let words = self.heap.words();
         let word = words.shared_load_next(hand, row);

@@ -1,6 +1,6 @@
 //! Merging an object's two counts in the midst of other work.
 
-ghost use Rattle.std.specs.Prelude.{◌≡◌, ◌≢◌, IsTrue, IsFalse};
+ghost use Rattle.std.specs.Prelude.{◌≡◌, ◌≢◌, [], IsTrue, IsFalse};
 ghost use Rattle.brc_model.specs.declared.actor.Status.TheVariants.{Gone};
 ghost use Rattle.brc_table.specs.Hands.{IsOf};
 ghost use Rattle.brc_free.specs.Works.{HasWorked, MergesNext, CarriesNext, merge_left};
@@ -20,7 +20,7 @@ pub fn merge<T: Drop, R: Wait>(rt: &R, words: &Words<T>, hand: &mut Hand<T>, row
     ensures table { hand.new.table ≡ hand.old.table }
     ensures carried { hand.new.carried ≡ hand.old.carried }
     ensures slots { hand.new.slots ≡ hand.old.slots }
-    ensures work { HasWorked hand.old.view 0 (merge_left hand.old.view.agenda) hand.new.view }
+    ensures work { HasWorked hand.old.view [] (merge_left hand.old.view.agenda) hand.new.view }
 {
     let local = words.local_swap_next(hand, row);
     if local != 0 {
@@ -43,7 +43,7 @@ fn merge_carried<T: Drop, R: Wait>(
     ensures table { hand.new.table ≡ hand.old.table }
     ensures carried { hand.new.carried ≡ hand.old.carried }
     ensures slots { hand.new.slots ≡ hand.old.slots }
-    ensures work { HasWorked hand.old.view 0 (merge_left hand.old.view.agenda) hand.new.view }
+    ensures work { HasWorked hand.old.view [] (merge_left hand.old.view.agenda) hand.new.view }
 {
     let backoff = Backoff::new();
     for _ in rt.forever() {
@@ -63,8 +63,8 @@ fn try_merge<T: Drop>(words: &Words<T>, hand: &mut Hand<T>, row: u32, carried: u
     ensures table { hand.new.table ≡ hand.old.table }
     ensures carried { hand.new.carried ≡ hand.old.carried }
     ensures slots { hand.new.slots ≡ hand.old.slots }
-    ensures won { IsTrue result → HasWorked hand.old.view 0 (merge_left hand.old.view.agenda) hand.new.view }
-    ensures lost { IsFalse result → HasWorked hand.old.view 0 hand.old.view.agenda hand.new.view }
+    ensures won { IsTrue result → HasWorked hand.old.view [] (merge_left hand.old.view.agenda) hand.new.view }
+    ensures lost { IsFalse result → HasWorked hand.old.view [] hand.old.view.agenda hand.new.view }
 {
     let word = words.shared_load_next(hand, row);
     let next = merged(word, carried);

@@ -23,7 +23,7 @@ impl<'h, T: Drop, Q: Marker<T>> Finaliser<'h, T, Q> {
         ensures table { IsOf self.now hand.new }
         ensures carried { hand.new.carried ≡ hand.old.carried }
         ensures slots { hand.new.slots ≡ hand.old.slots }
-        ensures work { (word : ℕ) × HasWorked (released_locally hand.old.view row word) 0 [] hand.new.view }
+        ensures work { (word : ℕ) × HasWorked (released_locally hand.old.view row word) [] [] hand.new.view }
         ensures released { HasReleased row hand.old.view hand.new.view }
     {
         match self.heap.release_local(hand, row) {

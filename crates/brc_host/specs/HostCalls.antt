@@ -1,5 +1,5 @@
 -- What a host is asked and how it answers, call after call.
-use Rattle.std.specs.Prelude.{◌≡◌, ℕ, ◌+◌, Bool, List, [], ◌∷◌, ◌++◌, Option, is_none, if◌then◌else◌}
+use Rattle.std.specs.Prelude.{◌≡◌, ℕ, ◌+◌, Bool, true, List, [], ◌∷◌, ◌++◌, Option, is_none, if◌then◌else◌}
 use Rattle.brc_lang.specs.declared.mode.Mode.{Mode}
 use Rattle.brc_host.specs.declared.counts.HostCounts.{HostCounts}
 use Rattle.brc_host.specs.HostCounts.{after_opening, after_use, after_close}
@@ -41,7 +41,7 @@ pub data HasAnswered {S : Type 0} (answers : S → HostCall → S → Type 0) (c
 -- how many of the calls were closes that failed
 abbrev pub close_faults : List HostCall → ℕ
 close_faults [] = 0
-close_faults (Close failed ∷ rest) = (if failed then 1 else 0) + close_faults rest
+close_faults (Close true ∷ rest) = 1 + close_faults rest
 close_faults (call ∷ rest) = close_faults rest
 
 -- how many calls other than closes failed

@@ -1,4 +1,4 @@
-use Rattle.std.proofs.Common.{List, ◌∷◌, sym, ap, subst}
+use Rattle.std.proofs.Common.{List, [], ◌∷◌, sym, ap, subst}
 use Rattle.std.proofs.lemmas.Bool.{eq-eqb, ne_eqb}
 use Rattle.brc_word.specs.Words.{local_part}
 use Rattle.brc_model.specs.declared.duty.Duty.{Duty}
@@ -16,11 +16,11 @@ returns-then-local-ne0-clause-work g c =
     let w = c.merge_carried.new.hand.view in
     let duty = c.requires.duty in
     let local = c.local_swap_next-local.result in
-    let at = swapped_out v v u 0 c.args.row local duty.reason duty.rest
+    let at = swapped_out v v u [] c.args.row local duty.reason duty.rest
     (merge_begins v c.args.row duty.reason duty.rest duty.next) c.local_swap_next-local.ensures.view
     (ne_eqb local 0 c.if-local-ne0.true) in
-    subst (λ (ds : List Duty). HasWorked v 0 ds w) (sym (ap merge_left duty.next))
-    (worked_call v u w 0 (MergeLoad c.args.row (local_part local) duty.reason ∷ duty.rest) merge_left at
+    subst (λ (ds : List Duty). HasWorked v [] ds w) (sym (ap merge_left duty.next))
+    (worked_call v u w [] (MergeLoad c.args.row (local_part local) duty.reason ∷ duty.rest) merge_left at
     (merge_load_first u.head c.args.row (local_part local) duty.reason duty.rest) c.merge_carried.ensures.work)
 
 pub returns-else-local-ne0-clause-work : goal.returns-else-local-ne0-clause-work
@@ -29,7 +29,7 @@ returns-else-local-ne0-clause-work g c =
     let u = c.local_swap_next-local.new.hand.view in
     let duty = c.requires.duty in
     let local = c.local_swap_next-local.result in
-    subst (λ (ds : List Duty). HasWorked v 0 ds u) (sym (ap merge_left duty.next))
-    (swapped_nobody v v u 0 c.args.row local duty.reason duty.rest
+    subst (λ (ds : List Duty). HasWorked v [] ds u) (sym (ap merge_left duty.next))
+    (swapped_nobody v v u [] c.args.row local duty.reason duty.rest
     (merge_begins v c.args.row duty.reason duty.rest duty.next) c.local_swap_next-local.ensures.view
     (eq-eqb local 0 c.if-local-ne0.false))

@@ -1,4 +1,4 @@
-use Rattle.std.proofs.Common.{◌≡◌, ℕ, List, refl, sym, ◌∙◌, subst}
+use Rattle.std.proofs.Common.{◌≡◌, ℕ, List, refl, sym, ◌∙◌, subst, []}
 use Rattle.brc_model.specs.declared.duty.Duty.{Duty}
 use Rattle.brc_model.specs.Duties.{ready}
 use Rattle.brc_free.specs.Works.{CarriesNext, merge_left}
@@ -19,7 +19,7 @@ loop-init g c =
 
 pub returns-then-try_merge-clause-work : goal.returns-then-try_merge-clause-work
 returns-then-try_merge-clause-work g c =
-    worked_call _ _ _ 0 c.args.hand.now.view.agenda merge_left c.loop.invariant.3
+    worked_call _ _ _ [] c.args.hand.now.view.agenda merge_left c.loop.invariant.3
     (first _ c.args.row c.args.carried _ c.requires.duty) (c.try_merge.ensures.won c.if-try_merge.true)
 
 pub loop-preserved : goal.loop-preserved
@@ -29,6 +29,6 @@ loop-preserved g c =
       tried.table ∙ kept.0,
       tried.carried ∙ kept.1,
       tried.slots ∙ kept.2,
-      worked_call _ _ _ 0 c.args.hand.now.view.agenda (λ (ds : List Duty). ds) kept.3
+      worked_call _ _ _ [] c.args.hand.now.view.agenda (λ (ds : List Duty). ds) kept.3
           (first _ c.args.row c.args.carried _ c.requires.duty) (tried.lost c.if-try_merge.false),
     )

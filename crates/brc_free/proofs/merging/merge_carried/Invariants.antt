@@ -1,4 +1,4 @@
-use Rattle.std.proofs.Common.{◌≡◌}
+use Rattle.std.proofs.Common.{◌≡◌, []}
 use Rattle.brc_free.specs.Works.{HasWorked}
 use Rattle.brc_free.proofs.merging.merge_carried.Given as goal
 
@@ -7,4 +7,4 @@ abbrev pub invariant-loop : goal.invariant-loop
 invariant-loop g l =
     (l.hand.table ≡ l.fn.hand.table) × (l.hand.carried ≡ l.fn.hand.carried)
     × (l.hand.slots ≡ l.fn.hand.slots)
-    × HasWorked l.fn.hand.view 0 l.fn.hand.view.agenda l.hand.view
+    × HasWorked l.fn.hand.view [] l.fn.hand.view.agenda l.hand.view

@@ -1,4 +1,4 @@
-use Rattle.std.proofs.Common.{◌≡◌, ℕ, true, List, ◌∷◌, ◌++◌, refl, sym, ap, ◌∙◌, subst}
+use Rattle.std.proofs.Common.{◌≡◌, ℕ, true, List, [], ◌∷◌, ◌++◌, refl, sym, ap, ◌∙◌, subst}
 use Rattle.std.proofs.lemmas.Bool.{eq-eqb, ne_eqb}
 use Rattle.std.specs.Prelude.{◌==◌}
 use Rattle.brc_word.specs.Words.{dead_word, merged_word}
@@ -21,7 +21,7 @@ use Rattle.brc_free.proofs.merging.try_merge.Goals as goal
 
 -- The shared word is loaded, and exchanged next.
 loaded : (v u : View) (x carried word : ℕ) (duty : CarriesNext x carried v.agenda) → u ≡ done v word
-    → HasWorked v 0 (MergeExchange x carried word duty.reason ∷ duty.rest) u
+    → HasWorked v [] (MergeExchange x carried word duty.reason ∷ duty.rest) u
 loaded v u x carried word duty is = carry_begins v u x carried word duty.reason duty.rest duty.next is
 
 -- The exchange wins and leaves no reference,
@@ -41,18 +41,18 @@ own g c =
 
 -- and the object dies.
 dies : (g : given.Over) (c : Then-is_dead g)
-    → HasWorked c.args.hand.now.view 0 (Die c.args.row ∷ c.requires.duty.rest) c.shared_exchange.new.hand.view
+    → HasWorked c.args.hand.now.view [] (Die c.args.row ∷ c.requires.duty.rest) c.shared_exchange.new.hand.view
 dies g c =
-    carry_dead _ _ _ 0 c.args.row c.args.carried _ c.shared_exchange.result c.requires.duty.reason c.requires.duty.rest
+    carry_dead _ _ _ [] c.args.row c.args.carried _ c.shared_exchange.result c.requires.duty.reason c.requires.duty.rest
     (loaded _ _ c.args.row c.args.carried _ c.requires.duty c.shared_load_next-word.ensures.view)
     c.shared_exchange.ensures.view (eq-eqb _ _ c.if-shared_exchange-word.false) (dead g c) (own g c)
 
 pub returns-then-shared_exchange-word-clause-lost :
     goal.returns-then-shared_exchange-word-clause-lost
 returns-then-shared_exchange-word-clause-lost g c = λ lost.
-    subst (λ (ds : List Duty). HasWorked c.args.hand.now.view 0 ds c.shared_exchange.new.hand.view)
+    subst (λ (ds : List Duty). HasWorked c.args.hand.now.view [] ds c.shared_exchange.new.hand.view)
     (sym c.requires.duty.next)
-    (carry_lost _ _ _ 0 c.args.row c.args.carried _ c.shared_exchange.result c.requires.duty.reason c.requires.duty.rest
+    (carry_lost _ _ _ [] c.args.row c.args.carried _ c.shared_exchange.result c.requires.duty.reason c.requires.duty.rest
     (loaded _ _ c.args.row c.args.carried _ c.requires.duty c.shared_load_next-word.ensures.view)
     c.shared_exchange.ensures.view (ne_eqb _ _ c.if-shared_exchange-word.true))
 
@@ -67,16 +67,16 @@ returns-then-is_dead-clause-won g c = λ did_win.
     let left : merge_left c.args.hand.now.view.agenda ≡ c.requires.duty.rest =
     ap merge_left c.requires.duty.next
     ∙ ap (λ (r : Reason). once_merged c.args.row r ++ c.requires.duty.rest) (own g at) in
-    subst (λ (ds : List Duty). HasWorked c.args.hand.now.view 0 ds c.gate_store.new.hand.view) (sym left)
-    (chained _ _ _ 0 c.args.row (overwritten c.shared_exchange.new.hand.view) c.requires.duty.rest (dies g at)
+    subst (λ (ds : List Duty). HasWorked c.args.hand.now.view [] ds c.gate_store.new.hand.view) (sym left)
+    (chained _ _ _ [] c.args.row (overwritten c.shared_exchange.new.hand.view) c.requires.duty.rest (dies g at)
     c.gate_store.ensures.view c.rows_are_there.ensures)
 
 pub returns-else-is_dead-clause-won : goal.returns-else-is_dead-clause-won
 returns-else-is_dead-clause-won g c = λ did_win.
     let alive = ap (λ (n : ℕ). n == dead_word) (sym c.merged-next.ensures.word)
     ∙ (sym c.is_dead.ensures.word ∙ c.if-is_dead.false) in
-    subst (λ (ds : List Duty). HasWorked c.args.hand.now.view 0 ds c.shared_exchange.new.hand.view)
+    subst (λ (ds : List Duty). HasWorked c.args.hand.now.view [] ds c.shared_exchange.new.hand.view)
     (sym (ap merge_left c.requires.duty.next))
-    (carry_kept _ _ _ 0 c.args.row c.args.carried _ c.shared_exchange.result c.requires.duty.reason c.requires.duty.rest
+    (carry_kept _ _ _ [] c.args.row c.args.carried _ c.shared_exchange.result c.requires.duty.reason c.requires.duty.rest
     (loaded _ _ c.args.row c.args.carried _ c.requires.duty c.shared_load_next-word.ensures.view)
     c.shared_exchange.ensures.view (eq-eqb _ _ c.if-shared_exchange-word.false) alive)

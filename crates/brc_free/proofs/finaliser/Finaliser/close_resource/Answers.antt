@@ -1,5 +1,8 @@
-use Rattle.std.proofs.Common.{List, ◌∷◌, inr, refl, sym, ap, ◌∙◌, subst}
+use Rattle.std.proofs.Common.{List, [], ◌∷◌, inr, refl, sym, ap, ◌∙◌, subst}
 use Rattle.std.proofs.lemmas.Bool.{eq-eqb}
+use Rattle.std.specs.Prelude.{is_err}
+use Rattle.brc_host.specs.HostCalls.{Close}
+use Rattle.brc_host.proofs.Answering.{one_call}
 use Rattle.brc_model.specs.declared.duty.Duty.{Duty}
 use Rattle.brc_model.specs.declared.duty.Duty.TheVariants.{TakeSlot}
 use Rattle.brc_table.specs.declared.view.View.{View}
@@ -21,9 +24,15 @@ returns-clause-work g c =
     let w = c.gate_close.new.hand.view in
     let duty = c.requires.duty in
     let found = c.gate_close.result in
-    subst (λ (ds : List Duty). HasWorked v 0 ds w) (sym (ap behind duty.next))
-    (ended_empty v v w 0 c.args.row found duty.rest
-    (worked_first v (TakeSlot c.args.row ∷ duty.rest) (duty.next ∙ sym (take_slot_first v.head c.args.row duty.rest)))
-    (c.gate_close.ensures.view ∙ ap (λ (z : View). done (slot_emptied z) found) c.lend-resource.ensures.view)
-    (finalising_unlocked v (TakeSlot c.args.row) duty.rest c.args.row c.rows_are_there.ensures duty.next
-    (eq-eqb c.args.row c.args.row refl)))
+    let failed = is_err c.close-closed.result in (
+      Close failed ∷ [],
+      subst (λ (ds : List Duty). HasWorked v (Close failed ∷ []) ds w) (sym (ap behind duty.next))
+          (ended_empty v v w [] c.args.row found failed duty.rest
+          (worked_first v (TakeSlot c.args.row ∷ duty.rest)
+          (duty.next ∙ sym (take_slot_first v.head c.args.row duty.rest)))
+          (c.gate_close.ensures.view ∙ ap (λ (z : View). done (slot_emptied z) found) c.lend-resource.ensures.view)
+          (finalising_unlocked v (TakeSlot c.args.row) duty.rest c.args.row c.rows_are_there.ensures duty.next
+          (eq-eqb c.args.row c.args.row refl))),
+      c.faults_of.ensures,
+      one_call c.close-closed.ensures.answers c.close-closed.ensures.counted,
+    )

@@ -1,4 +1,4 @@
-use Rattle.std.proofs.Common.{◌≡◌, ◌≢◌, ℕ, ◌+◌, ◌-◌, List, ◌∷◌, ◌++◌, refl, sym, ap, ◌∙◌, subst}
+use Rattle.std.proofs.Common.{◌≡◌, ◌≢◌, ℕ, ◌+◌, ◌-◌, List, [], ◌∷◌, ◌++◌, refl, sym, ap, ◌∙◌, subst}
 use Rattle.std.proofs.lemmas.Bool.{eq-eqb}
 use Rattle.brc_model.specs.declared.duty.Holding.TheVariants.{InFlight}
 use Rattle.brc_model.specs.declared.duty.Duty.{Duty}
@@ -14,26 +14,26 @@ use Rattle.brc_free.proofs.finaliser.Finaliser.empty_cell.Goals as goal
 
 -- The cell is empty. What was there is given up next, and then come the cells that are left.
 emptied : (v w : View) (row cell found : ℕ) (duty : CellNext row cell v.agenda) → RowsAreThere v → w ≡ done v found
-    → HasWorked v 0 (release_found found ++ (cells_from row (cell + 1) duty.count ++ duty.rest)) w
+    → HasWorked v [] (release_found found ++ (cells_from row (cell + 1) duty.count ++ duty.rest)) w
 emptied v w row cell found duty there is =
     let begins = worked_first v (SettleCell row cell duty.count ∷ duty.rest)
     (duty.next ∙ sym (settle_cell_first v.head row cell duty.count duty.rest)) in
-    cell_emptied v v w 0 row cell duty.count found duty.rest begins is
+    cell_emptied v v w [] row cell duty.count found duty.rest begins is
     (finalising_unlocked v (SettleCell row cell duty.count) duty.rest row there duty.next (eq-eqb row row refl))
 
 -- There was an item, which is given up next.
 item_next : (v w : View) (row cell found : ℕ) (duty : CellNext row cell v.agenda) → RowsAreThere v → w ≡ done v found
     → found ≢ 0
-    → HasWorked v 0 (ReleaseLoad (found - 1) InFlight ∷ (cells_from row (cell + 1) duty.count ++ duty.rest)) w
+    → HasWorked v [] (ReleaseLoad (found - 1) InFlight ∷ (cells_from row (cell + 1) duty.count ++ duty.rest)) w
 item_next v w row cell found duty there is some =
-    subst (λ (ds : List Duty). HasWorked v 0 (ds ++ (cells_from row (cell + 1) duty.count ++ duty.rest)) w)
+    subst (λ (ds : List Duty). HasWorked v [] (ds ++ (cells_from row (cell + 1) duty.count ++ duty.rest)) w)
     (item_found found some) (emptied v w row cell found duty there is)
 
 pub returns-then-item-eq0-clause-work : goal.returns-then-item-eq0-clause-work
 returns-then-item-eq0-clause-work g c =
     let duty = c.requires.duty in
     let left = cells_from c.args.row (c.args.cell + 1) duty.count ++ duty.rest in
-    subst (λ (ds : List Duty). HasWorked c.args.hand.now.view 0 ds c.dying_cell_swap-item.new.hand.view)
+    subst (λ (ds : List Duty). HasWorked c.args.hand.now.view [] ds c.dying_cell_swap-item.new.hand.view)
     (ap (λ (n : ℕ). release_found n ++ left) c.if-item-eq0.true ∙ sym (ap cells_left duty.next))
     (emptied _ _ c.args.row c.args.cell _ duty c.rows_are_there.ensures c.dying_cell_swap-item.ensures.view)
 
@@ -48,9 +48,9 @@ release_item-requires-clause-duty g c =
 
 pub returns-clause-work : goal.returns-clause-work
 returns-clause-work g c =
-    subst (λ (ds : List Duty). HasWorked c.args.hand.now.view 0 ds c.release_item.new.hand.view)
+    subst (λ (ds : List Duty). HasWorked c.args.hand.now.view [] ds c.release_item.new.hand.view)
     (sym (ap cells_left c.requires.duty.next))
-    (worked_call _ _ _ 0 _ behind
+    (worked_call _ _ _ [] _ behind
     (item_next _ _ c.args.row c.args.cell _ c.requires.duty c.rows_are_there.ensures
     c.dying_cell_swap-item.ensures.view c.if-item-eq0.false)
     (release_load_first _ _ InFlight _) c.release_item.ensures.work)

@@ -1,4 +1,4 @@
-use Rattle.std.proofs.Common.{List, ◌∷◌, ◌++◌, refl, sym, ◌∙◌, subst}
+use Rattle.std.proofs.Common.{List, [], ◌∷◌, ◌++◌, refl, sym, ◌∙◌, subst}
 use Rattle.brc_model.specs.declared.duty.Duty.{Duty}
 use Rattle.brc_model.specs.declared.duty.Duty.TheVariants.{SettleCell}
 use Rattle.brc_model.specs.Duties.{cells_from}
@@ -29,8 +29,8 @@ loop-cell-preserved g c =
       emptied.carried ∙ kept.1,
       emptied.slots ∙ kept.2,
       λ rest is.
-          worked_call v u w 0 (SettleCell c.args.row c.loop-cell.cell c.args.cells ∷ rest) cells_left
-          (subst (λ (ds : List Duty). HasWorked v 0 ds u)
+          worked_call v u w [] (SettleCell c.args.row c.loop-cell.cell c.args.cells ∷ rest) cells_left
+          (subst (λ (ds : List Duty). HasWorked v [] ds u)
           (cell_next c.args.row c.loop-cell.cell c.args.cells rest c.loop-cell-test.true) (kept.3 rest is))
           (settle_cell_first u.head c.args.row c.loop-cell.cell c.args.cells rest) emptied.work,
     )

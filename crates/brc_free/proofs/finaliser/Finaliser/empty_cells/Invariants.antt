@@ -1,4 +1,4 @@
-use Rattle.std.proofs.Common.{◌≡◌, List, ◌++◌}
+use Rattle.std.proofs.Common.{◌≡◌, List, ◌++◌, []}
 use Rattle.brc_model.specs.declared.duty.Duty.{Duty}
 use Rattle.brc_model.specs.Duties.{cells_from}
 use Rattle.brc_free.specs.Works.{HasWorked}
@@ -10,4 +10,4 @@ invariant-loop-cell g l =
     (l.hand.table ≡ l.fn.hand.table) × (l.hand.carried ≡ l.fn.hand.carried)
     × (l.hand.slots ≡ l.fn.hand.slots)
     × ((rest : List Duty) → l.fn.hand.view.agenda ≡ cells_from l.fn.row 0 l.fn.cells ++ rest
-    → HasWorked l.fn.hand.view 0 (cells_from l.fn.row l.cell l.fn.cells ++ rest) l.hand.view)
+    → HasWorked l.fn.hand.view [] (cells_from l.fn.row l.cell l.fn.cells ++ rest) l.hand.view)

@@ -1,4 +1,4 @@
-use Rattle.std.proofs.Common.{◌≡◌, ℕ, ◌-◌, true, List, ◌∷◌, ◌++◌, refl, sym, ap, ◌∙◌, subst}
+use Rattle.std.proofs.Common.{◌≡◌, ℕ, ◌-◌, true, List, [], ◌∷◌, ◌++◌, refl, sym, ap, ◌∙◌, subst}
 use Rattle.brc_model.specs.declared.duty.Duty.{Duty}
 use Rattle.brc_model.specs.declared.duty.Duty.TheVariants.{Settle, SettleKind, SettleEnd, TakeSlot}
 use Rattle.brc_model.specs.Duties.{has_resource, cells_from}
@@ -9,14 +9,14 @@ use Rattle.brc_free.specs.Works.{HasWorked, ComesToSettle, behind}
 use Rattle.brc_free.proofs.FirstDuties.{settle_kind_first, take_slot_first, settle_end_first}
 use Rattle.brc_free.proofs.Working.{head_unlocked, worked_call}
 use Rattle.brc_free.proofs.SettleDuties.{comes_alive, taken_off, kind_has_resource, cells_next, cells_first, all_emptied, ended}
-use Rattle.brc_free.proofs.Closes.{none_closed}
+use Rattle.brc_host.specs.HostCalls.{NoCall}
 use Rattle.brc_free.proofs.finaliser.Finaliser.finalise_first.Given as given
 use Rattle.brc_free.proofs.finaliser.Finaliser.finalise_first.Goals.{After-dying_kind_load-kind, After-cells_of}
 use Rattle.brc_free.proofs.finaliser.Finaliser.finalise_first.Goals as goal
 
 -- The object is off the chain, and its kind is loaded next.
 off : (g : given.Over) (c : After-dying_kind_load-kind g) (rest : List Duty) → ComesToSettle c.args.hand.now.view rest
-    → HasWorked c.args.hand.now.view 0 (SettleKind (c.head-row.result - 1) ∷ Settle ∷ rest) c.gate_load.new.hand.view
+    → HasWorked c.args.hand.now.view [] (SettleKind (c.head-row.result - 1) ∷ Settle ∷ rest) c.gate_load.new.hand.view
 off g c rest comes =
     taken_off _ _ _ c.gate_load.result rest c.requires.chain (ap (λ (n : ℕ). n - 1) c.head-row.ensures) comes
     c.gate_load.ensures.view c.rows_are_there.ensures
@@ -24,15 +24,15 @@ off g c rest comes =
 -- An object that has a resource: it is taken out of its slot next.
 resource : (g : given.Over) (c : After-dying_kind_load-kind g) (rest : List Duty)
     → ComesToSettle c.args.hand.now.view rest → has_resource c.dying_kind_load-kind.result ≡ true
-    → HasWorked c.args.hand.now.view 1 (TakeSlot (c.head-row.result - 1) ∷ Settle ∷ rest)
+    → HasWorked c.args.hand.now.view [] (TakeSlot (c.head-row.result - 1) ∷ Settle ∷ rest)
     c.dying_kind_load-kind.new.hand.view
 resource g c rest comes has =
-    kind_has_resource _ _ _ 0 _ c.dying_kind_load-kind.result (Settle ∷ rest) (off g c rest comes)
+    kind_has_resource _ _ _ [] _ c.dying_kind_load-kind.result (Settle ∷ rest) (off g c rest comes)
     c.dying_kind_load-kind.ensures.view has
 
 -- Any other object: its cells are emptied next.
 cells : (g : given.Over) (c : After-cells_of g) (rest : List Duty) → ComesToSettle c.args.hand.now.view rest
-    → HasWorked c.args.hand.now.view 0 (cells_from (c.head-row.result - 1) 0 c.cells_of.result ++ Settle ∷ rest)
+    → HasWorked c.args.hand.now.view [] (cells_from (c.head-row.result - 1) 0 c.cells_of.result ++ Settle ∷ rest)
     c.dying_kind_load-kind.new.hand.view
 cells g c rest comes =
     cells_next _ _ _ _ c.dying_kind_load-kind.result _ rest
@@ -43,9 +43,9 @@ cells g c rest comes =
 empty : (g : given.Over) (c : After-cells_of g) (w : View) (rest : List Duty)
     → ((later : List Duty) → c.dying_kind_load-kind.new.hand.view.agenda
     ≡ cells_from (c.head-row.result - 1) 0 c.cells_of.result ++ later
-    → HasWorked c.dying_kind_load-kind.new.hand.view 0 (SettleEnd (c.head-row.result - 1) ∷ later) w)
+    → HasWorked c.dying_kind_load-kind.new.hand.view [] (SettleEnd (c.head-row.result - 1) ∷ later) w)
     → ComesToSettle c.args.hand.now.view rest
-    → HasWorked c.args.hand.now.view 0 (SettleEnd (c.head-row.result - 1) ∷ Settle ∷ rest) w
+    → HasWorked c.args.hand.now.view [] (SettleEnd (c.head-row.result - 1) ∷ Settle ∷ rest) w
 empty g c w rest emptied comes = all_emptied _ _ w _ c.cells_of.result rest (cells g c rest comes) emptied
 
 pub dying_kind_load-kind-requires-clause-duty : goal.dying_kind_load-kind-requires-clause-duty
@@ -69,11 +69,9 @@ close_resource-requires-clause-duty g c = λ κs lives.
 pub returns-then-has_resource-clause-work : goal.returns-then-has_resource-clause-work
 returns-then-has_resource-clause-work g c = λ rest comes.
     let at = resource g (goal.at.returns-then-has_resource-clause-work g c).After-dying_kind_load-kind rest comes
-    (sym c.has_resource.ensures ∙ c.if-has_resource.true) in (
-      1,
-      worked_call _ _ _ 1 _ behind at (take_slot_first _ _ _) c.close_resource.ensures.work,
-      c.close_resource.ensures.closed,
-    )
+    (sym c.has_resource.ensures ∙ c.if-has_resource.true) in
+    let one = c.close_resource.ensures.work in
+    (one.0, worked_call _ _ _ one.0 _ behind at (take_slot_first _ _ _) one.1, one.2, one.3)
 
 pub empty_cells-requires-clause-alive : goal.empty_cells-requires-clause-alive
 empty_cells-requires-clause-alive g c = λ gone.
@@ -111,9 +109,10 @@ pub returns-clause-work : goal.returns-clause-work
 returns-clause-work g c = λ rest comes.
     let at = empty g (goal.at.returns-clause-work g c).After-cells_of c.empty_cells.new.hand.view rest
     c.empty_cells.ensures.work comes in (
-      0,
-      ended _ _ _ 0 _ c.gate_close.result (Settle ∷ rest) at c.gate_close.ensures.view
+      [],
+      ended _ _ _ [] _ c.gate_close.result (Settle ∷ rest) at c.gate_close.ensures.view
           (head_unlocked c.args.hand.now.view _ c.rows_are_there.ensures c.requires.chain
           (ap (λ (n : ℕ). n - 1) c.head-row.ensures)),
-      sym (none_closed (g.H.Host.counts c.args.host.now)),
+      refl,
+      NoCall,
     )

@@ -1,4 +1,4 @@
-use Rattle.std.proofs.Common.{ℕ, List, ◌∷◌, refl, sym, ap, ◌∙◌, subst}
+use Rattle.std.proofs.Common.{ℕ, List, [], ◌∷◌, refl, sym, ap, ◌∙◌, subst}
 use Rattle.brc_model.specs.declared.duty.Reason.{Reason}
 use Rattle.brc_model.specs.declared.duty.Reason.TheVariants.{Handed}
 use Rattle.brc_model.specs.declared.duty.Duty.{Duty}
@@ -12,10 +12,10 @@ use Rattle.brc_free.proofs.Working.{worked_first, worked_call}
 use Rattle.brc_free.proofs.finaliser.Finaliser.give_up.Goals as goal
 
 -- After a try to give the reference up, what the try says is left comes next.
-tries : (v u w : View) (row : ℕ) (r : Reason) (rest : List Duty) (t : Tried) → HasWorked v 0 (SharedLoad row r ∷ rest) u
-    → HasWorked u 0 (tried_left t u.agenda) w → HasWorked v 0 (tried_left t (SharedLoad row r ∷ rest)) w
+tries : (v u w : View) (row : ℕ) (r : Reason) (rest : List Duty) (t : Tried) → HasWorked v [] (SharedLoad row r ∷ rest) u
+    → HasWorked u [] (tried_left t u.agenda) w → HasWorked v [] (tried_left t (SharedLoad row r ∷ rest)) w
 tries v u w row r rest t at work =
-    worked_call v u w 0 (SharedLoad row r ∷ rest) (tried_left t) at (shared_load_first u.head row r rest) work
+    worked_call v u w [] (SharedLoad row r ∷ rest) (tried_left t) at (shared_load_first u.head row r rest) work
 
 pub loop-init : goal.loop-init
 loop-init g c =
@@ -28,7 +28,7 @@ loop-init g c =
       refl,
       (
         duty.reason,
-        subst (λ (ds : List Duty). HasWorked v 0 (SharedLoad c.args.row duty.reason ∷ ds) v)
+        subst (λ (ds : List Duty). HasWorked v [] (SharedLoad c.args.row duty.reason ∷ ds) v)
             (sym (ap behind duty.next)) first,
       ),
     )
@@ -36,7 +36,7 @@ loop-init g c =
 pub returns-in-GivenUp-clause-work : goal.returns-in-GivenUp-clause-work
 returns-in-GivenUp-clause-work g c =
     tries _ _ _ c.args.row _ _ tried.GivenUp c.loop.invariant.3.1
-    (subst (λ (t : Tried). HasWorked c.loop.hand.view 0 (tried_left t c.loop.hand.view.agenda)
+    (subst (λ (t : Tried). HasWorked c.loop.hand.view [] (tried_left t c.loop.hand.view.agenda)
     c.try_give_up.new.hand.view) c.in-GivenUp.is c.try_give_up.ensures.work)
 
 pub loop-preserved-in-Claimed : goal.loop-preserved-in-Claimed
@@ -45,14 +45,14 @@ loop-preserved-in-Claimed g c =
     let once = c.try_give_up.ensures in
     let merged = c.merge.ensures in
     let at = tries _ _ _ c.args.row _ _ tried.Claimed kept.3.1
-    (subst (λ (t : Tried). HasWorked c.loop.hand.view 0 (tried_left t c.loop.hand.view.agenda)
+    (subst (λ (t : Tried). HasWorked c.loop.hand.view [] (tried_left t c.loop.hand.view.agenda)
     c.try_give_up.new.hand.view) c.in-Claimed.is once.work) in (
       merged.table ∙ (once.table ∙ kept.0),
       merged.carried ∙ (once.carried ∙ kept.1),
       merged.slots ∙ (once.slots ∙ kept.2),
       (
         Handed,
-        worked_call _ _ _ 0 (MergeSwap c.args.row Handed ∷ behind c.args.hand.now.view.agenda) merge_left at
+        worked_call _ _ _ [] (MergeSwap c.args.row Handed ∷ behind c.args.hand.now.view.agenda) merge_left at
             (merge_swap_first _ _ Handed _) merged.work,
       ),
     )
@@ -67,7 +67,7 @@ loop-preserved g c =
       (
         left.3.0,
         tries _ _ _ c.args.row _ _ tried.Lost left.3.1
-            (subst (λ (t : Tried). HasWorked c.loop.hand.view 0 (tried_left t c.loop.hand.view.agenda)
+            (subst (λ (t : Tried). HasWorked c.loop.hand.view [] (tried_left t c.loop.hand.view.agenda)
             c.try_give_up.new.hand.view) c.in-Lost.is lost.work),
       ),
     )

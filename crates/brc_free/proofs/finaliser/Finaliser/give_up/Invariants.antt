@@ -1,4 +1,4 @@
-use Rattle.std.proofs.Common.{◌≡◌, ◌∷◌}
+use Rattle.std.proofs.Common.{◌≡◌, [], ◌∷◌}
 use Rattle.brc_model.specs.declared.duty.Reason.{Reason}
 use Rattle.brc_model.specs.declared.duty.Duty.TheVariants.{SharedLoad}
 use Rattle.brc_free.specs.Works.{HasWorked, behind}
@@ -9,4 +9,4 @@ abbrev pub invariant-loop : goal.invariant-loop
 invariant-loop g l =
     (l.hand.table ≡ l.fn.hand.table) × (l.hand.carried ≡ l.fn.hand.carried)
     × (l.hand.slots ≡ l.fn.hand.slots)
-    × ((r : Reason) × HasWorked l.fn.hand.view 0 (SharedLoad l.fn.row r ∷ behind l.fn.hand.view.agenda) l.hand.view)
+    × ((r : Reason) × HasWorked l.fn.hand.view [] (SharedLoad l.fn.row r ∷ behind l.fn.hand.view.agenda) l.hand.view)

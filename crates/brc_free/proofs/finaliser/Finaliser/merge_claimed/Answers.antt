@@ -1,5 +1,4 @@
-use Rattle.std.proofs.Common.{◌≢◌, ℕ, List, ◌∷◌, sym, ap, ◌∙◌, subst}
-use Rattle.std.proofs.Math.Nat.{add-zero}
+use Rattle.std.proofs.Common.{◌≢◌, ℕ, List, [], ◌∷◌, sym, ap, ◌∙◌, subst}
 use Rattle.brc_model.specs.declared.actor.Status.TheVariants.{Gone}
 use Rattle.brc_model.specs.declared.duty.Reason.TheVariants.{Handed}
 use Rattle.brc_model.specs.declared.duty.Duty.{Duty}
@@ -11,15 +10,15 @@ use Rattle.brc_free.proofs.Working.{worked_then, worked_call}
 use Rattle.brc_free.proofs.finaliser.Finaliser.merge_claimed.Goals as goal
 
 -- The object is merged and its handed reference given up, so that the hand settles next.
-given_up : (v u w : View) (row : ℕ) (duty : ClaimedNext row v.agenda) → HasWorked v 0 (merge_left v.agenda) u
-    → HasWorked u 0 (behind u.agenda) w → HasWorked v 0 (Settle ∷ duty.rest) w
+given_up : (v u w : View) (row : ℕ) (duty : ClaimedNext row v.agenda) → HasWorked v [] (merge_left v.agenda) u
+    → HasWorked u [] (behind u.agenda) w → HasWorked v [] (Settle ∷ duty.rest) w
 given_up v u w row duty merged gives =
-    worked_call v u w 0 (SharedLoad row Handed ∷ Settle ∷ duty.rest) behind
-    (subst (λ (ds : List Duty). HasWorked v 0 (merge_left ds) u) duty.next merged)
+    worked_call v u w [] (SharedLoad row Handed ∷ Settle ∷ duty.rest) behind
+    (subst (λ (ds : List Duty). HasWorked v [] (merge_left ds) u) duty.next merged)
     (shared_load_first u.head row Handed (Settle ∷ duty.rest)) gives
 
 -- It may settle in the midst of its work, since it isn't gone.
-comes : (v w : View) (rest : List Duty) → v.status ≢ Gone → HasWorked v 0 (Settle ∷ rest) w → ComesToSettle w rest
+comes : (v w : View) (rest : List Duty) → v.status ≢ Gone → HasWorked v [] (Settle ∷ rest) w → ComesToSettle w rest
 comes v w rest alive at = InWork rest (λ gone. alive (sym at.keeps.status ∙ gone)) at.agenda
 
 pub settle-requires-clause-duty : goal.settle-requires-clause-duty
@@ -37,10 +36,8 @@ returns-clause-work g c =
     let at = given_up _ _ _ c.args.row c.requires.duty c.merge.ensures.work c.give_up.ensures.work in
     let ends = c.settle.ensures.work rest (comes _ _ rest c.requires.alive at) in (
       ends.0,
-      ends.1,
       subst (λ (ds : List Duty). HasWorked v ends.0 ds z) (sym (ap claimed_left c.requires.duty.next))
-          (subst (λ (n : ℕ). HasWorked v n rest z) (add-zero ends.0)
-          (worked_then v _ z 0 ends.0 (Settle ∷ rest) rest at ends.2)),
+          (worked_then v _ z [] ends.0 (Settle ∷ rest) rest at ends.1),
+      ends.2,
       ends.3,
-      ends.4,
     )

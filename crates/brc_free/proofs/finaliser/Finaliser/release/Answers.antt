@@ -17,6 +17,6 @@ returns-in-Skip-clause-work g c =
     let u = c.release_local.new.hand.view in
     let events = c.release_local.ensures.events in (
       events.0,
-      subst (λ (z : View). HasWorked z 0 [] u) events.3 (worked_first u []
+      subst (λ (z : View). HasWorked z [] [] u) events.3 (worked_first u []
           (c.release_local.ensures.left.agenda ∙ nothing_left c.args.row c.release_local.result c.in-Skip.is)),
     )
