@@ -2,6 +2,7 @@
 use Rattle.std.proofs.Common.{◌≡◌, ℕ, zero, suc, Bool, List, [], ◌∷◌, ◌++◌, refl, ap, ◌∙◌}
 use Rattle.std.specs.Prelude.{not, if◌then◌else◌}
 use Rattle.std.specs.List.{filter}
+use Rattle.brc_host.specs.HostCalls.{HostCall}
 use Rattle.brc_model.specs.declared.duty.Duty.{Duty}
 use Rattle.brc_model.specs.declared.duty.Duty.TheVariants.{Finish}
 use Rattle.brc_model.specs.Duties.{ready}
@@ -35,10 +36,10 @@ holds_none v u root is =
     ∙ ap (without_one root_row) root)
 
 -- Once it has settled it may leave.
-pub may_leave : (v u w : View) (n : ℕ) → IsFree v → v.references ≡ root_row ∷ [] → u.status ≡ v.status
+pub may_leave : (v u w : View) (cs : List HostCall) → IsFree v → v.references ≡ root_row ∷ [] → u.status ≡ v.status
     → u.aside ≡ filter (λ d. not (is_about root_row d)) (open_work v)
-    → u.references ≡ without_reference v.layout root_row v.references → HasWorked u n [] w → w.head ≡ 0 → MayLeave w
-may_leave v u w n free root same aside references at empty = record {
+    → u.references ≡ without_reference v.layout root_row v.references → HasWorked u cs [] w → w.head ≡ 0 → MayLeave w
+may_leave v u w cs free root same aside references at empty = record {
   free = record {
     running = at.keeps.status ∙ (same ∙ free.running);
     agenda = at.agenda;
@@ -54,5 +55,5 @@ finish_first zero = refl
 finish_first (suc head) = refl
 
 -- and then nothing is left.
-pub finished : (v u w : View) (n : ℕ) → HasWorked v n (Finish ∷ []) u → w ≡ done u 2 → w ≡ did u (Finish ∷ []) 2
-finished v u w n at is = is ∙ ap (λ (ds : List Duty). did u ds 2) (at.agenda ∙ finish_first u.head)
+pub finished : (v u w : View) (cs : List HostCall) → HasWorked v cs (Finish ∷ []) u → w ≡ done u 2 → w ≡ did u (Finish ∷ []) 2
+finished v u w cs at is = is ∙ ap (λ (ds : List Duty). did u ds 2) (at.agenda ∙ finish_first u.head)

@@ -1,7 +1,7 @@
 -- What comes next for a hand that takes a mark of its own block.
 use Rattle.std.proofs.Common.{◌≡◌, ℕ, suc, zero, ◌+◌, ◌-◌, ◌<◌, Bool, true, false, List, [], ◌∷◌, ◌++◌, refl, sym, ap, ◌∙◌, subst, arith}
 use Rattle.std.specs.Prelude.{◌==◌, if◌then◌else◌}
-use Rattle.std.proofs.Math.Nat.{add-zero}
+use Rattle.brc_host.specs.HostCalls.{HostCall}
 use Rattle.brc_model.specs.declared.duty.Reason.TheVariants.{Handed}
 use Rattle.brc_model.specs.declared.duty.Duty.{Duty}
 use Rattle.brc_model.specs.declared.duty.Duty.TheVariants.{MergeSwap, Settle, Scan, Finish, ClaimMark}
@@ -46,9 +46,9 @@ one_less : (n : ℕ) → suc n - 1 ≡ n
 one_less n = omega (arith)
 
 scanned : (v w : View) (i n found : ℕ) (rest : List Duty) → v.agenda ≡ Scan i (suc n) ∷ rest → w ≡ done v found
-    → HasWorked v 0 (claimed (row_at v.layout v.thread i) found ++ Settle ∷ Scan (i + 1) (suc n - 1) ∷ rest) w
+    → HasWorked v [] (claimed (row_at v.layout v.thread i) found ++ Settle ∷ Scan (i + 1) (suc n - 1) ∷ rest) w
 scanned v w i n found rest next is =
-    worked_on v v w 0 (Scan i (suc n)) rest
+    worked_on v v w [] (Scan i (suc n)) rest
     (claimed (row_at v.layout v.thread i) found ++ Settle ∷ Scan (i + 1) (suc n - 1) ∷ rest) found
     (worked_first v (Scan i (suc n) ∷ rest) (next ∙ sym (scan_first v.head i n rest))) (scan_first v.head i n rest) refl
     refl is (record {
@@ -65,9 +65,9 @@ scanned v w i n found rest next is =
 
 -- The mark wasn't set, and the next row is scanned.
 pub scanned_none : (v w : View) (i n found : ℕ) (rest : List Duty) → v.agenda ≡ Scan i (suc n) ∷ rest
-    → w ≡ done v found → (found == 1) ≡ false → w.head ≡ 0 → HasWorked v 0 (Scan (i + 1) (suc n - 1) ∷ rest) w
+    → w ≡ done v found → (found == 1) ≡ false → w.head ≡ 0 → HasWorked v [] (Scan (i + 1) (suc n - 1) ∷ rest) w
 scanned_none v w i n found rest next is none still =
-    let at = subst (λ (ds : List Duty). HasWorked v 0 (ds ++ Settle ∷ Scan (i + 1) (suc n - 1) ∷ rest) w)
+    let at = subst (λ (ds : List Duty). HasWorked v [] (ds ++ Settle ∷ Scan (i + 1) (suc n - 1) ∷ rest) w)
     (ap (λ (b : Bool). if b then MergeSwap (row_at v.layout v.thread i) Handed ∷ [] else []) none)
     (scanned v w i n found rest next is) in
     record {
@@ -87,20 +87,20 @@ scan_head v w i n found rest next is empty =
 -- The mark was set, and the object is merged next.
 pub scanned_one : (v w : View) (i n found : ℕ) (rest : List Duty) → v.agenda ≡ Scan i (suc n) ∷ rest
     → w ≡ done v found → (found == 1) ≡ true
-    → HasWorked v 0 (MergeSwap (row_at v.layout v.thread i) Handed ∷ Settle ∷ Scan (i + 1) (suc n - 1) ∷ rest) w
+    → HasWorked v [] (MergeSwap (row_at v.layout v.thread i) Handed ∷ Settle ∷ Scan (i + 1) (suc n - 1) ∷ rest) w
 scanned_one v w i n found rest next is one =
-    subst (λ (ds : List Duty). HasWorked v 0 (ds ++ Settle ∷ Scan (i + 1) (suc n - 1) ∷ rest) w)
+    subst (λ (ds : List Duty). HasWorked v [] (ds ++ Settle ∷ Scan (i + 1) (suc n - 1) ∷ rest) w)
     (ap (λ (b : Bool). if b then MergeSwap (row_at v.layout v.thread i) Handed ∷ [] else []) one)
     (scanned v w i n found rest next is)
 
 -- The hand has then settled, and the next row is scanned.
-pub scanned_settled : (v u w : View) (x m : ℕ) (rest : List Duty)
-    → HasWorked v 0 (MergeSwap x Handed ∷ Settle ∷ rest) u → HasWorked u m (claimed_left u.agenda) w → HasWorked v m rest w
-scanned_settled v u w x m rest at settled =
-    subst (λ (n : ℕ). HasWorked v n rest w) (add-zero m)
-    (worked_then v u w 0 m (MergeSwap x Handed ∷ Settle ∷ rest) rest at
-    (subst (λ (ds : List Duty). HasWorked u m (claimed_left ds) w)
-    (at.agenda ∙ merge_swap_first u.head x Handed (Settle ∷ rest)) settled))
+pub scanned_settled : (v u w : View) (x : ℕ) (cs : List HostCall) (rest : List Duty)
+    → HasWorked v [] (MergeSwap x Handed ∷ Settle ∷ rest) u → HasWorked u cs (claimed_left u.agenda) w
+    → HasWorked v cs rest w
+scanned_settled v u w x cs rest at settled =
+    worked_then v u w [] cs (MergeSwap x Handed ∷ Settle ∷ rest) rest at
+    (subst (λ (ds : List Duty). HasWorked u cs (claimed_left ds) w)
+    (at.agenda ∙ merge_swap_first u.head x Handed (Settle ∷ rest)) settled)
 
 -- ---- all rows
 
@@ -113,13 +113,14 @@ scans_next u i used more is =
     ∙ scan_first u.head i (used - i - 1) (Finish ∷ []))
 
 -- Once it is scanned, the rows behind it are left.
-pub scans_on : (v u w : View) (n m i used : ℕ) → i < used → HasWorked v n (Scan i (used - i) ∷ Finish ∷ []) u
-    → HasWorked u m (scan_left u.agenda) w → HasWorked v (m + n) (Scan (i + 1) (used - (i + 1)) ∷ Finish ∷ []) w
-scans_on v u w n m i used more at scans =
+pub scans_on : (v u w : View) (cs fs : List HostCall) (i used : ℕ) → i < used
+    → HasWorked v cs (Scan i (used - i) ∷ Finish ∷ []) u → HasWorked u fs (scan_left u.agenda) w
+    → HasWorked v (cs ++ fs) (Scan (i + 1) (used - (i + 1)) ∷ Finish ∷ []) w
+scans_on v u w cs fs i used more at scans =
     let next = scans_next u i used more at.agenda in
     let less : suc (used - i - 1) - 1 ≡ used - (i + 1) = omega (arith, more) in
-    worked_then v u w n m (Scan i (used - i) ∷ Finish ∷ []) (Scan (i + 1) (used - (i + 1)) ∷ Finish ∷ []) at
-    (subst (λ (ds : List Duty). HasWorked u m ds w)
+    worked_then v u w cs fs (Scan i (used - i) ∷ Finish ∷ []) (Scan (i + 1) (used - (i + 1)) ∷ Finish ∷ []) at
+    (subst (λ (ds : List Duty). HasWorked u fs ds w)
     (ap scan_left next ∙ ap (λ (k : ℕ). Scan (i + 1) k ∷ Finish ∷ []) less) scans)
 
 -- With no row left, the thread goes next.

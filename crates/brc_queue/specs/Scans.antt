@@ -1,5 +1,6 @@
 -- What a hand does that looks through its own queue, and what it does as it leaves.
-use Rattle.std.specs.Prelude.{◌≡◌, ℕ, suc, ◌+◌, ◌-◌, List, [], ◌∷◌}
+use Rattle.std.specs.Prelude.{◌≡◌, ℕ, suc, ◌+◌, ◌-◌, List, [], ◌∷◌, ◌++◌}
+use Rattle.brc_host.specs.HostCalls.{HostCall}
 use Rattle.brc_model.specs.declared.duty.Duty.{Duty}
 use Rattle.brc_model.specs.declared.duty.Duty.TheVariants.{Scan, Finish}
 use Rattle.brc_model.specs.Layout.{root_row, row_at}
@@ -10,16 +11,17 @@ use Rattle.brc_heap.specs.Calls.{released_locally}
 use Rattle.brc_free.specs.Works.{HasWorked}
 
 -- The hand has taken the mark of the row at index i of its block. Where the mark was set, it has merged the object, given
--- up the reference that was handed over with it, and settled, by which it found n resources of dying objects.
-pub record Claims (i n : ℕ) (v w : View) : Type 0 where
+-- up the reference that was handed over with it, and settled, with these closes of the host.
+pub record Claims (i : ℕ) (closes : List HostCall) (v w : View) : Type 0 where
   pub found : ℕ
-  pub follows : HasWorked (done (claiming v (row_at v.layout v.thread i)) found) n [] w
+  pub follows : HasWorked (done (claiming v (row_at v.layout v.thread i)) found) closes [] w
   pub settled : w.head ≡ 0
 
--- The hand has taken the marks of the first rows of its block, by rising number, and has found n resources in all.
-pub data LooksThrough (v : View) : ℕ → ℕ → View → Type 0 where
-  Begun : LooksThrough v 0 0 v
-  Next : (i n m : ℕ) (u w : View) → LooksThrough v i n u → Claims i m u w → LooksThrough v (i + 1) (m + n) w
+-- The hand has taken the marks of the first rows of its block, by rising number, with these closes of the host.
+pub data LooksThrough (v : View) : ℕ → List HostCall → View → Type 0 where
+  Begun : LooksThrough v 0 [] v
+  Next : (i : ℕ) (closes more : List HostCall) (u w : View) → LooksThrough v i closes u → Claims i more u w
+      → LooksThrough v (i + 1) (closes ++ more) w
 
 -- To scan the marks of all used rows, and then to say that the thread is gone, is what comes next.
 abbrev pub ScansNext : View → Type 0
@@ -38,16 +40,16 @@ scan_left _ = []
 
 -- The hand has left: it has given up the reference to the root, settled, said that it leaves, scanned the marks of its
 -- rows, each mark that was set followed by the merge, the release and the settling, and said that it is gone. By this it
--- has found n resources of dying objects.
-pub record HasLeft (n : ℕ) (v w : View) : Type 0 where
+-- has made these closes of the host.
+pub record HasLeft (closes : List HostCall) (v w : View) : Type 0 where
   pub word : ℕ
   pub released : View
   pub settled : View
   pub scanned : View
-  pub first : ℕ
-  pub later : ℕ
-  pub found_is : n ≡ later + first
-  pub releases : HasWorked (released_locally v root_row word) 0 [] released
+  pub first : List HostCall
+  pub later : List HostCall
+  pub closes_are : closes ≡ first ++ later
+  pub releases : HasWorked (released_locally v root_row word) [] [] released
   pub settles : HasWorked released first [] settled
   pub empty : settled.head ≡ 0
   pub scans : HasWorked (done (leaving settled) 1) later (Finish ∷ []) scanned

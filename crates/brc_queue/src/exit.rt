@@ -1,7 +1,8 @@
 //! The exit of a thread.
 
-ghost use Rattle.std.specs.Prelude.{◌≡◌, ◌≢◌, ◌<◌, ℕ, None, [], ◌∷◌};
-ghost use Rattle.brc_host.specs.HostCounts.{after_closes, raised};
+ghost use Rattle.std.specs.Prelude.{◌≡◌, ◌≢◌, ◌<◌, None, List, [], ◌∷◌};
+ghost use Rattle.brc_host.specs.HostCounts.{raised};
+ghost use Rattle.brc_host.specs.HostCalls.{HostCall, HasAnswered, close_faults};
 ghost use Rattle.brc_model.specs.declared.actor.Status.TheVariants.{Gone};
 ghost use Rattle.brc_model.specs.declared.duty.Duty.TheVariants.{Finish};
 ghost use Rattle.brc_model.specs.Layout.{root_row};
@@ -38,8 +39,9 @@ impl<'h, T: Drop> Queue<'h, T> {
         ensures holds_none { hand.new.view.references ≡ [] }
         ensures thread { hand.new.view.thread ≡ hand.old.view.thread }
         ensures used { hand.new.view.used ≡ hand.old.view.used }
-        ensures work { (closes : ℕ) × (failed : ℕ) × HasLeft closes hand.old.view hand.new.view
-            × (result ≡ raised failed 0) × (H.counts host.new ≡ after_closes closes failed (H.counts host.old)) }
+        ensures work { (closes : List HostCall) × HasLeft closes hand.old.view hand.new.view
+            × (result ≡ raised (close_faults closes) 0)
+            × HasAnswered H.answers H.counts host.old closes host.new }
     {
         let finaliser = Finaliser::new(self.heap, self);
         finaliser.release(rt, hand, ROOT);
@@ -61,8 +63,9 @@ impl<'h, T: Drop> Queue<'h, T> {
         ensures carried { hand.new.carried ≡ hand.old.carried }
         ensures slots { hand.new.slots ≡ hand.old.slots }
         ensures settled { hand.new.view.head ≡ 0 }
-        ensures work { (closes : ℕ) × (failed : ℕ) × HasWorked hand.old.view closes (Finish ∷ []) hand.new.view
-            × (result ≡ raised failed 0) × (H.counts host.new ≡ after_closes closes failed (H.counts host.old)) }
+        ensures work { (closes : List HostCall) × HasWorked hand.old.view closes (Finish ∷ []) hand.new.view
+            × (result ≡ raised (close_faults closes) 0)
+            × HasAnswered H.answers H.counts host.old closes host.new }
     {
         let mut failed: u64 = 0;
         for index in 0..hand.used() {
@@ -89,9 +92,9 @@ impl<'h, T: Drop> Queue<'h, T> {
         ensures carried { hand.new.carried ≡ hand.old.carried }
         ensures slots { hand.new.slots ≡ hand.old.slots }
         ensures settled { hand.new.view.head ≡ 0 }
-        ensures work { (closes : ℕ) × (failed : ℕ)
-            × HasWorked hand.old.view closes (scan_left hand.old.view.agenda) hand.new.view × (result ≡ raised failed 0)
-            × (H.counts host.new ≡ after_closes closes failed (H.counts host.old)) }
+        ensures work { (closes : List HostCall)
+            × HasWorked hand.old.view closes (scan_left hand.old.view.agenda) hand.new.view × (result ≡ raised (close_faults closes) 0)
+            × HasAnswered H.answers H.counts host.old closes host.new }
     {
         let words = self.heap.words();
         if words.mark_scan(hand, index) != QUEUED {

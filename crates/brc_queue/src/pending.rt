@@ -1,7 +1,8 @@
 //! Looking through a hand's own queue.
 
-ghost use Rattle.std.specs.Prelude.{◌≡◌, ◌<◌, ℕ};
-ghost use Rattle.brc_host.specs.HostCounts.{after_closes, raised};
+ghost use Rattle.std.specs.Prelude.{◌≡◌, ◌<◌, List};
+ghost use Rattle.brc_host.specs.HostCounts.{raised};
+ghost use Rattle.brc_host.specs.HostCalls.{HostCall, HasAnswered, close_faults};
 ghost use Rattle.brc_table.specs.Hands.{IsOf};
 ghost use Rattle.brc_table.specs.Calls.{IsFree};
 ghost use Rattle.brc_free.specs.Works.{Keeps};
@@ -35,9 +36,9 @@ impl<'h, T: Drop> Queue<'h, T> {
         ensures free { IsFree hand.new.view }
         ensures settled { hand.new.view.head ≡ 0 }
         ensures keeps { Keeps hand.old.view hand.new.view }
-        ensures work { (closes : ℕ) × (failed : ℕ)
-            × LooksThrough hand.old.view hand.old.view.used closes hand.new.view × (result ≡ raised failed 0)
-            × (H.counts host.new ≡ after_closes closes failed (H.counts host.old)) }
+        ensures work { (closes : List HostCall)
+            × LooksThrough hand.old.view hand.old.view.used closes hand.new.view × (result ≡ raised (close_faults closes) 0)
+            × HasAnswered H.answers H.counts host.old closes host.new }
     {
         let mut failed: u64 = 0;
         for index in 0..hand.used() {
@@ -63,8 +64,9 @@ impl<'h, T: Drop> Queue<'h, T> {
         ensures carried { hand.new.carried ≡ hand.old.carried }
         ensures slots { hand.new.slots ≡ hand.old.slots }
         ensures keeps { Keeps hand.old.view hand.new.view }
-        ensures work { (closes : ℕ) × (failed : ℕ) × Claims index closes hand.old.view hand.new.view
-            × (result ≡ raised failed 0) × (H.counts host.new ≡ after_closes closes failed (H.counts host.old)) }
+        ensures work { (closes : List HostCall) × Claims index closes hand.old.view hand.new.view
+            × (result ≡ raised (close_faults closes) 0)
+            × HasAnswered H.answers H.counts host.old closes host.new }
     {
         let words = self.heap.words();
         let row = words.own_row(hand, index);

@@ -1,5 +1,6 @@
 use Rattle.std.proofs.Common.{◌≡◌, ℕ, [], refl, sym, ap, ◌∙◌, subst}
 use Rattle.std.proofs.lemmas.Bool.{ne_eqb}
+use Rattle.brc_host.specs.HostCalls.{NoCall}
 use Rattle.brc_model.specs.declared.layout.Layout.{Layout}
 use Rattle.brc_model.specs.Layout.{row_at}
 use Rattle.brc_table.specs.declared.view.View.{View}
@@ -7,7 +8,6 @@ use Rattle.brc_table.specs.Hands.{TableState}
 use Rattle.brc_table.specs.Views.{done, claiming}
 use Rattle.brc_free.specs.Works.{HasWorked}
 use Rattle.brc_free.proofs.Working.{keeps_then, worked_first}
-use Rattle.brc_free.proofs.Closes.{none_closed}
 use Rattle.brc_queue.proofs.Scanning.{claim_none, claim_keeps}
 use Rattle.brc_queue.proofs.queue.Queue.claim.Goals as goal
 
@@ -22,7 +22,7 @@ returns-clause-keeps g c =
     let u = c.mark_claim.new.hand.view in
     keeps_then v u c.merge_claimed.new.hand.view
     (claim_keeps v u c.own_row-row.result c.mark_claim.result c.mark_claim.ensures.view)
-    c.merge_claimed.ensures.work.2.keeps
+    c.merge_claimed.ensures.work.1.keeps
 
 pub returns-then-mark_claim-ne-QUEUED-clause-work : goal.returns-then-mark_claim-ne-QUEUED-clause-work
 returns-then-mark_claim-ne-QUEUED-clause-work g c =
@@ -36,14 +36,13 @@ returns-then-mark_claim-ne-QUEUED-clause-work g c =
     let is : w ≡ done (claiming v (row_at v.layout v.thread c.args.index)) found =
     c.mark_claim.ensures.view ∙ ap (λ (x : ℕ). done (claiming v x) found) row_is in
     let none = ne_eqb found 1 c.if-mark_claim-ne-QUEUED.true in (
-      0,
-      0,
+      [],
       record {
         found = found;
-        follows = subst (λ (z : View). HasWorked z 0 [] w) is (worked_first w []
+        follows = subst (λ (z : View). HasWorked z [] [] w) is (worked_first w []
             (claim_none v w (row_at v.layout v.thread c.args.index) found c.requires.settled none is));
         settled = ap (λ (z : View). z.head) is ∙ c.requires.settled;
       },
       refl,
-      sym (none_closed (g.H.Host.counts c.args.host.now)),
+      NoCall,
     )

@@ -1,5 +1,7 @@
-use Rattle.std.proofs.Common.{◌≡◌, ℕ, ◌+◌, [], ◌∷◌, refl, sym, ap, ◌∙◌, subst}
-use Rattle.brc_host.specs.HostCounts.{after_closes}
+use Rattle.std.proofs.Common.{◌≡◌, ℕ, ◌+◌, [], ◌∷◌, refl, sym, ap, ◌∙◌, subst, List, ◌++◌}
+use Rattle.brc_host.specs.HostCalls.{HostCall, close_faults}
+use Rattle.brc_host.proofs.Answering.{answered_then, close_faults_then}
+use Rattle.brc_host.specs.HostCounts.{raised}
 use Rattle.brc_model.specs.declared.duty.Duty.TheVariants.{Finish}
 use Rattle.brc_model.specs.Layout.{root_row}
 use Rattle.brc_table.specs.declared.view.View.{View}
@@ -7,7 +9,7 @@ use Rattle.brc_table.specs.Views.{did}
 use Rattle.brc_table.specs.Hands.{TableState}
 use Rattle.brc_table.specs.Calls.{MayLeave}
 use Rattle.brc_free.specs.Works.{HasWorked, ComesToSettle}
-use Rattle.brc_free.proofs.Closes.{closed_twice, sums_both}
+use Rattle.brc_free.proofs.Closes.{sums_both}
 use Rattle.brc_queue.proofs.Exits.{comes_at_once, may_leave, finished}
 use Rattle.brc_queue.proofs.queue.Queue.leave.Given as given
 use Rattle.brc_queue.proofs.queue.Queue.leave.Goals.{After-settle-failed, After-thread_gone}
@@ -21,8 +23,8 @@ comes g c =
 
 -- It has settled: nothing comes next.
 settled : (g : given.Over) (c : After-settle-failed g)
-    → (closes : ℕ) × HasWorked c.release.new.hand.view closes [] c.settle-failed.new.hand.view
-settled g c = let work = c.settle-failed.ensures.work [] (comes g c) in (work.0, work.2)
+    → (closes : List HostCall) × HasWorked c.release.new.hand.view closes [] c.settle-failed.new.hand.view
+settled g c = let work = c.settle-failed.ensures.work [] (comes g c) in (work.0, work.1)
 
 -- So it may leave.
 may : (g : given.Over) (c : After-settle-failed g) → MayLeave c.settle-failed.new.hand.view
@@ -36,7 +38,7 @@ may g c =
 ends : (g : given.Over) (c : After-thread_gone g)
     → c.thread_gone.new.hand.view ≡ did c.scan-more.new.hand.view (Finish ∷ []) 2
 ends g c =
-    finished _ _ _ c.scan-more.ensures.work.0 c.scan-more.ensures.work.2 c.thread_gone.ensures.view
+    finished _ _ _ c.scan-more.ensures.work.0 c.scan-more.ensures.work.1 c.thread_gone.ensures.view
 
 pub settle-failed-requires-clause-duty : goal.settle-failed-requires-clause-duty
 settle-failed-requires-clause-duty g c = λ κs lives.
@@ -71,7 +73,7 @@ thread_gone-requires-clause-table g c =
     let same = c.new-finaliser.ensures ∙ sym c.words-2.ensures in (
       c.scan-more.ensures.table ∙ (c.thread_leave.ensures.table
           ∙ (c.settle-failed.ensures.table.0 ∙ ap (λ (t : TableState). t.table) same)),
-      c.scan-more.ensures.work.2.keeps.layout ∙ (ap (λ (z : View). z.layout) c.thread_leave.ensures.view
+      c.scan-more.ensures.work.1.keeps.layout ∙ (ap (λ (z : View). z.layout) c.thread_leave.ensures.view
           ∙ (c.settle-failed.ensures.table.1 ∙ ap (λ (t : TableState). t.layout) same)),
     )
 
@@ -81,7 +83,7 @@ returns-clause-table g c =
       c.thread_gone.ensures.table ∙ (c.scan-more.ensures.table ∙ (c.thread_leave.ensures.table
           ∙ (c.settle-failed.ensures.table.0 ∙ ap (λ (t : TableState). t.table) heap))),
       ap (λ (z : View). z.layout) (ends g (goal.at.returns-clause-table g c).After-thread_gone)
-          ∙ (c.scan-more.ensures.work.2.keeps.layout ∙ (ap (λ (z : View). z.layout) c.thread_leave.ensures.view
+          ∙ (c.scan-more.ensures.work.1.keeps.layout ∙ (ap (λ (z : View). z.layout) c.thread_leave.ensures.view
           ∙ (c.settle-failed.ensures.table.1 ∙ ap (λ (t : TableState). t.layout) heap))),
     )
 
@@ -90,7 +92,7 @@ returns-clause-idle g c =
     let at = goal.at.returns-clause-idle g c in
     let end = ends g at.After-thread_gone in (
       ap (λ (z : View). z.agenda) end,
-      ap (λ (z : View). z.aside) end ∙ (c.scan-more.ensures.work.2.keeps.aside
+      ap (λ (z : View). z.aside) end ∙ (c.scan-more.ensures.work.1.keeps.aside
           ∙ (ap (λ (z : View). z.aside) c.thread_leave.ensures.view ∙ (may g at.After-settle-failed).free.aside)),
       ap (λ (z : View). z.head) end ∙ c.scan-more.ensures.settled,
     )
@@ -99,21 +101,21 @@ pub returns-clause-holds_none : goal.returns-clause-holds_none
 returns-clause-holds_none g c =
     let at = goal.at.returns-clause-holds_none g c in
     ap (λ (z : View). z.references) (ends g at.After-thread_gone)
-    ∙ (c.scan-more.ensures.work.2.keeps.references
+    ∙ (c.scan-more.ensures.work.1.keeps.references
     ∙ (ap (λ (z : View). z.references) c.thread_leave.ensures.view ∙ (may g at.After-settle-failed).holds_none))
 
 pub returns-clause-thread : goal.returns-clause-thread
 returns-clause-thread g c =
     let at = goal.at.returns-clause-thread g c in
     ap (λ (z : View). z.thread) (ends g at.After-thread_gone)
-    ∙ (c.scan-more.ensures.work.2.keeps.thread ∙ (ap (λ (z : View). z.thread) c.thread_leave.ensures.view
+    ∙ (c.scan-more.ensures.work.1.keeps.thread ∙ (ap (λ (z : View). z.thread) c.thread_leave.ensures.view
     ∙ ((settled g at.After-settle-failed).1.keeps.thread ∙ c.release.ensures.released.thread)))
 
 pub returns-clause-used : goal.returns-clause-used
 returns-clause-used g c =
     let at = goal.at.returns-clause-used g c in
     ap (λ (z : View). z.used) (ends g at.After-thread_gone)
-    ∙ (c.scan-more.ensures.work.2.keeps.used ∙ (ap (λ (z : View). z.used) c.thread_leave.ensures.view
+    ∙ (c.scan-more.ensures.work.1.keeps.used ∙ (ap (λ (z : View). z.used) c.thread_leave.ensures.view
     ∙ ((settled g at.After-settle-failed).1.keeps.used ∙ c.release.ensures.released.used)))
 
 pub returns-clause-work : goal.returns-clause-work
@@ -121,8 +123,7 @@ returns-clause-work g c =
     let one = c.release.ensures in
     let work = c.settle-failed.ensures.work [] (comes g (goal.at.returns-clause-work g c).After-settle-failed) in
     let more = c.scan-more.ensures.work in (
-      more.0 + work.0,
-      more.1 + work.1,
+      work.0 ++ more.0,
       record {
         word = one.work.0;
         released = c.release.new.hand.view;
@@ -130,16 +131,16 @@ returns-clause-work g c =
         scanned = c.scan-more.new.hand.view;
         first = work.0;
         later = more.0;
-        found_is = refl;
+        closes_are = refl;
         releases = one.work.1;
-        settles = work.2;
+        settles = work.1;
         empty = c.settle-failed.ensures.chain;
         scans = subst (λ (z : View). HasWorked z more.0 (Finish ∷ []) c.scan-more.new.hand.view)
-            c.thread_leave.ensures.view more.2;
+            c.thread_leave.ensures.view more.1;
         gone = c.thread_gone.ensures.view;
       },
       c.saturating_add.ensures
-          ∙ sums_both c.settle-failed.result c.scan-more.result work.1 more.1 work.3 more.3,
-      more.4 ∙ (ap (after_closes more.0 more.1) work.4
-          ∙ closed_twice more.0 more.1 work.0 work.1 (g.H.Host.counts c.args.host.now)),
+          ∙ (sums_both c.settle-failed.result c.scan-more.result (close_faults work.0) (close_faults more.0) work.2 more.2
+          ∙ ap (λ (n : ℕ). raised n 0) (sym (close_faults_then work.0 more.0))),
+      answered_then work.3 more.3,
     )

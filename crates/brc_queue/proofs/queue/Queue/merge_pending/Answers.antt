@@ -1,8 +1,10 @@
-use Rattle.std.proofs.Common.{◌+◌, refl, sym, ap, ◌∙◌}
-use Rattle.brc_host.specs.HostCounts.{after_closes}
+use Rattle.std.proofs.Common.{◌+◌, refl, sym, ap, ◌∙◌, ℕ, [], ◌++◌}
+use Rattle.brc_host.specs.HostCalls.{NoCall, close_faults}
+use Rattle.brc_host.proofs.Answering.{answered_then, close_faults_then}
+use Rattle.brc_host.specs.HostCounts.{raised}
 use Rattle.brc_queue.specs.Scans.{Begun, Next}
 use Rattle.brc_free.proofs.Working.{keeps_first, keeps_then}
-use Rattle.brc_free.proofs.Closes.{none_closed, closed_twice, sums_both}
+use Rattle.brc_free.proofs.Closes.{sums_both}
 use Rattle.brc_queue.proofs.queue.Queue.merge_pending.Goals as goal
 
 pub loop-index-init : goal.loop-index-init
@@ -15,11 +17,10 @@ loop-index-init g c =
       c.requires.settled,
       keeps_first v,
       (
-        0,
-        0,
+        [],
         Begun,
         refl,
-        sym (none_closed (g.H.Host.counts c.args.host.now)),
+        NoCall,
       ),
     )
 
@@ -36,18 +37,17 @@ loop-index-preserved g c =
       one.slots ∙ kept.2,
       record {
         running = one.keeps.status ∙ kept.3.running;
-        agenda = one.work.2.follows.agenda;
+        agenda = one.work.1.follows.agenda;
         aside = one.keeps.aside ∙ kept.3.aside;
       },
-      one.work.2.settled,
+      one.work.1.settled,
       keeps_then v u w kept.5 one.keeps,
       (
-        one.work.0 + before.0,
-        one.work.1 + before.1,
-        Next c.loop-index.index before.0 one.work.0 u w before.2 one.work.2,
+        before.0 ++ one.work.0,
+        Next c.loop-index.index before.0 one.work.0 u w before.1 one.work.1,
         c.saturating_add-failed.ensures
-            ∙ sums_both c.loop-index.failed c.claim.result before.1 one.work.1 before.3 one.work.3,
-        one.work.4 ∙ (ap (after_closes one.work.0 one.work.1) before.4
-            ∙ closed_twice one.work.0 one.work.1 before.0 before.1 (g.H.Host.counts c.args.host.now)),
+            ∙ (sums_both c.loop-index.failed c.claim.result (close_faults before.0) (close_faults one.work.0) before.2 one.work.2
+            ∙ ap (λ (n : ℕ). raised n 0) (sym (close_faults_then before.0 one.work.0))),
+        answered_then before.3 one.work.3,
       ),
     )

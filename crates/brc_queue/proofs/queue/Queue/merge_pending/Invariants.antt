@@ -1,5 +1,6 @@
-use Rattle.std.proofs.Common.{◌≡◌, ℕ}
-use Rattle.brc_host.specs.HostCounts.{after_closes, raised}
+use Rattle.std.proofs.Common.{◌≡◌, ℕ, List}
+use Rattle.brc_host.specs.HostCalls.{HostCall, HasAnswered, close_faults}
+use Rattle.brc_host.specs.HostCounts.{raised}
 use Rattle.brc_table.specs.Calls.{IsFree}
 use Rattle.brc_free.specs.Works.{Keeps}
 use Rattle.brc_queue.specs.Scans.{LooksThrough}
@@ -10,6 +11,6 @@ abbrev pub invariant-loop-index : goal.invariant-loop-index
 invariant-loop-index g l =
     (l.hand.table ≡ l.fn.hand.table) × (l.hand.carried ≡ l.fn.hand.carried) × (l.hand.slots ≡ l.fn.hand.slots)
     × IsFree l.hand.view × (l.hand.view.head ≡ 0) × Keeps l.fn.hand.view l.hand.view
-    × ((closes : ℕ) × (failed : ℕ) × LooksThrough l.fn.hand.view l.index closes l.hand.view
-    × (l.failed ≡ raised failed 0)
-    × (g.H.Host.counts l.host ≡ after_closes closes failed (g.H.Host.counts l.fn.host)))
+    × ((closes : List HostCall) × LooksThrough l.fn.hand.view l.index closes l.hand.view
+    × (l.failed ≡ raised (close_faults closes) 0)
+    × HasAnswered g.H.Host.answers g.H.Host.counts l.fn.host closes l.host)

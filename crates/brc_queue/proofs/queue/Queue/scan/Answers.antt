@@ -1,9 +1,11 @@
-use Rattle.std.proofs.Common.{◌≡◌, ℕ, ◌+◌, ◌-◌, ◌<◌, [], ◌∷◌, refl, sym, ap, ◌∙◌, subst, arith}
-use Rattle.brc_host.specs.HostCounts.{after_closes}
+use Rattle.std.proofs.Common.{◌≡◌, ℕ, ◌+◌, ◌-◌, ◌<◌, [], ◌∷◌, refl, sym, ap, ◌∙◌, subst, arith, ◌++◌}
+use Rattle.brc_host.specs.HostCalls.{NoCall, close_faults}
+use Rattle.brc_host.proofs.Answering.{answered_then, close_faults_then}
+use Rattle.brc_host.specs.HostCounts.{raised}
 use Rattle.brc_model.specs.declared.duty.Duty.TheVariants.{Scan, Finish}
 use Rattle.brc_model.specs.Duties.{ready}
 use Rattle.brc_free.proofs.Working.{worked_first}
-use Rattle.brc_free.proofs.Closes.{none_closed, closed_twice, sums_both}
+use Rattle.brc_free.proofs.Closes.{sums_both}
 use Rattle.brc_queue.proofs.Scanning.{scans_on}
 use Rattle.brc_queue.proofs.queue.Queue.scan.Goals as goal
 
@@ -15,12 +17,11 @@ loop-index-init g c =
       refl,
       c.requires.settled,
       (
-        0,
-        0,
+        [],
         worked_first v (Scan 0 (v.used - 0) ∷ Finish ∷ [])
             (c.requires.duty ∙ ap (λ (n : ℕ). ready v.head (Scan 0 n ∷ Finish ∷ [])) (all_left v.used)),
         refl,
-        sym (none_closed (g.H.Host.counts c.args.host.now)),
+        NoCall,
       ),
     ) where
       all_left : (n : ℕ) → n ≡ n - 0
@@ -39,13 +40,12 @@ loop-index-preserved g c =
       one.slots ∙ kept.2,
       one.settled,
       (
-        one.work.0 + before.0,
-        one.work.1 + before.1,
+        before.0 ++ one.work.0,
         scans_on v u w before.0 one.work.0 c.loop-index.index v.used
-            (subst (λ (n : ℕ). c.loop-index.index < n) c.used-index-end.ensures c.loop-index-test.true) before.2 one.work.2,
+            (subst (λ (n : ℕ). c.loop-index.index < n) c.used-index-end.ensures c.loop-index-test.true) before.1 one.work.1,
         c.saturating_add-failed.ensures
-            ∙ sums_both c.loop-index.failed c.scan_row.result before.1 one.work.1 before.3 one.work.3,
-        one.work.4 ∙ (ap (after_closes one.work.0 one.work.1) before.4
-            ∙ closed_twice one.work.0 one.work.1 before.0 before.1 (g.H.Host.counts c.args.host.now)),
+            ∙ (sums_both c.loop-index.failed c.scan_row.result (close_faults before.0) (close_faults one.work.0) before.2 one.work.2
+            ∙ ap (λ (n : ℕ). raised n 0) (sym (close_faults_then before.0 one.work.0))),
+        answered_then before.3 one.work.3,
       ),
     )

@@ -1,5 +1,6 @@
-use Rattle.std.proofs.Common.{◌≡◌, ℕ, ◌-◌, [], ◌∷◌}
-use Rattle.brc_host.specs.HostCounts.{after_closes, raised}
+use Rattle.std.proofs.Common.{◌≡◌, ℕ, ◌-◌, [], ◌∷◌, List}
+use Rattle.brc_host.specs.HostCalls.{HostCall, HasAnswered, close_faults}
+use Rattle.brc_host.specs.HostCounts.{raised}
 use Rattle.brc_model.specs.declared.duty.Duty.TheVariants.{Scan, Finish}
 use Rattle.brc_free.specs.Works.{HasWorked}
 use Rattle.brc_queue.proofs.queue.Queue.scan.Given as goal
@@ -9,7 +10,7 @@ abbrev pub invariant-loop-index : goal.invariant-loop-index
 invariant-loop-index g l =
     (l.hand.table ≡ l.fn.hand.table) × (l.hand.carried ≡ l.fn.hand.carried) × (l.hand.slots ≡ l.fn.hand.slots)
     × (l.hand.view.head ≡ 0)
-    × ((closes : ℕ) × (failed : ℕ)
+    × ((closes : List HostCall)
     × HasWorked l.fn.hand.view closes (Scan l.index (l.fn.hand.view.used - l.index) ∷ Finish ∷ []) l.hand.view
-    × (l.failed ≡ raised failed 0)
-    × (g.H.Host.counts l.host ≡ after_closes closes failed (g.H.Host.counts l.fn.host)))
+    × (l.failed ≡ raised (close_faults closes) 0)
+    × HasAnswered g.H.Host.answers g.H.Host.counts l.fn.host closes l.host)

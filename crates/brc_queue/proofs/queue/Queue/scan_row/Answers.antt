@@ -1,8 +1,8 @@
-use Rattle.std.proofs.Common.{List, refl, sym, ap, subst}
+use Rattle.std.proofs.Common.{List, refl, sym, ap, subst, []}
 use Rattle.std.proofs.lemmas.Bool.{eq-eqb, ne_eqb}
+use Rattle.brc_host.specs.HostCalls.{NoCall}
 use Rattle.brc_model.specs.declared.duty.Duty.{Duty}
 use Rattle.brc_free.specs.Works.{HasWorked}
-use Rattle.brc_free.proofs.Closes.{none_closed}
 use Rattle.brc_model.specs.Layout.{row_at}
 use Rattle.brc_queue.specs.Scans.{scan_left}
 use Rattle.brc_queue.proofs.Scanning.{scanned_none, scanned_one, scanned_settled, scan_head}
@@ -15,13 +15,12 @@ returns-then-mark_scan-ne-QUEUED-clause-work g c =
     let duty = c.requires.duty in
     let found = c.mark_scan.result in
     let none = ne_eqb found 1 c.if-mark_scan-ne-QUEUED.true in (
-      0,
-      0,
-      subst (λ (ds : List Duty). HasWorked v 0 ds w) (sym (ap scan_left duty.next))
+      [],
+      subst (λ (ds : List Duty). HasWorked v [] ds w) (sym (ap scan_left duty.next))
           (scanned_none v w c.args.index duty.more found duty.rest duty.next c.mark_scan.ensures.view none
           (scan_head v w c.args.index duty.more found duty.rest duty.next c.mark_scan.ensures.view c.requires.settled)),
       refl,
-      sym (none_closed (g.H.Host.counts c.args.host.now)),
+      NoCall,
     )
 
 pub returns-clause-work : goal.returns-clause-work
@@ -34,10 +33,9 @@ returns-clause-work g c =
     let one = eq-eqb found 1 c.if-mark_scan-ne-QUEUED.false in
     let work = c.merge_claimed.ensures.work in (
       work.0,
-      work.1,
       subst (λ (ds : List Duty). HasWorked v work.0 ds w) (sym (ap scan_left duty.next))
           (scanned_settled v u w (row_at v.layout v.thread c.args.index) work.0 _
-          (scanned_one v u c.args.index duty.more found duty.rest duty.next c.mark_scan.ensures.view one) work.2),
+          (scanned_one v u c.args.index duty.more found duty.rest duty.next c.mark_scan.ensures.view one) work.1),
+      work.2,
       work.3,
-      work.4,
     )
