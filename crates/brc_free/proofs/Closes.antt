@@ -1,5 +1,5 @@
 -- How counts that stop at the greatest number add up.
-use Rattle.std.proofs.Common.{◌≡◌, ℕ, ◌+◌, ◌-◌, min, ap, ◌∙◌, arith}
+use Rattle.std.proofs.Common.{◌≡◌, ℕ, ◌+◌, ◌-◌, min, arith}
 use Rattle.brc_host.specs.HostCounts.{raised, count_limit}
 
 raised_by : (limit more less count : ℕ)
