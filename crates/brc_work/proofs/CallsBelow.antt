@@ -3,6 +3,7 @@ use Rattle.std.proofs.Common.{◌≡◌, ℕ, ◌≤◌, List, [], ◌∷◌, �
 use Rattle.std.specs.Prelude.{not}
 use Rattle.std.specs.List.{filter}
 use Rattle.std.proofs.lemmas.List.Sums.{fold-append}
+use Rattle.brc_host.specs.HostCalls.{HostCall}
 use Rattle.brc_model.specs.declared.duty.Duty.{Duty}
 use Rattle.brc_model.specs.OpenWork.{is_about}
 use Rattle.brc_table.specs.declared.view.View.{View}
@@ -172,7 +173,8 @@ pub released_rests : (hand mid : HandState) (x : ℕ) → Rests hand → HasRele
 released_rests hand mid x rests released =
     released.aside ∙ ap (filter (λ (d : Duty). not (is_about x d))) (no_work hand rests)
 
-pub released_acts : (hand mid after : HandState) (x closes : ℕ) → Rests hand → HasReleased x hand.view mid.view
+pub released_acts : (hand mid after : HandState) (x : ℕ) (closes : List HostCall) → Rests hand
+    → HasReleased x hand.view mid.view
     → HasWorked mid.view closes [] after.view → after.view.head ≡ 0 → after.table ≡ hand.table
     → after.carried ≡ hand.carried → after.slots ≡ hand.slots → ActsElsewhere hand after
 released_acts hand mid after x closes rests released worked settled table carried slots =

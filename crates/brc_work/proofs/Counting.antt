@@ -1,28 +1,31 @@
--- How a worker's counts rise with those of its host.
-use Rattle.std.proofs.Common.{◌≡◌, ℕ, ◌+◌, ◌-◌, min, sym, ap, ◌∙◌, arith}
-use Rattle.std.proofs.Math.Nat.{zero-add}
-use Rattle.std.specs.Prelude.{Result, Ok, Err}
-use Rattle.brc_host.specs.HostCounts.{raised, count_limit, after_closes, after_opening, after_use}
+-- What a worker's host is asked for, call after call, and what the worker counts of it.
+use Rattle.std.proofs.Common.{◌≡◌, ℕ, ◌+◌, ◌-◌, min, Bool, true, false, List, [], ◌∷◌, ◌++◌, sym, ap, ◌∙◌, refl, arith}
+use Rattle.std.specs.Prelude.{if◌then◌else◌}
+use Rattle.brc_host.specs.HostCounts.{raised, count_limit}
+use Rattle.brc_host.specs.HostCalls.{HostCall, has_failed, after_call, HasAnswered, NoCall as NotAsked, host_faults, close_faults}
 use Rattle.brc_host.specs.declared.counts.HostCounts.{HostCounts}
+use Rattle.brc_host.proofs.Answering.{one_call, answered_then, host_faults_then, close_faults_then}
+use Rattle.brc_table.specs.declared.view.View.{View}
+use Rattle.brc_free.proofs.Working.{works_close}
+use Rattle.brc_queue.specs.Scans.{LooksThrough, Begun, Next, HasLeft}
 use Rattle.brc_work.specs.declared.totals.Totals.{Totals}
-use Rattle.brc_work.specs.Totals.{HasCounted}
+use Rattle.brc_work.specs.Totals.{HasCounted, Asked}
 
-four : (a b c d : ℕ) → (a + b) + (c + d) ≡ (a + c) + (b + d)
-four a b c d = omega arith
+-- ---- counts
 
-raised_by : (limit more less count : ℕ)
+raised_by : (limit less more count : ℕ)
     → (count + min less (limit - count)) + min more (limit - (count + min less (limit - count)))
-    ≡ count + min (more + less) (limit - count)
-raised_by limit more less count = omega arith
+    ≡ count + min (less + more) (limit - count)
+raised_by limit less more count = omega arith
 
 -- A count that rises twice rises by both.
-twice : (more less count : ℕ) → raised more (raised less count) ≡ raised (more + less) count
-twice more less count = raised_by count_limit more less count
+twice : (less more count : ℕ) → raised more (raised less count) ≡ raised (less + more) count
+twice less more count = raised_by count_limit less more count
 
 none_by : (limit count : ℕ) → count ≡ count + min 0 (limit - count)
 none_by limit count = omega arith
 
-pub raised_by_none : (count : ℕ) → count ≡ raised 0 count
+raised_by_none : (count : ℕ) → count ≡ raised 0 count
 raised_by_none count = none_by count_limit count
 
 twice_by : (limit failed more count : ℕ) → more ≡ 0 + min failed (limit - 0)
@@ -30,85 +33,141 @@ twice_by : (limit failed more count : ℕ) → more ≡ 0 + min failed (limit - 
 twice_by limit failed more count is = omega (arith, is)
 
 -- A count that has stopped at the greatest number raises another one no less.
-pub raised_by_raised : (failed more count : ℕ) → more ≡ raised failed 0 → raised more count ≡ raised failed count
+raised_by_raised : (failed more count : ℕ) → more ≡ raised failed 0 → raised more count ≡ raised failed count
 raised_by_raised failed more count is = twice_by count_limit failed more count is
 
--- Closes that have failed are counted.
-pub closes_counted : (before after : Totals) (host now : HostCounts) (closes failed more : ℕ) → more ≡ raised failed 0
-    → now ≡ after_closes closes failed host
-    → after ≡ record before { close_faults = raised more before.close_faults } → HasCounted before after host now
-closes_counted before after host now closes failed more is counts totals = record {
-  calls = 0;
-  closes = failed;
-  host_faults = ap (λ (t : Totals). t.host_faults) totals ∙ raised_by_none before.host_faults;
-  close_faults = ap (λ (t : Totals). t.close_faults) totals ∙ raised_by_raised failed more before.close_faults is;
-  failures = ap (λ (h : HostCounts). h.failures) counts ∙ ap (λ (n : ℕ). raised n host.failures) (sym (zero-add failed));
-}
+-- ---- calls
 
 -- Nothing was counted.
-pub nothing_counted : (totals : Totals) (host : HostCounts) → HasCounted totals totals host host
-nothing_counted totals host = record {
-  calls = 0;
-  closes = 0;
-  host_faults = raised_by_none totals.host_faults;
-  close_faults = raised_by_none totals.close_faults;
-  failures = raised_by_none host.failures;
+pub nothing_counted : (totals : Totals) → HasCounted [] totals totals
+nothing_counted totals = record {
+  others = raised_by_none totals.host_faults;
+  closes = raised_by_none totals.close_faults;
 }
 
--- A call of the host has succeeded,
-pub quiet_counted : (totals : Totals) (host now : HostCounts) → now.failures ≡ host.failures
-    → HasCounted totals totals host now
-quiet_counted totals host now same = record {
-  calls = 0;
-  closes = 0;
-  host_faults = raised_by_none totals.host_faults;
-  close_faults = raised_by_none totals.close_faults;
-  failures = same ∙ raised_by_none host.failures;
+-- Closes that have failed are counted.
+pub closes_counted : (cs : List HostCall) (before after : Totals) (failed : ℕ) → host_faults cs ≡ 0
+    → failed ≡ raised (close_faults cs) 0
+    → after ≡ record before { close_faults = raised failed before.close_faults } → HasCounted cs before after
+closes_counted cs before after failed none is totals = record {
+  others =
+      ap (λ (t : Totals). t.host_faults) totals
+      ∙ (raised_by_none before.host_faults ∙ ap (λ (n : ℕ). raised n before.host_faults) (sym none));
+  closes =
+      ap (λ (t : Totals). t.close_faults) totals ∙ raised_by_raised (close_faults cs) failed before.close_faults is;
+}
+
+-- A call is none of `close`.
+pub record IsOther (call : HostCall) : Type 0 where
+  pub closes : close_faults (call ∷ []) ≡ 0
+  pub others : host_faults (call ∷ []) ≡ (if has_failed call then 1 else 0) + 0
+
+-- Such a call has succeeded,
+pub success_counted : (call : HostCall) (totals : Totals) → IsOther call → has_failed call ≡ false
+    → HasCounted (call ∷ []) totals totals
+success_counted call totals other succeeds = record {
+  others = raised_by_none totals.host_faults
+      ∙ ap (λ (n : ℕ). raised n totals.host_faults)
+      (sym (other.others ∙ ap (λ (b : Bool). (if b then 1 else 0) + 0) succeeds));
+  closes = raised_by_none totals.close_faults ∙ ap (λ (n : ℕ). raised n totals.close_faults) (sym other.closes);
 }
 
 -- or failed.
-pub fault_counted : (before after : Totals) (host now : HostCounts) → now.failures ≡ raised 1 host.failures
-    → after ≡ record before { host_faults = raised 1 before.host_faults } → HasCounted before after host now
-fault_counted before after host now failed totals = record {
-  calls = 1;
-  closes = 0;
-  host_faults = ap (λ (t : Totals). t.host_faults) totals;
-  close_faults = ap (λ (t : Totals). t.close_faults) totals ∙ raised_by_none before.close_faults;
-  failures = failed;
+pub fault_counted : (call : HostCall) (before after : Totals) → IsOther call → has_failed call ≡ true
+    → after ≡ record before { host_faults = raised 1 before.host_faults } → HasCounted (call ∷ []) before after
+fault_counted call before after other fails totals = record {
+  others = ap (λ (t : Totals). t.host_faults) totals
+      ∙ ap (λ (n : ℕ). raised n before.host_faults)
+      (sym (other.others ∙ ap (λ (b : Bool). (if b then 1 else 0) + 0) fails));
+  closes = ap (λ (t : Totals). t.close_faults) totals
+      ∙ (raised_by_none before.close_faults ∙ ap (λ (n : ℕ). raised n before.close_faults) (sym other.closes));
 }
-
-pub opening_ok : {R E : Type 0} (host now : HostCounts) (result : Result R E) (opened : R)
-    → now ≡ after_opening result host → result ≡ Ok opened → now.failures ≡ host.failures
-opening_ok host now result opened counts is =
-    ap (λ (h : HostCounts). h.failures) (counts ∙ ap (λ r. after_opening r host) is)
-
-pub opening_err : {R E : Type 0} (host now : HostCounts) (result : Result R E) (fault : E)
-    → now ≡ after_opening result host → result ≡ Err fault → now.failures ≡ raised 1 host.failures
-opening_err host now result fault counts is =
-    ap (λ (h : HostCounts). h.failures) (counts ∙ ap (λ r. after_opening r host) is)
-
-pub use_ok : {R E : Type 0} (host now : HostCounts) (result : Result R E) (answer : R)
-    → now ≡ after_use result host → result ≡ Ok answer → now.failures ≡ host.failures
-use_ok host now result answer counts is =
-    ap (λ (h : HostCounts). h.failures) (counts ∙ ap (λ r. after_use r host) is)
-
-pub use_err : {R E : Type 0} (host now : HostCounts) (result : Result R E) (fault : E)
-    → now ≡ after_use result host → result ≡ Err fault → now.failures ≡ raised 1 host.failures
-use_err host now result fault counts is =
-    ap (λ (h : HostCounts). h.failures) (counts ∙ ap (λ r. after_use r host) is)
 
 -- What is counted after something else adds up.
-pub counted_then : (before mid after : Totals) (host between now : HostCounts) → HasCounted before mid host between
-    → HasCounted mid after between now → HasCounted before after host now
-counted_then before mid after host between now one other = record {
-  calls = other.calls + one.calls;
-  closes = other.closes + one.closes;
-  host_faults =
-      other.host_faults ∙ (ap (raised other.calls) one.host_faults ∙ twice other.calls one.calls before.host_faults);
-  close_faults =
-      other.close_faults ∙ (ap (raised other.closes) one.close_faults ∙ twice other.closes one.closes before.close_faults);
-  failures =
-      other.failures ∙ (ap (raised (other.calls + other.closes)) one.failures
-      ∙ (twice (other.calls + other.closes) (one.calls + one.closes) host.failures
-      ∙ ap (λ (n : ℕ). raised n host.failures) (four other.calls other.closes one.calls one.closes)));
+pub counted_then : (cs ds : List HostCall) (before mid after : Totals) → HasCounted cs before mid → HasCounted ds mid after
+    → HasCounted (cs ++ ds) before after
+counted_then cs ds before mid after one other = record {
+  others = other.others ∙ (ap (raised (host_faults ds)) one.others
+      ∙ (twice (host_faults cs) (host_faults ds) before.host_faults
+      ∙ ap (λ (n : ℕ). raised n before.host_faults) (sym (host_faults_then cs ds))));
+  closes = other.closes ∙ (ap (raised (close_faults ds)) one.closes
+      ∙ (twice (close_faults cs) (close_faults ds) before.close_faults
+      ∙ ap (λ (n : ℕ). raised n before.close_faults) (sym (close_faults_then cs ds))));
 }
+
+-- ---- closes
+
+-- A hand that looks through its queue asks for closes alone,
+pub looks_close : (v w : View) (i : ℕ) (cs : List HostCall) → LooksThrough v i cs w → host_faults cs ≡ 0
+looks_close v w i cs Begun = refl
+looks_close v w i cs (Next j closes more u x looks claims) =
+    host_faults_then closes more
+    ∙ (ap (λ (n : ℕ). n + host_faults more) (looks_close v u j closes looks)
+    ∙ ap (λ (n : ℕ). 0 + n) (works_close _ x more claims.follows.works))
+
+-- and so does one that leaves.
+pub leaves_close : (v w : View) (cs : List HostCall) → HasLeft cs v w → host_faults cs ≡ 0
+leaves_close v w cs left =
+    ap host_faults left.closes_are
+    ∙ (host_faults_then left.first left.later
+    ∙ (ap (λ (n : ℕ). n + host_faults left.later) (works_close _ _ left.first left.settles.works)
+    ∙ ap (λ (n : ℕ). 0 + n) (works_close _ _ left.later left.scans.works)))
+
+-- ---- all that was asked
+
+module _ {S : Type 0} {answers : S → HostCall → S → Type 0} {counts : S → HostCounts} where
+  -- The host wasn't asked.
+  pub asked_nothing : {host : S} {totals : Totals} {Made : List HostCall → Type 0} → Made []
+      → Asked answers counts host host totals totals Made
+  asked_nothing {host} {totals} made =
+      record { calls = []; answered = NotAsked; counted = nothing_counted totals; made = made }
+
+  -- It was asked for closes,
+  pub asked_closes : {host now : S} {before after : Totals} {Made : List HostCall → Type 0} (cs : List HostCall) (failed : ℕ)
+      → host_faults cs ≡ 0 → failed ≡ raised (close_faults cs) 0
+      → after ≡ record before { close_faults = raised failed before.close_faults }
+      → HasAnswered answers counts host cs now → Made cs → Asked answers counts host now before after Made
+  asked_closes {host} {now} {before} {after} cs failed none is totals answered made =
+      record { calls = cs; answered = answered; counted = closes_counted cs before after failed none is totals; made = made }
+
+  -- or for another call, which has succeeded
+  pub asked_once : {host now : S} {totals : Totals} {Made : List HostCall → Type 0} (call : HostCall) → IsOther call
+      → has_failed call ≡ false → answers host call now → counts now ≡ after_call call (counts host) → Made (call ∷ [])
+      → Asked answers counts host now totals totals Made
+  asked_once {host} {now} {totals} call other succeeds answered counted made = record {
+    calls = call ∷ [];
+    answered = one_call answered counted;
+    counted = success_counted call totals other succeeds;
+    made = made;
+  }
+
+  -- or failed.
+  pub asked_in_vain : {host now : S} {before after : Totals} {Made : List HostCall → Type 0} (call : HostCall) → IsOther call
+      → has_failed call ≡ true → answers host call now → counts now ≡ after_call call (counts host)
+      → after ≡ record before { host_faults = raised 1 before.host_faults } → Made (call ∷ [])
+      → Asked answers counts host now before after Made
+  asked_in_vain {host} {now} {before} {after} call other fails answered counted totals made = record {
+    calls = call ∷ [];
+    answered = one_call answered counted;
+    counted = fault_counted call before after other fails totals;
+    made = made;
+  }
+
+  -- What the calls have made, said otherwise.
+  pub asked_as : {host now : S} {before after : Totals} {Made Said : List HostCall → Type 0}
+      → ((cs : List HostCall) → Made cs → Said cs) → Asked answers counts host now before after Made
+      → Asked answers counts host now before after Said
+  asked_as says one =
+      record { calls = one.calls; answered = one.answered; counted = one.counted; made = says one.calls one.made }
+
+  -- More calls.
+  pub asked_then : {host mid now : S} {before between after : Totals} {First Next Both : List HostCall → Type 0}
+      → ((cs ds : List HostCall) → First cs → Next ds → Both (cs ++ ds))
+      → Asked answers counts host mid before between First → Asked answers counts mid now between after Next
+      → Asked answers counts host now before after Both
+  asked_then {host} {mid} {now} {before} {between} {after} joins one other = record {
+    calls = one.calls ++ other.calls;
+    answered = answered_then one.answered other.answered;
+    counted = counted_then one.calls other.calls before between after one.counted other.counted;
+    made = joins one.calls other.calls one.made other.made;
+  }

@@ -1,6 +1,8 @@
 -- Lists of which each element is so for its place.
 use Rattle.std.specs.Prelude.{◌≡◌, ℕ, ◌+◌, ◌<◌, List, get_or}
 use Rattle.std.proofs.Common.{below_more, sym, subst}
+use Rattle.brc_host.specs.HostCalls.{HostCall}
+use Rattle.brc_host.specs.declared.counts.HostCounts.{HostCounts}
 use Rattle.brc_table.specs.Hands.{HandState}
 use Rattle.brc_work.specs.declared.totals.Totals.{Totals}
 use Rattle.brc_work.specs.Workers.{Job, HasGone}
@@ -25,6 +27,8 @@ grown P xs ys n same here were k d below =
     below_more (λ i. P i (get_or ys i d)) n (λ i low. subst (P i) (sym (same i d low)) (were i d low)) (here d) k below
 
 -- a promise of the same job
-pub gone_for : {there j : Job} {hand : HandState} {totals : Totals} → there ≡ j → HasGone there hand totals
-    → HasGone j hand totals
-gone_for {hand = hand} {totals = totals} same gone = subst (λ i. HasGone i hand totals) same gone
+pub gone_for : {S : Type 0} {answers : S → HostCall → S → Type 0} {counts : S → HostCounts} {there j : Job}
+    {hand : HandState} {totals : Totals} → there ≡ j → HasGone answers counts there hand totals
+    → HasGone answers counts j hand totals
+gone_for {answers = answers} {counts = counts} {hand = hand} {totals = totals} same gone =
+    subst (λ i. HasGone answers counts i hand totals) same gone

@@ -1,8 +1,11 @@
 -- What each part of a worker's call adds to the trace of its hand, wherever in a code it is.
-use Rattle.std.specs.Prelude.{◌≡◌, ℕ, ◌+◌, ◌<◌, ◌≤◌, List, [], ◌∷◌, Option, None, Some, slice_get, slice_set}
+use Rattle.std.specs.Prelude.{◌≡◌, false, ℕ, ◌+◌, ◌<◌, ◌≤◌, List, [], ◌∷◌, Option, None, Some, slice_get, slice_set}
 use Rattle.brc_lang.specs.Limits.{instruction_limit}
 use Rattle.brc_lang.specs.declared.module.Instr.{Instr}
-use Rattle.brc_lang.specs.declared.module.Instr.TheVariants.{Again, Read}
+use Rattle.brc_lang.specs.declared.module.Instr.TheVariants as instructions
+use Rattle.brc_lang.specs.declared.module.Instr.TheVariants.{Again}
+use Rattle.brc_host.specs.HostCalls.{HostCall}
+use Rattle.brc_host.specs.HostCalls as asked
 use Rattle.brc_model.specs.declared.actor.Counters.{Counters}
 use Rattle.brc_model.specs.declared.actor.Place.{Place}
 use Rattle.brc_model.specs.declared.actor.Place.TheVariants.{Idle, InCall, Inside}
@@ -17,15 +20,17 @@ use Rattle.brc_model.specs.Slots.{target}
 use Rattle.brc_model.specs.Threads.{row_of}
 use Rattle.brc_table.specs.declared.view.View.{View}
 use Rattle.brc_table.specs.Views.{next_row}
-use Rattle.brc_work.specs.Traces.{Traces, MakesTrace}
+use Rattle.brc_work.specs.Traces.{Traces, MakesTrace, instruction_at, has_read}
 
 -- ---- places
 
--- A thread at the place does next what the instruction at the point says, with these counters and variables.
-abbrev pub ComesTo : List Instr → Place → Counters → ℕ → List (Option ℕ) → Type 0
-ComesTo code place counters at rows = (layout : Layout) (t used : ℕ)
-    → dispatch layout t used code place
-    ≡ dispatch_instruction layout t used place counters at rows (slice_get code at)
+-- A thread at the place begins the instruction at the point next, with these counters and variables.
+pub record ComesTo (code : List Instr) (place : Place) (counters : Counters) (at : ℕ) (rows : List (Option ℕ)) : Type 0
+  where
+    pub does : (layout : Layout) (t used : ℕ) → dispatch layout t used code place
+        ≡ dispatch_instruction layout t used place counters at rows (slice_get code at)
+    pub names : instruction_at code place ≡ slice_get code at
+    pub begins : has_read code place ≡ false
 
 -- The instruction at the point is this one.
 pub record IsBefore (i : Instr) (code : List Instr) (place : Place) (counters : Counters) (at : ℕ) (rows : List (Option ℕ))
@@ -41,71 +46,74 @@ place_after counters (Some next) rows = InCall counters next rows
 
 -- ---- instructions
 
--- The hand has made the events of the instruction, which has gone on by this exit.
-abbrev pub Performs : Instr → Exit → List (Option ℕ) → View → List (Option ℕ) → View → Type 0
-Performs i exit rows v after_rows u = (code : List Instr) (place : Place) (counters : Counters) (at : ℕ)
+-- The hand has made the events of the instruction, with these calls of the host, and has gone on by this exit.
+abbrev pub Performs : List HostCall → Instr → Exit → List (Option ℕ) → View → List (Option ℕ) → View → Type 0
+Performs calls i exit rows v after_rows u = (code : List Instr) (place : Place) (counters : Counters) (at : ℕ)
     → IsBefore i code place counters at rows
-    → MakesTrace code place v (place_after counters (target i exit at) after_rows) u
+    → MakesTrace calls code place v (place_after counters (target i exit at) after_rows) u
 
 -- The same at this point, where the instruction may count how often it has gone back.
-abbrev pub PerformsAt : ℕ → Instr → Exit → List ℕ → List (Option ℕ) → View → List ℕ → List (Option ℕ) → View → Type 0
-PerformsAt at i exit turns rows v after_turns after_rows u = (code : List Instr) (place : Place) (left : ℕ)
+abbrev pub PerformsAt : List HostCall → ℕ → Instr → Exit → List ℕ → List (Option ℕ) → View → List ℕ → List (Option ℕ) → View
+    → Type 0
+PerformsAt calls at i exit turns rows v after_turns after_rows u = (code : List Instr) (place : Place) (left : ℕ)
     → IsBefore i code place (record { left = left; turns = turns }) at rows
-    → MakesTrace code place v
+    → MakesTrace calls code place v
     (place_after (record { left = left; turns = after_turns }) (target i exit at) after_rows) u
 
 -- The instruction `again` at the point makes no event. It counts in the turns if it has gone back.
 abbrev pub CountsTurn : ℕ → ℕ → Exit → List ℕ → List ℕ → Type 0
 CountsTurn at times exit turns after_turns = (to : ℕ) (rows : List (Option ℕ)) (v : View)
-    → PerformsAt at (Again to times) exit turns rows v after_turns rows v
+    → PerformsAt [] at (Again to times) exit turns rows v after_turns rows v
 
 -- The hand has tried to do the instruction, which hasn't begun: the thread is where it was.
 abbrev pub Waits : Instr → List (Option ℕ) → View → View → Type 0
 Waits i rows v u = (code : List Instr) (place : Place) (counters : Counters) (at : ℕ)
-    → IsBefore i code place counters at rows → MakesTrace code place v place u
+    → IsBefore i code place counters at rows → MakesTrace [] code place v place u
 
 -- The hand has made the events of the code's instruction at the point, which leads to the next point or ends the call.
-abbrev pub StepsTo : List Instr → ℕ → List ℕ → List (Option ℕ) → View → Option ℕ → List ℕ → List (Option ℕ) → View → Type 0
-StepsTo code at turns rows v next after_turns after_rows u = (place : Place) (left : ℕ)
+abbrev pub StepsTo : List HostCall → List Instr → ℕ → List ℕ → List (Option ℕ) → View → Option ℕ → List ℕ → List (Option ℕ)
+    → View → Type 0
+StepsTo calls code at turns rows v next after_turns after_rows u = (place : Place) (left : ℕ)
     → ComesTo code place (record { left = left; turns = turns }) at rows
-    → MakesTrace code place v (place_after (record { left = left; turns = after_turns }) next after_rows) u
+    → MakesTrace calls code place v (place_after (record { left = left; turns = after_turns }) next after_rows) u
 
 -- ---- parts of instructions
 
 -- The hand has given up a reference to the row's object, and settled. So does its thread, whether an instruction begins
 -- with it or it is what comes next.
-pub record MakesRelease (row : ℕ) (v u : View) : Type 0 where
+pub record MakesRelease (calls : List HostCall) (row : ℕ) (v u : View) : Type 0 where
   pub first : (code : List Instr) (place next : Place) (holding : Holding)
       → ((layout : Layout) (t used : ℕ) → dispatch layout t used code place
       ≡ Does (ReleaseLoad row holding) (Settle ∷ []) (always next))
-      → MakesTrace code place v next u
+      → MakesTrace calls code place v next u
   pub next : (code : List Instr) (place : Place) (holding : Holding)
-      → Traces code place (ReleaseLoad row holding ∷ Settle ∷ []) v place [] u
+      → Traces calls code place (ReleaseLoad row holding ∷ Settle ∷ []) v place [] u
 
 -- Where a thread gives up the variable's reference and settles, the hand has done so.
-pub record GivesUp (from : ℕ) (rows : List (Option ℕ)) (v : View) (after_rows : List (Option ℕ)) (u : View) : Type 0 where
+pub record GivesUp (calls : List HostCall) (from : ℕ) (rows : List (Option ℕ)) (v : View) (after_rows : List (Option ℕ)) (u : View) : Type 0 where
   pub emptied : after_rows ≡ slice_set rows from None
   pub makes : (code : List Instr) (place next : Place)
       → ((layout : Layout) (t used : ℕ) → dispatch layout t used code place
       ≡ with_row (row_of rows from) (λ row. Does (ReleaseLoad row (ByVariable from)) (Settle ∷ []) (always next)))
-      → MakesTrace code place v next u
+      → MakesTrace calls code place v next u
 
 -- Where a thread puts the item into the cell and settles, the hand has done so.
-abbrev pub MakesSwap : ℕ → ℕ → ℕ → View → View → Type 0
-MakesSwap row cell item v u = (code : List Instr) (place next : Place) (holding : Holding)
+abbrev pub MakesSwap : List HostCall → ℕ → ℕ → ℕ → View → View → Type 0
+MakesSwap calls row cell item v u = (code : List Instr) (place next : Place) (holding : Holding)
     → ((layout : Layout) (t used : ℕ) → dispatch layout t used code place
     ≡ Does (CellSwap row cell item holding) (Settle ∷ []) (always next))
-    → MakesTrace code place v next u
+    → MakesTrace calls code place v next u
 
 -- The variable names the object that the hand has given birth to. Where a thread makes an object with this kind word, or
--- the number of what it has read, the hand has done so.
+-- the number of what the host has just said that it has read, the hand has done so.
 pub record MakesBirth (to word : ℕ) (rows : List (Option ℕ)) (v : View) (after_rows : List (Option ℕ)) (u : View)
     : Type 0 where
   pub named : after_rows ≡ slice_set rows to (Some (next_row v))
   pub first : (code : List Instr) (place next : Place)
       → dispatch v.layout v.thread v.used code place
       ≡ Does (BirthKind (next_row v) (ByVariable to) word) [] (always next)
-      → MakesTrace code place v next u
-  pub read : (code : List Instr) (counters : Counters) (at file most otherwise count : ℕ)
-      → slice_get code at ≡ Some (Read to file most otherwise) → count ≤ most → word ≡ number_word count
-      → MakesTrace code (Inside counters at rows Granted) v (InCall counters (at + 1) after_rows) u
+      → has_read code place ≡ false → MakesTrace [] code place v next u
+  pub read : (code : List Instr) (place : Place) (counters : Counters) (at file most otherwise count : ℕ)
+      → slice_get code at ≡ Some (instructions.Read to file most otherwise) → count ≤ most → word ≡ number_word count
+      → MakesTrace (asked.Read most (Some count) ∷ []) code place v (Inside counters at rows Granted) v
+      → MakesTrace (asked.Read most (Some count) ∷ []) code place v (InCall counters (at + 1) after_rows) u

@@ -1,17 +1,24 @@
 -- What a worker counts of its calls' faults.
-use Rattle.std.specs.Prelude.{◌≡◌, ℕ, ◌+◌}
+use Rattle.std.specs.Prelude.{◌≡◌, List}
 use Rattle.brc_host.specs.HostCounts.{raised}
+use Rattle.brc_host.specs.HostCalls.{HostCall, HasAnswered, host_faults, close_faults}
 use Rattle.brc_host.specs.declared.counts.HostCounts.{HostCounts}
 use Rattle.brc_work.specs.declared.totals.Totals.{Totals}
 
--- The faults of the host's calls, and of its closes, have been counted, and no others. Each count stops at the greatest
--- number.
-pub record HasCounted (before after : Totals) (host now : HostCounts) : Type 0 where
-  pub calls : ℕ
-  pub closes : ℕ
-  pub host_faults : after.host_faults ≡ raised calls before.host_faults
-  pub close_faults : after.close_faults ≡ raised closes before.close_faults
-  pub failures : now.failures ≡ raised (calls + closes) host.failures
+-- Of these calls of the host, those that failed have been counted: closes apart from all others. Each count stops at the
+-- greatest number.
+pub record HasCounted (calls : List HostCall) (before after : Totals) : Type 0 where
+  pub others : after.host_faults ≡ raised (host_faults calls) before.host_faults
+  pub closes : after.close_faults ≡ raised (close_faults calls) before.close_faults
+
+-- The host was asked for some calls, one after the other, and has become what stands last. Their faults have been counted,
+-- and `Made` holds of them.
+pub record Asked {S : Type 0} (answers : S → HostCall → S → Type 0) (counts : S → HostCounts) (host now : S)
+    (before after : Totals) (Made : List HostCall → Type 0) : Type 0 where
+  pub calls : List HostCall
+  pub answered : HasAnswered answers counts host calls now
+  pub counted : HasCounted calls before after
+  pub made : Made calls
 
 -- the totals of a worker that has made no call yet
 abbrev pub no_totals : Totals

@@ -1,6 +1,8 @@
 -- What workers on threads of their own do with their hands.
-use Rattle.std.specs.Prelude.{◌≡◌, ℕ, List, [], slice_get}
+use Rattle.std.specs.Prelude.{◌≡◌, ℕ, List, [], ◌++◌, slice_get}
 use Rattle.std.proofs.Props.{props}
+use Rattle.brc_host.specs.HostCalls.{HostCall}
+use Rattle.brc_host.specs.declared.counts.HostCounts.{HostCounts}
 use Rattle.brc_lang.specs.declared.module.Instr.{Instr}
 use Rattle.brc_lang.specs.declared.module.Module.{Module}
 use Rattle.brc_model.specs.Threads.{code_of}
@@ -10,6 +12,7 @@ use Rattle.brc_table.specs.Views.{worker_view}
 use Rattle.brc_table.specs.declared.view.View.{View}
 use Rattle.brc_queue.specs.Scans.{HasLeft}
 use Rattle.brc_work.specs.Traces.{MakesCalls}
+use Rattle.brc_work.specs.Totals.{Asked, no_totals}
 use Rattle.brc_work.specs.declared.totals.Totals.{Totals}
 
 -- ---- what a worker has to do
@@ -33,23 +36,31 @@ pub record IsFresh (heap : TableState) (thread : ℕ) (hand : HandState) : Type 
   pub of : IsOf heap hand
   pub view_is : hand.view ≡ worker_view heap.layout thread
 
--- The hand has made this many calls of the code, has left after them, and has done nothing else.
-pub record CallsAndLeaves (code : List Instr) (times : ℕ) (v u : View) : Type 0 where
+-- The hand has made this many calls of the code, has left after them, and has done nothing else. Its host was asked for
+-- these calls.
+pub record CallsAndLeaves (code : List Instr) (times : ℕ) (calls : List HostCall) (v u : View) : Type 0 where
   pub called : View
-  pub closes : ℕ
-  pub calls : MakesCalls code v times called
+  pub within : List HostCall
+  pub closes : List HostCall
+  pub calls_are : calls ≡ within ++ closes
+  pub makes : MakesCalls code v times within called
   pub leaves : HasLeft closes called u
 
--- The worker's hand has done its job: it has made the calls, is gone, and holds nothing. The worker has counted the
--- objects that it has given birth to.
-pub record HasGone (j : Job) (hand : HandState) (totals : Totals) : Type 0 where
+-- The worker's hand has done its job: it has made the calls, is gone, and holds nothing. The worker has counted the objects
+-- that it has given birth to, and the faults of its host.
+pub record HasGone {S : Type 0} (answers : S → HostCall → S → Type 0) (counts : S → HostCounts) (j : Job)
+    (hand : HandState) (totals : Totals) : Type 0 where
   pub of : IsOf j.heap hand
   pub thread_is : hand.view.thread ≡ j.thread
   pub gone : hand.view.status ≡ Gone
   pub idle : (hand.view.agenda ≡ []) × (hand.view.aside ≡ []) × (hand.view.head ≡ 0)
   pub holds_none : hand.view.references ≡ []
   pub created : totals.created ≡ hand.view.used
-  pub made : CallsAndLeaves j.code j.times (worker_view j.heap.layout j.thread) hand.view
+  -- the host before, and once the worker is gone
+  pub first : S
+  pub later : S
+  pub asked : Asked answers counts first later no_totals totals
+      (λ calls. CallsAndLeaves j.code j.times calls (worker_view j.heap.layout j.thread) hand.view)
 
 -- ---- a fact that a struct can keep
 

@@ -1,6 +1,6 @@
 //! `num` and `list`, which make objects.
 
-ghost use Rattle.std.specs.Prelude.{◌≡◌, true};
+ghost use Rattle.std.specs.Prelude.{◌≡◌, true, []};
 ghost use Rattle.brc_lang.specs.declared.module.Instr.TheVariants as instructions;
 ghost use Rattle.brc_model.specs.declared.slot.Slot.TheVariants.{Owned};
 ghost use Rattle.brc_model.specs.Duties.{resources_of};
@@ -34,7 +34,8 @@ impl<'h, T: Drop> Worker<'h, T> {
         requires may { MayDo self.now (instructions.Num to value otherwise) rows.old hand.old }
         ensures of { IsOf self.now hand.new }
         ensures done { HasDone (instructions.Num to value otherwise) result rows.old hand.old rows.new hand.new }
-        ensures made { Performs (instructions.Num to value otherwise) result rows.old hand.old.view rows.new hand.new.view }
+        ensures made { Performs [] (instructions.Num to value otherwise) result rows.old hand.old.view rows.new
+            hand.new.view }
     {
         if !self.heap.room(hand) {
             name(rows, to, None);
@@ -57,7 +58,8 @@ impl<'h, T: Drop> Worker<'h, T> {
         requires few { cells ≤ cell_limit }
         ensures of { IsOf self.now hand.new }
         ensures done { HasDone (instructions.List to cells otherwise) result rows.old hand.old rows.new hand.new }
-        ensures made { Performs (instructions.List to cells otherwise) result rows.old hand.old.view rows.new hand.new.view }
+        ensures made { Performs [] (instructions.List to cells otherwise) result rows.old hand.old.view rows.new
+            hand.new.view }
     {
         if !self.heap.room(hand) {
             name(rows, to, None);

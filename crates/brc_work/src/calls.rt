@@ -8,7 +8,7 @@ ghost use Rattle.brc_table.specs.Hands.{IsOf};
 ghost use Rattle.brc_work.specs.Calls.{IsCode, IsAt, GoesOn, HasCalled, HasEnded, ends_call};
 ghost use Rattle.brc_work.specs.Fits.{MayDo, HasDone, IsReady};
 ghost use Rattle.brc_work.specs.Performs.{Performs, PerformsAt, StepsTo};
-ghost use Rattle.brc_work.specs.Totals.{HasCounted};
+ghost use Rattle.brc_work.specs.Totals.{Asked};
 ghost use Rattle.brc_work.specs.Traces.{MakesTrace};
 
 use crate::totals::Totals;
@@ -52,8 +52,8 @@ impl<'h, T: Drop> Worker<'h, T> {
         requires ready { IsReady hand.old }
         ensures of { IsOf self.now hand.new }
         ensures called { HasCalled hand.old hand.new }
-        ensures made { MakesTrace code.now (Idle 1) hand.old.view (Idle 0) hand.new.view }
-        ensures counted { HasCounted totals.old totals.new (H.counts host.old) (H.counts host.new) }
+        ensures asked { Asked H.answers H.counts host.old host.new totals.old totals.new
+            (λ calls. MakesTrace calls code.now (Idle 1) hand.old.view (Idle 0) hand.new.view) }
     {
         self.heap.words().layout_is_plain();
         let mut rows: Variables = [None; Variable::COUNT];
@@ -85,8 +85,9 @@ impl<'h, T: Drop> Worker<'h, T> {
         requires at { IsAt self.now code.now at rows.old hand.old }
         ensures of { IsOf self.now hand.new }
         ensures goes { GoesOn code.now at rows.old hand.old result rows.new hand.new }
-        ensures made { StepsTo code.now at turns.old rows.old hand.old.view result turns.new rows.new hand.new.view }
-        ensures counted { HasCounted totals.old totals.new (H.counts host.old) (H.counts host.new) }
+        ensures asked { Asked H.answers H.counts host.old host.new totals.old totals.new
+            (λ calls. StepsTo calls code.now at turns.old rows.old hand.old.view result turns.new rows.new
+            hand.new.view) }
     {
         let instr = instruction_at(code, at);
         if ends_call(*instr) {
@@ -111,8 +112,8 @@ impl<'h, T: Drop> Worker<'h, T> {
         requires ends { ends_call instr ≡ true }
         ensures of { IsOf self.now hand.new }
         ensures ended { HasEnded instr rows.old hand.old hand.new }
-        ensures made { Performs instr Success rows.old hand.old.view rows.new hand.new.view }
-        ensures counted { HasCounted totals.old totals.new (H.counts host.old) (H.counts host.new) }
+        ensures asked { Asked H.answers H.counts host.old host.new totals.old totals.new
+            (λ calls. Performs calls instr Success rows.old hand.old.view rows.new hand.new.view) }
     {
         if let Instr::Ret { from } = instr {
             self.give_up(rt, rows, hand, host, totals, from);
@@ -136,8 +137,9 @@ impl<'h, T: Drop> Worker<'h, T> {
         requires goes_on { ends_call instr ≡ false }
         ensures of { IsOf self.now hand.new }
         ensures done { HasDone instr result rows.old hand.old rows.new hand.new }
-        ensures made { PerformsAt at instr result turns.old rows.old hand.old.view turns.new rows.new hand.new.view }
-        ensures counted { HasCounted totals.old totals.new (H.counts host.old) (H.counts host.new) }
+        ensures asked { Asked H.answers H.counts host.old host.new totals.old totals.new
+            (λ calls. PerformsAt calls at instr result turns.old rows.old hand.old.view turns.new rows.new
+            hand.new.view) }
     {
         match instr {
             Instr::Num {

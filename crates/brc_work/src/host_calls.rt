@@ -6,7 +6,7 @@ ghost use Rattle.brc_lang.specs.declared.module.Instr.TheVariants as instruction
 ghost use Rattle.brc_table.specs.Hands.{IsOf};
 ghost use Rattle.brc_work.specs.Fits.{MayDo, HasDone};
 ghost use Rattle.brc_work.specs.Performs.{Performs};
-ghost use Rattle.brc_work.specs.Totals.{HasCounted};
+ghost use Rattle.brc_work.specs.Totals.{Asked};
 
 use crate::line::{EMPTY, line_of};
 use crate::totals::Totals;
@@ -34,9 +34,9 @@ impl<'h, T: Drop> Worker<'h, T> {
         requires may { MayDo self.now (instructions.Open to path mode otherwise) rows.old hand.old }
         ensures of { IsOf self.now hand.new }
         ensures done { HasDone (instructions.Open to path mode otherwise) result rows.old hand.old rows.new hand.new }
-        ensures made { Performs (instructions.Open to path mode otherwise) result rows.old hand.old.view rows.new
-            hand.new.view }
-        ensures counted { HasCounted totals.old totals.new (H.counts host.old) (H.counts host.new) }
+        ensures asked { Asked H.answers H.counts host.old host.new totals.old totals.new
+            (λ calls. Performs calls (instructions.Open to path mode otherwise) result rows.old hand.old.view
+            rows.new hand.new.view) }
     {
         if !self.heap.room(hand) {
             name(rows, to, None);
@@ -70,9 +70,9 @@ impl<'h, T: Drop> Worker<'h, T> {
         requires may { MayDo self.now (instructions.Connect to peer otherwise) rows.old hand.old }
         ensures of { IsOf self.now hand.new }
         ensures done { HasDone (instructions.Connect to peer otherwise) result rows.old hand.old rows.new hand.new }
-        ensures made { Performs (instructions.Connect to peer otherwise) result rows.old hand.old.view rows.new
-            hand.new.view }
-        ensures counted { HasCounted totals.old totals.new (H.counts host.old) (H.counts host.new) }
+        ensures asked { Asked H.answers H.counts host.old host.new totals.old totals.new
+            (λ calls. Performs calls (instructions.Connect to peer otherwise) result rows.old hand.old.view
+            rows.new hand.new.view) }
     {
         if !self.heap.room(hand) {
             name(rows, to, None);
@@ -109,9 +109,9 @@ impl<'h, T: Drop> Worker<'h, T> {
         requires most { most ≤ read_limit }
         ensures of { IsOf self.now hand.new }
         ensures done { HasDone (instructions.Read to file most otherwise) result rows.old hand.old rows.new hand.new }
-        ensures made { Performs (instructions.Read to file most otherwise) result rows.old hand.old.view rows.new
-            hand.new.view }
-        ensures counted { HasCounted totals.old totals.new (H.counts host.old) (H.counts host.new) }
+        ensures asked { Asked H.answers H.counts host.old host.new totals.old totals.new
+            (λ calls. Performs calls (instructions.Read to file most otherwise) result rows.old hand.old.view
+            rows.new hand.new.view) }
     {
         if !self.heap.room(hand) {
             name(rows, to, None);
@@ -149,9 +149,9 @@ impl<'h, T: Drop> Worker<'h, T> {
         requires may { MayDo self.now (instructions.Write file number otherwise) rows.now hand.old }
         ensures of { IsOf self.now hand.new }
         ensures done { HasDone (instructions.Write file number otherwise) result rows.now hand.old rows.now hand.new }
-        ensures made { Performs (instructions.Write file number otherwise) result rows.now hand.old.view rows.now
-            hand.new.view }
-        ensures counted { HasCounted totals.old totals.new (H.counts host.old) (H.counts host.new) }
+        ensures asked { Asked H.answers H.counts host.old host.new totals.old totals.new
+            (λ calls. Performs calls (instructions.Write file number otherwise) result rows.now hand.old.view
+            rows.now hand.new.view) }
     {
         let lists = Lists::new(self.heap);
         let mut line = EMPTY;

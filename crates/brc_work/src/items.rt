@@ -1,6 +1,6 @@
 //! `borrow`, `fetch`, `set` and `put`, which use a cell of the list that the worker has locked.
 
-ghost use Rattle.std.specs.Prelude.{◌≡◌, ◌<◌, ◌≤◌, suc, Some, length};
+ghost use Rattle.std.specs.Prelude.{◌≡◌, ◌<◌, ◌≤◌, suc, Some, length, []};
 ghost use Rattle.brc_lang.specs.declared.module.Instr.TheVariants as instructions;
 ghost use Rattle.brc_model.specs.Layout.{IsCounted};
 ghost use Rattle.brc_table.specs.Hands.{IsOf, most_references};
@@ -10,7 +10,7 @@ ghost use Rattle.brc_table.specs.Views.{holds};
 ghost use Rattle.brc_work.specs.Acts.{Acts, HasLess};
 ghost use Rattle.brc_work.specs.Fits.{Rests, MayDo, HasDone};
 ghost use Rattle.brc_work.specs.Performs.{Performs, MakesSwap};
-ghost use Rattle.brc_work.specs.Totals.{HasCounted};
+ghost use Rattle.brc_work.specs.Totals.{Asked};
 
 use crate::totals::Totals;
 use crate::variables::{Variables, name, row_in};
@@ -35,8 +35,9 @@ impl<'h, T: Drop> Worker<'h, T> {
     ) -> Exit
         requires may { MayDo self.now (instructions.Borrow to list index otherwise) rows.old hand.old }
         ensures of { IsOf self.now hand.new }
-        ensures done { HasDone (instructions.Borrow to list index otherwise) result rows.old hand.old rows.new hand.new }
-        ensures made { Performs (instructions.Borrow to list index otherwise) result rows.old hand.old.view
+        ensures done { HasDone (instructions.Borrow to list index otherwise) result rows.old hand.old rows.new
+            hand.new }
+        ensures made { Performs [] (instructions.Borrow to list index otherwise) result rows.old hand.old.view
             rows.new hand.new.view }
     {
         let lists = Lists::new(self.heap);
@@ -72,7 +73,7 @@ impl<'h, T: Drop> Worker<'h, T> {
         requires may { MayDo self.now (instructions.Fetch to list index otherwise) rows.old hand.old }
         ensures of { IsOf self.now hand.new }
         ensures done { HasDone (instructions.Fetch to list index otherwise) result rows.old hand.old rows.new hand.new }
-        ensures made { Performs (instructions.Fetch to list index otherwise) result rows.old hand.old.view
+        ensures made { Performs [] (instructions.Fetch to list index otherwise) result rows.old hand.old.view
             rows.new hand.new.view }
     {
         let lists = Lists::new(self.heap);
@@ -113,9 +114,9 @@ impl<'h, T: Drop> Worker<'h, T> {
         requires may { MayDo self.now (instructions.Set list index from otherwise) rows.old hand.old }
         ensures of { IsOf self.now hand.new }
         ensures done { HasDone (instructions.Set list index from otherwise) result rows.old hand.old rows.new hand.new }
-        ensures made { Performs (instructions.Set list index from otherwise) result rows.old hand.old.view
-            rows.new hand.new.view }
-        ensures counted { HasCounted totals.old totals.new (H.counts host.old) (H.counts host.new) }
+        ensures asked { Asked H.answers H.counts host.old host.new totals.old totals.new
+            (λ calls. Performs calls (instructions.Set list index from otherwise) result rows.old hand.old.view
+            rows.new hand.new.view) }
     {
         let row = row_in(rows, list);
         let cell = u32::from(index);
@@ -146,9 +147,9 @@ impl<'h, T: Drop> Worker<'h, T> {
         requires may { MayDo self.now (instructions.Put list index from otherwise) rows.now hand.old }
         ensures of { IsOf self.now hand.new }
         ensures done { HasDone (instructions.Put list index from otherwise) result rows.now hand.old rows.now hand.new }
-        ensures made { Performs (instructions.Put list index from otherwise) result rows.now hand.old.view
-            rows.now hand.new.view }
-        ensures counted { HasCounted totals.old totals.new (H.counts host.old) (H.counts host.new) }
+        ensures asked { Asked H.answers H.counts host.old host.new totals.old totals.new
+            (λ calls. Performs calls (instructions.Put list index from otherwise) result rows.now hand.old.view
+            rows.now hand.new.view) }
     {
         let row = row_in(rows, list);
         let cell = u32::from(index);
@@ -184,8 +185,8 @@ impl<'h, T: Drop> Worker<'h, T> {
         ensures of { IsOf self.now hand.new }
         ensures acts { Acts hand.old hand.new }
         ensures less { HasLess item hand.old hand.new }
-        ensures made { MakesSwap row cell item hand.old.view hand.new.view }
-        ensures counted { HasCounted totals.old totals.new (H.counts host.old) (H.counts host.new) }
+        ensures asked { Asked H.answers H.counts host.old host.new totals.old totals.new
+            (λ calls. MakesSwap calls row cell item hand.old.view hand.new.view) }
     {
         let found = Lists::new(self.heap).swap_item(hand, row, cell, Some(item));
         match found {

@@ -1,6 +1,6 @@
 //! `as`, which asks for an object's kind.
 
-ghost use Rattle.std.specs.Prelude.{◌≡◌};
+ghost use Rattle.std.specs.Prelude.{◌≡◌, []};
 ghost use Rattle.brc_lang.specs.declared.module.Instr.TheVariants as instructions;
 ghost use Rattle.brc_model.specs.Kinds.{kind_number};
 ghost use Rattle.brc_table.specs.Hands.{IsOf};
@@ -40,7 +40,8 @@ impl<'h, T: Drop> Worker<'h, T> {
         requires may { MayDo self.now (instructions.As from kind otherwise) rows.now hand.old }
         ensures of { IsOf self.now hand.new }
         ensures done { HasDone (instructions.As from kind otherwise) result rows.now hand.old rows.now hand.new }
-        ensures made { Performs (instructions.As from kind otherwise) result rows.now hand.old.view rows.now hand.new.view }
+        ensures made { Performs [] (instructions.As from kind otherwise) result rows.now hand.old.view rows.now
+            hand.new.view }
     {
         let row = row_in(rows, from);
         if kind_number(self.heap.kind_of(hand, row)) == kind_number(kind) {

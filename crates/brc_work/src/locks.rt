@@ -1,6 +1,6 @@
 //! `lock` and `unlock`, which begin and end the critical section of an object.
 
-ghost use Rattle.std.specs.Prelude.{◌≡◌, ◌⊎◌, Some, None, true, false, ℕ};
+ghost use Rattle.std.specs.Prelude.{◌≡◌, ◌⊎◌, Some, None, true, false, ℕ, []};
 ghost use Rattle.brc_lang.specs.declared.module.Instr.TheVariants as instructions;
 ghost use Rattle.brc_model.specs.declared.slot.Exit.TheVariants.{Success};
 ghost use Rattle.brc_table.specs.Hands.{IsOf};
@@ -27,7 +27,7 @@ impl<'h, T: Drop> Worker<'h, T> {
         requires may { MayDo self.now (instructions.Lock object) rows.now hand.old }
         ensures of { IsOf self.now hand.new }
         ensures done { HasDone (instructions.Lock object) Success rows.now hand.old rows.now hand.new }
-        ensures made { Performs (instructions.Lock object) Success rows.now hand.old.view rows.now hand.new.view }
+        ensures made { Performs [] (instructions.Lock object) Success rows.now hand.old.view rows.now hand.new.view }
     {
         let backoff = Backoff::new();
         for _ in rt.forever() {
@@ -48,7 +48,7 @@ impl<'h, T: Drop> Worker<'h, T> {
         ensures again { result ≡ false → MayDo self.now (instructions.Lock object) rows.now hand.new }
         ensures nothing { result ≡ false → IsStill (instructions.Lock object) rows.now hand.old hand.new }
         ensures made { result ≡ true
-            → Performs (instructions.Lock object) Success rows.now hand.old.view rows.now hand.new.view }
+            → Performs [] (instructions.Lock object) Success rows.now hand.old.view rows.now hand.new.view }
         ensures waited { result ≡ false → Waits (instructions.Lock object) rows.now hand.old.view hand.new.view }
     {
         let row = row_in(rows, object);
@@ -60,7 +60,7 @@ impl<'h, T: Drop> Worker<'h, T> {
         requires may { MayDo self.now (instructions.Unlock object) rows.now hand.old }
         ensures of { IsOf self.now hand.new }
         ensures done { HasDone (instructions.Unlock object) Success rows.now hand.old rows.now hand.new }
-        ensures made { Performs (instructions.Unlock object) Success rows.now hand.old.view rows.now hand.new.view }
+        ensures made { Performs [] (instructions.Unlock object) Success rows.now hand.old.view rows.now hand.new.view }
     {
         let row = row_in(rows, object);
         Lists::new(self.heap).unlock(hand, row);

@@ -1,6 +1,6 @@
 //! `none`, `newref`, `move` and `drop`, which make references, hand them on and give them up.
 
-ghost use Rattle.std.specs.Prelude.{◌≡◌};
+ghost use Rattle.std.specs.Prelude.{◌≡◌, []};
 ghost use Rattle.brc_lang.specs.declared.module.Instr.TheVariants as instructions;
 ghost use Rattle.brc_model.specs.declared.slot.Exit.TheVariants.{Success};
 ghost use Rattle.brc_model.specs.declared.slot.Slot.TheVariants.{Empty};
@@ -10,7 +10,7 @@ ghost use Rattle.brc_work.specs.Acts.{ActsElsewhere, HasLess};
 ghost use Rattle.brc_work.specs.Changes.{CanGive, IsIn, Goes};
 ghost use Rattle.brc_work.specs.Fits.{Rests, MayDo, HasDone};
 ghost use Rattle.brc_work.specs.Performs.{Performs, GivesUp, MakesRelease};
-ghost use Rattle.brc_work.specs.Totals.{HasCounted};
+ghost use Rattle.brc_work.specs.Totals.{Asked};
 
 use crate::totals::Totals;
 use crate::variables::{Variables, name, row_in};
@@ -29,7 +29,7 @@ impl<'h, T: Drop> Worker<'h, T> {
     pub(crate) fn none(&self, rows: &mut Variables, hand: &Hand<T>, to: Variable)
         requires may { MayDo self.now (instructions.NoneObject to) rows.old hand.now }
         ensures done { HasDone (instructions.NoneObject to) Success rows.old hand.now rows.new hand.now }
-        ensures made { Performs (instructions.NoneObject to) Success rows.old hand.now.view rows.new hand.now.view }
+        ensures made { Performs [] (instructions.NoneObject to) Success rows.old hand.now.view rows.new hand.now.view }
     {
         name(rows, to, Some(NONE));
     }
@@ -45,7 +45,7 @@ impl<'h, T: Drop> Worker<'h, T> {
         requires may { MayDo self.now (instructions.Newref to from) rows.old hand.old }
         ensures of { IsOf self.now hand.new }
         ensures done { HasDone (instructions.Newref to from) Success rows.old hand.old rows.new hand.new }
-        ensures made { Performs (instructions.Newref to from) Success rows.old hand.old.view rows.new hand.new.view }
+        ensures made { Performs [] (instructions.Newref to from) Success rows.old hand.old.view rows.new hand.new.view }
     {
         let row = row_in(rows, from);
         self.heap.retain(hand, row);
@@ -56,7 +56,7 @@ impl<'h, T: Drop> Worker<'h, T> {
     pub(crate) fn hand_on(&self, rows: &mut Variables, hand: &Hand<T>, to: Variable, from: Variable)
         requires may { MayDo self.now (instructions.Move to from) rows.old hand.now }
         ensures done { HasDone (instructions.Move to from) Success rows.old hand.now rows.new hand.now }
-        ensures made { Performs (instructions.Move to from) Success rows.old hand.now.view rows.new hand.now.view }
+        ensures made { Performs [] (instructions.Move to from) Success rows.old hand.now.view rows.new hand.now.view }
     {
         let row = row_in(rows, from);
         name(rows, from, None);
@@ -77,8 +77,8 @@ impl<'h, T: Drop> Worker<'h, T> {
         requires fits { IsIn self.now (λ s. CanGive s from) rows.old hand.old }
         ensures of { IsOf self.now hand.new }
         ensures goes { Goes (λ s. CanGive s from) (λ s. put s from Empty) rows.old hand.old rows.new hand.new }
-        ensures made { GivesUp from rows.old hand.old.view rows.new hand.new.view }
-        ensures counted { HasCounted totals.old totals.new (H.counts host.old) (H.counts host.new) }
+        ensures asked { Asked H.answers H.counts host.old host.new totals.old totals.new
+            (λ calls. GivesUp calls from rows.old hand.old.view rows.new hand.new.view) }
     {
         let row = row_in(rows, from);
         name(rows, from, None);
@@ -101,8 +101,8 @@ impl<'h, T: Drop> Worker<'h, T> {
         ensures of { IsOf self.now hand.new }
         ensures acts { ActsElsewhere hand.old hand.new }
         ensures less { HasLess row hand.old hand.new }
-        ensures made { MakesRelease row hand.old.view hand.new.view }
-        ensures counted { HasCounted totals.old totals.new (H.counts host.old) (H.counts host.new) }
+        ensures asked { Asked H.answers H.counts host.old host.new totals.old totals.new
+            (λ calls. MakesRelease calls row hand.old.view hand.new.view) }
     {
         let finaliser = Finaliser::new(self.heap, self.queue);
         finaliser.release(rt, hand, row);

@@ -5,7 +5,7 @@ ghost use Rattle.brc_model.specs.Threads.{code_of};
 ghost use Rattle.brc_table.specs.Hands.{IsOf};
 ghost use Rattle.brc_work.specs.Calls.{IsCode, HasCalled};
 ghost use Rattle.brc_work.specs.Fits.{IsReady};
-ghost use Rattle.brc_work.specs.Totals.{HasCounted, no_totals};
+ghost use Rattle.brc_work.specs.Totals.{Asked, no_totals};
 ghost use Rattle.brc_work.specs.Traces.{MakesCalls};
 
 use crate::gate::Gate;
@@ -32,6 +32,8 @@ impl<'h, T: Drop> Worker<'h, T> {
     /// Makes the calls of the accepted module's function with this number, `times` of them. Before each call it looks
     /// through the hand's queue. Returns what it has counted.
     ///
+    /// The host is asked for what the instructions say, and for the closes of what dies, and for nothing else.
+    ///
     /// The hand runs, has nothing to do and nothing locked, and holds the root and fewer than 2^31 references in all.
     /// Afterwards it holds what it held before.
     pub fn run<R: Wait, H: Host<Res = T>, G: Gate>(
@@ -49,10 +51,10 @@ impl<'h, T: Drop> Worker<'h, T> {
         requires function { function < length checked.now.module.functions }
         ensures of { IsOf self.now hand.new }
         ensures called { HasCalled hand.old hand.new }
-        ensures made { MakesCalls (code_of (slice_get checked.now.module.functions function)) hand.old.view times
-            hand.new.view }
         ensures created { result.created + hand.old.view.used ≡ hand.new.view.used }
-        ensures counted { HasCounted no_totals result (H.counts host.old) (H.counts host.new) }
+        ensures asked { Asked H.answers H.counts host.old host.new no_totals result
+            (λ calls. MakesCalls (code_of (slice_get checked.now.module.functions function)) hand.old.view times calls
+            hand.new.view) }
     {
         let code = code_of(checked, function);
         let used = hand.used();
@@ -80,8 +82,8 @@ impl<'h, T: Drop> Worker<'h, T> {
         requires ready { IsReady hand.old }
         ensures of { IsOf self.now hand.new }
         ensures called { HasCalled hand.old hand.new }
-        ensures made { MakesCalls code.now hand.old.view 1 hand.new.view }
-        ensures counted { HasCounted totals.old totals.new (H.counts host.old) (H.counts host.new) }
+        ensures asked { Asked H.answers H.counts host.old host.new totals.old totals.new
+            (λ calls. MakesCalls code.now hand.old.view 1 calls hand.new.view) }
     {
         let failed = self.queue.merge_pending(rt, hand, host);
         totals.count_close_faults(failed);

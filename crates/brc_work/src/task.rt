@@ -1,8 +1,9 @@
 //! What a worker does on a thread of its own.
 
 ghost use Rattle.std.specs.Prelude.{◌≡◌, ◌<◌, true, length};
+ghost use Rattle.brc_queue.specs.Scans.{HasLeft};
 ghost use Rattle.brc_model.specs.declared.actor.Status.TheVariants.{Gone};
-ghost use Rattle.brc_work.specs.Totals.{HasCounted, no_totals};
+ghost use Rattle.brc_work.specs.Totals.{Asked, no_totals};
 ghost use Rattle.brc_work.specs.Workers.{IsFresh, HasGone, job, fresh-prop};
 
 use crate::gate::Gate;
@@ -12,6 +13,7 @@ use brc_check::Checked;
 use brc_heap::{Hand, Heap};
 use brc_host::Host;
 use brc_queue::Queue;
+use std::marker::PhantomData;
 use std::snapshot::Snapshot;
 use std::sync::Wait;
 use std::sync::atomic::{AtomicBool, Ordering};
@@ -41,27 +43,28 @@ pub(crate) struct Done<T: Drop> {
     pub(crate) called: bool,
 }
 
-/// A worker's promise: that its hand has made its calls and left when its thread ends.
+/// A worker's promise: that its hand has made its calls of the host and left when its thread ends.
 #[derive(Drop)]
-pub(crate) struct Leaves<T: Drop> {
+pub(crate) struct Leaves<T: Drop, H> {
     pub(crate) heap: Snapshot<Heap<T>>,
     pub(crate) checked: Snapshot<Checked>,
     pub(crate) function: usize,
     pub(crate) times: u32,
     pub(crate) thread: u8,
+    pub(crate) host: PhantomData<H>,
 }
 
-impl<T: Drop> Promise<Done<T>> for Leaves<T> {
-    ghost kept_by = { λ p done. done.called ≡ true
-        → HasGone (job p.heap.value p.checked.value.«module» p.function p.times p.thread) done.hand done.totals };
+impl<T: Drop, H: Host<Res = T>> Promise<Done<T>> for Leaves<T, H> {
+    ghost kept_by = { λ p done. done.called ≡ true → HasGone H.answers H.counts
+        (job p.heap.value p.checked.value.«module» p.function p.times p.thread) done.hand done.totals };
 }
 
 impl<'a, T: Drop, H: Host<Res = T>, G: Gate> Task<'a, T, H, G> {
     /// Makes the calls, unless the workers are stopped, and lets the hand leave.
     pub(crate) fn work<R: Wait>(self, rt: &R, stopped: &AtomicBool) -> Done<T>
         ensures { result.called ≡ true
-            → HasGone (job self.entry.heap.now self.entry.checked.now.module self.entry.function self.entry.times
-            self.entry.thread) result.hand result.totals }
+            → HasGone H.answers H.counts (job self.entry.heap.now self.entry.checked.now.module
+            self.entry.function self.entry.times self.entry.thread) result.hand result.totals }
     {
         let Task {
             heap,
@@ -103,8 +106,8 @@ fn calls_and_leaves<R: Wait, T: Drop, H: Host<Res = T>, G: Gate>(
 ) -> Totals
     requires fresh { IsFresh heap.now hand.old.view.thread hand.old }
     requires function { function < length checked.now.module.functions }
-    ensures gone { HasGone (job heap.now checked.now.module function times hand.old.view.thread) hand.new result }
-    ensures counted { HasCounted no_totals result (H.counts host.old) (H.counts host.new) }
+    ensures gone { HasGone H.answers H.counts
+        (job heap.now checked.now.module function times hand.old.view.thread) hand.new result }
 {
     let queue = Queue::new(heap);
     let worker = Worker::new(heap, &queue);
@@ -123,7 +126,8 @@ fn leaves_at_once<R: Wait, T: Drop, H: Host<Res = T>>(
 ) -> Totals
     requires fresh { IsFresh heap.now hand.old.view.thread hand.old }
     ensures gone { hand.new.view.status ≡ Gone }
-    ensures counted { HasCounted no_totals result (H.counts host.old) (H.counts host.new) }
+    ensures asked { Asked H.answers H.counts host.old host.new no_totals result
+        (λ calls. HasLeft calls hand.old.view hand.new.view) }
 {
     let mut totals = Totals::new();
     let failed = Queue::new(heap).leave(rt, hand, host);

@@ -14,6 +14,7 @@ use brc_check::Checked;
 use brc_heap::{Hand, Heap};
 use brc_host::Host;
 use std::alloc::Global;
+use std::marker::PhantomData;
 use std::snapshot::Snapshot;
 use std::sync::Wait;
 use std::sync::atomic::{AtomicBool, Ordering};
@@ -21,7 +22,7 @@ use std::thread;
 use std::thread::{PromisedHandle, Threads};
 
 /// The thread of a worker, whose hand will have left when the thread ends.
-type Started<T> = PromisedHandle<Done<T>, Leaves<T>>;
+type Started<T, H> = PromisedHandle<Done<T>, Leaves<T, H>>;
 
 /// Lets a worker for each host call the accepted module's function with this number, `times` times, each in a thread of
 /// its own. Returns what the workers leave, in their order: each one's hand, which is gone, and what it has counted.
@@ -60,7 +61,7 @@ pub fn fan_out<
     ensures slots { main.new.slots ≡ main.old.slots }
     ensures one_each { IfOk result (λ gone. vec_len gone ≡ length hosts.old) }
     ensures gone { IfOk result (λ gone. (k : ℕ) (w : _) → k < vec_len gone
-        → HasGone (job heap.now checked.now.module function times (k + 1))
+        → HasGone H.answers H.counts (job heap.now checked.now.module function times (k + 1))
         (slice_index_or gone.items k w).0 (slice_index_or gone.items k w).1) }
 {
     let count = hosts.len();
@@ -85,7 +86,7 @@ fn run_all<'w, R: Threads + Wait + Sync, T: Send + Drop, H: Host<Res = T> + Send
     function: usize,
     times: u32,
     tasks: Vec<Task<'w, T, H, G>>,
-    mut threads: Vec<Started<T>>,
+    mut threads: Vec<Started<T, H>>,
     answer: Vec<(Hand<T>, Totals)>,
 ) -> Vec<(Hand<T>, Totals)>
     requires tasks { (k : ℕ) (t : _) → k < vec_len tasks → let task = slice_index_or tasks.items k t in
@@ -97,7 +98,7 @@ fn run_all<'w, R: Threads + Wait + Sync, T: Send + Drop, H: Host<Res = T> + Send
     requires answer_room { vec_len tasks ≤ vec_capacity answer }
     ensures few { vec_len result ≤ vec_len tasks.entry }
     ensures gone { vec_len result ≡ vec_len tasks.entry → (k : ℕ) (w : _) → k < vec_len result
-        → HasGone (job heap.now checked.now.module function times (k + 1))
+        → HasGone H.answers H.counts (job heap.now checked.now.module function times (k + 1))
         (slice_index_or result.items k w).0 (slice_index_or result.items k w).1 }
 {
     let stopped = AtomicBool::new(false);
@@ -108,11 +109,12 @@ fn run_all<'w, R: Threads + Wait + Sync, T: Send + Drop, H: Host<Res = T> + Send
         move |scope| -> Vec<(Hand<T>, Totals)>
             requires { ((k : ℕ) (t : _) → k < vec_len tasks → let task = slice_index_or tasks.items k t in
                 job task.heap.now task.checked.now.module task.function task.times task.thread
-                ≡ job heap.now checked.now.module function times (k + 1)) × (threads.items ≡ []) × (vec_len tasks ≤ vec_capacity threads)
+                ≡ job heap.now checked.now.module function times (k + 1)) × (threads.items ≡ []) × (vec_len tasks ≤
+                vec_capacity threads)
                 × (answer.items ≡ []) × (vec_len tasks ≤ vec_capacity answer) }
             ensures { (vec_len result ≤ vec_len tasks.entry) × (vec_len result ≡ vec_len tasks.entry
                 → (k : ℕ) (w : _) → k < vec_len result
-                → HasGone (job heap.entry.now checked.entry.now.module function times (k + 1))
+                → HasGone H.answers H.counts (job heap.entry.now checked.entry.now.module function times (k + 1))
                 (slice_index_or result.items k w).0 (slice_index_or result.items k w).1) }
         {
             for task in tasks {
@@ -122,6 +124,7 @@ fn run_all<'w, R: Threads + Wait + Sync, T: Send + Drop, H: Host<Res = T> + Send
                     function: task.function,
                     times: task.times,
                     thread: task.thread,
+                    host: PhantomData,
                 };
                 match scope.spawn_with(promise, move || task.work(rt, shared)) {
                     Ok(started) => {
@@ -141,13 +144,13 @@ fn run_all<'w, R: Threads + Wait + Sync, T: Send + Drop, H: Host<Res = T> + Send
 }
 
 /// Joins the workers' threads. Appends what those have left that have made their calls.
-fn join_all<'w, R: Threads, T: Send + Drop>(
+fn join_all<'w, R: Threads, T: Send + Drop, H: Host<Res = T>>(
     rt: &R,
     heap: &'w Heap<T>,
     checked: &'w Checked,
     function: usize,
     times: u32,
-    threads: Vec<Started<T>>,
+    threads: Vec<Started<T, H>>,
     mut answer: Vec<(Hand<T>, Totals)>,
 ) -> Vec<(Hand<T>, Totals)>
     requires empty { answer.items ≡ [] }
@@ -157,7 +160,7 @@ fn join_all<'w, R: Threads, T: Send + Drop>(
         job promise.heap.value promise.checked.value.«module» promise.function promise.times promise.thread
         ≡ job heap.now checked.now.module function times (k + 1))
         → vec_len result ≡ vec_len threads → (k : ℕ) (w : _) → k < vec_len result
-        → HasGone (job heap.now checked.now.module function times (k + 1))
+        → HasGone H.answers H.counts (job heap.now checked.now.module function times (k + 1))
         (slice_index_or result.items k w).0 (slice_index_or result.items k w).1 }
 {
     for started in threads {

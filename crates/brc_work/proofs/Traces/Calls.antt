@@ -1,6 +1,7 @@
 -- A call goes from point to point, and a worker from call to call.
-use Rattle.std.proofs.Common.{◌≡◌, ℕ, ◌+◌, ◌<◌, List, [], Option, None, Some, refl, sym, subst, arith}
+use Rattle.std.proofs.Common.{◌≡◌, ℕ, ◌+◌, ◌<◌, List, [], ◌++◌, Option, None, Some, append_assoc, append-nil, refl, sym, subst, arith}
 use Rattle.std.specs.Prelude.{slice_get, replicate}
+use Rattle.brc_host.specs.HostCalls.{HostCall}
 use Rattle.brc_lang.specs.Limits.{instruction_limit}
 use Rattle.brc_lang.specs.declared.module.Instr.{Instr}
 use Rattle.brc_model.specs.Slots.{target}
@@ -12,69 +13,75 @@ use Rattle.brc_table.specs.declared.view.View.{View}
 use Rattle.brc_queue.specs.Scans.{LooksThrough}
 use Rattle.brc_work.specs.Traces.{MakesTrace, MakesCalls, NoCall, OneMore}
 use Rattle.brc_work.specs.Performs.{ComesTo, PerformsAt, StepsTo, place_after}
-use Rattle.brc_work.proofs.Traces.Joining.{no_trace, traces_then}
+use Rattle.brc_work.proofs.Traces.Joining.{no_trace, calls_then}
 
 -- ---- steps
 
 -- The code's instruction at the point leads where its exit says.
-pub steps_by : (code : List Instr) (at : ℕ) (i : Instr) (exit : Exit) (next : Option ℕ) (turns after_turns : List ℕ)
+pub steps_by : {cs : List HostCall} (code : List Instr) (at : ℕ) (i : Instr) (exit : Exit) (next : Option ℕ) (turns after_turns : List ℕ)
     (rows after_rows : List (Option ℕ)) (v u : View) → slice_get code at ≡ Some i → at < instruction_limit
-    → next ≡ target i exit at → PerformsAt at i exit turns rows v after_turns after_rows u
-    → StepsTo code at turns rows v next after_turns after_rows u
-steps_by code at i exit next turns after_turns rows after_rows v u found low leads performs = λ place left comes.
+    → next ≡ target i exit at → PerformsAt cs at i exit turns rows v after_turns after_rows u
+    → StepsTo cs code at turns rows v next after_turns after_rows u
+steps_by {cs} code at i exit next turns after_turns rows after_rows v u found low leads performs = λ place left comes.
     subst (λ (o : Option ℕ).
-    MakesTrace code place v (place_after (record { left = left; turns = after_turns }) o after_rows) u) (sym leads)
+    MakesTrace cs code place v (place_after (record { left = left; turns = after_turns }) o after_rows) u) (sym leads)
     (performs code place left (record { comes = comes; found = found; low = low }))
 
 -- ---- a call
 
--- A call that began at view v has come to the point, with these turns and variables.
-pub record HasCome (code : List Instr) (v : View) (at : ℕ) (turns : List ℕ) (rows : List (Option ℕ)) (u : View)
+-- A call that began at view v has come to the point, with these calls of the host, and with these turns and variables.
+pub record HasCome (cs : List HostCall) (code : List Instr) (v : View) (at : ℕ) (turns : List ℕ) (rows : List (Option ℕ)) (u : View)
     : Type 0 where
   pub place : Place
   pub comes : ComesTo code place (record { left = 0; turns = turns }) at rows
-  pub makes : MakesTrace code (Idle 1) v place u
+  pub makes : MakesTrace cs code (Idle 1) v place u
 
 -- It begins at the first point.
-pub begins_call : (code : List Instr) (v : View) → HasCome code v 0 (replicate 256 0) entry_variables v
-begins_call code v =
-    record { place = Idle 1; comes = λ layout t used. refl; makes = no_trace code (Idle 1) [] v }
+pub begins_call : (code : List Instr) (v : View) → HasCome [] code v 0 (replicate 256 0) entry_variables v
+begins_call code v = record {
+  place = Idle 1;
+  comes = record { does = λ layout t used. refl; names = refl; begins = refl };
+  makes = no_trace code (Idle 1) [] v;
+}
 
-module _ (code : List Instr) (v : View) (at : ℕ) (turns : List ℕ) (rows : List (Option ℕ)) (u : View)
+module _ (cs ds : List HostCall) (code : List Instr) (v : View) (at : ℕ) (turns : List ℕ) (rows : List (Option ℕ)) (u : View)
     (next : Option ℕ) (after_turns : List ℕ) (after_rows : List (Option ℕ)) (w : View)
-    (come : HasCome code v at turns rows u) (steps : StepsTo code at turns rows u next after_turns after_rows w) where
+    (come : HasCome cs code v at turns rows u) (steps : StepsTo ds code at turns rows u next after_turns after_rows w) where
   -- It makes a step,
   goes_by : (o : Option ℕ) → next ≡ o
-      → MakesTrace code (Idle 1) v (place_after (record { left = 0; turns = after_turns }) o after_rows) w
+      → MakesTrace (cs ++ ds) code (Idle 1) v (place_after (record { left = 0; turns = after_turns }) o after_rows) w
   goes_by o is =
       let after = λ (other : Option ℕ). place_after (record { left = 0; turns = after_turns }) other after_rows in
-      subst (λ (other : Option ℕ). MakesTrace code (Idle 1) v (after other) w) is
-      (traces_then code (Idle 1) come.place (after next) [] [] [] v u w come.makes (steps come.place 0 come.comes))
+      subst (λ (other : Option ℕ). MakesTrace (cs ++ ds) code (Idle 1) v (after other) w) is
+      (calls_then cs ds code (Idle 1) come.place (after next) [] [] [] v u w come.makes (steps come.place 0 come.comes))
 
   -- and comes to a further point,
-  pub comes_on : (n : ℕ) → next ≡ Some n → HasCome code v n after_turns after_rows w
+  pub comes_on : (n : ℕ) → next ≡ Some n → HasCome (cs ++ ds) code v n after_turns after_rows w
   comes_on n is = record {
     place = InCall (record { left = 0; turns = after_turns }) n after_rows;
-    comes = λ layout t used. refl;
+    comes = record { does = λ layout t used. refl; names = refl; begins = refl };
     makes = goes_by (Some n) is;
   }
 
   -- or to its end.
-  pub comes_to_end : next ≡ None → MakesTrace code (Idle 1) v (Idle 0) w
+  pub comes_to_end : next ≡ None → MakesTrace (cs ++ ds) code (Idle 1) v (Idle 0) w
   comes_to_end is = goes_by None is
 
 -- ---- calls
 
 -- A worker looks through its queue and makes a call.
-pub one_call : (code : List Instr) (v w x : View) (closes : ℕ) → LooksThrough v v.used closes w
-    → MakesTrace code (Idle 1) w (Idle 0) x → MakesCalls code v 1 x
-one_call code v w x closes looks makes = OneMore 0 closes v w x NoCall looks makes
+pub one_call : (code : List Instr) (v w x : View) (closes calls : List HostCall) → LooksThrough v v.used closes w
+    → MakesTrace calls code (Idle 1) w (Idle 0) x → MakesCalls code v 1 (closes ++ calls) x
+one_call code v w x closes calls looks makes = OneMore 0 [] closes calls v w x NoCall looks makes
 
 -- It makes more calls.
-pub calls_then : (code : List Instr) (v u : View) (n : ℕ) → MakesCalls code v n u → (m : ℕ) (w : View)
-    → MakesCalls code u m w → MakesCalls code v (n + m) w
-calls_then code v u n one m w NoCall =
-    subst (λ (k : ℕ). MakesCalls code v k u) (let same : n ≡ n + 0 = omega arith in same) one
-calls_then code v u n one m w (OneMore k closes x y z other looks makes) =
-    subst (λ (j : ℕ). MakesCalls code v j w) (let same : (n + k) + 1 ≡ n + (k + 1) = omega arith in same)
-    (OneMore (n + k) closes x y w (calls_then code v u n one k x other) looks makes)
+pub more_calls : (code : List Instr) (v u : View) (n : ℕ) (cs : List HostCall) → MakesCalls code v n cs u → (m : ℕ)
+    (ds : List HostCall) (w : View) → MakesCalls code u m ds w → MakesCalls code v (n + m) (cs ++ ds) w
+more_calls code v u n cs one m ds w NoCall =
+    subst (λ (ks : List HostCall). MakesCalls code v (n + 0) ks u) (sym (append-nil cs))
+    (subst (λ (k : ℕ). MakesCalls code v k cs u) (let same : n ≡ n + 0 = omega arith in same) one)
+more_calls code v u n cs one m ds w (OneMore k ks closes more x y z other looks makes) =
+    subst (λ (hs : List HostCall). MakesCalls code v (n + (k + 1)) hs w) (append_assoc cs ks (closes ++ more))
+    (subst (λ (j : ℕ). MakesCalls code v j ((cs ++ ks) ++ (closes ++ more)) w)
+    (let same : (n + k) + 1 ≡ n + (k + 1) = omega arith in same)
+    (OneMore (n + k) (cs ++ ks) closes more x y w (more_calls code v u n cs one k ks x other) looks makes))

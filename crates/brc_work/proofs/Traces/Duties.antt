@@ -1,5 +1,6 @@
 -- One duty of a hand is one of its thread, though the thread holds a reference otherwise.
 use Rattle.std.proofs.Common.{◌≡◌, ℕ, zero, suc, Bool, true, false, List, [], ◌∷◌, ◌++◌, refl, sym, ap, subst}
+use Rattle.std.specs.Prelude.{◌&&◌}
 use Rattle.brc_lang.specs.declared.module.Instr.{Instr}
 use Rattle.brc_model.specs.Actions.{Does, dispatch}
 use Rattle.brc_model.specs.Duties.{continuation, new_head, ready}
@@ -10,7 +11,7 @@ use Rattle.brc_model.specs.declared.duty.Duty.TheVariants.{Settle, Scan}
 use Rattle.brc_table.specs.declared.view.Event.{Event}
 use Rattle.brc_table.specs.declared.view.View.{View}
 use Rattle.brc_table.specs.Views.{did, done, event_of}
-use Rattle.brc_work.specs.Traces.{Makes, Begun, Starts, Continues, Traces, thread_with, events_of}
+use Rattle.brc_work.specs.Traces.{Makes, Begun, Starts, Continues, Traces, thread_with, events_of, is_birth, is_close, has_read}
 
 -- ---- agendas
 
@@ -66,27 +67,29 @@ module _ (code : List Instr) (q : Place) (u : View) (d e : Duty) (rest behind : 
 
   -- The duty is the first one of an instruction,
   pub starts_with : (next : ℕ → Place) → dispatch u.layout u.thread u.used code q ≡ Does d rest next
-      → Traces code q [] u (next found) (next_duties u d rest found) (did u (e ∷ behind) found)
-  starts_with next is = record {
+      → (is_birth d && has_read code q) ≡ false
+      → Traces [] code q [] u (next found) (next_duties u d rest found) (did u (e ∷ behind) found)
+  starts_with next is new = record {
     events = events_of u.layout u.thread (thread_with u []) d found;
     trace = ap (λ (es : List Event). u.trace ++ es) (sym same.event);
     makes = subst (λ (a : Actor).
-        Makes u.layout u.thread code q (thread_with u []) (events_of u.layout u.thread (thread_with u []) d found)
+        Makes u.layout u.thread code q (thread_with u []) [] (events_of u.layout u.thread (thread_with u []) d found)
         (next found) a) same_thread
-        (Starts [] q (thread_with u []) d rest next found Begun refl is);
+        (Starts [] [] q (thread_with u []) d rest next found Begun refl is new);
     layout = refl;
     thread = refl;
   }
 
   -- or the first one of the thread's agenda.
-  pub continues_with : Traces code q (d ∷ rest) u q (next_duties u d rest found) (did u (e ∷ behind) found)
-  continues_with = record {
+  pub continues_with : is_close d ≡ false
+      → Traces [] code q (d ∷ rest) u q (next_duties u d rest found) (did u (e ∷ behind) found)
+  continues_with off = record {
     events = events_of u.layout u.thread (thread_with u []) d found;
     trace = ap (λ (es : List Event). u.trace ++ es) (sym same.event);
     makes = subst (λ (a : Actor).
-        Makes u.layout u.thread code q (thread_with u (d ∷ rest))
+        Makes u.layout u.thread code q (thread_with u (d ∷ rest)) []
         (events_of u.layout u.thread (thread_with u []) d found) q a) same_thread
-        (Continues [] q (thread_with u (d ∷ rest)) d rest found Begun refl);
+        (Continues [] [] q (thread_with u (d ∷ rest)) d rest found Begun refl off);
     layout = refl;
     thread = refl;
   }

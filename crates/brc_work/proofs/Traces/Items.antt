@@ -2,6 +2,7 @@
 use Rattle.std.proofs.Common.{◌≡◌, ℕ, zero, suc, ◌+◌, ◌<◌, ◌≤◌, Bool, true, false, cond, List, [], ◌∷◌, Option, None, Some, refl, sym, ap, ◌∙◌, subst, arith}
 use Rattle.std.specs.Prelude.{nat_lt, slice_set}
 use Rattle.std.proofs.lemmas.Bool.{lt-ltb, le-ltb}
+use Rattle.brc_host.specs.HostCalls.{HostCall}
 use Rattle.brc_lang.specs.declared.module.Instr.{Instr}
 use Rattle.brc_lang.specs.declared.module.Instr.TheVariants as instructions
 use Rattle.brc_model.specs.Actions.{Does, always, by_range, by_item, with_row, dispatch_instruction, dispatch_inside}
@@ -80,29 +81,29 @@ module _ (list row index cell size word : ℕ) (rows : List (Option ℕ)) (v mid
 
     -- The word found decides where the thread is.
     asks : (b : Bool) → nat_lt index (cells_of word) ≡ b → LooksFirst
-        → MakesTrace code place v (cond b inside outside) mid
+        → MakesTrace [] code place v (cond b inside outside) mid
     asks b answer is =
         let next = by_range index inside outside in
-        subst (λ (q : Place). MakesTrace code place v q mid) (ap (λ (c : Bool). cond c inside outside) answer)
-        (subst (MakesTrace code place v (next word)) (sym sized.view_is)
+        subst (λ (q : Place). MakesTrace [] code place v q mid) (ap (λ (c : Bool). cond c inside outside) answer)
+        (subst (MakesTrace [] code place v (next word)) (sym sized.view_is)
         (asks_kind code place next v sized.none row word
         (begins_with i code place counters at rows before v.layout v.thread v.used list row
         (λ x. Does (KindLoad x) [] next) is sized.names)))
 
     -- The list has no such cell,
-    no_cell : size ≤ cell → LooksFirst → MakesTrace code place v outside mid
+    no_cell : size ≤ cell → LooksFirst → MakesTrace [] code place v outside mid
     no_cell high is = asks false (le-ltb index (cells_of word) (omega (arith, sized.same, sized.size_is, high))) is
 
     -- or it has the cell.
-    has_cell : cell < size → LooksFirst → MakesTrace code place v inside mid
+    has_cell : cell < size → LooksFirst → MakesTrace [] code place v inside mid
     has_cell low is = asks true (lt-ltb index (cells_of word) (omega (arith, sized.same, sized.size_is, low))) is
 
     -- With the cell the thread goes on, and the cell's word decides where it is then.
     looks : (w : ℕ) (u : View) (holds : ℕ → Place) → u ≡ done (loading_cell mid row cell) w → LooksInto holds
-        → MakesTrace code inside mid (by_item outside holds w) u
+        → MakesTrace [] code inside mid (by_item outside holds w) u
     looks w u holds view_is is =
         let next = by_item outside holds in
-        subst (MakesTrace code inside mid (next w))
+        subst (MakesTrace [] code inside mid (next w))
         (sym (view_is ∙ ap (λ (n : ℕ). done (loading_cell mid row n) w) sized.same))
         (looks_in code inside next mid idle row index w
         (goes_on_with i code place counters at rows before mid.layout mid.thread mid.used InRange list row
@@ -110,18 +111,18 @@ module _ (list row index cell size word : ℕ) (rows : List (Option ℕ)) (v mid
 
     -- The cell is empty,
     finds_none : (w : ℕ) (u : View) (holds : ℕ → Place) → cell < size → HasFound row cell w None mid u → LooksFirst
-        → LooksInto holds → MakesTrace code place v outside u
+        → LooksInto holds → MakesTrace [] code place v outside u
     finds_none w u holds low found first then_into =
         traces_then code place inside outside [] [] [] v mid u (has_cell low first)
-        (subst (λ (q : Place). MakesTrace code inside mid q u) (at_none outside holds w found.item_is)
+        (subst (λ (q : Place). MakesTrace [] code inside mid q u) (at_none outside holds w found.item_is)
         (looks w u holds found.view_is then_into))
 
     -- or there is an item in it.
     finds_item : (w item : ℕ) (u : View) (holds : ℕ → Place) → cell < size → HasFound row cell w (Some item) mid u
-        → LooksFirst → LooksInto holds → MakesTrace code place v (holds item) u
+        → LooksFirst → LooksInto holds → MakesTrace [] code place v (holds item) u
     finds_item w item u holds low found first then_into =
         traces_then code place inside (holds item) [] [] [] v mid u (has_cell low first)
-        (subst (λ (q : Place). MakesTrace code inside mid q u) (at_item outside holds w item found.item_is)
+        (subst (λ (q : Place). MakesTrace [] code inside mid q u) (at_item outside holds w item found.item_is)
         (looks w u holds found.view_is then_into))
 
   -- ---- items that are borrowed or fetched
@@ -136,44 +137,44 @@ module _ (list row index cell size word : ℕ) (rows : List (Option ℕ)) (v mid
 
     -- `borrow`, of a cell that the list doesn't have,
     pub borrows_outside : size ≤ cell → after_rows ≡ slice_set rows to None
-        → Performs (instructions.Borrow to list index otherwise) Fault rows v after_rows mid
+        → Performs [] (instructions.Borrow to list index otherwise) Fault rows v after_rows mid
     borrows_outside high named = λ code place counters at before.
-        subst (λ (rs : List (Option ℕ)). MakesTrace code place v (InCall counters otherwise rs) mid) (sym named)
+        subst (λ (rs : List (Option ℕ)). MakesTrace [] code place v (InCall counters otherwise rs) mid) (sym named)
         (no_cell (instructions.Borrow to list index otherwise) code place counters at before (place_without counters)
         high refl)
 
     -- of an empty cell,
     pub borrows_none : (w : ℕ) (u : View) → cell < size → HasFound row cell w None mid u
         → after_rows ≡ slice_set rows to None
-        → Performs (instructions.Borrow to list index otherwise) Fault rows v after_rows u
+        → Performs [] (instructions.Borrow to list index otherwise) Fault rows v after_rows u
     borrows_none w u low found named = λ code place counters at before.
-        subst (λ (rs : List (Option ℕ)). MakesTrace code place v (InCall counters otherwise rs) u) (sym named)
+        subst (λ (rs : List (Option ℕ)). MakesTrace [] code place v (InCall counters otherwise rs) u) (sym named)
         (finds_none (instructions.Borrow to list index otherwise) code place counters at before (place_without counters)
         w u (place_with counters at) low found refl refl)
 
     -- and of one with an item.
     pub borrows_item : (w item : ℕ) (u : View) → cell < size → HasFound row cell w (Some item) mid u
         → after_rows ≡ slice_set rows to (Some item)
-        → Performs (instructions.Borrow to list index otherwise) Success rows v after_rows u
+        → Performs [] (instructions.Borrow to list index otherwise) Success rows v after_rows u
     borrows_item w item u low found named = λ code place counters at before.
-        subst (λ (rs : List (Option ℕ)). MakesTrace code place v (InCall counters (at + 1) rs) u) (sym named)
+        subst (λ (rs : List (Option ℕ)). MakesTrace [] code place v (InCall counters (at + 1) rs) u) (sym named)
         (finds_item (instructions.Borrow to list index otherwise) code place counters at before (place_without counters)
         w item u (place_with counters at) low found refl refl)
 
     -- `fetch`, of a cell that the list doesn't have,
     pub fetches_outside : size ≤ cell → after_rows ≡ slice_set rows to None
-        → Performs (instructions.Fetch to list index otherwise) Fault rows v after_rows mid
+        → Performs [] (instructions.Fetch to list index otherwise) Fault rows v after_rows mid
     fetches_outside high named = λ code place counters at before.
-        subst (λ (rs : List (Option ℕ)). MakesTrace code place v (InCall counters otherwise rs) mid) (sym named)
+        subst (λ (rs : List (Option ℕ)). MakesTrace [] code place v (InCall counters otherwise rs) mid) (sym named)
         (no_cell (instructions.Fetch to list index otherwise) code place counters at before (place_without counters)
         high refl)
 
     -- of an empty cell,
     pub fetches_none : (w : ℕ) (u : View) → cell < size → HasFound row cell w None mid u
         → after_rows ≡ slice_set rows to None
-        → Performs (instructions.Fetch to list index otherwise) Fault rows v after_rows u
+        → Performs [] (instructions.Fetch to list index otherwise) Fault rows v after_rows u
     fetches_none w u low found named = λ code place counters at before.
-        subst (λ (rs : List (Option ℕ)). MakesTrace code place v (InCall counters otherwise rs) u) (sym named)
+        subst (λ (rs : List (Option ℕ)). MakesTrace [] code place v (InCall counters otherwise rs) u) (sym named)
         (finds_none (instructions.Fetch to list index otherwise) code place counters at before (place_without counters)
         w u (λ item. Inside counters at rows (Found item)) low found refl refl)
 
@@ -181,15 +182,15 @@ module _ (list row index cell size word : ℕ) (rows : List (Option ℕ)) (v mid
     pub fetches_item : (w item local shared : ℕ) (seen u : View) → cell < size
         → HasFound row cell w (Some item) mid seen → u ≡ retained seen item local shared
         → after_rows ≡ slice_set rows to (Some item)
-        → Performs (instructions.Fetch to list index otherwise) Success rows v after_rows u
+        → Performs [] (instructions.Fetch to list index otherwise) Success rows v after_rows u
     fetches_item w item local shared seen u low found is named = λ code place counters at before.
         let i = instructions.Fetch to list index otherwise in
         let holds = λ (x : ℕ). Inside counters at rows (Found x) in
         let last = place_with counters at item in
-        subst (λ (rs : List (Option ℕ)). MakesTrace code place v (InCall counters (at + 1) rs) u) (sym named)
+        subst (λ (rs : List (Option ℕ)). MakesTrace [] code place v (InCall counters (at + 1) rs) u) (sym named)
         (traces_then code place (holds item) last [] [] [] v seen u
         (finds_item i code place counters at before (place_without counters) w item seen holds low found refl refl)
-        (subst (MakesTrace code (holds item) seen last) (sym is)
+        (subst (MakesTrace [] code (holds item) seen last) (sym is)
         (retains code (holds item) (always last) seen (ap (λ (x : View). x.agenda) found.view_is ∙ no_duty mid.head)
         item local shared (ByVariable to)
         (goes_on i code place counters at rows before seen.layout seen.thread seen.used (Found item)))))
@@ -198,57 +199,57 @@ module _ (list row index cell size word : ℕ) (rows : List (Option ℕ)) (v mid
 
   module _ (from otherwise : ℕ) where
     -- `set`, of a cell that the list doesn't have: the reference is given up all the same.
-    pub sets_outside : (after_rows : List (Option ℕ)) (u : View) → size ≤ cell → GivesUp from rows mid after_rows u
-        → Performs (instructions.Set list index from otherwise) Fault rows v after_rows u
-    sets_outside after_rows u high gives = λ code place counters at before.
+    pub sets_outside : {cs : List HostCall} (after_rows : List (Option ℕ)) (u : View) → size ≤ cell
+        → GivesUp cs from rows mid after_rows u → Performs cs (instructions.Set list index from otherwise) Fault rows v after_rows u
+    sets_outside {cs} after_rows u high gives = λ code place counters at before.
         let i = instructions.Set list index from otherwise in
         let outside = Inside counters at rows OutOfRange in
         let last = InCall counters otherwise (slice_set rows from None) in
-        subst (λ (rs : List (Option ℕ)). MakesTrace code place v (InCall counters otherwise rs) u) (sym gives.emptied)
+        subst (λ (rs : List (Option ℕ)). MakesTrace cs code place v (InCall counters otherwise rs) u) (sym gives.emptied)
         (traces_then code place outside last [] [] [] v mid u
         (no_cell i code place counters at before outside high refl)
         (gives.makes code outside last
         (λ layout t used. goes_on i code place counters at rows before layout t used OutOfRange)))
 
     -- At the stage the thread puts the variable's item into the cell.
-    puts_in : (i : Instr) (stage : Stage) (holding : Holding) (item : ℕ) (code : List Instr) (place last : Place)
+    puts_in : {cs : List HostCall} (i : Instr) (stage : Stage) (holding : Holding) (item : ℕ) (code : List Instr) (place last : Place)
         (counters : Counters) (at : ℕ) → IsBefore i code place counters at rows → row_of rows from ≡ Some item
         → ((layout : Layout) (t used : ℕ) → dispatch_inside layout t used counters at rows stage (Some i)
         ≡ with_row (row_of rows list)
         (λ x. with_row (row_of rows from) (λ y. Does (CellSwap x index y holding) (Settle ∷ []) (always last))))
-        → (held u : View) → MakesSwap row cell item held u
-        → MakesTrace code (Inside counters at rows stage) held last u
-    puts_in i stage holding item code place last counters at before is does held u swap =
+        → (held u : View) → MakesSwap cs row cell item held u
+        → MakesTrace cs code (Inside counters at rows stage) held last u
+    puts_in {cs} i stage holding item code place last counters at before is does held u swap =
         let puts = λ (x y : ℕ). Does (CellSwap x index y holding) (Settle ∷ []) (always last) in
-        subst (λ (n : ℕ). MakesSwap row n item held u) sized.same swap code (Inside counters at rows stage) last holding
+        subst (λ (n : ℕ). MakesSwap cs row n item held u) sized.same swap code (Inside counters at rows stage) last holding
         (λ layout t used.
         goes_on_with i code place counters at rows before layout t used stage list row
         (λ x. with_row (row_of rows from) (puts x)) (does layout t used) sized.names
         ∙ ap (λ (o : Option ℕ). with_row o (puts row)) is)
 
     -- `set`, of a cell that the list has.
-    pub sets_item : (after_rows : List (Option ℕ)) (item : ℕ) (u : View) → cell < size
-        → row_of rows from ≡ Some item → MakesSwap row cell item mid u → after_rows ≡ slice_set rows from None
-        → Performs (instructions.Set list index from otherwise) Success rows v after_rows u
-    sets_item after_rows item u low is swap emptied = λ code place counters at before.
+    pub sets_item : {cs : List HostCall} (after_rows : List (Option ℕ)) (item : ℕ) (u : View) → cell < size
+        → row_of rows from ≡ Some item → MakesSwap cs row cell item mid u → after_rows ≡ slice_set rows from None
+        → Performs cs (instructions.Set list index from otherwise) Success rows v after_rows u
+    sets_item {cs} after_rows item u low is swap emptied = λ code place counters at before.
         let i = instructions.Set list index from otherwise in
         let last = InCall counters (at + 1) (slice_set rows from None) in
-        subst (λ (rs : List (Option ℕ)). MakesTrace code place v (InCall counters (at + 1) rs) u) (sym emptied)
+        subst (λ (rs : List (Option ℕ)). MakesTrace cs code place v (InCall counters (at + 1) rs) u) (sym emptied)
         (traces_then code place (Inside counters at rows InRange) last [] [] [] v mid u
         (has_cell i code place counters at before (Inside counters at rows OutOfRange) low refl)
         (puts_in i InRange (ByVariable from) item code place last counters at before is (λ layout t used. refl) mid u
         swap))
 
     -- `put`, of a cell that the list doesn't have,
-    pub puts_outside : size ≤ cell → Performs (instructions.Put list index from otherwise) Fault rows v rows mid
+    pub puts_outside : size ≤ cell → Performs [] (instructions.Put list index from otherwise) Fault rows v rows mid
     puts_outside high = λ code place counters at before.
         no_cell (instructions.Put list index from otherwise) code place counters at before
         (InCall counters otherwise rows) high refl
 
     -- and of one that it has. The new reference is in flight until it is in the cell.
-    pub puts_item : (item local shared : ℕ) (held u : View) → cell < size → row_of rows from ≡ Some item
-        → held ≡ retained mid item local shared → MakesSwap row cell item held u
-        → Performs (instructions.Put list index from otherwise) Success rows v rows u
+    pub puts_item : {cs : List HostCall} (item local shared : ℕ) (held u : View) → cell < size → row_of rows from ≡ Some item
+        → held ≡ retained mid item local shared → MakesSwap cs row cell item held u
+        → Performs cs (instructions.Put list index from otherwise) Success rows v rows u
     puts_item item local shared held u low is holds swap = λ code place counters at before.
         let i = instructions.Put list index from otherwise in
         let in_range = Inside counters at rows InRange in
@@ -257,7 +258,7 @@ module _ (list row index cell size word : ℕ) (rows : List (Option ℕ)) (v mid
         traces_then code place in_range last [] [] [] v mid u
         (has_cell i code place counters at before (InCall counters otherwise rows) low refl)
         (traces_then code in_range holding last [] [] [] mid held u
-        (subst (MakesTrace code in_range mid holding) (sym holds)
+        (subst (MakesTrace [] code in_range mid holding) (sym holds)
         (retains code in_range (always holding) mid idle item local shared InFlight
         (goes_on_with i code place counters at rows before mid.layout mid.thread mid.used InRange from item
         (λ y. Does (RetainLoad y InFlight) [] (always holding)) refl is)))

@@ -24,24 +24,24 @@ module _ (from row word otherwise : ℕ) (kind seen : Kind) (rows : List (Option
   -- The thread goes on where the word found says.
   asked : (b : Bool) → same_kind seen kind ≡ b → (code : List Instr) (place : Place) (counters : Counters) (at : ℕ)
       → IsBefore (instructions.As from kind otherwise) code place counters at rows
-      → MakesTrace code place v (InCall counters (cond b (at + 1) otherwise) rows) u
+      → MakesTrace [] code place v (InCall counters (cond b (at + 1) otherwise) rows) u
   asked b answer code place counters at before =
       let next = λ (found : ℕ).
       InCall counters (cond (same_kind (kind_of_word found) kind) (at + 1) otherwise) rows in
-      subst (λ (q : Place). MakesTrace code place v q u)
+      subst (λ (q : Place). MakesTrace [] code place v q u)
       (ap (λ (k : Kind). InCall counters (cond (same_kind k kind) (at + 1) otherwise) rows) (sym sees)
       ∙ ap (λ (c : Bool). InCall counters (cond c (at + 1) otherwise) rows) answer)
-      (subst (MakesTrace code place v (next word)) (sym is)
+      (subst (MakesTrace [] code place v (next word)) (sym is)
       (asks_kind code place next v none row word
       (begins_with (instructions.As from kind otherwise) code place counters at rows before v.layout v.thread v.used from row
       (λ x. Does (KindLoad x) [] next) refl names)))
 
   -- The object is of the kind,
   pub is_of : kind_number seen ≡ kind_number kind
-      → Performs (instructions.As from kind otherwise) Success rows v rows u
+      → Performs [] (instructions.As from kind otherwise) Success rows v rows u
   is_of same = asked true (eq-eqb (kind_number seen) (kind_number kind) same)
 
   -- or it isn't.
   pub is_not_of : kind_number seen ≢ kind_number kind
-      → Performs (instructions.As from kind otherwise) Fault rows v rows u
+      → Performs [] (instructions.As from kind otherwise) Fault rows v rows u
   is_not_of other = asked false (ne_eqb (kind_number seen) (kind_number kind) other)

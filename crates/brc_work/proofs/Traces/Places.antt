@@ -14,7 +14,7 @@ module _ (i : Instr) (code : List Instr) (place : Place) (counters : Counters) (
     (before : IsBefore i code place counters at rows) (layout : Layout) (t used : ℕ) where
   -- It begins the instruction,
   pub begins : dispatch layout t used code place ≡ dispatch_instruction layout t used place counters at rows (Some i)
-  begins = before.comes layout t used ∙ ap (dispatch_instruction layout t used place counters at rows) before.found
+  begins = before.comes.does layout t used ∙ ap (dispatch_instruction layout t used place counters at rows) before.found
 
   -- about an object that a variable names;
   pub begins_with : (x row : ℕ) (work : ℕ → Action)

@@ -3,6 +3,7 @@ use Rattle.std.proofs.Common.{◌≡◌, ℕ, zero, suc, Bool, true, false, cond
 use Rattle.std.specs.Prelude.{slice_set}
 use Rattle.std.proofs.lemmas.Bool.{cases_Bool}
 use Rattle.brc_word.specs.Words.{is_immortal_word}
+use Rattle.brc_host.specs.HostCalls.{HostCall}
 use Rattle.brc_lang.specs.declared.module.Instr.{Instr}
 use Rattle.brc_model.specs.Actions.{Does, always, with_row}
 use Rattle.brc_model.specs.Duties.{ready}
@@ -16,7 +17,7 @@ use Rattle.brc_model.specs.declared.duty.Reason.TheVariants.{Own}
 use Rattle.brc_table.specs.declared.view.View.{View}
 use Rattle.brc_table.specs.Views.{done, releasing, slot_emptied, slot_emptied_by, without_reference}
 use Rattle.brc_heap.specs.Calls.{released_locally, counts_here}
-use Rattle.brc_free.specs.Works.{Begun as Unchanged, Next, HasWorked}
+use Rattle.brc_free.specs.Works.{Begun as Unchanged, Next, HasWorked, closes_by}
 use Rattle.brc_work.specs.Performs.{MakesRelease, GivesUp}
 use Rattle.brc_work.specs.Traces.{Traces}
 use Rattle.brc_work.proofs.Traces.Joining.{turns_to, traces_then}
@@ -34,46 +35,61 @@ after_load false true (suc head) x word u is = ap (λ (ds : List Duty). slot_emp
 after_load false false zero x word u is = ap (λ (ds : List Duty). slot_emptied_by ds u) is
 after_load false false (suc head) x word u is = ap (λ (ds : List Duty). slot_emptied_by ds u) is
 
+-- It closes nothing.
+no_close_after_load : (immortal counts : Bool) (head x word : ℕ) (u : View)
+    → u.agenda ≡ ready head (cond immortal [] (cond counts (ReleaseStore x word ∷ []) (SharedLoad x Own ∷ [])) ++ [])
+    → closes_by u.agenda false ≡ []
+no_close_after_load true counts zero x word u is = ap (λ (ds : List Duty). closes_by ds false) is
+no_close_after_load true counts (suc head) x word u is = ap (λ (ds : List Duty). closes_by ds false) is
+no_close_after_load false true zero x word u is = ap (λ (ds : List Duty). closes_by ds false) is
+no_close_after_load false true (suc head) x word u is = ap (λ (ds : List Duty). closes_by ds false) is
+no_close_after_load false false zero x word u is = ap (λ (ds : List Duty). closes_by ds false) is
+no_close_after_load false false (suc head) x word u is = ap (λ (ds : List Duty). closes_by ds false) is
+
 load_same : (x : ℕ) (holding : Holding) (v : View) (word : ℕ)
     → IsSame (releasing v x) (ReleaseLoad x holding) (ReleaseLoad x AsCaller) word
 load_same x holding v word =
     record { event = refl; status = refl; head = refl; used = refl; locked = refl; lent = refl }
 
 module _ (code : List Instr) (p : Place) (ds : List Duty) (q : Place) (holding : Holding) (x : ℕ) (v : View)
-    (first : (word : ℕ) → Traces code p ds v q (next_duties (releasing v x) (ReleaseLoad x holding) (Settle ∷ []) word)
+    (first : (word : ℕ) → Traces [] code p ds v q (next_duties (releasing v x) (ReleaseLoad x holding) (Settle ∷ []) word)
     (done (releasing v x) word)) where
   -- The hand has loaded the local word,
-  loads : (word : ℕ) → WorksOn code p ds v q (done (releasing v x) word)
+  loads : (word : ℕ) → WorksOn [] code p ds v q (done (releasing v x) word)
   loads word =
       goes_on code p ds v q (releasing v x) (ReleaseLoad x holding) (ReleaseLoad x AsCaller) [] word true
       (load_same x holding v word) refl refl refl refl (first word)
 
   -- and stored it if it counts there.
-  stores : (word : ℕ) → WorksOn code p ds v q (released_locally v x word)
+  stores : (word : ℕ) → WorksOn [] code p ds v q (released_locally v x word)
   stores word =
       let loaded = done (releasing v x) word in
       elim (cases_Bool (counts_here v word)) [
         | inl counts ↦
-            subst (WorksOn code p ds v q)
+            subst (WorksOn [] code p ds v q)
             (ap (λ (w : View). done w word) (after_load (is_immortal_word word) (counts_here v word) v.head x word loaded refl)
             ∙ ap (λ (b : Bool). cond b (done loaded word) loaded) (sym counts))
-            (works_on code p ds v q loaded _ (done (slot_emptied loaded) word) (loads word) (Next 0 loaded word Unchanged))
+            (subst (λ (cs : List HostCall). WorksOn cs code p ds v q (done (slot_emptied loaded) word))
+            (no_close_after_load (is_immortal_word word) (counts_here v word) v.head x word loaded refl)
+            (works_on code p ds v q [] loaded _ (done (slot_emptied loaded) word) (loads word)
+            (Next [] loaded word false Unchanged)))
         | inr shares ↦
-            subst (WorksOn code p ds v q) (ap (λ (b : Bool). cond b (done loaded word) loaded) (sym shares)) (loads word)
+            subst (WorksOn [] code p ds v q) (ap (λ (b : Bool). cond b (done loaded word) loaded) (sym shares)) (loads word)
       ]
 
   -- All that dies by it is closed.
-  settles : (word n : ℕ) (mid after : View) → HasWorked (released_locally v x word) 0 [] mid → HasWorked mid n [] after
-      → after.head ≡ 0 → Traces code p ds v q [] after
-  settles word n mid after released settled empty =
+  settles : (word : ℕ) (cs : List HostCall) (mid after : View) → HasWorked (released_locally v x word) [] [] mid
+      → HasWorked mid cs [] after → after.head ≡ 0 → Traces cs code p ds v q [] after
+  settles word cs mid after released settled empty =
       worked_off code p ds v q after (settled.agenda ∙ no_duty after.head) empty
-      (works_on code p ds v q mid n after
-      (works_on code p ds v q (released_locally v x word) 0 mid (stores word) released.works) settled.works)
+      (works_on code p ds v q [] mid cs after
+      (works_on code p ds v q [] (released_locally v x word) [] mid (stores word) released.works) settled.works)
 
 -- A reference is given up: by the first duty of an instruction, or by the next one of the thread's agenda.
-pub releases : (x word n : ℕ) (v mid after : View) → v.agenda ≡ [] → HasWorked (released_locally v x word) 0 [] mid
-    → HasWorked mid n [] after → after.head ≡ 0 → MakesRelease x v after
-releases x word n v mid after none released settled empty =
+pub releases : (x word : ℕ) (cs : List HostCall) (v mid after : View) → v.agenda ≡ []
+    → HasWorked (released_locally v x word) [] [] mid → HasWorked mid cs [] after → after.head ≡ 0
+    → MakesRelease cs x v after
+releases x word cs v mid after none released settled empty =
     let references = without_reference v.layout x v.references in
     let rest = Settle ∷ [] in
     record {
@@ -82,21 +98,21 @@ releases x word n v mid after none released settled empty =
           traces_then code place place next [] [] _ v (releasing v x) _
           (turns_to code place [] (ReleaseLoad x AsCaller ∷ []) v references v.in_slot none)
           (starts_with code place (releasing v x) (ReleaseLoad x holding) (ReleaseLoad x AsCaller) rest [] w
-          (load_same x holding v w) (always next) (is v.layout v.thread v.used)))
-          word n mid after released settled empty;
+          (load_same x holding v w) (always next) (is v.layout v.thread v.used) refl))
+          word cs mid after released settled empty;
       next = λ code place holding.
           let ds = ReleaseLoad x holding ∷ rest in
           settles code place ds place holding x v (λ w.
           traces_then code place place place ds ds _ v (releasing v x) _
           (turns_to code place ds (ReleaseLoad x AsCaller ∷ []) v references v.in_slot none)
           (continues_with code place (releasing v x) (ReleaseLoad x holding) (ReleaseLoad x AsCaller) rest [] w
-          (load_same x holding v w)))
-          word n mid after released settled empty;
+          (load_same x holding v w) refl))
+          word cs mid after released settled empty;
     }
 
 -- Where a thread gives up the reference of a variable, it gives up this one.
-pub gives_up : (from x : ℕ) (rows after_rows : List (Option ℕ)) (v u : View) → row_of rows from ≡ Some x
-    → after_rows ≡ slice_set rows from None → MakesRelease x v u → GivesUp from rows v after_rows u
+pub gives_up : {cs : List HostCall} (from x : ℕ) (rows after_rows : List (Option ℕ)) (v u : View) → row_of rows from ≡ Some x
+    → after_rows ≡ slice_set rows from None → MakesRelease cs x v u → GivesUp cs from rows v after_rows u
 gives_up from x rows after_rows v u row emptied releases = record {
   emptied = emptied;
   makes = λ code place next is.

@@ -1,47 +1,55 @@
 -- A hand that begins something makes the events of a thread that dispatches it.
-use Rattle.std.proofs.Common.{◌≡◌, ℕ, Bool, true, false, cond, List, [], ◌∷◌, ◌++◌, append-nil, refl, sym, ◌∙◌, subst}
+use Rattle.std.proofs.Common.{◌≡◌, ℕ, Bool, true, false, cond, List, [], ◌∷◌, ◌++◌, Some, append-nil, refl, sym, ap, ◌∙◌, subst}
 use Rattle.std.specs.Prelude.{◌&&◌, nat_lt}
 use Rattle.brc_word.specs.Words.{is_immortal_word, local_part, most_local}
+use Rattle.brc_host.specs.HostCalls.{HostCall}
 use Rattle.brc_lang.specs.declared.module.Instr.{Instr}
 use Rattle.brc_model.specs.AbstractState.{Move}
 use Rattle.brc_model.specs.Actions.{Silent, Calls, Does, dispatch}
 use Rattle.brc_model.specs.Duties.{counts_locally, ready}
-use Rattle.brc_model.specs.Machine.{is_running}
+use Rattle.brc_model.specs.Machine.{Actor, is_running}
 use Rattle.brc_model.specs.declared.actor.Place.{Place}
 use Rattle.brc_model.specs.declared.duty.Duty.{Duty}
 use Rattle.brc_model.specs.declared.duty.Duty.TheVariants.{RetainLoad, RetainStore, RetainAdd, KindLoad, LockGate, UnlockGate, CellLoad}
 use Rattle.brc_model.specs.declared.duty.Holding.{Holding}
 use Rattle.brc_model.specs.declared.duty.Holding.TheVariants.{AsCaller}
 use Rattle.brc_model.specs.declared.slot.Exit.{Exit}
+use Rattle.brc_model.specs.declared.address.Address.TheVariants.{KindOf}
+use Rattle.brc_table.specs.declared.view.Event.{Event}
 use Rattle.brc_table.specs.declared.view.View.{View}
 use Rattle.brc_table.specs.Views.{did, done, open_work, with_reference, retaining, asking, locking, unlocking, loading_cell}
 use Rattle.brc_heap.specs.Calls.{retained}
-use Rattle.brc_work.specs.Traces.{Begun, Silently, Asks, Traces, MakesTrace, thread_with}
+use Rattle.brc_work.specs.Traces.{Makes, Begun, Starts, Silently, Asks, Requests, Traces, MakesTrace, thread_with, instruction_at, exit_of, is_birth, is_close, has_read}
 use Rattle.brc_work.proofs.Traces.Joining.{no_trace, turns_to, traces_then, with_duties}
 use Rattle.brc_work.proofs.Traces.Duties.{comes_next, no_duty, IsSame, next_duties, starts_with, continues_with, does_nothing, does_first}
 
 module _ (code : List Instr) (p : Place) (v : View) where
   -- A silent step,
   pub goes_silently : (q : Place) (moves : List Move) → dispatch v.layout v.thread v.used code p ≡ Silent moves q
-      → MakesTrace code p v q v
+      → MakesTrace [] code p v q v
   goes_silently q moves is = record {
     events = [];
     trace = sym (append-nil v.trace);
-    makes = Silently [] p q (thread_with v []) moves Begun refl is;
+    makes = Silently [] [] p q (thread_with v []) moves Begun refl is;
     layout = refl;
     thread = refl;
   }
 
-  -- and a call of the host, however it ends.
-  pub calls_host : (after : Exit → Place) (exit : Exit) → dispatch v.layout v.thread v.used code p ≡ Calls after
-      → MakesTrace code p v (after exit) v
-  calls_host after exit is = record {
+  -- and a call of the host, as its instruction asks for it.
+  pub calls_host : (after : Exit → Place) (i : Instr) (call : HostCall)
+      → dispatch v.layout v.thread v.used code p ≡ Calls after → instruction_at code p ≡ Some i → Requests [] i call
+      → MakesTrace (call ∷ []) code p v (after (exit_of call)) v
+  calls_host after i call is names asks = record {
     events = [];
     trace = sym (append-nil v.trace);
-    makes = Asks [] p (thread_with v []) after exit Begun refl is;
+    makes = Asks [] [] p (thread_with v []) after i call Begun refl is names asks;
     layout = refl;
     thread = refl;
   }
+
+-- the event of a look at the kind of the row's object
+abbrev pub kind_event : ℕ → ℕ → Event
+kind_event x word = record { address = KindOf x; found = word; left = word }
 
 -- the hand without work that turns to the duties, and has these references and this slot
 abbrev pub busy : View → List Duty → List ℕ → ℕ → View
@@ -51,41 +59,59 @@ module _ (code : List Instr) (p : Place) (next : ℕ → Place) (v : View) (none
   -- A hand that makes one step.
   one_step : (d : Duty) (references : List ℕ) (n found : ℕ)
       → dispatch v.layout v.thread v.used code p ≡ Does d [] next
+      → (is_birth d && has_read code p) ≡ false
       → IsSame (busy v (d ∷ []) references n) d d found
       → next_duties (busy v (d ∷ []) references n) d [] found ≡ []
-      → MakesTrace code p v (next found) (did (busy v (d ∷ []) references n) (d ∷ []) found)
-  one_step d references n found is same last =
+      → MakesTrace [] code p v (next found) (did (busy v (d ∷ []) references n) (d ∷ []) found)
+  one_step d references n found is new same last =
       let turned = busy v (d ∷ []) references n in
       traces_then code p p (next found) [] [] [] v turned (did turned (d ∷ []) found)
       (turns_to code p [] (d ∷ []) v references n none)
       (with_duties code p (next found) [] (next_duties turned d [] found) [] turned (did turned (d ∷ []) found) last
-      (starts_with code p turned d d [] [] found same next is))
+      (starts_with code p turned d d [] [] found same next is new))
 
   -- A look at a kind,
   pub asks_kind : (x word : ℕ) → dispatch v.layout v.thread v.used code p ≡ Does (KindLoad x) [] next
-      → MakesTrace code p v (next word) (done (asking v x) word)
+      → MakesTrace [] code p v (next word) (done (asking v x) word)
   asks_kind x word is =
-      one_step (KindLoad x) v.references v.in_slot word is
+      one_step (KindLoad x) v.references v.in_slot word is refl
       (record { event = refl; status = refl; head = refl; used = refl; locked = refl; lent = refl }) (no_duty v.head)
+
+  -- which makes one event: the word that it finds,
+  pub asks_kind_once : (x word : ℕ) → dispatch v.layout v.thread v.used code p ≡ Does (KindLoad x) [] next
+      → (one : MakesTrace [] code p v (next word) (done (asking v x) word)) × (one.events ≡ [] ++ kind_event x word ∷ [])
+  asks_kind_once x word is =
+      let aside : v.aside ≡ open_work v = ap (λ (ds : List Duty). ds ++ v.aside) (sym none) in
+      let one : MakesTrace [] code p v (next word) (done (asking v x) word) = record {
+        events = kind_event x word ∷ [];
+        trace = refl;
+        makes = subst (λ (a : Actor).
+            Makes v.layout v.thread code p (thread_with v []) [] (kind_event x word ∷ []) (next word) a)
+            (λ i. record (thread_with v []) { agenda = no_duty v.head i; aside = aside i })
+            (Starts [] [] p (thread_with v []) (KindLoad x) [] next word Begun refl is refl);
+        layout = refl;
+        thread = refl;
+      } in
+      (one, refl)
 
   -- a try to lock,
   pub tries : (x n found : ℕ) → dispatch v.layout v.thread v.used code p ≡ Does (LockGate x) [] next
-      → MakesTrace code p v (next found) (done (locking v x n) found)
+      → MakesTrace [] code p v (next found) (done (locking v x n) found)
   tries x n found is =
-      one_step (LockGate x) v.references n found is
+      one_step (LockGate x) v.references n found is refl
       (record { event = refl; status = refl; head = refl; used = refl; locked = refl; lent = refl }) (no_duty v.head)
 
   pub unlocks : (x found : ℕ) → dispatch v.layout v.thread v.used code p ≡ Does (UnlockGate x) [] next
-      → MakesTrace code p v (next found) (done (unlocking v x) found)
+      → MakesTrace [] code p v (next found) (done (unlocking v x) found)
   unlocks x found is =
-      one_step (UnlockGate x) v.references v.in_slot found is
+      one_step (UnlockGate x) v.references v.in_slot found is refl
       (record { event = refl; status = refl; head = refl; used = refl; locked = refl; lent = refl }) (no_duty v.head)
 
   -- and a look into a cell.
   pub looks_in : (x i word : ℕ) → dispatch v.layout v.thread v.used code p ≡ Does (CellLoad x i) [] next
-      → MakesTrace code p v (next word) (done (loading_cell v x i) word)
+      → MakesTrace [] code p v (next word) (done (loading_cell v x i) word)
   looks_in x i word is =
-      one_step (CellLoad x i) v.references v.in_slot word is
+      one_step (CellLoad x i) v.references v.in_slot word is refl
       (record { event = refl; status = refl; head = refl; used = refl; locked = refl; lent = refl }) (no_duty v.head)
 
 -- ---- retains
@@ -97,37 +123,37 @@ retain_next immortal counts x word holding =
 
 counted_by : (code : List Instr) (q : Place) (head x word found : ℕ) (d e : Duty) (u : View)
     → u.agenda ≡ e ∷ [] → IsSame u d e found
-    → ready head (d ∷ []) ≡ d ∷ [] → next_duties u d [] found ≡ []
-    → Traces code q (ready head (d ∷ [])) u q [] (done u found)
-counted_by code q head x word found d e u is same first last =
-    subst (λ (ds : List Duty). Traces code q ds u q [] (done u found)) (sym first)
-    (subst (Traces code q (d ∷ []) u q []) (sym (does_first u found e [] is))
+    → is_close d ≡ false → ready head (d ∷ []) ≡ d ∷ [] → next_duties u d [] found ≡ []
+    → Traces [] code q (ready head (d ∷ [])) u q [] (done u found)
+counted_by code q head x word found d e u is same off first last =
+    subst (λ (ds : List Duty). Traces [] code q ds u q [] (done u found)) (sym first)
+    (subst (Traces [] code q (d ∷ []) u q []) (sym (does_first u found e [] is))
     (with_duties code q q (d ∷ []) (next_duties u d [] found) [] u (did u (e ∷ []) found) last
-    (continues_with code q u d e [] [] found same)))
+    (continues_with code q u d e [] [] found same off)))
 
 -- The reference is counted in the local word, in the shared word or nowhere.
 counts : (immortal own : Bool) (code : List Instr) (q : Place) (head x word found : ℕ) (holding : Holding) (u : View)
     → u.agenda ≡ ready head (retain_next immortal own x word AsCaller ++ [])
-    → Traces code q (ready head (retain_next immortal own x word holding ++ [])) u q [] (done u found)
+    → Traces [] code q (ready head (retain_next immortal own x word holding ++ [])) u q [] (done u found)
 counts true own code q head x word found holding u is =
     let none = is ∙ no_duty head in
-    subst (λ (ds : List Duty). Traces code q ds u q [] (done u found)) (sym (no_duty head))
-    (subst (Traces code q [] u q []) (sym (does_nothing u found none)) (no_trace code q [] u))
+    subst (λ (ds : List Duty). Traces [] code q ds u q [] (done u found)) (sym (no_duty head))
+    (subst (Traces [] code q [] u q []) (sym (does_nothing u found none)) (no_trace code q [] u))
 counts false true code q head x word found holding u is =
     counted_by code q head x word found (RetainStore x holding word) (RetainStore x AsCaller word) u
     (is ∙ comes_next head (RetainStore x AsCaller word) [] refl)
-    (record { event = refl; status = refl; head = refl; used = refl; locked = refl; lent = refl })
+    (record { event = refl; status = refl; head = refl; used = refl; locked = refl; lent = refl }) refl
     (comes_next head (RetainStore x holding word) [] refl) (no_duty u.head)
 counts false false code q head x word found holding u is =
     counted_by code q head x word found (RetainAdd x holding) (RetainAdd x AsCaller) u
     (is ∙ comes_next head (RetainAdd x AsCaller) [] refl)
-    (record { event = refl; status = refl; head = refl; used = refl; locked = refl; lent = refl })
+    (record { event = refl; status = refl; head = refl; used = refl; locked = refl; lent = refl }) refl
     (comes_next head (RetainAdd x holding) [] refl) (no_duty u.head)
 
 -- A hand retains an object.
 pub retains : (code : List Instr) (p : Place) (next : ℕ → Place) (v : View) (none : v.agenda ≡ []) (x word found : ℕ)
     (holding : Holding) → dispatch v.layout v.thread v.used code p ≡ Does (RetainLoad x holding) [] next
-    → MakesTrace code p v (next word) (retained v x word found)
+    → MakesTrace [] code p v (next word) (retained v x word found)
 retains code p next v none x word found holding is =
     let turned = retaining v x in
     let loaded = done turned word in
@@ -138,5 +164,5 @@ retains code p next v none x word found holding is =
     (turns_to code p [] (RetainLoad x AsCaller ∷ []) v (with_reference v.layout x v.references) v.in_slot none)
     (traces_then code p (next word) (next word) [] duties [] turned loaded (done loaded found)
     (starts_with code p turned (RetainLoad x holding) (RetainLoad x AsCaller) [] [] word
-    (record { event = refl; status = refl; head = refl; used = refl; locked = refl; lent = refl }) next is)
+    (record { event = refl; status = refl; head = refl; used = refl; locked = refl; lent = refl }) next is refl)
     (counts immortal own code (next word) v.head x word found holding loaded refl))

@@ -1,5 +1,6 @@
 -- A hand that puts an item into a cell, and gives up what was there, makes the events of its thread.
 use Rattle.std.proofs.Common.{◌≡◌, ℕ, zero, suc, List, [], ◌∷◌, ◌++◌, None, Some, add-one, refl, sym, ap, ◌∙◌, subst}
+use Rattle.brc_host.specs.HostCalls.{HostCall}
 use Rattle.brc_lang.specs.declared.module.Instr.{Instr}
 use Rattle.brc_model.specs.Actions.{Does, always, dispatch}
 use Rattle.brc_model.specs.Duties.{ready, release_found}
@@ -39,7 +40,7 @@ swap_next head found = ready head (release_found found ++ Settle ∷ [])
 swaps : (code : List Instr) (place next : Place) (row cell item found : ℕ) (holding : Holding) (v : View)
     → v.agenda ≡ []
     → dispatch v.layout v.thread v.used code place ≡ Does (CellSwap row cell item holding) (Settle ∷ []) (always next)
-    → Traces code place [] v next (swap_next v.head found) (swapped v row cell (suc item) found)
+    → Traces [] code place [] v next (swap_next v.head found) (swapped v row cell (suc item) found)
 swaps code place next row cell item found holding v none is =
     let d = CellSwap row cell item holding in
     let events = events_of v.layout v.thread (thread_with v []) d found in
@@ -48,29 +49,29 @@ swaps code place next row cell item found holding v none is =
     record {
       events = events;
       trace = ap (λ (left : ℕ). v.trace ++ stored left ∷ []) (sym (add-one item));
-      makes = subst (λ (a : Actor). Makes v.layout v.thread code place (thread_with v []) events next a)
+      makes = subst (λ (a : Actor). Makes v.layout v.thread code place (thread_with v []) [] events next a)
           (λ i. record (thread_with v (swap_next v.head found)) { aside = aside i })
-          (Starts [] place (thread_with v []) d (Settle ∷ []) (always next) found Begun refl is);
+          (Starts [] [] place (thread_with v []) d (Settle ∷ []) (always next) found Begun refl is refl);
       layout = refl;
       thread = refl;
     }
 
 -- If the cell was empty, a thread whose chain is empty has nothing more to do.
 pub swaps_nothing : (row cell item found : ℕ) (v u : View) → v.agenda ≡ [] → v.head ≡ 0 → row_in found ≡ None
-    → u ≡ swapped v row cell (suc item) found → MakesSwap row cell item v u
+    → u ≡ swapped v row cell (suc item) found → MakesSwap [] row cell item v u
 swaps_nothing row cell item found v u none empty nothing is = λ code place next holding does.
-    subst (MakesTrace code place v next) (sym is)
+    subst (MakesTrace [] code place v next) (sym is)
     (with_duties code place next [] (swap_next v.head found) [] v (swapped v row cell (suc item) found)
     (ap (swap_next v.head) (word_none found nothing) ∙ ap (λ (head : ℕ). ready head (Settle ∷ [])) empty)
     (swaps code place next row cell item found holding v none (does v.layout v.thread v.used)))
 
 -- Otherwise the hand gives up the item that came out.
-pub swaps_item : (row cell item found old : ℕ) (v mid u : View) → v.agenda ≡ [] → row_in found ≡ Some old
-    → mid ≡ swapped v row cell (suc item) found → MakesRelease old mid u → MakesSwap row cell item v u
+pub swaps_item : {cs : List HostCall} (row cell item found old : ℕ) (v mid u : View) → v.agenda ≡ [] → row_in found ≡ Some old
+    → mid ≡ swapped v row cell (suc item) found → MakesRelease cs old mid u → MakesSwap cs row cell item v u
 swaps_item row cell item found old v mid u none some is releases = λ code place next holding does.
     let duties = ReleaseLoad old InFlight ∷ Settle ∷ [] in
     traces_then code place next next [] duties [] v mid u
-    (subst (Traces code place [] v next duties) (sym is)
+    (subst (Traces [] code place [] v next duties) (sym is)
     (with_duties code place next [] (swap_next v.head found) duties v (swapped v row cell (suc item) found)
     (ap (swap_next v.head) (word_some found old some) ∙ comes_next v.head (ReleaseLoad old InFlight) (Settle ∷ []) refl)
     (swaps code place next row cell item found holding v none (does v.layout v.thread v.used))))

@@ -16,7 +16,7 @@ use Rattle.brc_work.specs.Performs.{IsBefore, Performs, CountsTurn}
 use Rattle.brc_work.proofs.Traces.Places.{begins}
 use Rattle.brc_work.proofs.Traces.Starting.{goes_silently}
 
-pub makes_goto : (to : ℕ) (rows : List (Option ℕ)) (v : View) → Performs (instructions.Goto to) Success rows v rows v
+pub makes_goto : (to : ℕ) (rows : List (Option ℕ)) (v : View) → Performs [] (instructions.Goto to) Success rows v rows v
 makes_goto to rows v = λ code place counters at before.
     goes_silently code place v (InCall counters to rows) []
     (begins (instructions.Goto to) code place counters at rows before v.layout v.thread v.used)
@@ -25,7 +25,7 @@ makes_goto to rows v = λ code place counters at before.
 counted : (b : Bool) (at to times : ℕ) (counters : Counters) (rows : List (Option ℕ)) (v : View)
     → nat_lt (turns_at counters at) times ≡ b → (code : List Instr) (place : Place)
     → IsBefore (instructions.Again to times) code place counters at rows
-    → MakesTrace code place v (cond b (InCall (turned counters at) to rows) (InCall counters (at + 1) rows)) v
+    → MakesTrace [] code place v (cond b (InCall (turned counters at) to rows) (InCall counters (at + 1) rows)) v
 counted b at to times counters rows v answer code place before =
     let back = InCall (turned counters at) to rows in
     let past = InCall counters (at + 1) rows in
@@ -39,7 +39,7 @@ module _ (at times : ℕ) (turns : List ℕ) where
       → after_turns ≡ slice_set turns at (slice_index_or turns at 0 + 1)
       → CountsTurn at times Fault turns after_turns
   goes_back after_turns less is = λ to rows v code place left before.
-      subst (λ (ns : List ℕ). MakesTrace code place v (InCall (record { left = left; turns = ns }) to rows) v) (sym is)
+      subst (λ (ns : List ℕ). MakesTrace [] code place v (InCall (record { left = left; turns = ns }) to rows) v) (sym is)
       (counted true at to times (record { left = left; turns = turns }) rows v (lt-ltb _ times less) code place before)
 
   -- or it has gone back often enough.

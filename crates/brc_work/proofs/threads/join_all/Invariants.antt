@@ -15,5 +15,5 @@ invariant-loop-started g l =
     job promise.heap.value promise.checked.value.module promise.function promise.times promise.thread
     ≡ job l.fn.heap l.fn.checked.module l.fn.function l.fn.times (k + 1))
     → left + into_iter_len rest ≡ into_iter_len first → (k : ℕ) (w : _) → k < left
-    → HasGone (job l.fn.heap l.fn.checked.module l.fn.function l.fn.times (k + 1))
+    → HasGone g.H.Host.answers g.H.Host.counts (job l.fn.heap l.fn.checked.module l.fn.function l.fn.times (k + 1))
     (get_or (vec_items l.answer) k w).0 (get_or (vec_items l.answer) k w).1)

@@ -1,4 +1,4 @@
-use Rattle.std.proofs.Common.{◌≡◌, ℕ, List, Option, None, Some, sym, ap, ◌∙◌, subst}
+use Rattle.std.proofs.Common.{◌≡◌, ℕ, List, [], Option, None, Some, sym, ap, ◌∙◌, subst}
 use Rattle.std.specs.Prelude.{slice_set, replicate}
 use Rattle.brc_model.specs.declared.layout.Layout.{Layout}
 use Rattle.brc_model.specs.Layout.{root_row}
@@ -6,7 +6,7 @@ use Rattle.brc_model.specs.Slots.{entry}
 use Rattle.brc_table.specs.Hands.{TableState}
 use Rattle.brc_work.specs.Calls.{Leads}
 use Rattle.brc_work.specs.Fits.{Fits}
-use Rattle.brc_work.proofs.Counting.{nothing_counted, counted_then}
+use Rattle.brc_work.proofs.Counting.{asked_nothing, asked_then}
 use Rattle.brc_work.proofs.Stepping.{begins, begins_at}
 use Rattle.brc_work.proofs.Traces.Calls.{HasCome, begins_call, comes_on, comes_to_end}
 use Rattle.brc_work.proofs.worker.Worker.call.Goals as goal
@@ -27,18 +27,15 @@ loop-init g c =
             (begins hand c.requires.ready plain);
         reaches = begins_at c.args.code.now;
       },
-      subst (λ (rows : List (Option ℕ)). HasCome c.args.code.now hand.view 0 (replicate 256 0) rows hand.view)
-          (sym entered) (begins_call c.args.code.now hand.view),
-      nothing_counted c.args.totals.now _,
+      asked_nothing
+          (subst (λ (rows : List (Option ℕ)). HasCome [] c.args.code.now hand.view 0 (replicate 256 0) rows hand.view)
+          (sym entered) (begins_call c.args.code.now hand.view)),
     )
 
-pub returns-in-None-step-clause-made : goal.returns-in-None-step-clause-made
-returns-in-None-step-clause-made g c =
-    comes_to_end _ _ _ _ _ _ _ _ _ _ c.loop.invariant.2 c.step.ensures.made c.in-None-step.is
-
-pub returns-in-None-step-clause-counted : goal.returns-in-None-step-clause-counted
-returns-in-None-step-clause-counted g c =
-    counted_then c.args.totals.now c.loop.totals c.step.new.totals _ _ _ c.loop.invariant.3 c.step.ensures.counted
+pub returns-in-None-step-clause-asked : goal.returns-in-None-step-clause-asked
+returns-in-None-step-clause-asked g c =
+    asked_then (λ cs ds come steps.
+    comes_to_end cs ds _ _ _ _ _ _ _ _ _ _ come steps c.in-None-step.is) c.loop.invariant.2 c.step.ensures.asked
 
 pub loop-preserved : goal.loop-preserved
 loop-preserved g c =
@@ -46,7 +43,6 @@ loop-preserved g c =
       c.step.ensures.of,
       subst (λ (o : Option ℕ). Leads c.args.hand.now c.args.code.now o c.step.new.rows c.step.new.hand)
           c.in-Some-step.is (c.step.ensures.goes c.args.hand.now goes.state goes.fits goes.reaches),
-      comes_on _ _ _ _ _ _ _ _ _ _ c.loop.invariant.2 c.step.ensures.made _ c.in-Some-step.is,
-      counted_then c.args.totals.now c.loop.totals c.step.new.totals _ _ _ c.loop.invariant.3
-          c.step.ensures.counted,
+      asked_then (λ cs ds come steps.
+          comes_on cs ds _ _ _ _ _ _ _ _ _ _ come steps _ c.in-Some-step.is) c.loop.invariant.2 c.step.ensures.asked,
     )

@@ -1,6 +1,6 @@
 use Rattle.brc_table.specs.Hands.{IsOf}
 use Rattle.brc_work.specs.Calls.{GoesTo}
-use Rattle.brc_work.specs.Totals.{HasCounted}
+use Rattle.brc_work.specs.Totals.{Asked}
 use Rattle.brc_work.proofs.Traces.Calls.{HasCome}
 use Rattle.brc_work.proofs.worker.Worker.call.Given as goal
 
@@ -8,5 +8,5 @@ use Rattle.brc_work.proofs.worker.Worker.call.Given as goal
 abbrev pub invariant-loop : goal.invariant-loop
 invariant-loop g l =
     IsOf l.fn.self l.hand × GoesTo l.fn.hand l.fn.code l.at l.rows l.hand
-    × HasCome l.fn.code l.fn.hand.view l.at l.turns l.rows l.hand.view
-    × HasCounted l.fn.totals l.totals (g.H.Host.counts l.fn.host) (g.H.Host.counts l.host)
+    × Asked g.H.Host.answers g.H.Host.counts l.fn.host l.host l.fn.totals l.totals
+    (λ calls. HasCome calls l.fn.code l.fn.hand.view l.at l.turns l.rows l.hand.view)

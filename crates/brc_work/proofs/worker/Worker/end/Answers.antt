@@ -1,4 +1,4 @@
-use Rattle.std.proofs.Common.{◌≡◌, None, sym, subst}
+use Rattle.std.proofs.Common.{◌≡◌, [], None, sym, subst}
 use Rattle.brc_lang.specs.declared.module.Instr.{Instr}
 use Rattle.brc_lang.specs.declared.module.Instr.TheVariants as instructions
 use Rattle.brc_model.specs.declared.slot.Exit.TheVariants.{Success}
@@ -8,7 +8,7 @@ use Rattle.brc_model.proofs.Dispatch.Passing.{are_met}
 use Rattle.brc_work.specs.Calls.{HasEnded}
 use Rattle.brc_work.specs.Performs.{Performs}
 use Rattle.brc_work.proofs.Conditions.{kept, can_give, none_is}
-use Rattle.brc_work.proofs.Counting.{nothing_counted}
+use Rattle.brc_work.proofs.Counting.{asked_as, asked_nothing}
 use Rattle.brc_work.proofs.Stepping.{ends, is_fail, fails}
 use Rattle.brc_work.proofs.Traces.References.{makes_ret, makes_fail}
 use Rattle.brc_work.proofs.worker.Worker.end.Goals as goal
@@ -30,14 +30,15 @@ returns-in-Ret-clause-ended g c =
     (none_is s.locked (kept _ met.no_lock_left)) in
     subst (λ (i : Instr). HasEnded i rows hand after) (sym c.in-Ret.is) ended
 
-pub returns-in-Ret-clause-made : goal.returns-in-Ret-clause-made
-returns-in-Ret-clause-made g c =
+pub returns-in-Ret-clause-asked : goal.returns-in-Ret-clause-asked
+returns-in-Ret-clause-asked g c =
     let from = c.in-Ret.from in
     let rows = c.args.rows.now in
     let v = c.args.hand.now.view in
     let after = c.give_up.new.hand.view in
-    subst (λ (i : Instr). Performs i Success rows v c.give_up.new.rows after) (sym c.in-Ret.is)
-    (makes_ret from rows c.give_up.new.rows v after c.give_up.ensures.made)
+    asked_as (λ cs gives.
+    subst (λ (i : Instr). Performs cs i Success rows v c.give_up.new.rows after) (sym c.in-Ret.is)
+    (makes_ret from rows c.give_up.new.rows v after gives)) c.give_up.ensures.asked
 
 pub returns-in_default : goal.returns-in_default
 returns-in_default g c =
@@ -48,7 +49,7 @@ returns-in_default g c =
       of = c.requires.may.of;
       ended = λ first s fits passes.
           fails first s rows hand fits (subst (λ (i : Instr). lowest i s ≡ None) is passes);
-      made = subst (λ (i : Instr). Performs i Success rows hand.view rows hand.view) (sym is)
-          (makes_fail rows hand.view);
-      counted = nothing_counted c.args.totals.now _;
+      asked = asked_nothing
+          (subst (λ (i : Instr). Performs [] i Success rows hand.view rows hand.view) (sym is)
+          (makes_fail rows hand.view));
     }

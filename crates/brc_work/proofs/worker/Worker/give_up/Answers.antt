@@ -1,4 +1,5 @@
 use Rattle.std.proofs.Common.{ℕ, List, Option, None, sym, ap, ◌∙◌, subst}
+use Rattle.brc_work.proofs.Counting.{asked_as}
 use Rattle.brc_model.specs.declared.layout.Layout.{Layout}
 use Rattle.brc_model.specs.declared.slot.Slot.TheVariants.{Empty}
 use Rattle.brc_model.specs.Slots.{slot_of, put}
@@ -41,7 +42,8 @@ returns-clause-goes g c = λ first s fits can.
     (c.release.ensures.less
     ∙ ap (λ (l : Layout). without_reference l row hand.view.references) fits.follows.layout)))
 
-pub returns-clause-made : goal.returns-clause-made
-returns-clause-made g c =
-    gives_up c.args.from c.row_in-row.result c.args.rows.now c.name.new.rows c.args.hand.now.view c.release.new.hand.view
-    c.row_in-row.ensures c.name.ensures.named c.release.ensures.made
+pub returns-clause-asked : goal.returns-clause-asked
+returns-clause-asked g c =
+    asked_as (λ cs.
+    gives_up {cs = cs} c.args.from c.row_in-row.result c.args.rows.now c.name.new.rows c.args.hand.now.view
+    c.release.new.hand.view c.row_in-row.ensures c.name.ensures.named) c.release.ensures.asked

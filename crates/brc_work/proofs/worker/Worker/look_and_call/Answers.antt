@@ -1,7 +1,8 @@
 use Rattle.std.proofs.Common.{sym, ap, ◌∙◌}
+use Rattle.brc_queue.specs.Scans.{LooksThrough}
 use Rattle.brc_table.specs.Hands.{TableState}
 use Rattle.brc_work.proofs.Calling.{looked_called, called_then}
-use Rattle.brc_work.proofs.Counting.{closes_counted, counted_then}
+use Rattle.brc_work.proofs.Counting.{looks_close, asked_closes, asked_then}
 use Rattle.brc_work.proofs.Traces.Calls.{one_call}
 use Rattle.brc_work.proofs.worker.Worker.look_and_call.Goals as goal
 
@@ -16,15 +17,11 @@ returns-clause-called g c =
     looked.carried looked.slots)
     c.call.ensures.called
 
-pub returns-clause-counted : goal.returns-clause-counted
-returns-clause-counted g c =
+pub returns-clause-asked : goal.returns-clause-asked
+returns-clause-asked g c =
     let work = c.merge_pending-failed.ensures.work in
-    counted_then c.args.totals.now c.count_close_faults.new.self c.call.new.totals _ _ _
-    (closes_counted c.args.totals.now c.count_close_faults.new.self _ _ work.0 work.1 c.merge_pending-failed.result
-    work.3 work.4 c.count_close_faults.ensures)
-    c.call.ensures.counted
-
-pub returns-clause-made : goal.returns-clause-made
-returns-clause-made g c =
-    let work = c.merge_pending-failed.ensures.work in
-    one_call _ _ _ _ work.0 work.2 c.call.ensures.made
+    asked_then (λ cs ds looks makes. one_call _ _ _ _ cs ds looks makes)
+    (asked_closes {Made = λ cs. LooksThrough c.args.hand.now.view c.args.hand.now.view.used cs
+    c.merge_pending-failed.new.hand.view} work.0 c.merge_pending-failed.result (looks_close _ _ _ work.0 work.1) work.2
+    c.count_close_faults.ensures work.3 work.1)
+    c.call.ensures.asked

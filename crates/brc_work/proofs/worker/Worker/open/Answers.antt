@@ -1,4 +1,7 @@
-use Rattle.std.proofs.Common.{◌≡◌, None, sym, ◌∙◌}
+use Rattle.std.proofs.Common.{◌≡◌, None, refl, sym, ap, ◌∙◌}
+use Rattle.std.specs.Prelude.{is_err}
+use Rattle.brc_host.specs.HostCalls as asked
+use Rattle.brc_work.specs.Traces.{ForFile}
 use Rattle.brc_lang.specs.declared.module.Instr.TheVariants as instructions
 use Rattle.brc_model.specs.declared.slot.State.{State}
 use Rattle.brc_model.specs.Actions.{file_word}
@@ -7,7 +10,7 @@ use Rattle.brc_model.proofs.Dispatch.Passing.{are_met}
 use Rattle.brc_work.specs.Changes.{CanFill}
 use Rattle.brc_work.proofs.Conditions.{can_fill}
 use Rattle.brc_work.proofs.Passing.{left_empty}
-use Rattle.brc_work.proofs.Counting.{quiet_counted, opening_ok}
+use Rattle.brc_work.proofs.Counting.{asked_nothing, asked_once, asked_in_vain}
 use Rattle.brc_work.proofs.Traces.HostCalls.{asks_open, grants, refuses, asks_nothing}
 use Rattle.brc_work.proofs.worker.Worker.open.Given as given
 use Rattle.brc_work.proofs.worker.Worker.open.Goals.{Start}
@@ -29,31 +32,39 @@ pub returns-in-Ok-clause-done : goal.returns-in-Ok-clause-done
 returns-in-Ok-clause-done g c = λ first s fits passes.
     c.bear.ensures.goes first s fits (can g (goal.at.returns-in-Ok-clause-done g c).Start s passes)
 
-pub returns-in-Ok-clause-counted : goal.returns-in-Ok-clause-counted
-returns-in-Ok-clause-counted g c =
-    quiet_counted c.args.totals.now _ _
-    (opening_ok _ _ c.open-opened.result c.in-Ok.file c.open-opened.ensures c.in-Ok.is)
-
 pub returns-in-Err-clause-done : goal.returns-in-Err-clause-done
 returns-in-Err-clause-done g c = λ first s fits passes.
     left_empty first s c.args.rows.now c.name-in-Err.new.rows c.args.hand.now c.args.to fits
     (can g (goal.at.returns-in-Err-clause-done g c).Start s passes) c.name-in-Err.ensures.low
     c.name-in-Err.ensures.named
 
-pub returns-then-not-room-clause-made : goal.returns-then-not-room-clause-made
-returns-then-not-room-clause-made g c =
-    asks_nothing _ c.args.to c.args.otherwise file_word (asks_open c.args.to c.args.path c.args.mode c.args.otherwise)
+pub returns-then-not-room-clause-asked : goal.returns-then-not-room-clause-asked
+returns-then-not-room-clause-asked g c =
+    asked_nothing
+    (asks_nothing _ c.args.to c.args.otherwise file_word (asks_open c.args.to c.args.path c.args.mode c.args.otherwise)
     c.args.rows.now c.name.new.rows c.args.hand.now.view
-    (sym c.room.ensures ∙ c.if-not-room.true) c.name.ensures.named
+    (sym c.room.ensures ∙ c.if-not-room.true) c.name.ensures.named)
 
-pub returns-in-Ok-clause-made : goal.returns-in-Ok-clause-made
-returns-in-Ok-clause-made g c =
-    grants _ c.args.to c.args.otherwise file_word (asks_open c.args.to c.args.path c.args.mode c.args.otherwise)
-    c.args.rows.now c.bear.new.rows c.args.hand.now.view c.bear.new.hand.view
-    (sym c.room.ensures ∙ c.if-not-room.false) c.bear.ensures.made
+pub returns-in-Ok-clause-asked : goal.returns-in-Ok-clause-asked
+returns-in-Ok-clause-asked g c =
+    let failed = is_err c.open-opened.result in
+    let call = asked.Open c.args.path c.args.mode failed in
+    let succeeds = ap is_err c.in-Ok.is in
+    asked_once call (record { closes = refl; others = refl }) succeeds c.open-opened.ensures.answers
+    c.open-opened.ensures.counted
+    (grants _ c.args.to c.args.otherwise file_word (asks_open c.args.to c.args.path c.args.mode c.args.otherwise)
+    c.args.rows.now c.bear.new.rows c.args.hand.now.view c.bear.new.hand.view call
+    (ForFile c.args.to c.args.path c.args.mode c.args.otherwise failed) succeeds
+    (sym c.room.ensures ∙ c.if-not-room.false) c.bear.ensures.made)
 
-pub returns-in-Err-clause-made : goal.returns-in-Err-clause-made
-returns-in-Err-clause-made g c =
-    refuses _ c.args.to c.args.otherwise file_word (asks_open c.args.to c.args.path c.args.mode c.args.otherwise)
-    c.args.rows.now c.name-in-Err.new.rows c.args.hand.now.view
-    (sym c.room.ensures ∙ c.if-not-room.false) c.name-in-Err.ensures.named
+pub returns-in-Err-clause-asked : goal.returns-in-Err-clause-asked
+returns-in-Err-clause-asked g c =
+    let failed = is_err c.open-opened.result in
+    let call = asked.Open c.args.path c.args.mode failed in
+    let fails = ap is_err c.in-Err.is in
+    asked_in_vain call (record { closes = refl; others = refl }) fails c.open-opened.ensures.answers
+    c.open-opened.ensures.counted c.count_host_fault.ensures
+    (refuses _ c.args.to c.args.otherwise file_word (asks_open c.args.to c.args.path c.args.mode c.args.otherwise)
+    c.args.rows.now c.name-in-Err.new.rows c.args.hand.now.view call
+    (ForFile c.args.to c.args.path c.args.mode c.args.otherwise failed) fails
+    (sym c.room.ensures ∙ c.if-not-room.false) c.name-in-Err.ensures.named)

@@ -11,7 +11,7 @@ use Rattle.brc_work.specs.Fits.{Rests, Fits}
 use Rattle.brc_work.proofs.CallsBelow.{itself_acts, left_acts, acts_then}
 use Rattle.brc_work.proofs.Conditions.{kept, not_false}
 use Rattle.brc_work.proofs.Passing.{none_broken}
-use Rattle.brc_work.proofs.Counting.{nothing_counted}
+use Rattle.brc_work.proofs.Counting.{asked_as, asked_nothing}
 use Rattle.brc_work.proofs.Fitting.{bare_fits}
 use Rattle.brc_work.proofs.Holding.{names_object, usable, few_held, few_more}
 use Rattle.brc_work.proofs.LockedList.{OnList, on_list, sized_fits, still_held, may_put, knows_cell, without_with}
@@ -83,9 +83,6 @@ returns-then-cell-size-clause-done g c = λ first s fits passes.
     bare_fits first s c.args.rows.now c.size.new.hand c.size.new.hand at
     (itself_acts c.size.new.hand at.rests).acts refl
 
-pub returns-then-cell-size-clause-counted : goal.returns-then-cell-size-clause-counted
-returns-then-cell-size-clause-counted g c = nothing_counted c.args.totals.now _
-
 pub row_in-item-requires : goal.row_in-item-requires
 row_in-item-requires g c =
     names_object _ _ _ _ c.requires.may.fits c.args.from
@@ -155,14 +152,16 @@ returns-clause-done g c = λ first s fits passes.
     c.retain.ensures.references
     ∙ without_with c.size.new.hand.view.layout c.row_in-item.result c.size.new.hand.view.references)))
 
-pub returns-then-cell-size-clause-made : goal.returns-then-cell-size-clause-made
-returns-then-cell-size-clause-made g c =
-    puts_outside _ _ _ _ _ _ _ _ _ (has_sized g (goal.at.returns-then-cell-size-clause-made g c).After-size)
-    c.args.from c.args.otherwise c.if-cell-size.true
+pub returns-then-cell-size-clause-asked : goal.returns-then-cell-size-clause-asked
+returns-then-cell-size-clause-asked g c =
+    asked_nothing
+    (puts_outside _ _ _ _ _ _ _ _ _ (has_sized g (goal.at.returns-then-cell-size-clause-asked g c).After-size)
+    c.args.from c.args.otherwise c.if-cell-size.true)
 
-pub returns-clause-made : goal.returns-clause-made
-returns-clause-made g c =
+pub returns-clause-asked : goal.returns-clause-asked
+returns-clause-asked g c =
     let steps = c.retain.ensures.events in
-    puts_item _ _ _ _ _ _ _ _ _ (has_sized g (goal.at.returns-clause-made g c).After-size) c.args.from c.args.otherwise
-    c.row_in-item.result steps.0 steps.1 c.retain.new.hand.view c.exchange.new.hand.view c.if-cell-size.false
-    c.row_in-item.ensures steps.3 c.exchange.ensures.made
+    asked_as (λ cs.
+    puts_item _ _ _ _ _ _ _ _ _ (has_sized g (goal.at.returns-clause-asked g c).After-size) c.args.from c.args.otherwise
+    {cs = cs} c.row_in-item.result steps.0 steps.1 c.retain.new.hand.view c.exchange.new.hand.view c.if-cell-size.false
+    c.row_in-item.ensures steps.3) c.exchange.ensures.asked

@@ -1,5 +1,8 @@
-use Rattle.std.proofs.Common.{◌≡◌, ℕ, ◌≤◌, List, Option, inl, sym, ap, ◌∙◌, subst}
+use Rattle.std.proofs.Common.{◌≡◌, ℕ, ◌≤◌, List, Option, inl, sym, ap, ◌∙◌, subst, [], ◌∷◌, Some, None, refl}
 use Rattle.std.specs.Prelude.{IfOk}
+use Rattle.std.specs.Result.{result_ok}
+use Rattle.brc_host.specs.HostCalls as asked
+use Rattle.brc_host.specs.HostCalls.{after_call}
 use Rattle.brc_lang.specs.declared.kind.Kind.TheVariants as kinds
 use Rattle.brc_lang.specs.declared.module.Instr.TheVariants as instructions
 use Rattle.brc_model.specs.Actions.{number_word}
@@ -14,7 +17,7 @@ use Rattle.brc_work.specs.Fits.{Fits}
 use Rattle.brc_work.specs.Performs.{Performs, MakesBirth}
 use Rattle.brc_work.proofs.Conditions.{kept, can_fill, not_false}
 use Rattle.brc_work.proofs.Passing.{none_broken}
-use Rattle.brc_work.proofs.Counting.{nothing_counted, quiet_counted, fault_counted, use_ok, use_err}
+use Rattle.brc_work.proofs.Counting.{asked_nothing, asked_once, asked_in_vain}
 use Rattle.brc_work.proofs.Holding.{names_object}
 use Rattle.brc_work.proofs.Lending.{OnFile, on_file, there, lent_back}
 use Rattle.brc_work.proofs.Moving.{cleared}
@@ -97,11 +100,6 @@ returns-in-Ok-clause-done g c = λ first s fits passes.
     (sym (back g at.After-give_back (on g at.After-row_in-row))) fits)
     (can_fill s c.args.to met.free met.unlocked)
 
-pub returns-in-Ok-clause-counted : goal.returns-in-Ok-clause-counted
-returns-in-Ok-clause-counted g c =
-    quiet_counted c.args.totals.now _ _
-    (use_ok _ _ c.read-got.result c.in-Ok.count c.read-got.ensures.counted c.in-Ok.is)
-
 pub returns-in-Err-clause-done : goal.returns-in-Err-clause-done
 returns-in-Err-clause-done g c = λ first s fits passes.
     let at = goal.at.returns-in-Err-clause-done g c in
@@ -113,37 +111,41 @@ returns-in-Err-clause-done g c = λ first s fits passes.
     (cleared first s c.args.rows.now c.give_back.new.hand c.args.to later
     (can_fill s c.args.to met.free met.unlocked) c.name-in-Err.ensures.low)
 
-pub returns-then-not-room-clause-counted : goal.returns-then-not-room-clause-counted
-returns-then-not-room-clause-counted g c = nothing_counted c.args.totals.now _
+pub returns-then-not-room-clause-asked : goal.returns-then-not-room-clause-asked
+returns-then-not-room-clause-asked g c =
+    asked_nothing
+    (reads_nothing c.args.to c.args.file c.args.most c.args.otherwise c.args.rows.now c.name.new.rows
+    c.args.hand.now.view (sym c.room.ensures ∙ c.if-not-room.true) c.name.ensures.named)
 
-pub returns-in-Err-clause-counted : goal.returns-in-Err-clause-counted
-returns-in-Err-clause-counted g c =
-    fault_counted c.args.totals.now c.count_host_fault.new.self _ _
-    (use_err _ _ c.read-got.result _ c.read-got.ensures.counted c.in-Err.is) c.count_host_fault.ensures
-
-pub returns-then-not-room-clause-made : goal.returns-then-not-room-clause-made
-returns-then-not-room-clause-made g c =
-    reads_nothing c.args.to c.args.file c.args.most c.args.otherwise c.args.rows.now c.name.new.rows
-    c.args.hand.now.view (sym c.room.ensures ∙ c.if-not-room.true) c.name.ensures.named
-
-pub returns-in-Ok-clause-made : goal.returns-in-Ok-clause-made
-returns-in-Ok-clause-made g c =
+pub returns-in-Ok-clause-asked : goal.returns-in-Ok-clause-asked
+returns-in-Ok-clause-asked g c =
     let v = c.args.hand.now.view in
     let word = kind_word kinds.Num c.from.result in
-    makes_read c.args.to c.args.file c.args.most c.args.otherwise c.row_in-row.result c.args.rows.now c.bear.new.rows v
+    let got : result_ok c.read-got.result ≡ Some c.in-Ok.count = ap result_ok c.in-Ok.is in
+    let call = asked.Read c.args.most in
+    asked_once (call (Some c.in-Ok.count)) (record { closes = refl; others = refl }) refl
+    (subst (λ o. g.H.Host.answers c.args.host.now (call o) c.read-got.new.self) got c.read-got.ensures.answers)
+    (c.read-got.ensures.counted ∙ ap (λ o. after_call (call o) (g.H.Host.counts c.args.host.now)) got)
+    (makes_read c.args.to c.args.file c.args.most c.args.otherwise c.row_in-row.result c.args.rows.now c.bear.new.rows v
     c.row_in-row.ensures c.requires.may.fits.rests.lent (sym c.room.ensures ∙ c.if-not-room.false) word c.in-Ok.count
     c.bear.new.hand.view
     (subst (λ r. IfOk r (λ got. got ≤ c.args.most)) c.in-Ok.is c.read-got.ensures.at_most)
     (ap number_word c.from.ensures)
     (subst (λ (u : View). MakesBirth c.args.to word c.args.rows.now u c.bear.new.rows c.bear.new.hand.view)
-    (c.give_back.ensures.view ∙ c.lend-resource.ensures.view) c.bear.ensures.made)
+    (c.give_back.ensures.view ∙ c.lend-resource.ensures.view) c.bear.ensures.made))
 
-pub returns-in-Err-clause-made : goal.returns-in-Err-clause-made
-returns-in-Err-clause-made g c =
+pub returns-in-Err-clause-asked : goal.returns-in-Err-clause-asked
+returns-in-Err-clause-asked g c =
     let v = c.args.hand.now.view in
-    subst (Performs (instructions.Read c.args.to c.args.file c.args.most c.args.otherwise) Fault c.args.rows.now v
-    c.name-in-Err.new.rows)
+    let got : result_ok c.read-got.result ≡ None = ap result_ok c.in-Err.is in
+    let call = asked.Read c.args.most in
+    asked_in_vain (call None) (record { closes = refl; others = refl }) refl
+    (subst (λ o. g.H.Host.answers c.args.host.now (call o) c.read-got.new.self) got c.read-got.ensures.answers)
+    (c.read-got.ensures.counted ∙ ap (λ o. after_call (call o) (g.H.Host.counts c.args.host.now)) got)
+    c.count_host_fault.ensures
+    (subst (Performs (call None ∷ []) (instructions.Read c.args.to c.args.file c.args.most c.args.otherwise) Fault
+    c.args.rows.now v c.name-in-Err.new.rows)
     (sym (c.give_back.ensures.view ∙ c.lend-resource.ensures.view))
     (fails_to_read c.args.to c.args.file c.args.most c.args.otherwise c.row_in-row.result c.args.rows.now
     c.name-in-Err.new.rows v c.row_in-row.ensures c.requires.may.fits.rests.lent
-    (sym c.room.ensures ∙ c.if-not-room.false) c.name-in-Err.ensures.named)
+    (sym c.room.ensures ∙ c.if-not-room.false) c.name-in-Err.ensures.named))

@@ -1,8 +1,9 @@
 use Rattle.std.proofs.Common.{[], sym, ap, ◌∙◌, subst}
+use Rattle.brc_free.proofs.Working.{works_close}
 use Rattle.brc_free.specs.Works.{ComesToSettle, AtOnce}
 use Rattle.brc_table.specs.Hands.{TableState, IsOf}
 use Rattle.brc_work.proofs.CallsBelow.{released_rests, released_acts}
-use Rattle.brc_work.proofs.Counting.{closes_counted}
+use Rattle.brc_work.proofs.Counting.{asked_closes}
 use Rattle.brc_work.proofs.Traces.Releasing.{releases}
 use Rattle.brc_work.proofs.worker.Worker.release.Given as given
 use Rattle.brc_work.proofs.worker.Worker.release.Goals.{After-release}
@@ -30,7 +31,7 @@ pub returns-clause-acts : goal.returns-clause-acts
 returns-clause-acts g c =
     let work = c.settle-failed.ensures.work [] (comes g (goal.at.returns-clause-acts g c).After-release) in
     released_acts c.args.hand.now c.release.new.hand c.settle-failed.new.hand c.args.row work.0 c.requires.rests
-    c.release.ensures.released work.2 c.settle-failed.ensures.chain
+    c.release.ensures.released work.1 c.settle-failed.ensures.chain
     (c.settle-failed.ensures.table.0
     ∙ (ap (λ (w : TableState). w.table) (c.new-finaliser.ensures ∙ c.self.view_is) ∙ sym c.requires.of.0))
     (c.settle-failed.ensures.carried ∙ c.release.ensures.carried)
@@ -39,17 +40,13 @@ returns-clause-acts g c =
 pub returns-clause-less : goal.returns-clause-less
 returns-clause-less g c =
     let work = c.settle-failed.ensures.work [] (comes g (goal.at.returns-clause-less g c).After-release) in
-    work.2.keeps.references ∙ c.release.ensures.released.references
+    work.1.keeps.references ∙ c.release.ensures.released.references
 
-pub returns-clause-counted : goal.returns-clause-counted
-returns-clause-counted g c =
-    let work = c.settle-failed.ensures.work [] (comes g (goal.at.returns-clause-counted g c).After-release) in
-    closes_counted c.args.totals.now c.count_close_faults.new.self _ _ work.0 work.1 c.settle-failed.result
-    work.3 work.4 c.count_close_faults.ensures
-
-pub returns-clause-made : goal.returns-clause-made
-returns-clause-made g c =
+pub returns-clause-asked : goal.returns-clause-asked
+returns-clause-asked g c =
     let steps = c.release.ensures.work in
-    let work = c.settle-failed.ensures.work [] (comes g (goal.at.returns-clause-made g c).After-release) in
-    releases c.args.row steps.0 work.0 c.args.hand.now.view c.release.new.hand.view c.settle-failed.new.hand.view
-    c.requires.rests.agenda steps.1 work.2 c.settle-failed.ensures.chain
+    let work = c.settle-failed.ensures.work [] (comes g (goal.at.returns-clause-asked g c).After-release) in
+    asked_closes work.0 c.settle-failed.result (works_close _ _ work.0 work.1.works) work.2 c.count_close_faults.ensures
+    work.3
+    (releases c.args.row steps.0 work.0 c.args.hand.now.view c.release.new.hand.view c.settle-failed.new.hand.view
+    c.requires.rests.agenda steps.1 work.1 c.settle-failed.ensures.chain)

@@ -1,5 +1,6 @@
 use Rattle.std.proofs.Common.{◌≡◌, ℕ, List, Option, None, inl, refl, sym, ap, ◌∙◌, subst}
 use Rattle.std.specs.Prelude.{slice_set}
+use Rattle.brc_work.proofs.Counting.{asked_as}
 use Rattle.brc_lang.specs.declared.module.Instr.TheVariants as instructions
 use Rattle.brc_model.specs.declared.layout.Layout.{Layout}
 use Rattle.brc_model.specs.declared.slot.Slot.TheVariants.{Empty}
@@ -128,13 +129,16 @@ returns-clause-done g c = λ first s fits passes.
     (c.exchange.ensures.less
     ∙ ap (λ (l : Layout). without_reference l row mid.view.references) sized.follows.layout))
 
-pub returns-then-cell-size-clause-made : goal.returns-then-cell-size-clause-made
-returns-then-cell-size-clause-made g c =
-    sets_outside _ _ _ _ _ _ _ _ _ (has_sized g (goal.at.returns-then-cell-size-clause-made g c).After-size)
-    c.args.from c.args.otherwise c.give_up.new.rows c.give_up.new.hand.view c.if-cell-size.true c.give_up.ensures.made
+pub returns-then-cell-size-clause-asked : goal.returns-then-cell-size-clause-asked
+returns-then-cell-size-clause-asked g c =
+    asked_as (λ cs.
+    sets_outside _ _ _ _ _ _ _ _ _ (has_sized g (goal.at.returns-then-cell-size-clause-asked g c).After-size)
+    c.args.from c.args.otherwise {cs = cs} c.give_up.new.rows c.give_up.new.hand.view c.if-cell-size.true)
+    c.give_up.ensures.asked
 
-pub returns-clause-made : goal.returns-clause-made
-returns-clause-made g c =
-    sets_item _ _ _ _ _ _ _ _ _ (has_sized g (goal.at.returns-clause-made g c).After-size) c.args.from c.args.otherwise
-    c.name.new.rows c.row_in-item.result c.exchange.new.hand.view c.if-cell-size.false c.row_in-item.ensures
-    c.exchange.ensures.made c.name.ensures.named
+pub returns-clause-asked : goal.returns-clause-asked
+returns-clause-asked g c =
+    asked_as (λ cs swap.
+    sets_item _ _ _ _ _ _ _ _ _ (has_sized g (goal.at.returns-clause-asked g c).After-size) c.args.from c.args.otherwise
+    {cs = cs} c.name.new.rows c.row_in-item.result c.exchange.new.hand.view c.if-cell-size.false c.row_in-item.ensures
+    swap c.name.ensures.named) c.exchange.ensures.asked

@@ -1,5 +1,6 @@
 use Rattle.std.proofs.Common.{None, refl, sym, ◌∙◌, arith}
 use Rattle.std.proofs.lemmas.Option.{slice_get_within}
+use Rattle.brc_work.proofs.Counting.{asked_as}
 use Rattle.brc_lang.specs.Grammar.{IsInstruction}
 use Rattle.brc_model.specs.declared.slot.Exit.TheVariants.{Success}
 use Rattle.brc_model.proofs.Basics.Lists.{all_of_found}
@@ -32,15 +33,17 @@ returns-then-ends_call-clause-goes g c = λ first s fits reaches.
     (passes_none c.args.code.now c.args.at s c.instruction_at-instr.result.now c.requires.code.accepted reaches
     c.instruction_at-instr.ensures)
 
-pub returns-then-ends_call-clause-made : goal.returns-then-ends_call-clause-made
-returns-then-ends_call-clause-made g c =
+pub returns-then-ends_call-clause-asked : goal.returns-then-ends_call-clause-asked
+returns-then-ends_call-clause-asked g c =
     let code = c.args.code.now in
     let at = c.args.at in
     let i = c.instruction_at-instr.result.now in
     let low = slice_get_within code at i c.instruction_at-instr.ensures in
-    steps_by code at i Success None _ _ _ _ _ _ c.instruction_at-instr.ensures (omega (arith, low, c.requires.code.few))
+    asked_as (λ cs performs.
+    steps_by {cs = cs} code at i Success None _ _ _ _ _ _ c.instruction_at-instr.ensures
+    (omega (arith, low, c.requires.code.few))
     (sym (leads_nowhere i Success at (sym c.ends_call.ensures ∙ c.if-ends_call.true)))
-    (at_point _ _ i _ _ _ _ _ _ refl c.end.ensures.made)
+    (at_point _ _ i _ _ _ _ _ _ refl performs)) c.end.ensures.asked
 
 pub perform-exit-requires-clause-may : goal.perform-exit-requires-clause-may
 perform-exit-requires-clause-may g c = λ κs lives.
@@ -77,11 +80,12 @@ returns-clause-goes g c = λ first s fits reaches.
     (c.perform-exit.ensures.done first s fits
     (passes_none c.args.code.now c.args.at s i c.requires.code.accepted reaches c.instruction_at-instr.ensures))
 
-pub returns-clause-made : goal.returns-clause-made
-returns-clause-made g c =
+pub returns-clause-asked : goal.returns-clause-asked
+returns-clause-asked g c =
     let code = c.args.code.now in
     let at = c.args.at in
     let i = c.instruction_at-instr.result.now in
     let low = slice_get_within code at i c.instruction_at-instr.ensures in
-    steps_by code at i _ _ _ _ _ _ _ _ c.instruction_at-instr.ensures (omega (arith, low, c.requires.code.few))
-    c.target_of.ensures c.perform-exit.ensures.made
+    asked_as (λ cs.
+    steps_by {cs = cs} code at i _ _ _ _ _ _ _ _ c.instruction_at-instr.ensures
+    (omega (arith, low, c.requires.code.few)) c.target_of.ensures) c.perform-exit.ensures.asked

@@ -1,5 +1,10 @@
-use Rattle.std.proofs.Common.{◌≡◌, false, [], ◌∷◌, inl, sym, ap, ◌∙◌, subst}
+use Rattle.std.proofs.Common.{◌≡◌, false, [], ◌∷◌, inl, sym, ap, ◌∙◌, subst, ℕ, ◌++◌, refl, true}
 use Rattle.std.specs.Prelude.{◌||◌, not}
+use Rattle.std.specs.Prelude.{is_err}
+use Rattle.std.specs.Fmt.{decimal}
+use Rattle.brc_word.specs.Words.{argument_part}
+use Rattle.brc_host.specs.HostCalls as calls
+use Rattle.brc_host.specs.HostCalls.{after_call}
 use Rattle.brc_lang.specs.declared.kind.Kind.TheVariants as kinds
 use Rattle.brc_lang.specs.declared.module.Instr.TheVariants as instructions
 use Rattle.brc_model.specs.declared.slot.Exit.TheVariants.{Success, Fault}
@@ -13,13 +18,13 @@ use Rattle.brc_work.specs.Performs.{Performs}
 use Rattle.brc_work.proofs.CallsBelow.{left_acts}
 use Rattle.brc_work.proofs.Conditions.{kept, not_false}
 use Rattle.brc_work.proofs.Passing.{none_broken}
-use Rattle.brc_work.proofs.Counting.{quiet_counted, fault_counted, use_ok, use_err}
+use Rattle.brc_work.proofs.Counting.{asked_once, asked_in_vain}
 use Rattle.brc_work.proofs.Fitting.{same_fits}
 use Rattle.brc_work.proofs.Holding.{names_object, usable}
 use Rattle.brc_work.proofs.Lending.{OnFile, on_file, there, lent_back}
-use Rattle.brc_work.proofs.Traces.HostCalls.{makes_write, fails_to_write}
+use Rattle.brc_work.proofs.Traces.HostCalls.{sends, makes_write, fails_to_write}
 use Rattle.brc_work.proofs.worker.Worker.write.Given as given
-use Rattle.brc_work.proofs.worker.Worker.write.Goals.{Start, After-arg_of-value, After-row_in-row, After-give_back}
+use Rattle.brc_work.proofs.worker.Worker.write.Goals.{Start, After-arg_of-value, After-line_of-text, After-row_in-row, After-give_back}
 use Rattle.brc_work.proofs.worker.Worker.write.Goals as goal
 
 -- The variable of the number is in use.
@@ -92,6 +97,12 @@ give_back-requires-clause-whole g c = λ locked.
     ap (λ (v : View). v.in_slot) c.lend-resource.ensures.view
     ∙ (on g at.After-row_in-row (asked g at.After-arg_of-value)).whole
 
+-- The bytes are the digits of the number that was loaded, and a line feed.
+text : (g : given.Over) (c : After-line_of-text g)
+    → c.line_of-text.result.now ≡ decimal (argument_part c.arg_of-value.ensures.sees.0) ++ 10 ∷ []
+text g c =
+    c.line_of-text.ensures ∙ ap (λ (n : ℕ). decimal n ++ 10 ∷ []) c.arg_of-value.ensures.sees.2
+
 pub give_back-requires-clause-slot : goal.give_back-requires-clause-slot
 give_back-requires-clause-slot g c =
     let at = goal.at.give_back-requires-clause-slot g c in
@@ -116,35 +127,41 @@ returns-in-Err-clause-done g c = λ first s fits passes.
     (same_fits first s c.args.rows.now c.args.hand.now c.arg_of-value.new.hand fits did
     c.arg_of-value.ensures.references)
 
-pub returns-in-Ok-clause-counted : goal.returns-in-Ok-clause-counted
-returns-in-Ok-clause-counted g c =
-    quiet_counted c.args.totals.now _ _ (use_ok _ _ c.write-written.result _ c.write-written.ensures c.in-Ok.is)
-
-pub returns-in-Err-clause-counted : goal.returns-in-Err-clause-counted
-returns-in-Err-clause-counted g c =
-    fault_counted c.args.totals.now c.count_host_fault.new.self _ _
-    (use_err _ _ c.write-written.result _ c.write-written.ensures c.in-Err.is) c.count_host_fault.ensures
-
-pub returns-in-Ok-clause-made : goal.returns-in-Ok-clause-made
-returns-in-Ok-clause-made g c =
+pub returns-in-Ok-clause-asked : goal.returns-in-Ok-clause-asked
+returns-in-Ok-clause-asked g c =
     let v = c.args.hand.now.view in
     let sees = c.arg_of-value.ensures.sees in
     let rests = c.requires.may.fits.rests in
-    subst (Performs (instructions.Write c.args.file c.args.number c.args.otherwise) Success c.args.rows.now v
-    c.args.rows.now)
+    let sent = text g (goal.at.returns-in-Ok-clause-asked g c).After-line_of-text in
+    let call : calls.Write c.line_of-text.result.now (is_err c.write-written.result) ≡ sends sees.0 false =
+    ap (λ bytes. calls.Write bytes (is_err c.write-written.result)) sent
+    ∙ ap (λ r. sends sees.0 (is_err r)) c.in-Ok.is in
+    asked_once (sends sees.0 false) (record { closes = refl; others = refl }) refl
+    (subst (λ k. g.H.Host.answers c.args.host.now k c.write-written.new.self) call c.write-written.ensures.answers)
+    (c.write-written.ensures.counted ∙ ap (λ k. after_call k (g.H.Host.counts c.args.host.now)) call)
+    (subst (Performs (sends sees.0 false ∷ []) (instructions.Write c.args.file c.args.number c.args.otherwise) Success
+    c.args.rows.now v c.args.rows.now)
     (sym (c.give_back.ensures.view ∙ c.lend-resource.ensures.view))
     (makes_write c.args.file c.args.number c.args.otherwise c.row_in-object.result c.row_in-row.result sees.0
     c.args.rows.now v c.arg_of-value.new.hand.view rests.agenda rests.lent c.row_in-object.ensures
-    c.row_in-row.ensures sees.1.view_is)
+    c.row_in-row.ensures sees.1.view_is))
 
-pub returns-in-Err-clause-made : goal.returns-in-Err-clause-made
-returns-in-Err-clause-made g c =
-    let before = c.args.hand.now.view in
-    let saw = c.arg_of-value.ensures.sees in
-    let rested = c.requires.may.fits.rests in
-    subst (Performs (instructions.Write c.args.file c.args.number c.args.otherwise) Fault c.args.rows.now before
-    c.args.rows.now)
+pub returns-in-Err-clause-asked : goal.returns-in-Err-clause-asked
+returns-in-Err-clause-asked g c =
+    let v = c.args.hand.now.view in
+    let sees = c.arg_of-value.ensures.sees in
+    let rests = c.requires.may.fits.rests in
+    let sent = text g (goal.at.returns-in-Err-clause-asked g c).After-line_of-text in
+    let call : calls.Write c.line_of-text.result.now (is_err c.write-written.result) ≡ sends sees.0 true =
+    ap (λ bytes. calls.Write bytes (is_err c.write-written.result)) sent
+    ∙ ap (λ r. sends sees.0 (is_err r)) c.in-Err.is in
+    asked_in_vain (sends sees.0 true) (record { closes = refl; others = refl }) refl
+    (subst (λ k. g.H.Host.answers c.args.host.now k c.write-written.new.self) call c.write-written.ensures.answers)
+    (c.write-written.ensures.counted ∙ ap (λ k. after_call k (g.H.Host.counts c.args.host.now)) call)
+    c.count_host_fault.ensures
+    (subst (Performs (sends sees.0 true ∷ []) (instructions.Write c.args.file c.args.number c.args.otherwise) Fault
+    c.args.rows.now v c.args.rows.now)
     (sym (c.give_back.ensures.view ∙ c.lend-resource.ensures.view))
-    (fails_to_write c.args.file c.args.number c.args.otherwise c.row_in-object.result c.row_in-row.result saw.0
-    c.args.rows.now before c.arg_of-value.new.hand.view rested.agenda rested.lent c.row_in-object.ensures
-    c.row_in-row.ensures saw.1.view_is)
+    (fails_to_write c.args.file c.args.number c.args.otherwise c.row_in-object.result c.row_in-row.result sees.0
+    c.args.rows.now v c.arg_of-value.new.hand.view rests.agenda rests.lent c.row_in-object.ensures
+    c.row_in-row.ensures sees.1.view_is))
