@@ -28,16 +28,19 @@ pub item_begins : (v : View) (x : ℕ) (rest : List Duty) → v.agenda ≡ Relea
 item_begins v x rest next =
     worked_first v (ReleaseLoad x InFlight ∷ rest) (next ∙ sym (release_load_first v.head x InFlight rest))
 
-pub item_immortal : (v u w : View) (cs : List HostCall) (x found : ℕ) (rest : List Duty) → HasWorked v cs (ReleaseLoad x InFlight ∷ rest) u
+pub item_immortal : (v u w : View) (cs : List HostCall) (x found : ℕ) (rest : List Duty)
+    → HasWorked v cs (ReleaseLoad x InFlight ∷ rest) u
     → w ≡ done u found → is_immortal_word found ≡ true → HasWorked v cs rest w
 item_immortal v u w cs x found rest at is immortal =
-    worked_on v u w cs (ReleaseLoad x InFlight) rest rest found at (release_load_first u.head x InFlight rest) refl refl is
+    worked_on v u w cs (ReleaseLoad x InFlight) rest rest found at (release_load_first u.head x InFlight rest) refl
+    refl is
     (plain_quiet refl)
     (ap (λ (b : Bool). (if b then []
     else if counts_locally u.thread (is_running u.status) found then ReleaseStore x found ∷ []
     else SharedLoad x Own ∷ []) ++ rest) immortal)
 
-pub item_local : (v u w : View) (cs : List HostCall) (x found : ℕ) (rest : List Duty) → HasWorked v cs (ReleaseLoad x InFlight ∷ rest) u
+pub item_local : (v u w : View) (cs : List HostCall) (x found : ℕ) (rest : List Duty)
+    → HasWorked v cs (ReleaseLoad x InFlight ∷ rest) u
     → w ≡ done u found → is_immortal_word found ≡ false → counts_locally u.thread (is_running u.status) found ≡ true
     → HasWorked v cs (ReleaseStore x found ∷ rest) w
 item_local v u w cs x found rest at is mortal counts =
@@ -49,7 +52,8 @@ item_local v u w cs x found rest at is mortal counts =
     else SharedLoad x Own ∷ []) ++ rest) mortal
     ∙ ap (λ (b : Bool). (if b then ReleaseStore x found ∷ [] else SharedLoad x Own ∷ []) ++ rest) counts)
 
-pub item_shared : (v u w : View) (cs : List HostCall) (x found : ℕ) (rest : List Duty) → HasWorked v cs (ReleaseLoad x InFlight ∷ rest) u
+pub item_shared : (v u w : View) (cs : List HostCall) (x found : ℕ) (rest : List Duty)
+    → HasWorked v cs (ReleaseLoad x InFlight ∷ rest) u
     → w ≡ done u found → is_immortal_word found ≡ false → counts_locally u.thread (is_running u.status) found ≡ false
     → HasWorked v cs (SharedLoad x Own ∷ rest) w
 item_shared v u w cs x found rest at is mortal counts =
@@ -62,7 +66,8 @@ item_shared v u w cs x found rest at is mortal counts =
     ∙ ap (λ (b : Bool). (if b then ReleaseStore x found ∷ [] else SharedLoad x Own ∷ []) ++ rest) counts)
 
 -- The local word is stored with one less. If the count was 1, it is to be decided what becomes of the object.
-pub stored_last : (v u w : View) (cs : List HostCall) (x word found : ℕ) (rest : List Duty) → HasWorked v cs (ReleaseStore x word ∷ rest) u
+pub stored_last : (v u w : View) (cs : List HostCall) (x word found : ℕ) (rest : List Duty)
+    → HasWorked v cs (ReleaseStore x word ∷ rest) u
     → w ≡ done u found → (local_part word == 1) ≡ true → HasWorked v cs (DecideAtZero x ∷ rest) w
 stored_last v u w cs x word found rest at is last =
     worked_on v u w cs (ReleaseStore x word) rest (DecideAtZero x ∷ rest) found at
@@ -70,7 +75,8 @@ stored_last v u w cs x word found rest at is last =
     (plain_quiet refl)
     (ap (λ (b : Bool). (if b then DecideAtZero x ∷ [] else []) ++ rest) last)
 
-pub stored_more : (v u w : View) (cs : List HostCall) (x word found : ℕ) (rest : List Duty) → HasWorked v cs (ReleaseStore x word ∷ rest) u
+pub stored_more : (v u w : View) (cs : List HostCall) (x word found : ℕ) (rest : List Duty)
+    → HasWorked v cs (ReleaseStore x word ∷ rest) u
     → w ≡ done u found → (local_part word == 1) ≡ false → HasWorked v cs rest w
 stored_more v u w cs x word found rest at is more =
     worked_on v u w cs (ReleaseStore x word) rest rest found at (release_store_first u.head x word rest) refl refl is
@@ -84,14 +90,16 @@ pub decide_begins : (v : View) (x : ℕ) (rest : List Duty) → v.agenda ≡ Dec
     → HasWorked v [] (DecideAtZero x ∷ rest) v
 decide_begins v x rest next = worked_first v (DecideAtZero x ∷ rest) (next ∙ sym (decide_first v.head x rest))
 
-pub decided_dead : (v u w : View) (cs : List HostCall) (x found : ℕ) (rest : List Duty) → HasWorked v cs (DecideAtZero x ∷ rest) u
+pub decided_dead : (v u w : View) (cs : List HostCall) (x found : ℕ) (rest : List Duty)
+    → HasWorked v cs (DecideAtZero x ∷ rest) u
     → w ≡ done u found → (found == fresh_word) ≡ true → HasWorked v cs (Die x ∷ rest) w
 decided_dead v u w cs x found rest at is fresh =
     worked_on v u w cs (DecideAtZero x) rest (Die x ∷ rest) found at (decide_first u.head x rest) refl refl is
     (plain_quiet refl)
     (ap (λ (b : Bool). (if b then Die x ∷ [] else MergeSwap x Own ∷ []) ++ rest) fresh)
 
-pub decided_merge : (v u w : View) (cs : List HostCall) (x found : ℕ) (rest : List Duty) → HasWorked v cs (DecideAtZero x ∷ rest) u
+pub decided_merge : (v u w : View) (cs : List HostCall) (x found : ℕ) (rest : List Duty)
+    → HasWorked v cs (DecideAtZero x ∷ rest) u
     → w ≡ done u found → (found == fresh_word) ≡ false → HasWorked v cs (MergeSwap x Own ∷ rest) w
 decided_merge v u w cs x found rest at is shared =
     worked_on v u w cs (DecideAtZero x) rest (MergeSwap x Own ∷ rest) found at (decide_first u.head x rest) refl refl is
@@ -99,7 +107,8 @@ decided_merge v u w cs x found rest at is shared =
     (ap (λ (b : Bool). (if b then Die x ∷ [] else MergeSwap x Own ∷ []) ++ rest) shared)
 
 -- The object goes to the head of the chain.
-pub chained : (v u w : View) (cs : List HostCall) (x found : ℕ) (rest : List Duty) → HasWorked v cs (Die x ∷ rest) u → w ≡ done u found
+pub chained : (v u w : View) (cs : List HostCall) (x found : ℕ) (rest : List Duty) → HasWorked v cs (Die x ∷ rest) u
+    → w ≡ done u found
     → RowsAreThere u → HasWorked v cs rest w
 chained v u w cs x found rest at is there =
     let apart = finalising_unlocked u (Die x) rest x there (at.agenda ∙ die_first u.head x rest) (eq-eqb x x refl) in
@@ -112,10 +121,12 @@ chained v u w cs x found rest at is there =
 
 -- ---- the shared word
 
-shared_loaded : (v u w : View) (cs : List HostCall) (x word : ℕ) (r : Reason) (rest : List Duty) → HasWorked v cs (SharedLoad x r ∷ rest) u
+shared_loaded : (v u w : View) (cs : List HostCall) (x word : ℕ) (r : Reason) (rest : List Duty)
+    → HasWorked v cs (SharedLoad x r ∷ rest) u
     → w ≡ done u word → HasWorked v cs (SharedExchange x r word ∷ rest) w
 shared_loaded v u w cs x word r rest at is =
-    worked_on v u w cs (SharedLoad x r) rest (SharedExchange x r word ∷ rest) word at (shared_load_first u.head x r rest)
+    worked_on v u w cs (SharedLoad x r) rest (SharedExchange x r word ∷ rest) word at (shared_load_first u.head x r
+    rest)
     refl refl is (plain_quiet refl) refl
 
 -- To give a reference up in the shared word, a hand loads the word first.
@@ -186,7 +197,8 @@ looked_first v u cs x rest at =
     worked_on v u (done u 0) cs (SetMark x) rest (Look x ∷ rest) 0 at (set_mark_first u.head x rest) refl refl refl
     (plain_quiet refl) refl
 
-runs : (v u : View) (cs : List HostCall) (x said : ℕ) (rest : List Duty) → HasWorked v cs (SetMark x ∷ rest) u → (said == 1) ≡ true
+runs : (v u : View) (cs : List HostCall) (x said : ℕ) (rest : List Duty) → HasWorked v cs (SetMark x ∷ rest) u
+    → (said == 1) ≡ true
     → HasWorked v cs rest (done (done u 0) said)
 runs v u cs x said rest at running =
     worked_on v (done u 0) (done (done u 0) said) cs (Look x) rest rest said (looked_first v u cs x rest at)
@@ -194,7 +206,8 @@ runs v u cs x said rest at running =
     (plain_quiet refl)
     (ap (λ (b : Bool). (if b then [] else TakeMark x ∷ []) ++ rest) running)
 
-stopped : (v u : View) (cs : List HostCall) (x said found : ℕ) (rest : List Duty) → HasWorked v cs (SetMark x ∷ rest) u → (said == 1) ≡ false
+stopped : (v u : View) (cs : List HostCall) (x said found : ℕ) (rest : List Duty)
+    → HasWorked v cs (SetMark x ∷ rest) u → (said == 1) ≡ false
     → HasWorked v cs (claimed x found ++ rest) (done (done (done u 0) said) found)
 stopped v u cs x said found rest at not_running =
     let saw : HasWorked v cs (TakeMark x ∷ rest) (done (done u 0) said) =
@@ -202,7 +215,8 @@ stopped v u cs x said found rest at not_running =
     (looked_first v u cs x rest at) (look_first (done u 0).head x rest) refl refl refl
     (plain_quiet refl)
     (ap (λ (b : Bool). (if b then [] else TakeMark x ∷ []) ++ rest) not_running) in
-    worked_on v (done (done u 0) said) (done (done (done u 0) said) found) cs (TakeMark x) rest (claimed x found ++ rest)
+    worked_on v (done (done u 0) said) (done (done (done u 0) said) found) cs (TakeMark x) rest (claimed x found ++
+    rest)
     found saw (take_mark_first (done (done u 0) said).head x rest) refl refl refl
     (plain_quiet refl) refl
 
@@ -235,7 +249,8 @@ posted_by v u cs x said found rest false not_running at =
     (stopped v u cs x said found rest at not_running))
 
 -- The hand has set the mark and looked after it.
-pub mark_posted : (v u w : View) (cs : List HostCall) (x said found : ℕ) (rest : List Duty) → HasWorked v cs (SetMark x ∷ rest) u
+pub mark_posted : (v u w : View) (cs : List HostCall) (x said found : ℕ) (rest : List Duty)
+    → HasWorked v cs (SetMark x ∷ rest) u
     → w ≡ posted u said found → HasWorked v cs (mark_left x (look_answer said found) rest) w
 mark_posted v u w cs x said found rest at is =
     subst (HasWorked v cs (mark_left x (look_answer said found) rest)) (sym is)

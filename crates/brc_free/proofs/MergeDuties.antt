@@ -19,14 +19,16 @@ use Rattle.brc_free.proofs.FirstDuties.{merge_swap_first, merge_load_first, merg
 -- ---- the swap
 
 -- Nobody owned the object, so that it is merged already.
-pub swapped_nobody : (v u w : View) (cs : List HostCall) (x found : ℕ) (r : Reason) (rest : List Duty) → HasWorked v cs (MergeSwap x r ∷ rest) u
+pub swapped_nobody : (v u w : View) (cs : List HostCall) (x found : ℕ) (r : Reason) (rest : List Duty)
+    → HasWorked v cs (MergeSwap x r ∷ rest) u
     → w ≡ done u found → (found == 0) ≡ true → HasWorked v cs (once_merged x r ++ rest) w
 swapped_nobody v u w cs x found r rest at is nobody =
     worked_on v u w cs (MergeSwap x r) rest (once_merged x r ++ rest) found at (merge_swap_first u.head x r rest)
     refl refl is (plain_quiet refl)
     (ap (λ (b : Bool). (if b then once_merged x r else MergeLoad x (local_part found) r ∷ []) ++ rest) nobody)
 
-pub swapped_out : (v u w : View) (cs : List HostCall) (x found : ℕ) (r : Reason) (rest : List Duty) → HasWorked v cs (MergeSwap x r ∷ rest) u
+pub swapped_out : (v u w : View) (cs : List HostCall) (x found : ℕ) (r : Reason) (rest : List Duty)
+    → HasWorked v cs (MergeSwap x r ∷ rest) u
     → w ≡ done u found → (found == 0) ≡ false → HasWorked v cs (MergeLoad x (local_part found) r ∷ rest) w
 swapped_out v u w cs x found r rest at is owned =
     worked_on v u w cs (MergeSwap x r) rest (MergeLoad x (local_part found) r ∷ rest) found at
@@ -41,7 +43,8 @@ merge_begins v x r rest next = worked_first v (MergeSwap x r ∷ rest) (next ∙
 
 -- ---- the shared word
 
-carry_loaded : (v u w : View) (cs : List HostCall) (x c word : ℕ) (r : Reason) (rest : List Duty) → HasWorked v cs (MergeLoad x c r ∷ rest) u
+carry_loaded : (v u w : View) (cs : List HostCall) (x c word : ℕ) (r : Reason) (rest : List Duty)
+    → HasWorked v cs (MergeLoad x c r ∷ rest) u
     → w ≡ done u word → HasWorked v cs (MergeExchange x c word r ∷ rest) w
 carry_loaded v u w cs x c word r rest at is =
     worked_on v u w cs (MergeLoad x c r) rest (MergeExchange x c word r ∷ rest) word at

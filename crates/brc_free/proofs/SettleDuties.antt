@@ -86,7 +86,8 @@ kind_has_resource v u w cs x found rest at is has =
     (ap (λ (b : Bool). (if b then TakeSlot x ∷ [] else cells_from x 0 (cells_of found)) ++ rest) has)
 
 -- and any other object may have cells.
-pub kind_has_cells : (v u w : View) (cs : List HostCall) (x found : ℕ) (rest : List Duty) → HasWorked v cs (SettleKind x ∷ rest) u
+pub kind_has_cells : (v u w : View) (cs : List HostCall) (x found : ℕ) (rest : List Duty)
+    → HasWorked v cs (SettleKind x ∷ rest) u
     → w ≡ done u found → has_resource found ≡ false → HasWorked v cs (cells_from x 0 (cells_of found) ++ rest) w
 kind_has_cells v u w cs x found rest at is none =
     worked_on v u w cs (SettleKind x) rest (cells_from x 0 (cells_of found) ++ rest) found at
@@ -121,7 +122,8 @@ cell_next x i n rest low =
     ap (λ (b : Bool). (if b then SettleCell x i n ∷ [] else SettleEnd x ∷ []) ++ rest) (lt-ltb i n low)
 
 -- A cell is empty now, and what was there is given up next.
-pub cell_emptied : (v u w : View) (cs : List HostCall) (x i m found : ℕ) (rest : List Duty) → HasWorked v cs (SettleCell x i m ∷ rest) u
+pub cell_emptied : (v u w : View) (cs : List HostCall) (x i m found : ℕ) (rest : List Duty)
+    → HasWorked v cs (SettleCell x i m ∷ rest) u
     → w ≡ done u found → v.locked ≢ Some x → HasWorked v cs (release_found found ++ (cells_from x (i + 1) m ++ rest)) w
 cell_emptied v u w cs x i m found rest at is apart =
     worked_on v u w cs (SettleCell x i m) rest (release_found found ++ (cells_from x (i + 1) m ++ rest)) found at

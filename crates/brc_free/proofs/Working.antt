@@ -129,7 +129,8 @@ did_keeps u d rest found quiet =
     }
 
 -- One duty more, the first of those that come next.
-pub worked_on : (v u w : View) (cs : List HostCall) (d : Duty) (rest ds : List Duty) (found : ℕ) → HasWorked v cs (d ∷ rest) u
+pub worked_on : (v u w : View) (cs : List HostCall) (d : Duty) (rest ds : List Duty) (found : ℕ)
+    → HasWorked v cs (d ∷ rest) u
     → ready u.head (d ∷ rest) ≡ d ∷ rest → slot_emptied_by (d ∷ rest) u ≡ u → closes_by (d ∷ rest) false ≡ []
     → w ≡ done u found → IsQuiet u d found
     → continuation u.layout u.thread (is_running u.status) u.head d found ++ rest ≡ ds
@@ -139,8 +140,10 @@ worked_on v u w cs d rest ds found at first unslotted none is quiet next =
     let does : w ≡ did u (d ∷ rest) found = is ∙ ap (λ (es : List Duty). did u es found) has in
     let same : slot_emptied u ≡ u = ap (λ (es : List Duty). slot_emptied_by es u) has ∙ unslotted in
     let no_more : cs ++ closes_by u.agenda false ≡ cs =
-    ap (λ (es : List Duty). cs ++ closes_by es false) has ∙ (ap (λ (fs : List HostCall). cs ++ fs) none ∙ append-nil cs) in
-    let work : Works v (cs ++ closes_by u.agenda false) (done (slot_emptied u) found) = Next cs u found false at.works in
+    ap (λ (es : List Duty). cs ++ closes_by es false) has ∙ (ap (λ (fs : List HostCall). cs ++ fs) none
+    ∙ append-nil cs) in
+    let work : Works v (cs ++ closes_by u.agenda false) (done (slot_emptied u) found) = Next cs u found false at.works
+    in
     record {
       agenda =
           ap (λ (z : View). z.agenda) does
@@ -174,7 +177,8 @@ worked_then v u w cs fs ds es one other = record {
 }
 
 -- The same of a call that leaves what it makes of the duties that it finds, the first of which needs a step.
-pub worked_call : (v u w : View) (cs : List HostCall) (ds : List Duty) (left : List Duty → List Duty) → HasWorked v [] ds u
+pub worked_call : (v u w : View) (cs : List HostCall) (ds : List Duty) (left : List Duty → List Duty)
+    → HasWorked v [] ds u
     → ready u.head ds ≡ ds → HasWorked u cs (left u.agenda) w → HasWorked v cs (left ds) w
 worked_call v u w cs ds left at first other =
     worked_then v u w [] cs ds (left ds) at

@@ -23,8 +23,8 @@ abbrev pub closes_by : List Duty → Bool → List HostCall
 closes_by (TakeSlot x ∷ rest) failed = Close failed ∷ []
 closes_by _ failed = []
 
--- The hand has done duty after duty, and nothing else. Each resource of a dying object was taken out of its slot and closed
--- before the object was closed: these are the calls of the host, in order.
+-- The hand has done duty after duty, and nothing else. Each resource of a dying object was taken out of its slot and
+-- closed before the object was closed: these are the calls of the host, in order.
 pub data Works (v : View) : List HostCall → View → Type 0 where
   Begun : Works v [] v
   Next : (closes : List HostCall) (u : View) (found : ℕ) (failed : Bool) → Works v closes u
@@ -48,8 +48,8 @@ pub record Keeps (v u : View) : Type 0 where
   pub kinds : (x word : ℕ) → has_seen_kind x word v ≡ true → has_seen_kind x word u ≡ true
   pub cells : (x i : ℕ) → v.locked ≡ Some x → cell_seen x i u ≡ cell_seen x i v
 
--- The hand has done duty after duty, with these closes of the host, and these duties are left, but for those that need no
--- step.
+-- The hand has done duty after duty, with these closes of the host, and these duties are left, but for those that need
+-- no step.
 pub record HasWorked (v : View) (closes : List HostCall) (ds : List Duty) (u : View) : Type 0 where
   pub agenda : u.agenda ≡ ready u.head ds
   pub works : Works v closes u

@@ -173,7 +173,8 @@ impl<'h, T: Drop, Q: Marker<T>> Finaliser<'h, T, Q> {
         ensures table { hand.new.table ≡ hand.old.table }
         ensures carried { hand.new.carried ≡ hand.old.carried }
         ensures slots { hand.new.slots ≡ behind_slot hand.old.slots }
-        ensures work { (closes : List HostCall) × HasWorked hand.old.view closes (behind hand.old.view.agenda) hand.new.view
+        ensures work { (closes : List HostCall) × HasWorked hand.old.view closes (behind hand.old.view.agenda)
+            hand.new.view
             × (result ≡ close_faults closes) × HasAnswered H.answers H.counts host.old closes host.new }
     {
         hand.rows_are_there();

@@ -22,7 +22,8 @@ module _ {S : Type 0} {answers : S → HostCall → S → Type 0} {counts : S �
 
 -- ---- faults
 
-pub close_faults_then : (calls more : List HostCall) → close_faults (calls ++ more) ≡ close_faults calls + close_faults more
+pub close_faults_then : (calls more : List HostCall)
+    → close_faults (calls ++ more) ≡ close_faults calls + close_faults more
 close_faults_then [] more = sym (zero-add (close_faults more))
 close_faults_then (Close true ∷ rest) more =
     ap (λ (n : ℕ). 1 + n) (close_faults_then rest more) ∙ sym (add_assoc 1 (close_faults rest) (close_faults more))
@@ -32,7 +33,8 @@ close_faults_then (Connect peer failed ∷ rest) more = close_faults_then rest m
 close_faults_then (Read most got ∷ rest) more = close_faults_then rest more
 close_faults_then (Write bytes failed ∷ rest) more = close_faults_then rest more
 
-one_more : (call : HostCall) (rest more : List HostCall) → host_faults (rest ++ more) ≡ host_faults rest + host_faults more
+one_more : (call : HostCall) (rest more : List HostCall)
+    → host_faults (rest ++ more) ≡ host_faults rest + host_faults more
     → (if has_failed call then 1 else 0) + host_faults (rest ++ more)
     ≡ ((if has_failed call then 1 else 0) + host_faults rest) + host_faults more
 one_more call rest more same =

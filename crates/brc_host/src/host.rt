@@ -23,8 +23,9 @@ pub trait Host {
     // What it has counted so far.
     ghost counts: { Self → HostCounts };
 
-    // Asked for this call, it has answered as the call says, and has gone from the first state to the last. Of a host that
-    // isn't known only its calls promise this: a caller that can say which calls have led there has made just these.
+    // Asked for this call, it has answered as the call says, and has gone from the first state to the last. Of a host
+    // that isn't known only its calls promise this: a caller that can say which calls have led there has made just
+    // these.
     ghost answers: { Self → HostCall → Self → Type 0 };
 
     /// Opens the file with this number, of those that the run was given (POSIX open). It fails if there is none.

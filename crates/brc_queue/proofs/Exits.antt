@@ -55,5 +55,6 @@ finish_first zero = refl
 finish_first (suc head) = refl
 
 -- and then nothing is left.
-pub finished : (v u w : View) (cs : List HostCall) → HasWorked v cs (Finish ∷ []) u → w ≡ done u 2 → w ≡ did u (Finish ∷ []) 2
+pub finished : (v u w : View) (cs : List HostCall) → HasWorked v cs (Finish ∷ []) u → w ≡ done u 2
+    → w ≡ did u (Finish ∷ []) 2
 finished v u w cs at is = is ∙ ap (λ (ds : List Duty). did u ds 2) (at.agenda ∙ finish_first u.head)

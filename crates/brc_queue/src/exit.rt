@@ -93,7 +93,8 @@ impl<'h, T: Drop> Queue<'h, T> {
         ensures slots { hand.new.slots ≡ hand.old.slots }
         ensures settled { hand.new.view.head ≡ 0 }
         ensures work { (closes : List HostCall)
-            × HasWorked hand.old.view closes (scan_left hand.old.view.agenda) hand.new.view × (result ≡ raised (close_faults closes) 0)
+            × HasWorked hand.old.view closes (scan_left hand.old.view.agenda) hand.new.view
+            × (result ≡ raised (close_faults closes) 0)
             × HasAnswered H.answers H.counts host.old closes host.new }
     {
         let words = self.heap.words();

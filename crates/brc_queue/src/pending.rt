@@ -37,7 +37,8 @@ impl<'h, T: Drop> Queue<'h, T> {
         ensures settled { hand.new.view.head ≡ 0 }
         ensures keeps { Keeps hand.old.view hand.new.view }
         ensures work { (closes : List HostCall)
-            × LooksThrough hand.old.view hand.old.view.used closes hand.new.view × (result ≡ raised (close_faults closes) 0)
+            × LooksThrough hand.old.view hand.old.view.used closes hand.new.view
+            × (result ≡ raised (close_faults closes) 0)
             × HasAnswered H.answers H.counts host.old closes host.new }
     {
         let mut failed: u64 = 0;

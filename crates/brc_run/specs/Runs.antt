@@ -1,6 +1,7 @@
 -- A run of a function on real threads.
 use Rattle.std.specs.Prelude.{◌≡◌, ℕ, ◌+◌, ◌<◌, None, List, [], ◌∷◌, length, map, slice_index_or}
-use Rattle.brc_host.specs.HostCounts.{after_closes, raised}
+use Rattle.brc_host.specs.HostCounts.{raised}
+use Rattle.brc_host.specs.HostCalls.{HostCall, after_call, HasAnswered, close_faults}
 use Rattle.brc_host.specs.declared.counts.HostCounts.{HostCounts}
 use Rattle.brc_lang.specs.declared.module.Module.{Module}
 use Rattle.brc_model.specs.Layout.{root_row}
@@ -11,6 +12,7 @@ use Rattle.brc_table.specs.Ending.{EndState}
 use Rattle.brc_table.specs.Hands.{TableState, HandState}
 use Rattle.brc_table.specs.Opening.{plain_layout}
 use Rattle.brc_heap.specs.Ends.{HasEnded}
+use Rattle.brc_queue.specs.Scans.{HasLeft}
 use Rattle.brc_report.specs.declared.tally.Tally.{Tally}
 use Rattle.brc_work.specs.Workers.{HasGone, job}
 use Rattle.brc_work.specs.declared.totals.Totals.{Totals}
@@ -29,40 +31,50 @@ abbrev pub totals_in : List (HandState × Totals) → List Totals
 totals_in gone = map (λ w. w.1) gone
 
 -- The tally of a run with this number of workers, and of rows for each. Each worker makes the call `call.times` times:
--- its thread is gone, and has made the events of the calls and then those of its exit. The tally is of the end of the
--- heap that they share, at which each thread is gone, of what each worker has counted, and of the closes of main that
--- failed.
-pub record IsTallyOf (m : Module) (workers rows : ℕ) (call : Call) (close_faults : ℕ) (tally : Tally) : Type 0 where
+-- its thread is gone, and has made the events of the calls and then those of its exit, and its host was asked for just
+-- what they ask. The tally is of the end of the heap that they share, at which each thread is gone, of what each worker
+-- has counted of its host's answers, and of the closes of main that failed.
+pub record IsTallyOf {S : Type 0} (answers : S → HostCall → S → Type 0) (counts : S → HostCounts) (m : Module)
+    (workers rows : ℕ) (call : Call) (close_faults : ℕ) (tally : Tally) : Type 0 where
   pub heap : TableState
   pub same : heap.layout ≡ plain_layout workers rows
   pub gone : List (HandState × Totals)
   pub end : EndState
   pub one_each : length gone ≡ workers
   pub each : (k : ℕ) (w : HandState × Totals) → k < workers
-      → HasGone (job heap m call.function call.times (k + 1)) (slice_index_or gone k w).0 (slice_index_or gone k w).1
+      → HasGone answers counts (job heap m call.function call.times (k + 1)) (slice_index_or gone k w).0
+      (slice_index_or gone k w).1
   pub of : end.table ≡ heap.table
   pub layout : end.layout ≡ plain_layout workers rows
   pub ended : HasEnded end
   pub counted : tally ≡ tally_at_end end workers (totals_in gone) close_faults
 
--- The same of a main thread whose host isn't seen any more.
+-- The same over hosts of the system, of which nothing is said but that they count, and of a main thread whose host
+-- isn't seen any more.
 abbrev pub IsTallyOfRun : Module → ℕ → ℕ → Call → Tally → Type 0
-IsTallyOfRun m workers rows call tally = (close_faults : ℕ) × IsTallyOf m workers rows call close_faults tally
+IsTallyOfRun m workers rows call tally = (close_faults : ℕ)
+    × IsTallyOf (λ before asked after. after ≡ after_call asked before) (λ (host : HostCounts). host) m workers rows
+    call close_faults tally
 
--- Main has made `closes` closes of its host at the end, of which `failed` failed. The tally has counted them.
-pub record CountsMain (m : Module) (workers rows : ℕ) (call : Call) (before after : HostCounts) (tally : Tally)
-    : Type 0 where
-  pub closes : ℕ
-  pub failed : ℕ
-  pub host : after ≡ after_closes closes failed before
-  pub counted : IsTallyOf m workers rows call (raised failed 0) tally
+-- Main has left with these closes of its host, and no other call. The tally has counted those that failed.
+pub record CountsMain {S : Type 0} (answers : S → HostCall → S → Type 0) (counts : S → HostCounts) (m : Module)
+    (workers rows : ℕ) (call : Call) (before after : S) (tally : Tally) : Type 0 where
+  pub closes : List HostCall
+  pub first : View
+  pub last : View
+  pub leaves : HasLeft closes first last
+  pub host : HasAnswered answers counts before closes after
+  pub counted : IsTallyOf answers counts m workers rows call (raised (close_faults closes) 0) tally
 
--- Main has left, and the heap of a run with this number of workers, and of rows for each, has ended: each thread is gone.
--- Main has made `closes` closes of its host then, of which `failed` failed.
-pub record MainHasLeft (workers rows : ℕ) (before after : HostCounts) : Type 0 where
+-- Main has left, and the heap of a run with this number of workers, and of rows for each, has ended: each thread is
+-- gone. Main has left with these closes of its host, and no other call.
+pub record MainHasLeft {S : Type 0} (answers : S → HostCall → S → Type 0) (counts : S → HostCounts) (workers rows : ℕ)
+    (before after : S) : Type 0 where
   pub end : EndState
   pub layout : end.layout ≡ plain_layout workers rows
   pub ended : HasEnded end
-  pub closes : ℕ
-  pub failed : ℕ
-  pub host : after ≡ after_closes closes failed before
+  pub closes : List HostCall
+  pub first : View
+  pub last : View
+  pub leaves : HasLeft closes first last
+  pub host : HasAnswered answers counts before closes after

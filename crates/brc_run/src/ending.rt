@@ -1,8 +1,11 @@
 //! The end of a run: main leaves, and the heap is ended.
 
-ghost use Rattle.std.specs.Prelude.{◌≡◌, ℕ};
-ghost use Rattle.brc_host.specs.HostCounts.{after_closes, raised};
+ghost use Rattle.std.specs.Prelude.{◌≡◌, List};
+ghost use Rattle.brc_host.specs.HostCounts.{raised};
+ghost use Rattle.brc_host.specs.HostCalls.{HostCall, HasAnswered, close_faults};
+ghost use Rattle.brc_table.specs.declared.view.View.{View};
 ghost use Rattle.brc_table.specs.Hands.{IsOf};
+ghost use Rattle.brc_queue.specs.Scans.{HasLeft};
 ghost use Rattle.brc_heap.specs.Ends.{HasEnded};
 ghost use Rattle.brc_run.specs.Runs.{MayEnd};
 
@@ -24,8 +27,8 @@ pub(crate) fn ended<R: Wait, T: Drop, H: Host<Res = T>>(
     ensures table { result.0.table ≡ heap.table }
     ensures layout { result.0.layout ≡ heap.layout }
     ensures ended { HasEnded result.0 }
-    ensures counted { (closes : ℕ) × (failed : ℕ) × (result.1 ≡ raised failed 0)
-        × (H.counts host.new ≡ after_closes closes failed (H.counts host.old)) }
+    ensures counted { (closes : List HostCall) × (first : View) × (last : View) × HasLeft closes first last
+        × (result.1 ≡ raised (close_faults closes) 0) × HasAnswered H.answers H.counts host.old closes host.new }
 {
     let mut main = main;
     let failed = Queue::new(&heap).leave(rt, &mut main, host);

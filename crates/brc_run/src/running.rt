@@ -23,8 +23,8 @@ use std::thread::Threads;
 ///
 /// # Errors
 ///
-/// `NoThread` if a worker's thread can't be started, or memory for the workers is refused. Main leaves, and the heap ends,
-/// before that is returned. `NoMemory` if memory is refused elsewhere.
+/// `NoThread` if a worker's thread can't be started, or memory for the workers is refused. Main leaves, and the heap
+/// ends, before that is returned. `NoMemory` if memory is refused elsewhere.
 pub fn run<R: Threads + Wait + Sync, T: Send + Drop, H: Host<Res = T> + Send, G: Gate + Sync>(
     rt: &R,
     alloc: Global,
@@ -36,10 +36,10 @@ pub fn run<R: Threads + Wait + Sync, T: Send + Drop, H: Host<Res = T> + Send, G:
 ) -> Result<Tally, RunFault>
     requires function { plan.call.function < length checked.now.module.functions }
     requires one_each { length hosts.old ≡ plan.threads }
-    ensures tally { IfOk result (CountsMain checked.now.module plan.threads plan.rows plan.call (H.counts main_host.old)
-        (H.counts main_host.new)) }
+    ensures tally { IfOk result (CountsMain H.answers H.counts checked.now.module plan.threads plan.rows plan.call
+        main_host.old main_host.new) }
     ensures no_thread { IfErr result (λ fault. fault ≡ RunFault.NoThread
-        → MainHasLeft plan.threads plan.rows (H.counts main_host.old) (H.counts main_host.new)) }
+        → MainHasLeft H.answers H.counts plan.threads plan.rows main_host.old main_host.new) }
 {
     let (heap, mut main) = Heap::new(alloc, plan.threads, plan.rows)?;
     let ran = fan_out(

@@ -84,7 +84,8 @@ fault_counted call before after other fails totals = record {
 }
 
 -- What is counted after something else adds up.
-pub counted_then : (cs ds : List HostCall) (before mid after : Totals) → HasCounted cs before mid → HasCounted ds mid after
+pub counted_then : (cs ds : List HostCall) (before mid after : Totals) → HasCounted cs before mid
+    → HasCounted ds mid after
     → HasCounted (cs ++ ds) before after
 counted_then cs ds before mid after one other = record {
   others = other.others ∙ (ap (raised (host_faults ds)) one.others
@@ -123,12 +124,14 @@ module _ {S : Type 0} {answers : S → HostCall → S → Type 0} {counts : S �
       record { calls = []; answered = NotAsked; counted = nothing_counted totals; made = made }
 
   -- It was asked for closes,
-  pub asked_closes : {host now : S} {before after : Totals} {Made : List HostCall → Type 0} (cs : List HostCall) (failed : ℕ)
+  pub asked_closes : {host now : S} {before after : Totals} {Made : List HostCall
+      → Type 0} (cs : List HostCall) (failed : ℕ)
       → host_faults cs ≡ 0 → failed ≡ raised (close_faults cs) 0
       → after ≡ record before { close_faults = raised failed before.close_faults }
       → HasAnswered answers counts host cs now → Made cs → Asked answers counts host now before after Made
   asked_closes {host} {now} {before} {after} cs failed none is totals answered made =
-      record { calls = cs; answered = answered; counted = closes_counted cs before after failed none is totals; made = made }
+      record { calls = cs; answered = answered; counted = closes_counted cs before after failed none is totals; made =
+          made }
 
   -- or for another call, which has succeeded
   pub asked_once : {host now : S} {totals : Totals} {Made : List HostCall → Type 0} (call : HostCall) → IsOther call
@@ -142,7 +145,8 @@ module _ {S : Type 0} {answers : S → HostCall → S → Type 0} {counts : S �
   }
 
   -- or failed.
-  pub asked_in_vain : {host now : S} {before after : Totals} {Made : List HostCall → Type 0} (call : HostCall) → IsOther call
+  pub asked_in_vain : {host now : S} {before after : Totals} {Made : List HostCall → Type 0} (call : HostCall)
+      → IsOther call
       → has_failed call ≡ true → answers host call now → counts now ≡ after_call call (counts host)
       → after ≡ record before { host_faults = raised 1 before.host_faults } → Made (call ∷ [])
       → Asked answers counts host now before after Made

@@ -53,8 +53,8 @@ Performs calls i exit rows v after_rows u = (code : List Instr) (place : Place) 
     → MakesTrace calls code place v (place_after counters (target i exit at) after_rows) u
 
 -- The same at this point, where the instruction may count how often it has gone back.
-abbrev pub PerformsAt : List HostCall → ℕ → Instr → Exit → List ℕ → List (Option ℕ) → View → List ℕ → List (Option ℕ) → View
-    → Type 0
+abbrev pub PerformsAt : List HostCall → ℕ → Instr → Exit → List ℕ → List (Option ℕ) → View → List ℕ → List (Option ℕ)
+    → View → Type 0
 PerformsAt calls at i exit turns rows v after_turns after_rows u = (code : List Instr) (place : Place) (left : ℕ)
     → IsBefore i code place (record { left = left; turns = turns }) at rows
     → MakesTrace calls code place v
@@ -71,8 +71,8 @@ Waits i rows v u = (code : List Instr) (place : Place) (counters : Counters) (at
     → IsBefore i code place counters at rows → MakesTrace [] code place v place u
 
 -- The hand has made the events of the code's instruction at the point, which leads to the next point or ends the call.
-abbrev pub StepsTo : List HostCall → List Instr → ℕ → List ℕ → List (Option ℕ) → View → Option ℕ → List ℕ → List (Option ℕ)
-    → View → Type 0
+abbrev pub StepsTo : List HostCall → List Instr → ℕ → List ℕ → List (Option ℕ) → View → Option ℕ → List ℕ
+    → List (Option ℕ) → View → Type 0
 StepsTo calls code at turns rows v next after_turns after_rows u = (place : Place) (left : ℕ)
     → ComesTo code place (record { left = left; turns = turns }) at rows
     → MakesTrace calls code place v (place_after (record { left = left; turns = after_turns }) next after_rows) u
@@ -90,7 +90,8 @@ pub record MakesRelease (calls : List HostCall) (row : ℕ) (v u : View) : Type 
       → Traces calls code place (ReleaseLoad row holding ∷ Settle ∷ []) v place [] u
 
 -- Where a thread gives up the variable's reference and settles, the hand has done so.
-pub record GivesUp (calls : List HostCall) (from : ℕ) (rows : List (Option ℕ)) (v : View) (after_rows : List (Option ℕ)) (u : View) : Type 0 where
+pub record GivesUp (calls : List HostCall) (from : ℕ) (rows : List (Option ℕ)) (v : View)
+    (after_rows : List (Option ℕ)) (u : View) : Type 0 where
   pub emptied : after_rows ≡ slice_set rows from None
   pub makes : (code : List Instr) (place next : Place)
       → ((layout : Layout) (t used : ℕ) → dispatch layout t used code place

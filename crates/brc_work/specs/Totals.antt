@@ -5,14 +5,14 @@ use Rattle.brc_host.specs.HostCalls.{HostCall, HasAnswered, host_faults, close_f
 use Rattle.brc_host.specs.declared.counts.HostCounts.{HostCounts}
 use Rattle.brc_work.specs.declared.totals.Totals.{Totals}
 
--- Of these calls of the host, those that failed have been counted: closes apart from all others. Each count stops at the
--- greatest number.
+-- Of these calls of the host, those that failed have been counted: closes apart from all others. Each count stops at
+-- the greatest number.
 pub record HasCounted (calls : List HostCall) (before after : Totals) : Type 0 where
   pub others : after.host_faults ≡ raised (host_faults calls) before.host_faults
   pub closes : after.close_faults ≡ raised (close_faults calls) before.close_faults
 
--- The host was asked for some calls, one after the other, and has become what stands last. Their faults have been counted,
--- and `Made` holds of them.
+-- The host was asked for some calls, one after the other, and has become what stands last. Their faults have been
+-- counted, and `Made` holds of them.
 pub record Asked {S : Type 0} (answers : S → HostCall → S → Type 0) (counts : S → HostCounts) (host now : S)
     (before after : Totals) (Made : List HostCall → Type 0) : Type 0 where
   pub calls : List HostCall

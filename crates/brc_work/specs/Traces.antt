@@ -54,8 +54,8 @@ instruction_at code (InCall counters at variables) = slice_get code at
 instruction_at code (Inside counters at variables stage) = slice_get code at
 instruction_at code Exiting = None
 
--- The instruction asks the host for this call, after these events of the thread. `write` sends the decimal digits of the
--- number whose kind word the thread has loaded last, and a line feed.
+-- The instruction asks the host for this call, after these events of the thread. `write` sends the decimal digits of
+-- the number whose kind word the thread has loaded last, and a line feed.
 pub data Requests (es : List Event) : Instr → HostCall → Type 0 where
   ForFile : (to path : ℕ) (mode : Mode) (otherwise : ℕ) (failed : Bool)
       → Requests es (instructions.Open to path mode otherwise) (Open path mode failed)
@@ -96,8 +96,8 @@ is_close _ = false
 abbrev pub read_birth : Layout → ℕ → Actor → ℕ → ℕ → Duty
 read_birth layout t a to count = BirthKind (row_at layout t a.used) (ByVariable to) (number_word count)
 
--- From place p and actor a, thread t goes by these calls of the host and by these events to a place and an actor: whatever
--- words it finds, and whatever the host answers.
+-- From place p and actor a, thread t goes by these calls of the host and by these events to a place and an actor:
+-- whatever words it finds, and whatever the host answers.
 pub data Makes (layout : Layout) (t : ℕ) (code : List Instr) (p : Place) (a : Actor)
     : List HostCall → List Event → Place → Actor → Type 0 where
   Begun : Makes layout t code p a [] [] p a
@@ -116,7 +116,8 @@ pub data Makes (layout : Layout) (t : ℕ) (code : List Instr) (p : Place) (a : 
       → dispatch layout t b.used code q ≡ Does d rest next → (is_birth d && has_read code q) ≡ false
       → Makes layout t code p a cs (es ++ events_of layout t b d found) (next found) (actor_by layout t b d rest found)
   -- that birth: the step world knows no bytes, and makes the number 0. The host has just said how many were read.
-  Reads : (cs : List HostCall) (es : List Event) (counters : Counters) (at : ℕ) (variables : List (Option ℕ)) (b : Actor)
+  Reads : (cs : List HostCall) (es : List Event) (counters : Counters) (at : ℕ) (variables : List (Option ℕ))
+      (b : Actor)
       (to file most otherwise count found : ℕ)
       → Makes layout t code p a (cs ++ Read most (Some count) ∷ []) es (Inside counters at variables Granted) b
       → b.agenda ≡ [] → slice_get code at ≡ Some (instructions.Read to file most otherwise) → count ≤ most

@@ -46,8 +46,8 @@ pub record CallsAndLeaves (code : List Instr) (times : ℕ) (calls : List HostCa
   pub makes : MakesCalls code v times within called
   pub leaves : HasLeft closes called u
 
--- The worker's hand has done its job: it has made the calls, is gone, and holds nothing. The worker has counted the objects
--- that it has given birth to, and the faults of its host.
+-- The worker's hand has done its job: it has made the calls, is gone, and holds nothing. The worker has counted the
+-- objects that it has given birth to, and the faults of its host.
 pub record HasGone {S : Type 0} (answers : S → HostCall → S → Type 0) (counts : S → HostCounts) (j : Job)
     (hand : HandState) (totals : Totals) : Type 0 where
   pub of : IsOf j.heap hand

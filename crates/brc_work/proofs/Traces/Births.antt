@@ -131,7 +131,8 @@ reads code place counters at rows v to file most otherwise count none found few 
       makes = subst (λ (a : Actor). Makes v.layout v.thread code place (thread_with v [])
           (asked.Read most (Some count) ∷ []) (one.events ++ events) q a)
           (same_thread code q u d e [] [] 0 same)
-          (Reads [] one.events counters at rows (thread_with u []) to file most otherwise count 0 one.makes refl found few);
+          (Reads [] one.events counters at rows (thread_with u []) to file most otherwise count 0 one.makes refl found
+          few);
       layout = one.layout;
       thread = one.thread;
     }
@@ -173,7 +174,8 @@ module _ (to otherwise word : ℕ) (i : Instr) (rows after_rows : List (Option �
       (always (InCall counters (at + 1) (slice_set rows to (Some (next_row v))))))
       (Silent [] (InCall counters otherwise (slice_set rows to None))) in
       subst (λ (rs : List (Option ℕ)). MakesTrace [] code place v (InCall counters (at + 1) rs) u) (sym birth.named)
-      (birth.first code place (InCall counters (at + 1) (slice_set rows to (Some (next_row v)))) (is ∙ ap goes room) new)
+      (birth.first code place (InCall counters (at + 1) (slice_set rows to (Some (next_row v)))) (is
+      ∙ ap goes room) new)
 
 -- An instruction that needs room for an object goes on at `otherwise` without it.
 pub makes_no_object : (to otherwise : ℕ) (rows after_rows : List (Option ℕ)) (v : View)

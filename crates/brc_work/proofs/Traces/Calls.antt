@@ -18,7 +18,8 @@ use Rattle.brc_work.proofs.Traces.Joining.{no_trace, calls_then}
 -- ---- steps
 
 -- The code's instruction at the point leads where its exit says.
-pub steps_by : {cs : List HostCall} (code : List Instr) (at : ℕ) (i : Instr) (exit : Exit) (next : Option ℕ) (turns after_turns : List ℕ)
+pub steps_by : {cs : List HostCall} (code : List Instr) (at : ℕ) (i : Instr) (exit : Exit) (next : Option ℕ) (turns
+    after_turns : List ℕ)
     (rows after_rows : List (Option ℕ)) (v u : View) → slice_get code at ≡ Some i → at < instruction_limit
     → next ≡ target i exit at → PerformsAt cs at i exit turns rows v after_turns after_rows u
     → StepsTo cs code at turns rows v next after_turns after_rows u
@@ -30,7 +31,8 @@ steps_by {cs} code at i exit next turns after_turns rows after_rows v u found lo
 -- ---- a call
 
 -- A call that began at view v has come to the point, with these calls of the host, and with these turns and variables.
-pub record HasCome (cs : List HostCall) (code : List Instr) (v : View) (at : ℕ) (turns : List ℕ) (rows : List (Option ℕ)) (u : View)
+pub record HasCome (cs : List HostCall) (code : List Instr) (v : View) (at : ℕ) (turns : List ℕ) (rows : List (Option
+    ℕ)) (u : View)
     : Type 0 where
   pub place : Place
   pub comes : ComesTo code place (record { left = 0; turns = turns }) at rows
@@ -44,9 +46,11 @@ begins_call code v = record {
   makes = no_trace code (Idle 1) [] v;
 }
 
-module _ (cs ds : List HostCall) (code : List Instr) (v : View) (at : ℕ) (turns : List ℕ) (rows : List (Option ℕ)) (u : View)
+module _ (cs ds : List HostCall) (code : List Instr) (v : View) (at : ℕ) (turns : List ℕ) (rows : List (Option ℕ)) (u :
+    View)
     (next : Option ℕ) (after_turns : List ℕ) (after_rows : List (Option ℕ)) (w : View)
-    (come : HasCome cs code v at turns rows u) (steps : StepsTo ds code at turns rows u next after_turns after_rows w) where
+    (come : HasCome cs code v at turns rows u) (steps : StepsTo ds code at turns rows u next after_turns after_rows w)
+    where
   -- It makes a step,
   goes_by : (o : Option ℕ) → next ≡ o
       → MakesTrace (cs ++ ds) code (Idle 1) v (place_after (record { left = 0; turns = after_turns }) o after_rows) w

@@ -92,7 +92,8 @@ module _ (i : Instr) (to otherwise word : ℕ) (is : AsksFor i to otherwise word
       let refused = InCall counters otherwise (slice_set rows to None) in
       let next = λ (rs : List (Option ℕ)). InCall counters (at + 1) rs in
       let calls = call ∷ [] in
-      subst (λ (o : Option ℕ). MakesTrace calls code place v (place_after counters o after_rows) u) (sym (is.succeeds at))
+      subst (λ (o : Option ℕ). MakesTrace calls code place v (place_after counters o after_rows) u) (sym (is.succeeds
+      at))
       (subst (λ (rs : List (Option ℕ)). MakesTrace calls code place v (next rs) u) (sym birth.named)
       (traces_behind code place granted (next (slice_set rows to (Some (next_row v)))) [] [] [] v v u
       (subst (λ (b : Bool). MakesTrace calls code place v (by_exit granted refused (cond b Fault Success)) v) succeeds
@@ -135,7 +136,8 @@ module _ (code : List Instr) (counters : Counters) (at : ℕ) (rows : List (Opti
       → dispatch v.layout v.thread u.used code p ≡ lend_action counters at rows file
       → dispatch v.layout v.thread u.used code (Inside counters at rows Lent)
       ≡ Calls (λ e. Inside counters at rows (Called e))
-      → dispatch v.layout v.thread u.used code (Inside counters at rows (Called (exit_of call))) ≡ return_action rows file q
+      → dispatch v.layout v.thread u.used code (Inside counters at rows (Called (exit_of call))) ≡ return_action rows
+      file q
       → MakesTrace (call ∷ []) code start v q u
   lends start p q i call one found asks takes calls puts =
       let lent = Inside counters at rows Lent in
@@ -149,7 +151,8 @@ module _ (code : List Instr) (counters : Counters) (at : ℕ) (rows : List (Opti
       let takes_it : Makes v.layout v.thread code start (thread_with v []) [] (one.events ++ []) lent b =
       Starts [] one.events p a (LendSlot row) [] (always lent) 1 one.makes refl (takes ∙ ap (works LendSlot lent) names)
       refl in
-      let asks_it : Makes v.layout v.thread code start (thread_with v []) (call ∷ []) one.events (called (exit_of call)) b =
+      let asks_it : Makes v.layout v.thread code start (thread_with v []) (call ∷ []) one.events (called (exit_of
+      call)) b =
       Asks [] one.events lent b called i call
       (subst (λ (es : List Event). Makes v.layout v.thread code start (thread_with v []) [] es lent b) no_more takes_it)
       (no_duty u.head) calls found asks in
@@ -160,7 +163,8 @@ module _ (code : List Instr) (counters : Counters) (at : ℕ) (rows : List (Opti
       record {
         events = one.events;
         trace = one.trace;
-        makes = subst (λ (c : Actor). Makes v.layout v.thread code start (thread_with v []) (call ∷ []) one.events q c) same
+        makes = subst (λ (c : Actor). Makes v.layout v.thread code start (thread_with v []) (call ∷ []) one.events q c)
+        same
             (subst (λ (es : List Event). Makes v.layout v.thread code start (thread_with v []) (call ∷ []) es q
             (actor_by v.layout v.thread b (ReturnSlot row) [] 0)) no_more puts_it);
         layout = one.layout;
@@ -200,7 +204,8 @@ module _ (to file most otherwise row : ℕ) (rows after_rows : List (Option ℕ)
   -- The number is how many bytes were read,
   pub makes_read : (word count : ℕ) (u : View) → count ≤ most → word ≡ number_word count
       → MakesBirth to word rows v after_rows u
-      → Performs (asked.Read most (Some count) ∷ []) (instructions.Read to file most otherwise) Success rows v after_rows u
+      → Performs (asked.Read most (Some count) ∷ []) (instructions.Read to file most otherwise) Success rows v
+      after_rows u
   makes_read word count u few counts birth = λ code place counters at before.
       birth.read code place counters at file most otherwise count before.found few counts
       (asks_read (Some count) (Inside counters at rows Granted) code place counters at before refl)
@@ -240,7 +245,8 @@ module _ (file number otherwise object row word : ℕ) (rows : List (Option ℕ)
       (sends word failed) one.0 before.found (ForLine file number otherwise [] (kind_event object word) failed one.1)
       (goes_on i code place counters at rows before v.layout v.thread v.used Loaded)
       (goes_on i code place counters at rows before v.layout v.thread v.used Lent)
-      (goes_on i code place counters at rows before v.layout v.thread v.used (Called (exit_of (sends word failed))) ∙ puts))
+      (goes_on i code place counters at rows before v.layout v.thread v.used (Called (exit_of (sends word failed)))
+      ∙ puts))
 
   -- The host has written the number,
   pub makes_write : Performs (sends word false ∷ []) (instructions.Write file number otherwise) Success rows v rows u

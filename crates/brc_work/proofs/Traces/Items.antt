@@ -200,19 +200,22 @@ module _ (list row index cell size word : ℕ) (rows : List (Option ℕ)) (v mid
   module _ (from otherwise : ℕ) where
     -- `set`, of a cell that the list doesn't have: the reference is given up all the same.
     pub sets_outside : {cs : List HostCall} (after_rows : List (Option ℕ)) (u : View) → size ≤ cell
-        → GivesUp cs from rows mid after_rows u → Performs cs (instructions.Set list index from otherwise) Fault rows v after_rows u
+        → GivesUp cs from rows mid after_rows u → Performs cs (instructions.Set list index from otherwise) Fault rows v
+        after_rows u
     sets_outside {cs} after_rows u high gives = λ code place counters at before.
         let i = instructions.Set list index from otherwise in
         let outside = Inside counters at rows OutOfRange in
         let last = InCall counters otherwise (slice_set rows from None) in
-        subst (λ (rs : List (Option ℕ)). MakesTrace cs code place v (InCall counters otherwise rs) u) (sym gives.emptied)
+        subst (λ (rs : List (Option ℕ)). MakesTrace cs code place v (InCall counters otherwise rs) u) (sym
+        gives.emptied)
         (traces_then code place outside last [] [] [] v mid u
         (no_cell i code place counters at before outside high refl)
         (gives.makes code outside last
         (λ layout t used. goes_on i code place counters at rows before layout t used OutOfRange)))
 
     -- At the stage the thread puts the variable's item into the cell.
-    puts_in : {cs : List HostCall} (i : Instr) (stage : Stage) (holding : Holding) (item : ℕ) (code : List Instr) (place last : Place)
+    puts_in : {cs : List HostCall} (i : Instr) (stage : Stage) (holding : Holding) (item : ℕ) (code : List Instr)
+        (place last : Place)
         (counters : Counters) (at : ℕ) → IsBefore i code place counters at rows → row_of rows from ≡ Some item
         → ((layout : Layout) (t used : ℕ) → dispatch_inside layout t used counters at rows stage (Some i)
         ≡ with_row (row_of rows list)
@@ -221,7 +224,8 @@ module _ (list row index cell size word : ℕ) (rows : List (Option ℕ)) (v mid
         → MakesTrace cs code (Inside counters at rows stage) held last u
     puts_in {cs} i stage holding item code place last counters at before is does held u swap =
         let puts = λ (x y : ℕ). Does (CellSwap x index y holding) (Settle ∷ []) (always last) in
-        subst (λ (n : ℕ). MakesSwap cs row n item held u) sized.same swap code (Inside counters at rows stage) last holding
+        subst (λ (n : ℕ). MakesSwap cs row n item held u) sized.same swap code (Inside counters at rows stage) last
+        holding
         (λ layout t used.
         goes_on_with i code place counters at rows before layout t used stage list row
         (λ x. with_row (row_of rows from) (puts x)) (does layout t used) sized.names
@@ -247,7 +251,8 @@ module _ (list row index cell size word : ℕ) (rows : List (Option ℕ)) (v mid
         (InCall counters otherwise rows) high refl
 
     -- and of one that it has. The new reference is in flight until it is in the cell.
-    pub puts_item : {cs : List HostCall} (item local shared : ℕ) (held u : View) → cell < size → row_of rows from ≡ Some item
+    pub puts_item : {cs : List HostCall} (item local shared : ℕ) (held u : View) → cell < size
+        → row_of rows from ≡ Some item
         → held ≡ retained mid item local shared → MakesSwap cs row cell item held u
         → Performs cs (instructions.Put list index from otherwise) Success rows v rows u
     puts_item item local shared held u low is holds swap = λ code place counters at before.

@@ -16,7 +16,8 @@ use Rattle.brc_work.specs.Traces.{Makes, Begun, Silently, Asks, Starts, Reads, C
 -- ---- threads
 
 -- What an instruction asks for after some events, it asks for after more.
-asks_after : (before es : List Event) (i : Instr) (call : HostCall) → Requests es i call → Requests (before ++ es) i call
+asks_after : (before es : List Event) (i : Instr) (call : HostCall) → Requests es i call
+    → Requests (before ++ es) i call
 asks_after before es i call (ForFile to path mode otherwise failed) = ForFile to path mode otherwise failed
 asks_after before es i call (ForPeer to peer otherwise failed) = ForPeer to peer otherwise failed
 asks_after before es i call (ForBytes to file most otherwise got) = ForBytes to file most otherwise got
@@ -34,7 +35,8 @@ module _ (layout : Layout) (t : ℕ) (code : List Instr) (p : Place) (a : Actor)
 
   -- and more calls
   with_calls : (ds : List HostCall) (call : HostCall) (fs : List Event) (r : Place) (c : Actor)
-      → Makes layout t code p a ((cs ++ ds) ++ call ∷ []) fs r c → Makes layout t code p a (cs ++ (ds ++ call ∷ [])) fs r c
+      → Makes layout t code p a ((cs ++ ds) ++ call ∷ []) fs r c
+      → Makes layout t code p a (cs ++ (ds ++ call ∷ [])) fs r c
   with_calls ds call fs r c done =
       subst (λ (ks : List HostCall). Makes layout t code p a ks fs r c) (append_assoc cs ds (call ∷ [])) done
 
@@ -48,13 +50,15 @@ module _ (layout : Layout) (t : ℕ) (code : List Instr) (p : Place) (a : Actor)
       Silently (cs ++ ks) (es ++ gs) s r' d moves (makes_then ks gs s d other) none is
   makes_then ds fs r c (Asks ks gs s d after i call other none is names asks) =
       with_calls ks call (es ++ gs) r c
-      (Asks (cs ++ ks) (es ++ gs) s d after i call (makes_then ks gs s d other) none is names (asks_after es gs i call asks))
+      (Asks (cs ++ ks) (es ++ gs) s d after i call (makes_then ks gs s d other) none is names (asks_after es gs i call
+      asks))
   makes_then ds fs r c (Starts ks gs s d duty rest next found other none is new) =
       with_events (cs ++ ks) gs (events_of layout t d duty found) r c
       (Starts (cs ++ ks) (es ++ gs) s d duty rest next found (makes_then ks gs s d other) none is new)
   makes_then ds fs r c (Reads ks gs counters at variables d to file most otherwise count found other none is few) =
       let got = Read most (Some count) in
-      let before : Makes layout t code p a ((cs ++ ks) ++ got ∷ []) (es ++ gs) (Inside counters at variables Granted) d =
+      let before : Makes layout t code p a ((cs ++ ks) ++ got ∷ []) (es ++ gs) (Inside counters at variables Granted) d
+      =
       subst (λ (hs : List HostCall). Makes layout t code p a hs (es ++ gs) (Inside counters at variables Granted) d)
       (sym (append_assoc cs ks (got ∷ []))) (makes_then (ks ++ got ∷ []) gs _ d other) in
       with_calls ks got (es ++ (gs ++ events_of layout t d (read_birth layout t d to count) found)) r c
@@ -107,7 +111,8 @@ calls_then cs fs code p q r ds es gs v u w one other = record {
   makes = makes_then v.layout v.thread code p (thread_with v ds) cs one.events q (thread_with u es) one.makes fs
       other.events r (thread_with w gs)
       (subst (λ (t : ℕ). Makes v.layout t code q (thread_with u es) fs other.events r (thread_with w gs)) one.thread
-      (subst (λ (l : Layout). Makes l u.thread code q (thread_with u es) fs other.events r (thread_with w gs)) one.layout
+      (subst (λ (l : Layout). Makes l u.thread code q (thread_with u es) fs other.events r (thread_with w gs))
+      one.layout
       other.makes));
   layout = other.layout ∙ one.layout;
   thread = other.thread ∙ one.thread;
@@ -131,6 +136,7 @@ pub with_duties : {cs : List HostCall} (code : List Instr) (p q : Place) (ds es 
 with_duties {cs} code p q ds es fs v u same one = subst (λ (gs : List Duty). Traces cs code p ds v q gs u) same one
 
 -- and the same calls.
-pub with_same_calls : {cs ks : List HostCall} (code : List Instr) (p q : Place) (ds es : List Duty) (v u : View) → cs ≡ ks
+pub with_same_calls : {cs ks : List HostCall} (code : List Instr) (p q : Place) (ds es : List Duty) (v u : View)
+    → cs ≡ ks
     → Traces cs code p ds v q es u → Traces ks code p ds v q es u
 with_same_calls code p q ds es v u same one = subst (λ (hs : List HostCall). Traces hs code p ds v q es u) same one

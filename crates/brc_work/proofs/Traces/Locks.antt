@@ -55,7 +55,8 @@ waits_then object rows v u w one other = λ code place counters at before.
 
 -- and one that locks the object in the end.
 pub waits_first : (object : ℕ) (rows : List (Option ℕ)) (v u w : View) → Waits (instructions.Lock object) rows v u
-    → Performs [] (instructions.Lock object) Success rows u rows w → Performs [] (instructions.Lock object) Success rows v rows w
+    → Performs [] (instructions.Lock object) Success rows u rows w
+    → Performs [] (instructions.Lock object) Success rows v rows w
 waits_first object rows v u w one other = λ code place counters at before.
     traces_then code place place (InCall counters (at + 1) rows) [] [] [] v u w (one code place counters at before)
     (other code place counters at before)

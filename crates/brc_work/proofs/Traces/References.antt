@@ -23,14 +23,16 @@ use Rattle.brc_work.proofs.Traces.Places.{begins, begins_with}
 use Rattle.brc_work.proofs.Traces.Starting.{goes_silently, retains}
 
 -- An instruction that doesn't count how often it has gone back.
-pub at_point : {cs : List HostCall} (at : ℕ) (i j : Instr) (exit : Exit) (turns : List ℕ) (rows after_rows : List (Option ℕ)) (v u : View)
+pub at_point : {cs : List HostCall} (at : ℕ) (i j : Instr) (exit : Exit) (turns : List ℕ) (rows after_rows : List
+    (Option ℕ)) (v u : View)
     → i ≡ j → Performs cs j exit rows v after_rows u → PerformsAt cs at i exit turns rows v turns after_rows u
 at_point {cs} at i j exit turns rows after_rows v u is performs =
     subst (λ (k : Instr). PerformsAt cs at k exit turns rows v turns after_rows u) (sym is) (λ code place left before.
     performs code place (record { left = left; turns = turns }) at before)
 
 pub makes_none : (to : ℕ) (rows after_rows : List (Option ℕ)) (v : View)
-    → after_rows ≡ slice_set rows to (Some none_row) → Performs [] (instructions.NoneObject to) Success rows v after_rows v
+    → after_rows ≡ slice_set rows to (Some none_row) → Performs [] (instructions.NoneObject to) Success rows v
+    after_rows v
 makes_none to rows after_rows v named = λ code place counters at before.
     let moves = gain v.thread (ByVariable to) none_row in
     goes_silently code place v (InCall counters (at + 1) after_rows) moves

@@ -52,7 +52,8 @@ load_same x holding v word =
     record { event = refl; status = refl; head = refl; used = refl; locked = refl; lent = refl }
 
 module _ (code : List Instr) (p : Place) (ds : List Duty) (q : Place) (holding : Holding) (x : ℕ) (v : View)
-    (first : (word : ℕ) → Traces [] code p ds v q (next_duties (releasing v x) (ReleaseLoad x holding) (Settle ∷ []) word)
+    (first : (word : ℕ) → Traces [] code p ds v q (next_duties (releasing v x) (ReleaseLoad x holding) (Settle ∷ [])
+    word)
     (done (releasing v x) word)) where
   -- The hand has loaded the local word,
   loads : (word : ℕ) → WorksOn [] code p ds v q (done (releasing v x) word)
@@ -74,7 +75,8 @@ module _ (code : List Instr) (p : Place) (ds : List Duty) (q : Place) (holding :
             (works_on code p ds v q [] loaded _ (done (slot_emptied loaded) word) (loads word)
             (Next [] loaded word false Unchanged)))
         | inr shares ↦
-            subst (WorksOn [] code p ds v q) (ap (λ (b : Bool). cond b (done loaded word) loaded) (sym shares)) (loads word)
+            subst (WorksOn [] code p ds v q) (ap (λ (b : Bool). cond b (done loaded word) loaded) (sym shares)) (loads
+            word)
       ]
 
   -- All that dies by it is closed.
@@ -111,7 +113,8 @@ releases x word cs v mid after none released settled empty =
     }
 
 -- Where a thread gives up the reference of a variable, it gives up this one.
-pub gives_up : {cs : List HostCall} (from x : ℕ) (rows after_rows : List (Option ℕ)) (v u : View) → row_of rows from ≡ Some x
+pub gives_up : {cs : List HostCall} (from x : ℕ) (rows after_rows : List (Option ℕ)) (v u : View)
+    → row_of rows from ≡ Some x
     → after_rows ≡ slice_set rows from None → MakesRelease cs x v u → GivesUp cs from rows v after_rows u
 gives_up from x rows after_rows v u row emptied releases = record {
   emptied = emptied;

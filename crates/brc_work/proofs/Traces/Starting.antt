@@ -79,7 +79,8 @@ module _ (code : List Instr) (p : Place) (next : ℕ → Place) (v : View) (none
 
   -- which makes one event: the word that it finds,
   pub asks_kind_once : (x word : ℕ) → dispatch v.layout v.thread v.used code p ≡ Does (KindLoad x) [] next
-      → (one : MakesTrace [] code p v (next word) (done (asking v x) word)) × (one.events ≡ [] ++ kind_event x word ∷ [])
+      → (one : MakesTrace [] code p v (next word) (done (asking v x) word)) × (one.events ≡ [] ++ kind_event x word ∷
+      [])
   asks_kind_once x word is =
       let aside : v.aside ≡ open_work v = ap (λ (ds : List Duty). ds ++ v.aside) (sym none) in
       let one : MakesTrace [] code p v (next word) (done (asking v x) word) = record {

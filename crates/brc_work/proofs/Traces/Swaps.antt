@@ -66,7 +66,8 @@ swaps_nothing row cell item found v u none empty nothing is = λ code place next
     (swaps code place next row cell item found holding v none (does v.layout v.thread v.used)))
 
 -- Otherwise the hand gives up the item that came out.
-pub swaps_item : {cs : List HostCall} (row cell item found old : ℕ) (v mid u : View) → v.agenda ≡ [] → row_in found ≡ Some old
+pub swaps_item : {cs : List HostCall} (row cell item found old : ℕ) (v mid u : View) → v.agenda ≡ []
+    → row_in found ≡ Some old
     → mid ≡ swapped v row cell (suc item) found → MakesRelease cs old mid u → MakesSwap cs row cell item v u
 swaps_item row cell item found old v mid u none some is releases = λ code place next holding does.
     let duties = ReleaseLoad old InFlight ∷ Settle ∷ [] in

@@ -39,7 +39,8 @@ module _ (at times : ℕ) (turns : List ℕ) where
       → after_turns ≡ slice_set turns at (slice_index_or turns at 0 + 1)
       → CountsTurn at times Fault turns after_turns
   goes_back after_turns less is = λ to rows v code place left before.
-      subst (λ (ns : List ℕ). MakesTrace [] code place v (InCall (record { left = left; turns = ns }) to rows) v) (sym is)
+      subst (λ (ns : List ℕ). MakesTrace [] code place v (InCall (record { left = left; turns = ns }) to rows) v) (sym
+      is)
       (counted true at to times (record { left = left; turns = turns }) rows v (lt-ltb _ times less) code place before)
 
   -- or it has gone back often enough.

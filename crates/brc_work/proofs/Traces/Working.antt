@@ -179,9 +179,10 @@ nothing_behind false = refl
 
 -- ---- duty after duty
 
--- From view v and place p with duties ds, the hand has come to view u, with these calls of the host. Its thread has the hand's duties there, and
--- perhaps to settle behind them.
-pub record WorksOn (cs : List HostCall) (code : List Instr) (p : Place) (ds : List Duty) (v : View) (q : Place) (u : View)
+-- From view v and place p with duties ds, the hand has come to view u, with these calls of the host. Its thread has the
+-- hand's duties there, and perhaps to settle behind them.
+pub record WorksOn (cs : List HostCall) (code : List Instr) (p : Place) (ds : List Duty) (v : View) (q : Place) (u :
+    View)
     : Type 0 where
   pub later : Bool
   pub traces : Traces cs code p ds v q (behind_of u.head u.agenda (settle_if later)) u
@@ -189,7 +190,8 @@ pub record WorksOn (cs : List HostCall) (code : List Instr) (p : Place) (ds : Li
 
 module _ (code : List Instr) (p : Place) (ds : List Duty) (v : View) (q : Place) where
   -- After one duty more the thread still has the hand's duties.
-  pub goes_on : {cs : List HostCall} (u : View) (d e : Duty) (tail : List Duty) (found : ℕ) (later : Bool) → IsSame u d e found
+  pub goes_on : {cs : List HostCall} (u : View) (d e : Duty) (tail : List Duty) (found : ℕ) (later : Bool)
+      → IsSame u d e found
       → (continuation u.layout u.thread (is_running u.status) u.head e found
       ≡ continuation u.layout u.thread (is_running u.status) u.head d found)
       → is_off_slots e ≡ true → takes_out e ≡ false → are_off_slots tail ≡ true
@@ -213,7 +215,8 @@ module _ (code : List Instr) (p : Place) (ds : List Duty) (v : View) (q : Place)
       }
 
   -- It is the first of its agenda.
-  continues_on : {cs : List HostCall} (u : View) (d : Duty) (tail : List Duty) (found : ℕ) (later : Bool) → is_off_slots d ≡ true
+  continues_on : {cs : List HostCall} (u : View) (d : Duty) (tail : List Duty) (found : ℕ) (later : Bool)
+      → is_off_slots d ≡ true
       → takes_out d ≡ false → are_off_slots tail ≡ true → Traces cs code p ds v q (d ∷ (tail ++ settle_if later)) u
       → WorksOn cs code p ds v q (did u (d ∷ tail) found)
   continues_on u d tail found later off other behind one =
@@ -234,7 +237,8 @@ module _ (code : List Instr) (p : Place) (ds : List Duty) (v : View) (q : Place)
         layout = refl;
         thread = refl;
       } in
-      let closed : Traces (Close failed ∷ []) code q (CloseResource x ∷ rest) u q (ready u.head (SettleEnd x ∷ rest)) u =
+      let closed : Traces (Close failed ∷ []) code q (CloseResource x ∷ rest) u q (ready u.head (SettleEnd x ∷ rest)) u
+      =
       record {
         events = [];
         trace = sym (append-nil u.trace);
@@ -277,7 +281,8 @@ module _ (code : List Instr) (p : Place) (ds : List Duty) (v : View) (q : Place)
   next_by cs u found failed [] is on =
       with_no_call cs (done (slot_emptied u) found)
       (subst (WorksOn cs code p ds v q)
-      (sym (ap (λ (w : View). done w found) (ap (λ (es : List Duty). slot_emptied_by es u) is) ∙ does_nothing u found is))
+      (sym (ap (λ (w : View). done w found) (ap (λ (es : List Duty). slot_emptied_by es u) is)
+      ∙ does_nothing u found is))
       on)
   next_by cs u found failed (TakeSlot x ∷ tail) is on =
       let off : are_off_slots (TakeSlot x ∷ tail) ≡ true = ap are_off_slots (sym is) ∙ on.off in
@@ -321,7 +326,8 @@ module _ (code : List Instr) (p : Place) (ds : List Duty) (v : View) (q : Place)
       ∙ ap (λ (es : List Duty). record u { agenda = es }) (sym is))) on
 
   -- A hand that does duty after duty,
-  pub works_on : (cs : List HostCall) (u : View) (fs : List HostCall) (w : View) → WorksOn cs code p ds v q u → Works u fs w
+  pub works_on : (cs : List HostCall) (u : View) (fs : List HostCall) (w : View) → WorksOn cs code p ds v q u
+      → Works u fs w
       → WorksOn (cs ++ fs) code p ds v q w
   works_on cs u fs w on Unchanged = with_no_call cs u on
   works_on cs u fs w on (Next ks x found failed other) =

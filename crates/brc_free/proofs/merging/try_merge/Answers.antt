@@ -52,7 +52,8 @@ pub returns-then-shared_exchange-word-clause-lost :
 returns-then-shared_exchange-word-clause-lost g c = λ lost.
     subst (λ (ds : List Duty). HasWorked c.args.hand.now.view [] ds c.shared_exchange.new.hand.view)
     (sym c.requires.duty.next)
-    (carry_lost _ _ _ [] c.args.row c.args.carried _ c.shared_exchange.result c.requires.duty.reason c.requires.duty.rest
+    (carry_lost _ _ _ [] c.args.row c.args.carried _ c.shared_exchange.result c.requires.duty.reason
+    c.requires.duty.rest
     (loaded _ _ c.args.row c.args.carried _ c.requires.duty c.shared_load_next-word.ensures.view)
     c.shared_exchange.ensures.view (ne_eqb _ _ c.if-shared_exchange-word.true))
 
@@ -77,6 +78,7 @@ returns-else-is_dead-clause-won g c = λ did_win.
     ∙ (sym c.is_dead.ensures.word ∙ c.if-is_dead.false) in
     subst (λ (ds : List Duty). HasWorked c.args.hand.now.view [] ds c.shared_exchange.new.hand.view)
     (sym (ap merge_left c.requires.duty.next))
-    (carry_kept _ _ _ [] c.args.row c.args.carried _ c.shared_exchange.result c.requires.duty.reason c.requires.duty.rest
+    (carry_kept _ _ _ [] c.args.row c.args.carried _ c.shared_exchange.result c.requires.duty.reason
+    c.requires.duty.rest
     (loaded _ _ c.args.row c.args.carried _ c.requires.duty c.shared_load_next-word.ensures.view)
     c.shared_exchange.ensures.view (eq-eqb _ _ c.if-shared_exchange-word.false) alive)

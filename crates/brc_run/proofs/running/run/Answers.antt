@@ -10,8 +10,10 @@ returns-clause-tally g c =
     let counted = c.ended-end.ensures.counted in
     record {
       closes = counted.0;
-      failed = counted.1;
-      host = counted.3;
+      first = counted.1;
+      last = counted.2;
+      leaves = counted.3;
+      host = counted.5;
       counted = record {
         heap = c.in_ok-heap.heap;
         same = c.in_ok-heap.ensures.layout;
@@ -22,6 +24,6 @@ returns-clause-tally g c =
         of = c.ended-end.ensures.table;
         layout = c.ended-end.ensures.layout ∙ c.in_ok-heap.ensures.layout;
         ended = c.ended-end.ensures.ended;
-        counted = search (rules, c.in_ok-tally_of.ensures, c.in_ok-totals.ensures, counted.2);
+        counted = search (rules, c.in_ok-tally_of.ensures, c.in_ok-totals.ensures, counted.4);
       };
     }

@@ -44,6 +44,7 @@ returns g c =
           leaves = leaves;
         }) run.asked
             (asked_closes {Made = λ ds. HasLeft ds mid after} left.work.0 c.leave-failed.result
-            (leaves_close _ _ left.work.0 left.work.1) left.work.2 c.count_close_faults.ensures left.work.3 left.work.1);
+            (leaves_close _ _ left.work.0 left.work.1) left.work.2 c.count_close_faults.ensures left.work.3
+            left.work.1);
       };
     }

@@ -28,7 +28,8 @@ loop-started-preserved-in-Ok-1 g c =
           let place =
           subst (λ s. job s.promise.heap.value s.promise.checked.value.module s.promise.function s.promise.times
           s.promise.thread ≡ job_of (left + 1)) (sym here) (places left started (omega (arith, whole, step.1))) in
-          pushed (λ i v. HasGone g.H.Host.answers g.H.Host.counts (job_of (i + 1)) v.0 v.1) (vec_items c.loop-started.answer)
+          pushed (λ i v. HasGone g.H.Host.answers g.H.Host.counts (job_of (i + 1)) v.0 v.1) (vec_items
+          c.loop-started.answer)
           (vec_items c.push.new.self) left (c.join-done.result.hand, c.join-done.result.totals)
           added.0 (λ d. added.1 d (search rules))
           (was.3 places whole) (gone_for place (c.join-done.ensures c.if-done.true)) k w (omega (arith, below, grown))),

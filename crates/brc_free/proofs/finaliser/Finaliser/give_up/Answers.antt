@@ -12,7 +12,8 @@ use Rattle.brc_free.proofs.Working.{worked_first, worked_call}
 use Rattle.brc_free.proofs.finaliser.Finaliser.give_up.Goals as goal
 
 -- After a try to give the reference up, what the try says is left comes next.
-tries : (v u w : View) (row : ℕ) (r : Reason) (rest : List Duty) (t : Tried) → HasWorked v [] (SharedLoad row r ∷ rest) u
+tries : (v u w : View) (row : ℕ) (r : Reason) (rest : List Duty) (t : Tried)
+    → HasWorked v [] (SharedLoad row r ∷ rest) u
     → HasWorked u [] (tried_left t u.agenda) w → HasWorked v [] (tried_left t (SharedLoad row r ∷ rest)) w
 tries v u w row r rest t at work =
     worked_call v u w [] (SharedLoad row r ∷ rest) (tried_left t) at (shared_load_first u.head row r rest) work

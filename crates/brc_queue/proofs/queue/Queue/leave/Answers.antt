@@ -140,7 +140,8 @@ returns-clause-work g c =
         gone = c.thread_gone.ensures.view;
       },
       c.saturating_add.ensures
-          ∙ (sums_both c.settle-failed.result c.scan-more.result (close_faults work.0) (close_faults more.0) work.2 more.2
+          ∙ (sums_both c.settle-failed.result c.scan-more.result (close_faults work.0) (close_faults more.0) work.2
+          more.2
           ∙ ap (λ (n : ℕ). raised n 0) (sym (close_faults_then work.0 more.0))),
       answered_then work.3 more.3,
     )

@@ -46,7 +46,8 @@ loop-index-preserved g c =
         before.0 ++ one.work.0,
         Next c.loop-index.index before.0 one.work.0 u w before.1 one.work.1,
         c.saturating_add-failed.ensures
-            ∙ (sums_both c.loop-index.failed c.claim.result (close_faults before.0) (close_faults one.work.0) before.2 one.work.2
+            ∙ (sums_both c.loop-index.failed c.claim.result (close_faults before.0) (close_faults one.work.0) before.2
+            one.work.2
             ∙ ap (λ (n : ℕ). raised n 0) (sym (close_faults_then before.0 one.work.0))),
         answered_then before.3 one.work.3,
       ),

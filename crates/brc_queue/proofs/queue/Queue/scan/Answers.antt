@@ -42,9 +42,11 @@ loop-index-preserved g c =
       (
         before.0 ++ one.work.0,
         scans_on v u w before.0 one.work.0 c.loop-index.index v.used
-            (subst (λ (n : ℕ). c.loop-index.index < n) c.used-index-end.ensures c.loop-index-test.true) before.1 one.work.1,
+            (subst (λ (n : ℕ). c.loop-index.index < n) c.used-index-end.ensures c.loop-index-test.true) before.1
+            one.work.1,
         c.saturating_add-failed.ensures
-            ∙ (sums_both c.loop-index.failed c.scan_row.result (close_faults before.0) (close_faults one.work.0) before.2 one.work.2
+            ∙ (sums_both c.loop-index.failed c.scan_row.result (close_faults before.0) (close_faults one.work.0)
+            before.2 one.work.2
             ∙ ap (λ (n : ℕ). raised n 0) (sym (close_faults_then before.0 one.work.0))),
         answered_then before.3 one.work.3,
       ),

@@ -96,7 +96,8 @@ returns-in-Drop-clause-asked g c =
 
 pub returns-in-Goto-clause-asked : goal.returns-in-Goto-clause-asked
 returns-in-Goto-clause-asked g c =
-    asked_nothing (at_point _ _ _ _ _ _ _ _ _ c.in-Goto.is (makes_goto c.in-Goto.target c.args.rows.now c.args.hand.now.view))
+    asked_nothing (at_point _ _ _ _ _ _ _ _ _ c.in-Goto.is (makes_goto c.in-Goto.target c.args.rows.now
+    c.args.hand.now.view))
 
 pub returns-in-Again-clause-asked : goal.returns-in-Again-clause-asked
 returns-in-Again-clause-asked g c =
