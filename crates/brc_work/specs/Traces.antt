@@ -106,9 +106,9 @@ pub data Makes (layout : Layout) (t : ℕ) (code : List Instr) (p : Place) (a : 
       → Makes layout t code p a cs es q b → b.agenda ≡ [] → dispatch layout t b.used code q ≡ Silent moves r
       → Makes layout t code p a cs es r b
   -- the call of the host that the instruction asks for: the thread goes on as the host answers
-  Asks : (cs : List HostCall) (es : List Event) (q : Place) (b : Actor) (after : Exit → Place) (i : Instr)
-      (call : HostCall) → Makes layout t code p a cs es q b → b.agenda ≡ []
-      → dispatch layout t b.used code q ≡ Calls after → instruction_at code q ≡ Some i → Requests es i call
+  Asks : (cs : List HostCall) (es : List Event) (q : Place) (b : Actor) (row : Option ℕ) (after : Exit → Place)
+      (i : Instr) (call : HostCall) → Makes layout t code p a cs es q b → b.agenda ≡ []
+      → dispatch layout t b.used code q ≡ Calls row after → instruction_at code q ≡ Some i → Requests es i call
       → Makes layout t code p a (cs ++ call ∷ []) es (after (exit_of call)) b
   -- the duty that an instruction begins with, but for the birth of what `read` has read
   Starts : (cs : List HostCall) (es : List Event) (q : Place) (b : Actor) (d : Duty) (rest : List Duty)

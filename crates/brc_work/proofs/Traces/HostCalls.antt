@@ -77,10 +77,11 @@ module _ (i : Instr) (to otherwise word : ℕ) (is : AsksFor i to otherwise word
   asks_host room call asks code place counters at before =
       let after =
       by_exit (Inside counters at rows Granted) (InCall counters otherwise (slice_set rows to None)) in
-      calls_host code place v after i call
+      calls_host code place v None after i call
       (begins i code place counters at rows before v.layout v.thread v.used
       ∙ (is.asks v.layout v.thread v.used place counters at rows
-      ∙ ap (λ (b : Bool). cond b (Calls after) (Silent [] (InCall counters otherwise (slice_set rows to None)))) room))
+      ∙ ap (λ (b : Bool). cond b (Calls None after) (Silent [] (InCall counters otherwise (slice_set rows to None))))
+      room))
       (before.comes.names ∙ before.found) asks
 
   -- The host grants the resource,
@@ -135,7 +136,7 @@ module _ (code : List Instr) (counters : Counters) (at : ℕ) (rows : List (Opti
       → slice_get code at ≡ Some i → Requests one.events i call
       → dispatch v.layout v.thread u.used code p ≡ lend_action counters at rows file
       → dispatch v.layout v.thread u.used code (Inside counters at rows Lent)
-      ≡ Calls (λ e. Inside counters at rows (Called e))
+      ≡ Calls (row_of rows file) (λ e. Inside counters at rows (Called e))
       → dispatch v.layout v.thread u.used code (Inside counters at rows (Called (exit_of call))) ≡ return_action rows
       file q
       → MakesTrace (call ∷ []) code start v q u
@@ -153,7 +154,7 @@ module _ (code : List Instr) (counters : Counters) (at : ℕ) (rows : List (Opti
       refl in
       let asks_it : Makes v.layout v.thread code start (thread_with v []) (call ∷ []) one.events (called (exit_of
       call)) b =
-      Asks [] one.events lent b called i call
+      Asks [] one.events lent b (row_of rows file) called i call
       (subst (λ (es : List Event). Makes v.layout v.thread code start (thread_with v []) [] es lent b) no_more takes_it)
       (no_duty u.head) calls found asks in
       let puts_it : Makes v.layout v.thread code start (thread_with v []) (call ∷ []) (one.events ++ []) q

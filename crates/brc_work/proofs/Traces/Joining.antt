@@ -48,9 +48,9 @@ module _ (layout : Layout) (t : ℕ) (code : List Instr) (p : Place) (a : Actor)
       (subst (λ (hs : List Event). Makes layout t code p a cs hs q b) (sym (append-nil es)) one)
   makes_then ds fs r c (Silently ks gs s r' d moves other none is) =
       Silently (cs ++ ks) (es ++ gs) s r' d moves (makes_then ks gs s d other) none is
-  makes_then ds fs r c (Asks ks gs s d after i call other none is names asks) =
+  makes_then ds fs r c (Asks ks gs s d row after i call other none is names asks) =
       with_calls ks call (es ++ gs) r c
-      (Asks (cs ++ ks) (es ++ gs) s d after i call (makes_then ks gs s d other) none is names (asks_after es gs i call
+      (Asks (cs ++ ks) (es ++ gs) s d row after i call (makes_then ks gs s d other) none is names (asks_after es gs i call
       asks))
   makes_then ds fs r c (Starts ks gs s d duty rest next found other none is new) =
       with_events (cs ++ ks) gs (events_of layout t d duty found) r c

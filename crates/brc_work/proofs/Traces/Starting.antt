@@ -1,6 +1,6 @@
 -- A hand that begins something makes the events of a thread that dispatches it.
 use Rattle.std.proofs.Common.{◌≡◌, ℕ, Bool, true, false, cond, List, [], ◌∷◌, ◌++◌, Some, append-nil, refl, sym, ap, ◌∙◌, subst}
-use Rattle.std.specs.Prelude.{◌&&◌, nat_lt}
+use Rattle.std.specs.Prelude.{◌&&◌, nat_lt, Option}
 use Rattle.brc_word.specs.Words.{is_immortal_word, local_part, most_local}
 use Rattle.brc_host.specs.HostCalls.{HostCall}
 use Rattle.brc_lang.specs.declared.module.Instr.{Instr}
@@ -36,13 +36,14 @@ module _ (code : List Instr) (p : Place) (v : View) where
   }
 
   -- and a call of the host, as its instruction asks for it.
-  pub calls_host : (after : Exit → Place) (i : Instr) (call : HostCall)
-      → dispatch v.layout v.thread v.used code p ≡ Calls after → instruction_at code p ≡ Some i → Requests [] i call
+  pub calls_host : (row : Option ℕ) (after : Exit → Place) (i : Instr) (call : HostCall)
+      → dispatch v.layout v.thread v.used code p ≡ Calls row after → instruction_at code p ≡ Some i
+      → Requests [] i call
       → MakesTrace (call ∷ []) code p v (after (exit_of call)) v
-  calls_host after i call is names asks = record {
+  calls_host row after i call is names asks = record {
     events = [];
     trace = sym (append-nil v.trace);
-    makes = Asks [] [] p (thread_with v []) after i call Begun refl is names asks;
+    makes = Asks [] [] p (thread_with v []) row after i call Begun refl is names asks;
     layout = refl;
     thread = refl;
   }
