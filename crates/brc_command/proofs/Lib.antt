@@ -1,7 +1,9 @@
 mod Accepting
 mod Calling
+mod GivenTexts
 mod LastTally
 mod Leaving
+mod ReadFiles
 mod Machines
 mod Outputs
 mod TakingLines

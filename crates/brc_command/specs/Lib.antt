@@ -3,5 +3,6 @@ pub mod Calls
 pub mod Commands
 pub mod Explanations
 pub mod Lines
+pub mod Loading
 pub mod Texts
 pub mod Traces

@@ -1,6 +1,7 @@
 //! The commands over a loader and writers.
 
-ghost use Rattle.std.specs.Prelude.{◌≡◌, ◌≢◌, ◌≤◌, true, false, IsSome, IsNone, IfSome, IfErr, OnOk, IsErrOf};
+ghost use Rattle.std.specs.Prelude.{◌≡◌, ◌≢◌, ◌≤◌, true, false, IsSome, IsNone, IfSome, IfOk, IfErr, OnOk, IsErrOf};
+ghost use Rattle.std.specs.Prelude.{ℕ, List};
 ghost use Rattle.std.specs.Prelude.{MatchResult, option_map};
 ghost use Rattle.brc_model.specs.Safety.{IsCall};
 ghost use Rattle.brc_command.specs.declared.stop.Stop.TheVariants.{Fault};
@@ -20,6 +21,7 @@ use crate::calls::number_of;
 use crate::explaining::{Explanation, explanation_of};
 use crate::lines::{write_stop, write_version};
 use crate::load::{Load, STANDARD_INPUT};
+use crate::loading::{load_module, load_schedule};
 use crate::step_fault::StepFault;
 use crate::stepping::step_text_on;
 use crate::stop::Stop;
@@ -140,8 +142,10 @@ fn run_file<'a, R: System, L: Load, T: Terminal, W: Write>(
     ensures begun { IsErrOf result (Fault Output) → BeginsReport (HasRunReport (L.may_give load.old) asked.now)
         (W.contents out.old) (W.contents out.new) }
 {
-    let bytes = load.load(alloc, asked.file)?;
-    let checked = checked(alloc, bytes.as_slice())?;
+    let checked = match checked_file(alloc, asked.file, load) {
+        Ok(checked) => checked,
+        Err(stop) => return Err(stop),
+    };
     let Some(call) = call_of(checked.module(), asked) else {
         return Err(Stop::NoFunction(asked.function));
     };
@@ -180,8 +184,10 @@ fn check_file<'a, L: Load, W: Write>(
     ensures begun { IsErrOf result (Fault Output) → BeginsReport (HasCheckReport (L.may_give load.old) file.now)
         (W.contents out.old) (W.contents out.new) }
 {
-    let bytes = load.load(alloc, file)?;
-    let checked = checked(alloc, bytes.as_slice())?;
+    let checked = match checked_file(alloc, file, load) {
+        Ok(checked) => checked,
+        Err(stop) => return Err(stop),
+    };
     match write_accepted(&checked, out) {
         Ok(()) => Ok(()),
         Err(_) => Err(Stop::Fault(StepFault::Output)),
@@ -196,7 +202,7 @@ fn read_standard_input_twice(file: &str, schedule: &str) -> bool
     file == STANDARD_INPUT && schedule == STANDARD_INPUT
 }
 
-// Both files are loaded before either text is read.
+// Both files are loaded before anything is said of either.
 fn step_files<'a, L: Load, T: Terminal, W: Write>(
     alloc: Global,
     file: &'a str,
@@ -216,8 +222,8 @@ fn step_files<'a, L: Load, T: Terminal, W: Write>(
     if read_standard_input_twice(file, schedule) {
         return Err(Stop::UnreadableFile);
     }
-    let module = load.load(alloc, file)?;
-    let schedule = load.load(alloc, schedule)?;
+    let module = load_module(alloc, file, load)?;
+    let schedule = load_schedule(alloc, schedule, load)?;
     match step_text_on(alloc, module.as_slice(), schedule.as_slice(), terminal, out) {
         Ok(()) => Ok(()),
         Err(fault) => Err(Stop::Fault(fault)),
@@ -244,8 +250,8 @@ fn trace_files<'a, L: Load, W: Write>(
     if read_standard_input_twice(file, schedule) {
         return Err(Stop::UnreadableFile);
     }
-    let module = load.load(alloc, file)?;
-    let schedule = load.load(alloc, schedule)?;
+    let module = load_module(alloc, file, load)?;
+    let schedule = load_schedule(alloc, schedule, load)?;
     match trace_text_in(alloc, module.as_slice(), schedule.as_slice(), paint, out) {
         Ok(()) => Ok(()),
         Err(fault) => Err(Stop::Fault(fault)),
@@ -267,16 +273,16 @@ fn explain_file<'a, L: Load, W: Write>(
         (option_map (λ name. name.now) function.entry)) }
     ensures left { IfErr result (λ e. LeavesExplanation e (W.contents out.old) (W.contents out.new)) }
 {
-    let bytes = load.load(alloc, file)?;
+    let bytes = load_module(alloc, file, load)?;
     match explanation_of(alloc, bytes.as_slice(), function, paint) {
         Ok(Explanation { text, fault }) => {
             if write_bytes(text.as_slice(), out).is_err() {
                 return Err(Stop::Fault(StepFault::Output));
             }
-            match fault {
-                None => Ok(()),
-                Some(fault) => Err(Stop::Fault(fault)),
+            if let Some(fault) = fault {
+                return Err(Stop::Fault(fault));
             }
+            Ok(())
         }
         Err(stop) => Err(stop),
     }
@@ -303,6 +309,21 @@ fn explain_topic<'a, W: Write>(
         Ok(()) => Ok(()),
         Err(_) => Err(Stop::Fault(StepFault::Output)),
     }
+}
+
+/// Loads, reads and checks the module of the file.
+fn checked_file<'a, L: Load>(
+    alloc: Global,
+    file: &'a str,
+    load: &mut L,
+) -> Result<Checked, Stop<'a>>
+    ensures accepted { IfOk result (λ c. (text : List ℕ) × L.may_give load.old file.now text
+        × IsAccepted text c.module) }
+    ensures stopped { IfErr result (IsModuleReason (L.may_give load.old) (L.may_lack load.old) file.now) }
+    ensures silent { IfErr result (λ e. e ≢ Fault Output) }
+{
+    let bytes = load_module(alloc, file, load)?;
+    Ok(checked(alloc, bytes.as_slice())?)
 }
 
 /// Reads and checks the module of the text.

@@ -8,6 +8,7 @@ mod carrying;
 mod explaining;
 mod lines;
 mod load;
+mod loading;
 mod step_fault;
 mod stepping;
 mod stop;

@@ -1,7 +1,6 @@
-ghost use Rattle.std.specs.Prelude.{ℕ, List, IfOk, IsErrOf};
+ghost use Rattle.std.specs.Prelude.{◌≡◌, ◌<◌, ℕ, List, length, true, false, Ok, OnOk, IsErrOf};
 ghost use Rattle.brc_command.specs.declared.load.LoadError.TheVariants.{Unreadable};
-
-use std::alloc::Global;
+ghost use Rattle.brc_command.specs.Loading.{Begins, IsReadSoFar};
 
 /// The path that means standard input.
 pub const STANDARD_INPUT: &str = "-";
@@ -17,15 +16,25 @@ pub enum LoadError {
 
 /// A source of the bytes of files.
 pub trait Load {
-    // The bytes that it may return for a path, now or later.
+    // The bytes that a path's file may have, now or later.
     ghost may_give: { Self → List ℕ → List ℕ → Type 0 };
 
     // Whether it may return `Unreadable` for a path, now or later.
     ghost may_lack: { Self → List ℕ → Type 0 };
 
-    /// Returns the bytes of the file, `Unreadable` or `NoMemory`.
-    fn load(&mut self, alloc: Global, path: &str) -> Result<Vec<u8>, LoadError>
-        ensures given { IfOk result (λ bytes. may_give self.old path.now bytes.items) }
+    /// Appends the next piece of the path's file to those that were read of it, and returns whether the file has ended.
+    /// If there are none, it begins the file.
+    ///
+    /// After each piece the text is read again from the top, so a piece had better be as long as all before it.
+    ///
+    /// # Errors
+    ///
+    /// `Unreadable` or `NoMemory`.
+    fn load_more(&mut self, path: &str, bytes: &mut Vec<u8>) -> Result<bool, LoadError>
+        requires { IsReadSoFar (may_give self.old) path.now bytes.old.items }
+        ensures begun { OnOk result (Begins (may_give self.new) path.now bytes.new.items) }
+        ensures ended { result ≡ Ok true → may_give self.old path.now bytes.new.items }
+        ensures longer { result ≡ Ok false → length bytes.old.items < length bytes.new.items }
         ensures lacking { IsErrOf result Unreadable → may_lack self.old path.now }
         ensures gives_no_more { (p bytes : List ℕ) → may_give self.new p bytes → may_give self.old p bytes }
         ensures lacks_no_more { (p : List ℕ) → may_lack self.new p → may_lack self.old p };

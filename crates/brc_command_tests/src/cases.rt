@@ -4,7 +4,6 @@ ghost use Rattle.std.specs.Prelude.{◌<◌, ◌≤◌, ⊤};
 
 use brc_command::{Asked, Load, LoadError, Run, execute};
 use brc_run::System;
-use std::alloc::Global;
 use std::process::Abort;
 
 pub const SMALLEST: &[u8] = b"module 1\nfunc f\nfail\nend\n";
@@ -67,14 +66,14 @@ impl Load for Shelf<'_> {
 
     ghost may_lack = { λ _ _. ⊤ };
 
-    fn load(&mut self, alloc: Global, path: &str) -> Result<Vec<u8>, LoadError> {
-        let bytes = match path {
+    fn load_more(&mut self, path: &str, bytes: &mut Vec<u8>) -> Result<bool, LoadError> {
+        let text = match path {
             "m.brc" | "-" => self.module?,
             "s.txt" => self.schedule?,
             _ => return Err(LoadError::Unreadable),
         };
-        match Vec::from_slice(alloc, bytes) {
-            Ok(bytes) => Ok(bytes),
+        match bytes.extend_from_slice(text) {
+            Ok(()) => Ok(true),
             Err(_) => Err(LoadError::NoMemory),
         }
     }

@@ -24,6 +24,8 @@ mod loops;
 #[cfg(test)]
 mod narrow;
 #[cfg(test)]
+mod pieces;
+#[cfg(test)]
 mod reasons;
 #[cfg(test)]
 mod runs;
