@@ -22,6 +22,7 @@ mod tally;
 mod thread;
 mod world;
 
+pub use brc_model::{Call, Choice};
 pub use brc_report::{Left, Tally};
 pub use brc_schedule::{PlannedCall, Schedule, Steps, read_schedule};
 pub use did::Did;
