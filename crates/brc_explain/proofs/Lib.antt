@@ -1,1 +1,3 @@
+mod Named
+mod StepRows
 mod Walks

@@ -1,10 +1,13 @@
 //! The explanation of a module that is accepted.
 
+ghost use Rattle.brc_lang.specs.Grammar.{IsFunction};
+
 use crate::fault::ExplainFault;
 use crate::forms::{is_asked, write_all_forms};
-use crate::listing::{Marked, write_listing};
+use crate::listing::{Remarks, write_listing};
+use crate::rows::listing_of;
 use crate::state_text::write_legend;
-use brc_check::{Checked, first_states};
+use brc_check::Checked;
 use brc_lang::{Function, write_bytes};
 use brc_pages::{write_heading, write_in};
 use brc_report::{Paint, Role};
@@ -50,15 +53,13 @@ fn list_accepted<W: Write>(
     function: &Function,
     paint: Paint,
     out: &mut W,
-) -> Result<(), ExplainFault> {
-    if function.code.len() == 0 {
-        return Ok(());
-    }
-    let entries = first_states(alloc, function.code.as_slice())?;
-    let marked = Marked {
-        at: None,
+) -> Result<(), ExplainFault>
+    requires { IsFunction function.now }
+{
+    let rows = listing_of(alloc, function, None)?;
+    let remarks = Remarks {
         code: "",
         unknown: "unreachable",
     };
-    write_listing(alloc, function, entries.as_slice(), marked, paint, out)
+    write_listing(alloc, function, rows.as_slice(), remarks, paint, out)
 }

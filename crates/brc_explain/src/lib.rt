@@ -11,6 +11,7 @@ mod listing;
 mod operand_roles;
 mod path_text;
 mod refused;
+mod rows;
 mod state_text;
 mod unreadable;
 mod visible;

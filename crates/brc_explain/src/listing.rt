@@ -1,21 +1,21 @@
 //! A function as a listing: each instruction with its number, and the state before it.
 
 use crate::fault::ExplainFault;
+use crate::rows::Row;
 use crate::state_text::write_state;
-use brc_check::State;
 use brc_lang::{Function, Instr, write_bytes, write_instruction, write_number, write_pieces};
-use brc_pages::{write_gap, write_heading, write_in};
+use brc_pages::{write_gap, write_in};
 use brc_report::{Paint, Role};
 use std::alloc::Global;
 use std::io;
 use std::io::Write;
 
-/// A listing's marks: the point at fault, if there is one, and its code.
+/// What a listing shows beside its rows.
 #[derive(Clone, Copy, Debug)]
-pub struct Marked {
-    pub at: Option<usize>,
+pub struct Remarks {
+    /// What stands behind the row at fault.
     pub code: &'static str,
-    /// What stands for the state of a point without one.
+    /// What stands for the state of a row without one.
     pub unknown: &'static str,
 }
 
@@ -69,12 +69,12 @@ fn write_label<W: Write>(at: usize, paint: Paint, out: &mut W) -> io::Result<()>
     write_pieces(&[paint.off().as_bytes(), b"  "], out)
 }
 
-/// Writes the function's instructions, each with its entry, the state before it.
+/// Writes the rows of the function's listing, each with its instruction.
 pub fn write_listing<W: Write>(
     alloc: Global,
     function: &Function,
-    entries: &[Option<State>],
-    marked: Marked,
+    rows: &[Row],
+    remarks: Remarks,
     paint: Paint,
     out: &mut W,
 ) -> Result<(), ExplainFault> {
@@ -88,36 +88,29 @@ pub fn write_listing<W: Write>(
         out,
     )?;
     write_bytes(b"\n", out)?;
-    for (at, instr) in code.iter().enumerate() {
-        write_numbered(alloc, at, *instr, width, paint, out)?;
-        write_entry(entries, at, marked, paint, out)?;
+    for row in rows {
+        if row.at < code.len() {
+            write_numbered(alloc, row.at, code[row.at], width, paint, out)?;
+            write_before(row, remarks, paint, out)?;
+        }
     }
     Ok(())
 }
 
-/// Writes the state before the instruction at a point, and the mark of the point at fault.
-fn write_entry<W: Write>(
-    entries: &[Option<State>],
-    at: usize,
-    marked: Marked,
+/// Writes the state before the instruction of a row, and the mark of the row at fault.
+fn write_before<W: Write>(
+    row: &Row,
+    remarks: Remarks,
     paint: Paint,
     out: &mut W,
 ) -> io::Result<()> {
-    match entry_at(entries, at) {
-        Some(state) => write_state(&state, paint, out)?,
-        None => write_in(Role::Aside, &[marked.unknown.as_bytes()], paint, out)?,
+    match &row.before {
+        Some(state) => write_state(state, paint, out)?,
+        None => write_in(Role::Aside, &[remarks.unknown.as_bytes()], paint, out)?,
     }
-    if marked.at == Some(at) {
+    if row.is_marked {
         write_bytes(b"   ", out)?;
-        write_in(Role::Code, &[b"<- ", marked.code.as_bytes()], paint, out)?;
+        write_in(Role::Code, &[b"<- ", remarks.code.as_bytes()], paint, out)?;
     }
     write_bytes(b"\n", out)
-}
-
-fn entry_at(entries: &[Option<State>], at: usize) -> Option<State> {
-    if at < entries.len() {
-        entries[at]
-    } else {
-        None
-    }
 }

@@ -1,24 +1,26 @@
 //! The explanation of a module that is refused.
 
-ghost use Rattle.std.specs.Prelude.{IsErrOf};
+ghost use Rattle.std.specs.Prelude.{◌≡◌, ◌↔◌, Contains, IfOk, IfSome, IsErrOf, IsTrue, MatchOption};
 ghost use Rattle.brc_lang.specs.Grammar.{IsModule};
 ghost use Rattle.brc_check.specs.Refusal.{IsRefusal, IsRefusedFor, IsForMemory};
 ghost use Rattle.brc_explain.specs.declared.fault.ExplainFault.TheVariants.{NoMemory};
+ghost use Rattle.brc_explain.specs.Rows.{IsNamed, NoneNamed, ShowsRefusal};
 
 use crate::fault::ExplainFault;
 use crate::forms::write_forms;
-use crate::listing::{Marked, width_of, write_listing};
+use crate::listing::{Remarks, width_of, write_listing};
 use crate::path_text::{Walk, write_path};
+use crate::rows::{Row, StepRow, StepRows, listing_of, rows_of};
 use crate::state_text::write_legend;
 use crate::walking::reached;
 use crate::why::{write_differences, write_why};
-use brc_check::{CheckCode, Exit, Path, Refused, first_states, path_to};
-use brc_lang::{Function, Module, Name, write_bytes, write_number, write_pieces};
+use brc_check::{CheckCode, Exit, Path, Refused, path_to};
+use brc_lang::{Function, Instr, Module, Name, Sequence, write_bytes, write_number, write_pieces};
 use brc_pages::{
     Page, Topic, page_of, write_heading, write_in, write_paragraph, write_section, write_title,
 };
 use brc_report::{Paint, Role};
-use std::alloc::Global;
+use std::alloc::{AllocError, Global};
 use std::io;
 use std::io::Write;
 
@@ -46,6 +48,39 @@ pub fn explain_refused<W: Write>(
     explain_reported(alloc, module, refused, only, paint, out)
 }
 
+/// What is shown of a refusal before it is words: the function at fault, its listing, and the paths to the fault.
+#[derive(Drop)]
+struct Shown<'a> {
+    function: &'a Function,
+    listing: Sequence<Row>,
+    path: Path,
+    steps: StepRows,
+}
+
+/// Returns what is shown of the refusal.
+fn shown_of<'a>(
+    alloc: Global,
+    module: &'a Module,
+    refused: &Refused,
+) -> Result<Shown<'a>, AllocError>
+    requires fits { IsModule «module».now }
+    requires refusal { IsRefusedFor «module».now.functions refused.now }
+    ensures { IfOk result (λ s. ShowsRefusal «module».now.functions refused.now s.function.now s.listing s.path s.steps) }
+{
+    let path = path_to(alloc, module, refused)?;
+    let Some(function) = function_named(module.functions.as_slice(), &refused.function) else {
+        unreachable!()
+    };
+    let listing = listing_of(alloc, function, Some(refused.at))?;
+    let steps = rows_of(alloc, function.code.as_slice(), &path)?;
+    Ok(Shown {
+        function,
+        listing,
+        path,
+        steps,
+    })
+}
+
 /// Writes why `check` refuses the module, if it isn't for want of memory.
 fn explain_reported<W: Write>(
     alloc: Global,
@@ -58,19 +93,18 @@ fn explain_reported<W: Write>(
     requires fits { IsModule «module».now }
     requires refusal { IsRefusedFor «module».now.functions refused.now }
 {
-    let path = path_to(alloc, module, refused)?;
+    let shown = shown_of(alloc, module, refused)?;
     let page = page_of(Topic::Check(refused.code));
     write_head(&page, refused, paint, out)?;
-    let functions = module.functions.as_slice();
-    if let Some(asked) = asked_for(functions, only, &refused.function) {
-        list_function(alloc, asked, None, &page, paint, out)?;
+    if let Some(asked) = asked_for(module.functions.as_slice(), only, &refused.function) {
+        let listing = listing_of(alloc, asked, None)?;
+        list_function(alloc, asked, listing.as_slice(), &page, paint, out)?;
     }
-    if let Some(function) = function_named(functions, &refused.function) {
-        list_function(alloc, function, Some(refused.at), &page, paint, out)?;
-        write_paths(alloc, function, refused, &path, paint, out)?;
-        write_heading("The instructions, and what they are in C", paint, out)?;
-        write_forms(function.code.as_slice(), out)?;
-    }
+    let function = shown.function;
+    list_function(alloc, function, shown.listing.as_slice(), &page, paint, out)?;
+    write_paths(alloc, refused, &shown, paint, out)?;
+    write_heading("The instructions, and what they are in C", paint, out)?;
+    write_forms(function.code.as_slice(), out)?;
     write_meaning(&page, paint, out)?;
     Ok(())
 }
@@ -95,13 +129,23 @@ fn write_head<W: Write>(
 }
 
 /// Returns the function of this name.
-fn function_named<'a>(functions: &'a [Function], name: &Name) -> Option<&'a Function> {
+fn function_named<'a>(functions: &'a [Function], name: &Name) -> Option<&'a Function>
+    ensures { MatchOption result (NoneNamed functions.entry.now name.now)
+        (λ f. IsNamed functions.entry.now name.now f.now) }
+{
     for function in functions {
-        if function.name.as_bytes() == name.as_bytes() {
+        if is_named(function, name) {
             return Some(function);
         }
     }
     None
+}
+
+/// Returns whether the function has the name.
+fn is_named(function: &Function, name: &Name) -> bool
+    ensures { IsTrue result ↔ (function.now.name ≡ name.now) }
+{
+    function.name.as_bytes() == name.as_bytes()
 }
 
 /// Returns the function of this number, unless it is the one of the name.
@@ -109,38 +153,35 @@ fn asked_for<'a>(
     functions: &'a [Function],
     only: Option<usize>,
     name: &Name,
-) -> Option<&'a Function> {
+) -> Option<&'a Function>
+    ensures { IfSome result (λ f. Contains functions.entry.now f.now) }
+{
     let number = only?;
     if number >= functions.len() {
         return None;
     }
     let function = &functions[number];
-    if function.name.as_bytes() == name.as_bytes() {
+    if is_named(function, name) {
         return None;
     }
     Some(function)
 }
 
-/// Writes the listing of a function, with a mark at the point at fault if it has it.
+/// Writes the listing of a function, and what stands in it for a state that isn't known.
 fn list_function<W: Write>(
     alloc: Global,
     function: &Function,
-    at: Option<usize>,
+    rows: &[Row],
     page: &Page,
     paint: Paint,
     out: &mut W,
 ) -> Result<(), ExplainFault> {
-    if function.code.len() == 0 {
-        return Ok(());
-    }
-    let entries = first_states(alloc, function.code.as_slice())?;
-    let marked = Marked {
-        at,
+    let remarks = Remarks {
         code: page.code,
         unknown: "-",
     };
-    write_listing(alloc, function, entries.as_slice(), marked, paint, out)?;
-    if entries.as_slice().iter().any(|entry| entry.is_none()) {
+    write_listing(alloc, function, rows, remarks, paint, out)?;
+    if rows.iter().any(|row| row.before.is_none()) {
         write_bytes(
             b"  (-: no path leads there, or none was followed up to there before the fault)\n",
             out,
@@ -152,31 +193,36 @@ fn list_function<W: Write>(
 /// Writes the path that leads to the refusal, or the two paths, and what is wrong there.
 fn write_paths<W: Write>(
     alloc: Global,
-    function: &Function,
     refused: &Refused,
-    path: &Path,
+    shown: &Shown<'_>,
     paint: Paint,
     out: &mut W,
 ) -> Result<(), ExplainFault> {
-    let code = function.code.as_slice();
+    let code = shown.function.code.as_slice();
     let walk = Walk {
         alloc,
         code,
         width: width_of(alloc, code)?,
         paint,
     };
-    match path {
-        Path::Reports(exits) => write_one_path(walk, exits.as_slice(), refused, out),
-        Path::Differ(one, other) => {
-            write_two_paths(walk, one.as_slice(), other.as_slice(), refused, out)
+    match &shown.steps {
+        StepRows::One(rows) => write_one_path(walk, rows.as_slice(), out)?,
+        StepRows::Two(rows, more) => {
+            write_two_paths(walk, rows.as_slice(), more.as_slice(), out)?;
         }
     }
+    match &shown.path {
+        Path::Reports(exits) => write_reported(code, exits.as_slice(), refused, out)?,
+        Path::Differ(exits, others) => {
+            write_differing(code, exits.as_slice(), others.as_slice(), refused, out)?;
+        }
+    }
+    Ok(())
 }
 
 fn write_one_path<W: Write>(
     walk: Walk<'_>,
-    exits: &[Exit],
-    refused: &Refused,
+    rows: &[StepRow],
     out: &mut W,
 ) -> Result<(), ExplainFault> {
     write_heading("A path to the fault", walk.paint, out)?;
@@ -184,20 +230,15 @@ fn write_one_path<W: Write>(
         b"  On each line: the exit taken, and what the variables hold after it.\n",
         out,
     )?;
-    write_path(walk, exits, out)?;
+    write_path(walk, rows, out)?;
     write_bytes(b"\n", out)?;
-    let before = &exits[..exits.len().saturating_sub(1)];
-    if let Some((at, state)) = reached(walk.code, before) {
-        write_why(walk.code, before, at, &state, refused.code, out)?;
-    }
     Ok(())
 }
 
 fn write_two_paths<W: Write>(
     walk: Walk<'_>,
-    one: &[Exit],
-    other: &[Exit],
-    refused: &Refused,
+    rows: &[StepRow],
+    more: &[StepRow],
     out: &mut W,
 ) -> Result<(), ExplainFault> {
     write_heading("Two paths to the same instruction", walk.paint, out)?;
@@ -206,34 +247,55 @@ fn write_two_paths<W: Write>(
         out,
     )?;
     write_bytes(b"  The first path:\n", out)?;
-    write_from_start(walk, one, out)?;
+    write_from_start(walk, rows, out)?;
     write_bytes(b"  The second path:\n", out)?;
-    write_from_start(walk, other, out)?;
-    write_bytes(b"\n  At @", out)?;
-    write_number(refused.at as u64, out)?;
-    write_bytes(b" they differ:\n", out)?;
-    if let (Some((_, first)), Some((_, second))) = (
-        reached(walk.code, one),
-        reached(walk.code, other),
-    ) {
-        write_differences(&first, &second, out)?;
-    }
-    Ok(())
+    write_from_start(walk, more, out)
 }
 
 /// Writes the path, or that it is the start of the call.
 fn write_from_start<W: Write>(
     walk: Walk<'_>,
-    exits: &[Exit],
+    rows: &[StepRow],
     out: &mut W,
 ) -> Result<(), ExplainFault> {
-    if exits.is_empty() {
+    if rows.is_empty() {
         write_bytes(
             b"    at the start of the call, before any instruction\n",
             out,
         )?;
     }
-    write_path(walk, exits, out)
+    write_path(walk, rows, out)
+}
+
+/// Writes what is wrong at the end of the path that reports the code.
+fn write_reported<W: Write>(
+    code: &[Instr],
+    exits: &[Exit],
+    refused: &Refused,
+    out: &mut W,
+) -> io::Result<()> {
+    let before = &exits[..exits.len().saturating_sub(1)];
+    match reached(code, before) {
+        Some((at, state)) => write_why(code, before, at, &state, refused.code, out),
+        None => Ok(()),
+    }
+}
+
+/// Writes in which variables the two paths differ at the point.
+fn write_differing<W: Write>(
+    code: &[Instr],
+    exits: &[Exit],
+    others: &[Exit],
+    refused: &Refused,
+    out: &mut W,
+) -> io::Result<()> {
+    write_bytes(b"\n  At @", out)?;
+    write_number(refused.at as u64, out)?;
+    write_bytes(b" they differ:\n", out)?;
+    match (reached(code, exits), reached(code, others)) {
+        (Some((_, first)), Some((_, second))) => write_differences(&first, &second, out),
+        _ => Ok(()),
+    }
 }
 
 fn write_meaning<W: Write>(page: &Page, paint: Paint, out: &mut W) -> io::Result<()> {

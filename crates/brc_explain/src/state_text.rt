@@ -1,5 +1,8 @@
 //! The state of the variables in a few words.
 
+ghost use Rattle.std.specs.Prelude.{◌≡◌};
+ghost use Rattle.brc_explain.specs.Rows.{holding_word};
+
 use brc_check::{Slot, State};
 use brc_lang::{Kind, Variable, write_bytes, write_number, write_pieces};
 use brc_pages::write_in;
@@ -16,7 +19,9 @@ pub fn kind_noun(kind: Kind) -> &'static str {
 }
 
 /// Returns the two words for a slot, as `owned` and `list`; none if it is empty.
-pub fn slot_words(slot: Slot) -> (&'static str, &'static str) {
+pub fn slot_words(slot: Slot) -> (&'static str, &'static str)
+    ensures { result.0.now ≡ holding_word slot }
+{
     match slot {
         Slot::Empty => ("", ""),
         Slot::Owned(kind) => ("owned ", kind_noun(kind)),

@@ -1,0 +1,37 @@
+use Rattle.std.proofs.Common.{◌≡◌, List, ◌++◌, append-nil, length, take, get_or, sym, ap, ◌∙◌, arith}
+use native.Mathlib.Numerals.{unary_clauses}
+use Rattle.brc_model.specs.declared.slot.Exit.TheVariants.{Success}
+use Rattle.brc_model.specs.Paths.{At, path_end}
+use Rattle.brc_explain.specs.declared.rows.StepRow.{StepRow}
+use Rattle.brc_explain.specs.Rows.{first_steps, step_rows}
+use Rattle.brc_explain.proofs.StepRows.{no_row, row_from}
+use Rattle.brc_explain.proofs.rows.path_rows.Goals.{in-Some+in_ok-push_step, in_default}
+use Rattle.brc_explain.proofs.rows.path_rows.Goals as goal
+
+pub loop-taken-preserved : goal.loop-taken-preserved
+loop-taken-preserved c =
+    let code = c.args.code.now in
+    let exits = c.args.exits.now in
+    let taken = c.loop-taken.taken in
+    let end = path_end code (take taken exits) in
+    let exit = get_or exits taken Success in
+    elim c.match-reached.branch [
+      | in-Some+in_ok-push_step w ↦
+          let at = w.in-Some.at in
+          let before = w.in-Some.before in
+          simp unary_clauses (w.rows-is ∙ w.in_ok-push_step.ensures
+          ∙ ap (λ (rows : List StepRow). rows ++ step_rows code (At at before) exit) c.loop-taken.invariant
+          ∙ ap (λ (rows : List StepRow). first_steps code exits taken ++ rows)
+          (sym (row_from code end at before exit (sym c.reached.ensures ∙ w.in-Some.is))))
+      | in_default w ↦
+          simp unary_clauses (w.rows-is ∙ c.loop-taken.invariant ∙ sym (append-nil (first_steps code exits taken))
+          ∙ ap (λ (rows : List StepRow). first_steps code exits taken ++ rows)
+          (sym (no_row code end exit (sym c.reached.ensures ∙ w.in_default.is))))
+    ]
+
+pub returns : goal.returns
+returns c =
+    let ended = c.loop-taken-test.false in
+    let within = c.loop-taken.auto.taken-end in
+    let all : c.loop-taken.taken ≡ length c.args.exits.now = omega (arith, ended, within) in
+    c.loop-taken.invariant ∙ ap (first_steps c.args.code.now c.args.exits.now) all
