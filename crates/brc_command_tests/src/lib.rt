@@ -36,4 +36,6 @@ mod terminals;
 #[cfg(test)]
 mod traces;
 #[cfg(test)]
+mod whole_explanations;
+#[cfg(test)]
 mod worked;
