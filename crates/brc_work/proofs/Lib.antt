@@ -18,3 +18,4 @@ mod Counting
 mod Places
 mod Mains
 mod Traces
+mod Automata

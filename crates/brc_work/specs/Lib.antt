@@ -7,3 +7,4 @@ pub mod Workers
 pub mod Mains
 pub mod Traces
 pub mod Performs
+pub mod Automata

@@ -11,6 +11,7 @@ mod gate;
 mod host_calls;
 mod items;
 mod kinds;
+mod laws;
 mod line;
 mod locks;
 mod references;
@@ -25,6 +26,7 @@ mod worker;
 
 pub use error::NoThread;
 pub use gate::Gate;
+pub use laws::hands_and_threads_agree;
 pub use threads::fan_out;
 pub use totals::Totals;
 pub use worker::Worker;

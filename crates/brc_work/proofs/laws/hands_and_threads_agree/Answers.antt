@@ -1,0 +1,8 @@
+use Rattle.brc_work.proofs.Automata as automata
+use Rattle.brc_work.proofs.laws.hands_and_threads_agree.Goals as goal
+
+pub returns-clause-hands : goal.returns-clause-hands
+returns-clause-hands c = automata.hands_as_threads
+
+pub returns-clause-threads : goal.returns-clause-threads
+returns-clause-threads c = automata.threads_as_hands
