@@ -116,10 +116,11 @@ fn writes_each_instruction(rt: HostRuntime) -> Result<(), Fail> {
     Ok(())
 }
 
+/// A critical section with each of its instructions, and the modules `returns_a_borrowed_reference` and `leaks_at_fail`.
 #[test]
-fn writes_each_instruction_of_a_critical_section(rt: HostRuntime) -> Result<(), Fail> {
+fn writes_modules_of_one_function(rt: HostRuntime) -> Result<(), Fail> {
     let (low, high) = (Variable::new(0), Variable::new(15));
-    let code = [
+    let section = [
         Instr::Lock { object: high },
         Instr::Borrow {
             to: low,
@@ -147,12 +148,24 @@ fn writes_each_instruction_of_a_critical_section(rt: HostRuntime) -> Result<(), 
         },
         Instr::Unlock { object: low },
     ];
-    let text = b"module 1\nfunc f\nlock v15\nborrow v0 v15 255 else @0\nfetch v15 v9 0 else @255\n\
-        set v15 10 v0 else @5\nput v1 200 v2 else @100\nunlock v0\nend\n";
-    assert_eq!(rt;
-        written(rt.alloc(), &[(b"f", &code)])?.as_slice(),
-        text.as_slice()
-    );
+    let newref = Instr::Newref {
+        to: Variable::new(1),
+        from: low,
+    };
+    let returns = [newref, Instr::Ret { from: low }];
+    let leaks = [newref, Instr::Fail];
+    let cases: [(&[Instr], &[u8]); 3] = [
+        (
+            &section,
+            b"module 1\nfunc f\nlock v15\nborrow v0 v15 255 else @0\nfetch v15 v9 0 else @255\n\
+              set v15 10 v0 else @5\nput v1 200 v2 else @100\nunlock v0\nend\n",
+        ),
+        (&returns, b"module 1\nfunc f\nnewref v1 v0\nret v0\nend\n"),
+        (&leaks, b"module 1\nfunc f\nnewref v1 v0\nfail\nend\n"),
+    ];
+    for (code, text) in cases {
+        assert_eq!(rt; written(rt.alloc(), &[(b"f", code)])?.as_slice(), text);
+    }
     Ok(())
 }
 

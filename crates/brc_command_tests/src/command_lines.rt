@@ -88,6 +88,11 @@ const CARRIED_OUT: &[(&[u8], &[&str], (&[u8], &[u8], u8))] = &[
         &["brc", "run", "m.brc", "--call", "f", "--times", "1000000"],
         (ONE_REPORT, b"", 0),
     ),
+    (
+        SMALLEST,
+        &["brc", "run", "m.brc", "--call", "g"],
+        (b"", b"no function g\n", 2),
+    ),
     (SMALLEST, &["brc", "--version"], (b"brc 0.1.0\n", b"", 0)),
     (
         LEAKING,
