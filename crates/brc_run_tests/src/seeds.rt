@@ -3,8 +3,7 @@
 
 use crate::runs::{Counts, Open, accepted, counts_of, report_of};
 use crate::worked::SWAP;
-use brc_model::{Call, Choice};
-use brc_world::World;
+use brc_world::{Call, Choice, World};
 use std::alloc::Global;
 use std::test::*;
 

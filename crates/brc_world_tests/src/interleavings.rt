@@ -2,8 +2,7 @@ ghost use Rattle.std.specs.Prelude.{◌<◌, length};
 
 use crate::steps::{TAKE_AND_DROP, accepted, accepted_text, counted, step};
 use brc_check::Checked;
-use brc_model::{Call, Choice};
-use brc_world::{Did, NoMemory, World};
+use brc_world::{Call, Choice, Did, NoMemory, World};
 use std::alloc::{AllocError, Global};
 use std::collections::BTreeSet;
 use std::io::Print;
@@ -29,7 +28,7 @@ const SET_AND_FETCH: &[u8] =
       unlock v0\nfail\n";
 
 /// A function that stores a number of its own in the root's first cell, and one that puts none in the number's place.
-const SWAP_AND_CLEAR: &[u8] =
+pub const SWAP_AND_CLEAR: &[u8] =
     b"module 1\nfunc swap\nnum v1 7 else @7\nlock v0\nset v0 0 v1 else @6\nunlock v0\nnone v1\nret v1\nunlock v0\n\
       fail\nend\nfunc clear\nnone v1\nlock v0\nput v0 0 v1 else @3\nunlock v0\nret v1\nend\n";
 

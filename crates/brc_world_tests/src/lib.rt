@@ -1,5 +1,5 @@
-//! Tests of header words, of the step world, and of explanations: the pages of the codes, the word at fault in a text,
-//! and paths to a refusal.
+//! Tests of header words, of the step world and its schedules, and of explanations: the pages of the codes, the word at
+//! fault in a text, and paths to a refusal.
 #![tactic(auto)]
 
 #[cfg(test)]
@@ -10,6 +10,8 @@ mod interleavings;
 mod modules;
 #[cfg(test)]
 mod pages;
+#[cfg(test)]
+mod schedules;
 #[cfg(test)]
 mod steps;
 #[cfg(test)]

@@ -2,8 +2,7 @@ ghost use Rattle.std.specs.Prelude.{◌<◌, length, IfOk};
 
 use brc_check::{Checked, check};
 use brc_lang::{Kind, read};
-use brc_model::{Call, Choice};
-use brc_world::{Did, Left, NoMemory, Tally, World};
+use brc_world::{Call, Choice, Did, Left, NoMemory, Tally, World};
 use std::alloc::Global;
 use std::test::*;
 

@@ -1,0 +1,97 @@
+//! Whole schedules, run by one call.
+
+ghost use Rattle.std.specs.Prelude.{◌<◌, length};
+ghost use Rattle.brc_schedule.specs.Text.{IsSchedule};
+
+use crate::interleavings::SWAP_AND_CLEAR;
+use crate::steps::{accepted_text, counted};
+use brc_check::Checked;
+use brc_world::{Call, Schedule, World, read_schedule};
+use std::alloc::Global;
+use std::test::*;
+
+/// A number in two cells of the root: `own` makes it and later puts none in its place, `other` moves what the second
+/// cell has to the first.
+const OWN_AND_OTHER: &[u8] =
+    b"module 1\nfunc own\nnum v1 7 else @12\nlock v0\nput v0 0 v1 else @3\nput v0 1 v1 else @4\nunlock v0\ndrop v1\n\
+      none v1\nlock v0\nput v0 0 v1 else @9\nput v0 1 v1 else @10\nunlock v0\nret v1\nfail\nend\n\
+      func other\nnone v1\nlock v0\nput v0 0 v1 else @3\nfetch v2 v0 1 else @5\nset v0 0 v2 else @5\nunlock v0\n\
+      ret v1\nend\n";
+
+/// A module of two functions, a schedule in which worker 1 calls the first one and worker 2 the other one, and the
+/// numbers of the report afterwards.
+const RUNS: &[(&str, &[u8], &[u8], [u64; 7])] = &[
+    (
+        "queued_then_merged_at_exit",
+        OWN_AND_OTHER,
+        b"schedule 1\nworkers 2\nrows 4\ncall 1 own 1\ncall 2 other 1\nstep 1 ok 12\nstep 2 ok 1000\nstep 1 ok 1000\n\
+          step 0 ok 1000\n",
+        [2, 0, 2, 2, 0, 0, 0],
+    ),
+    (
+        "between_mark_and_look, worker 1 gone",
+        SWAP_AND_CLEAR,
+        b"schedule 1\nworkers 2\nrows 4\ncall 1 swap 1\ncall 2 clear 1\nstep 1 ok 6\nstep 2 ok 9\nstep 1 ok 1000\n",
+        [2, 2, 2, 1, 1, 0, 0],
+    ),
+    (
+        "between_mark_and_look",
+        SWAP_AND_CLEAR,
+        b"schedule 1\nworkers 2\nrows 4\ncall 1 swap 1\ncall 2 clear 1\nstep 1 ok 6\nstep 2 ok 9\nstep 1 ok 1000\n\
+          step 2 ok 1000\nstep 0 ok 1000\n",
+        [2, 0, 2, 2, 0, 0, 0],
+    ),
+    (
+        "no mark yet, worker 1 gone",
+        SWAP_AND_CLEAR,
+        b"schedule 1\nworkers 2\nrows 4\ncall 1 swap 1\ncall 2 clear 1\nstep 1 ok 6\nstep 2 ok 8\nstep 1 ok 1000\n",
+        [2, 2, 2, 0, 2, 0, 0],
+    ),
+    (
+        "no mark yet",
+        SWAP_AND_CLEAR,
+        b"schedule 1\nworkers 2\nrows 4\ncall 1 swap 1\ncall 2 clear 1\nstep 1 ok 6\nstep 2 ok 8\nstep 1 ok 1000\n\
+          step 2 ok 1000\nstep 0 ok 1000\n",
+        [2, 0, 2, 2, 0, 0, 0],
+    ),
+];
+
+/// Runs the schedule over a world of two workers, of which the first one calls the first function once, and the second
+/// one the last function. Returns the numbers of the tally afterwards. Memory isn't refused here.
+fn tally_after(alloc: Global, checked: &Checked, schedule: &Schedule) -> Result<[u64; 7], Fail>
+    requires functions { 0 < length checked.now.module.functions }
+    requires schedule { IsSchedule schedule.now }
+{
+    if schedule.workers != 2 {
+        return Err("the schedule has two workers")?;
+    }
+    let one = Call {
+        function: 0,
+        times: 1,
+    };
+    let other = Call {
+        function: checked.module().functions.len() - 1,
+        times: 1,
+    };
+    let mut world = World::new(alloc, checked, 2, schedule.rows, &[one, other])?;
+    world.run(schedule)?;
+    let (numbers, _) = counted(alloc, &world)?;
+    Ok(numbers)
+}
+
+/// Returns the numbers of the report after the schedule's run over the module.
+fn run_text(alloc: Global, module: &[u8], schedule: &[u8]) -> Result<[u64; 7], Fail> {
+    let checked = accepted_text(alloc, module)?;
+    let Ok(schedule) = read_schedule(alloc, schedule) else {
+        return Err("the text is a schedule")?;
+    };
+    tally_after(alloc, &checked, &schedule)
+}
+
+#[test]
+fn schedules_are_run(rt: HostRuntime) -> Result<(), Fail> {
+    for (name, module, schedule, want) in RUNS {
+        assert_eq!(rt; run_text(rt.alloc(), module, schedule)?, *want, "{name}");
+    }
+    Ok(())
+}
