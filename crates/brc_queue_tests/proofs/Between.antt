@@ -2,6 +2,7 @@
 use Rattle.std.proofs.Common.{◌≡◌, ℕ, suc, Bool, true, false, Option, None, Some, List, [], ◌∷◌, ◌++◌, refl, sym, ap, ◌∙◌, subst}
 use Rattle.std.specs.Prelude.{not, if◌then◌else◌}
 use Rattle.std.specs.List.{filter}
+use Rattle.brc_host.specs.HostCalls.{HostCall}
 use Rattle.brc_model.specs.declared.duty.Duty.{Duty}
 use Rattle.brc_model.specs.declared.layout.Layout.{Layout}
 use Rattle.brc_model.specs.Layout.{root_row, IsCounted}
@@ -208,7 +209,7 @@ comes_to_settle {heap} {before} {after} x rest released =
     (released.aside ∙ ap (filter (λ (d : Duty). not (is_about x d))) rest.rests) released.agenda
 
 -- and rests.
-pub after_release : {heap : TableState} {before after : HandState} {between : View} {closes : ℕ} (x : ℕ)
+pub after_release : {heap : TableState} {before after : HandState} {between : View} {closes : List HostCall} (x : ℕ)
     → Holds heap before (Some x) → HasReleased x before.view between → IsOf heap after → after.view.head ≡ 0
     → HasWorked between closes [] after.view → Holds heap after None
 after_release {heap} {before} {after} {between} x rest released table head worked =

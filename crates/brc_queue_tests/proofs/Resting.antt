@@ -4,6 +4,7 @@ use Rattle.std.specs.Prelude.{not, cond, count_by, ◌==◌, ◌&&◌, ◌||◌,
 use Rattle.std.specs.List.{filter}
 use Rattle.std.proofs.lemmas.Bool.{cases_Bool, eq-eqb, leb-true, ltb-true}
 use Rattle.std.proofs.lemmas.List.Sums.{sum_by-cons}
+use Rattle.brc_host.specs.HostCalls.{HostCall}
 use Rattle.brc_model.specs.declared.duty.Duty.{Duty}
 use Rattle.brc_model.specs.declared.layout.Layout.{Layout}
 use Rattle.brc_model.specs.Layout.{first_immortal_list, IsCounted}
@@ -90,7 +91,8 @@ pub settles_at_rest : {heap : TableState} {hand : HandState} → IsAtRest heap h
 settles_at_rest rest = let free = free_at_rest rest in AtOnce free.running free.aside free.agenda
 
 -- and has no work then.
-pub rests_after_settling : {heap : TableState} {before after : HandState} {closes : ℕ} → IsAtRest heap before None
+pub rests_after_settling : {heap : TableState} {before after : HandState} {closes : List HostCall}
+    → IsAtRest heap before None
     → IsOf heap after → after.view.head ≡ 0 → HasWorked before.view closes [] after.view → IsAtRest heap after None
 rests_after_settling {heap} {before} {after} rest table empty stands =
     let none : after.view.agenda ≡ [] = stands.agenda in

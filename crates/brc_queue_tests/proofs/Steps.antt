@@ -3,6 +3,7 @@ use Rattle.std.proofs.Common.{inl, subst, refl, ◌≡◌, ◌≢◌, ℕ, List,
 use Rattle.std.specs.Prelude.{not, slice_index_or}
 use Rattle.std.specs.List.{filter}
 use Rattle.std.proofs.lemmas.List.{append-nil}
+use Rattle.brc_host.specs.HostCalls.{HostCall}
 use Rattle.brc_model.specs.declared.duty.Duty.{Duty}
 use Rattle.brc_model.specs.declared.duty.Duty.TheVariants.{MergeSwap, SharedLoad}
 use Rattle.brc_model.specs.declared.duty.Reason.TheVariants.{Handed}
@@ -52,8 +53,9 @@ pub comes : {heap : TableState} {hand : HandState} {rows : List ℕ} → HasWork
 comes has = AtOnce has.status has.aside has.agenda
 
 -- and then has nothing to do again.
-pub settled : {heap : TableState} {before after : HandState} {rows : List ℕ} {n : ℕ} → HasWork heap before rows []
-    → IsOf heap after → HasWorked before.view n [] after.view → after.carried ≡ before.carried
+pub settled : {heap : TableState} {before after : HandState} {rows : List ℕ} {closes : List HostCall}
+    → HasWork heap before rows []
+    → IsOf heap after → HasWorked before.view closes [] after.view → after.carried ≡ before.carried
     → HasWork heap after rows []
 settled {heap} {before} {after} has table stands same = record {
   table = table;

@@ -2,6 +2,7 @@
 
 ghost use Rattle.std.specs.Prelude.{◌≡◌};
 ghost use Rattle.brc_host.specs.HostCounts.{no_counts};
+ghost use Rattle.brc_host.specs.HostCalls.{after_call};
 
 use brc_host::{Fault, Host, HostCounts};
 use brc_lang::Mode;
@@ -36,6 +37,8 @@ impl Host for NoFiles {
     type Res = ();
 
     ghost counts = { λ host. host };
+
+    ghost answers = { λ before call after. after ≡ after_call call before };
 
     fn open(&mut self, _path: u8, _mode: Mode) -> Result<(), Fault> {
         let file = Err(Fault);

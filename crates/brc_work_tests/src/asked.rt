@@ -1,5 +1,7 @@
 //! What a worker asks of its host, and when: within its calls, and what the instructions say.
 
+ghost use Rattle.brc_host.specs.FakeHost.{AnswersByPlan};
+
 use crate::calls::{accepted, makes_calls, opened, worker_hand};
 use crate::hearing::Hearing;
 use crate::runs::MOST_ROWS;
@@ -57,6 +59,8 @@ impl Host for NotingHost<'_> {
     type Res = FakeResource;
 
     ghost counts = { λ host. host.fake.counts };
+
+    ghost answers = { λ before call after. AnswersByPlan before.fake call after.fake };
 
     fn open(&mut self, path: u8, mode: Mode) -> Result<FakeResource, Fault> {
         let right = path == self.asked.path && mode == self.asked.mode;

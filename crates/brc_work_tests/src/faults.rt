@@ -1,6 +1,9 @@
 //! Runs over a host that fails: its faults are counted, and each file or connection that it has opened is closed once.
 
-use crate::runs::{Counts, MOST_ROWS, expect, run_over};
+use crate::calls::accepted;
+use crate::hearing::Hearing;
+use crate::runs::{Counts, MOST_ROWS, expect, run_apart, run_in_thread, run_over};
+use brc_host::{FakeHost, Host};
 use std::test::*;
 
 /// A run of one call: its name, the module, which calls of the host fail, and what it leads to.
@@ -63,7 +66,10 @@ fn the_hosts_faults_are_counted(rt: HostRuntime) -> Result<(), Fail> {
 fn everything_is_closed_whichever_two_calls_fail(rt: HostRuntime) -> Result<(), Fail> {
     for second in 1..7u64 {
         for first in 0..second {
-            let ran = run_over(&rt, rt.alloc(), COPY, MOST_ROWS, 1, &[first, second])?;
+            let plan = [first, second];
+            let ran = run_over(&rt, rt.alloc(), COPY, MOST_ROWS, 1, &plan)?;
+            let apart = run_in_thread(&rt, rt.alloc(), COPY, MOST_ROWS, 1, &plan)?;
+            assert_eq!(rt; apart, ran, "calls {first} and {second} in a thread");
             let [created, closed, alive, _, _] = ran.counts;
             assert_eq!(rt; (closed, alive), (created, 0), "calls {first} and {second}");
             assert_eq!(rt;
@@ -73,5 +79,50 @@ fn everything_is_closed_whichever_two_calls_fail(rt: HostRuntime) -> Result<(), 
             );
         }
     }
+    Ok(())
+}
+
+/// A worker with few rows asks the host for nothing that it has no row for: the file's row is the first, the
+/// connection's the second, and the number's the third.
+#[test]
+fn without_room_the_host_is_not_asked(rt: HostRuntime) -> Result<(), Fail> {
+    let want: [(&str, u16, Counts); 3] = [
+        ("copy with a row", 1, [2, 2, 0, 0, 0]),
+        ("copy with two rows", 2, [3, 3, 0, 0, 0]),
+        ("copy with three rows", 3, [4, 4, 0, 0, 0]),
+    ];
+    for (name, rows, want) in want {
+        expect(&rt, rt.alloc(), name, COPY, (rows, 1, &[]), want)?;
+    }
+    Ok(())
+}
+
+/// The first worker's open fails; of the second, which makes the whole copy, both closes fail.
+#[test]
+fn each_worker_counts_its_own_hosts_faults(rt: HostRuntime) -> Result<(), Fail> {
+    let checked = accepted(rt.alloc(), COPY)?;
+    let mut hosts = [FakeHost::new(&[0]), FakeHost::new(&[4, 5])];
+    let gate = Hearing::new();
+    let (counted, objects, last) = run_apart(
+        &rt,
+        rt.alloc(),
+        &checked,
+        2,
+        MOST_ROWS,
+        1,
+        &mut hosts,
+        &gate,
+    )?;
+    let [one, other] = counted.as_slice() else {
+        return Err("there are two workers")?;
+    };
+    assert_eq!(rt; (one.created, one.host_faults, one.close_faults), (0, 1, 0));
+    assert_eq!(rt;
+        (other.created, other.host_faults, other.close_faults),
+        (3, 0, 2)
+    );
+    assert_eq!(rt; (objects, last), ([4, 4, 0], 0));
+    assert_eq!(rt; (hosts[0].opened(), hosts[0].closed()), (0, 0));
+    assert_eq!(rt; (hosts[1].opened(), hosts[1].closed()), (2, 2));
     Ok(())
 }

@@ -1,13 +1,20 @@
 //! A whole run of a module, in plain numbers.
 
+ghost use Rattle.std.specs.Prelude.{◌≡◌, ◌<◌, ◌≤◌, length};
+ghost use Rattle.brc_model.specs.Limits.{row_limit, worker_limit};
+
 use crate::calls::{accepted, ended, leaves, makes_calls, opened, worker_hand};
 use crate::hearing::Hearing;
-use brc_heap::{Final, ROOT};
+use brc_check::Checked;
+use brc_heap::{Final, Heap, ROOT};
 use brc_host::{FakeHost, FakeResource, Host};
+use brc_queue::Queue;
+use brc_work::{Gate, Totals, fan_out};
 use std::alloc::Global;
 use std::process::Abort;
 use std::sync::Wait;
 use std::test::*;
+use std::thread::Threads;
 
 /// The most rows that a worker may have.
 pub const MOST_ROWS: u16 = 1024;
@@ -88,9 +95,76 @@ pub fn run_over<R: Wait>(
     })
 }
 
-/// Asserts what a run leads to. In every run the worker counts a birth for each object but the root, the gate hears
-/// each call begin and end, and the host has closed what it has opened.
-pub fn expect<R: Wait + Abort>(
+/// Lets a worker for each host, with `rows` rows, call the module's first function `times` times, each in a thread of
+/// its own. Then main leaves, over the first host, and the heap ends. Returns what each worker has counted, the objects
+/// that were created, closed and are alive, and how many closes of main's have failed.
+pub fn run_apart<R: Threads + Wait + Sync, G: Gate + Sync>(
+    rt: &R,
+    alloc: Global,
+    checked: &Checked,
+    threads: u8,
+    rows: u16,
+    times: u32,
+    hosts: &mut [FakeHost<'_>],
+    gate: &G,
+) -> Result<(Vec<Totals>, [u64; 3], u64), Fail>
+    requires threads { (0 < threads) × (threads ≤ worker_limit) }
+    requires rows { (0 < rows) × (rows ≤ row_limit) }
+    requires one_each { length hosts.old ≡ threads }
+{
+    // The accepted module has a first function.
+    let _module = checked.module();
+    let (heap, mut main) = Heap::new(alloc, threads, rows)?;
+    let gone = fan_out(rt, alloc, &heap, &mut main, checked, 0, times, hosts, gate)?;
+    let mut counted = Vec::new(alloc);
+    for (_, totals) in gone.as_slice() {
+        counted.push(*totals)?;
+    }
+    let Some(host) = hosts.first_mut() else {
+        return Err("there is a host for main")?;
+    };
+    let last = Queue::new(&heap).leave(rt, &mut main, host);
+    let Some(end) = ended(heap, main) else {
+        return Err("a thread isn't gone")?;
+    };
+    Ok((counted, objects(&end), last))
+}
+
+/// Makes the run of `run_over` with the worker in a thread of its own. Its exit's faults are among those that it has
+/// counted.
+pub fn run_in_thread<R: Threads + Wait + Sync>(
+    rt: &R,
+    alloc: Global,
+    text: &[u8],
+    rows: u16,
+    times: u32,
+    plan: &[u64],
+) -> Result<Ran, Fail> {
+    if rows == 0 || rows > MOST_ROWS {
+        return Err("a worker has 1 to 1024 rows")?;
+    }
+    let checked = accepted(alloc, text)?;
+    let gate = Hearing::new();
+    let mut hosts = [FakeHost::new(plan)];
+    let (counted, [created, closed, alive], last) = run_apart(
+        rt, alloc, &checked, 1, rows, times, &mut hosts, &gate,
+    )?;
+    let [totals] = counted.as_slice() else {
+        return Err("there is one worker")?;
+    };
+    let close_faults = totals.close_faults.saturating_add(last);
+    Ok(Ran {
+        counts: [created, closed, alive, totals.host_faults, close_faults],
+        opened: hosts[0].opened(),
+        closed: hosts[0].closed(),
+        births: totals.created,
+        heard: gate.heard(),
+    })
+}
+
+/// Asserts what a run leads to, in a thread of its own too. In every run the worker counts a birth for each object but
+/// the root, the gate hears each call begin and end, and the host has closed what it has opened.
+pub fn expect<R: Threads + Wait + Sync + Abort>(
     rt: &R,
     alloc: Global,
     name: &str,
@@ -100,6 +174,8 @@ pub fn expect<R: Wait + Abort>(
 ) -> Result<(), Fail> {
     let (rows, times, plan) = run;
     let ran = run_over(rt, alloc, text, rows, times, plan)?;
+    let apart = run_in_thread(rt, alloc, text, rows, times, plan)?;
+    assert_eq!(rt; apart, ran, "{name} in a thread of its own");
     assert_eq!(rt; ran.counts, want, "{name}");
     assert_eq!(rt;
         u64::from(ran.births),

@@ -20,5 +20,5 @@ returns g c =
       resting =
           rests_after_settling released (subst (λ (w : TableState). IsOf w c.settle.new.hand)
           c.new-finaliser.ensures c.settle.ensures.table)
-          c.settle.ensures.chain settles.2;
+          c.settle.ensures.chain settles.1;
     }

@@ -11,8 +11,8 @@ returns-clause-resting g c =
     let settles = c.settle.ensures.work [] (settles_at_rest c.requires.resting) in
     rests_after_settling c.requires.resting
     (subst (λ (w : TableState). IsOf w c.settle.new.hand) c.new.ensures c.settle.ensures.table)
-    c.settle.ensures.chain settles.2
+    c.settle.ensures.chain settles.1
 
 pub returns-clause-references : goal.returns-clause-references
 returns-clause-references g c =
-    (c.settle.ensures.work [] (settles_at_rest c.requires.resting)).2.keeps.references
+    (c.settle.ensures.work [] (settles_at_rest c.requires.resting)).1.keeps.references

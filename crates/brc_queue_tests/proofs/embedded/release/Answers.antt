@@ -12,4 +12,4 @@ returns g c =
     let released = c.release.ensures.released in
     let settles = c.settle.ensures.work [] (comes_to_settle c.args.row c.requires.holds released) in
     let table = subst (λ (w : TableState). IsOf w c.settle.new.hand) c.new-finaliser.ensures c.settle.ensures.table in
-    record { holds = after_release c.args.row c.requires.holds released table c.settle.ensures.chain settles.2 }
+    record { holds = after_release c.args.row c.requires.holds released table c.settle.ensures.chain settles.1 }

@@ -11,5 +11,5 @@ returns g c = record {
   holds =
       let work = c.settle.ensures.work [] (comes c.requires.holds) in
       let table = subst (λ (w : TableState). IsOf w c.settle.new.hand) c.new.ensures c.settle.ensures.table in
-      settled c.requires.holds table work.2 c.settle.ensures.carried;
+      settled c.requires.holds table work.1 c.settle.ensures.carried;
 }

@@ -21,7 +21,7 @@ returns-clause-resting g c =
     rests_after_release {after = c.release.new.hand} c.requires.resting table c.release.ensures.released in
     let settles = c.settle.ensures.work [] (settles_at_rest released) in
     let kept = subst (λ (w : TableState). IsOf w c.settle.new.hand) c.new-finaliser.ensures c.settle.ensures.table in
-    rests_after_settling released kept c.settle.ensures.chain settles.2
+    rests_after_settling released kept c.settle.ensures.chain settles.1
 
 pub returns-clause-tells : goal.returns-clause-tells
 returns-clause-tells g c =
@@ -34,7 +34,8 @@ returns-clause-tells g c =
     let plain = subst (λ (w : TableState). IsPlainLayout w.layout) c.words.ensures c.layout_is_plain.ensures in
     let counted = some_counted {layout = c.args.heap.now.layout} row plain (ne_eqb row 0 c.if-row-eq0.false) in
     tells_equal c.less.new.self (without_one row rows) c.settle.new.hand.view.references
-    (tells_less c.args.ledger.now c.less.new.self rows row c.requires.tells (omega (arith, c.if-count-eq0.false, c.count.ensures)) c.less.ensures.counts
+    (tells_less c.args.ledger.now c.less.new.self rows row c.requires.tells (omega (arith, c.if-count-eq0.false,
+    c.count.ensures)) c.less.ensures.counts
     c.less.ensures.total)
-    (settles.2.keeps.references
+    (settles.1.keeps.references
     ∙ (c.release.ensures.released.references ∙ lists_one_less row rows counted c.requires.resting.table.1))
