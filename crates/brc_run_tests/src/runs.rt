@@ -66,8 +66,8 @@ fn hosts_of(alloc: Global, count: u8) -> Result<Vec<FakeHost<'static>>, AllocErr
     Ok(hosts)
 }
 
-/// Lets `threads` workers, with `rows` rows each, call the first function of the text's module `times` times, over hosts
-/// that never fail. Returns the report's numbers.
+/// Lets `threads` workers, with `rows` rows each, call the first function of the text's module `times` times, over
+/// hosts that never fail. Returns the report's numbers.
 pub fn report_of<R: Threads + Wait + Sync, G: Gate + Sync>(
     rt: &R,
     alloc: Global,
@@ -75,29 +75,47 @@ pub fn report_of<R: Threads + Wait + Sync, G: Gate + Sync>(
     (threads, rows, times): (u8, u16, u32),
     gate: &G,
 ) -> Result<Counts, Fail> {
+    let mut hosts = hosts_of(alloc, threads)?;
+    let mut main_host = FakeHost::new(&[]);
+    report_over(
+        rt,
+        alloc,
+        text,
+        threads,
+        rows,
+        times,
+        hosts.as_mut_slice(),
+        &mut main_host,
+        gate,
+    )
+}
+
+/// The same over these hosts, one for each worker, and main's.
+pub fn report_over<'p, R: Threads + Wait + Sync, G: Gate + Sync>(
+    rt: &R,
+    alloc: Global,
+    text: &[u8],
+    threads: u8,
+    rows: u16,
+    times: u32,
+    hosts: &mut [FakeHost<'p>],
+    main_host: &mut FakeHost<'p>,
+    gate: &G,
+) -> Result<Counts, Fail>
+    requires one_each { length hosts.old ≡ threads }
+{
     if threads == 0 || threads > 32 || rows == 0 || rows > MOST_ROWS {
         return Err("1 to 32 workers with 1 to 1024 rows each")?;
     }
     let checked = accepted(alloc, text)?;
     // The accepted module has a first function.
     let _module = checked.module();
-    let mut hosts = hosts_of(alloc, threads)?;
-    let mut main_host = FakeHost::new(&[]);
     let plan = Plan {
         call: Call { function: 0, times },
         threads,
         rows,
     };
-    let ran = run(
-        rt,
-        alloc,
-        &checked,
-        plan,
-        hosts.as_mut_slice(),
-        &mut main_host,
-        gate,
-    );
-    match ran {
+    match run(rt, alloc, &checked, plan, hosts, main_host, gate) {
         Ok(tally) => Ok(counts_of(&tally)),
         Err(_) => Err("the run has a tally")?,
     }
