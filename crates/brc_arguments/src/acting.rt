@@ -1,6 +1,8 @@
 ghost use Rattle.std.specs.Prelude.{◌≡◌, ◌≢◌, ◌≤◌};
 ghost use Rattle.brc_report.specs.declared.paint.Paint.TheVariants.{Plain};
 ghost use Rattle.brc_arguments.specs.Acts.{Ends, Stops, IsRefused};
+ghost use Rattle.clap.specs.Words.{kind_of};
+ghost use Rattle.clap.specs.declared.error.kind.ErrorKind.TheVariants.{OutOfMemory};
 
 use crate::command::parse;
 use crate::not_asked::NotAsked;
@@ -72,7 +74,9 @@ pub fn act_on<R: System, S: AsStr, L: Load, T: Terminal, W: Write, E: Write>(
 
 /// Writes the error of the command line, or the help that it asks for, and returns the status.
 fn refuse<E: Write>(error: &Error, err: &mut E) -> u8
-    ensures { IsRefused (E.contents err.old) (E.contents err.new) result }
+    ensures refused { IsRefused (E.contents err.old) (E.contents err.new) result }
+    ensures memory { kind_of error.now ≡ OutOfMemory → result ≡ 3 }
+    ensures usage { kind_of error.now ≢ OutOfMemory → result ≡ 2 }
 {
     if error.kind() == ErrorKind::OutOfMemory {
         let stop = Stop::Fault(StepFault::NoMemory);

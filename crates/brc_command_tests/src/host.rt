@@ -225,10 +225,10 @@ fn host_faults(rt: HostRuntime) {
     assert_cases(&rt, &STEP, STEPPED);
 }
 
-// Opens the first path for writing, makes the file where it is absent, and closes it.
-const MAKES: &[u8] = b"module 1\nfunc f\nopen v1 0 wc else @2\ndrop v1\nfail\nend\n";
+// Opens the second path for writing, makes the file where it is absent, and closes it.
+const MAKES: &[u8] = b"module 1\nfunc f\nopen v1 1 wc else @2\ndrop v1\nfail\nend\n";
 
-// The report is that of a run which has reached the file, and has left it there, empty.
+// The report is that of a run which has reached the file by its number, and has left it there, empty.
 #[test]
 fn a_run_leaves_its_file(rt: HostRuntime) -> Result<(), Fail> {
     let name = format!(in rt.alloc(); "brc-act-{}", process::id(rt.process()))?;
@@ -241,6 +241,8 @@ fn a_run_leaves_its_file(rt: HostRuntime) -> Result<(), Fail> {
         "m.brc",
         "--call",
         "f",
+        "--path",
+        "/",
         "--path",
         path.as_str(),
     ];
