@@ -1,3 +1,6 @@
+ghost use Rattle.std.specs.Prelude.{◌≡◌, IfSome, map};
+ghost use Rattle.brc_arguments.specs.Options.{AsksToRun, AsksToStep, words_of};
+
 use crate::not_asked::NotAsked;
 use brc_command::{Asked, MOST_NAMES, MOST_ROWS, MOST_THREADS, MOST_TIMES, Run, VERSION};
 use brc_lang::number;
@@ -181,19 +184,25 @@ fn asked_in<'m>(matches: &'m ArgMatches<'_>) -> Option<Asked<'m>> {
         return Some(Asked::Check { file });
     }
     if let Some(step) = matches.subcommand_matches("step") {
-        let file = step.get_str("FILE")?;
-        let schedule = step.get_str("SCHEDULE")?;
-        let trace = step.get_flag("trace");
-        return Some(Asked::Step {
-            file,
-            schedule,
-            trace,
-        });
+        return step_of(step);
     }
     if let Some(explain) = matches.subcommand_matches("explain") {
         return explanation_in(explain);
     }
     run_of(matches.subcommand_matches("run")?)
+}
+
+fn step_of<'m>(step: &'m ArgMatches<'_>) -> Option<Asked<'m>>
+    ensures { IfSome result (λ asked. AsksToStep step.now asked) }
+{
+    let file = step.get_str("FILE")?;
+    let schedule = step.get_str("SCHEDULE")?;
+    let trace = step.get_flag("trace");
+    Some(Asked::Step {
+        file,
+        schedule,
+        trace,
+    })
 }
 
 fn explanation_in<'m>(explain: &'m ArgMatches<'_>) -> Option<Asked<'m>> {
@@ -241,11 +250,15 @@ fn has_too_many_names(matches: &ArgMatches) -> bool {
 }
 
 /// Returns all values of the option, in the order of the command line.
-fn names_in<'m>(run: &'m ArgMatches<'_>, option: &str) -> &'m [&'m str] {
+fn names_in<'m>(run: &'m ArgMatches<'_>, option: &str) -> &'m [&'m str]
+    ensures { map (λ name. name.now) result.now ≡ words_of run.now option.now }
+{
     run.get_strs(option).unwrap_or(&[])
 }
 
-fn run_of<'m>(run: &'m ArgMatches<'_>) -> Option<Asked<'m>> {
+fn run_of<'m>(run: &'m ArgMatches<'_>) -> Option<Asked<'m>>
+    ensures { IfSome result (λ asked. AsksToRun run.now asked) }
+{
     let threads = run.get_one("threads")?;
     let rows = run.get_one("rows")?;
     let times = run.get_one("times")?;
