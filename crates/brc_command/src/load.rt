@@ -2,15 +2,19 @@ ghost use Rattle.std.specs.Prelude.{◌≡◌, ◌<◌, ℕ, List, length, true,
 ghost use Rattle.brc_command.specs.declared.load.LoadError.TheVariants.{Unreadable};
 ghost use Rattle.brc_command.specs.Loading.{Begins, IsReadSoFar};
 
+use thiserror::Error;
+
 /// The path that means standard input.
 pub const STANDARD_INPUT: &str = "-";
 
 /// Why a file can't be loaded.
-#[derive(Clone, Copy, Debug, PartialEq, Eq)]
+#[derive(Clone, Copy, Debug, PartialEq, Eq, Error)]
 pub enum LoadError {
     /// The file can't be read.
+    #[error("unreadable file")]
     Unreadable,
     /// Memory was refused.
+    #[error("no memory")]
     NoMemory,
 }
 

@@ -7,22 +7,35 @@ use brc_lang::{Name, ReadFault};
 use brc_trace::TraceFault;
 use brc_world::NoMemory;
 use std::alloc::AllocFailed;
+use std::str::from_utf8;
+use thiserror::Error;
 
 /// Why a schedule can't be stepped, or its report written.
-#[derive(Debug, Drop)]
+#[derive(Debug, Drop, Error)]
 pub enum StepFault {
     /// The module's text is faulty.
+    #[error("unreadable {0}")]
     Text(ReadFault),
     /// The schedule's text is faulty.
+    #[error("unreadable schedule {0}")]
     Plan(ReadFault),
     /// The checker refuses the module.
+    #[error("refused {} @{} {}", shown(&.0.function), .0.at, .0.code)]
     Refused(Refused),
     /// The module lacks the function of this name, which is that of the first such call.
+    #[error("no function {}", shown(.0))]
     NoFunction(Name),
     /// Memory was refused.
+    #[error("no memory")]
     NoMemory,
     /// The writer returned an error.
+    #[error("cannot write")]
     Output,
+}
+
+/// Returns the name as a text: it has ASCII alone.
+fn shown(name: &Name) -> &str {
+    from_utf8(name.as_bytes()).unwrap_or("")
 }
 
 impl<T: Drop> From<AllocFailed<T>> for StepFault {

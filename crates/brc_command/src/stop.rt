@@ -7,17 +7,22 @@ use crate::load::LoadError;
 use crate::step_fault::StepFault;
 use brc_run::RunFault;
 use brc_world::NoMemory;
+use thiserror::Error;
 
 /// The reason why a command stops.
-#[derive(Debug, Drop)]
+#[derive(Debug, Drop, Error)]
 pub enum Stop<'a> {
     /// A file can't be read.
+    #[error("unreadable file")]
     UnreadableFile,
     /// The module lacks the function of this name, for which the command line asks.
+    #[error("no function {0}")]
     NoFunction(&'a str),
     /// A worker's thread couldn't be started.
+    #[error("no thread")]
     NoThread,
     /// A text, the check, a schedule's call, memory or the output.
+    #[error("{0}")]
     Fault(StepFault),
 }
 
