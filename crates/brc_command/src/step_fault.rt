@@ -20,7 +20,7 @@ pub enum StepFault {
     #[error("unreadable schedule {0}")]
     Plan(ReadFault),
     /// The checker refuses the module.
-    #[error("refused {} @{} {}", shown(&.0.function), .0.at, .0.code)]
+    #[error("{0}")]
     Refused(Refused),
     /// The module lacks the function of this name, which is that of the first such call.
     #[error("no function {}", shown(.0))]
