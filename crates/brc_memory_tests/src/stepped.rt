@@ -4,7 +4,7 @@
 ghost use Rattle.std.specs.Prelude.{IfSome};
 ghost use Rattle.brc_lang.specs.Grammar.{IsModule};
 
-use brc_check::{Checked, CheckCode, infer, verify};
+use brc_check::{CheckCode, Checked, infer, verify};
 use brc_lang::{FaultCode, Module, read};
 use brc_model::{Call, Choice};
 use brc_report::write_tally;

@@ -53,6 +53,34 @@ fn a_report_has_the_faults_of_all_hosts(rt: HostRuntime) -> Result<(), Fail> {
     Ok(())
 }
 
+#[test]
+fn everything_is_closed_whichever_two_calls_fail(rt: HostRuntime) -> Result<(), Fail> {
+    for second in 1..7u64 {
+        for first in 0..second {
+            let plan = [first, second];
+            let mut hosts = [FakeHost::new(&plan), FakeHost::new(&plan)];
+            let mut main_host = FakeHost::new(&[]);
+            let counts = report_over(
+                &rt,
+                rt.alloc(),
+                COPY,
+                2,
+                MOST_ROWS,
+                1,
+                &mut hosts,
+                &mut main_host,
+                &Open,
+            )?;
+            let [threads, running, created, closed, alive, _, _] = counts;
+            assert_eq!(rt; (threads, running, closed, alive), (2, 0, created, 0));
+            for host in &hosts {
+                assert_eq!(rt; host.opened(), host.closed());
+            }
+        }
+    }
+    Ok(())
+}
+
 /// How often a worker looks for the other before it misses it.
 const MOST_TURNS: u64 = 100_000_000;
 

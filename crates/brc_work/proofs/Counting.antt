@@ -130,8 +130,13 @@ module _ {S : Type 0} {answers : S → HostCall → S → Type 0} {counts : S �
       → after ≡ record before { close_faults = raised failed before.close_faults }
       → HasAnswered answers counts host cs now → Made cs → Asked answers counts host now before after Made
   asked_closes {host} {now} {before} {after} cs failed none is totals answered made =
-      record { calls = cs; answered = answered; counted = closes_counted cs before after failed none is totals; made =
-          made }
+      record {
+        calls = cs;
+        answered = answered;
+        counted = closes_counted cs before after failed none is totals;
+        made =
+            made;
+      }
 
   -- or for another call, which has succeeded
   pub asked_once : {host now : S} {totals : Totals} {Made : List HostCall → Type 0} (call : HostCall) → IsOther call

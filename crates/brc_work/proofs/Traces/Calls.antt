@@ -50,26 +50,26 @@ module _ (cs ds : List HostCall) (code : List Instr) (v : View) (at : ℕ) (turn
     View)
     (next : Option ℕ) (after_turns : List ℕ) (after_rows : List (Option ℕ)) (w : View)
     (come : HasCome cs code v at turns rows u) (steps : StepsTo ds code at turns rows u next after_turns after_rows w)
-    where
-  -- It makes a step,
-  goes_by : (o : Option ℕ) → next ≡ o
-      → MakesTrace (cs ++ ds) code (Idle 1) v (place_after (record { left = 0; turns = after_turns }) o after_rows) w
-  goes_by o is =
-      let after = λ (other : Option ℕ). place_after (record { left = 0; turns = after_turns }) other after_rows in
-      subst (λ (other : Option ℕ). MakesTrace (cs ++ ds) code (Idle 1) v (after other) w) is
-      (calls_then cs ds code (Idle 1) come.place (after next) [] [] [] v u w come.makes (steps come.place 0 come.comes))
+  where
+    -- It makes a step,
+    goes_by : (o : Option ℕ) → next ≡ o
+        → MakesTrace (cs ++ ds) code (Idle 1) v (place_after (record { left = 0; turns = after_turns }) o after_rows) w
+    goes_by o is =
+        let after = λ (other : Option ℕ). place_after (record { left = 0; turns = after_turns }) other after_rows in
+        subst (λ (other : Option ℕ). MakesTrace (cs ++ ds) code (Idle 1) v (after other) w) is
+        (calls_then cs ds code (Idle 1) come.place (after next) [] [] [] v u w come.makes (steps come.place 0 come.comes))
 
-  -- and comes to a further point,
-  pub comes_on : (n : ℕ) → next ≡ Some n → HasCome (cs ++ ds) code v n after_turns after_rows w
-  comes_on n is = record {
-    place = InCall (record { left = 0; turns = after_turns }) n after_rows;
-    comes = record { does = λ layout t used. refl; names = refl; begins = refl };
-    makes = goes_by (Some n) is;
-  }
+    -- and comes to a further point,
+    pub comes_on : (n : ℕ) → next ≡ Some n → HasCome (cs ++ ds) code v n after_turns after_rows w
+    comes_on n is = record {
+      place = InCall (record { left = 0; turns = after_turns }) n after_rows;
+      comes = record { does = λ layout t used. refl; names = refl; begins = refl };
+      makes = goes_by (Some n) is;
+    }
 
-  -- or to its end.
-  pub comes_to_end : next ≡ None → MakesTrace (cs ++ ds) code (Idle 1) v (Idle 0) w
-  comes_to_end is = goes_by None is
+    -- or to its end.
+    pub comes_to_end : next ≡ None → MakesTrace (cs ++ ds) code (Idle 1) v (Idle 0) w
+    comes_to_end is = goes_by None is
 
 -- ---- calls
 

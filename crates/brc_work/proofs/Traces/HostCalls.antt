@@ -165,7 +165,7 @@ module _ (code : List Instr) (counters : Counters) (at : ℕ) (rows : List (Opti
         events = one.events;
         trace = one.trace;
         makes = subst (λ (c : Actor). Makes v.layout v.thread code start (thread_with v []) (call ∷ []) one.events q c)
-        same
+            same
             (subst (λ (es : List Event). Makes v.layout v.thread code start (thread_with v []) (call ∷ []) es q
             (actor_by v.layout v.thread b (ReturnSlot row) [] 0)) no_more puts_it);
         layout = one.layout;

@@ -34,8 +34,11 @@ returns-clause-tells g c =
     let plain = subst (λ (w : TableState). IsPlainLayout w.layout) c.words.ensures c.layout_is_plain.ensures in
     let counted = some_counted {layout = c.args.heap.now.layout} row plain (ne_eqb row 0 c.if-row-eq0.false) in
     tells_equal c.less.new.self (without_one row rows) c.settle.new.hand.view.references
-    (tells_less c.args.ledger.now c.less.new.self rows row c.requires.tells (omega (arith, c.if-count-eq0.false,
-    c.count.ensures)) c.less.ensures.counts
+    (tells_less c.args.ledger.now c.less.new.self rows row c.requires.tells (omega (
+      arith,
+      c.if-count-eq0.false,
+      c.count.ensures,
+    )) c.less.ensures.counts
     c.less.ensures.total)
     (settles.1.keeps.references
     ∙ (c.release.ensures.released.references ∙ lists_one_less row rows counted c.requires.resting.table.1))
