@@ -121,7 +121,8 @@ const AT_FAULT: &[(&[&str], (Tape<'static>, Tape<'static>, usize), &[u8])] = &[
 #[test]
 fn reads_no_further_than_the_line_at_fault(rt: HostRuntime) {
     for (words, (module, schedule, count), line) in AT_FAULT {
-        let ((_, err, status), asked) = acts_on_pieces(&rt, words, *module, *schedule, 16);
+        let (told, asked) = acts_on_pieces(&rt, words, *module, *schedule, 16);
+        let (_, err, status) = told;
         assert_eq!(rt; err.as_slice(), *line, "{words:?}");
         assert_eq!(rt; status, 2, "{words:?}");
         assert_eq!(rt; asked, *count, "{words:?}");
