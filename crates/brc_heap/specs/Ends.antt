@@ -5,6 +5,7 @@ use Rattle.brc_model.specs.declared.address.Address.TheVariants.{ThreadWord}
 use Rattle.brc_model.specs.Layout.{row_count, IsCounted}
 use Rattle.brc_table.specs.declared.view.View.{View}
 use Rattle.brc_table.specs.declared.view.Event.{Event}
+use Rattle.brc_table.specs.Views.{IsJoined}
 use Rattle.brc_table.specs.Ending.{EndState, EndsWith, HaveEnded, RowEnds, SlotEnds, kind_at, gate_at}
 
 -- Says whether an object was born in the row.
@@ -46,12 +47,14 @@ having_looked v words = record v { trace = v.trace ++ looks_from 0 words }
 abbrev pub AllEnded : List ℕ → Type 0
 AllEnded words = All (λ word. (word ≡ 0) ⊎ (word ≡ 3)) words
 
--- The hand has looked at the words of threads by rising number, up to the first that runs or is leaving.
+-- The hand has looked at the words of threads by rising number, up to the first that runs or is leaving: one whose hand
+-- it hasn't joined.
 pub record FoundRunning (v u : View) : Type 0 where
   pub before : List ℕ
   pub ended : AllEnded before
   pub word : ℕ
   pub runs : (word ≡ 1) ⊎ (word ≡ 2)
+  pub apart : IsJoined (length before) v → ⊥
   pub view_is : u ≡ having_looked v (before ++ word ∷ [])
 
 -- The table was closed with the hand, after that had looked at the word of each thread by rising number. None ran.

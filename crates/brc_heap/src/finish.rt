@@ -1,19 +1,21 @@
 //! The end of a heap: once every thread is gone, it tells what was closed, and what is left.
 
-ghost use Rattle.std.specs.Prelude.{◌≡◌, ◌<◌, IfOk, IfErr};
+ghost use Rattle.std.specs.Prelude.{◌≡◌, ◌<◌, IfOk, IfErr, All};
 ghost use Rattle.brc_model.specs.Kinds.{kind_of_word};
 ghost use Rattle.brc_model.specs.Layout.{row_count};
 ghost use Rattle.brc_model.specs.Limits.{cell_limit};
 ghost use Rattle.brc_table.specs.Hands.{IsOf};
 ghost use Rattle.brc_table.specs.Ending.{kind_at, cell_at, slot_at};
 ghost use Rattle.brc_table.specs.Homes.{resources};
+ghost use Rattle.brc_table.specs.Joining.{RowsAreUsed};
 ghost use Rattle.brc_heap.specs.Ends.{was_born, is_closed, named_row, HasEnded, FoundRunning, ClosedBy};
 
 use crate::heap::Heap;
 use crate::kinds::kind_numbered;
 use brc_lang::Kind;
 use brc_table::{
-    Closed, Hand, rows_end_in_every_table, seen_ends_are_so, slots_end_in_every_table,
+    Closed, Hand, joined_hands_are_gone, rows_end_in_every_table, seen_ends_are_so,
+    slots_end_in_every_table,
 };
 use brc_word::{closed, kind_number};
 use std::marker::Model;
@@ -49,7 +51,8 @@ impl<T: Drop> Model for Final<T> {
 }
 
 impl<T: Drop> Heap<T> {
-    /// Ends the heap, with main's hand: asks each thread's word in turn, by rising number. No worker's hand is needed.
+    /// Ends the heap, with main's hand: asks each thread's word in turn, by rising number. No worker's hand is needed. Of
+    /// the rows of a worker whose hand was joined, exactly those that the worker has used are born.
     ///
     /// # Errors
     ///
@@ -61,6 +64,7 @@ impl<T: Drop> Heap<T> {
         ensures layout { IfOk result (λ end. end.layout ≡ self.layout) }
         ensures ended { IfOk result HasEnded }
         ensures closed { IfOk result (ClosedBy main.view) }
+        ensures joined { IfOk result (λ end. All (RowsAreUsed end.layout end.words) main.view.joined) }
         ensures back { IfErr result (λ back. IsOf back.heap back.main × (back.heap ≡ self)) }
         ensures running { IfErr result (λ back. FoundRunning main.view back.main.view) }
         ensures kept { IfErr result (λ back. (back.main.carried ≡ main.carried) × (back.main.slots ≡ main.slots)) }
@@ -68,6 +72,7 @@ impl<T: Drop> Heap<T> {
         rows_end_in_every_table();
         slots_end_in_every_table();
         seen_ends_are_so();
+        joined_hands_are_gone();
         let mut main = main;
         let workers = self.words().workers();
         self.words().layout_is_plain();

@@ -93,6 +93,7 @@ impl<T: Drop> Heap<T> {
         ensures carried { main.new.carried ≡ main.old.carried }
         ensures slots { main.new.slots ≡ main.old.slots }
         ensures none { IfOk result CarriesNothing }
+        ensures no_slot { IfOk result (λ hand. hand.slots ≡ []) }
     {
         self.words.layout_is_plain();
         if thread == 0 || thread > self.words.workers() || main.has_given(thread) {

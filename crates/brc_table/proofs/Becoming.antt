@@ -68,6 +68,8 @@ module _ (layout : Layout) (words : List ℕ) (views : List View) (id : ℕ) (v 
         thread_same = refl;
         told_same = refl;
         given_more = λ k is. is;
+        gone_stays = λ gone. (gone, refl);
+        joined_here = old.joined id v here;
         holding = λ y counted.
             ap (λ (a : Account). a AsCaller y) own
             ∙ holding y (subst (λ (l : Layout). IsCounted l y) (sym (old.told id v here)) counted);
@@ -252,6 +254,7 @@ gains_one law layout words views id v x rests immortal =
               subst HoldsNone (sym (with_account_other p t more u (λ e. none id (rested v) rests.here (sym e)))) rest.1,
             );
         given = old.given;
+        joined = old.joined;
         threads = old.threads;
       };
       slots = λ y. refl;

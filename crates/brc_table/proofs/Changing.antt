@@ -1,11 +1,13 @@
 -- One hand's view changes, and with it the machine, so that the rule holds again.
 use Rattle.std.proofs.Common.{◌≡◌, ◌≢◌, ℕ, ◌+◌, ◌<◌, true, List, length, set, Option, Some, ◌⊎◌, ⊎_elim, inl, inr, refl, sym, ap, ◌∙◌, subst, arith}
-use Rattle.std.specs.Prelude.{slice_get, slice_index}
+use Rattle.std.specs.Prelude.{slice_get, slice_index, slice_index_or, All}
+use Rattle.std.proofs.lemmas.Bool.Decides.{eqb_tells}
 use Rattle.std.proofs.lemmas.Option.{slice_get_within}
 use mathlib.Core.Option.{some, some-injective}
 use lib.ListN.{get_elem?}
 use Rattle.atomic_table.proofs.Lists.{at_set, set_else, set_again}
 use Rattle.brc_model.specs.declared.duty.Holding.TheVariants.{ByVariable, AsCaller}
+use Rattle.brc_model.specs.declared.actor.Status.TheVariants.{Gone}
 use Rattle.brc_model.specs.declared.address.Address.{Address}
 use Rattle.brc_model.specs.declared.address.Address.TheVariants.{Gate, KindOf, Cell, Slot}
 use Rattle.brc_model.specs.declared.layout.Layout.{Layout}
@@ -18,10 +20,11 @@ use Rattle.brc_model.specs.Accounts.{Account, Accounts, HoldsNone}
 use Rattle.brc_model.specs.Knowledge.{IsDyingWord}
 use Rattle.brc_model.specs.Counting.{Counts, IsPlainLayout}
 use Rattle.brc_table.specs.declared.view.View.{View}
+use Rattle.brc_table.specs.declared.view.Joined.{Joined}
 use Rattle.brc_table.specs.Places.{place, HasWord, word_count}
 use Rattle.brc_table.specs.Views.{actor_of, holds}
 use Rattle.brc_table.specs.Seen.{has_seen_kind, cell_seen}
-use Rattle.brc_table.specs.Rule.{reading, Guards, Stands}
+use Rattle.brc_table.specs.Rule.{reading, Guards, IsGone, Stands}
 use Rattle.brc_table.specs.Threads.{ThreadsStand}
 use Rattle.brc_table.specs.Views.{is_given}
 use Rattle.brc_table.specs.Homes.{times_in}
@@ -62,6 +65,10 @@ pub record Changes (layout : Layout) (words : List ℕ) (views : List View) (v u
   pub kinds_here : (x word : ℕ) → 0 < word → has_seen_kind x word u ≡ true → machine.memory (KindOf x) ≡ word
   pub cells_here : (x i word : ℕ) → Guards machine u x → cell_seen x i u ≡ Some word
       → machine.memory (Cell x i) ≡ word
+  -- a hand that is gone stays so, and uses no further row
+  pub gone_stays : v.status ≡ Gone → (u.status ≡ Gone) × (u.used ≡ v.used)
+  -- the hands that this one has joined are gone
+  pub joined_here : All (IsGone old.machine.actors) u.joined
   -- the words of threads say what they should
   pub threads : (id : ℕ) → get_elem? views id ≡ some v → ThreadsStand old.machine.layout after (set views id u)
 
@@ -172,6 +179,42 @@ module _ (layout : Layout) (words : List ℕ) (views : List View) (id : ℕ) (v 
       (λ t. subst (λ (k : ℕ). is_given k main ≡ true) (sym b.thread) (old.given one other main b.view t.1 first b.found more))
       (at_set views id one u main is)
 
+  -- A joined hand is still gone: the thread that has changed is another one, or it stays gone.
+  still_gone : (hand : Joined) → IsGone old.machine.actors hand → IsGone new.machine.actors hand
+  still_gone hand is = elim (eqb_tells hand.thread v.thread) [
+    | inl same ↦
+        let own : actor_of v ≡ is.actor =
+        let e : Some (actor_of v) ≡ Some is.actor =
+        sym (old.acts id v here) ∙ (ap (slice_get old.machine.actors) (sym same.1) ∙ is.found) in cc in
+        let stays = new.gone_stays (ap (λ (a : Actor). a.status) own ∙ is.gone) in
+        record {
+          actor = actor_of u;
+          found =
+              ap (λ (l : List Actor). slice_get l hand.thread) new.actors
+              ∙ (ap (slice_get (set old.machine.actors v.thread (actor_of u))) same.1
+              ∙ slice_get-set_same old.machine.actors v.thread (actor_of u)
+              (slice_get_within old.machine.actors v.thread (actor_of v) (old.acts id v here)));
+          gone = stays.0;
+          used = stays.1 ∙ (ap (λ (a : Actor). a.used) own ∙ is.used);
+        }
+    | inr apart ↦
+        record {
+          actor = is.actor;
+          found =
+              ap (λ (l : List Actor). slice_get l hand.thread) new.actors
+              ∙ (slice_get-set_other old.machine.actors v.thread hand.thread (actor_of u) apart.1 ∙ is.found);
+          gone = is.gone;
+          used = is.used;
+        }
+  ]
+
+  joined_after : (other : ℕ) (w : View) → get_elem? (set views id u) other ≡ some w
+      → All (IsGone new.machine.actors) w.joined
+  joined_after other w is k d low = still_gone (slice_index_or w.joined k d) (⊎_elim
+      (λ t. subst (λ (x : View). All (IsGone old.machine.actors) x.joined) t.1 new.joined_here k d low)
+      (λ t. old.joined other w t.1 k d low)
+      (at_set views id other u w is))
+
   pub changed : Stands layout after (set views id u)
   changed = record {
     accounts = new.accounts;
@@ -192,6 +235,7 @@ module _ (layout : Layout) (words : List ℕ) (views : List View) (id : ℕ) (v 
     apart = apart_after;
     idle = idle_after;
     given = given_after;
+    joined = joined_after;
     threads = subst (λ (l : Layout). ThreadsStand l after (set views id u)) (sym new.layout_same) (new.threads id here);
   }
 

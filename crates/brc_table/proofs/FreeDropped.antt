@@ -160,6 +160,8 @@ module _ (kept : DutiesAreKept) (law : ReleasesBegin) (layout : Layout) (words :
       thread_same = refl;
       told_same = refl;
       given_more = λ u is. is;
+      gone_stays = λ gone. (gone, refl);
+      joined_here = s.joined id v here;
       holding = λ x counted.
           ap (λ (account : Account). account AsCaller x) (with_account_same s.accounts t less)
           ∙ omega (arith, s.holding id v x here counted, immortal_apart m.layout none_row x refl counted);

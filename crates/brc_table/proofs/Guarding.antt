@@ -209,7 +209,7 @@ gone_hold law layout words homes views id v table here gone =
 -- ---- gone threads
 
 -- The word of a thread that is gone.
-reading_three : (word : ℕ) → thread_reading word ≡ 3 → word ≡ 3
+pub reading_three : (word : ℕ) → thread_reading word ≡ 3 → word ≡ 3
 reading_three zero e = absurd (omega (arith, e))
 reading_three (suc k) e =
     sym (ap (λ (b : Bool). cond b 1 (suc k)) (ne_eqb (suc k) 0 (λ zero_is. absurd (omega (arith, zero_is))))) ∙ e

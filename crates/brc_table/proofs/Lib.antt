@@ -45,3 +45,4 @@ mod Guarding
 mod Spares
 mod Splitting
 mod GivenHands
+mod Joining

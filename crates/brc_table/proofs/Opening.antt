@@ -1,6 +1,6 @@
 -- A table stands on its first words, with main's hand alone.
 use Rattle.std.proofs.Common.{◌≡◌, ℕ, zero, suc, ◌+◌, ◌<◌, ◌≤◌, Bool, true, false, cond, ◌&&◌, Option, List, [], ◌∷◌, length, map, replicate, Some, refl, sym, ap, ◌∙◌, subst, arith, None}
-use Rattle.std.specs.Prelude.{◌==◌, if◌then◌else◌, slice_get}
+use Rattle.std.specs.Prelude.{◌==◌, if◌then◌else◌, slice_get, All}
 use Rattle.std.proofs.lemmas.Bool.{ne_eqb, false≢true}
 use Rattle.std.proofs.lemmas.List.Sums.{sum_by-cons}
 use mathlib.Core.Option as home
@@ -18,7 +18,7 @@ use Rattle.brc_model.specs.CountingLaws.{HandsBegin}
 use Rattle.brc_table.specs.declared.view.View.{View}
 use Rattle.brc_table.specs.Views.{actor_of, holds, is_given, main_view}
 use Rattle.brc_table.specs.Seen.{has_seen_kind, cell_seen, has_started, started_word, has_seen_gone}
-use Rattle.brc_table.specs.Rule.{Stands}
+use Rattle.brc_table.specs.Rule.{IsGone, Stands}
 use Rattle.brc_table.specs.Homes.{times_taken, TableStands}
 use Rattle.brc_table.specs.Threads.{thread_word}
 use Rattle.brc_table.specs.Opening.{AreFirst}
@@ -112,6 +112,8 @@ module _ (begin : HandsBegin) (layout : Layout) (plain : IsPlainLayout layout) (
     given = λ id other main v is first_thread that later.
         let none = ap (λ (w : View). w.thread) (only_one (main_view layout) v other that).1 in
         absurd (omega (arith, later, none));
+    joined = λ id v is.
+        of_main (λ w. All (IsGone (hands_machine layout).actors) w.joined) id v is (λ k d low. absurd (omega (arith, low)));
     threads = record {
       started = λ id v is. of_main (λ w. 0 < thread_word words w.thread) id v is (omega (arith, main_runs));
       started_seen = λ id t v is low seen.

@@ -30,6 +30,7 @@ use Rattle.brc_table.specs.Ending.{SeesEnd}
 use Rattle.brc_table.specs.Peeks.{peeked, NeverStarted, Peeks}
 use Rattle.brc_table.proofs.Allowed.{rows_there}
 use Rattle.brc_table.proofs.Changing.{Changes, passes}
+use Rattle.brc_table.proofs.Joining.{joined_gone}
 use Rattle.brc_table.proofs.SlotsKept.{slots_kept}
 use Rattle.brc_table.proofs.Lists.{set_view, set_itself}
 use Rattle.brc_table.proofs.Starting.{unwritten}
@@ -114,6 +115,8 @@ module _ (accounts : AccountsAreThere) (chains : ChainsAreThere) (layout : Layou
       thread_same = refl;
       told_same = refl;
       given_more = λ k is. is;
+      gone_stays = λ gone. (gone, refl);
+      joined_here = s.joined id v here;
       holding = λ x counted. s.holding id v x here counted;
       others = λ k apart. refl;
       no_variables = s.no_variables;
@@ -197,6 +200,7 @@ module _ (accounts : AccountsAreThere) (chains : ChainsAreThere) (layout : Layou
           refl,
           omega (arith, same, found_low s.words s.views id holds.stands mine),
           λ first none. never_started s.words s.views id holds.stands mine first (same ∙ none),
+          λ joined. sym same ∙ joined_gone layout s.words s.views id v t holds.stands mine joined,
           rows,
         ),
       )

@@ -211,6 +211,8 @@ module _ (kept : DutiesAreKept) (unlocked : NeededSlotsAreUnlocked) (layout : La
             thread_same = refl;
             told_same = refl;
             given_more = λ k is. is;
+            gone_stays = λ gone. (gone, refl);
+            joined_here = s.joined id v here;
             holding = λ y counted. s.holding id v y here counted;
             others = λ k apart. refl;
             no_variables = s.no_variables;

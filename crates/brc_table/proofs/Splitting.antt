@@ -1,6 +1,6 @@
 -- Main gives out a worker's hand, with one of its references to the root, and the rule holds again.
 use Rattle.std.proofs.Common.{◌≡◌, ◌≢◌, ◌⊎◌, ℕ, zero, suc, ◌+◌, ◌<◌, ◌≤◌, Bool, true, false, cond, Option, List, [], ◌∷◌, ◌++◌, length, set, inl, inr, Some, refl, sym, ap, ◌∙◌, subst, arith, None}
-use Rattle.std.specs.Prelude.{◌==◌, ◌||◌, ◌&&◌, nat_lt, count_by, slice_get}
+use Rattle.std.specs.Prelude.{◌==◌, ◌||◌, ◌&&◌, nat_lt, count_by, slice_get, All}
 use Rattle.std.proofs.lemmas.Bool.{cases_Bool, eq-eqb, lt-leb, false≢true}
 use Rattle.std.proofs.lemmas.Bool.Decides.{eqb_tells}
 use Rattle.std.proofs.lemmas.List.{length-set}
@@ -23,7 +23,7 @@ use Rattle.brc_model.specs.Counting.{Counts, HasNoneAbout, with_account, with_on
 use Rattle.brc_model.specs.CountingLaws.{ReferencesAreHandedOver}
 use Rattle.brc_table.specs.declared.view.View.{View}
 use Rattle.brc_table.specs.Views.{actor_of, holds, is_given, giving, worker_view}
-use Rattle.brc_table.specs.Rule.{Guards, Stands}
+use Rattle.brc_table.specs.Rule.{Guards, IsGone, Stands}
 use Rattle.brc_table.specs.Homes.{TableStands}
 use Rattle.brc_table.proofs.SlotsKept.{slots_kept, slots_longer}
 use Rattle.brc_table.specs.Seen.{has_seen_kind, cell_seen, has_started, started_word, has_seen_gone}
@@ -289,6 +289,13 @@ module _ (law : ReferencesAreHandedOver) (layout : Layout) (words : List ℕ) (v
   given_after one other main z (New same is) first whose_z later =
       absurd (omega (arith, first, worker_thread main is, may.some_worker))
 
+  joined_after : (other : ℕ) (z : View) → Whose other z → All (IsGone machine.actors) z.joined
+  joined_after other z (Mains same is) =
+      subst (λ (w : View). All (IsGone machine.actors) w.joined) is (old.joined id v here)
+  joined_after other z (Another apart is) = old.joined other z is
+  joined_after other z (New same is) =
+      subst (λ (w : View). All (IsGone machine.actors) w.joined) is (λ k d low. absurd (omega (arith, low)))
+
   -- No thread's word changes.
   not_given_before : (k : ℕ) → is_given k main_after ≡ false → is_given k v ≡ false
   not_given_before k none = elim (cases_Bool (is_given k v)) [
@@ -369,6 +376,7 @@ module _ (law : ReferencesAreHandedOver) (layout : Layout) (words : List ℕ) (v
     idle = idle_after;
     given = λ one other main z is first that later.
         given_after one other main z (whose one main is) first (whose other z that) later;
+    joined = λ other z is. joined_after other z (whose other z is);
     threads = threads_after;
   }
 

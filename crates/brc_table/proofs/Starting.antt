@@ -143,6 +143,8 @@ module _ (accounts : AccountsAreThere) (chains : ChainsAreThere) (layout : Layou
       thread_same = refl;
       told_same = refl;
       given_more = λ k is. is;
+      gone_stays = λ gone. (gone, refl);
+      joined_here = s.joined id v here;
       holding = λ x counted. s.holding id v x here counted;
       others = λ k apart. refl;
       no_variables = s.no_variables;

@@ -194,6 +194,8 @@ module _ (kept : DutiesAreKept) (within : DutiesAreWithin) (stay : GuardedCellsS
           thread_same = refl;
           told_same = refl;
           given_more = λ u is. is;
+          gone_stays = λ gone. absurd (does.alive gone);
+          joined_here = old.joined id v does.here;
           holding = λ x counted. old.holding id v x does.here counted;
           others = λ u apart. refl;
           no_variables = old.no_variables;

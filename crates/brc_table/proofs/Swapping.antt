@@ -246,6 +246,8 @@ module _ (put : WorkIsPutAside) (free : ImmortalsAreFree) (there : AccountsAreTh
       thread_same = refl;
       told_same = refl;
       given_more = λ k is. is;
+      gone_stays = λ gone. (gone, refl);
+      joined_here = s.joined id (rested v) here;
       holding = λ y counted.
           ap (λ (a : Account). a AsCaller y) (with_account_same s.accounts v.thread account)
           ∙ (lists_account v.layout (s.accounts v.thread) v.references (m.memory (Cell x i)) word y

@@ -15,5 +15,6 @@ pub mod Agreeing
 pub mod Giving
 pub mod Peeks
 pub mod Ending
+pub mod Joining
 pub mod Guarding
 pub mod Spares

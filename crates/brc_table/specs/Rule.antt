@@ -1,8 +1,9 @@
 -- The table's rule: between any two steps, words and views are those of a counting machine that has the invariant.
-use Rattle.std.specs.Prelude.{◌≡◌, ℕ, ◌+◌, ◌<◌, true, ◌==◌, if◌then◌else◌, List, length, Some, slice_get, slice_index}
+use Rattle.std.specs.Prelude.{◌≡◌, ℕ, ◌+◌, ◌<◌, true, ◌==◌, if◌then◌else◌, List, length, Some, slice_get, slice_index, All}
 use mathlib.Core.Option.{some}
 use lib.ListN.{get_elem?}
 use Rattle.brc_model.specs.declared.duty.Holding.TheVariants.{ByVariable, AsCaller}
+use Rattle.brc_model.specs.declared.actor.Status.TheVariants.{Gone}
 use Rattle.brc_model.specs.declared.address.Address.{Address}
 use Rattle.brc_model.specs.declared.address.Address.TheVariants.{KindOf, Cell, ThreadWord}
 use Rattle.brc_model.specs.declared.layout.Layout.{Layout}
@@ -10,11 +11,12 @@ use Rattle.brc_word.specs.Words.{half}
 use Rattle.brc_model.specs.Layout.{none_row, root_row, IsCounted}
 use Rattle.brc_model.specs.Limits.{cell_limit}
 use Rattle.brc_model.specs.Actions.{list_word}
-use Rattle.brc_model.specs.Machine.{Machine, idle_actor}
+use Rattle.brc_model.specs.Machine.{Actor, Machine, idle_actor}
 use Rattle.brc_model.specs.Accounts.{Accounts, HoldsNone}
 use Rattle.brc_model.specs.Knowledge.{GuardsCells}
 use Rattle.brc_model.specs.Counting.{Counts, IsPlainLayout}
 use Rattle.brc_table.specs.declared.view.View.{View}
+use Rattle.brc_table.specs.declared.view.Joined.{Joined}
 use Rattle.brc_table.specs.Places.{place, HasWord, word_count}
 use Rattle.brc_table.specs.Views.{actor_of, holds, is_given}
 use Rattle.brc_table.specs.Seen.{has_seen_kind, cell_seen}
@@ -32,6 +34,13 @@ reading address word = word
 -- No other hand changes the list's cells: the hand has locked the list, or has chained it to finalise it.
 abbrev pub Guards : Machine → View → ℕ → Type 0
 Guards m v x = GuardsCells m v.thread (actor_of v) x
+
+-- The joined hand's thread is gone, and has used this number of rows.
+pub record IsGone (actors : List Actor) (hand : Joined) : Type 0 where
+  pub actor : Actor
+  pub found : slice_get actors hand.thread ≡ Some actor
+  pub gone : actor.status ≡ Gone
+  pub used : actor.used ≡ hand.used
 
 -- There is a counting machine with the invariant whose words, threads and accounts are those of the table.
 pub record Stands (layout : Layout) (words : List ℕ) (views : List View) : Type 0 where
@@ -71,5 +80,7 @@ pub record Stands (layout : Layout) (words : List ℕ) (views : List View) : Typ
   -- the other hands are those that main has given out
   pub given : (id other : ℕ) (main v : View) → get_elem? views id ≡ some main → main.thread ≡ 0
       → get_elem? views other ≡ some v → 0 < v.thread → is_given v.thread main ≡ true
+  -- the hands that a hand has joined are gone
+  pub joined : (id : ℕ) (v : View) → get_elem? views id ≡ some v → All (IsGone machine.actors) v.joined
   -- what the words of threads say
   pub threads : ThreadsStand machine.layout words views

@@ -1,5 +1,5 @@
 -- A hand's view as a thread of the counting machine, and what its steps make of it.
-use Rattle.std.specs.Prelude.{Bool, ◌≡◌, ℕ, ◌<◌, ◌≤◌, true, ◌==◌, not, if◌then◌else◌, Option, List, [], ◌∷◌, ◌++◌, None, Some, length, count_by, fold}
+use Rattle.std.specs.Prelude.{Bool, ◌≡◌, ℕ, ◌<◌, ◌≤◌, true, ◌==◌, not, if◌then◌else◌, Option, List, [], ◌∷◌, ◌++◌, None, Some, length, count_by, fold, Contains}
 use Rattle.std.specs.List.{filter, list_any}
 use Rattle.brc_model.specs.declared.duty.Holding.TheVariants.{AsCaller}
 use Rattle.brc_model.specs.declared.duty.Duty.{Duty}
@@ -16,6 +16,7 @@ use Rattle.brc_model.specs.SlotLaws.{SlotUse, Stays, Takes, Gives, use_of}
 use Rattle.brc_model.specs.Ranges.{cells_named}
 use Rattle.brc_table.specs.declared.view.View.{View}
 use Rattle.brc_table.specs.declared.view.Event.{Event}
+use Rattle.brc_table.specs.declared.view.Joined.{Joined}
 use Rattle.brc_table.specs.Spares.{is_spent_for}
 use Rattle.brc_table.specs.Seen.{has_seen_kind}
 
@@ -223,6 +224,16 @@ HasSpares spares main = main.thread ≡ 0 → length spares ≡ main.layout.work
 abbrev pub IsGivenBy : {A : Type 0} → List (Option A) → View → Type 0
 IsGivenBy spares main = (t : ℕ) → is_spent_for spares t ≡ is_given t main
 
+-- ---- the hands that a hand has joined
+
+-- The hand has joined this one.
+abbrev pub HasJoined : View → Joined → Type 0
+HasJoined v hand = Contains v.joined hand
+
+-- The hand has joined the thread's.
+abbrev pub IsJoined : ℕ → View → Type 0
+IsJoined thread v = (used : ℕ) × HasJoined v (record { thread = thread; used = used })
+
 -- ---- the first hands
 
 -- main's hand, which holds the root
@@ -241,6 +252,7 @@ main_view layout = record {
   taken = [];
   in_slot = 0;
   given = [];
+  joined = [];
   trace = [];
 }
 
@@ -267,5 +279,6 @@ worker_view layout thread = record {
   taken = [];
   in_slot = 0;
   given = [];
+  joined = [];
   trace = [];
 }

@@ -7,6 +7,7 @@ ghost use Rattle.brc_table.specs.declared.view.View.{View};
 ghost use Rattle.brc_table.specs.Rule.{Stands};
 ghost use Rattle.brc_table.specs.Agreeing.{AgreesInTable};
 ghost use Rattle.brc_table.specs.Ending.{RowsEnd, SeenEndsAreSo, SlotsEnd};
+ghost use Rattle.brc_table.specs.Joining.{JoinedHandsAreGone};
 ghost use Rattle.brc_table.specs.Guarding.{SetMarksAreWatched, OnlyHoldersChangeCells, OnlyHoldersSwapCells, OnlyRunningOwnersCount, GoneHandsHoldNothing, GoneWordsTell, HandsAreStarted, ViewsKeepTheLayout, RootIsAList, TakenSlotsAreAlone};
 
 use brc_model::{
@@ -53,6 +54,14 @@ pub fn only_running_owners_count()
 /// States that a hand whose thread is gone holds no reference, lock, slot, duty or chain.
 pub fn gone_hands_hold_nothing<T>()
     ensures { GoneHandsHoldNothing T }
+{
+    gone_threads_hold_nothing();
+}
+
+/// States that the word of each thread whose hand was joined says that the thread is gone, and that exactly the rows
+/// that it has used are born.
+pub fn joined_hands_are_gone()
+    ensures { JoinedHandsAreGone }
 {
     gone_threads_hold_nothing();
 }

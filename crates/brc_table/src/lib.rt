@@ -10,6 +10,7 @@ mod exits;
 mod first_words;
 mod hand;
 mod handed;
+mod join;
 mod kinds;
 mod laws;
 mod lives;
@@ -31,10 +32,10 @@ pub use closed::Closed;
 pub use hand::Hand;
 pub use laws::{
     counts_agree_in_every_table, gone_hands_hold_nothing, gone_words_tell, hands_are_started,
-    only_holders_change_cells, only_running_owners_count, root_is_a_list, rows_end_in_every_table,
-    seen_ends_are_so, set_marks_are_watched, slots_end_in_every_table, taken_slots_are_alone,
-    views_keep_the_layout,
+    joined_hands_are_gone, only_holders_change_cells, only_running_owners_count, root_is_a_list,
+    rows_end_in_every_table, seen_ends_are_so, set_marks_are_watched, slots_end_in_every_table,
+    taken_slots_are_alone, views_keep_the_layout,
 };
 pub use rule::Counting;
-pub use view::{Event, View};
+pub use view::{Event, Joined, View};
 pub use words::Words;

@@ -3,6 +3,7 @@
 ghost use Rattle.std.specs.Prelude.{◌≡◌, ◌≤◌, ◌⊎◌, ℕ};
 ghost use Rattle.brc_table.specs.Hands.{IsOf};
 ghost use Rattle.brc_table.specs.Peeks.{peeked, NeverStarted};
+ghost use Rattle.brc_table.specs.Views.{IsJoined};
 ghost use Rattle.brc_table.specs.Ending.{SeesEnd};
 
 use crate::hand::Hand;
@@ -36,6 +37,7 @@ impl<T: Drop> Words<T> {
         ensures view { hand.new.view ≡ peeked hand.old.view thread result }
         ensures says { result ≤ 3 }
         ensures unstarted { hand.old.view.thread ≡ 0 → result ≡ 0 → NeverStarted hand.old.view thread }
+        ensures joined { IsJoined thread hand.old.view → result ≡ 3 }
         ensures keeps { (t : ℕ) → SeesEnd hand.old.view t → SeesEnd hand.new.view t }
         ensures sees { hand.old.view.thread ≡ 0 → (result ≡ 0) ⊎ (result ≡ 3) → SeesEnd hand.new.view thread }
     {
@@ -53,6 +55,7 @@ impl<T: Drop> Words<T> {
         ensures view { hand.new.view ≡ peeked hand.old.view thread result }
         ensures says { result ≤ 3 }
         ensures unstarted { hand.old.view.thread ≡ 0 → result ≡ 0 → NeverStarted hand.old.view thread }
+        ensures joined { IsJoined thread hand.old.view → result ≡ 3 }
     {
         accounts_are_there();
         chains_are_there();

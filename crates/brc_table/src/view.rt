@@ -32,8 +32,18 @@ pub struct View {
     pub in_slot: u32,
     /// Of main's hand, the threads whose hands it has given out.
     pub given: LinkedList<u8>,
+    /// The hands that this one has joined, the last one first. Their threads are gone.
+    pub joined: LinkedList<Joined>,
     /// The hand's own steps so far, in order.
     pub trace: LinkedList<Event>,
+}
+
+/// What is known of a hand that another has joined: its thread is gone.
+pub struct Joined {
+    /// The hand's thread.
+    pub thread: u8,
+    /// How many rows of its block the thread has used.
+    pub used: u32,
 }
 
 /// One step of a hand on one word. Running code keeps no trace: it exists in proofs alone.

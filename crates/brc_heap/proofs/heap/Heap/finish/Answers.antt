@@ -1,10 +1,12 @@
-use Rattle.std.proofs.Common.{◌≡◌, ◌≢◌, ◌<◌, ◌≤◌, ℕ, zero, suc, ◌+◌, inl, inr, [], ◌∷◌, ◌++◌, refl, ap, ◌∙◌, subst, arith}
-use Rattle.std.specs.Prelude.{◌⊎◌}
+use Rattle.std.proofs.Common.{◌≡◌, ◌≢◌, ◌<◌, ◌≤◌, ℕ, zero, suc, ◌+◌, inl, inr, [], ◌∷◌, ◌++◌, refl, sym, ap, ◌∙◌, subst, arith}
+use Rattle.std.specs.Prelude.{◌⊎◌, All}
 use Rattle.std.proofs.lemmas.Bool.{cases_lt}
 use Rattle.std.proofs.lemmas.List.{length-append}
 use Rattle.std.proofs.lemmas.List.Elements.{All-append}
 use Rattle.brc_model.specs.declared.layout.Layout.{Layout}
 use Rattle.brc_table.specs.declared.view.View.{View}
+use Rattle.brc_table.specs.Views.{IsJoined}
+use Rattle.brc_table.specs.Joining.{RowsAreUsed}
 use Rattle.brc_table.specs.Hands.{TableState}
 use Rattle.brc_table.specs.Ending.{HaveEnded, EndsWith, SeesEnd}
 use Rattle.brc_heap.specs.Ends.{AllEnded}
@@ -16,6 +18,11 @@ running_word : (word : ℕ) → (word ≡ 1) ⊎ ((word ≡ 1 → ⊥) × (word 
 running_word word (inl runs) = inl runs
 running_word word (inr (other, leaves)) = inr leaves
 
+-- The word of a thread that is gone says neither.
+not_running : (word : ℕ) → word ≡ 3 → (word ≡ 1) ⊎ ((word ≡ 1 → ⊥) × (word ≡ 2)) → ⊥
+not_running word three (inl runs) = absurd (omega (arith, three, runs))
+not_running word three (inr (other, leaves)) = absurd (omega (arith, three, leaves))
+
 -- The look that finds a thread running is one more.
 pub returns-then-word-eq-RUNNING-clause-running : goal.returns-then-word-eq-RUNNING-clause-running
 returns-then-word-eq-RUNNING-clause-running g c =
@@ -25,6 +32,12 @@ returns-then-word-eq-RUNNING-clause-running g c =
       ended = kept.ended;
       word = c.thread_peek-word.result;
       runs = running_word c.thread_peek-word.result c.then-word-eq-RUNNING.either;
+      apart = λ joined.
+          let same = subst (λ (k : ℕ). IsJoined k c.args.main.view) kept.each joined in
+          let three : c.thread_peek-word.result ≡ 3 =
+          c.thread_peek-word.ensures.joined
+          (subst (λ (v : View). IsJoined c.loop-thread.thread v) (sym kept.looked) same) in
+          not_running c.thread_peek-word.result three c.then-word-eq-RUNNING.either;
       view_is =
           c.thread_peek-word.ensures.view
           ∙ looked_more c.args.main.view c.loop-thread.main.view kept.words c.loop-thread.thread
@@ -120,3 +133,13 @@ returns-clause-closed g c =
       ended = kept.ended;
       ends = subst (λ (v : View). EndsWith v c.close.result) kept.looked c.close.ensures.ends;
     }
+
+-- The rule tells the rows of joined hands, and main's hand has joined none on the way.
+pub returns-clause-joined : goal.returns-clause-joined
+returns-clause-joined g c =
+    let end = c.close.result in
+    let ends = c.close.ensures.ends in
+    let kept = c.loop-thread.invariant in
+    subst (λ (v : View). All (RowsAreUsed end.layout end.words) v.joined) kept.looked
+    (c.joined_hands_are_gone.ensures.used end.layout end.words ends.views ends.id c.loop-thread.main.view ends.stands
+    ends.here)
