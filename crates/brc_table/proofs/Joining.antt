@@ -1,5 +1,5 @@
 -- A hand joins another one, whose thread is gone, and the rule holds again: no word changes.
-use Rattle.std.proofs.Common.{◌≡◌, ℕ, zero, suc, ◌+◌, ◌<◌, Option, List, [], ◌∷◌, set, refl, sym, ap, ◌∙◌, subst, arith}
+use Rattle.std.proofs.Common.{◌≡◌, ℕ, zero, suc, ◌+◌, ◌<◌, ◌≤◌, Option, List, [], ◌∷◌, set, refl, sym, ap, ◌∙◌, subst, arith}
 use Rattle.std.specs.Prelude.{slice_index_or, All}
 use Rattle.std.proofs.lemmas.Option.{slice_get_within}
 use mathlib.Core.Option.{some}
@@ -13,7 +13,7 @@ use Rattle.brc_model.specs.declared.layout.Layout.{Layout}
 use Rattle.brc_model.specs.GuardLaws.{GoneThreadsHoldNothing}
 use Rattle.brc_model.specs.Invariant.{kind_stored}
 use Rattle.brc_model.specs.Knowledge.{status_word}
-use Rattle.brc_model.specs.Layout.{row_count, block_of, index_of}
+use Rattle.brc_model.specs.Layout.{row_count, block_of, block_size, index_of}
 use Rattle.brc_table.specs.declared.view.View.{View}
 use Rattle.brc_table.specs.declared.view.Joined.{Joined}
 use Rattle.brc_table.specs.Views.{actor_of, RowsAreThere, IsJoined}
@@ -130,6 +130,9 @@ module _ (layout : Layout) (words : List ℕ) (views : List View) (s : Stands la
       let blanks = core.blanks hand.thread is.actor is.found in
       let none = law s.accounts (1 + s.machine.layout.workers) s.machine hand.thread is.actor s.counts is.found is.gone in
       record {
+        few =
+            subst (λ (l : Layout). hand.used ≤ block_size l hand.thread) s.layout_is
+            (subst (λ (n : ℕ). n ≤ block_size s.machine.layout hand.thread) is.used uses.few);
         born = λ x low own below.
             let lives = uses.born x (row_own x own) (omega (arith, below, index_is x, is.used)) in
             omega (arith, core.kind_words x lives, s.reads (KindOf x) (row_low x low));

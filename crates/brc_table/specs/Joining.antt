@@ -3,7 +3,7 @@ use Rattle.std.specs.Prelude.{◌≡◌, ℕ, ◌<◌, ◌≤◌, List, ◌∷�
 use mathlib.Core.Option.{some}
 use lib.ListN.{get_elem?}
 use Rattle.brc_model.specs.declared.layout.Layout.{Layout}
-use Rattle.brc_model.specs.Layout.{row_count, block_of, index_of}
+use Rattle.brc_model.specs.Layout.{row_count, block_of, block_size, index_of}
 use Rattle.brc_table.specs.declared.view.View.{View}
 use Rattle.brc_table.specs.declared.view.Joined.{Joined}
 use Rattle.brc_table.specs.Rule.{Stands}
@@ -16,6 +16,7 @@ joining v gone = record v { joined = record { thread = gone.thread; used = gone.
 
 -- Of the rows of the joined hand's block, exactly those that its thread has used are born.
 pub record RowsAreUsed (layout : Layout) (words : List ℕ) (hand : Joined) : Type 0 where
+  pub few : hand.used ≤ block_size layout hand.thread
   pub born : (x : ℕ) → x < row_count layout → block_of layout x ≡ hand.thread
       → index_of layout hand.thread x < hand.used → 0 < kind_at words x
   pub unborn : (x : ℕ) → x < row_count layout → block_of layout x ≡ hand.thread

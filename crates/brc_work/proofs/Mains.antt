@@ -1,17 +1,20 @@
 -- Main gives out hands to workers, one after the other.
-use Rattle.std.proofs.Common.{◌≡◌, ℕ, ◌+◌, ◌<◌, ◌≤◌, Bool, false, List, ◌++◌, length, arith, refl, sym, ap, ◌∙◌, subst}
+use Rattle.std.proofs.Common.{◌≡◌, ◌⊎◌, ℕ, suc, ◌+◌, ◌<◌, ◌≤◌, Bool, true, false, List, ◌∷◌, ◌++◌, length, arith, inl, inr, refl, sym, ap, ◌∙◌, subst}
 use Rattle.std.specs.Prelude.{◌==◌, ◌||◌, count_by}
 use Rattle.std.specs.List.{filter, list_any}
 use Rattle.std.proofs.lemmas.Bool.{ne_eqb}
+use Rattle.std.proofs.lemmas.Bool.Decides.{eqb_tells}
 use Rattle.brc_model.specs.declared.duty.Duty.{Duty}
 use Rattle.brc_model.specs.Layout.{root_row}
 use Rattle.brc_table.specs.declared.view.View.{View}
+use Rattle.brc_table.specs.declared.view.Joined.{Joined}
+use Rattle.brc_table.specs.Joining.{joining}
 use Rattle.brc_model.specs.OpenWork.{is_about}
 use Rattle.brc_table.specs.Hands.{IsRunning, HasNoWork, MayWait, most_references}
-use Rattle.brc_table.specs.Views.{holds, is_given}
+use Rattle.brc_table.specs.Views.{holds, is_given, HasJoined}
 use Rattle.brc_heap.specs.Calls.{HasGiven}
 use Rattle.brc_heap.proofs.Sight.{same_sight, sight_then}
-use Rattle.brc_work.specs.Mains.{MayFanOut, KeepsMain}
+use Rattle.brc_work.specs.Mains.{MayFanOut, KeepsMain, JoinsMore}
 
 -- Main has given out no hand yet.
 pub keeps_itself : (v : View) → MayFanOut v → KeepsMain v v
@@ -65,3 +68,54 @@ free_then thread v w given free t above =
     ap (list_any (λ (s : ℕ). s == t)) given.given
     ∙ ap (λ (b : Bool). b || is_given t v) (ne_eqb thread t (λ e. absurd (omega (arith, above, e))))
     ∙ free t (omega (arith, above))
+
+-- A hand that was given out was given out now, or before.
+pub given_then : (thread : ℕ) (v w : View) → HasGiven thread v w → (t : ℕ) → is_given t w ≡ true
+    → (thread ≡ t) ⊎ (is_given t v ≡ true)
+given_then thread v w given t is = elim (eqb_tells thread t) [
+  | inl same ↦ inl same.1
+  | inr apart ↦
+      inr (sym (ap (list_any (λ (s : ℕ). s == t)) given.given
+      ∙ ap (λ (b : Bool). b || is_given t v) apart.0) ∙ is)
+]
+
+-- ---- hands that are joined
+
+-- A hand has still joined what it had joined,
+pub still_joined : (v gone : View) (hand : Joined) → HasJoined v hand → HasJoined (joining v gone) hand
+still_joined v gone hand has = (suc has.0, omega (arith, has.1), has.2)
+
+-- and one hand more.
+pub joins_then : (v u w gone : View) → JoinsMore v u → w ≡ joining u gone → JoinsMore v w
+joins_then v u w gone more is = record {
+  same =
+      is
+      ∙ (ap (λ (z : View). record z { joined = record { thread = gone.thread; used = gone.used } ∷ u.joined }) more.same
+      ∙ ap (λ (hands : List Joined). record v { joined = hands }) (sym (ap (λ (z : View). z.joined) is)));
+  still = λ hand has.
+      subst (λ (z : View). HasJoined z hand) (sym is) (still_joined u gone hand (more.still hand has));
+}
+
+pub joins_none : (v : View) → JoinsMore v v
+joins_none v = record { same = refl; still = λ hand has. has }
+
+pub joined_now : (u w gone : View) → w ≡ joining u gone
+    → HasJoined w (record { thread = gone.thread; used = gone.used })
+joined_now u w gone is =
+    subst (λ (z : View). HasJoined z (record { thread = gone.thread; used = gone.used })) (sym is) (0, omega arith, refl)
+
+-- What main kept as it gave out hands it keeps as it joins them.
+pub keeps_joined : (v u w : View) → KeepsMain v u → JoinsMore u w → KeepsMain v w
+keeps_joined v u w kept more =
+    let joined : View = record u { joined = w.joined } in
+    subst (KeepsMain v) (sym more.same) (record {
+      layout = kept.layout;
+      number = kept.number;
+      status = kept.status;
+      used = kept.used;
+      references = kept.references;
+      head = kept.head;
+      sight = sight_then v u joined kept.sight (same_sight u joined refl refl refl refl);
+      waits = kept.waits;
+      work = kept.work;
+    })

@@ -1,11 +1,11 @@
 -- Lists of which each element is so for its place.
-use Rattle.std.specs.Prelude.{◌≡◌, ℕ, ◌+◌, ◌<◌, List, get_or}
+use Rattle.std.specs.Prelude.{◌≡◌, ℕ, ◌+◌, ◌<◌, Bool, true, List, get_or}
 use Rattle.std.proofs.Common.{below_more, sym, subst}
 use Rattle.brc_host.specs.HostCalls.{HostCall}
 use Rattle.brc_host.specs.declared.counts.HostCounts.{HostCounts}
 use Rattle.brc_table.specs.Hands.{HandState}
 use Rattle.brc_work.specs.declared.totals.Totals.{Totals}
-use Rattle.brc_work.specs.Workers.{Job, HasGone}
+use Rattle.brc_work.specs.Workers.{Job, Ends}
 
 -- each of the first n elements is so for its place
 abbrev pub AreSo : {A : Type 0} → (ℕ → A → Type 0) → List A → ℕ → Type 0
@@ -26,9 +26,15 @@ pub grown : {A : Type 0} (P : ℕ → A → Type 0) (xs ys : List A) (n : ℕ)
 grown P xs ys n same here were k d below =
     below_more (λ i. P i (get_or ys i d)) n (λ i low. subst (P i) (sym (same i d low)) (were i d low)) (here d) k below
 
--- a promise of the same job
-pub gone_for : {S : Type 0} {answers : S → HostCall → S → Type 0} {counts : S → HostCounts} {there j : Job}
-    {hand : HandState} {totals : Totals} → there ≡ j → HasGone answers counts there hand totals
-    → HasGone answers counts j hand totals
-gone_for {answers = answers} {counts = counts} {hand = hand} {totals = totals} same gone =
-    subst (λ i. HasGone answers counts i hand totals) same gone
+-- What a worker's thread leaves for one job it leaves for an equal one,
+pub ends_for : {S : Type 0} {answers : S → HostCall → S → Type 0} {counts : S → HostCounts} {there j : Job}
+    {hand : HandState} {totals : Totals} {called : Bool} → there ≡ j → Ends answers counts there hand totals called
+    → Ends answers counts j hand totals called
+ends_for {answers = answers} {counts = counts} {hand = hand} {totals = totals} {called = called} same ends =
+    subst (λ i. Ends answers counts i hand totals called) same ends
+
+-- and it is so of a worker among others that have all made their calls only if it has made its own.
+pub ends_among : {S : Type 0} {answers : S → HostCall → S → Type 0} {counts : S → HostCounts} {j : Job}
+    {hand : HandState} {totals : Totals} {called all : Bool} → (all ≡ true → called ≡ true)
+    → Ends answers counts j hand totals called → Ends answers counts j hand totals all
+ends_among so ends = (ends.0, λ each. ends.1 (so each))

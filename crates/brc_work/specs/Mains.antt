@@ -1,9 +1,10 @@
 -- What main has to do with workers on threads of their own.
-use Rattle.std.specs.Prelude.{◌≡◌, ◌<◌, ◌≤◌, [], length}
+use Rattle.std.specs.Prelude.{◌≡◌, ℕ, ◌<◌, ◌≤◌, true, [], length}
 use Rattle.brc_model.specs.Layout.{root_row}
 use Rattle.brc_table.specs.declared.view.View.{View}
+use Rattle.brc_table.specs.declared.view.Joined.{Joined}
 use Rattle.brc_table.specs.Hands.{IsRunning, HasNoWork, MayWait, most_references}
-use Rattle.brc_table.specs.Views.{holds, open_work}
+use Rattle.brc_table.specs.Views.{holds, open_work, is_given, HasJoined, IsJoined}
 use Rattle.brc_heap.specs.Calls.{KeepsSight}
 
 -- Main may give out hands: it runs, holds the root and has nothing to do about it, and has given out no hand before.
@@ -14,6 +15,15 @@ pub record MayFanOut (v : View) : Type 0 where
   pub idle : HasNoWork v root_row
   pub few : length v.references < most_references
   pub none_given : v.given ≡ []
+
+-- The hand has joined others more, and is else as it was.
+pub record JoinsMore (v u : View) : Type 0 where
+  pub same : u ≡ record v { joined = u.joined }
+  pub still : (hand : Joined) → HasJoined v hand → HasJoined u hand
+
+-- Each hand that main has given out it has joined: the thread is gone.
+abbrev pub HasJoinedAll : View → Type 0
+HasJoinedAll v = (t : ℕ) → is_given t v ≡ true → IsJoined t v
 
 -- Main has given out hands. It holds what it held before, and its work and its chain are as they were.
 pub record KeepsMain (v u : View) : Type 0 where

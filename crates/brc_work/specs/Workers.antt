@@ -1,5 +1,5 @@
 -- What workers on threads of their own do with their hands.
-use Rattle.std.specs.Prelude.{◌≡◌, ℕ, List, [], ◌++◌, slice_get}
+use Rattle.std.specs.Prelude.{◌≡◌, ℕ, Bool, true, List, [], ◌++◌, slice_get}
 use Rattle.std.proofs.Props.{props}
 use Rattle.brc_host.specs.HostCalls.{HostCall}
 use Rattle.brc_host.specs.declared.counts.HostCounts.{HostCounts}
@@ -35,6 +35,7 @@ job heap m function times thread =
 pub record IsFresh (heap : TableState) (thread : ℕ) (hand : HandState) : Type 0 where
   pub of : IsOf heap hand
   pub view_is : hand.view ≡ worker_view heap.layout thread
+  pub no_slot : hand.slots ≡ []
 
 -- The hand has made this many calls of the code, has left after them, and has done nothing else. Its host was asked for
 -- these calls.
@@ -46,13 +47,18 @@ pub record CallsAndLeaves (code : List Instr) (times : ℕ) (calls : List HostCa
   pub makes : MakesCalls code v times within called
   pub leaves : HasLeft closes called u
 
+-- The hand is the worker's, its thread is gone, and it has taken no slot.
+pub record IsGone (j : Job) (hand : HandState) : Type 0 where
+  pub of : IsOf j.heap hand
+  pub thread_is : hand.view.thread ≡ j.thread
+  pub gone : hand.view.status ≡ Gone
+  pub no_slot : hand.slots ≡ []
+
 -- The worker's hand has done its job: it has made the calls, is gone, and holds nothing. The worker has counted the
 -- objects that it has given birth to, and the faults of its host.
 pub record HasGone {S : Type 0} (answers : S → HostCall → S → Type 0) (counts : S → HostCounts) (j : Job)
     (hand : HandState) (totals : Totals) : Type 0 where
-  pub of : IsOf j.heap hand
-  pub thread_is : hand.view.thread ≡ j.thread
-  pub gone : hand.view.status ≡ Gone
+  pub hand_is : IsGone j hand
   pub idle : (hand.view.agenda ≡ []) × (hand.view.aside ≡ []) × (hand.view.head ≡ 0)
   pub holds_none : hand.view.references ≡ []
   pub created : totals.created ≡ hand.view.used
@@ -61,6 +67,12 @@ pub record HasGone {S : Type 0} (answers : S → HostCall → S → Type 0) (cou
   pub later : S
   pub asked : Asked answers counts first later no_totals totals
       (λ calls. CallsAndLeaves j.code j.times calls (worker_view j.heap.layout j.thread) hand.view)
+
+-- A worker's thread leaves a hand that is gone. If it wasn't stopped, the hand has done its job.
+abbrev pub Ends : {S : Type 0} → (S → HostCall → S → Type 0) → (S → HostCounts) → Job → HandState → Totals → Bool
+    → Type 0
+Ends answers counts j hand totals called =
+    IsGone j hand × (called ≡ true → HasGone answers counts j hand totals)
 
 -- ---- a fact that a struct can keep
 

@@ -10,6 +10,7 @@ mod error;
 mod gate;
 mod host_calls;
 mod items;
+mod joining;
 mod kinds;
 mod laws;
 mod line;
@@ -26,6 +27,7 @@ mod worker;
 
 pub use error::NoThread;
 pub use gate::Gate;
+pub use joining::join_hands;
 pub use laws::hands_and_threads_agree;
 pub use threads::fan_out;
 pub use totals::Totals;

@@ -1,10 +1,11 @@
 //! What a worker does on a thread of its own.
 
-ghost use Rattle.std.specs.Prelude.{◌≡◌, ◌<◌, true, length};
+ghost use Rattle.std.specs.Prelude.{◌≡◌, ◌<◌, [], length};
 ghost use Rattle.brc_queue.specs.Scans.{HasLeft};
 ghost use Rattle.brc_model.specs.declared.actor.Status.TheVariants.{Gone};
 ghost use Rattle.brc_work.specs.Totals.{Asked, no_totals};
-ghost use Rattle.brc_work.specs.Workers.{IsFresh, HasGone, job, fresh-prop};
+ghost use Rattle.brc_table.specs.Hands.{IsOf};
+ghost use Rattle.brc_work.specs.Workers.{IsFresh, HasGone, Ends, job, fresh-prop};
 
 use crate::gate::Gate;
 use crate::totals::Totals;
@@ -43,7 +44,8 @@ pub(crate) struct Done<T: Drop> {
     pub(crate) called: bool,
 }
 
-/// A worker's promise: that its hand has made its calls of the host and left when its thread ends.
+/// A worker's promise: when its thread ends, its hand is gone, and unless the workers were stopped before it began, it
+/// has made its calls of the host and left.
 #[derive(Drop)]
 pub(crate) struct Leaves<T: Drop, H> {
     pub(crate) heap: Snapshot<Heap<T>>,
@@ -55,16 +57,15 @@ pub(crate) struct Leaves<T: Drop, H> {
 }
 
 impl<T: Drop, H: Host<Res = T>> Promise<Done<T>> for Leaves<T, H> {
-    ghost kept_by = { λ p done. done.called ≡ true → HasGone H.answers H.counts
-        (job p.heap.value p.checked.value.«module» p.function p.times p.thread) done.hand done.totals };
+    ghost kept_by = { λ p done. Ends H.answers H.counts
+        (job p.heap.value p.checked.value.«module» p.function p.times p.thread) done.hand done.totals done.called };
 }
 
 impl<'a, T: Drop, H: Host<Res = T>, G: Gate> Task<'a, T, H, G> {
     /// Makes the calls, unless the workers are stopped, and lets the hand leave.
     pub(crate) fn work<R: Wait>(self, rt: &R, stopped: &AtomicBool) -> Done<T>
-        ensures { result.called ≡ true
-            → HasGone H.answers H.counts (job self.entry.heap.now self.entry.checked.now.module
-            self.entry.function self.entry.times self.entry.thread) result.hand result.totals }
+        ensures { Ends H.answers H.counts (job self.entry.heap.now self.entry.checked.now.module
+            self.entry.function self.entry.times self.entry.thread) result.hand result.totals result.called }
     {
         let Task {
             heap,
@@ -125,7 +126,10 @@ fn leaves_at_once<R: Wait, T: Drop, H: Host<Res = T>>(
     host: &mut H,
 ) -> Totals
     requires fresh { IsFresh heap.now hand.old.view.thread hand.old }
+    ensures of { IsOf heap.now hand.new }
+    ensures thread { hand.new.view.thread ≡ hand.old.view.thread }
     ensures gone { hand.new.view.status ≡ Gone }
+    ensures no_slot { hand.new.slots ≡ [] }
     ensures asked { Asked H.answers H.counts host.old host.new no_totals result
         (λ calls. HasLeft calls hand.old.view hand.new.view) }
 {

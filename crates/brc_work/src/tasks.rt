@@ -1,7 +1,8 @@
 //! The tasks of workers, each of which has a hand of its own.
 
-ghost use Rattle.std.specs.Prelude.{◌≡◌, ℕ, ◌+◌, ◌<◌, ◌≤◌, [], length, vec_len, vec_capacity, slice_index_or};
+ghost use Rattle.std.specs.Prelude.{◌≡◌, ℕ, ◌+◌, ◌<◌, ◌≤◌, true, [], length, vec_len, vec_capacity, slice_index_or};
 ghost use Rattle.brc_table.specs.Hands.{IsOf};
+ghost use Rattle.brc_table.specs.Views.{is_given};
 ghost use Rattle.brc_work.specs.Mains.{MayFanOut, KeepsMain};
 ghost use Rattle.brc_work.specs.Workers.{job};
 
@@ -33,6 +34,7 @@ pub(crate) fn tasks_of<'w, T: Drop, H: Host<Res = T>, G: Gate>(
     ensures kept { KeepsMain main.old.view main.new.view }
     ensures carried { main.new.carried ≡ main.old.carried }
     ensures slots { main.new.slots ≡ main.old.slots }
+    ensures given { (t : ℕ) → is_given t main.new.view ≡ true → (k : ℕ) × (k < vec_len result) × (k + 1 ≡ t) }
     ensures one_each { vec_len result ≡ length hosts.old }
     ensures tasks { (k : ℕ) (t : _) → k < vec_len result → let task = slice_index_or result.items k t in
         job task.heap.now task.checked.now.module task.function task.times task.thread

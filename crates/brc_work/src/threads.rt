@@ -1,12 +1,13 @@
 //! Workers on threads of their own.
 
-ghost use Rattle.std.specs.Prelude.{◌≡◌, ℕ, ◌+◌, ◌<◌, ◌≤◌, [], length, vec_len, vec_capacity, slice_index_or, IfOk};
+ghost use Rattle.std.specs.Prelude.{◌≡◌, ℕ, ◌+◌, ◌<◌, ◌≤◌, [], length, vec_len, vec_capacity, slice_index_or, IfOk, IfErr, OnErr};
 ghost use Rattle.brc_table.specs.Hands.{IsOf};
-ghost use Rattle.brc_work.specs.Mains.{MayFanOut, KeepsMain};
-ghost use Rattle.brc_work.specs.Workers.{HasGone, job};
+ghost use Rattle.brc_work.specs.Mains.{MayFanOut, KeepsMain, HasJoinedAll};
+ghost use Rattle.brc_work.specs.Workers.{HasGone, Ends, Job, job};
 
 use crate::error::NoThread;
 use crate::gate::Gate;
+use crate::joining::join_hands;
 use crate::task::{Done, Leaves, Task};
 use crate::tasks::tasks_of;
 use crate::totals::Totals;
@@ -21,8 +22,9 @@ use std::sync::atomic::{AtomicBool, Ordering};
 use std::thread;
 use std::thread::{PromisedHandle, Threads};
 
-/// The thread of a worker, whose hand will have left when the thread ends.
-type Started<T, H> = PromisedHandle<Done<T>, Leaves<T, H>>;
+/// The thread of a worker, whose hand will be gone when the thread ends; or what the worker has left, if its thread
+/// couldn't be started.
+type Begun<T, H> = Result<PromisedHandle<Done<T>, Leaves<T, H>>, Done<T>>;
 
 /// Lets a worker for each host call the accepted module's function with this number, `times` times, each in a thread of
 /// its own. Returns what the workers leave, in their order: each one's hand, which is gone, and what it has counted.
@@ -33,7 +35,8 @@ type Started<T, H> = PromisedHandle<Done<T>, Leaves<T, H>>;
 /// # Errors
 ///
 /// K1 if memory is refused, and then no hand was given out; or if a thread can't be started, and then the workers that
-/// have no thread have left without a call.
+/// have no thread have left without a call. In any case main has joined each hand that it has given out: that thread is
+/// gone, and `finish` doesn't find it running.
 pub fn fan_out<
     'w,
     R: Threads + Wait + Sync,
@@ -63,22 +66,24 @@ pub fn fan_out<
     ensures gone { IfOk result (λ gone. (k : ℕ) (w : _) → k < vec_len gone
         → HasGone H.answers H.counts (job heap.now checked.now.module function times (k + 1))
         (slice_index_or gone.items k w).0 (slice_index_or gone.items k w).1) }
+    ensures joined { OnErr result (HasJoinedAll main.new.view) }
 {
     let count = hosts.len();
     let tasks = Vec::with_capacity(alloc, count)?;
     let threads = Vec::with_capacity(alloc, count)?;
     let answer = Vec::with_capacity(alloc, count)?;
     let tasks = tasks_of(heap, main, checked, function, times, hosts, gate, tasks);
-    let gone = run_all(rt, heap, checked, function, times, tasks, threads, answer);
-    if gone.len() == count {
+    let (gone, called) = run_all(rt, heap, checked, function, times, tasks, threads, answer);
+    if called {
         Ok(gone)
     } else {
+        join_hands(heap, main, gone);
         Err(NoThread)
     }
 }
 
-/// Lets each worker do its task in a thread of its own. Returns what those have left that have made their calls. If a
-/// thread can't be started, the workers are stopped: those that haven't begun leave without a call.
+/// Lets each worker do its task in a thread of its own. Returns what the workers leave, and whether each has made its
+/// calls. If a thread can't be started, the workers are stopped: those that haven't begun leave without a call.
 fn run_all<'w, R: Threads + Wait + Sync, T: Send + Drop, H: Host<Res = T> + Send, G: Gate + Sync>(
     rt: &R,
     heap: &'w Heap<T>,
@@ -86,9 +91,9 @@ fn run_all<'w, R: Threads + Wait + Sync, T: Send + Drop, H: Host<Res = T> + Send
     function: usize,
     times: u32,
     tasks: Vec<Task<'w, T, H, G>>,
-    mut threads: Vec<Started<T, H>>,
+    mut threads: Vec<Begun<T, H>>,
     answer: Vec<(Hand<T>, Totals)>,
-) -> Vec<(Hand<T>, Totals)>
+) -> (Vec<(Hand<T>, Totals)>, bool)
     requires tasks { (k : ℕ) (t : _) → k < vec_len tasks → let task = slice_index_or tasks.items k t in
         job task.heap.now task.checked.now.module task.function task.times task.thread
         ≡ job heap.now checked.now.module function times (k + 1) }
@@ -96,26 +101,25 @@ fn run_all<'w, R: Threads + Wait + Sync, T: Send + Drop, H: Host<Res = T> + Send
     requires room { vec_len tasks ≤ vec_capacity threads }
     requires empty { answer.items ≡ [] }
     requires answer_room { vec_len tasks ≤ vec_capacity answer }
-    ensures few { vec_len result ≤ vec_len tasks.entry }
-    ensures gone { vec_len result ≡ vec_len tasks.entry → (k : ℕ) (w : _) → k < vec_len result
-        → HasGone H.answers H.counts (job heap.now checked.now.module function times (k + 1))
-        (slice_index_or result.items k w).0 (slice_index_or result.items k w).1 }
+    ensures one_each { vec_len result.0 ≡ vec_len tasks.entry }
+    ensures ends { (k : ℕ) (w : _) → k < vec_len result.0
+        → Ends H.answers H.counts (job heap.now checked.now.module function times (k + 1))
+        (slice_index_or result.0.items k w).0 (slice_index_or result.0.items k w).1 result.1 }
 {
     let stopped = AtomicBool::new(false);
     let shared = &stopped;
     thread::scope(
         thread::scope_env(),
         rt,
-        move |scope| -> Vec<(Hand<T>, Totals)>
+        move |scope| -> (Vec<(Hand<T>, Totals)>, bool)
             requires { ((k : ℕ) (t : _) → k < vec_len tasks → let task = slice_index_or tasks.items k t in
                 job task.heap.now task.checked.now.module task.function task.times task.thread
                 ≡ job heap.now checked.now.module function times (k + 1)) × (threads.items ≡ []) × (vec_len tasks ≤
                 vec_capacity threads)
                 × (answer.items ≡ []) × (vec_len tasks ≤ vec_capacity answer) }
-            ensures { (vec_len result ≤ vec_len tasks.entry) × (vec_len result ≡ vec_len tasks.entry
-                → (k : ℕ) (w : _) → k < vec_len result
-                → HasGone H.answers H.counts (job heap.entry.now checked.entry.now.module function times (k + 1))
-                (slice_index_or result.items k w).0 (slice_index_or result.items k w).1) }
+            ensures { (vec_len result.0 ≡ vec_len tasks.entry) × ((k : ℕ) (w : _) → k < vec_len result.0
+                → Ends H.answers H.counts (job heap.entry.now checked.entry.now.module function times (k + 1))
+                (slice_index_or result.0.items k w).0 (slice_index_or result.0.items k w).1 result.1) }
         {
             for task in tasks {
                 let promise = Leaves {
@@ -126,50 +130,65 @@ fn run_all<'w, R: Threads + Wait + Sync, T: Send + Drop, H: Host<Res = T> + Send
                     thread: task.thread,
                     host: PhantomData,
                 };
-                match scope.spawn_with(promise, move || task.work(rt, shared)) {
-                    Ok(started) => {
-                        let Ok(()) = threads.push(started) else {
-                            unreachable!()
-                        };
-                    }
+                let begun = match scope.spawn_with(promise, move || task.work(rt, shared)) {
+                    Ok(started) => Ok(started),
                     Err(refused) => {
                         shared.store(true, Ordering::SeqCst);
-                        drop((refused.value)());
+                        Err((refused.value)())
                     }
-                }
+                };
+                let Ok(()) = threads.push(begun) else {
+                    unreachable!()
+                };
             }
             join_all(rt, heap, checked, function, times, threads, answer)
         },
     )
 }
 
-/// Joins the workers' threads. Appends what those have left that have made their calls.
+/// Joins the workers' threads. Returns what the workers leave, in their order, and whether each has made its calls.
 fn join_all<'w, R: Threads, T: Send + Drop, H: Host<Res = T>>(
     rt: &R,
     heap: &'w Heap<T>,
     checked: &'w Checked,
     function: usize,
     times: u32,
-    threads: Vec<Started<T, H>>,
+    threads: Vec<Begun<T, H>>,
     mut answer: Vec<(Hand<T>, Totals)>,
-) -> Vec<(Hand<T>, Totals)>
+) -> (Vec<(Hand<T>, Totals)>, bool)
     requires empty { answer.items ≡ [] }
     requires room { vec_len threads ≤ vec_capacity answer }
-    ensures few { vec_len result ≤ vec_len threads }
-    ensures gone { ((k : ℕ) (s : _) → k < vec_len threads → let promise = (slice_index_or threads.items k s).promise in
+    requires begun { (k : ℕ) (b : _) → k < vec_len threads
+        → IfOk (slice_index_or threads.items k b) (λ s. let promise = s.promise in
         job promise.heap.value promise.checked.value.«module» promise.function promise.times promise.thread
         ≡ job heap.now checked.now.module function times (k + 1))
-        → vec_len result ≡ vec_len threads → (k : ℕ) (w : _) → k < vec_len result
-        → HasGone H.answers H.counts (job heap.now checked.now.module function times (k + 1))
-        (slice_index_or result.items k w).0 (slice_index_or result.items k w).1 }
+        × IfErr (slice_index_or threads.items k b) (λ done. Ends H.answers H.counts
+        (job heap.now checked.now.module function times (k + 1)) done.hand done.totals done.called) }
+    ensures one_each { vec_len result.0 ≡ vec_len threads }
+    ensures ends { (k : ℕ) (w : _) → k < vec_len result.0
+        → Ends H.answers H.counts (job heap.now checked.now.module function times (k + 1))
+        (slice_index_or result.0.items k w).0 (slice_index_or result.0.items k w).1 result.1 }
 {
-    for started in threads {
-        let done: Done<T> = started.join(rt);
-        if done.called {
-            let Ok(()) = answer.push((done.hand, done.totals)) else {
-                unreachable!()
-            };
-        }
+    let mut called = true;
+    for begun in threads {
+        let done = left_by(rt, begun);
+        called = called && done.called;
+        let Ok(()) = answer.push((done.hand, done.totals)) else {
+            unreachable!()
+        };
     }
-    answer
+    (answer, called)
+}
+
+/// Returns what the worker leaves: if it has a thread, once that has ended.
+fn left_by<R: Threads, T: Send + Drop, H: Host<Res = T>>(rt: &R, begun: Begun<T, H>) -> Done<T>
+    ensures { (j : Job) → IfOk begun (λ s. let promise = s.promise in
+        job promise.heap.value promise.checked.value.«module» promise.function promise.times promise.thread ≡ j)
+        → IfErr begun (λ done. Ends H.answers H.counts j done.hand done.totals done.called)
+        → Ends H.answers H.counts j result.hand result.totals result.called }
+{
+    match begun {
+        Ok(started) => started.join(rt),
+        Err(done) => done,
+    }
 }

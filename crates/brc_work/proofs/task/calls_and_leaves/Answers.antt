@@ -27,9 +27,12 @@ returns g c =
     let same = ap (λ (t : Totals). t.created) c.count_close_faults.ensures in
     record {
       gone = record {
-        of = search rules;
-        thread_is = left.thread ∙ run.called.follows.thread;
-        gone = left.gone;
+        hand_is = record {
+          of = search rules;
+          thread_is = left.thread ∙ run.called.follows.thread;
+          gone = left.gone;
+          no_slot = left.slots ∙ (run.called.slots ∙ c.requires.fresh.no_slot);
+        };
         idle = left.idle;
         holds_none = left.holds_none;
         created = same ∙ omega (arith, none, bears, used);

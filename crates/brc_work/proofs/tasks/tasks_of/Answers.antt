@@ -1,7 +1,7 @@
 use Rattle.std.specs.Prelude.{◌≡◌, ◌+◌, length, vec_items, vec_len}
-use Rattle.std.proofs.Common.{rules, arith, sym, ap, ◌∙◌, subst}
+use Rattle.std.proofs.Common.{rules, arith, inl, inr, sym, ap, ◌∙◌, subst}
 use Rattle.brc_work.specs.Workers.{job}
-use Rattle.brc_work.proofs.Mains.{keeps_then, free_then}
+use Rattle.brc_work.proofs.Mains.{keeps_then, free_then, given_then}
 use Rattle.brc_work.proofs.Places.{grown}
 use Rattle.brc_work.proofs.tasks.tasks_of.Goals as goal
 
@@ -22,6 +22,10 @@ loop-host-preserved g c =
       carried = c.hand_out.ensures.carried ∙ was.carried;
       slots = c.hand_out.ensures.slots ∙ was.slots;
       free = free_then c.loop-host.thread c.loop-host.main.view c.hand_out.new.main.view given was.free;
+      given = λ t is. elim (given_then c.loop-host.thread c.loop-host.main.view c.hand_out.new.main.view given t is) [
+        | inl same ↦ (count, omega (arith, more), omega (arith, was.number, same))
+        | inr before ↦ let k = was.given t before in (k.0, omega (arith, k.1, more), k.2)
+      ];
       number = omega (arith, was.number, more);
       rest = omega (arith, more, was.rest, ap length step);
       room = search (rules, was.room);

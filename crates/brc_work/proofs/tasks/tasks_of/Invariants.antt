@@ -1,4 +1,4 @@
-use Rattle.std.specs.Prelude.{◌≡◌, ℕ, ◌+◌, ◌≤◌, ◌<◌, false, length, get_or, vec_items, vec_len, vec_capacity}
+use Rattle.std.specs.Prelude.{◌≡◌, ℕ, ◌+◌, ◌≤◌, ◌<◌, true, false, length, get_or, vec_items, vec_len, vec_capacity}
 use Rattle.std.specs.Slice.Iter.{iter_mut_rest}
 use Rattle.brc_table.specs.Hands.{IsOf}
 use Rattle.brc_table.specs.Views.{is_given}
@@ -14,6 +14,7 @@ invariant-loop-host g l = record {
   carried : l.main.carried ≡ l.fn.main.carried;
   slots : l.main.slots ≡ l.fn.main.slots;
   free : (t : ℕ) → l.thread ≤ t → is_given t l.main.view ≡ false;
+  given : (t : ℕ) → is_given t l.main.view ≡ true → (k : ℕ) × (k < vec_len l.tasks) × (k + 1 ≡ t);
   number : l.thread ≡ vec_len l.tasks + 1;
   rest : vec_len l.tasks + length (iter_mut_rest l.host-iterator) ≡ length (iter_mut_rest l.initial.host-iterator);
   room : length (iter_mut_rest l.initial.host-iterator) ≤ vec_capacity l.tasks;

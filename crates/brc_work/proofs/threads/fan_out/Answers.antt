@@ -1,9 +1,35 @@
-use Rattle.std.specs.Prelude.{◌≡◌, vec_len}
-use Rattle.std.proofs.Common.{rules}
+use Rattle.std.specs.Prelude.{ℕ, ◌<◌, get_or, vec_items, vec_len}
+use Rattle.std.proofs.Common.{arith, inl, inr, sym, ap, ◌∙◌, subst}
+use Rattle.std.proofs.lemmas.Option.{slice_get_cases}
+use Rattle.brc_table.specs.declared.view.View.{View}
+use Rattle.brc_table.specs.Views.{is_given, HasJoined}
 use Rattle.brc_work.proofs.threads.fan_out.Goals as goal
 
--- Each worker's thread could be started.
-pub returns-then-len-count-clause-gone : goal.returns-then-len-count-clause-gone
-returns-then-len-count-clause-gone g c =
-    let whole : vec_len c.run_all-gone.result ≡ vec_len c.tasks_of-tasks.result = search rules in
-    λ k w below. c.run_all-gone.ensures.gone whole k w below
+-- Each hand is gone, whether its worker has made its calls or was stopped before it began.
+pub join_hands-requires-clause-gone : goal.join_hands-requires-clause-gone
+join_hands-requires-clause-gone g c = λ k w below.
+    let ends = (c.run_all-gone.ensures.ends k w below).0 in (ends.of, ends.gone, ends.no_slot)
+
+-- Each worker has made its calls.
+pub returns-then-called-clause-gone : goal.returns-then-called-clause-gone
+returns-then-called-clause-gone g c = λ k w below. (c.run_all-gone.ensures.ends k w below).1 c.if-called.true
+
+-- The hands that main has given out are those of its tasks, and it has joined what each has left.
+pub returns-else-called-clause-joined : goal.returns-else-called-clause-joined
+returns-else-called-clause-joined g c = λ t given.
+    let more = c.join_hands.ensures.more in
+    let gone = c.run_all-gone.result.0 in
+    let before = sym (ap (λ (v : View). is_given t v) more.same) ∙ given in
+    let k = c.tasks_of-tasks.ensures.given t before in
+    let low : k.0 < vec_len gone = omega (arith, k.1, c.run_all-gone.ensures.one_each) in
+    elim (slice_get_cases (vec_items gone) k.0).1 [
+      | inl some ↦
+          let w = some.0 in
+          let ends = (c.run_all-gone.ensures.ends k.0 w low).0 in
+          let hand = (get_or (vec_items gone) k.0 w).0 in (
+            hand.view.used,
+            subst (λ (n : ℕ). HasJoined c.join_hands.new.main.view (record { thread = n; used = hand.view.used }))
+                (ends.thread_is ∙ k.2) (c.join_hands.ensures.each k.0 w low),
+          )
+      | inr past ↦ absurd (omega (arith, past.0, low))
+    ]

@@ -1,46 +1,50 @@
-use Rattle.std.specs.Prelude.{◌≡◌, ◌+◌, get_or, vec_items, vec_len}
-use Rattle.std.specs.Vec.Iter.{into_iter_items, into_iter_len}
-use Rattle.std.proofs.Common.{rules, arith, sym, subst}
-use Rattle.brc_work.specs.Workers.{HasGone, job}
-use Rattle.brc_work.proofs.Places.{pushed, gone_for}
+use Rattle.std.specs.Prelude.{◌≡◌, ◌+◌, true, IfOk, IfErr, get_or, vec_items, vec_len}
+use Rattle.std.specs.Vec.Iter.{into_iter_items}
+use Rattle.std.proofs.Common.{rules, arith, sym, ◌∙◌, subst}
+use Rattle.brc_work.specs.Workers.{Ends, job}
+use Rattle.brc_work.proofs.Places.{pushed, ends_among}
+use Rattle.brc_work.proofs.threads.join_all.Goals.{then-called, else-called}
 use Rattle.brc_work.proofs.threads.join_all.Goals as goal
 
--- The thread that is joined is that of the next worker, which keeps its promise.
-pub loop-started-preserved-in-Ok-1 : goal.loop-started-preserved-in-Ok-1
-loop-started-preserved-in-Ok-1 g c =
-    let was = c.loop-started.invariant in
+-- The answer has what one worker more has left.
+pub loop-begun-preserved : goal.loop-begun-preserved
+loop-begun-preserved g c =
+    let was = c.loop-begun.invariant in
     let step = c.in-Some.ensures.steps in
-    let left = vec_len c.loop-started.answer in
+    let left = vec_len c.loop-begun.answer in
     let added = c.push.ensures.by_index in
     let job_of = job c.args.heap.now c.args.checked.now.module c.args.function c.args.times in
-    let started = c.in-Some.started in
-    let first = into_iter_items c.into_iter-started-iterator.result in
-    let began = c.into_iter-started-iterator.ensures.into_iter_gives in
-    let grown : vec_len c.push.new.self ≡ left + 1 = search rules in (
-      search rules,
-      search rules,
-      (λ now k s below. let h = was.2 (omega (arith, now, grown, step.1)) (k + 1) s in grind rules),
-      (λ places now k w below.
-          let whole
-          : left + into_iter_len c.loop-started.started-iterator ≡ into_iter_len c.into_iter-started-iterator.result =
-          omega (arith, now, grown, step.1) in
-          let here : started ≡ get_or first left started = let h = was.2 whole 0 started in grind rules in
-          let place =
-          subst (λ s. job s.promise.heap.value s.promise.checked.value.module s.promise.function s.promise.times
-          s.promise.thread ≡ job_of (left + 1)) (sym here) (places left started (omega (arith, whole, step.1))) in
-          pushed (λ i v. HasGone g.H.Host.answers g.H.Host.counts (job_of (i + 1)) v.0 v.1) (vec_items
-          c.loop-started.answer)
-          (vec_items c.push.new.self) left (c.join-done.result.hand, c.join-done.result.totals)
+    let begun = c.in-Some.begun in
+    let first = into_iter_items c.into_iter-begun-iterator.result in
+    let began = c.into_iter-begun-iterator.ensures.into_iter_gives in
+    let grown : vec_len c.push.new.self ≡ left + 1 = search rules in
+    let here : begun ≡ get_or first left begun = let h = was.place 0 begun in grind rules in
+    let same : get_or (vec_items c.args.threads) left begun ≡ begun =
+    sym (subst (λ xs. begun ≡ get_or xs left begun) began.0 here) in
+    let facts =
+    subst (λ b. IfOk b (λ s. let promise = s.promise in
+    job promise.heap.value promise.checked.value.module promise.function promise.times promise.thread ≡ job_of (left + 1))
+    × IfErr b (λ done. Ends g.H.Host.answers g.H.Host.counts (job_of (left + 1)) done.hand done.totals done.called)) same
+    (c.requires.begun left begun (omega (arith, was.passed, step.1, began.1))) in
+    let done = c.left_by-done.result in
+    let now = c.left_by-done.ensures (job_of (left + 1)) facts.0 facts.1 in
+    let all = c.if-called.called in
+    let before : all ≡ true → c.loop-begun.called ≡ true = λ is. elim c.if-called.branch [
+      | then-called w ↦ w.if-called.true
+      | else-called w ↦ absurd (search (rules, is))
+    ] in
+    let this : all ≡ true → done.called ≡ true = λ is. elim c.if-called.branch [
+      | then-called w ↦ sym w.called-is ∙ is
+      | else-called w ↦ absurd (search (rules, is))
+    ] in
+    record {
+      passed = omega (arith, was.passed, grown, step.1);
+      room = search (rules, was.room);
+      place = λ k b below. let h = was.place (k + 1) b in grind rules;
+      ends = λ k w below.
+          pushed (λ i v. Ends g.H.Host.answers g.H.Host.counts (job_of (i + 1)) v.0 v.1 all) (vec_items
+          c.loop-begun.answer)
+          (vec_items c.push.new.self) left (done.hand, done.totals)
           added.0 (λ d. added.1 d (search rules))
-          (was.3 places whole) (gone_for place (c.join-done.ensures c.if-done.true)) k w (omega (arith, below, grown))),
-    )
-
--- Each thread has left something.
-pub returns-clause-gone : goal.returns-clause-gone
-returns-clause-gone g c places whole k w below =
-    let was = c.loop-started.invariant in
-    let began = c.into_iter-started-iterator.ensures.into_iter_gives in
-    was.3 (λ i s low. subst (λ xs. let promise = (get_or xs i s).promise in
-    job promise.heap.value promise.checked.value.module promise.function promise.times promise.thread
-    ≡ job c.args.heap.now c.args.checked.now.module c.args.function c.args.times (i + 1)) (sym began.0)
-    (places i s (omega (arith, low, began.1)))) (omega (arith, whole, c.in-None.ensures.steps.0, began.1)) k w below
+          (λ i d low. ends_among before (was.ends i d low)) (ends_among this now) k w (omega (arith, below, grown));
+    }
