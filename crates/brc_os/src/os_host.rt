@@ -1,6 +1,6 @@
-ghost use Rattle.std.specs.Prelude.{◌≡◌};
-ghost use Rattle.brc_host.specs.HostCounts.{no_counts};
-ghost use Rattle.brc_host.specs.HostCalls.{after_call};
+ghost use Rattle.std.specs.Prelude.{◌≡◌, ◌≤◌, true, length, map, is_err};
+ghost use Rattle.std.specs.String.{string_bytes};
+ghost use Rattle.brc_os.specs.HostStates.{AnswersForSystem, new_host};
 
 use crate::devices::Devices;
 use crate::os_resource::OsResource;
@@ -17,7 +17,8 @@ use std::net::SocketAddr;
 /// given, or connects to a peer that isn't an IP address and a port, as `127.0.0.1:8080` or `[::1]:8080`: no name is
 /// looked up.
 ///
-/// No contract can say what files and peers hold, nor whether the system fails: it says how the calls are counted.
+/// No contract can say what files and peers hold, nor whether the system fails. The contracts say which files and peers
+/// the host was given, that a number of none of them fails, and how the calls are counted.
 #[derive(Drop)]
 pub struct OsHost<'r, R> {
     rt: &'r R,
@@ -26,19 +27,25 @@ pub struct OsHost<'r, R> {
     counts: HostCounts,
 }
 
-// A contract sees what it has counted, and nothing else.
+// A contract sees all but the system.
 impl<'r, R> Model for OsHost<'r, R> {
-    ghost use Rattle.brc_host.specs.declared.counts.HostCounts.{HostCounts};
+    ghost use Rattle.std.specs.Prelude.{map};
+    ghost use Rattle.std.specs.String.{string_bytes};
+    ghost use Rattle.brc_os.specs.HostStates.{HostState};
 
-    ghost Value = { HostCounts };
+    ghost Value = { HostState };
 
-    ghost view = { λ host. host.counts };
+    ghost view = { λ host. record {
+      paths = map string_bytes host.paths.now;
+      peers = map string_bytes host.peers.now;
+      counts = host.counts;
+    } };
 }
 
 impl<'r, R: Devices> OsHost<'r, R> {
-    /// Returns a host over the system behind `rt`, which reaches these files and these peers.
+    /// Returns a host over the system behind `rt`, which reaches just these files and these peers.
     pub fn new(rt: &'r R, paths: &'r [String], peers: &'r [String]) -> OsHost<'r, R>
-        ensures { result ≡ no_counts }
+        ensures { result ≡ new_host (map string_bytes paths.now) (map string_bytes peers.now) }
     {
         OsHost {
             rt,
@@ -49,7 +56,9 @@ impl<'r, R: Devices> OsHost<'r, R> {
     }
 
     // Opens the file as the mode says (POSIX open). It has no O_TRUNC, so a file that is there keeps its bytes.
-    fn open_file(&self, path: u8, mode: Mode) -> Result<OsResource, Fault> {
+    fn open_file(&self, path: u8, mode: Mode) -> Result<OsResource, Fault>
+        ensures beyond { length self.now.paths ≤ path → is_err result ≡ true }
+    {
         let Some(path) = self.paths.get(usize::from(path)) else {
             return Err(Fault);
         };
@@ -66,7 +75,9 @@ impl<'r, R: Devices> OsHost<'r, R> {
     }
 
     // Connects to the peer (POSIX socket and connect).
-    fn connect_peer(&self, peer: u8) -> Result<OsResource, Fault> {
+    fn connect_peer(&self, peer: u8) -> Result<OsResource, Fault>
+        ensures beyond { length self.now.peers ≤ peer → is_err result ≡ true }
+    {
         let Some(peer) = self.peers.get(usize::from(peer)) else {
             return Err(Fault);
         };
@@ -83,9 +94,9 @@ impl<'r, R: Devices> OsHost<'r, R> {
 impl<R: Devices> Host for OsHost<'_, R> {
     type Res = OsResource;
 
-    ghost counts = { λ host. host };
+    ghost counts = { λ host. host.counts };
 
-    ghost answers = { λ before call after. after ≡ after_call call before };
+    ghost answers = { AnswersForSystem };
 
     fn open(&mut self, path: u8, mode: Mode) -> Result<OsResource, Fault> {
         let file = self.open_file(path, mode);
