@@ -1,5 +1,5 @@
 -- The report of each command over the files that a loader may give, and the reasons why it may stop.
-use Rattle.std.specs.Prelude.{◌≡◌, ◌≢◌, ◌⊎◌, ℕ, true, false, List, Option, Some, option_map, codes}
+use Rattle.std.specs.Prelude.{◌≡◌, ◌≢◌, ◌⊎◌, ℕ, true, false, List, Option, Some, map, option_map, codes}
 use Rattle.std.specs.Io.KnownBytes.{Appends}
 use Rattle.brc_lang.specs.declared.module.Module.{Module}
 use Rattle.brc_lang.specs.Grammar.{Spells}
@@ -62,10 +62,11 @@ pub record HasTraceReport (gives : List ℕ → List ℕ → Type 0) (paint : Pa
   pub ready : IsReady module_text schedule_text m s
   pub reported : text ≡ traced_report paint m s
 
--- the module has the function, and the run's tally is this one
+-- the module has the function, and the run's tally is this one, over the asked paths and peers
 pub record RunsTo (m : Module) (asked : Run) (tally : Tally) : Type 0 where
   pub known : has_function m asked.function.now ≡ true
-  pub ran : IsTallyOfRun m asked.threads asked.rows (calls_named m asked.function.now asked.times) tally
+  pub ran : IsTallyOfRun (map (λ path. path.now) asked.paths.now) (map (λ peer. peer.now) asked.peers.now) m
+      asked.threads asked.rows (calls_named m asked.function.now asked.times) tally
 
 pub record HasRunReport (gives : List ℕ → List ℕ → Type 0) (asked : Run) (text : List ℕ) : Type 0 where
   pub module_text : List ℕ

@@ -1,7 +1,7 @@
 -- A run of a function on real threads.
 use Rattle.std.specs.Prelude.{◌≡◌, ℕ, ◌+◌, ◌<◌, None, List, [], ◌∷◌, length, map, slice_index_or}
 use Rattle.brc_host.specs.HostCounts.{raised}
-use Rattle.brc_host.specs.HostCalls.{HostCall, after_call, HasAnswered, close_faults}
+use Rattle.brc_host.specs.HostCalls.{HostCall, HasAnswered, close_faults}
 use Rattle.brc_host.specs.declared.counts.HostCounts.{HostCounts}
 use Rattle.brc_lang.specs.declared.module.Module.{Module}
 use Rattle.brc_model.specs.Layout.{root_row}
@@ -12,6 +12,7 @@ use Rattle.brc_table.specs.Ending.{EndState}
 use Rattle.brc_table.specs.Hands.{TableState, HandState}
 use Rattle.brc_table.specs.Opening.{plain_layout}
 use Rattle.brc_heap.specs.Ends.{HasEnded}
+use Rattle.brc_os.specs.HostStates.{HostState, AnswersForSystem, new_host}
 use Rattle.brc_queue.specs.Scans.{HasLeft}
 use Rattle.brc_report.specs.declared.tally.Tally.{Tally}
 use Rattle.brc_work.specs.Workers.{HasGone, job}
@@ -49,13 +50,6 @@ pub record IsTallyOf {S : Type 0} (answers : S → HostCall → S → Type 0) (c
   pub ended : HasEnded end
   pub counted : tally ≡ tally_at_end end workers (totals_in gone) close_faults
 
--- The same over hosts of the system, of which nothing is said but that they count, and of a main thread whose host
--- isn't seen any more.
-abbrev pub IsTallyOfRun : Module → ℕ → ℕ → Call → Tally → Type 0
-IsTallyOfRun m workers rows call tally = (close_faults : ℕ)
-    × IsTallyOf (λ before asked after. after ≡ after_call asked before) (λ (host : HostCounts). host) m workers rows
-    call close_faults tally
-
 -- Main has left with these closes of its host, and no other call. The tally has counted those that failed.
 pub record CountsMain {S : Type 0} (answers : S → HostCall → S → Type 0) (counts : S → HostCounts) (m : Module)
     (workers rows : ℕ) (call : Call) (before after : S) (tally : Tally) : Type 0 where
@@ -65,6 +59,13 @@ pub record CountsMain {S : Type 0} (answers : S → HostCall → S → Type 0) (
   pub leaves : HasLeft closes first last
   pub host : HasAnswered answers counts before closes after
   pub counted : IsTallyOf answers counts m workers rows call (raised (close_faults closes) 0) tally
+
+-- The same over hosts of the system. Main's host reached just these paths and these peers, and hadn't been called; what
+-- becomes of it isn't seen any more.
+abbrev pub IsTallyOfRun : List (List ℕ) → List (List ℕ) → Module → ℕ → ℕ → Call → Tally → Type 0
+IsTallyOfRun paths peers m workers rows call tally = (after : HostState)
+    × CountsMain AnswersForSystem (λ (host : HostState). host.counts) m workers rows call (new_host paths peers) after
+    tally
 
 -- Main has left, and the heap of a run with this number of workers, and of rows for each, has ended: each thread is
 -- gone. Main has left with these closes of its host, and no other call.

@@ -1,0 +1,23 @@
+use Rattle.std.proofs.Common.{◌≡◌, ℕ, List, Bor, map, ◌∙◌, ap, subst}
+use Rattle.std.proofs.lemmas.Result.{IfOk-weaker}
+use Rattle.std.specs.String.{string_bytes}
+use Rattle.brc_os.specs.HostStates.{HostState, AnswersForSystem, new_host}
+use Rattle.brc_run.specs.Runs.{CountsMain}
+use Rattle.brc_run.proofs.on_system.run_on_system.Goals as goal
+
+-- Main's host has copies of the names.
+pub returns : goal.returns
+returns g c =
+    let m = c.args.checked.now.module in
+    let plan = c.args.plan in
+    let names = map (λ (name : Bor (List ℕ)). name.now) in
+    let paths = ap (map string_bytes) c.as_slice-3.ensures.value ∙ c.in_ok-paths.ensures in
+    let peers = ap (map string_bytes) c.as_slice-4.ensures.value ∙ c.in_ok-peers.ensures in
+    let asked : c.new-main_host.result ≡ new_host (names c.args.paths.now) (names c.args.peers.now) =
+    c.new-main_host.ensures ∙ ap (λ l. new_host l (map string_bytes c.as_slice-4.result.now)) paths
+    ∙ ap (new_host (names c.args.paths.now)) peers in
+    IfOk-weaker c.run_alike.result _ _ (λ tally counts. (
+      c.run_alike.new.main_host,
+      subst (λ (host : HostState). CountsMain AnswersForSystem (λ (h : HostState). h.counts) m plan.threads plan.rows
+          plan.call host c.run_alike.new.main_host tally) asked counts,
+    )) c.run_alike.ensures
