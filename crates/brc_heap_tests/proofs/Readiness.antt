@@ -149,6 +149,18 @@ ready_alone {heap} {hand} alone = record {
   unlocked = alone.unlocked;
 }
 
+-- has locked nothing,
+pub resting_alone : {heap : TableState} {hand : HandState} → IsAlone heap hand → IsResting heap hand None
+resting_alone alone = record {
+  table = alone.table;
+  running = (ready_alone alone).running;
+  held = (ready_alone alone).held;
+  rests = alone_work alone;
+  locked_is = alone.unlocked;
+  lent = alone.lent;
+  returned = tt;
+}
+
 -- Main's hand is as before after it has given out a worker's,
 pub alone_after_giving : {heap : TableState} {before after : HandState} {thread : ℕ} → IsAlone heap before
     → IsOf heap after → HasGiven thread before.view after.view → IsAlone heap after

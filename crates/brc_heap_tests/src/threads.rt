@@ -1,12 +1,13 @@
 //! Threads that count at the same time. In one round another hand holds a lock meanwhile: no lock stands behind the calls.
 
-ghost use Rattle.std.specs.Prelude.{◌≡◌, true, None, OnOk};
-ghost use Rattle.brc_heap_tests.specs.Ready.{IsAlone, IsReadyAt, IsResting, alone-prop};
+ghost use Rattle.std.specs.Prelude.{◌≡◌, true, OnOk};
+ghost use Rattle.brc_heap_tests.specs.Ready.{IsAlone, IsReadyAt, alone-prop};
 
 use crate::calls::{opened, retain_and_release, worker};
 use crate::lists::{locks, unlocks};
 use brc_heap::{Hand, Heap, LocalRelease};
 use brc_lang::Kind;
+use crossbeam_queue::ArrayQueue;
 use std::alloc::{AllocError, Global};
 use std::sync::{Mutex, Wait};
 use std::test::*;
@@ -16,12 +17,25 @@ use std::thread::Threads;
 /// How many workers count, beside main. The next worker holds the lock.
 const WORKERS: u8 = 4;
 
+/// How often a hand looks for a signal before it misses it.
+const MOST_TURNS: u32 = 100_000_000;
+
 /// The value of the numbers.
 const VALUE: u32 = 7;
 
 /// For each hand, by its thread's number, how often it has retained and released the root, and how often a number of its
 /// own, with a reference left each time. Main has no number.
 type Counts = [[u32; 2]; 5];
+
+/// What the hands of a round have done so far.
+#[derive(Drop)]
+struct Progress {
+    counts: Mutex<Counts>,
+    /// A signal that the root is locked.
+    locked: ArrayQueue<()>,
+    /// A signal from each hand that has counted.
+    done: ArrayQueue<()>,
+}
 
 /// A hand that a thread takes with it, and how often it is to retain and release each object.
 #[derive(Drop)]
@@ -68,12 +82,51 @@ fn counts(worker: Worker<'_>) -> [u32; 2] {
 }
 
 /// Lets a hand count, and notes how often.
-fn counts_and_notes<R: Wait>(rt: &R, worker: Worker<'_>, all: &Mutex<Counts>) {
+fn counts_and_notes<R: Wait>(rt: &R, worker: Worker<'_>, progress: &Progress) {
     let thread = usize::from(worker.hand.thread());
     let counted = counts(worker);
-    if let Some(place) = all.lock(rt).get_mut(thread) {
+    if let Some(place) = progress.counts.lock(rt).get_mut(thread) {
         *place = counted;
     }
+    // There is room for each hand's signal.
+    let _ = progress.done.push(rt, ());
+}
+
+/// Waits for the signal. Returns whether it was given.
+fn waits<R: Wait>(rt: &R, signal: &ArrayQueue<()>) -> bool {
+    for _ in 0..MOST_TURNS {
+        if signal.pop(rt).is_some() {
+            return true;
+        }
+    }
+    false
+}
+
+/// Waits until all hands but the locker's have counted. Returns whether they have.
+fn waits_for_all<R: Wait>(rt: &R, progress: &Progress) -> bool {
+    for _ in 0..WORKERS + 1 {
+        if !waits(rt, &progress.done) {
+            return false;
+        }
+    }
+    true
+}
+
+/// Locks the root, unlocks it once the others have counted, and does so again. Returns whether the hand could, and the
+/// others have counted meanwhile.
+#[tactic(auto, using(crate::proofs::Readiness::resting_alone))]
+fn holds<R: Wait>(rt: &R, worker: Worker<'_>, progress: &Progress) -> bool {
+    let Worker { heap, mut hand, .. } = worker;
+    if !locks(heap, &mut hand) || progress.locked.push(rt, ()).is_err() {
+        return false;
+    }
+    let counted = waits_for_all(rt, progress);
+    unlocks(heap, &mut hand);
+    if !locks(heap, &mut hand) {
+        return false;
+    }
+    unlocks(heap, &mut hand);
+    counted
 }
 
 /// Gives out the hands of the workers that count.
@@ -95,45 +148,43 @@ fn crew<'a>(
     Ok(workers)
 }
 
-/// Lets the workers count in threads of a scope, and main beside them.
+/// Lets the workers count in threads of a scope, and main beside them; and the locker hold the root meanwhile, if there is
+/// one. Returns what they have counted, or `None` if the locker couldn't lock the root, or has missed the others.
 fn all_count<R: Threads + Wait + Sync>(
     rt: &R,
+    alloc: Global,
     workers: Vec<Worker<'_>>,
     main: Worker<'_>,
-) -> Result<Counts, AllocError> {
-    let all = Mutex::new([[0; 2]; 5]);
-    let counted = &all;
-    thread::scope(thread::scope_env(), rt, |scope| -> Result<(), AllocError> {
-        for worker in workers {
-            scope.spawn(move || counts_and_notes(rt, worker, counted))?;
-        }
-        counts_and_notes(rt, main, counted);
-        Ok(())
-    })?;
-    Ok(all.into_inner())
-}
-
-/// Locks the root with one more hand, lets the others count, and unlocks it. Returns what they have counted, or `None` if
-/// the hand can't lock the root before, or again afterwards.
-fn all_count_beside_a_lock<R: Threads + Wait + Sync>(
-    rt: &R,
-    heap: &Heap<u32>,
-    locker: &mut Hand<u32>,
-    workers: Vec<Worker<'_>>,
-    main: Worker<'_>,
-) -> Result<Option<Counts>, AllocError>
-    requires resting { IsResting heap.now locker.old None }
-{
-    if !locks(heap, locker) {
-        return Ok(None);
-    }
-    let counts = all_count(rt, workers, main)?;
-    unlocks(heap, locker);
-    if locks(heap, locker) {
-        Ok(Some(counts))
-    } else {
-        Ok(None)
-    }
+    locker: Option<Worker<'_>>,
+) -> Result<Option<Counts>, AllocError> {
+    let progress = Progress {
+        counts: Mutex::new([[0; 2]; 5]),
+        locked: ArrayQueue::new(alloc, 1)?,
+        done: ArrayQueue::new(alloc, 5)?,
+    };
+    let now = &progress;
+    let held = thread::scope(
+        thread::scope_env(),
+        rt,
+        |scope| -> Result<bool, AllocError> {
+            let mut locked = true;
+            let mut holder = None;
+            if let Some(locker) = locker {
+                holder = Some(scope.spawn(move || holds(rt, locker, now))?);
+                locked = waits(rt, &now.locked);
+            }
+            for worker in workers {
+                scope.spawn(move || counts_and_notes(rt, worker, now))?;
+            }
+            counts_and_notes(rt, main, now);
+            match holder {
+                Some(holder) => Ok(holder.join(rt) & locked),
+                None => Ok(true),
+            }
+        },
+    )?;
+    let counts = progress.counts.into_inner();
+    if held { Ok(Some(counts)) } else { Ok(None) }
 }
 
 /// Opens a heap and lets all hands count, beside a lock or with none held.
@@ -144,18 +195,20 @@ fn round<R: Threads + Wait + Sync>(
     times: u32,
 ) -> Result<Option<Counts>, Fail> {
     let (heap, mut main) = opened(alloc, WORKERS + 1, 1)?;
-    let mut locker = worker(&heap, &mut main, WORKERS + 1)?;
+    let hand = worker(&heap, &mut main, WORKERS + 1)?;
     let workers = crew(alloc, &heap, &mut main, times)?;
     let main = Worker {
         heap: &heap,
         hand: main,
         times,
     };
-    if locked {
-        Ok(all_count_beside_a_lock(rt, &heap, &mut locker, workers, main)?)
+    let heap = &heap;
+    let locker = if locked {
+        Some(Worker { heap, hand, times })
     } else {
-        Ok(Some(all_count(rt, workers, main)?))
-    }
+        None
+    };
+    Ok(all_count(rt, alloc, workers, main, locker)?)
 }
 
 #[test]
