@@ -1,13 +1,15 @@
-//! An object in its owner's queue. The owner leaves between the mark and the look, leaves before the mark, or runs on.
+//! An object in its owner's queue. The owner leaves between the mark and the look, leaves before the mark, or runs on. The
+//! two workers are in threads of their own, and a signal holds each of them where the other one is to go on.
 
-ghost use Rattle.std.specs.Prelude.{◌≡◌, true, [], ◌∷◌};
+ghost use Rattle.std.specs.Prelude.{◌≡◌, true, [], ◌∷◌, IfSome};
 ghost use Rattle.brc_model.specs.declared.duty.Duty.TheVariants.{SetMark};
+ghost use Rattle.brc_queue.specs.Calls.{look_left};
 ghost use Rattle.brc_model.specs.Duties.{resources_of};
 ghost use Rattle.brc_heap.specs.Calls.{IsBornWith, kind_word};
-ghost use Rattle.brc_table.specs.Hands.{IsOf};
 ghost use Rattle.brc_table.specs.Homes.{resources};
 ghost use Rattle.brc_queue_tests.specs.Sharing.{HoldsRoot, HasLeft, shared_row};
 
+use crate::meeting::Worker;
 use crate::sharing::{
     ROW, bears, hands_over, leaves, looks, looks_through, marks, merges_and_settles, puts, takes,
 };
@@ -15,139 +17,190 @@ use brc_heap::{Hand, Heap, MergeStep, SharedRelease};
 use brc_host::{FakeHost, FakeResource, Host};
 use brc_lang::{Kind, Mode};
 use brc_queue::Looked;
+use crossbeam_queue::ArrayQueue;
+use std::alloc::{AllocError, Global};
 use std::sync::Wait;
+use std::thread;
+use std::thread::Threads;
 
-/// How a post went: what the poster found when it looked, how its merge and its release ended, if it had to merge, and how
-/// many files the owner has closed by then.
-pub type Posted = (Looked, Option<(MergeStep, SharedRelease)>, u64);
+/// How often a worker looks for the other one before it misses it.
+const MOST_TURNS: u32 = 100_000_000;
 
-/// The first worker's object goes through the root's first cell to the second worker, which gives it up. The object may
-/// stay in another cell too. Returns whether the second worker is to set its mark.
-fn goes_over(
+/// What the owner does.
+#[derive(Clone, Copy, Debug)]
+pub enum Owner {
+    /// It leaves between the mark and the look.
+    LeavesLate,
+    /// It leaves before the mark.
+    Leaves,
+    /// It leaves before the mark, and the object stays in a cell.
+    LeavesTheItem,
+    /// It runs on.
+    Stays,
+}
+
+/// How a post went: what the poster found when it looked, and how its merge and its release ended, if it had to merge.
+pub type Posted = (Looked, Option<(MergeStep, SharedRelease)>);
+
+/// The signals at which the owner and the poster go on. Each is given by the other one.
+#[derive(Drop)]
+pub struct Signals {
+    owner: ArrayQueue<()>,
+    poster: ArrayQueue<()>,
+}
+
+impl Signals {
+    /// Returns signals of which none is given yet.
+    pub fn new(alloc: Global) -> Result<Signals, AllocError> {
+        Ok(Signals {
+            owner: ArrayQueue::new(alloc, 1)?,
+            poster: ArrayQueue::new(alloc, 2)?,
+        })
+    }
+}
+
+/// Gives the signal. Returns whether there was room for it.
+fn gives<R: Wait>(rt: &R, signal: &ArrayQueue<()>) -> bool {
+    signal.push(rt, ()).is_ok()
+}
+
+/// Waits for the signal. Returns whether it was given.
+fn waits<R: Wait>(rt: &R, signal: &ArrayQueue<()>) -> bool {
+    for _ in 0..MOST_TURNS {
+        if signal.pop(rt).is_some() {
+            return true;
+        }
+    }
+    false
+}
+
+/// Gives birth to the object, a file of this host or a number, and puts it into the root. Returns whether it is there.
+fn shares(
     heap: &Heap<FakeResource>,
-    one: &mut Hand<FakeResource>,
-    two: &mut Hand<FakeResource>,
-    kind: Kind,
-    resource: Option<FakeResource>,
-    stays: bool,
+    hand: &mut Hand<FakeResource>,
+    host: &mut FakeHost<'_>,
+    owner: Owner,
 ) -> bool
-    requires one { HoldsRoot heap.now one.old }
-    requires two { HoldsRoot heap.now two.old }
-    requires kind { IsBornWith kind 0 }
-    requires resource { resources resource ≡ resources_of (kind_word kind 0) }
-    ensures one { result ≡ true → HoldsRoot heap.now one.new }
-    ensures two { result ≡ true → HasLeft heap.now two.new (SetMark shared_row ∷ []) }
+    requires holds { HoldsRoot heap.now hand.old }
+    ensures holds { result ≡ true → HoldsRoot heap.now hand.new }
 {
-    bears(heap, one, ROW, kind, resource)
-        && puts(heap, one, stays)
-        && takes(heap, two)
-        && hands_over(heap, two)
-}
-
-/// The second worker sets the mark of the first worker's number. The first worker leaves, and then the second one looks.
-/// Returns how that went, once all have left.
-pub fn merged_by_exit<R: Wait>(
-    rt: &R,
-    heap: &Heap<FakeResource>,
-    main: &mut Hand<FakeResource>,
-    one: &mut Hand<FakeResource>,
-    two: &mut Hand<FakeResource>,
-) -> Option<Posted>
-    requires main { HoldsRoot heap.now main.old }
-    requires one { HoldsRoot heap.now one.old }
-    requires two { HoldsRoot heap.now two.old }
-    ensures table { IsOf heap.now main.new }
-    ensures thread { main.new.view.thread ≡ main.old.view.thread }
-{
-    let mut host = FakeHost::new(&[]);
-    if !goes_over(heap, one, two, Kind::Num, None, false) {
-        return None;
-    }
-    marks(heap, two);
-    if !leaves(rt, heap, one, &mut host) {
-        return None;
-    }
-    match looks(heap, two) {
-        Looked::Left if leaves(rt, heap, two, &mut host) && leaves(rt, heap, main, &mut host) => {
-            Some((Looked::Left, None, 0))
-        }
-        _ => None,
-    }
-}
-
-/// The first worker leaves before the second worker sets the mark of its number, which may stay in a cell. Returns how that
-/// went, once all have left.
-pub fn merged_by_poster<R: Wait>(
-    rt: &R,
-    heap: &Heap<FakeResource>,
-    main: &mut Hand<FakeResource>,
-    one: &mut Hand<FakeResource>,
-    two: &mut Hand<FakeResource>,
-    stays: bool,
-) -> Option<Posted>
-    requires main { HoldsRoot heap.now main.old }
-    requires one { HoldsRoot heap.now one.old }
-    requires two { HoldsRoot heap.now two.old }
-    ensures table { IsOf heap.now main.new }
-    ensures thread { main.new.view.thread ≡ main.old.view.thread }
-{
-    let mut host = FakeHost::new(&[]);
-    if !goes_over(heap, one, two, Kind::Num, None, stays) || !leaves(rt, heap, one, &mut host) {
-        return None;
-    }
-    marks(heap, two);
-    match looks(heap, two) {
-        Looked::Left => None,
-        Looked::Claimed => {
-            let ended = merges_and_settles(rt, heap, two, &mut host)?;
-            if leaves(rt, heap, two, &mut host) && leaves(rt, heap, main, &mut host) {
-                Some((Looked::Claimed, Some(ended), 0))
-            } else {
-                None
-            }
+    match owner {
+        Owner::Stays => match host.open(0, Mode::READ) {
+            Ok(file) => bears(heap, hand, ROW, Kind::File, Some(file)) && puts(heap, hand, false),
+            Err(_) => false,
+        },
+        Owner::LeavesTheItem => bears(heap, hand, ROW, Kind::Num, None) && puts(heap, hand, true),
+        Owner::LeavesLate | Owner::Leaves => {
+            bears(heap, hand, ROW, Kind::Num, None) && puts(heap, hand, false)
         }
     }
 }
 
-/// The second worker sets the mark of the first worker's file and looks, and then the first worker looks through its
-/// queue. Returns how that went, once all have left.
-pub fn closed_while_running<R: Wait>(
-    rt: &R,
-    heap: &Heap<FakeResource>,
-    main: &mut Hand<FakeResource>,
-    one: &mut Hand<FakeResource>,
-    two: &mut Hand<FakeResource>,
-) -> Option<Posted>
-    requires main { HoldsRoot heap.now main.old }
-    requires one { HoldsRoot heap.now one.old }
-    requires two { HoldsRoot heap.now two.old }
-    ensures table { IsOf heap.now main.new }
-    ensures thread { main.new.view.thread ≡ main.old.view.thread }
-{
+/// Does the owner's part. Returns how many files it has closed by the time at which the second worker has posted its
+/// object and it has looked through its queue, or left.
+fn owns<R: Wait>(rt: &R, worker: Worker<'_>, between: &Signals, owner: Owner) -> Option<u64> {
+    let Worker { heap, mut hand } = worker;
     let mut host = FakeHost::new(&[]);
-    let mut other = FakeHost::new(&[]);
-    let Ok(file) = host.open(0, Mode::READ) else {
-        return None;
-    };
-    if !goes_over(heap, one, two, Kind::File, Some(file), false) {
+    if !shares(heap, &mut hand, &mut host, owner) {
         return None;
     }
-    marks(heap, two);
-    match looks(heap, two) {
-        Looked::Left => {
-            if !looks_through(rt, heap, one, &mut host) {
+    if !gives(rt, &between.poster) || !waits(rt, &between.owner) {
+        return None;
+    }
+    match owner {
+        Owner::Stays => {
+            if !looks_through(rt, heap, &mut hand, &mut host) {
                 return None;
             }
             let closed = host.closed();
-            if leaves(rt, heap, one, &mut host)
-                && leaves(rt, heap, two, &mut other)
-                && leaves(rt, heap, main, &mut other)
-            {
-                Some((Looked::Left, None, closed))
+            if gives(rt, &between.poster) && leaves(rt, heap, &mut hand, &mut host) {
+                Some(closed)
             } else {
                 None
             }
         }
-        Looked::Claimed => None,
+        Owner::LeavesLate | Owner::Leaves | Owner::LeavesTheItem => {
+            if leaves(rt, heap, &mut hand, &mut host) && gives(rt, &between.poster) {
+                Some(host.closed())
+            } else {
+                None
+            }
+        }
     }
+}
+
+/// Lets the owner go on, and waits until it has. Returns whether it has.
+fn lets_the_owner_go_on<R: Wait>(rt: &R, between: &Signals) -> bool {
+    gives(rt, &between.owner) && waits(rt, &between.poster)
+}
+
+/// Sets the mark of the object and looks after it, before, after or while the owner leaves, or runs on.
+fn marks_and_looks<R: Wait>(
+    rt: &R,
+    heap: &Heap<FakeResource>,
+    hand: &mut Hand<FakeResource>,
+    between: &Signals,
+    owner: Owner,
+) -> Option<Looked>
+    requires left { HasLeft heap.now hand.old (SetMark shared_row ∷ []) }
+    ensures left { IfSome result (λ looked. HasLeft heap.now hand.new (look_left shared_row looked)) }
+{
+    if matches!(owner, Owner::Leaves | Owner::LeavesTheItem) && !lets_the_owner_go_on(rt, between) {
+        return None;
+    }
+    marks(heap, hand);
+    if matches!(owner, Owner::LeavesLate) && !lets_the_owner_go_on(rt, between) {
+        return None;
+    }
+    let looked = looks(heap, hand);
+    if matches!(owner, Owner::Stays) && !lets_the_owner_go_on(rt, between) {
+        return None;
+    }
+    Some(looked)
+}
+
+/// Does the second worker's part: it takes the object out of the root and gives it up. Returns how its post went.
+fn posts<R: Wait>(rt: &R, worker: Worker<'_>, between: &Signals, owner: Owner) -> Option<Posted> {
+    let Worker { heap, mut hand } = worker;
+    let mut host = FakeHost::new(&[]);
+    if !waits(rt, &between.poster) || !takes(heap, &mut hand) || !hands_over(heap, &mut hand) {
+        return None;
+    }
+    match marks_and_looks(rt, heap, &mut hand, between, owner)? {
+        Looked::Left => {
+            if leaves(rt, heap, &mut hand, &mut host) {
+                Some((Looked::Left, None))
+            } else {
+                None
+            }
+        }
+        Looked::Claimed => {
+            let ended = merges_and_settles(rt, heap, &mut hand, &mut host)?;
+            if leaves(rt, heap, &mut hand, &mut host) {
+                Some((Looked::Claimed, Some(ended)))
+            } else {
+                None
+            }
+        }
+    }
+}
+
+/// Lets the first worker own an object and the second one post it, in threads of their own. Returns how many files the
+/// owner has closed, and how the post went.
+pub fn both_go<R: Threads + Wait + Sync>(
+    rt: &R,
+    one: Worker<'_>,
+    two: Worker<'_>,
+    between: &Signals,
+    owner: Owner,
+) -> Result<(Option<u64>, Option<Posted>), AllocError> {
+    thread::scope(
+        thread::scope_env(),
+        rt,
+        |scope| -> Result<(Option<u64>, Option<Posted>), AllocError> {
+            let one = scope.spawn(move || owns(rt, one, between, owner))?;
+            let two = scope.spawn(move || posts(rt, two, between, owner))?;
+            Ok((one.join(rt), two.join(rt)))
+        },
+    )
 }

@@ -24,9 +24,9 @@ const TRIES: u32 = 100_000_000;
 
 /// A worker's hand, which a thread takes with it.
 #[derive(Drop)]
-struct Worker<'a> {
-    heap: &'a Heap<FakeResource>,
-    hand: Hand<FakeResource>,
+pub struct Worker<'a> {
+    pub heap: &'a Heap<FakeResource>,
+    pub hand: Hand<FakeResource>,
     ghost holds: { HoldsRoot heap.now hand } by { holds-prop heap.now hand },
 }
 
@@ -111,7 +111,7 @@ fn both_exchange<R: Threads + Wait + Sync>(
 }
 
 /// Returns the hand with its heap.
-fn ready<'a>(heap: &'a Heap<FakeResource>, hand: Hand<FakeResource>) -> Worker<'a>
+pub fn ready<'a>(heap: &'a Heap<FakeResource>, hand: Hand<FakeResource>) -> Worker<'a>
     requires holds { HoldsRoot heap.now hand }
 {
     Worker { heap, hand }
