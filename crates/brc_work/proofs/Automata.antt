@@ -26,12 +26,12 @@ use Rattle.brc_model.specs.Trace.{WordEvent, is_word, MakesStep, GoesSilently, C
 use Rattle.brc_model.specs.Trace as model
 use Rattle.brc_table.specs.declared.view.Event.{Event}
 use Rattle.brc_work.specs.Traces.{Makes, Begun, Silently, Asks, Starts, Reads, Continues, Closes, Settles, word_events, events_of, read_birth, exit_of, is_birth, has_read}
-use Rattle.brc_work.specs.Automata.{IsPlain, MakesPlainly, IsNoClaim, ClaimsNothing, HasNoClaim, CanMakeUnclaimed, AsksNothing, GoesAlone, word_event, thread_at, HandsMakeAsThreads, ThreadsMakeAsHands}
+use Rattle.brc_work.specs.Automata.{IsPlain, MakesPlainly, IsNoClaim, ClaimsNothing, HasNoClaim, CanMakeUnclaimed, AsksNothing, GoesAlone, word_event, thread_at, HandsMakeAsThreads, ThreadsAloneMakeAsHands}
 
 -- ---- events
 
 -- the event as a hand has it
-abbrev hand_event : WordEvent → Event
+abbrev pub hand_event : WordEvent → Event
 hand_event e = record { address = e.address; found = e.found; left = e.left }
 
 same_word : (address : Address) (found left : ℕ)
@@ -48,11 +48,11 @@ same_word (Resource x) found left = refl
 same_word (ThreadWord t) found left = refl
 
 -- Both take the same events of a duty.
-same_events : (layout : Layout) (t : ℕ) (a : Actor) (d : Duty) (found : ℕ)
+pub same_events : (layout : Layout) (t : ℕ) (a : Actor) (d : Duty) (found : ℕ)
     → map word_event (events_of layout t a d found) ≡ model.events_of layout t a d found
 same_events layout t a d found = same_word (address_of layout t a.head d) found (new_word t a.head d found)
 
-there_and_back : (es : List Event) → map hand_event (map word_event es) ≡ es
+pub there_and_back : (es : List Event) → map hand_event (map word_event es) ≡ es
 there_and_back [] = refl
 there_and_back (e ∷ es) = ap (λ (rest : List Event). e ∷ rest) (there_and_back es)
 
@@ -262,8 +262,8 @@ pub hands_as_threads : HandsMakeAsThreads
 hands_as_threads functions layout t function p q a b es plain =
     plain_can functions layout t function p a plain.0 es q b plain.1 plain.2
 
-pub threads_as_hands : ThreadsMakeAsHands
-threads_as_hands functions layout t function p q a b es can =
+pub threads_alone_as_hands : ThreadsAloneMakeAsHands
+threads_alone_as_hands functions layout t function p q a b es can =
     subst (λ (fs : List Event). MakesPlainly layout t (code_of (slice_get functions function)) p a fs q b)
     (there_and_back es)
     (can_plain functions layout t p a (thread_at function p a) (thread_at function q b) [] (map word_event es) can.0

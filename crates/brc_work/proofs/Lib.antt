@@ -19,3 +19,4 @@ mod Places
 mod Mains
 mod Traces
 mod Automata
+mod FromOutside

@@ -1,13 +1,14 @@
 -- What a hand's thread makes (`Makes`), and what a thread of the step world can make (`CanMake` of the model). Three
 -- things set them apart. A hand's thread makes a number of how many bytes `read` has read, where a thread of the step
 -- world makes 0; it may begin to settle an empty chain; and a thread of the step world may claim marks between two
--- calls. Apart from that, a thread of the step world can make what a hand's thread makes; and a hand's thread makes
--- what a thread of the step world can make without other calls of the host than closes.
-use Rattle.std.specs.Prelude.{◌≡◌, ◌≢◌, ◌&&◌, ℕ, false, List, map, slice_get}
+-- calls. Apart from that, a thread of the step world can make what a hand's thread makes, and a hand's thread what a
+-- thread of the step world can make: from inside an instruction, only without other calls of the host than closes.
+use Rattle.std.specs.Prelude.{◌≡◌, ◌≢◌, ◌&&◌, ℕ, Bool, true, false, List, map, slice_get}
 use Rattle.brc_host.specs.HostCalls.{HostCall}
 use Rattle.brc_lang.specs.declared.module.Function.{Function}
 use Rattle.brc_lang.specs.declared.module.Instr.{Instr}
 use Rattle.brc_model.specs.declared.actor.Place.{Place}
+use Rattle.brc_model.specs.declared.actor.Place.TheVariants.{Inside}
 use Rattle.brc_model.specs.declared.actor.Status.TheVariants.{Gone}
 use Rattle.brc_model.specs.declared.layout.Layout.{Layout}
 use Rattle.brc_model.specs.declared.thread.Choice.{Choice}
@@ -63,6 +64,12 @@ HasNoClaim (Then a b c made rest step more) = ClaimsNothing step × HasNoClaim m
 abbrev pub CanMakeUnclaimed : List Function → Layout → ℕ → StepActor → List WordEvent → StepActor → Type 0
 CanMakeUnclaimed functions layout t a made b = (can : CanMake functions layout t a made b) × HasNoClaim can
 
+-- Says whether the thread is inside an instruction, so that what it does next may depend on what it has done there: the
+-- line of `write` is of the word that it has loaded last, and the number of `read` of what the host has answered.
+abbrev pub is_inside : Place → Bool
+is_inside (Inside counters at variables stage) = true
+is_inside _ = false
+
 -- The step is no call of the host but for a close, and not the birth of what `read` has read.
 abbrev pub AsksNothing : {functions : List Function} {layout : Layout} {t : ℕ} {a : StepActor} {made : List WordEvent}
     {b : StepActor}
@@ -99,9 +106,18 @@ HandsMakeAsThreads =
     → MakesPlainly layout t (code_of (slice_get functions function)) p a es q b
     → CanMakeUnclaimed functions layout t (thread_at function p a) (map word_event es) (thread_at function q b)
 
--- and what it can make without other calls of the host than closes, a hand's thread makes.
+-- and what it can make from outside of all instructions, a hand's thread makes, calls of the host and all.
 abbrev pub ThreadsMakeAsHands : Type 0
 ThreadsMakeAsHands =
+    (functions : List Function) (layout : Layout) (t function : ℕ) (p q : Place) (a b : Actor) (es : List Event)
+    → is_inside p ≡ false
+    → CanMakeUnclaimed functions layout t (thread_at function p a) (map word_event es) (thread_at function q b)
+    → MakesPlainly layout t (code_of (slice_get functions function)) p a es q b
+
+-- From inside an instruction too a hand's thread makes what a thread of the step world can make without other calls of
+-- the host than closes.
+abbrev pub ThreadsAloneMakeAsHands : Type 0
+ThreadsAloneMakeAsHands =
     (functions : List Function) (layout : Layout) (t function : ℕ) (p q : Place) (a b : Actor) (es : List Event)
     → CanMakeAlone functions layout t (thread_at function p a) (map word_event es) (thread_at function q b)
     → MakesPlainly layout t (code_of (slice_get functions function)) p a es q b
