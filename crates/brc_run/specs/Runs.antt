@@ -1,5 +1,5 @@
 -- A run of a function on real threads.
-use Rattle.std.specs.Prelude.{◌≡◌, ℕ, ◌+◌, ◌<◌, None, List, [], ◌∷◌, length, map, slice_index_or}
+use Rattle.std.specs.Prelude.{◌≡◌, ℕ, ◌+◌, ◌<◌, None, List, [], ◌∷◌, length, map, sum_by, slice_index_or}
 use Rattle.brc_host.specs.HostCounts.{raised}
 use Rattle.brc_host.specs.HostCalls.{HostCall, HasAnswered, close_faults}
 use Rattle.brc_host.specs.declared.counts.HostCounts.{HostCounts}
@@ -49,6 +49,8 @@ pub record IsTallyOf {S : Type 0} (answers : S → HostCall → S → Type 0) (c
   pub layout : end.layout ≡ plain_layout workers rows
   pub ended : HasEnded end
   pub counted : tally ≡ tally_at_end end workers (totals_in gone) close_faults
+  -- the root was created, and what the workers have made
+  pub created : tally.created ≡ 1 + sum_by (λ t. t.created) (totals_in gone)
 
 -- Main has left with these closes of its host, and no other call. The tally has counted those that failed.
 pub record CountsMain {S : Type 0} (answers : S → HostCall → S → Type 0) (counts : S → HostCounts) (m : Module)

@@ -1,9 +1,12 @@
 //! A run of a function: its workers in threads of their own, main's leave, and the tally.
 
-ghost use Rattle.std.specs.Prelude.{◌≡◌, ◌<◌, map, length, IfOk, IfErr};
+ghost use Rattle.std.specs.Prelude.{◌≡◌, ℕ, ◌<◌, [], map, length, vec_len, slice_index_or, IfOk, IfErr, OnOk};
+ghost use Rattle.brc_model.specs.declared.actor.Status.TheVariants.{Gone};
+ghost use Rattle.brc_table.specs.Hands.{IsOf};
+ghost use Rattle.brc_table.specs.Views.{HasJoined};
 ghost use Rattle.brc_run.specs.Runs.{CountsMain, MainHasLeft, totals_in};
 
-use crate::ending::ended;
+use crate::ending::{finished, left};
 use crate::error::RunFault;
 use crate::plan::Plan;
 use crate::tally::tally_of;
@@ -11,7 +14,7 @@ use brc_check::Checked;
 use brc_heap::{Hand, Heap};
 use brc_host::Host;
 use brc_report::Tally;
-use brc_work::{Gate, Totals, fan_out};
+use brc_work::{Gate, Totals, fan_out, join_hands};
 use std::alloc::{AllocError, Global};
 use std::sync::Wait;
 use std::thread::Threads;
@@ -54,11 +57,37 @@ pub fn run<R: Threads + Wait + Sync, T: Send + Drop, H: Host<Res = T> + Send, G:
         gate,
     );
     // Main leaves in any case: what dies only then has its files closed too.
-    let (end, failed) = ended(rt, heap, main, main_host);
-    let gone = ran?;
-    let totals = totals_of(alloc, gone.as_slice())?;
+    let failed = left(rt, &heap, &mut main, main_host);
+    let counted = match ran {
+        Ok(gone) => joined(alloc, &heap, &mut main, gone),
+        Err(refused) => Err(refused.into()),
+    };
+    let end = finished(rt, heap, main);
+    let totals = counted?;
     let threads = u32::from(plan.threads);
     Ok(tally_of(alloc, &end, threads, totals.as_slice(), failed)?)
+}
+
+/// Joins the hands of workers that are gone. Returns what each worker has counted.
+fn joined<T: Drop>(
+    alloc: Global,
+    heap: &Heap<T>,
+    main: &mut Hand<T>,
+    gone: Vec<(Hand<T>, Totals)>,
+) -> Result<Vec<Totals>, RunFault>
+    requires of { IsOf heap.now main.old }
+    requires gone { (k : ℕ) (w : _) → k < vec_len gone → let hand = (slice_index_or gone.items k w).0 in
+        IsOf heap.now hand × (hand.view.status ≡ Gone) × (hand.slots ≡ []) }
+    ensures of { IsOf heap.now main.new }
+    ensures main { main.new.view.thread ≡ main.old.view.thread }
+    ensures totals { IfOk result (λ totals. totals.items ≡ totals_in gone.items) }
+    ensures each { OnOk result ((k : ℕ) (w : _) → k < vec_len gone → let hand = (slice_index_or gone.items k w).0 in
+        HasJoined main.new.view (record { thread = hand.view.thread; used = hand.view.used })) }
+    ensures fault { IfErr result (λ fault. fault ≡ RunFault.NoMemory) }
+{
+    let totals = totals_of(alloc, gone.as_slice())?;
+    join_hands(heap, main, gone);
+    Ok(totals)
 }
 
 /// Returns what each worker has counted.
