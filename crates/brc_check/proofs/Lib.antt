@@ -4,7 +4,12 @@ mod Paths
 mod Pushing
 mod Settling
 mod Turns
+mod Kept
+mod States
+mod Lookups
+mod Marks
 mod Points
+mod Comparing
 mod Tables
 mod Mapping
 mod Trails

@@ -1,4 +1,4 @@
--- Paths, step by step, and entries with which they agree.
+-- Paths, step by step, and states of points with which they agree.
 use Rattle.std.proofs.Common.{◌≡◌, ℕ, List, [], ◌∷◌, ◌++◌, Option, fold, refl, sym, ap, ◌∙◌, subst, inl, inr}
 use Rattle.std.specs.Prelude.{Some}
 use Rattle.std.proofs.lemmas.List.Sums.{fold-append}
@@ -9,7 +9,7 @@ use Rattle.brc_model.specs.declared.slot.State.{State}
 use Rattle.brc_model.specs.declared.slot.Exit.{Exit}
 use Rattle.brc_model.specs.Slots.{entry}
 use Rattle.brc_model.specs.Paths.{PathEnd, At, Ended, Reports, follow, path_end, ReportsCode, IsAcceptableCode}
-use Rattle.brc_model.specs.Tables.{Reaches, IsTrueEntry, entry_at}
+use Rattle.brc_model.specs.Tables.{Reaches, IsTrueEntry}
 use Rattle.brc_check.specs.Entries.{StaysOn, IsClosed, IsErrorAt}
 
 -- ---- one step more
@@ -35,47 +35,47 @@ pub reports-more : (code : List Instr) (at point : ℕ) (s : State) (reported : 
 reports-more code at point s reported e r h =
     record { exits = r.exits ++ e ∷ []; reports = path_end-from code at s e (Reports point reported) r h }
 
--- ---- closed entries
+-- ---- closed states
 
-stays-follow : (code : List Instr) (entries : List (Option State)) → IsClosed code entries → (p : PathEnd) (e : Exit)
-    → StaysOn entries p → StaysOn entries (follow code p e)
-stays-follow code entries closed (At at s) e on = closed.goes_on at s e on
-stays-follow code entries closed Ended e on = tt
-stays-follow code entries closed (Reports at c) e on = on
+stays-follow : (code : List Instr) (states : ℕ → Option State) → IsClosed code states → (p : PathEnd) (e : Exit)
+    → StaysOn states p → StaysOn states (follow code p e)
+stays-follow code states closed (At at s) e on = closed.goes_on at s e on
+stays-follow code states closed Ended e on = tt
+stays-follow code states closed (Reports at c) e on = on
 
-stays-fold : (code : List Instr) (entries : List (Option State)) → IsClosed code entries
+stays-fold : (code : List Instr) (states : ℕ → Option State) → IsClosed code states
     → (exits : List Exit) (p : PathEnd)
-    → StaysOn entries p → StaysOn entries (fold (follow code) p exits)
-stays-fold code entries closed [] p on = on
-stays-fold code entries closed (e ∷ es) p on =
-    stays-fold code entries closed es (follow code p e) (stays-follow code entries closed p e on)
+    → StaysOn states p → StaysOn states (fold (follow code) p exits)
+stays-fold code states closed [] p on = on
+stays-fold code states closed (e ∷ es) p on =
+    stays-fold code states closed es (follow code p e) (stays-follow code states closed p e on)
 
-stays : (code : List Instr) (entries : List (Option State)) → IsClosed code entries → (exits : List Exit) (p : PathEnd)
-    → path_end code exits ≡ p → StaysOn entries p
-stays code entries closed exits p e = subst (StaysOn entries) e
-    (stays-fold code entries closed exits (At 0 entry) closed.begins)
+stays : (code : List Instr) (states : ℕ → Option State) → IsClosed code states → (exits : List Exit) (p : PathEnd)
+    → path_end code exits ≡ p → StaysOn states p
+stays code states closed exits p e = subst (StaysOn states) e
+    (stays-fold code states closed exits (At 0 entry) closed.begins)
 
--- closed entries have the state of each path
-pub closed-reached : (code : List Instr) (entries : List (Option State)) → IsClosed code entries → (at : ℕ) (s : State)
-    → Reaches code at s → entry_at entries at ≡ Some s
-closed-reached code entries closed at s r = stays code entries closed r.exits (At at s) r.reaches
+-- closed states have the state of each path
+pub closed-reached : (code : List Instr) (states : ℕ → Option State) → IsClosed code states → (at : ℕ) (s : State)
+    → Reaches code at s → states at ≡ Some s
+closed-reached code states closed at s r = stays code states closed r.exits (At at s) r.reaches
 
-pub closed-acceptable : (code : List Instr) (entries : List (Option State)) → IsClosed code entries
+pub closed-acceptable : (code : List Instr) (states : ℕ → Option State) → IsClosed code states
     → IsAcceptableCode code
-closed-acceptable code entries closed = record {
-  reports_none = λ at reported m. stays code entries closed m.exits (Reports at reported) m.reports;
+closed-acceptable code states closed = record {
+  reports_none = λ at reported m. stays code states closed m.exits (Reports at reported) m.reports;
   states_agree =
       λ exits others at s t g h. same_Some s t
-      (sym (stays code entries closed exits (At at s) g) ∙ stays code entries closed others (At at t) h);
+      (sym (stays code states closed exits (At at s) g) ∙ stays code states closed others (At at t) h);
 }
 
--- ---- true entries
+-- ---- true states
 
--- the true entries of acceptable code have no error
-pub no_error : (code : List Instr) (entries : List (Option State)) (at : ℕ) (reported : CheckCode)
+-- the true states of acceptable code have no error
+pub no_error : (code : List Instr) (states : ℕ → Option State) (at : ℕ) (reported : CheckCode)
     → IsAcceptableCode code
-    → ((k : ℕ) → IsTrueEntry code k (entry_at entries k)) → IsErrorAt code entries at reported → ⊥
-no_error code entries at reported accepted true_entries error =
+    → ((k : ℕ) → IsTrueEntry code k (states k)) → IsErrorAt code states at reported → ⊥
+no_error code states at reported accepted true_entries error =
     elim error [
       | inl m ↦
           accepted.reports_none at reported (reports-more code at at m.state reported m.exit

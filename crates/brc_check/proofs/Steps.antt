@@ -42,3 +42,32 @@ pub arrives-within : (code : List Instr) (at next : ℕ) (s t : State) (exit : E
     → follow code (At at s) exit ≡ At next t → next < length code
 arrives-within code at next s t exit e =
     subst (IsWithin code) e (within-passes code at (slice_get code at) exit s)
+
+-- if the step reports a code, it is at the point where the step begins
+abbrev IsHere : ℕ → PathEnd → Type 0
+IsHere at (At next s) = Unit {0}
+IsHere at Ended = Unit {0}
+IsHere at (Reports point c) = point ≡ at
+
+here-unless_reported : (at : ℕ) (o : Option CheckCode) (p : PathEnd) → IsHere at p → IsHere at (unless_reported at o p)
+here-unless_reported at None p h = h
+here-unless_reported at (Some c) p h = refl
+
+here-cond : (at next : ℕ) (s : State) (b : Bool) → IsHere at (cond b (At next s) (Reports at RunsOff))
+here-cond at next s true = tt
+here-cond at next s false = refl
+
+here-arrives : (code : List Instr) (at : ℕ) (o : Option ℕ) (s : State) → IsHere at (arrives code at o s)
+here-arrives code at None s = tt
+here-arrives code at (Some next) s = here-cond at next s (nat_lt next (length code))
+
+here-passes : (code : List Instr) (at : ℕ) (o : Option Instr) (exit : Exit) (s : State)
+    → IsHere at (passes code at o exit s)
+here-passes code at None exit s = refl
+here-passes code at (Some i) exit s =
+    here-unless_reported at (lowest i s) (arrives code at (target i exit at) (after i exit s))
+    (here-arrives code at (target i exit at) (after i exit s))
+
+pub reports-here : (code : List Instr) (at point : ℕ) (s : State) (exit : Exit) (c : CheckCode)
+    → follow code (At at s) exit ≡ Reports point c → point ≡ at
+reports-here code at point s exit c e = subst (IsHere at) e (here-passes code at (slice_get code at) exit s)

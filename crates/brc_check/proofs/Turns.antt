@@ -1,7 +1,7 @@
 -- The entries of a function, filled in turn by turn.
-use Rattle.std.proofs.Common.{◌≡◌, ℕ, ◌+◌, ◌-◌, ◌<◌, ◌≤◌, List, length}
+use Rattle.std.proofs.Common.{◌≡◌, ℕ, ◌+◌, ◌-◌, ◌<◌, ◌≤◌, cond, List, length}
 use Rattle.std.proofs.Common.{Option, refl, sym, ap, ◌∙◌, subst, inl, inr, arith}
-use Rattle.std.specs.Prelude.{None, Some, ◌⊎◌, slice_get, replicate, is_some}
+use Rattle.std.specs.Prelude.{None, Some, ◌⊎◌, slice_get, replicate, is_some, is_none}
 use Rattle.std.proofs.lemmas.Bool.{cases_lt}
 use Rattle.std.proofs.lemmas.List.{length-replicate}
 use Rattle.std.proofs.lemmas.List.Sums.{count_by-le-length}
@@ -16,11 +16,11 @@ use Rattle.brc_model.specs.Paths.{PathEnd, At, Ended, Reports, follow, ReportsCo
 use Rattle.brc_model.specs.Tables.{Reaches, StatesDifferAt, entry_at}
 use Rattle.brc_check.specs.declared.filling.Filling.{Filling}
 use Rattle.brc_check.specs.Entries.{StaysOn, IsClosed, IsBlocked}
-use Rattle.brc_check.specs.Filling.{first_filling, settled_at, IsInOrder, IsFilledTo, IsInferred, AreReached}
+use Rattle.brc_check.specs.Filling.{first_filling, settled_at, IsInOrder, IsFilledTo, IsFilled, AreReached}
 use Rattle.brc_check.specs.Refusal.{IsReported}
 use Rattle.brc_check.proofs.Steps.{arrives-within}
 use Rattle.brc_check.proofs.Paths.{begins, reaches-more, reports-more, closed-reached, closed-acceptable}
-use Rattle.brc_check.proofs.Settling.{settles, settled-cases, first-entry, first-in_order}
+use Rattle.brc_check.proofs.Settling.{settles, settled-cases, with_found, first-entry, first-in_order}
 
 -- ---- one exit
 
@@ -77,7 +77,8 @@ led-length code filling once at s exit same is =
     ap (λ (f : Filling). length f.entries) is ∙ (leads code filling at s exit same).same_length ∙ same
 
 stays-kept : (old new : List (Option State)) (p : PathEnd)
-    → ((k : ℕ) (t : State) → entry_at old k ≡ Some t → entry_at new k ≡ Some t) → StaysOn old p → StaysOn new p
+    → ((k : ℕ) (t : State) → entry_at old k ≡ Some t → entry_at new k ≡ Some t) → StaysOn (entry_at old) p
+    → StaysOn (entry_at new) p
 stays-kept old new (At at s) kept on = kept at s on
 stays-kept old new Ended kept on = tt
 stays-kept old new (Reports at c) kept on = on
@@ -98,7 +99,7 @@ blocked-at : (code : List Instr) (filling : Filling) (at : ℕ) (s : State) (exi
     (p : PathEnd)
     → length filling.entries ≡ length code → AllReached code filling → entry_at filling.entries at ≡ Some s
     → follow code (At at s) exit ≡ p
-    → IsBlocked (settled_at filling p).entries p k c → IsReported code k c
+    → IsBlocked (entry_at (settled_at filling p).entries) p k c → IsReported code k c
 blocked-at code filling at s exit k c (At next t) same reached here leads_to blocked =
     let within : next < length filling.entries =
     (let w = arrives-within code at next s t exit leads_to in omega (arith, w, same)) in
@@ -126,7 +127,8 @@ blocked-at code filling at s exit k c (Reports point d) same reached here leads_
 
 pub first_blocked : (code : List Instr) (filling : Filling) (turns at : ℕ) (s : State) (k : ℕ) (c : CheckCode)
     → IsFilledTo code filling turns → entry_at filling.entries at ≡ Some s
-    → IsBlocked (settled_at filling (follow code (At at s) Success)).entries (follow code (At at s) Success) k c
+    → IsBlocked (entry_at (settled_at filling (follow code (At at s) Success)).entries) (follow code (At at s) Success)
+    k c
     → IsReported code k c
 first_blocked code filling turns at s k c filled here blocked =
     blocked-at code filling at s Success k c (follow code (At at s) Success) filled.same_length filled.reached here refl
@@ -135,7 +137,7 @@ first_blocked code filling turns at s k c filled here blocked =
 pub second_blocked : (code : List Instr) (filling : Filling) (turns at : ℕ) (s : State) (k : ℕ) (c : CheckCode)
     → IsFilledTo code filling turns → entry_at filling.entries at ≡ Some s
     → (let once = settled_at filling (follow code (At at s) Success) in IsBlocked
-    (settled_at once (follow code (At at s) Fault)).entries (follow code (At at s) Fault) k c)
+    (entry_at (settled_at once (follow code (At at s) Fault)).entries) (follow code (At at s) Fault) k c)
     → IsReported code k c
 second_blocked code filling turns at s k c filled here blocked =
     let first = leads code filling at s Success filled.same_length in
@@ -150,7 +152,7 @@ closed-before : (code : List Instr) (old new : Filling) (turns : ℕ) → IsFill
     → ((k : ℕ) (t : State) → entry_at old.entries k ≡ Some t → entry_at new.entries k ≡ Some t)
     → ((turn k : ℕ) → slice_get old.order turn ≡ Some k → slice_get new.order turn ≡ Some k)
     → (turn k : ℕ) (t : State) (exit : Exit) → turn < turns → slice_get new.order turn ≡ Some k
-    → entry_at new.entries k ≡ Some t → StaysOn new.entries (follow code (At k t) exit)
+    → entry_at new.entries k ≡ Some t → StaysOn (entry_at new.entries) (follow code (At k t) exit)
 closed-before code old new turns filled within kept same_turns turn k t exit before is e =
     let was = slice_get-get_or old.order turn k (omega (arith, before, within)) in
     let point = same_Some _ k (sym (same_turns turn _ was) ∙ is) in
@@ -176,7 +178,8 @@ pub filled_both : (code : List Instr) (filling : Filling) (turns at : ℕ) (s : 
     → IsFilledTo code filling turns → slice_get filling.order turns ≡ Some at → entry_at filling.entries at ≡ Some s
     → (let once = settled_at filling (follow code (At at s) Success) in
     let twice = settled_at once (follow code (At at s) Fault) in
-    StaysOn once.entries (follow code (At at s) Success) → StaysOn twice.entries (follow code (At at s) Fault)
+    StaysOn (entry_at once.entries) (follow code (At at s) Success)
+    → StaysOn (entry_at twice.entries) (follow code (At at s) Fault)
     → IsFilledTo code twice (turns + 1))
 filled_both code filling turns at s filled next here on_success on_fault =
     let once = settled_at filling (follow code (At at s) Success) in
@@ -190,8 +193,8 @@ filled_both code filling turns at s filled next here on_success on_fault =
     let same_turns : (turn k : ℕ) → slice_get filling.order turn ≡ Some k
     → slice_get twice.order turn ≡ Some k = λ turn k e. second.turns turn k (first.turns turn k e) in
     let here_on : (exit : Exit)
-    → StaysOn twice.entries (follow code (At at s) exit) =
-    λ exit. elim exit as (λ e. StaysOn twice.entries (follow code (At at s) e)) [
+    → StaysOn (entry_at twice.entries) (follow code (At at s) exit) =
+    λ exit. elim exit as (λ e. StaysOn (entry_at twice.entries) (follow code (At at s) e)) [
       | Success ↦ stays-kept once.entries twice.entries (follow code (At at s) Success) second.kept on_success
       | Fault ↦ on_fault
     ] in
@@ -210,10 +213,38 @@ filled_both code filling turns at s filled next here on_success on_fault =
             same_Some k at (sym is ∙ ap (slice_get twice.order) last ∙ same_turns turns at next) in
             let state : t ≡ s =
             same_Some t s (sym e ∙ ap (entry_at twice.entries) point ∙ kept at s here) in
-            subst (λ (p : PathEnd). StaysOn twice.entries (follow code p exit)) (sym (same_end k at t s point state))
+            subst (λ (p : PathEnd). StaysOn (entry_at twice.entries) (follow code p exit)) (sym (same_end k at t s
+            point state))
             (here_on exit)
       ];
     }
+
+-- a point that has its state isn't found again
+settled-again : (filling : Filling) (p : PathEnd) → StaysOn (entry_at filling.entries) p
+    → settled_at filling p ≡ filling
+settled-again filling (At at s) on =
+    ap (λ (o : Option State). cond (is_none o) (with_found filling at s) filling) on
+settled-again filling Ended on = refl
+settled-again filling (Reports at c) on = absurd on
+
+-- an instruction whose exits are one has no second exit to follow
+pub filled_one : (code : List Instr) (filling once : Filling) (turns at : ℕ) (s : State)
+    → IsFilledTo code filling turns → slice_get filling.order turns ≡ Some at → entry_at filling.entries at ≡ Some s
+    → once ≡ settled_at filling (follow code (At at s) Success)
+    → StaysOn (entry_at once.entries) (follow code (At at s) Success)
+    → follow code (At at s) Fault ≡ follow code (At at s) Success
+    → IsFilledTo code once (turns + 1)
+filled_one code filling once turns at s filled next here is on same =
+    let success = follow code (At at s) Success in
+    let led = settled_at filling success in
+    let on_led : StaysOn (entry_at led.entries) success =
+    subst (λ (f : Filling). StaysOn (entry_at f.entries) success) is on in
+    let again : settled_at led (follow code (At at s) Fault) ≡ led =
+    ap (settled_at led) same ∙ settled-again led success on_led in
+    subst (λ (f : Filling). IsFilledTo code f (turns + 1)) (again ∙ sym is)
+    (filled_both code filling turns at s filled next here on_led
+    (subst (λ (f : Filling). StaysOn (entry_at f.entries) (follow code (At at s) Fault)) (sym again)
+    (subst (StaysOn (entry_at led.entries)) (sym same) on_led)))
 
 -- ---- all entries of a function
 
@@ -234,12 +265,12 @@ filled_first code filling some begun = rw begun (record {
 
 -- No more points are found than the function has: once there has been a turn for each, all are closed.
 pub filled_last : (code : List Instr) (filling : Filling) (turns : ℕ) → IsFilledTo code filling turns
-    → length code ≤ turns → IsInferred code filling.entries
+    → length code ≤ turns → IsFilled code filling.entries
 filled_last code filling turns filled all =
     let few = count_by-le-length {X = Option State} is_some filling.entries in
     let once = filled.in_order.once in
     let same = filled.same_length in
-    let closed : IsClosed code filling.entries = record {
+    let closed : IsClosed code (entry_at filling.entries) = record {
       begins = filled.begins;
       goes_on =
           λ at s exit e.
@@ -249,8 +280,8 @@ filled_last code filling turns filled all =
     } in
     record {
       same_length = filled.same_length;
-      truth = λ at s. (filled.reached at s, closed-reached code filling.entries closed at s);
-      acceptable = closed-acceptable code filling.entries closed;
+      truth = λ at s. (filled.reached at s, closed-reached code (entry_at filling.entries) closed at s);
+      acceptable = closed-acceptable code (entry_at filling.entries) closed;
     }
 
 -- ---- the entries found so far

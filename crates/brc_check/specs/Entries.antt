@@ -1,4 +1,4 @@
--- The entries of one function compared with the steps of its paths.
+-- The states of one function's points compared with the steps of its paths.
 use Rattle.std.specs.Prelude.{◌≡◌, ◌≢◌, ◌⊎◌, ℕ, List, Option, Some}
 use Rattle.brc_lang.specs.declared.module.Instr.{Instr}
 use Rattle.brc_lang.specs.declared.check_code.CheckCode.{CheckCode}
@@ -7,9 +7,10 @@ use Rattle.brc_model.specs.declared.slot.State.{State}
 use Rattle.brc_model.specs.declared.slot.Exit.{Exit}
 use Rattle.brc_model.specs.Slots.{entry}
 use Rattle.brc_model.specs.Paths.{PathEnd, At, Ended, Reports, follow}
-use Rattle.brc_model.specs.Tables.{entry_at}
 use Rattle.brc_check.specs.declared.step.Step.{Step}
 use Rattle.brc_check.specs.declared.step.Step.TheVariants.{To, Ends, Error}
+use Rattle.brc_check.specs.declared.step.StepEnd.{StepEnd}
+use Rattle.brc_check.specs.declared.step.StepEnd.TheVariants.{To as ToPoint, Ends as CallEnds, Error as Code}
 
 -- the end of the step from a point
 abbrev pub end_of : ℕ → Step → PathEnd
@@ -17,56 +18,60 @@ end_of at (To next s) = At next s
 end_of at Ends = Ended
 end_of at (Error code) = Reports at code
 
--- the path ends at a point whose entry is its state, or ends the call
-abbrev pub StaysOn : List (Option State) → PathEnd → Type 0
-StaysOn entries (At at s) = entry_at entries at ≡ Some s
-StaysOn entries Ended = Unit {0}
-StaysOn entries (Reports at code) = ⊥
+-- the same where the state is apart
+abbrev pub end_in : ℕ → StepEnd → State → PathEnd
+end_in at (ToPoint next) s = At next s
+end_in at CallEnds s = Ended
+end_in at (Code code) s = Reports at code
 
--- from the entry of the point each exit leads to the entry of its target
-abbrev pub IsClosedAt : List Instr → List (Option State) → ℕ → Type 0
-IsClosedAt code entries at = (s : State) (exit : Exit) → entry_at entries at ≡ Some s
-    → StaysOn entries (follow code (At at s) exit)
+-- the path ends at a point that has its state, or ends the call
+abbrev pub StaysOn : (ℕ → Option State) → PathEnd → Type 0
+StaysOn states (At at s) = states at ≡ Some s
+StaysOn states Ended = Unit {0}
+StaysOn states (Reports at code) = ⊥
 
--- the first entry is the state in which a function begins, and each point is closed
-pub record IsClosed (code : List Instr) (entries : List (Option State)) : Type 0 where
-  pub begins : entry_at entries 0 ≡ Some entry
-  pub goes_on : (at : ℕ) → IsClosedAt code entries at
+-- from the state of the point each exit leads to the state of its target
+abbrev pub IsClosedAt : List Instr → (ℕ → Option State) → ℕ → Type 0
+IsClosedAt code states at = (s : State) (exit : Exit) → states at ≡ Some s → StaysOn states (follow code (At at s) exit)
+
+-- the first point has the state in which a function begins, and each point is closed
+pub record IsClosed (code : List Instr) (states : ℕ → Option State) : Type 0 where
+  pub begins : states 0 ≡ Some entry
+  pub goes_on : (at : ℕ) → IsClosedAt code states at
 
 -- ---- what breaks it
 
--- the instruction at the point reports the code in the state of the entry
-pub record ReportsFrom (code : List Instr) (entries : List (Option State)) (at : ℕ)
-    (reported : CheckCode) : Type 0 where
+-- the instruction at the point reports the code in the point's state
+pub record ReportsFrom (code : List Instr) (states : ℕ → Option State) (at : ℕ) (reported : CheckCode) : Type 0 where
   pub state : State
   pub exit : Exit
-  pub is_given : entry_at entries at ≡ Some state
+  pub is_given : states at ≡ Some state
   pub reports : follow code (At at state) exit ≡ Reports at reported
 
--- an exit of an entry leads to the point in a state that isn't the entry there
-pub record DiffersFrom (code : List Instr) (entries : List (Option State)) (at : ℕ) : Type 0 where
+-- an exit of a point leads to another in a state that isn't the one there
+pub record DiffersFrom (code : List Instr) (states : ℕ → Option State) (at : ℕ) : Type 0 where
   pub before : ℕ
   pub state : State
   pub exit : Exit
   pub arriving : State
-  pub is_given : entry_at entries before ≡ Some state
+  pub is_given : states before ≡ Some state
   pub leads : follow code (At before state) exit ≡ At at arriving
-  pub apart : entry_at entries at ≢ Some arriving
+  pub apart : states at ≢ Some arriving
 
--- the first entry isn't the state in which a function begins
-abbrev pub DiffersAtEntry : List (Option State) → ℕ → Type 0
-DiffersAtEntry entries at = (at ≡ 0) × (entry_at entries 0 ≢ Some entry)
+-- the first point hasn't the state in which a function begins
+abbrev pub DiffersAtEntry : (ℕ → Option State) → ℕ → Type 0
+DiffersAtEntry states at = (at ≡ 0) × (states 0 ≢ Some entry)
 
--- the code with which the entries are refused at a point
-abbrev pub IsErrorAt : List Instr → List (Option State) → ℕ → CheckCode → Type 0
-IsErrorAt code entries at reported =
-    ReportsFrom code entries at reported
-    ⊎ ((reported ≡ StatesDiffer) × (DiffersFrom code entries at ⊎ DiffersAtEntry entries at))
+-- the code with which the states are refused at a point
+abbrev pub IsErrorAt : List Instr → (ℕ → Option State) → ℕ → CheckCode → Type 0
+IsErrorAt code states at reported =
+    ReportsFrom code states at reported
+    ⊎ ((reported ≡ StatesDiffer) × (DiffersFrom code states at ⊎ DiffersAtEntry states at))
 
 -- ---- one end of a path
 
--- the code that keeps a path end from agreeing with the entries, and its point
-abbrev pub IsBlocked : List (Option State) → PathEnd → ℕ → CheckCode → Type 0
-IsBlocked entries (At next s) at reported = (next ≡ at) × (reported ≡ StatesDiffer) × (entry_at entries next ≢ Some s)
-IsBlocked entries Ended at reported = ⊥
-IsBlocked entries (Reports point code) at reported = (point ≡ at) × (code ≡ reported)
+-- the code that keeps a path end from agreeing with the states, and its point
+abbrev pub IsBlocked : (ℕ → Option State) → PathEnd → ℕ → CheckCode → Type 0
+IsBlocked states (At next s) at reported = (next ≡ at) × (reported ≡ StatesDiffer) × (states next ≢ Some s)
+IsBlocked states Ended at reported = ⊥
+IsBlocked states (Reports point code) at reported = (point ≡ at) × (code ≡ reported)

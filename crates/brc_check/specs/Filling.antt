@@ -1,5 +1,5 @@
 -- The entries of a function, filled in as paths find its points.
-use Rattle.std.specs.Prelude.{◌≡◌, ◌<◌, ◌-◌, ℕ, List, [], ◌∷◌, ◌++◌, length}
+use Rattle.std.specs.Prelude.{◌≡◌, ◌<◌, ◌-◌, ℕ, List, [], ◌∷◌, ◌++◌, length, map}
 use Rattle.std.specs.Prelude.{replicate, Option, None, Some, is_none, is_some, slice_get, slice_set, if◌then◌else◌}
 use Rattle.std.specs.List.{count_by}
 use Rattle.brc_lang.specs.declared.module.Instr.{Instr}
@@ -8,7 +8,9 @@ use Rattle.brc_model.specs.Slots.{entry}
 use Rattle.brc_model.specs.Paths.{PathEnd, At, Ended, Reports, IsAcceptableCode}
 use Rattle.brc_model.specs.Tables.{Reaches, IsTrueEntry, entry_at}
 use Rattle.brc_check.specs.declared.filling.Filling.{Filling}
+use Rattle.brc_check.specs.declared.kept_entry.KeptEntry.{KeptEntry}
 use Rattle.brc_check.specs.Entries.{IsClosedAt}
+use Rattle.brc_check.specs.Tables.{kept_points, point_of, state_at}
 
 -- what is known of a function of this many instructions at first: its first point is found
 abbrev pub first_filling : ℕ → Filling
@@ -45,7 +47,8 @@ pub record IsFilledTo (code : List Instr) (filling : Filling) (turns : ℕ) : Ty
   pub begins : entry_at filling.entries 0 ≡ Some entry
   pub reached : (k : ℕ) (s : State) → entry_at filling.entries k ≡ Some s → Reaches code k s
   pub in_order : IsInOrder filling
-  pub closed : (turn k : ℕ) → turn < turns → slice_get filling.order turn ≡ Some k → IsClosedAt code filling.entries k
+  pub closed : (turn k : ℕ) → turn < turns → slice_get filling.order turn ≡ Some k
+      → IsClosedAt code (entry_at filling.entries) k
 
 -- each entry is the state in which some path reaches the point, and the first point has one
 pub record AreReached (code : List Instr) (entries : List (Option State)) : Type 0 where
@@ -58,7 +61,22 @@ abbrev pub AreTrue : List Instr → List (Option State) → Type 0
 AreTrue code entries = (at : ℕ) → IsTrueEntry code at (entry_at entries at)
 
 -- the entries are true, and the function is acceptable
-pub record IsInferred (code : List Instr) (entries : List (Option State)) : Type 0 where
+pub record IsFilled (code : List Instr) (entries : List (Option State)) : Type 0 where
   pub same_length : length entries ≡ length code
   pub truth : AreTrue code entries
+  pub acceptable : IsAcceptableCode code
+
+-- ---- what a table keeps of them
+
+abbrev pub entry_from : List (Option State) → ℕ → KeptEntry
+entry_from entries at = record { at = at; state = entry_at entries at }
+
+-- the entries of the kept points
+abbrev pub kept_entries : List Instr → List (Option State) → List KeptEntry
+kept_entries code entries = map (entry_from entries) (kept_points code)
+
+-- the entries are those of the kept points, the states that they give are true, and the function is acceptable
+pub record IsInferred (code : List Instr) (kept : List KeptEntry) : Type 0 where
+  pub points : map point_of kept ≡ kept_points code
+  pub truth : (at : ℕ) → IsTrueEntry code at (state_at code kept at)
   pub acceptable : IsAcceptableCode code

@@ -1,10 +1,11 @@
 ghost use Rattle.std.specs.Prelude.{◌≡◌};
 ghost use Rattle.brc_lang.specs.Grammar.{IsModule};
 ghost use Rattle.brc_model.specs.Paths.{IsAcceptable};
-ghost use Rattle.brc_model.specs.Tables.{IsTrueWhereReached};
+ghost use Rattle.brc_check.specs.Tables.{IsTrueWhereReached, states_of};
 
 use crate::table::Table;
 use brc_lang::Module;
+use brc_model::State;
 use std::marker::Model;
 
 /// An accepted module with the table that shows why. Only the checker makes one.
@@ -17,8 +18,8 @@ pub struct Checked {
 impl Model for Checked {
     ghost use Rattle.brc_lang.specs.Grammar.{IsModule};
     ghost use Rattle.brc_model.specs.Paths.{IsAcceptable};
-    ghost use Rattle.brc_model.specs.Tables.{IsTrueWhereReached};
     ghost use Rattle.brc_check.specs.Accepted.{Accepted};
+    ghost use Rattle.brc_check.specs.Tables.{IsTrueWhereReached};
 
     ghost Value = { Accepted };
 
@@ -57,5 +58,13 @@ impl Checked {
         ensures truth { IsTrueWhereReached self.now.module result.now }
     {
         &self.table
+    }
+
+    /// Returns the state of a point of a function, or `None` if no path reaches the point, or there is no such point.
+    /// Functions and points count from 0. It takes no memory.
+    pub fn entry(&self, function: usize, at: usize) -> Option<State>
+        ensures { result ≡ states_of self.now.module self.now.table function at }
+    {
+        self.table.at(&self.module, function, at)
     }
 }

@@ -3,9 +3,9 @@
 ghost use Rattle.std.specs.Prelude.{◌≡◌, IfOk, OnOk, IfErr};
 ghost use Rattle.brc_lang.specs.Grammar.{IsModule};
 ghost use Rattle.brc_model.specs.Paths.{IsAcceptable};
-ghost use Rattle.brc_model.specs.Tables.{IsTrueTable};
 ghost use Rattle.brc_model.specs.Safety.{Safe};
 ghost use Rattle.brc_check.specs.Refusal.{IsForMemory, IsRefusal};
+ghost use Rattle.brc_check.specs.Tables.{IsTrueTable};
 
 use crate::checked::Checked;
 use crate::inferring::infer;

@@ -32,8 +32,8 @@ fn is_entry(entries: &[Option<State>], at: usize, state: &State) -> bool
 
 /// Returns the code and the point that keep the step from agreeing with the entries, or `None` if it agrees.
 pub fn blocked(entries: &[Option<State>], at: usize, step: &Step) -> Option<CodeAt>
-    ensures { MatchOption result (StaysOn entries.now (end_of at step.now))
-        (λ m. IsBlocked entries.now (end_of at step.now) m.at m.code) }
+    ensures { MatchOption result (StaysOn (entry_at entries.now) (end_of at step.now))
+        (λ m. IsBlocked (entry_at entries.now) (end_of at step.now) m.at m.code) }
 {
     match *step {
         Step::Ends => None,

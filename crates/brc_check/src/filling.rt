@@ -1,7 +1,8 @@
 //! The entries of a function while they are inferred.
 
-ghost use Rattle.std.specs.Prelude.{◌≡◌, ◌<◌, ◌≤◌, ◌-◌, ◌∷◌, length, replicate, IfOk, MatchOption, None, Some};
+ghost use Rattle.std.specs.Prelude.{◌≡◌, ◌<◌, ◌≤◌, ◌-◌, ◌∷◌, length, replicate, IfOk, IsTrue, MatchOption, None, Some};
 ghost use Rattle.brc_model.specs.Slots.{entry};
+ghost use Rattle.brc_model.specs.Tables.{entry_at};
 ghost use Rattle.brc_check.specs.Filling.{first_filling, settled, IsInOrder, IsFoundAt};
 
 use crate::entries::entry_at;
@@ -56,14 +57,16 @@ pub fn found_at(filling: &Filling, turn: usize) -> Option<(usize, State)>
     Some((at, state))
 }
 
-/// Makes the state the entry of a point that has none yet: the point is found.
-pub fn settle(filling: &mut Filling, at: usize, state: State) -> Result<(), AllocError>
+/// Makes the state the entry of a point that has none yet: the point is found. Returns whether it is.
+pub fn settle(filling: &mut Filling, at: usize, state: State) -> Result<bool, AllocError>
     requires { at < length filling.old.entries }
-    ensures { IfOk result (λ done. filling.new ≡ settled filling.old at state) }
+    ensures settled { IfOk result (λ found. filling.new ≡ settled filling.old at state) }
+    ensures entry { IfOk result (λ found. IsTrue found → entry_at filling.new.entries at ≡ Some state) }
 {
-    if filling.entries.as_slice()[at].is_none() {
-        filling.order.push(at)?;
-        filling.entries.set(at, Some(state));
+    if filling.entries.as_slice()[at].is_some() {
+        return Ok(false);
     }
-    Ok(())
+    filling.order.push(at)?;
+    filling.entries.set(at, Some(state));
+    Ok(true)
 }

@@ -1,16 +1,21 @@
 //! Infers the table of a module. Each point of a function is gone over once, in the order in which paths find them: the
-//! first path that reaches a point gives it its entry, and any other is compared with that entry.
+//! first path that reaches a point gives it its state, and any other is compared with that state. The table keeps those
+//! of the points where paths meet.
 
 ghost use Rattle.std.specs.Prelude.{◌≡◌, ◌⊎◌, ◌<◌, ◌+◌, length, IfOk, OnOk, IfErr, MatchOption, MatchResult};
 ghost use Rattle.brc_lang.specs.Grammar.{IsModule, IsFunction};
 ghost use Rattle.brc_model.specs.Paths.{IsAcceptable, IsAcceptableCode, follow, At};
-ghost use Rattle.brc_model.specs.Tables.{IsTrueTable};
+ghost use Rattle.brc_model.specs.Tables.{entry_at};
 ghost use Rattle.brc_check.specs.Entries.{StaysOn, IsBlocked};
-ghost use Rattle.brc_check.specs.Filling.{first_filling, settled_at, IsFilledTo, IsInferred, AreReached, AreTrue};
+ghost use Rattle.brc_check.specs.Filling.{first_filling, settled_at, IsFilledTo, IsFilled, IsInferred, AreReached};
+ghost use Rattle.brc_check.specs.Filling.{AreTrue};
 ghost use Rattle.brc_check.specs.Refusal.{IsReported, IsForMemory, IsRefusal};
+ghost use Rattle.brc_check.specs.Tables.{IsTrueTable};
 
 use crate::entries::blocked;
 use crate::filling::{Filling, first_filling, found_at, settle};
+use crate::kept_entry::KeptEntry;
+use crate::kept_points::{has_two_exits, keep};
 use crate::refused::{CodeAt, Refused};
 use crate::step::{Step, follow};
 use crate::table::Table;
@@ -31,12 +36,15 @@ fn lead(
     ensures filled { IfOk result
         (λ reported. filling.new ≡ settled_at filling.old (follow code.now (At at state.now) exit)) }
     ensures reported { IfOk result (λ reported. MatchOption reported
-        (StaysOn filling.new.entries (follow code.now (At at state.now) exit))
-        (λ m. IsBlocked filling.new.entries (follow code.now (At at state.now) exit) m.at m.code)) }
+        (StaysOn (entry_at filling.new.entries) (follow code.now (At at state.now) exit))
+        (λ m. IsBlocked (entry_at filling.new.entries) (follow code.now (At at state.now) exit) m.at m.code)) }
 {
     let led = follow(code, at, state, exit);
     if let Step::To(next, arriving) = &led {
-        settle(filling, *next, *arriving)?;
+        // The first path that comes to a point agrees with itself.
+        if settle(filling, *next, *arriving)? {
+            return Ok(None);
+        }
     }
     Ok(blocked(filling.entries.as_slice(), at, &led))
 }
@@ -54,13 +62,16 @@ fn lead_on(code: &[Instr], filling: &mut Filling, turn: usize) -> Result<Option<
     if let Some(reported) = lead(code, filling, at, &state, Exit::Success)? {
         return Ok(Some(reported));
     }
+    if !has_two_exits(&code[at]) {
+        return Ok(None);
+    }
     lead(code, filling, at, &state, Exit::Fault)
 }
 
 fn fill(code: &[Instr], filling: &mut Filling) -> Result<Option<CodeAt>, AllocError>
     requires some { 0 < length code.now }
     requires begun { filling.old ≡ first_filling (length code.now) }
-    ensures inferred { IfOk result (λ reported. MatchOption reported (IsInferred code.now filling.new.entries)
+    ensures filled { IfOk result (λ reported. MatchOption reported (IsFilled code.now filling.new.entries)
         (λ m. IsReported code.now m.at m.code)) }
     ensures reached { IfOk result (λ reported. AreReached code.now filling.new.entries) }
 {
@@ -83,10 +94,10 @@ fn no_memory(function: Name) -> Refused
     }
 }
 
-fn infer_function(alloc: Global, function: &Function) -> Result<Sequence<Option<State>>, Refused>
+fn infer_function(alloc: Global, function: &Function) -> Result<Sequence<KeptEntry>, Refused>
     requires { IsFunction function.now }
     ensures { MatchResult result
-        (λ entries. IsInferred function.now.code entries)
+        (λ kept. IsInferred function.now.code kept)
         (λ r. (r.function ≡ function.now.name) × (IsForMemory r ⊎ IsReported function.now.code r.at r.code)) }
 {
     let code = function.code.as_slice();
@@ -96,7 +107,10 @@ fn infer_function(alloc: Global, function: &Function) -> Result<Sequence<Option<
     match fill(code, &mut filling) {
         Err(_) => Err(no_memory(function.name)),
         Ok(Some(reported)) => Err(reported.in_function(function.name)),
-        Ok(None) => Ok(filling.entries),
+        Ok(None) => match keep(alloc, code, filling.entries.as_slice()) {
+            Err(_) => Err(no_memory(function.name)),
+            Ok(kept) => Ok(kept),
+        },
     }
 }
 
@@ -125,8 +139,8 @@ pub fn infer(alloc: Global, module: &Module) -> Result<Table, Refused>
 {
     let mut lists = Vec::new(alloc);
     for function in module.functions.as_slice() {
-        let entries = infer_function(alloc, function)?;
-        if let Err(_) = lists.push(entries) {
+        let kept = infer_function(alloc, function)?;
+        if let Err(_) = lists.push(kept) {
             return Err(no_memory(function.name));
         }
     }

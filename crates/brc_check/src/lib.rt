@@ -1,7 +1,8 @@
 //! The ownership checker: it accepts a module if every path through every function obeys the ownership rules.
 //!
-//! The checker has a table of the state of the variables at each point. `infer` fills the table, and `verify`, which
-//! trusts no table, compares each entry with its neighbours.
+//! The checker has a table of the states of the variables at the points where paths meet, from which those at all other
+//! points follow. `infer` fills the table, and `verify`, which trusts no table, compares each entry with what arrives
+//! there.
 #![tactic(auto)]
 
 mod checked;
@@ -11,7 +12,10 @@ mod filling;
 mod finding;
 mod inferring;
 mod instruction;
+mod kept_entry;
+mod kept_points;
 mod path;
+mod point_states;
 mod refused;
 mod refusing;
 mod refusing_host;
@@ -32,6 +36,7 @@ pub use checker::check;
 pub use finding::path_to;
 pub use inferring::{first_states, infer};
 pub use instruction::target_of;
+pub use kept_entry::KeptEntry;
 pub use path::Path;
 pub use refused::Refused;
 pub use state::entry;

@@ -1,9 +1,8 @@
 //! One step of a path.
 
 ghost use Rattle.std.specs.Prelude.{◌≡◌, ◌<◌, length};
-ghost use Rattle.brc_model.specs.Slots.{after};
 ghost use Rattle.brc_model.specs.Paths.{At, follow};
-ghost use Rattle.brc_check.specs.Entries.{end_of};
+ghost use Rattle.brc_check.specs.Entries.{end_in, end_of};
 
 use crate::instruction::{apply, refusal, target_of};
 use brc_lang::{CheckCode, Instr};
@@ -20,12 +19,35 @@ pub enum Step {
     Error(CheckCode),
 }
 
-fn after(instr: Instr, exit: Exit, state: &State) -> State
-    ensures { result ≡ after instr exit state.now }
+/// The end of a step whose state is elsewhere.
+#[derive(Clone, Copy)]
+pub enum StepEnd {
+    /// A point.
+    To(usize),
+    /// The end of the call.
+    Ends,
+    /// No point: the instruction where the step begins reports the code.
+    Error(CheckCode),
+}
+
+/// Takes the step from a point, which the code has, by one exit of the instruction there. Where the step leads to a
+/// point, the state becomes the one in which the path reaches it.
+pub fn advance(code: &[Instr], at: usize, state: &mut State, exit: Exit) -> StepEnd
+    requires { at < length code.now }
+    ensures { end_in at result state.new ≡ follow code.now (At at state.old) exit }
 {
-    let mut arriving = *state;
-    apply(instr, exit, &mut arriving);
-    arriving
+    let instr = &code[at];
+    if let Some(reported) = refusal(*instr, state) {
+        return StepEnd::Error(reported);
+    }
+    let Some(next) = target_of(*instr, exit, at) else {
+        return StepEnd::Ends;
+    };
+    if next >= code.len() {
+        return StepEnd::Error(CheckCode::RunsOff);
+    }
+    apply(*instr, exit, state);
+    StepEnd::To(next)
 }
 
 /// Returns the step from a point, which the code has, in a state by one exit of the instruction there.
@@ -35,15 +57,10 @@ pub fn follow(code: &[Instr], at: usize, state: &State, exit: Exit) -> Step
     requires { at < length code.now }
     ensures { end_of at result ≡ follow code.now (At at state.now) exit }
 {
-    let instr = &code[at];
-    if let Some(reported) = refusal(*instr, state) {
-        return Step::Error(reported);
+    let mut arriving = *state;
+    match advance(code, at, &mut arriving, exit) {
+        StepEnd::To(next) => Step::To(next, arriving),
+        StepEnd::Ends => Step::Ends,
+        StepEnd::Error(reported) => Step::Error(reported),
     }
-    let Some(next) = target_of(*instr, exit, at) else {
-        return Step::Ends;
-    };
-    if next >= code.len() {
-        return Step::Error(CheckCode::RunsOff);
-    }
-    Step::To(next, after(*instr, exit, state))
 }

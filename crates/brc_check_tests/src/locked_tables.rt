@@ -11,6 +11,8 @@ type Entry = (Slot, Slot, Option<u8>);
 
 const NUMBER: Slot = Slot::Owned(Kind::Num);
 
+const NONE: Slot = Slot::Owned(Kind::None);
+
 const LIST: Slot = Slot::Owned(Kind::List);
 
 const FILE: Slot = Slot::Owned(Kind::File);
@@ -23,11 +25,12 @@ const FETCHED: Slot = Slot::Owned(Kind::Any);
 /// A borrowed item, whose kind isn't known.
 const BORROWED: Slot = Slot::Locked(Kind::Any);
 
-/// Lines, and the entry of each of their points.
-const TABLES: &[(&[u8], &[Entry])] = &[
+/// Lines, the points that a table keeps of them, and the state of each of their points.
+const TABLES: &[(&[u8], &[usize], &[Entry])] = &[
     // A borrowed item is gone once its list is unlocked, and a reference to it stays.
     (
         b"lock v0\nborrow v1 v0 0 else @6\nnewref v2 v1\nunlock v0\ndrop v2\nfail\nunlock v0\nfail\n",
+        &[0, 6],
         &[
             (Slot::Empty, Slot::Empty, None),
             (Slot::Empty, Slot::Empty, Some(0)),
@@ -42,6 +45,7 @@ const TABLES: &[(&[u8], &[Entry])] = &[
     // `set` steals on both exits.
     (
         b"list v1 1 else @6\nnewref v2 v1\nlock v1\nset v1 0 v2 else @4\nunlock v1\ndrop v1\nfail\n",
+        &[0, 4, 6],
         &[
             (Slot::Empty, Slot::Empty, None),
             (LIST, Slot::Empty, None),
@@ -56,6 +60,7 @@ const TABLES: &[(&[u8], &[Entry])] = &[
     (
         b"lock v0\nfetch v1 v0 0 else @9\nunlock v0\nas v1 list else @7\nlock v1\nunlock v1\nret v1\ndrop v1\nfail\n\
           unlock v0\nfail\n",
+        &[0, 7, 9],
         &[
             (Slot::Empty, Slot::Empty, None),
             (Slot::Empty, Slot::Empty, Some(0)),
@@ -74,6 +79,7 @@ const TABLES: &[(&[u8], &[Entry])] = &[
     (
         b"num v2 7 else @9\nlock v0\nborrow v1 v0 0 else @5\nas v1 num else @7\nput v0 1 v2 else @5\nunlock v0\n\
           goto @8\nunlock v0\ndrop v2\nfail\n",
+        &[0, 5, 7, 8, 9],
         &[
             (Slot::Empty, Slot::Empty, None),
             (Slot::Empty, NUMBER, None),
@@ -90,6 +96,7 @@ const TABLES: &[(&[u8], &[Entry])] = &[
     // A number that is read is owned.
     (
         b"open v1 0 r else @6\nlock v1\nread v2 v1 8 else @4\ndrop v2\nunlock v1\ndrop v1\nfail\n",
+        &[0, 4, 6],
         &[
             (Slot::Empty, Slot::Empty, None),
             (FILE, Slot::Empty, None),
@@ -104,6 +111,7 @@ const TABLES: &[(&[u8], &[Entry])] = &[
     (
         b"connect v1 0 else @7\nnum v2 5 else @6\nlock v1\nwrite v1 v2 else @4\nunlock v1\ndrop v2\n\
           drop v1\nfail\n",
+        &[0, 4, 6, 7],
         &[
             (Slot::Empty, Slot::Empty, None),
             (SOCKET, Slot::Empty, None),
@@ -113,6 +121,34 @@ const TABLES: &[(&[u8], &[Entry])] = &[
             (SOCKET, NUMBER, None),
             (SOCKET, Slot::Empty, None),
             (Slot::Empty, Slot::Empty, None),
+        ],
+    ),
+    // An index out of range: `set` has taken the number.
+    (
+        b"num v1 7 else @6\nlock v0\nset v0 200 v1 else @5\nunlock v0\nfail\nunlock v0\nfail\n",
+        &[0, 5, 6],
+        &[
+            (Slot::Empty, Slot::Empty, None),
+            (NUMBER, Slot::Empty, None),
+            (NUMBER, Slot::Empty, Some(0)),
+            (Slot::Empty, Slot::Empty, Some(0)),
+            (Slot::Empty, Slot::Empty, None),
+            (Slot::Empty, Slot::Empty, Some(0)),
+            (Slot::Empty, Slot::Empty, None),
+        ],
+    ),
+    // Paths fall through to the targets of `else`, in the same state.
+    (
+        b"none v1\nlock v0\nput v0 0 v1 else @3\nfetch v2 v0 1 else @5\nset v0 0 v2 else @5\nunlock v0\nret v1\n",
+        &[0, 3, 5],
+        &[
+            (Slot::Empty, Slot::Empty, None),
+            (NONE, Slot::Empty, None),
+            (NONE, Slot::Empty, Some(0)),
+            (NONE, Slot::Empty, Some(0)),
+            (NONE, FETCHED, Some(0)),
+            (NONE, Slot::Empty, Some(0)),
+            (NONE, Slot::Empty, None),
         ],
     ),
 ];
@@ -155,12 +191,12 @@ fn state(entry: Entry) -> State {
 
 /// The number of the first table that is another one, and the point at which it is.
 fn first_other_table(alloc: Global) -> Result<Option<(usize, usize)>, Fail> {
-    for (number, (lines, entries)) in TABLES.iter().enumerate() {
+    for (number, (lines, kept, points)) in TABLES.iter().enumerate() {
         let mut states = Vec::new(alloc);
-        for entry in entries.iter() {
-            states.push(Some(state(*entry)))?;
+        for point in points.iter() {
+            states.push(Some(state(*point)))?;
         }
-        if let Some(at) = first_difference(alloc, lines, &states)? {
+        if let Some(at) = first_difference(alloc, lines, kept.len(), &states)? {
             return Ok(Some((number, at)));
         }
     }
@@ -173,7 +209,7 @@ fn true_tables_of_locks(rt: HostRuntime) -> Result<(), Fail> {
     Ok(())
 }
 
-/// The number of an overwriting entry that isn't refused at the point, or the true one that is.
+/// The number of an overwriting entry that isn't refused at the kept point, or the true one that is.
 fn first_unnoticed(
     alloc: Global,
     lines: &[u8],
@@ -192,10 +228,12 @@ fn first_unnoticed(
 
 /// The numbers of the first table, point and overwriting entry that isn't noticed.
 fn first_unnoticed_change(alloc: Global) -> Result<Option<(usize, usize, usize)>, Fail> {
-    for (number, (lines, entries)) in TABLES.iter().enumerate() {
-        for (at, entry) in entries.iter().enumerate() {
-            if let Some(change) = first_unnoticed(alloc, lines, at, *entry)? {
-                return Ok(Some((number, at, change)));
+    for (number, (lines, kept, points)) in TABLES.iter().enumerate() {
+        for at in kept.iter() {
+            if let Some(point) = points.get(*at) {
+                if let Some(change) = first_unnoticed(alloc, lines, *at, *point)? {
+                    return Ok(Some((number, *at, change)));
+                }
             }
         }
     }

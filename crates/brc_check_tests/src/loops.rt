@@ -85,6 +85,7 @@ const REFUSED: &[Case] = &[
 const TABLES: &[TableCase] = &[
     (
         b"num v1 1 else @3\ndrop v1\nagain @0 3\nfail\n",
+        &[0, 3],
         &[
             Some(EMPTY),
             Some((NUMBER, Slot::Empty)),
@@ -95,6 +96,7 @@ const TABLES: &[TableCase] = &[
     ),
     (
         b"none v1\nnewref v2 v1\ndrop v2\nagain @1 9\nret v1\n",
+        &[0, 1],
         &[
             Some(EMPTY),
             Some((NONE, Slot::Empty)),
@@ -106,6 +108,7 @@ const TABLES: &[TableCase] = &[
     // A line that is reached only by going back has an entry, and one inside a loop that isn't reached has none.
     (
         b"none v1\ngoto @3\nret v1\nagain @2 1\nret v1\n",
+        &[0, 2, 3],
         &[
             Some(EMPTY),
             Some((NONE, Slot::Empty)),
@@ -116,11 +119,13 @@ const TABLES: &[TableCase] = &[
     ),
     (
         b"goto @2\ndrop v5\nagain @0 2\nfail\n",
+        &[0, 2],
         &[Some(EMPTY), None, Some(EMPTY), Some(EMPTY)],
     ),
     // An `again` that isn't reached finds nothing.
     (
         b"goto @2\nfail\nfail\nagain @1 2\nfail\n",
+        &[0, 1, 2],
         &[Some(EMPTY), None, Some(EMPTY), None, None],
     ),
 ];

@@ -3,7 +3,7 @@
 ghost use Rattle.brc_lang.specs.Grammar.{IsModule};
 
 use crate::functions::{function_of, module_of};
-use brc_check::{CheckCode, Slot, State, Table, check, infer, verify};
+use brc_check::{CheckCode, Checked, Slot, State, Table, check, infer, verify};
 use brc_lang::{Kind, Module, Variable};
 use std::alloc::Global;
 use std::test::*;
@@ -11,8 +11,8 @@ use std::test::*;
 /// The slots of v1 and v2 at a point; v0 is the caller's list, and the others are empty.
 type Slots = (Slot, Slot);
 
-/// Lines, and the slots of v1 and v2 at each of their points and past the last.
-pub type TableCase<'a> = (&'a [u8], &'a [Option<Slots>]);
+/// Lines, the points that a table keeps of them, and the slots of v1 and v2 at each of their points and past the last.
+pub type TableCase<'a> = (&'a [u8], &'a [usize], &'a [Option<Slots>]);
 
 const NUMBER: Slot = Slot::Owned(Kind::Num);
 
@@ -29,6 +29,7 @@ const TWO_NUMBERS: &[u8] = b"num v1 1 else @4\nnum v2 2 else @3\ndrop v2\ndrop v
 const TABLES: &[TableCase] = &[
     (
         TAKE_AND_DROP,
+        &[0],
         &[
             Some((Slot::Empty, Slot::Empty)),
             Some((LIST, Slot::Empty)),
@@ -38,6 +39,7 @@ const TABLES: &[TableCase] = &[
     ),
     (
         TWO_NUMBERS,
+        &[0, 3, 4],
         &[
             Some((Slot::Empty, Slot::Empty)),
             Some((NUMBER, Slot::Empty)),
@@ -49,6 +51,7 @@ const TABLES: &[TableCase] = &[
     // If no row is left for the list, the function goes on after the line that drops it.
     (
         b"list v1 2 else @4\nnewref v2 v1\ndrop v2\ndrop v1\nfail\n",
+        &[0, 4],
         &[
             Some((Slot::Empty, Slot::Empty)),
             Some((LIST, Slot::Empty)),
@@ -61,6 +64,7 @@ const TABLES: &[TableCase] = &[
     // A point that no path reaches has no entry.
     (
         b"goto @2\ndrop v5\nfail\n",
+        &[0, 2],
         &[
             Some((Slot::Empty, Slot::Empty)),
             None,
@@ -70,6 +74,7 @@ const TABLES: &[TableCase] = &[
     // A reference to none is moved, doubled and returned.
     (
         b"none v1\nmove v2 v1\nnewref v1 v2\ndrop v2\nret v1\n",
+        &[0],
         &[
             Some((Slot::Empty, Slot::Empty)),
             Some((NONE, Slot::Empty)),
@@ -81,12 +86,35 @@ const TABLES: &[TableCase] = &[
     // The kind asked for is known at both exits already.
     (
         b"num v1 1 else @4\nas v1 num else @3\ngoto @3\nret v1\nfail\n",
+        &[0, 3, 4],
         &[
             Some((Slot::Empty, Slot::Empty)),
             Some((NUMBER, Slot::Empty)),
             Some((NUMBER, Slot::Empty)),
             Some((NUMBER, Slot::Empty)),
             Some((Slot::Empty, Slot::Empty)),
+        ],
+    ),
+    // A path falls through to the target of another.
+    (
+        b"num v1 1 else @2\ndrop v1\nfail\n",
+        &[0, 2],
+        &[
+            Some((Slot::Empty, Slot::Empty)),
+            Some((NUMBER, Slot::Empty)),
+            Some((Slot::Empty, Slot::Empty)),
+        ],
+    ),
+    // A target behind a `goto` that isn't reached has none.
+    (
+        b"goto @3\nnum v5 1 else @2\nfail\nfail\n",
+        &[0, 2, 3],
+        &[
+            Some((Slot::Empty, Slot::Empty)),
+            None,
+            None,
+            Some((Slot::Empty, Slot::Empty)),
+            None,
         ],
     ),
 ];
@@ -125,32 +153,47 @@ fn table_of(alloc: Global, module: &Module) -> Result<Table, Fail>
     }
 }
 
-/// The first point whose entry is another one, in the table of one function; a second function has no entries.
-fn other_entry(table: &Table, entries: &[Option<State>]) -> Option<usize> {
-    if table.entry(1, 0).is_some() {
+/// The first point with another state in the table of one function; a second function has no states.
+fn other_state(table: &Table, module: &Module, states: &[Option<State>]) -> Option<usize> {
+    if table.at(module, 1, 0).is_some() {
         return Some(0);
     }
-    for (at, entry) in entries.iter().enumerate() {
-        if table.entry(0, at) != *entry {
+    for (at, state) in states.iter().enumerate() {
+        if table.at(module, 0, at) != *state {
             return Some(at);
         }
     }
     None
 }
 
-/// The first point whose entry is another one, in the table that `infer` gives or in the one that `verify` hands on.
+/// The same of an accepted module, also of the states that it says itself.
+fn other_entry(checked: &Checked, states: &[Option<State>]) -> Option<usize> {
+    for (at, state) in states.iter().enumerate() {
+        if checked.entry(0, at) != *state {
+            return Some(at);
+        }
+    }
+    other_state(checked.table(), checked.module(), states)
+}
+
+/// The first point with another state, in the table that `infer` gives or in the one that `verify` hands on; `Err` if
+/// the table keeps another number of points.
 pub fn first_difference(
     alloc: Global,
     lines: &[u8],
-    entries: &[Option<State>],
+    kept: usize,
+    states: &[Option<State>],
 ) -> Result<Option<usize>, Fail> {
     let module = function_of(alloc, lines)?;
     let table = table_of(alloc, &module)?;
-    if let Some(at) = other_entry(&table, entries) {
+    if table.kept(0) != kept || table.kept(1) != 0 {
+        return Err("the table keeps the first point and each target")?;
+    }
+    if let Some(at) = other_state(&table, &module, states) {
         return Ok(Some(at));
     }
     match verify(module, table) {
-        Ok(checked) => Ok(other_entry(checked.table(), entries)),
+        Ok(checked) => Ok(other_entry(&checked, states)),
         Err(_) => Err("the table is the true one")?,
     }
 }
@@ -160,15 +203,15 @@ pub fn first_other_table(
     alloc: Global,
     tables: &[TableCase],
 ) -> Result<Option<(usize, usize)>, Fail> {
-    for (number, (lines, entries)) in tables.iter().enumerate() {
+    for (number, (lines, kept, points)) in tables.iter().enumerate() {
         let mut states = Vec::new(alloc);
-        for slots in entries.iter() {
+        for slots in points.iter() {
             states.push(match slots {
                 Some(slots) => Some(state(*slots)),
                 None => None,
             })?;
         }
-        if let Some(at) = first_difference(alloc, lines, &states)? {
+        if let Some(at) = first_difference(alloc, lines, kept.len(), &states)? {
             return Ok(Some((number, at)));
         }
     }
@@ -181,7 +224,7 @@ fn true_tables(rt: HostRuntime) -> Result<(), Fail> {
     Ok(())
 }
 
-/// Whether there is such an entry to overwrite, and the point at which the states then differ, if any.
+/// Whether there is a kept entry to overwrite, and the point at which the states then differ, if any.
 fn answer_to_change(
     alloc: Global,
     lines: &[u8],
@@ -232,6 +275,16 @@ pub fn is_refused_at(
     Ok(is_there && refused == Some(at))
 }
 
+/// Whether a change is no change at a point that isn't kept, and the table is accepted as it was.
+pub fn is_left_alone(
+    alloc: Global,
+    lines: &[u8],
+    at: usize,
+    entry: Option<State>,
+) -> Result<bool, Fail> {
+    Ok(answer_to_change(alloc, lines, (0, at), entry)? == (false, None))
+}
+
 /// Whether each change of the entry is refused at its point: no state, an open critical section, or another slot.
 fn is_guarded(alloc: Global, lines: &[u8], at: usize, slots: Slots) -> Result<bool, Fail> {
     let mut locked = state(slots);
@@ -247,17 +300,21 @@ fn is_guarded(alloc: Global, lines: &[u8], at: usize, slots: Slots) -> Result<bo
     Ok(true)
 }
 
-/// The first point on a path at which some change isn't refused, or the true entry is.
+/// The first point on a path at which some change isn't refused, or the true entry is; or, if the point isn't kept, at
+/// which there is something to change.
 fn first_unguarded(
     alloc: Global,
     lines: &[u8],
-    entries: &[Option<Slots>],
+    kept: &[usize],
+    states: &[Option<Slots>],
 ) -> Result<Option<usize>, Fail> {
-    for (at, slots) in entries.iter().enumerate() {
-        if let Some(slots) = slots {
-            if !is_guarded(alloc, lines, at, *slots)? {
-                return Ok(Some(at));
-            }
+    for (at, slots) in states.iter().enumerate() {
+        let is_right = match slots {
+            Some(slots) if kept.contains(&at) => is_guarded(alloc, lines, at, *slots)?,
+            _ => kept.contains(&at) || is_left_alone(alloc, lines, at, None)?,
+        };
+        if !is_right {
+            return Ok(Some(at));
         }
     }
     Ok(None)
@@ -265,8 +322,8 @@ fn first_unguarded(
 
 /// The number of the first table with a point of which some change isn't refused, and the point.
 fn first_unguarded_table(alloc: Global) -> Result<Option<(usize, usize)>, Fail> {
-    for (number, (lines, entries)) in TABLES.iter().enumerate() {
-        if let Some(at) = first_unguarded(alloc, lines, entries)? {
+    for (number, (lines, kept, states)) in TABLES.iter().enumerate() {
+        if let Some(at) = first_unguarded(alloc, lines, kept, states)? {
             return Ok(Some((number, at)));
         }
     }
@@ -276,21 +333,38 @@ fn first_unguarded_table(alloc: Global) -> Result<Option<(usize, usize)>, Fail> 
 #[test]
 fn changed_entries(rt: HostRuntime) -> Result<(), Fail> {
     assert_eq!(rt; first_unguarded_table(rt.alloc())?, None);
-    for point in [(0, 3), (1, 0)] {
+    for point in [(0, 1), (0, 3), (1, 0)] {
         let answer = answer_to_change(rt.alloc(), TAKE_AND_DROP, point, None)?;
         assert_eq!(rt; answer, (false, None));
     }
     Ok(())
 }
 
-/// Whether the module of one text is refused, with the table of another's, at the first point of its function `f`.
-fn is_refused_at_top(alloc: Global, text: &[u8], other: &[u8]) -> Result<bool, Fail> {
+/// Whether the module of one text is refused, with the table of another's, since states differ at this point of its
+/// function `f`.
+fn is_refused_with(alloc: Global, text: &[u8], other: &[u8], at: usize) -> Result<bool, Fail> {
     let table = table_of(alloc, &module_of(alloc, other)?)?;
     let Some(refused) = verify(module_of(alloc, text)?, table).err() else {
         return Ok(false);
     };
     let is_named = refused.function.as_bytes() == b"f".as_slice();
-    Ok(is_named && refused.at == 0 && refused.code == CheckCode::StatesDiffer)
+    Ok(is_named && refused.at == at && refused.code == CheckCode::StatesDiffer)
+}
+
+/// Whether the module of one text is accepted with the table of another's.
+fn accepted_with(alloc: Global, text: &[u8], other: &[u8]) -> Result<bool, Fail> {
+    let table = table_of(alloc, &module_of(alloc, other)?)?;
+    Ok(verify(module_of(alloc, text)?, table).is_ok())
+}
+
+/// Two functions with the same targets, in whose tables only the state that falls through differs.
+#[test]
+fn fall_through(rt: HostRuntime) -> Result<(), Fail> {
+    let drops = b"module 1\nfunc f\nnum v1 1 else @2\ndrop v1\nfail\nend\n";
+    let keeps = b"module 1\nfunc f\nnum v1 1 else @2\nnone v2\nfail\nend\n";
+    assert!(rt; accepted_with(rt.alloc(), drops, drops)?);
+    assert!(rt; is_refused_with(rt.alloc(), keeps, drops, 2)?);
+    Ok(())
 }
 
 #[test]
@@ -298,8 +372,12 @@ fn other_shapes(rt: HostRuntime) -> Result<(), Fail> {
     let one = b"module 1\nfunc f\nfail\nend\n";
     let two = b"module 1\nfunc f\nfail\nend\nfunc g\nfail\nend\n";
     let three_points = b"module 1\nfunc f\nnewref v1 v0\ndrop v1\nfail\nend\n";
-    assert!(rt; is_refused_at_top(rt.alloc(), one, two)?);
-    assert!(rt; is_refused_at_top(rt.alloc(), three_points, one)?);
+    assert!(rt; is_refused_with(rt.alloc(), one, two, 0)?);
+    // A table of the same points, but with another target.
+    let other_target = b"module 1\nfunc f\ngoto @1\nfail\nend\n";
+    assert!(rt; is_refused_with(rt.alloc(), other_target, one, 0)?);
+    // Where both have one kept point, the table's states are what its entry and the module's own instructions give.
+    assert!(rt; accepted_with(rt.alloc(), three_points, one)?);
     Ok(())
 }
 

@@ -1,8 +1,10 @@
-use Rattle.std.proofs.Common.{sym, subst}
+use Rattle.std.proofs.Common.{arith, sym, subst}
 use Rattle.brc_model.specs.declared.slot.Exit.TheVariants.{Success}
 use Rattle.brc_check.specs.declared.filling.Filling.{Filling}
 use Rattle.brc_check.specs.Filling.{AreReached}
-use Rattle.brc_check.proofs.Turns.{led-length, first_reached}
+use Rattle.brc_check.proofs.Kept.{one_exit}
+use Rattle.brc_check.proofs.Settling.{entry-within}
+use Rattle.brc_check.proofs.Turns.{led-length, filled_one, first_reached}
 use Rattle.brc_check.proofs.Points.{first_reported, second_result, both_led}
 use Rattle.brc_check.proofs.inferring.lead_on.Goals as goal
 
@@ -35,3 +37,19 @@ returns-clause-reached c =
     both_led c.args.code.now c.args.filling.now c.lead.new.filling c.lead-2.new.filling c.args.turn c.in-Some.at
     c.in-Some.state c.lead-2.result c.requires c.in-Some.ensures.known c.in_ok-reported.ensures.filled
     c.lead-2.ensures.filled
+
+pub returns-then-not-has_two_exits-clause-filled : goal.returns-then-not-has_two_exits-clause-filled
+returns-then-not-has_two_exits-clause-filled c =
+    filled_one c.args.code.now c.args.filling.now c.lead.new.filling c.args.turn c.in-Some.at c.in-Some.state
+    c.requires c.in-Some.ensures.found c.in-Some.ensures.known c.in_ok-reported.ensures.filled
+    (rw c.in_default-2.is at c.in_ok-reported.ensures.reported)
+    (one_exit c.args.code.now c.in-Some.at c.index-code-at.result c.in-Some.state
+    (let within = entry-within c.args.filling.now.entries c.in-Some.at c.in-Some.state c.in-Some.ensures.known in
+    let same = c.requires.same_length in omega (arith, within, same)) c.index-code-at.is
+    (c.has_two_exits.ensures c.if-not-has_two_exits.true))
+
+pub returns-then-not-has_two_exits-clause-reached : goal.returns-then-not-has_two_exits-clause-reached
+returns-then-not-has_two_exits-clause-reached c =
+    subst (λ (f : Filling). AreReached c.args.code.now f.entries) (sym c.in_ok-reported.ensures.filled)
+    (first_reached c.args.code.now c.args.filling.now c.args.turn c.in-Some.at c.in-Some.state c.requires
+    c.in-Some.ensures.known)
