@@ -1,6 +1,7 @@
 ghost use Rattle.std.specs.Prelude.{IfOk};
 ghost use Rattle.brc_lang.specs.Grammar.{IsModule};
 
+use crate::random_tables::first_other_point;
 use brc_check::{CheckCode, check};
 use brc_lang::{Module, read};
 use std::alloc::Global;
@@ -93,6 +94,11 @@ const REFUSED: &[Case] = &[
         Some((1, CheckCode::StillOwns)),
     ),
     (TWO_KINDS, Some((3, CheckCode::StatesDiffer))),
+    // The path that falls through to the last line owns two references, and the one that comes by `else` none.
+    (
+        b"num v1 1 else @2\nnone v2\nfail\n",
+        Some((2, CheckCode::StatesDiffer)),
+    ),
     (NUMBER_OR_LIST, Some((3, CheckCode::StatesDiffer))),
     (b"newref v1 v0\n", Some((0, CheckCode::RunsOff))),
     (b"none v1\n", Some((0, CheckCode::RunsOff))),
@@ -176,12 +182,16 @@ pub fn function_of(alloc: Global, lines: &[u8]) -> Result<Module, Fail>
     module_of(alloc, &text)
 }
 
-/// Where a function of these lines is refused and for what, or `None` where it is accepted.
+/// Where a function of these lines is refused and for what, or `None` where it is accepted. The table of an accepted
+/// one has the states of a walk.
 fn refusal_of(alloc: Global, lines: &[u8]) -> Result<Option<CodeAt>, Fail> {
-    let Some(refused) = check(alloc, function_of(alloc, lines)?).err() else {
-        return Ok(None);
-    };
-    Ok(Some((refused.at, refused.code)))
+    match check(alloc, function_of(alloc, lines)?) {
+        Err(refused) => Ok(Some((refused.at, refused.code))),
+        Ok(checked) => match first_other_point(alloc, &checked)? {
+            None => Ok(None),
+            Some(_) => Err("the table has the states of a walk")?,
+        },
+    }
 }
 
 /// The number of the first case with another answer.

@@ -25,6 +25,8 @@ mod modules;
 #[cfg(test)]
 mod paths_to;
 #[cfg(test)]
+mod random_tables;
+#[cfg(test)]
 mod reports;
 #[cfg(test)]
 mod schedules;

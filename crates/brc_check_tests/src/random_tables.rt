@@ -1,0 +1,213 @@
+//! The tables of random functions, compared with full ones that are filled by a plain walk over all exits.
+
+ghost use Rattle.std.specs.Prelude.{◌<◌};
+
+use crate::functions::function_of;
+use brc_check::{Checked, Exit, State, Step, check, entry, follow};
+use brc_lang::{Instr, write_number, write_pieces};
+use std::alloc::Global;
+use std::test::*;
+
+/// How many functions are made.
+const FUNCTIONS: u64 = 2000;
+
+/// From this point on a function gives up what it still owns.
+const END: usize = 24;
+
+/// The last point, a `fail`, before which nothing is owned.
+const LAST: usize = 29;
+
+/// What v1, v2 and v3 own while a function is written: nothing (0), none (1), the list (2) or a number (3).
+type Owned = [u8; 3];
+
+const NAMES: [&[u8]; 3] = [b"v1", b"v2", b"v3"];
+
+/// A function while it is written.
+#[derive(Drop)]
+struct Draft {
+    lines: Vec<u8>,
+    /// What is owned before each of its lines; `None` where no path comes.
+    before: Vec<Option<Owned>>,
+    owned: Owned,
+    seed: u64,
+}
+
+/// Returns the next number of a linear congruential sequence (Knuth's MMIX), below the bound.
+fn next(draft: &mut Draft, bound: u64) -> u64
+    requires { 0 < bound }
+    ensures { result < bound }
+{
+    draft.seed = draft
+        .seed
+        .wrapping_mul(6_364_136_223_846_793_005)
+        .wrapping_add(1_442_695_040_888_963_407);
+    (draft.seed >> 33) % bound
+}
+
+/// Adds a line of these words.
+fn put(draft: &mut Draft, words: &[&[u8]]) -> Result<(), Fail> {
+    draft.before.push(Some(draft.owned))?;
+    write_pieces(words, &mut draft.lines)?;
+    draft.lines.push(b'\n')?;
+    Ok(())
+}
+
+/// Adds a line with a target behind its first words.
+fn put_target(draft: &mut Draft, words: &[&[u8]], target: usize, rest: &[u8]) -> Result<(), Fail> {
+    draft.before.push(Some(draft.owned))?;
+    write_pieces(words, &mut draft.lines)?;
+    write_number(target as u64, &mut draft.lines)?;
+    draft.lines.extend_from_slice(rest)?;
+    Ok(())
+}
+
+/// Adds a line whose two exits lead to the next one in the same state.
+fn put_plain(draft: &mut Draft) -> Result<(), Fail> {
+    let at = draft.before.len();
+    put_target(draft, &[b"as v0 list else @"], at.saturating_add(1), b"\n")
+}
+
+/// Adds a line that goes back to a point with the same state, if this number is of one, and else a plain line.
+fn put_again(draft: &mut Draft, to: usize) -> Result<(), Fail> {
+    if draft.before.get(to) == Some(&Some(draft.owned)) {
+        put_target(draft, &[b"again @"], to, b" 2\n")
+    } else {
+        put_plain(draft)
+    }
+}
+
+/// Adds a `goto` over a line that no path reaches.
+fn put_goto(draft: &mut Draft) -> Result<(), Fail> {
+    let at = draft.before.len();
+    put_target(draft, &[b"goto @"], at.saturating_add(2), b"\ndrop v5\n")?;
+    draft.before.push(None)?;
+    Ok(())
+}
+
+/// Adds a line at random.
+fn put_random(draft: &mut Draft) -> Result<(), Fail> {
+    let one = next(draft, 3) as usize;
+    let other = next(draft, 3) as usize;
+    let to = next(draft, 24) as usize;
+    let owned = draft.owned;
+    match next(draft, 8) {
+        0 if owned[one] == 0 => {
+            put(draft, &[b"none ", NAMES[one]])?;
+            draft.owned[one] = 1;
+        }
+        1 if owned[one] == 0 => {
+            put(draft, &[b"newref ", NAMES[one], b" v0"])?;
+            draft.owned[one] = 2;
+        }
+        2 | 3 if owned[one] == 0 && owned == [0, 0, 0] => {
+            put_target(draft, &[b"num ", NAMES[one], b" 1 else @"], LAST, b"\n")?;
+            draft.owned[one] = 3;
+        }
+        2 if owned[one] != 0 => {
+            put(draft, &[b"drop ", NAMES[one]])?;
+            draft.owned[one] = 0;
+        }
+        3 if owned[one] != 0 && owned[other] == 0 => {
+            put(draft, &[b"move ", NAMES[other], b" ", NAMES[one]])?;
+            draft.owned[other] = owned[one];
+            draft.owned[one] = 0;
+        }
+        4 | 5 => put_again(draft, to)?,
+        6 => put_goto(draft)?,
+        _ => put_plain(draft)?,
+    }
+    Ok(())
+}
+
+/// Returns the lines of a random function that is accepted.
+fn lines_of(alloc: Global, seed: u64) -> Result<Vec<u8>, Fail> {
+    let mut draft = Draft {
+        lines: Vec::new(alloc),
+        before: Vec::new(alloc),
+        owned: [0; 3],
+        seed,
+    };
+    for _ in 0..END {
+        if draft.before.len() < END {
+            put_random(&mut draft)?;
+        }
+    }
+    for one in 0..3 {
+        if draft.owned[one] != 0 {
+            put(&mut draft, &[b"drop ", NAMES[one]])?;
+            draft.owned[one] = 0;
+        }
+    }
+    for _ in 0..LAST {
+        if draft.before.len() < LAST {
+            put_plain(&mut draft)?;
+        }
+    }
+    put(&mut draft, &[b"fail"])?;
+    let Draft { lines, .. } = draft;
+    Ok(lines)
+}
+
+/// Fills a full table: what each exit leaves becomes the state of its target, round after round.
+fn walked(alloc: Global, code: &[Instr]) -> Result<Vec<Option<State>>, Fail> {
+    let mut states = Vec::new(alloc);
+    states.push(Some(entry()))?;
+    for _ in 0..code.len() {
+        states.push(None)?;
+    }
+    for _ in 0..code.len() {
+        walk(code, &mut states);
+    }
+    Ok(states)
+}
+
+/// Makes one round.
+fn walk(code: &[Instr], states: &mut Vec<Option<State>>) {
+    for at in 0..code.len() {
+        for exit in [Exit::Success, Exit::Fault] {
+            let Some(Some(state)) = states.get(at).copied() else {
+                continue;
+            };
+            if let Step::To(next, arriving) = follow(code, at, &state, exit) {
+                if let Some(target) = states.get_mut(next) {
+                    *target = Some(arriving);
+                }
+            }
+        }
+    }
+}
+
+/// The first point at which the table of an accepted module has another state than the walk.
+pub fn first_other_point(alloc: Global, checked: &Checked) -> Result<Option<usize>, Fail> {
+    let Some(function) = checked.module().functions.as_slice().first() else {
+        return Err("a module has a function")?;
+    };
+    let states = walked(alloc, function.code.as_slice())?;
+    for (at, state) in states.iter().enumerate() {
+        let other = checked.table().at(checked.module(), 0, at) != *state;
+        if other || checked.entry(0, at) != *state {
+            return Ok(Some(at));
+        }
+    }
+    Ok(None)
+}
+
+/// The first of these functions whose table has another state at some point than the walk, and the point.
+fn first_other_function(alloc: Global) -> Result<Option<(u64, usize)>, Fail> {
+    for seed in 0..FUNCTIONS {
+        let lines = lines_of(alloc, seed)?;
+        let Ok(checked) = check(alloc, function_of(alloc, &lines)?) else {
+            return Err("the function is accepted, and memory is ample")?;
+        };
+        if let Some(at) = first_other_point(alloc, &checked)? {
+            return Ok(Some((seed, at)));
+        }
+    }
+    Ok(None)
+}
+
+#[test]
+fn random_tables(rt: HostRuntime) -> Result<(), Fail> {
+    assert_eq!(rt; first_other_function(rt.alloc())?, None);
+    Ok(())
+}
