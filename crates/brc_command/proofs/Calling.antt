@@ -18,7 +18,7 @@ use Rattle.brc_command.specs.Calls.{is_named, has_function, is_known, call_of, c
 
 -- ---- one look-up
 
-found_at : (p : Function → Bool) (fs : List Function) (i : ℕ) → position p fs ≡ Some i
+pub found_at : (p : Function → Bool) (fs : List Function) (i : ℕ) → position p fs ≡ Some i
     → (position_or_len p fs < length fs) × (position_or_len p fs ≡ i)
 found_at p fs i e = elim (cases_Bool (ltb (position_or_len p fs) (length fs))) [
   | inl passes ↦

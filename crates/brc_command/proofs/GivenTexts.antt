@@ -1,5 +1,5 @@
 -- What is proved of the bytes that were read of a file holds of a text that the loader may give.
-use Rattle.std.proofs.Common.{◌≡◌, ℕ, List, Option, Some, None, ◌⊎◌, subst, sym, inl, inr}
+use Rattle.std.proofs.Common.{◌≡◌, ℕ, List, Option, Some, ◌⊎◌, subst, sym, inl, inr}
 use Rattle.brc_lang.specs.declared.module.Module.{Module}
 use Rattle.brc_schedule.specs.declared.schedule.Schedule.{Schedule}
 use Rattle.brc_command.specs.declared.step_fault.StepFault.{StepFault}
@@ -7,13 +7,16 @@ use Rattle.brc_command.specs.declared.step_fault.StepFault.TheVariants.{Text, Pl
 use Rattle.brc_command.specs.declared.step_fault.StepFault.TheVariants.{Output}
 use Rattle.brc_command.specs.declared.stop.Stop.{Stop}
 use Rattle.brc_command.specs.declared.stop.Stop.TheVariants.{UnreadableFile, NoFunction as Unknown, NoThread, Fault}
-use Rattle.brc_command.specs.Commands.{HasExplanation}
 use Rattle.brc_command.specs.Commands.{IsModuleFault, IsModuleReason, IsExplainReason, IsStepReason, AreAtFault}
-use Rattle.brc_command.specs.Explanations.{IsAccepted, Explains, IsUnexplained}
+use Rattle.brc_command.specs.Explanations.{Subject, Code, UnreadableText, AcceptedModule, RefusedModule}
+use Rattle.brc_command.specs.Explanations.{IsAccepted, IsAbout, IsUnexplained, fault_of}
 use Rattle.brc_command.specs.Loading.{ReadsAsModule, ReadsAsSchedule}
 use Rattle.brc_command.specs.Texts.{IsReady, IsFaultOfTexts}
 
 -- ---- one module
+
+same_fault : {e f : StepFault} → Some e ≡ Some f → e ≡ f
+same_fault same = cc
 
 module _ (gives : List ℕ → List ℕ → Type 0) (lacks : List ℕ → Type 0) (file bytes : List ℕ)
     (read : ReadsAsModule gives file bytes) where
@@ -29,23 +32,16 @@ module _ (gives : List ℕ → List ℕ → Type 0) (lacks : List ℕ → Type 0
   module_reason NoMemory fault = tt
   module_reason Output fault = tt
 
-  pub explained : (only : Option (List ℕ)) → Explains bytes only None → HasExplanation gives file only
-  explained only accepted = record {
-    module_text = read.text;
-    m = accepted.0;
-    given = read.given;
-    accepted = module_accepted accepted.0 accepted.1;
-    known = accepted.2;
-  }
-
-  pub explained_fault : (only : Option (List ℕ)) (e : StepFault) → Explains bytes only (Some e)
-      → IsExplainReason gives lacks file only (Fault e)
-  explained_fault only (Text e) fault = module_reason (Text e) fault
-  explained_fault only (Plan e) fault = absurd fault
-  explained_fault only (Refused r) fault = module_reason (Refused r) fault
-  explained_fault only (NoFunction name) fault = absurd fault
-  explained_fault only NoMemory fault = absurd fault
-  explained_fault only Output fault = absurd fault
+  pub explained_fault : (only : Option (List ℕ)) (subject : Subject) (e : StepFault) → IsAbout bytes only subject
+      → Some e ≡ fault_of subject → IsExplainReason gives lacks file only (Fault e)
+  explained_fault only (Code topic) e about ends = absurd about
+  explained_fault only (UnreadableText text f) e about ends =
+      subst (λ (g : StepFault). IsExplainReason gives lacks file only (Fault g)) (sym (same_fault ends))
+      (module_reason (Text f) about.1)
+  explained_fault only (AcceptedModule m number) e about ends = absurd cc
+  explained_fault only (RefusedModule m r number) e about ends =
+      subst (λ (g : StepFault). IsExplainReason gives lacks file only (Fault g)) (sym (same_fault ends))
+      (module_reason (Refused r) (m, about.0, about.1))
 
   pub unexplained : (only : Option (List ℕ)) (stop : Stop) → IsUnexplained bytes only stop
       → IsExplainReason gives lacks file only stop

@@ -8,4 +8,5 @@ mod Machines
 mod Outputs
 mod TakingLines
 mod Traced
+mod WholeExplanations
 mod Writing

@@ -1,5 +1,5 @@
 -- The report of each command over the files that a loader may give, and the reasons why it may stop.
-use Rattle.std.specs.Prelude.{◌≡◌, ◌≢◌, ◌⊎◌, ℕ, true, false, List, Option, Some, map, option_map, codes}
+use Rattle.std.specs.Prelude.{◌≡◌, ◌≢◌, ◌⊎◌, ℕ, true, false, List, Option, None, Some, map, option_map, codes}
 use Rattle.std.specs.Io.KnownBytes.{Appends}
 use Rattle.brc_lang.specs.declared.module.Module.{Module}
 use Rattle.brc_lang.specs.Grammar.{Spells}
@@ -21,7 +21,8 @@ use Rattle.brc_command.specs.declared.stop.Stop.{Stop}
 use Rattle.brc_command.specs.declared.stop.Stop.TheVariants.{UnreadableFile, NoFunction, NoThread, Fault}
 use Rattle.brc_command.specs.Accepted.{accepted_text}
 use Rattle.brc_command.specs.Calls.{has_function, calls_named}
-use Rattle.brc_command.specs.Explanations.{IsAccepted, HasOnly, LacksNamed}
+use Rattle.brc_command.specs.Explanations.{Subject, Code, IsAccepted, IsExplained, LacksNamed, says_anything}
+use Rattle.brc_command.specs.Loading.{ReadsAsModule}
 use Rattle.brc_command.specs.Lines.{stop_text, stop_status, version_text}
 use Rattle.brc_command.specs.Texts.{IsReady, IsFaultOfTexts, report}
 use Rattle.brc_command.specs.Traces.{traced_report}
@@ -77,24 +78,28 @@ pub record HasRunReport (gives : List ℕ → List ℕ → Type 0) (asked : Run)
   pub ran : RunsTo m asked tally
   pub reported : text ≡ tally_text tally
 
--- the file gives an accepted module, with the function for which an explanation asks. What an explanation says is left
--- open here
-pub record HasExplanation (gives : List ℕ → List ℕ → Type 0) (file : List ℕ) (only : Option (List ℕ)) : Type 0 where
-  pub module_text : List ℕ
-  pub m : Module
-  pub given : gives file module_text
-  pub accepted : IsAccepted module_text m
-  pub known : HasOnly m only
+-- The text is what the explainer says of the bytes that are read of the file: of an accepted module with the function
+-- for which the explanation asks, if there is no fault. `says subject text`: the explainer may say so.
+pub record HasExplanation (says : Subject → List ℕ → Type 0) (gives : List ℕ → List ℕ → Type 0) (file : List ℕ)
+    (only : Option (List ℕ)) (fault : Option StepFault) (text : List ℕ) : Type 0 where
+  pub bytes : List ℕ
+  pub read : ReadsAsModule gives file bytes
+  pub explained : IsExplained says bytes only fault text
 
+-- the report, whose explanations are those of an explainer
+abbrev pub HasReportBy : (Subject → List ℕ → Type 0) → (List ℕ → List ℕ → Type 0) → Paint → Asked → List ℕ → Type 0
+HasReportBy says gives paint (ToRun asked) text = HasRunReport gives asked text
+HasReportBy says gives paint (ToCheck file) text = HasCheckReport gives file.now text
+HasReportBy says gives paint (ToStep file schedule false) text = HasStepReport gives file.now schedule.now text
+HasReportBy says gives paint (ToStep file schedule true) text = HasTraceReport gives paint file.now schedule.now text
+HasReportBy says gives paint (ToExplain file function) text =
+    HasExplanation says gives file.now (option_map (λ name. name.now) function) None text
+HasReportBy says gives paint (ToPage topic) text = says (Code topic) text
+HasReportBy says gives paint Version text = text ≡ version_text
+
+-- the report of the program, of whose explanations the words are left open
 abbrev pub HasReport : (List ℕ → List ℕ → Type 0) → Paint → Asked → List ℕ → Type 0
-HasReport gives paint (ToRun asked) text = HasRunReport gives asked text
-HasReport gives paint (ToCheck file) text = HasCheckReport gives file.now text
-HasReport gives paint (ToStep file schedule false) text = HasStepReport gives file.now schedule.now text
-HasReport gives paint (ToStep file schedule true) text = HasTraceReport gives paint file.now schedule.now text
-HasReport gives paint (ToExplain file function) text =
-    HasExplanation gives file.now (option_map (λ name. name.now) function)
-HasReport gives paint (ToPage topic) text = Unit {0}
-HasReport gives paint Version text = text ≡ version_text
+HasReport = HasReportBy says_anything
 
 -- ---- the reasons; `lacks path`: the loader may answer that the path can't be read. Refused memory and an error of the
 -- writer may stop any command, and a thread that can't be started any run
@@ -189,11 +194,13 @@ pub record LeavesReport (is_report : List ℕ → Type 0) (stop : Stop) (old new
 
 -- standard output after an explanation that stops: a text that can't be read and a module that is refused are explained
 -- too
-abbrev pub LeavesExplanation : Stop → Option (List ℕ) → Option (List ℕ) → Type 0
-LeavesExplanation (Fault (Text e)) old new = (text : List ℕ) × Appends old new text
-LeavesExplanation (Fault (Refused r)) old new = (text : List ℕ) × Appends old new text
-LeavesExplanation (Fault Output) old new = (text : List ℕ) × AppendsBeginning old new text
-LeavesExplanation stop old new = new ≡ old
+abbrev pub LeavesExplanation : (Option StepFault → List ℕ → Type 0) → Stop → Option (List ℕ) → Option (List ℕ)
+    → Type 0
+LeavesExplanation is_explanation (Fault NoMemory) old new = new ≡ old
+LeavesExplanation is_explanation (Fault Output) old new = (fault : Option StepFault)
+    × BeginsReport (is_explanation fault) old new
+LeavesExplanation is_explanation (Fault e) old new = Reports (is_explanation (Some e)) old new
+LeavesExplanation is_explanation stop old new = new ≡ old
 
 -- standard output after a trace that stops: if memory was refused, it may have a prefix of the report too
 abbrev pub LeavesTrace : (List ℕ → Type 0) → Stop → Option (List ℕ) → Option (List ℕ) → Type 0
@@ -201,11 +208,17 @@ LeavesTrace is_report (Fault Output) old new = BeginsReport is_report old new
 LeavesTrace is_report (Fault NoMemory) old new = (new ≡ old) ⊎ BeginsReport is_report old new
 LeavesTrace is_report stop old new = new ≡ old
 
-abbrev pub Leaves : (List ℕ → List ℕ → Type 0) → Paint → Asked → Stop → Option (List ℕ) → Option (List ℕ) → Type 0
-Leaves gives paint (ToExplain file function) stop old new = LeavesExplanation stop old new
-Leaves gives paint (ToStep file schedule true) stop old new =
+abbrev pub LeavesBy : (Subject → List ℕ → Type 0) → (List ℕ → List ℕ → Type 0) → Paint → Asked → Stop
+    → Option (List ℕ) → Option (List ℕ) → Type 0
+LeavesBy says gives paint (ToExplain file function) stop old new =
+    LeavesExplanation (HasExplanation says gives file.now (option_map (λ name. name.now) function)) stop old new
+LeavesBy says gives paint (ToStep file schedule true) stop old new =
     LeavesTrace (HasTraceReport gives paint file.now schedule.now) stop old new
-Leaves gives paint asked stop old new = LeavesReport (HasReport gives paint asked) stop old new
+LeavesBy says gives paint asked stop old new = LeavesReport (HasReportBy says gives paint asked) stop old new
+
+-- what the program leaves
+abbrev pub Leaves : (List ℕ → List ℕ → Type 0) → Paint → Asked → Stop → Option (List ℕ) → Option (List ℕ) → Type 0
+Leaves = LeavesBy says_anything
 
 -- one reason gives the status and the line, of which at least a prefix is on standard error
 pub record IsStopped (is_reason : Stop → Type 0) (leaves : Stop → Option (List ℕ) → Option (List ℕ) → Type 0)

@@ -1,15 +1,19 @@
--- How the explanation of a module's text ends.
-use Rattle.std.specs.Prelude.{◌≡◌, ℕ, true, false, List, Option, None, Some, IfSome}
+-- What is explained of a module's text, and how the explanation ends.
+use Rattle.std.specs.Prelude.{◌≡◌, ℕ, true, false, List, Option, None, Some, IfSome, option_map}
+use Rattle.std.specs.List.{position_or_len}
+use Rattle.brc_lang.specs.declared.fault.ReadFault.{ReadFault}
 use Rattle.brc_lang.specs.declared.module.Module.{Module}
 use Rattle.brc_lang.specs.Grammar.{Spells}
 use Rattle.brc_lang.specs.Fault.{HasFault}
 use Rattle.brc_model.specs.Paths.{IsAcceptable}
+use Rattle.brc_check.specs.declared.refused.Refused.{Refused}
 use Rattle.brc_check.specs.Refusal.{IsRefusedFor}
+use Rattle.brc_pages.specs.declared.topic.Topic.{Topic}
 use Rattle.brc_command.specs.declared.step_fault.StepFault.{StepFault}
-use Rattle.brc_command.specs.declared.step_fault.StepFault.TheVariants.{Text, Refused, NoMemory}
+use Rattle.brc_command.specs.declared.step_fault.StepFault.TheVariants.{Text, NoMemory, Refused as RefusedFor}
 use Rattle.brc_command.specs.declared.stop.Stop.{Stop}
 use Rattle.brc_command.specs.declared.stop.Stop.TheVariants.{NoFunction, Fault}
-use Rattle.brc_command.specs.Calls.{has_function}
+use Rattle.brc_command.specs.Calls.{has_function, is_named}
 
 -- the text spells an accepted module
 pub record IsAccepted (text : List ℕ) (m : Module) : Type 0 where
@@ -29,13 +33,47 @@ abbrev pub IsUnknownIn : Module → Option (List ℕ) → Stop → Type 0
 IsUnknownIn m only (NoFunction name) = (only ≡ Some name.now) × (has_function m name.now ≡ false)
 IsUnknownIn m only _ = ⊥
 
--- an explanation ends without a fault if the text spells an accepted module, with the function for which it asks.
--- Otherwise it ends with the fault of the text, or with a refusal of the module
-abbrev pub Explains : List ℕ → Option (List ℕ) → Option StepFault → Type 0
-Explains text only None = (m : Module) × IsAccepted text m × HasOnly m only
-Explains text only (Some (Text e)) = HasFault text e.line e.code
-Explains text only (Some (Refused r)) = (m : Module) × Spells text m × IsRefusedFor m.functions r
-Explains text only (Some _) = ⊥
+-- ---- what is explained, and what is said of it
+
+-- the number of the function for which an explanation asks, if it asks for one
+abbrev pub number_in : Module → Option (List ℕ) → Option ℕ
+number_in m only = option_map (λ name. position_or_len (is_named name) m.functions) only
+
+-- what an explanation is about: a code; bytes that can't be read; or a module, with the number of the function for
+-- which it asks
+pub data Subject : Type 0 where
+  Code : (topic : Topic) → Subject
+  UnreadableText : (bytes : List ℕ) (fault : ReadFault) → Subject
+  AcceptedModule : (m : Module) (only : Option ℕ) → Subject
+  RefusedModule : (m : Module) (refused : Refused) (only : Option ℕ) → Subject
+
+-- the subject of an explanation of bytes
+abbrev pub IsAbout : List ℕ → Option (List ℕ) → Subject → Type 0
+IsAbout bytes only (Code topic) = ⊥
+IsAbout bytes only (UnreadableText text e) = (text ≡ bytes) × HasFault bytes e.line e.code
+IsAbout bytes only (AcceptedModule m number) = IsAccepted bytes m × HasOnly m only × (number ≡ number_in m only)
+IsAbout bytes only (RefusedModule m r number) = Spells bytes m × IsRefusedFor m.functions r
+    × (number ≡ number_in m only)
+
+-- the fault with which an explanation of the subject ends
+abbrev pub fault_of : Subject → Option StepFault
+fault_of (Code topic) = None
+fault_of (UnreadableText text e) = Some (Text e)
+fault_of (AcceptedModule m number) = None
+fault_of (RefusedModule m r number) = Some (RefusedFor r)
+
+-- The text is what an explainer says of the bytes, and the explanation ends with the fault. `says subject text`: the
+-- explainer may say so of the subject.
+pub record IsExplained (says : Subject → List ℕ → Type 0) (bytes : List ℕ) (only : Option (List ℕ))
+    (fault : Option StepFault) (text : List ℕ) : Type 0 where
+  pub subject : Subject
+  pub about : IsAbout bytes only subject
+  pub ends : fault ≡ fault_of subject
+  pub said : says subject text
+
+-- an explainer of whose words nothing is said
+abbrev pub says_anything : Subject → List ℕ → Type 0
+says_anything subject text = Unit {0}
 
 -- the module lacks the function for which the explanation asks, or memory was refused
 abbrev pub IsUnexplained : List ℕ → Option (List ℕ) → Stop → Type 0

@@ -1,6 +1,6 @@
 //! The commands over a loader and writers.
 
-ghost use Rattle.std.specs.Prelude.{◌≡◌, ◌≢◌, ◌≤◌, true, false, IsSome, IsNone, IfSome, IfOk, IfErr, OnOk, IsErrOf};
+ghost use Rattle.std.specs.Prelude.{◌≡◌, ◌≢◌, ◌≤◌, true, false, None, IsSome, IsNone, IfSome, IfOk, IfErr, OnOk, IsErrOf};
 ghost use Rattle.std.specs.Prelude.{ℕ, List};
 ghost use Rattle.std.specs.Prelude.{MatchResult, option_map};
 ghost use Rattle.brc_model.specs.Safety.{IsCall};
@@ -10,14 +10,15 @@ ghost use Rattle.brc_command.specs.Calls.{calls_named, has_function};
 ghost use Rattle.brc_command.specs.Commands.{Reports, BeginsReport, HasCheckReport, HasRunReport, HasStepReport};
 ghost use Rattle.brc_command.specs.Commands.{HasReport, IsModuleReason, IsRunReason, IsStepReason, IsReason};
 ghost use Rattle.brc_command.specs.Commands.{IsDone, IsStopped, IsModuleFault, HasExplanation, IsExplainReason};
-ghost use Rattle.brc_command.specs.Commands.{IsPageReason, LeavesExplanation, Leaves};
+ghost use Rattle.brc_command.specs.Commands.{IsPageReason, LeavesExplanation, Leaves, HasReportBy, LeavesBy};
 ghost use Rattle.brc_command.specs.Commands.{HasTraceReport, LeavesTrace, IsStandardInput};
-ghost use Rattle.brc_command.specs.Explanations.{IsAccepted};
+ghost use Rattle.brc_command.specs.Explanations.{Code, IsAccepted};
 ghost use Rattle.brc_report.specs.declared.paint.Paint.TheVariants.{Plain};
 
 use crate::accepted::write_accepted;
 use crate::asked::{Asked, Run};
 use crate::calls::number_of;
+use crate::explainer::{Explain, Explainer};
 use crate::explaining::{Explanation, explanation_of};
 use crate::lines::{write_stop, write_version};
 use crate::load::{Load, STANDARD_INPUT};
@@ -31,7 +32,7 @@ use crate::tracing::trace_text_in;
 use brc_check::Checked;
 use brc_lang::{Module, write_bytes};
 use brc_model::Call;
-use brc_pages::{Topic, write_page};
+use brc_pages::Topic;
 use brc_report::{Paint, write_tally};
 use brc_run::{Plan, System, run_on_system};
 use std::alloc::Global;
@@ -78,7 +79,7 @@ pub fn execute_on<R: System, L: Load, T: Terminal, W: Write, E: Write>(
         (Leaves (L.may_give load.old) (T.paint_of terminal.old) asked.now) (W.contents out.old) (W.contents out.new)
         (E.contents err.old) (E.contents err.new) result }
 {
-    match carry_out(rt, alloc, asked, load, terminal, out) {
+    match carry_out(rt, alloc, asked, load, terminal, &Explainer, out) {
         Ok(()) => 0,
         Err(stop) => {
             let _ = write_stop(&stop, err);
@@ -87,22 +88,23 @@ pub fn execute_on<R: System, L: Load, T: Terminal, W: Write, E: Write>(
     }
 }
 
-/// Carries out the request and writes its report.
+/// Carries out the request and writes its report. What it explains is the whole text that the explainer gives.
 ///
 /// Returns the first reason from the top why it can't: a file, the texts, the check, a function's name, memory, output.
-pub fn carry_out<'a, R: System, L: Load, T: Terminal, W: Write>(
+pub fn carry_out<'a, R: System, L: Load, T: Terminal, X: Explain, W: Write>(
     rt: &R,
     alloc: Global,
     asked: &Asked<'a>,
     load: &mut L,
     terminal: &mut T,
+    explainer: &X,
     out: &mut W,
 ) -> Result<(), Stop<'a>>
-    ensures reported { OnOk result (Reports (HasReport (L.may_give load.old) (T.paint_of terminal.old) asked.now)
-        (W.contents out.old) (W.contents out.new)) }
+    ensures reported { OnOk result (Reports (HasReportBy (X.says explainer.now (T.paint_of terminal.old))
+        (L.may_give load.old) (T.paint_of terminal.old) asked.now) (W.contents out.old) (W.contents out.new)) }
     ensures stopped { IfErr result (IsReason (L.may_give load.old) (L.may_lack load.old) asked.now) }
-    ensures left { IfErr result (λ e. Leaves (L.may_give load.old) (T.paint_of terminal.old) asked.now e
-        (W.contents out.old) (W.contents out.new)) }
+    ensures left { IfErr result (λ e. LeavesBy (X.says explainer.now (T.paint_of terminal.old)) (L.may_give load.old)
+        (T.paint_of terminal.old) asked.now e (W.contents out.old) (W.contents out.new)) }
 {
     let paint = terminal.paint();
     match asked {
@@ -117,9 +119,9 @@ pub fn carry_out<'a, R: System, L: Load, T: Terminal, W: Write>(
             trace_files(alloc, file, schedule, paint, load, out)
         }
         Asked::Explain { file, function } => {
-            explain_file(alloc, file, *function, paint, load, out)
+            explain_file(alloc, file, *function, paint, load, explainer, out)
         }
-        Asked::Page { topic } => explain_topic(alloc, *topic, paint, out),
+        Asked::Page { topic } => explain_topic(alloc, *topic, paint, explainer, out),
         Asked::Version => match write_version(out) {
             Ok(()) => Ok(()),
             Err(_) => Err(Stop::Fault(StepFault::Output)),
@@ -259,22 +261,25 @@ fn trace_files<'a, L: Load, W: Write>(
 }
 
 /// Writes the explanation of the file's module, also if its text can't be read or the checker refuses it.
-fn explain_file<'a, L: Load, W: Write>(
+fn explain_file<'a, L: Load, X: Explain, W: Write>(
     alloc: Global,
     file: &'a str,
     function: Option<&'a str>,
     paint: Paint,
     load: &mut L,
+    explainer: &X,
     out: &mut W,
 ) -> Result<(), Stop<'a>>
-    ensures reported { OnOk result (Reports (λ _. HasExplanation (L.may_give load.old) file.now
-        (option_map (λ name. name.now) function.entry)) (W.contents out.old) (W.contents out.new)) }
+    ensures reported { OnOk result (Reports (HasExplanation (X.says explainer.now paint) (L.may_give load.old) file.now
+        (option_map (λ name. name.now) function.entry) None) (W.contents out.old) (W.contents out.new)) }
     ensures stopped { IfErr result (IsExplainReason (L.may_give load.old) (L.may_lack load.old) file.now
         (option_map (λ name. name.now) function.entry)) }
-    ensures left { IfErr result (λ e. LeavesExplanation e (W.contents out.old) (W.contents out.new)) }
+    ensures left { IfErr result (λ e. LeavesExplanation (HasExplanation (X.says explainer.now paint)
+        (L.may_give load.old) file.now (option_map (λ name. name.now) function.entry)) e (W.contents out.old)
+        (W.contents out.new)) }
 {
     let bytes = load_module(alloc, file, load)?;
-    match explanation_of(alloc, bytes.as_slice(), function, paint) {
+    match explanation_of(alloc, bytes.as_slice(), function, paint, explainer) {
         Ok(Explanation { text, fault }) => {
             if write_bytes(text.as_slice(), out).is_err() {
                 return Err(Stop::Fault(StepFault::Output));
@@ -289,22 +294,21 @@ fn explain_file<'a, L: Load, W: Write>(
 }
 
 /// Writes the page of a code.
-fn explain_topic<'a, W: Write>(
+fn explain_topic<'a, X: Explain, W: Write>(
     alloc: Global,
     topic: Topic,
     paint: Paint,
+    explainer: &X,
     out: &mut W,
 ) -> Result<(), Stop<'a>>
-    ensures reported { OnOk result (Reports (λ _. Unit {0}) (W.contents out.old) (W.contents out.new)) }
+    ensures reported { OnOk result (Reports (X.says explainer.now paint (Code topic)) (W.contents out.old)
+        (W.contents out.new)) }
     ensures stopped { IfErr result IsPageReason }
     ensures unwritten { IfErr result (λ e. e ≢ Fault Output → W.contents out.new ≡ W.contents out.old) }
-    ensures begun { IsErrOf result (Fault Output) → BeginsReport (λ _. Unit {0}) (W.contents out.old)
-        (W.contents out.new) }
+    ensures begun { IsErrOf result (Fault Output) → BeginsReport (X.says explainer.now paint (Code topic))
+        (W.contents out.old) (W.contents out.new) }
 {
-    let mut page = Vec::new(alloc);
-    if write_page(topic, paint, &mut page).is_err() {
-        return Err(Stop::Fault(StepFault::NoMemory));
-    }
+    let page = explainer.page(alloc, topic, paint)?;
     match write_bytes(page.as_slice(), out) {
         Ok(()) => Ok(()),
         Err(_) => Err(Stop::Fault(StepFault::Output)),

@@ -1,20 +1,20 @@
 //! The explanation of a module's text: of an accepted module, of a refused one, and of a text that can't be
 //! read. It is made before any of it is written, so that want of memory leaves nothing behind.
 
-ghost use Rattle.std.specs.Prelude.{◌≡◌, Some, None, IfOk, IfErr, OnOk, option_map};
+ghost use Rattle.std.specs.Prelude.{◌≡◌, IfOk, IfErr, OnOk, option_map};
 ghost use Rattle.brc_lang.specs.declared.module.Module.{Module};
 ghost use Rattle.brc_lang.specs.Grammar.{Spells};
 ghost use Rattle.brc_check.specs.Refusal.{IsRefusedFor};
-ghost use Rattle.brc_command.specs.declared.step_fault.StepFault.TheVariants as faults;
-ghost use Rattle.brc_command.specs.Explanations.{HasOnly, Explains, IsUnexplained, IsUnknownIn};
+ghost use Rattle.brc_command.specs.Explanations.{HasOnly, IsExplained, IsUnexplained, IsUnknownIn, number_in};
+ghost use Rattle.brc_command.specs.Explanations.{RefusedModule};
 
 use crate::calls::number_of;
+use crate::explainer::Explain;
 use crate::step_fault::StepFault;
 use crate::stop::Stop;
 use crate::texts::{accepted, module_of};
-use brc_check::{Checked, Refused};
-use brc_explain::{explain_accepted, explain_refused, explain_unreadable};
-use brc_lang::{Module, ReadFault, one_reading};
+use brc_check::Refused;
+use brc_lang::{Module, one_reading};
 use brc_report::Paint;
 use brc_world::NoMemory;
 use std::alloc::Global;
@@ -30,18 +30,25 @@ pub struct Explanation {
 /// Explains the module that the bytes spell, or its function of this name.
 ///
 /// Returns `NoFunction` if the module can be read and lacks the function, accepted or not, and `NoMemory`.
-pub fn explanation_of<'a>(
+pub fn explanation_of<'a, X: Explain>(
     alloc: Global,
     bytes: &[u8],
     function: Option<&'a str>,
     paint: Paint,
+    explainer: &X,
 ) -> Result<Explanation, Stop<'a>>
-    ensures explained { IfOk result (λ e. Explains bytes.now (option_map (λ name. name.now) function.entry) e.fault) }
+    ensures explained { IfOk result (λ e. IsExplained (X.says explainer.now paint) bytes.now
+        (option_map (λ name. name.now) function.entry) e.fault e.text.items) }
     ensures stopped { IfErr result (IsUnexplained bytes.now (option_map (λ name. name.now) function.entry)) }
 {
     let module = match module_of(alloc, bytes) {
         Ok(module) => module,
-        Err(StepFault::Text(fault)) => return Ok(of_unreadable(alloc, bytes, fault, paint)?),
+        Err(StepFault::Text(fault)) => {
+            return Ok(Explanation {
+                text: explainer.unreadable(alloc, bytes, &fault, paint)?,
+                fault: Some(StepFault::Text(fault)),
+            });
+        }
         Err(_) => return Err(Stop::Fault(StepFault::NoMemory)),
     };
     let only = match number_asked(&module, function) {
@@ -49,8 +56,14 @@ pub fn explanation_of<'a>(
         Err(stop) => return Err(stop),
     };
     match accepted(alloc, module) {
-        Ok(checked) => Ok(of_accepted(alloc, &checked, only, paint)?),
-        Err(StepFault::Refused(refused)) => Ok(of_refused(alloc, bytes, refused, only, paint)?),
+        Ok(checked) => Ok(Explanation {
+            text: explainer.accepted(alloc, &checked, only, paint)?,
+            fault: None,
+        }),
+        Err(StepFault::Refused(refused)) => Ok(Explanation {
+            text: of_refused(alloc, bytes, &refused, only, paint, explainer)?,
+            fault: Some(StepFault::Refused(refused)),
+        }),
         Err(_) => Err(Stop::Fault(StepFault::NoMemory)),
     }
 }
@@ -58,6 +71,8 @@ pub fn explanation_of<'a>(
 /// Returns the number of the function for which an explanation asks, if it asks for one. Returns `NoFunction` if the
 /// module lacks it.
 fn number_asked<'a>(module: &Module, function: Option<&'a str>) -> Result<Option<usize>, Stop<'a>>
+    ensures number { IfOk result (λ number. number ≡ number_in «module».now
+        (option_map (λ name. name.now) function.entry)) }
     ensures known { OnOk result (HasOnly «module».now (option_map (λ name. name.now) function.entry)) }
     ensures unknown { IfErr result (IsUnknownIn «module».now (option_map (λ name. name.now) function.entry)) }
 {
@@ -70,60 +85,22 @@ fn number_asked<'a>(module: &Module, function: Option<&'a str>) -> Result<Option
     }
 }
 
-fn of_unreadable(
-    alloc: Global,
-    bytes: &[u8],
-    fault: ReadFault,
-    paint: Paint,
-) -> Result<Explanation, NoMemory>
-    ensures { IfOk result (λ e. e.fault ≡ Some (faults.Text fault)) }
-{
-    let mut text = Vec::new(alloc);
-    match explain_unreadable(bytes, &fault, paint, &mut text) {
-        Ok(()) => Ok(Explanation {
-            text,
-            fault: Some(StepFault::Text(fault)),
-        }),
-        Err(_) => Err(NoMemory),
-    }
-}
-
-fn of_accepted(
-    alloc: Global,
-    checked: &Checked,
-    only: Option<usize>,
-    paint: Paint,
-) -> Result<Explanation, NoMemory>
-    ensures { IfOk result (λ e. e.fault ≡ None) }
-{
-    let mut text = Vec::new(alloc);
-    match explain_accepted(alloc, checked, only, paint, &mut text) {
-        Ok(()) => Ok(Explanation { text, fault: None }),
-        Err(_) => Err(NoMemory),
-    }
-}
-
 // The check has dropped the module, so the text is read again. It spells no other module.
-fn of_refused(
+fn of_refused<X: Explain>(
     alloc: Global,
     bytes: &[u8],
-    refused: Refused,
+    refused: &Refused,
     only: Option<usize>,
     paint: Paint,
-) -> Result<Explanation, NoMemory>
-    requires { (m : Module) × Spells bytes.now m × IsRefusedFor m.functions refused }
-    ensures { IfOk result (λ e. e.fault ≡ Some (faults.Refused refused)) }
+    explainer: &X,
+) -> Result<Vec<u8>, NoMemory>
+    requires { (m : Module) × Spells bytes.now m × IsRefusedFor m.functions refused.now }
+    ensures { IfOk result (λ text. (m : Module) → Spells bytes.now m
+        → X.says explainer.now paint (RefusedModule m refused.now only) text.items) }
 {
     one_reading();
     let Ok(module) = module_of(alloc, bytes) else {
         return Err(NoMemory);
     };
-    let mut text = Vec::new(alloc);
-    match explain_refused(alloc, &module, &refused, only, paint, &mut text) {
-        Ok(()) => Ok(Explanation {
-            text,
-            fault: Some(StepFault::Refused(refused)),
-        }),
-        Err(_) => Err(NoMemory),
-    }
+    explainer.refused(alloc, &module, refused, only, paint)
 }

@@ -1,5 +1,6 @@
-use Rattle.std.proofs.Common.{◌∙◌, sym, ap, List, ℕ, Bor, option_map}
-use Rattle.brc_command.proofs.Calling.{looked_up, known_there, unknown_there}
+use Rattle.std.proofs.Common.{◌∙◌, sym, ap, List, ℕ, Bor, Some, option_map}
+use Rattle.brc_command.proofs.Calling.{found_at, looked_up, known_there, unknown_there}
+use Rattle.brc_command.specs.Calls.{is_named}
 use Rattle.brc_command.proofs.explaining.number_asked.Goals as goal
 
 pub returns-in-Some-number_of-clause-known : goal.returns-in-Some-number_of-clause-known
@@ -17,3 +18,11 @@ returns-in-None-clause-unknown c =
       unknown_there m name (sym (looked_up m name _ _ _ c.as_slice.ensures c.as_bytes.ensures.value
           c.number_of.ensures) ∙ c.in-None.is),
     )
+
+pub returns-in-Some-number_of-clause-number : goal.returns-in-Some-number_of-clause-number
+returns-in-Some-number_of-clause-number c =
+    let m = c.args.module.now in
+    let name = c.in-Some.name.now in
+    rw c.in-Some.is (ap Some (sym (found_at (is_named name) m.functions c.in-Some-number_of.number
+    (sym (looked_up m name _ _ _ c.as_slice.ensures c.as_bytes.ensures.value c.number_of.ensures)
+    ∙ c.in-Some-number_of.is)).1))
