@@ -3,8 +3,8 @@
 
     python3 docs/refused_threads.py [THREADS]
 
-As root. It becomes a user of its own, whose processes may have so many threads together (30, unless said otherwise): the
-limit doesn't hold for root. It runs `brc` by `rt try`, which proves nothing and takes about a minute, and fails unless
+As root. It becomes a user of its own, whose processes may have 30 threads together, or THREADS: the limit doesn't hold for
+root. It runs `brc` by `rt try`, which proves nothing and takes about a minute, and fails unless
 `brc` answers `no thread` with status 3.
 """
 import os
@@ -17,7 +17,7 @@ from pathlib import Path
 FOLDER = Path(__file__).resolve().parents[1] / "crates" / "brc"
 # A user that nobody is.
 USER = 54321
-# Each worker makes so many calls that none is gone before the last one is started.
+# Each worker makes enough calls that none is gone before the last one is started.
 RUN = ["--data", "first.brc=../../examples/first.brc", "--",
        "run", "first.brc", "--call", "f", "--threads", "32", "--times", "100000"]
 
