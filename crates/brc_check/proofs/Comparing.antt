@@ -26,7 +26,7 @@ use Rattle.brc_check.proofs.Steps.{arrives-within, reports-here}
 
 -- ---- one exit
 
--- what a path meets at kept points is what it meets at all points
+-- a path that agrees with the entries of the kept points agrees with the states of all points
 agrees : (code : List Instr) (kept : List KeptEntry) (at : ℕ) (s : State) (exit : Exit) (p : PathEnd)
     → map point_of kept ≡ kept_points code → state_at code kept at ≡ Some s → follow code (At at s) exit ≡ p
     → MeetsKept kept p → StaysOn (state_at code kept) p
@@ -120,7 +120,7 @@ leads_within code at count s exit (Reports j c) most is = tt
 
 -- ---- one function
 
--- the first point's entry is looked at as if a path came to it
+-- the first point's entry is compared as if a path reached it
 first_state : (code : List Instr) (kept : List KeptEntry) → map point_of kept ≡ kept_points code → 0 < length code
     → state_at code kept 0 ≡ kept_or (kept_at kept 0) (Some entry)
 first_state code kept shape some = elim (kept_at kept 0) as (λ o. kept_at kept 0 ≡ o

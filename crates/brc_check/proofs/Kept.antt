@@ -105,7 +105,7 @@ arrived code at next None s t e = absurd (is_at-from Ended next t e)
 arrived code at next (Some k) s t e =
     let both = arrived_cond code at next k s t (nat_lt k (length code)) e in (ap Some both.0, both.1)
 
--- the way by which a step comes to a point
+-- the way by which a step reaches a point: the point is kept, or it is the next one, by the success exit
 abbrev pub Comes : List Instr → ℕ → State → ℕ → State → Type 0
 Comes code at s next t =
     (is_kept code next ≡ true) ⊎ ((next ≡ at + 1) × (follow code (At at s) Success ≡ At next t))
@@ -137,7 +137,7 @@ passes_arrives code at next (Some i) exit s t here e =
       )
     ]
 
--- a step that comes to a point which isn't kept comes from the point before, as by its success exit
+-- a step that reaches a point that isn't kept is from the point before, and the success exit of that leads there too
 pub comes : (code : List Instr) (at next : ℕ) (exit : Exit) (s t : State) → follow code (At at s) exit ≡ At next t
     → Comes code at s next t
 comes code at next exit s t e = passes_arrives code at next (slice_get code at) exit s t refl e

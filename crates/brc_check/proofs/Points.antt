@@ -9,11 +9,10 @@ use Rattle.brc_lang.specs.declared.check_code.CheckCode.{CheckCode}
 use Rattle.brc_model.specs.declared.slot.State.{State}
 use Rattle.brc_model.specs.declared.slot.Exit.TheVariants.{Success, Fault}
 use Rattle.brc_model.specs.Paths.{At, IsAcceptableCode, follow}
-use Rattle.brc_model.specs.Tables.{entry_at}
 use Rattle.brc_check.specs.declared.refused.CodeAt as refused
 use Rattle.brc_check.specs.Entries.{StaysOn, IsBlocked}
 use Rattle.brc_check.specs.declared.filling.Filling.{Filling}
-use Rattle.brc_check.specs.Filling.{settled_at, IsFilledTo, IsFilled, AreReached, AreTrue}
+use Rattle.brc_check.specs.Filling.{entry_at, settled_at, IsFilledTo, IsFilled, AreReached, AreTrue}
 use Rattle.brc_check.specs.Refusal.{IsReported}
 use Rattle.brc_check.proofs.Turns.{first_blocked, second_blocked, filled_both, both_reached}
 use Rattle.brc_check.proofs.Tables.{never_reported}

@@ -9,9 +9,8 @@ use Rattle.std.proofs.lemmas.List.Sums.{sum_by-set}
 use Rattle.std.proofs.lemmas.Option.{none-some, same_Some, slice_get-get_or}
 use Rattle.brc_model.specs.declared.slot.State.{State}
 use Rattle.brc_model.specs.Slots.{entry}
-use Rattle.brc_model.specs.Tables.{entry_at}
 use Rattle.brc_check.specs.declared.filling.Filling.{Filling}
-use Rattle.brc_check.specs.Filling.{first_filling, settled, IsInOrder}
+use Rattle.brc_check.specs.Filling.{entry_at, first_filling, settled, IsInOrder}
 use Rattle.brc_check.proofs.Pushing.{push-kept, push-last, push-cases}
 
 pub entry-within : (entries : List (Option State)) (k : ℕ) (s : State) → entry_at entries k ≡ Some s

@@ -10,9 +10,9 @@ use Rattle.brc_model.specs.declared.slot.Exit.{Exit}
 use Rattle.brc_model.specs.declared.slot.Exit.TheVariants.{Success}
 use Rattle.brc_model.specs.Slots.{entry}
 use Rattle.brc_model.specs.Paths.{PathEnd, At, Ended, Reports, follow}
-use Rattle.brc_model.specs.Tables.{Reaches, IsTrueEntry, entry_at}
+use Rattle.brc_model.specs.Tables.{Reaches, IsTrueEntry}
 use Rattle.brc_check.specs.declared.kept_entry.KeptEntry.{KeptEntry}
-use Rattle.brc_check.specs.Filling.{entry_from, kept_entries, IsFilled, IsInferred}
+use Rattle.brc_check.specs.Filling.{entry_at, entry_from, kept_entries, IsFilled, IsInferred}
 use Rattle.brc_check.specs.Tables.{is_kept, kept_points, kept_at, kept_or, point_of, passed, state_at, state_there}
 use Rattle.brc_check.proofs.Paths.{begins, reaches-more}
 use Rattle.brc_check.proofs.Kept.{comes, not_kept}
@@ -59,7 +59,7 @@ kept_state code kept zero e is = ap (λ (o : Option KeptEntry). kept_or o None) 
 kept_state code kept (suc at) e is =
     ap (λ (o : Option KeptEntry). kept_or o (passed code at (state_at code kept at))) is
 
--- Where a step comes to a point, the state of the point is that of its entry, or the path's own.
+-- If a step reaches a point, the state of the point is that of its entry, or the path's own if it isn't kept.
 pub met : (code : List Instr) (kept : List KeptEntry) (at next : ℕ) (exit : Exit) (s t : State)
     → map point_of kept ≡ kept_points code → state_at code kept at ≡ Some s
     → follow code (At at s) exit ≡ At next t → state_at code kept next ≡ kept_or (kept_at kept next) (Some t)

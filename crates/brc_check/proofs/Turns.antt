@@ -13,10 +13,10 @@ use Rattle.brc_model.specs.declared.slot.Exit.{Exit}
 use Rattle.brc_model.specs.declared.slot.Exit.TheVariants.{Success, Fault}
 use Rattle.brc_model.specs.Slots.{entry}
 use Rattle.brc_model.specs.Paths.{PathEnd, At, Ended, Reports, follow, ReportsCode}
-use Rattle.brc_model.specs.Tables.{Reaches, StatesDifferAt, entry_at}
+use Rattle.brc_model.specs.Tables.{Reaches, StatesDifferAt}
 use Rattle.brc_check.specs.declared.filling.Filling.{Filling}
 use Rattle.brc_check.specs.Entries.{StaysOn, IsClosed, IsBlocked}
-use Rattle.brc_check.specs.Filling.{first_filling, settled_at, IsInOrder, IsFilledTo, IsFilled, AreReached}
+use Rattle.brc_check.specs.Filling.{entry_at, first_filling, settled_at, IsInOrder, IsFilledTo, IsFilled, AreReached}
 use Rattle.brc_check.specs.Refusal.{IsReported}
 use Rattle.brc_check.proofs.Steps.{arrives-within}
 use Rattle.brc_check.proofs.Paths.{begins, reaches-more, reports-more, closed-reached, closed-acceptable}

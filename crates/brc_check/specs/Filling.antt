@@ -1,16 +1,20 @@
 -- The entries of a function, filled in as paths find its points.
 use Rattle.std.specs.Prelude.{◌≡◌, ◌<◌, ◌-◌, ℕ, List, [], ◌∷◌, ◌++◌, length, map}
 use Rattle.std.specs.Prelude.{replicate, Option, None, Some, is_none, is_some, slice_get, slice_set, if◌then◌else◌}
-use Rattle.std.specs.List.{count_by}
+use Rattle.std.specs.List.{count_by, slice_index_or}
 use Rattle.brc_lang.specs.declared.module.Instr.{Instr}
 use Rattle.brc_model.specs.declared.slot.State.{State}
 use Rattle.brc_model.specs.Slots.{entry}
 use Rattle.brc_model.specs.Paths.{PathEnd, At, Ended, Reports, IsAcceptableCode}
-use Rattle.brc_model.specs.Tables.{Reaches, IsTrueEntry, entry_at}
+use Rattle.brc_model.specs.Tables.{Reaches, IsTrueEntry}
 use Rattle.brc_check.specs.declared.filling.Filling.{Filling}
 use Rattle.brc_check.specs.declared.kept_entry.KeptEntry.{KeptEntry}
 use Rattle.brc_check.specs.Entries.{IsClosedAt}
 use Rattle.brc_check.specs.Tables.{kept_points, point_of, state_at}
+
+-- the entry of a point, or none past the last point
+abbrev pub entry_at : List (Option State) → ℕ → Option State
+entry_at entries at = slice_index_or entries at None
 
 -- what is known of a function of this many instructions at first: its first point is found
 abbrev pub first_filling : ℕ → Filling

@@ -1,5 +1,5 @@
--- Entries looked up: where a point's entry is among those kept, which is the nearest before a point, and what a path
--- meets where it comes to a point.
+-- Entries looked up: where a point's entry is among those kept, which is the nearest before a point, and whether the
+-- state in which a path reaches a point is that of the point's entry.
 use Rattle.std.specs.Prelude.{◌≡◌, ◌≢◌, ◌<◌, ◌≤◌, ℕ, List, Option, None, Some, slice_get, slice_set}
 use Rattle.std.specs.List.{slice_index_or}
 use Rattle.brc_lang.specs.declared.module.Instr.{Instr}
@@ -34,7 +34,7 @@ IsNearest kept at None = (point : ℕ) → point ≤ at → kept_at kept point �
 IsNearest kept at (Some e) =
     (e.at ≤ at) × (kept_at kept e.at ≡ Some e) × ((point : ℕ) → e.at < point → point ≤ at → kept_at kept point ≡ None)
 
--- ---- a path that comes to a point
+-- ---- a path that reaches a point
 
 -- both exits of the instruction lead to the same point in the same state
 abbrev pub HasOneExit : Instr → Type 0
@@ -49,7 +49,7 @@ LeadsWithin count (At next s) = next < count
 LeadsWithin count Ended = Unit {0}
 LeadsWithin count (Reports at code) = Unit {0}
 
--- the path comes to a point that isn't kept, or to a kept one in the state of its entry, or ends the call
+-- the path reaches a point that isn't kept, or a kept one in the state of its entry, or ends the call
 abbrev pub MeetsKept : List KeptEntry → PathEnd → Type 0
 MeetsKept kept (At next s) = kept_or (kept_at kept next) (Some s) ≡ Some s
 MeetsKept kept Ended = Unit {0}

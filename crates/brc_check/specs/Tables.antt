@@ -10,7 +10,7 @@ use Rattle.brc_lang.specs.Grammar.{jump, turn}
 use Rattle.brc_model.specs.declared.slot.State.{State}
 use Rattle.brc_model.specs.declared.slot.Exit.TheVariants.{Success}
 use Rattle.brc_model.specs.Paths.{PathEnd, At, Ended, Reports, follow}
-use Rattle.brc_model.specs.Tables.{Reaches, IsTrueEntry}
+use Rattle.brc_model.specs.Tables.{AreTrueStates, AreTrueWhereReached}
 use Rattle.brc_check.specs.declared.kept_entry.KeptEntry.{KeptEntry}
 
 -- ---- the points that are kept
@@ -92,17 +92,6 @@ abbrev pub states_of : Module → List (List KeptEntry) → ℕ → ℕ → Opti
 states_of m table function at = states_in (slice_get m.functions function) (entries_of table function) at
 
 -- ---- true tables
-
--- each point has a state exactly if some path reaches the point in that state
-abbrev pub AreTrueStates : Module → (ℕ → ℕ → Option State) → Type 0
-AreTrueStates m states =
-    (number at : ℕ) (f : Function) → slice_get m.functions number ≡ Some f → IsTrueEntry f.code at (states number at)
-
--- each point that a path reaches has the path's state; any other point may have any state
-abbrev pub AreTrueWhereReached : Module → (ℕ → ℕ → Option State) → Type 0
-AreTrueWhereReached m states =
-    (number at : ℕ) (f : Function) (s : State) → slice_get m.functions number ≡ Some f → Reaches f.code at s
-    → states number at ≡ Some s
 
 -- each state that the table gives is true
 pub record IsTrueTable (m : Module) (table : List (List KeptEntry)) : Type 0 where

@@ -1,6 +1,7 @@
 ghost use Rattle.std.specs.Prelude.{◌≡◌};
 ghost use Rattle.brc_lang.specs.Grammar.{IsModule};
 ghost use Rattle.brc_model.specs.Paths.{IsAcceptable};
+ghost use Rattle.brc_model.specs.Tables.{AreTrueWhereReached};
 ghost use Rattle.brc_check.specs.Tables.{IsTrueWhereReached, states_of};
 
 use crate::table::Table;
@@ -58,6 +59,15 @@ impl Checked {
         ensures truth { IsTrueWhereReached self.now.module result.now }
     {
         &self.table
+    }
+
+    /// States that the module is acceptable, and that the table gives each point that a path reaches the path's state.
+    pub fn states_are_true(&self)
+        ensures fits { IsModule self.now.module }
+        ensures acceptable { IsAcceptable self.now.module }
+        ensures truth { AreTrueWhereReached self.now.module (states_of self.now.module self.now.table) }
+    {
+        let _ = &self.table;
     }
 
     /// Returns the state of a point of a function, or `None` if no path reaches the point, or there is no such point.

@@ -1,8 +1,8 @@
 //! The entries of one function compared with one step of a path.
 
 ghost use Rattle.std.specs.Prelude.{◌≡◌, ◌↔◌, Some, IsTrue, MatchOption};
-ghost use Rattle.brc_model.specs.Tables.{entry_at};
 ghost use Rattle.brc_check.specs.Entries.{end_of, StaysOn, IsBlocked};
+ghost use Rattle.brc_check.specs.Filling.{entry_at};
 
 use crate::refused::CodeAt;
 use crate::state::same_state;

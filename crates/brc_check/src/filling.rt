@@ -2,8 +2,7 @@
 
 ghost use Rattle.std.specs.Prelude.{◌≡◌, ◌<◌, ◌≤◌, ◌-◌, ◌∷◌, length, replicate, IfOk, IsTrue, MatchOption, None, Some};
 ghost use Rattle.brc_model.specs.Slots.{entry};
-ghost use Rattle.brc_model.specs.Tables.{entry_at};
-ghost use Rattle.brc_check.specs.Filling.{first_filling, settled, IsInOrder, IsFoundAt};
+ghost use Rattle.brc_check.specs.Filling.{entry_at, first_filling, settled, IsInOrder, IsFoundAt};
 
 use crate::entries::entry_at;
 use crate::state::entry;

@@ -5,9 +5,8 @@
 ghost use Rattle.std.specs.Prelude.{◌≡◌, ◌⊎◌, ◌<◌, ◌+◌, length, IfOk, OnOk, IfErr, MatchOption, MatchResult};
 ghost use Rattle.brc_lang.specs.Grammar.{IsModule, IsFunction};
 ghost use Rattle.brc_model.specs.Paths.{IsAcceptable, IsAcceptableCode, follow, At};
-ghost use Rattle.brc_model.specs.Tables.{entry_at};
 ghost use Rattle.brc_check.specs.Entries.{StaysOn, IsBlocked};
-ghost use Rattle.brc_check.specs.Filling.{first_filling, settled_at, IsFilledTo, IsFilled, IsInferred, AreReached};
+ghost use Rattle.brc_check.specs.Filling.{entry_at, first_filling, settled_at, IsFilledTo, IsFilled, IsInferred, AreReached};
 ghost use Rattle.brc_check.specs.Filling.{AreTrue};
 ghost use Rattle.brc_check.specs.Refusal.{IsReported, IsForMemory, IsRefusal};
 ghost use Rattle.brc_check.specs.Tables.{IsTrueTable};
@@ -41,7 +40,7 @@ fn lead(
 {
     let led = follow(code, at, state, exit);
     if let Step::To(next, arriving) = &led {
-        // The first path that comes to a point agrees with itself.
+        // The first path that reaches a point agrees with itself.
         if settle(filling, *next, *arriving)? {
             return Ok(None);
         }

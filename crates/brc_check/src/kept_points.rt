@@ -13,7 +13,7 @@ use brc_lang::{Instr, Sequence};
 use brc_model::State;
 use std::alloc::{AllocError, Global};
 
-/// The numbers that a point may have are below this one: a function has at most so many instructions.
+/// The greatest number of instructions of a function. Each point's number is below it.
 pub const POINTS: usize = 256;
 
 /// Returns whether the two exits of the instruction may lead to different points or leave different states.

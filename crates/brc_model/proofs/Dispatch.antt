@@ -1,15 +1,17 @@
 -- What a thread of accepted code does next fits it: `Actions.action_fits`.
 --
--- In order: `Holds`, `Passing` and `Grounded` (what a thread's variables hold at a point that a path reaches), `AtOnce`
--- (no agenda locks, unlocks, swaps a cell, or lends or returns a resource), `Guards` (what the state says is locked),
--- `Lending` (what the place says is lent), `Claims` and `Rooms` (where a birth is awaited, there is room), `Coded` (a
--- thread's lock and account are those of its place), `Decided` (the place that a word found or an exit decides),
--- `Kinds`, `KindsLeft` and `KindsActions` (instruction by instruction, variables have the kinds that the checker says),
--- `Items`, `ItemsUsed`, `ItemsLeft` and `ItemsActions` (instruction by instruction, what is borrowed is in the locked
--- list), `Begins` (what a thread takes up), `Lockable` and `Standing` (what it knows at an instruction),
--- `TakingSilent`, `TakingBirths`, `TakingLocks`, `TakingKinds`, `TakingItems`, `TakingInside`, `TakingHost`,
--- `TakingStores` and `Taking` (instruction by instruction), `Begun` and `TakenSits`, `Counting` (the counting machine
--- below), `Actions`, which has the theorem, and `Fit` (an instruction has what it needs).
+-- In order: `Holds`, `Passing` and `Grounded` (what a thread's variables hold at a point that a path reaches),
+-- `AtOnce` (no agenda locks, unlocks, swaps a cell, or lends or returns a resource), `Guards` (what the state says is
+-- locked), `Lending` (what the place says is lent), `Claims` and `Rooms` (where a birth is awaited, there is room),
+-- `Stopped` (what a thread holds that has stopped), `Coded` (a thread's lock and account are those of its place),
+-- `Decided` (the place that a word found or an exit decides), `Kinds`, `KindsLeft` and `KindsActions` (instruction by
+-- instruction, variables have the kinds that the checker says), `Items`, `ItemsUsed`, `ItemsLeft` and `ItemsActions`
+-- (instruction by instruction, what is borrowed is in the locked list), `Begins` (what a thread takes up), `Lockable`
+-- and `Standing` (what it knows at an instruction), `TakingSilent`, `TakingBirths`, `TakingLocks`, `TakingKinds`,
+-- `TakingItems`, `TakingInside`, `TakingHost`, `TakingStores`, `TakingStops` and `Taking` (instruction by instruction,
+-- and after a stop), `Begun` and `TakenSits`, `Counting` (the counting machine below), `ActionsFit` and `Actions`,
+-- which has the
+-- theorem, and `Fit` (an instruction has what it needs).
 
 pub mod Holds
 pub mod Passing
@@ -19,6 +21,7 @@ pub mod Guards
 pub mod Lending
 pub mod Claims
 pub mod Rooms
+pub mod Stopped
 pub mod Coded
 pub mod Decided
 pub mod Kinds
@@ -39,9 +42,11 @@ pub mod TakingItems
 pub mod TakingInside
 pub mod TakingHost
 pub mod TakingStores
+pub mod TakingStops
 pub mod Taking
 pub mod Begun
 pub mod TakenSits
 pub mod Counting
+pub mod ActionsFit
 pub mod Actions
 pub mod Fit

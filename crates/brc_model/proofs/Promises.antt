@@ -4,7 +4,8 @@
 -- `ClosedOnce`; `Gates`, `Births`, `MarksWatched`, `KindWords` and `CellsUnderLock`; `Guarded`, what of these holds of
 -- running threads, and `SlotsFree` and `SlotsKnown`, what they know of slots; `RowLaws`, which extends these laws to
 -- every list of events, as `HandedMerges` does its own; `KnownKinds` and `BorrowedItems`, what the checker says of
--- kinds and of borrowed items; then the laws of the world: `Worlds`, `AgendaMoves`, `Emptied`, `Leading`, `Turns`,
+-- kinds and of borrowed items; then the laws of the world: `Worlds`, `AgendaMoves`, `Emptying`, `Emptied`, `Leading`,
+-- `Turns`,
 -- `Elsewhere`, `StepsMove`, `LocksWait`, `Trace`, `CallsLeft`, `Bounded`, `Faults`, `HostCalls`.
 -- `Rules` proves that the named rules are the steps. `Worked` computes three schedules.
 
@@ -31,11 +32,13 @@ pub mod KnownKinds
 pub mod BorrowedItems
 pub mod Worlds
 pub mod AgendaMoves
+pub mod Emptying
 pub mod Emptied
 pub mod Leading
 pub mod Turns
 pub mod Elsewhere
 pub mod StepsMove
+pub mod Stops
 pub mod LocksWait
 pub mod Trace
 pub mod CallsLeft

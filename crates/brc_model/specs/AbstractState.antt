@@ -33,7 +33,7 @@ pub record AbstractState : Type 0 where
 -- ---- the bag
 
 abbrev pub same_holding : Holding → Holding → Bool
-same_holding (ByVariable v) (ByVariable w) = v == w
+same_holding (ByVariable depth v) (ByVariable other w) = (depth == other) && (v == w)
 same_holding AsCaller AsCaller = true
 same_holding InFlight InFlight = true
 same_holding _ _ = false

@@ -11,6 +11,7 @@ use Rattle.brc_model.specs.References.{held, one_if, reference_of}
 use Rattle.brc_word.specs.Words.{half}
 use Rattle.brc_model.specs.declared.layout.Layout.{Layout}
 use Rattle.brc_model.specs.Layout.{IsCounted}
+use Rattle.brc_model.specs.Limits.{depth_limit}
 
 -- Says whether the duty gives up this reference: the bag still has it, and the account no longer does.
 abbrev pub extra : Duty → Holding → ℕ → Bool
@@ -68,12 +69,13 @@ pub record HoldsAt (bag : List Reference) (t : ℕ) (account : Account) (agenda 
 abbrev pub most_lent : ℕ
 most_lent = half
 
--- A thread holds at most one reference by each of its sixteen variables, and as the caller at most `most_lent` to one
--- counted object. References to immortal objects aren't counted, so it may hold any number of them. In
--- flight an account has at most one.
+-- A thread holds at most one reference by each of the sixteen variables of each open call, of which there are at most
+-- `depth_limit`, and as the caller at most `most_lent` to one counted object. References to immortal objects aren't
+-- counted, so it may hold any number of them. In flight an account has at most one.
 pub record IsBounded (layout : Layout) (account : Account) : Type 0 where
-  pub by_variable : (v object : ℕ) → account (ByVariable v) object ≤ 1
-  pub sixteen : (v object : ℕ) → 16 ≤ v → account (ByVariable v) object ≡ 0
+  pub by_variable : (depth v object : ℕ) → account (ByVariable depth v) object ≤ 1
+  pub sixteen : (depth v object : ℕ) → 16 ≤ v → account (ByVariable depth v) object ≡ 0
+  pub shallow : (depth v object : ℕ) → depth_limit ≤ depth → account (ByVariable depth v) object ≡ 0
   pub lent : (object : ℕ) → IsCounted layout object → account AsCaller object ≤ most_lent
   pub in_flight : (object : ℕ) → account InFlight object ≤ 1
 

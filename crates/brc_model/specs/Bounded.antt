@@ -4,13 +4,13 @@ use Rattle.std.specs.Prelude.{◌≡◌, ◌⊎◌, ℕ, zero, suc, ◌+◌, ◌
 use Rattle.brc_lang.specs.declared.module.Instr.{Instr}
 use Rattle.brc_lang.specs.declared.module.Instr.TheVariants.{Again}
 use Rattle.brc_model.specs.declared.thread.Choice.{Choice}
-use Rattle.brc_model.specs.declared.thread.Choice.TheVariants.{Ok, Fault, Claim}
+use Rattle.brc_model.specs.declared.thread.Choice.TheVariants.{Ok, Fault, Claim, Stop}
 use Rattle.brc_model.specs.declared.actor.Place.{Place}
-use Rattle.brc_model.specs.declared.actor.Place.TheVariants.{Idle, InCall, Inside, Exiting}
+use Rattle.brc_model.specs.declared.actor.Place.TheVariants.{Idle, InCall, Inside, Stopping, Exiting}
 use Rattle.brc_model.specs.declared.address.Address.{Address}
 use Rattle.brc_model.specs.References.{one_if}
 use Rattle.brc_model.specs.Threads.{code_of}
-use Rattle.brc_model.specs.Actions.{StepActor, Action, Skip, Stuck, Silent, Calls, Does, action_of}
+use Rattle.brc_model.specs.Actions.{is_before_instruction, StepActor, Action, Skip, Stuck, Silent, Calls, Does, action_of}
 use Rattle.brc_model.specs.StepMachine.{StepMachine, of_thread, next_machine, machine_after}
 use Rattle.brc_model.specs.World.{finds_locked}
 
@@ -28,14 +28,6 @@ call_limit code = length code * (1 + sum_by times_of code)
 
 -- ---- what a thread begins
 
--- Says whether the thread is before an instruction: at the beginning of a call or at a point of one.
-abbrev pub is_before_instruction : Place → Bool
-is_before_instruction (Idle zero) = false
-is_before_instruction (Idle (suc left)) = true
-is_before_instruction (InCall counters at variables) = true
-is_before_instruction (Inside counters at variables stage) = false
-is_before_instruction Exiting = false
-
 -- Says whether the thread takes a step by the action. It takes none while another thread has locked what it would lock.
 abbrev pub takes_step : (Address → ℕ) → Action → Bool
 takes_step memory Skip = false
@@ -49,13 +41,14 @@ takes_step memory (Does d rest place) = not (finds_locked memory (Does d rest pl
 abbrev pub begins : StepMachine → ℕ → StepActor → Choice → Bool
 begins m t a choice =
     (length a.actor.agenda == 0) && is_before_instruction a.place
-    && takes_step m.memory (action_of m.functions m.layout t a choice)
+    && takes_step m.memory (action_of m.functions m.states m.layout t a choice)
 
 -- Says whether the thread begins an instruction at an event of its own with the choice.
 abbrev pub begins_by : StepMachine → ℕ → StepActor → Choice → Bool
 begins_by m t a Ok = begins m t a Ok
 begins_by m t a Fault = begins m t a Fault
 begins_by m t a (Claim row) = false
+begins_by m t a Stop = false
 
 -- Says whether the thread begins an instruction at the event.
 abbrev pub begins_at : ℕ → StepMachine → ℕ × Choice → Bool
@@ -75,8 +68,9 @@ begun t m (event ∷ rest) = one_if (begins_at t m event) + begun t (next_machin
 abbrev pub calls_after : Place → Option ℕ
 calls_after (Idle zero) = None
 calls_after (Idle (suc left)) = Some left
-calls_after (InCall counters at variables) = Some counters.left
-calls_after (Inside counters at variables stage) = Some counters.left
+calls_after (InCall context at variables) = Some context.left
+calls_after (Inside context at variables stage) = Some context.left
+calls_after (Stopping lock calls) = None
 calls_after Exiting = None
 
 -- the thread is still in the call after which it makes `left` calls, or has just ended it

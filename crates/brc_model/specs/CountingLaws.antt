@@ -208,7 +208,8 @@ thread_references m x t =
 
 -- No thread holds the object by a variable, as in running threads.
 abbrev pub HasNoVariables : Machine → ℕ → Type 0
-HasNoVariables m x = (t v : ℕ) → held (reference_of t (ByVariable v) x) m.abstract.references ≡ 0
+HasNoVariables m x =
+    (t depth v : ℕ) → held (reference_of t (ByVariable depth v) x) m.abstract.references ≡ 0
 
 -- The sum of a number over the cells that lists may have: over the rows below `rows`, and in each the first cells.
 abbrev pub over_cells : (ℕ → ℕ → ℕ) → ℕ → ℕ

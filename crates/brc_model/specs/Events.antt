@@ -4,7 +4,7 @@ use Rattle.std.specs.Prelude.{ℕ, Bool, true, false, ◌||◌, not, List, [], �
 use Rattle.brc_model.specs.AbstractState.{are_allowed}
 use Rattle.brc_model.specs.declared.duty.Duty.{Duty}
 use Rattle.brc_model.specs.declared.thread.Choice.{Choice}
-use Rattle.brc_model.specs.declared.thread.Choice.TheVariants.{Ok, Fault, Claim}
+use Rattle.brc_model.specs.declared.thread.Choice.TheVariants.{Ok, Fault, Claim, Stop}
 use Rattle.brc_model.specs.BadDuties.{touches_freed, is_bad_duty}
 use Rattle.brc_model.specs.Threads.{code_of}
 use Rattle.brc_model.specs.Actions.{StepActor, Action, Skip, Stuck, Silent, Calls, Does, action_of}
@@ -29,10 +29,12 @@ abbrev pub chooses_unfit : StepMachine → StepActor → Choice → Bool
 chooses_unfit m a Ok = begins_unfit m a a.actor.agenda
 chooses_unfit m a Fault = begins_unfit m a a.actor.agenda
 chooses_unfit m a (Claim row) = false
+chooses_unfit m a Stop = false
 
 -- Says whether the event is bad: whether its thread's action is, or what it begins lacks what it needs.
 abbrev pub is_bad_event : StepMachine → ℕ × Choice → Bool
 is_bad_event m event =
     of_thread false
-    (λ a. is_bad_action m event.0 a (action_of m.functions m.layout event.0 a event.1) || chooses_unfit m a event.1)
+    (λ a. is_bad_action m event.0 a (action_of m.functions m.states m.layout event.0 a event.1) || chooses_unfit m a
+    event.1)
     (slice_get m.actors event.0)

@@ -19,7 +19,7 @@ closes_resource _ = false
 -- Says whether the thread's action at the event is such a one.
 abbrev pub acts : (Action → Bool) → StepMachine → ℕ × Choice → Bool
 acts says m event =
-    of_thread false (λ a. says (action_of m.functions m.layout event.0 a event.1)) (slice_get m.actors event.0)
+    of_thread false (λ a. says (action_of m.functions m.states m.layout event.0 a event.1)) (slice_get m.actors event.0)
 
 -- the count after an event, at which such an action may have faulted
 abbrev pub count_after : (Action → Bool) → StepMachine → ℕ × Choice → ℕ → ℕ

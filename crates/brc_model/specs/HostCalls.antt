@@ -1,9 +1,9 @@
--- Which resource a call of the host uses: that of the file or socket that the instruction reads or writes. The thread has
--- it lent to the call.
+-- Which resource a call of the host uses: that of the file or socket that the instruction reads or writes. The thread
+-- has it lent to the call.
 use Rattle.std.specs.Prelude.{◌≡◌, ℕ, List, Option, None, Some, slice_get}
 use Rattle.brc_lang.specs.declared.module.Instr.{Instr}
 use Rattle.brc_lang.specs.declared.module.Instr.TheVariants.{Read, Write}
-use Rattle.brc_model.specs.declared.actor.Counters.{Counters}
+use Rattle.brc_model.specs.declared.actor.Context.{Context}
 use Rattle.brc_model.specs.declared.actor.Place.TheVariants.{Inside}
 use Rattle.brc_model.specs.declared.actor.Stage.TheVariants.{Lent}
 use Rattle.brc_model.specs.Threads.{code_of, row_of}
@@ -25,7 +25,7 @@ pub record HasLent (a : StepActor) (variables : List (Option ℕ)) (file : ℕ) 
 -- each thread that is about to read or write by a call of the host has lent it the resource that the instruction names
 abbrev pub CallsUseTheLent : StepMachine → Type 0
 CallsUseTheLent m =
-    (t at file : ℕ) (a : StepActor) (counters : Counters) (variables : List (Option ℕ))
-    → slice_get m.actors t ≡ Some a → a.place ≡ Inside counters at variables Lent
+    (t at file : ℕ) (a : StepActor) (context : Context) (variables : List (Option ℕ))
+    → slice_get m.actors t ≡ Some a → a.place ≡ Inside context at variables Lent
     → file_of (slice_get (code_of (slice_get m.functions a.function)) at) ≡ Some file
     → HasLent a variables file

@@ -9,7 +9,7 @@ use Rattle.brc_model.specs.declared.slot.Slot.TheVariants.{Locked}
 use Rattle.brc_model.specs.declared.slot.State.{State}
 use Rattle.brc_model.specs.declared.slot.Exit.{Exit}
 use Rattle.brc_model.specs.declared.actor.Place.{Place}
-use Rattle.brc_model.specs.declared.actor.Place.TheVariants.{Idle, InCall, Inside, Exiting}
+use Rattle.brc_model.specs.declared.actor.Place.TheVariants.{Idle, InCall, Inside, Stopping, Exiting}
 use Rattle.brc_model.specs.declared.actor.Stage.{Stage}
 use Rattle.brc_model.specs.declared.actor.Stage.TheVariants.{InRange, Found, Retained}
 use Rattle.brc_model.specs.declared.address.Address.{Address}
@@ -66,9 +66,10 @@ pub record KnowsInside (code : List Instr) (memory : Address → ℕ) (locked : 
 -- What a thread knows of items at its place, in the states in which paths reach its point.
 abbrev pub KnowsItems : List Instr → (Address → ℕ) → Option ℕ → Place → Type 0
 KnowsItems code memory locked (Idle left) = Unit {0}
-KnowsItems code memory locked (InCall counters at variables) =
+KnowsItems code memory locked (InCall context at variables) =
     (exits : List Exit) (s : State) → path_end code exits ≡ At at s → HaveItems memory locked s variables
-KnowsItems code memory locked (Inside counters at variables stage) = KnowsInside code memory locked at variables stage
+KnowsItems code memory locked (Inside context at variables stage) = KnowsInside code memory locked at variables stage
+KnowsItems code memory locked (Stopping lock calls) = Unit {0}
 KnowsItems code memory locked Exiting = Unit {0}
 
 -- each thread's borrowed items stand in the list that it has locked

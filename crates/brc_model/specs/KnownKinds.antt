@@ -9,7 +9,7 @@ use Rattle.brc_model.specs.declared.slot.Slot.{Slot}
 use Rattle.brc_model.specs.declared.slot.State.{State}
 use Rattle.brc_model.specs.declared.slot.Exit.{Exit}
 use Rattle.brc_model.specs.declared.actor.Place.{Place}
-use Rattle.brc_model.specs.declared.actor.Place.TheVariants.{Idle, InCall, Inside, Exiting}
+use Rattle.brc_model.specs.declared.actor.Place.TheVariants.{Idle, InCall, Inside, Stopping, Exiting}
 use Rattle.brc_model.specs.declared.address.Address.TheVariants.{KindOf}
 use Rattle.brc_model.specs.declared.thread.Choice.{Choice}
 use Rattle.brc_model.specs.Kinds.{kind_of_word}
@@ -34,10 +34,11 @@ HaveTrueKinds words s variables = (v : ℕ) → HasTrueKind words (slot_of s v) 
 -- In a call, each variable has the kind of its slot in the state in which paths reach the thread's point.
 abbrev pub KnowsKinds : List Instr → (ℕ → ℕ) → Place → Type 0
 KnowsKinds code words (Idle left) = Unit {0}
-KnowsKinds code words (InCall counters at variables) =
+KnowsKinds code words (InCall context at variables) =
     (exits : List Exit) (s : State) → path_end code exits ≡ At at s → HaveTrueKinds words s variables
-KnowsKinds code words (Inside counters at variables stage) =
+KnowsKinds code words (Inside context at variables stage) =
     (exits : List Exit) (s : State) → path_end code exits ≡ At at s → HaveTrueKinds words s variables
+KnowsKinds code words (Stopping lock calls) = Unit {0}
 KnowsKinds code words Exiting = Unit {0}
 
 abbrev pub kind_words : StepMachine → ℕ → ℕ

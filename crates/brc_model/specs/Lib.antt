@@ -9,6 +9,8 @@ pub mod Threads
 pub mod Duties
 pub mod Moves
 pub mod Machine
+pub mod Action
+pub mod Stops
 pub mod Actions
 pub mod StepMachine
 pub mod KnownKinds
@@ -42,5 +44,6 @@ pub mod GuardLaws
 pub mod Ending
 pub mod ResourceLaws
 pub mod SlotLaws
+pub mod StopLaws
 pub mod Trace
 pub mod Bounded

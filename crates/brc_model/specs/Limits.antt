@@ -23,6 +23,10 @@ immortal_limit = 16
 abbrev pub total_limit : ℕ
 total_limit = front_rows + worker_limit * row_limit + immortal_limit
 
+-- the most calls of one thread that are open at a time
+abbrev pub depth_limit : ℕ
+depth_limit = 8
+
 -- the most calls that one worker makes
 abbrev pub times_limit : ℕ
 times_limit = 1000000

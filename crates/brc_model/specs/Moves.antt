@@ -16,8 +16,8 @@ use Rattle.brc_model.specs.AbstractState.{Move, Born, Gain, Lose, PassOn, Finali
 
 abbrev pub put_in_flight : ℕ → Holding → ℕ → List Move
 put_in_flight t InFlight x = []
-put_in_flight t (ByVariable v) x =
-    PassOn (record { holder = ByThread t (ByVariable v); object = x }) (ByThread t InFlight) ∷ []
+put_in_flight t (ByVariable depth v) x =
+    PassOn (record { holder = ByThread t (ByVariable depth v); object = x }) (ByThread t InFlight) ∷ []
 put_in_flight t AsCaller x = PassOn (record { holder = ByThread t AsCaller; object = x }) (ByThread t InFlight) ∷ []
 
 abbrev pub birth : ℕ → Holding → ℕ → Kind → List Move

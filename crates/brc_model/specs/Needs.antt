@@ -7,7 +7,7 @@ use Rattle.brc_lang.specs.declared.kind.Kind.TheVariants as kinds
 use Rattle.brc_lang.specs.declared.module.Instr.{Instr}
 use Rattle.brc_lang.specs.declared.module.Instr.TheVariants.{Lock, Unlock, Borrow, Fetch, Set, Put, Ret, Fail, Read, Write}
 use Rattle.brc_model.specs.declared.actor.Place.{Place}
-use Rattle.brc_model.specs.declared.actor.Place.TheVariants.{Idle, InCall, Inside, Exiting}
+use Rattle.brc_model.specs.declared.actor.Place.TheVariants.{Idle, InCall, Inside, Stopping, Exiting}
 use Rattle.brc_model.specs.declared.address.Address.{Address}
 use Rattle.brc_model.specs.declared.address.Address.TheVariants.{KindOf}
 use Rattle.brc_model.specs.Kinds.{kind_of_word}
@@ -63,8 +63,9 @@ lacks_needs memory locked variables (Some i) = not (has_needs memory locked vari
 abbrev pub starts_unfit : (Address → ℕ) → Option ℕ → List Instr → Place → Bool
 starts_unfit memory locked code (Idle zero) = is_some locked
 starts_unfit memory locked code (Idle (suc left)) = lacks_needs memory locked entry_variables (slice_get code 0)
-starts_unfit memory locked code (InCall counters at variables) =
+starts_unfit memory locked code (InCall context at variables) =
     lacks_needs memory locked variables (slice_get code at)
-starts_unfit memory locked code (Inside counters at variables stage) =
+starts_unfit memory locked code (Inside context at variables stage) =
     lacks_needs memory locked variables (slice_get code at)
+starts_unfit memory locked code (Stopping lock calls) = false
 starts_unfit memory locked code Exiting = false

@@ -1,12 +1,14 @@
 -- What an event may change in the words of a row, and what it never changes. (PEP 703, Biased Reference Counting: an
 -- object's state goes from default through queued to merged, and only the owning thread changes the local count.
 -- Immortalization: immortal objects stay as they are.)
-use Rattle.std.specs.Prelude.{◌≡◌, ◌≢◌, ◌⊎◌, ℕ, ◌+◌, ◌<◌, ◌≤◌, ◌==◌, true, false, List, [], ◌∷◌, ◌++◌, count_by, slice_get, Some, ◌↔◌}
+use Rattle.std.specs.Prelude.{◌≡◌, ◌≢◌, ◌⊎◌, ℕ, ◌+◌, ◌<◌, ◌≤◌, ◌==◌, true, false, List, [], ◌∷◌, ◌++◌, count_by, slice_get, Some, ◌↔◌, Option}
 use Rattle.brc_lang.specs.declared.module.Module.{Module}
+use Rattle.brc_model.specs.declared.slot.State.{State}
 use Rattle.brc_model.specs.declared.thread.Call.{Call}
 use Rattle.brc_model.specs.declared.thread.Choice.{Choice}
 use Rattle.brc_model.specs.AbstractState.{is_among}
 use Rattle.brc_model.specs.Safety.{AreCalls}
+use Rattle.brc_model.specs.Tables.{AreTrueWhereReached}
 use Rattle.brc_word.specs.Words.{owner_part, phase_part, is_immortal_word, closed_word, dead_word, merged_word}
 use Rattle.brc_model.specs.declared.duty.Reason.TheVariants.{Handed}
 use Rattle.brc_model.specs.declared.duty.Duty.{Duty}
@@ -22,11 +24,12 @@ use Rattle.brc_model.specs.Layout.{row_count, block_of, index_of, IsCounted}
 
 -- ---- laws of a module
 
--- P holds for each machine that the module's events lead to
+-- P holds for each machine that the module's events lead to, whose states are true at each point that a path reaches
 abbrev pub Always : (StepMachine → Type 0) → Module → Type 0
 Always P p =
-    (rows : ℕ) (calls : List Call) (events : List (ℕ × Choice)) → 0 < rows → rows ≤ row_limit → AreCalls p calls
-    → P (machine_after (first_machine p rows calls) events)
+    (states : ℕ → ℕ → Option State) (rows : ℕ) (calls : List Call) (events : List (ℕ × Choice))
+    → AreTrueWhereReached p states → 0 < rows → rows ≤ row_limit → AreCalls p calls
+    → P (machine_after (first_machine p states rows calls) events)
 
 -- P holds for each event, by any thread, at each such machine
 abbrev pub AtEachEvent : (StepMachine → ℕ × Choice → Type 0) → Module → Type 0

@@ -1,9 +1,10 @@
 -- The safety of an accepted module.
-use Rattle.std.specs.Prelude.{◌≡◌, ◌≢◌, ℕ, ◌<◌, ◌≤◌, Bool, true, false, List, length, AllPairs, ◌↔◌}
+use Rattle.std.specs.Prelude.{◌≡◌, ◌≢◌, ℕ, ◌<◌, ◌≤◌, Bool, true, false, List, length, AllPairs, ◌↔◌, Option}
 use Rattle.std.specs.List.{All, AllByRecursion, list_all}
 use Rattle.brc_lang.specs.declared.module.Module.{Module}
 use Rattle.brc_model.specs.declared.thread.Call.{Call}
 use Rattle.brc_model.specs.declared.thread.Choice.{Choice}
+use Rattle.brc_model.specs.declared.slot.State.{State}
 use Rattle.brc_model.specs.declared.actor.Status.{Status}
 use Rattle.brc_model.specs.declared.actor.Status.TheVariants.{Running, Leaving, Gone}
 use Rattle.brc_model.specs.AbstractState.{Reference, AbstractState, ByCell, is_among, references_to}
@@ -16,6 +17,7 @@ use Rattle.brc_model.specs.Agreement.{AgreesAt, IsFreeOf}
 use Rattle.brc_model.specs.Events.{is_bad_event}
 use Rattle.brc_model.specs.Limits.{row_limit, worker_limit, times_limit}
 use Rattle.brc_model.specs.Layout.{IsCounted}
+use Rattle.brc_model.specs.Tables.{AreTrueWhereReached}
 
 -- the calls of one worker: 1 to 1,000,000 calls of one function of the module
 abbrev pub IsCall : Module → Call → Type 0
@@ -62,11 +64,13 @@ pub record IsSafeNow (m : StepMachine) : Type 0 where
   -- once all threads are gone, a cell of an open list holds each reference that is left
   pub left_in_lists : AllGone (counting m) → All (IsHeldByOpenList m.abstract) m.abstract.references
 
--- The module is safe, for every number of workers and rows, every list of calls and every list of steps and choices,
--- wherever the list stops: no event is bad, the counts of each row add up to the references that are held and the
--- pending decrements, and nothing is closed twice. Once all threads are gone, a cell of an open list holds each
--- reference that is left, and exactly the objects to which none is left have been closed.
+-- The module is safe, for all states that are true at each point that a path reaches, every number of workers and rows,
+-- every list of calls and every list of steps and choices, wherever the list stops: no event is bad, the counts of each
+-- row add up to the references that are held and the pending decrements, and nothing is closed twice. Once all threads
+-- are gone, a cell of an open list holds each reference that is left, and exactly the objects to which none is left
+-- have been closed.
 abbrev pub Safe : Module → Type 0
 Safe m =
-    (rows : ℕ) (calls : List Call) (events : List (ℕ × Choice)) → 0 < rows → rows ≤ row_limit → AreCalls m calls
-    → IsSafeNow (machine_after (first_machine m rows calls) events)
+    (states : ℕ → ℕ → Option State) (rows : ℕ) (calls : List Call) (events : List (ℕ × Choice))
+    → AreTrueWhereReached m states → 0 < rows → rows ≤ row_limit → AreCalls m calls
+    → IsSafeNow (machine_after (first_machine m states rows calls) events)

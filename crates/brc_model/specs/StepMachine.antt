@@ -13,6 +13,7 @@ use Rattle.brc_model.specs.declared.actor.Place.TheVariants.{Idle}
 use Rattle.brc_model.specs.declared.duty.Holding.TheVariants.{AsCaller}
 use Rattle.brc_model.specs.declared.duty.Duty.{Duty}
 use Rattle.brc_model.specs.declared.duty.Duty.TheVariants.{CloseResource}
+use Rattle.brc_model.specs.declared.slot.State.{State}
 use Rattle.brc_model.specs.declared.slot.Exit.{Exit}
 use Rattle.brc_model.specs.declared.slot.Exit.TheVariants.{Success, Fault}
 use Rattle.brc_model.specs.declared.address.Address.{Address}
@@ -29,6 +30,8 @@ use Rattle.brc_model.specs.Actions.{StepActor, Action, Skip, Stuck, Silent, Call
 
 pub record StepMachine : Type 0 where
   pub functions : List Function
+  -- the state that the module's table gives each point, by the function's number and the point
+  pub states : ℕ → ℕ → Option State
   pub layout : Layout
   pub memory : Address → ℕ
   pub actors : List StepActor
@@ -84,6 +87,7 @@ abbrev pub silent_by : StepMachine → ℕ → StepActor → List Move → Place
 silent_by m t a moves place =
     record {
       functions = m.functions;
+      states = m.states;
       layout = m.layout;
       memory = m.memory;
       actors = slice_set m.actors t (at_place a place);
@@ -98,6 +102,7 @@ abbrev pub called_by : StepMachine → ℕ → StepActor → Exit → (Exit → 
 called_by m t a exit place =
     record {
       functions = m.functions;
+      states = m.states;
       layout = m.layout;
       memory = m.memory;
       actors = slice_set m.actors t (at_place a (place exit));
@@ -115,6 +120,7 @@ does_by m t a exit d rest place =
     let found = m.memory (address_of m.layout t a.actor.head d) in
     record {
       functions = m.functions;
+      states = m.states;
       layout = m.layout;
       memory = done.memory;
       actors = slice_set m.actors t (step_actor m.layout t a d rest (place found) found);
@@ -135,7 +141,8 @@ machine_by m t a exit (Does d rest place) = does_by m t a exit d rest place
 -- Returns the machine after the event; where there is no such thread, it stays as it is.
 abbrev pub next_machine : StepMachine → ℕ × Choice → StepMachine
 next_machine m event =
-    of_thread m (λ a. machine_by m event.0 a (exit_of event.1) (action_of m.functions m.layout event.0 a event.1))
+    of_thread m (λ a. machine_by m event.0 a (exit_of event.1)
+    (action_of m.functions m.states m.layout event.0 a event.1))
     (slice_get m.actors event.0)
 
 abbrev pub machine_after : StepMachine → List (ℕ × Choice) → StepMachine
@@ -185,9 +192,10 @@ callers_below (suc n) = caller_reference n ∷ callers_below n
 abbrev pub first_layout : ℕ → List Call → Layout
 first_layout rows calls = record { workers = length calls; rows = rows; cells = cell_limit; immortal_lists = 0 }
 
-abbrev pub first_machine : Module → ℕ → List Call → StepMachine
-first_machine m rows calls = record {
+abbrev pub first_machine : Module → (ℕ → ℕ → Option State) → ℕ → List Call → StepMachine
+first_machine m states rows calls = record {
   functions = m.functions;
+  states = states;
   layout = first_layout rows calls;
   memory = first_memory (length calls);
   actors = main_actor ∷ map worker_actor calls;

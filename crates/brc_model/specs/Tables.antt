@@ -1,6 +1,5 @@
--- Tables: for each point of each function its state, or none if no path reaches the point.
-use Rattle.std.specs.Prelude.{◌≡◌, ◌≢◌, ◌↔◌, ℕ, List, [], length, Option, None, Some, slice_get}
-use Rattle.std.specs.List.{slice_index_or}
+-- Tables. A table beside its module gives each point of each function a state, or none.
+use Rattle.std.specs.Prelude.{◌≡◌, ◌≢◌, ◌↔◌, ℕ, List, Option, Some, slice_get}
 use Rattle.brc_lang.specs.declared.module.Instr.{Instr}
 use Rattle.brc_lang.specs.declared.module.Function.{Function}
 use Rattle.brc_lang.specs.declared.module.Module.{Module}
@@ -21,36 +20,19 @@ pub record StatesDifferAt (code : List Instr) (at : ℕ) : Type 0 where
   pub second : Reaches code at other
   pub apart : one ≢ other
 
--- ---- entries
-
 -- the entry is a state exactly if some path reaches the point in that state
 abbrev pub IsTrueEntry : List Instr → ℕ → Option State → Type 0
 IsTrueEntry code at entry = (s : State) → (entry ≡ Some s) ↔ Reaches code at s
 
--- the entries of a function
-abbrev pub entries_of : List (List (Option State)) → ℕ → List (Option State)
-entries_of table function = slice_index_or table function []
+-- ---- the states of a module's points, by the function's number and the point
 
--- the entry of a point, or none past the last point
-abbrev pub entry_at : List (Option State) → ℕ → Option State
-entry_at entries at = slice_index_or entries at None
+-- each point has a state exactly if some path reaches the point in that state
+abbrev pub AreTrueStates : Module → (ℕ → ℕ → Option State) → Type 0
+AreTrueStates m states =
+    (number at : ℕ) (f : Function) → slice_get m.functions number ≡ Some f → IsTrueEntry f.code at (states number at)
 
--- ---- tables
-
--- the table has a list of entries for each function, and the list has an entry for each of the function's points
-pub record HasShape (functions : List Function) (table : List (List (Option State))) : Type 0 where
-  pub lists : length table ≡ length functions
-  pub points : (number : ℕ) (f : Function) → slice_get functions number ≡ Some f
-      → length (entries_of table number) ≡ length f.code
-
--- each entry of the table is true
-pub record IsTrueTable (m : Module) (table : List (List (Option State))) : Type 0 where
-  pub shape : HasShape m.functions table
-  pub entries : (number at : ℕ) (f : Function) → slice_get m.functions number ≡ Some f
-      → IsTrueEntry f.code at (entry_at (entries_of table number) at)
-
--- each point that a path reaches has the path's state; any other point may have any entry
-pub record IsTrueWhereReached (m : Module) (table : List (List (Option State))) : Type 0 where
-  pub shape : HasShape m.functions table
-  pub entries : (number at : ℕ) (f : Function) (s : State) → slice_get m.functions number ≡ Some f → Reaches f.code at s
-      → entry_at (entries_of table number) at ≡ Some s
+-- each point that a path reaches has the path's state; any other point may have any state
+abbrev pub AreTrueWhereReached : Module → (ℕ → ℕ → Option State) → Type 0
+AreTrueWhereReached m states =
+    (number at : ℕ) (f : Function) (s : State) → slice_get m.functions number ≡ Some f → Reaches f.code at s
+    → states number at ≡ Some s

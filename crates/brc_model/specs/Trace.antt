@@ -7,6 +7,7 @@ use Rattle.brc_model.specs.declared.duty.Duty.{Duty}
 use Rattle.brc_model.specs.declared.address.Address.{Address}
 use Rattle.brc_model.specs.declared.address.Address.TheVariants.{Slot, Resource}
 use Rattle.brc_model.specs.declared.slot.Exit.{Exit}
+use Rattle.brc_model.specs.declared.slot.State.{State}
 use Rattle.brc_model.specs.declared.actor.Place.{Place}
 use Rattle.brc_model.specs.Duties.{address_of, new_word}
 use Rattle.brc_model.specs.Machine.{Actor}
@@ -39,29 +40,31 @@ abbrev pub events_of : Layout → ℕ → Actor → Duty → ℕ → List WordEv
 events_of layout t a d found = if is_word (address_of layout t a.head d) then event_of layout t a d found ∷ [] else []
 
 -- One step of a thread: the word events that it makes, and the thread afterwards.
-pub data MakesStep (functions : List Function) (layout : Layout) (t : ℕ) (a : StepActor) : List WordEvent → StepActor
+pub data MakesStep (functions : List Function) (states : ℕ → ℕ → Option State) (layout : Layout) (t : ℕ)
+    (a : StepActor) : List WordEvent → StepActor
     → Type 0 where
   -- a silent step, after which the thread is at another place
   GoesSilently : (choice : Choice) (moves : List Move) (place : Place)
-      → action_of functions layout t a choice ≡ Silent moves place
-      → MakesStep functions layout t a [] (at_place a place)
+      → action_of functions states layout t a choice ≡ Silent moves place
+      → MakesStep functions states layout t a [] (at_place a place)
   -- a host call, which may end by any exit
   CallsHost : (choice : Choice) (row : Option ℕ) (place : Exit → Place) (exit : Exit)
-      → action_of functions layout t a choice ≡ Calls row place
-      → MakesStep functions layout t a [] (at_place a (place exit))
+      → action_of functions states layout t a choice ≡ Calls row place
+      → MakesStep functions states layout t a [] (at_place a (place exit))
   -- a duty, which may find any value
   DoesDuty : (choice : Choice) (d : Duty) (rest : List Duty) (place : ℕ → Place) (found : ℕ)
-      → action_of functions layout t a choice ≡ Does d rest place
-      → MakesStep functions layout t a (events_of layout t a.actor d found)
+      → action_of functions states layout t a choice ≡ Does d rest place
+      → MakesStep functions states layout t a (events_of layout t a.actor d found)
       (step_actor layout t a d rest (place found) found)
 
 -- several steps, one after another
-pub data CanMake (functions : List Function) (layout : Layout) (t : ℕ) : StepActor → List WordEvent → StepActor
+pub data CanMake (functions : List Function) (states : ℕ → ℕ → Option State) (layout : Layout) (t : ℕ) : StepActor
+    → List WordEvent → StepActor
     → Type 0 where
-  Nothing : (a : StepActor) → CanMake functions layout t a [] a
-  Then : (a b c : StepActor) (made rest : List WordEvent) → MakesStep functions layout t a made b
-      → CanMake functions layout t b rest c
-      → CanMake functions layout t a (made ++ rest) c
+  Nothing : (a : StepActor) → CanMake functions states layout t a [] a
+  Then : (a b c : StepActor) (made rest : List WordEvent) → MakesStep functions states layout t a made b
+      → CanMake functions states layout t b rest c
+      → CanMake functions states layout t a (made ++ rest) c
 
 -- ---- what a thread does
 
@@ -80,7 +83,7 @@ made_by m t a (Does d rest place) = event_by m t a.actor d
 abbrev pub made_at : ℕ → StepMachine → ℕ × Choice → List WordEvent
 made_at t m event =
     if event.0 == t
-    then of_thread [] (λ a. made_by m t a (action_of m.functions m.layout t a event.1)) (slice_get m.actors t)
+    then of_thread [] (λ a. made_by m t a (action_of m.functions m.states m.layout t a event.1)) (slice_get m.actors t)
     else []
 
 -- Returns the thread's word events along the events from the machine.

@@ -73,4 +73,4 @@ pub record IsWithin (w : World) (t : ℕ) (a : Actor) (d : Duty) : Type 0 where
 abbrev pub StepsWithin : World → ℕ → StepActor → Type 0
 StepsWithin w t a =
     (choice : Choice) (d : Duty) (rest : List Duty) (place : ℕ → Place)
-    → action_of w.functions w.layout t a choice ≡ Does d rest place → IsWithin w t a.actor d
+    → action_of w.functions w.states w.layout t a choice ≡ Does d rest place → IsWithin w t a.actor d

@@ -1,4 +1,6 @@
 use crate::slot::Exit;
+use brc_lang::Variable;
+use std::collections::LinkedList;
 
 /// Whether a thread runs, is leaving or is gone.
 #[derive(Clone, Copy, Debug)]
@@ -11,34 +13,58 @@ pub enum Status {
     Gone,
 }
 
-/// What a call counts.
-#[derive(Clone, Copy, Debug)]
-pub struct Counters {
-    /// The calls that the thread has still to make after this one.
+/// What a call counts, and the calls that are open around it. No value of it is made: it is part of what contracts say
+/// of a thread.
+pub struct Context {
+    /// The calls that the thread has still to make after its outermost one.
     pub left: u32,
     /// How often each instruction `again` of the function, by its point, has gone back in this call.
     pub turns: [u16; 256],
+    /// The calls open around this one, the nearest first. No instruction calls a function, so there are none.
+    pub outer: LinkedList<OpenCall>,
+}
+
+/// A call that waits for the one that it has made.
+pub struct OpenCall {
+    /// Its function, by its number in the module.
+    pub function: usize,
+    /// The point of the instruction that made the call.
+    pub at: usize,
+    /// The row that each variable names, if it isn't empty.
+    pub variables: [Option<u32>; 16],
+    /// How often each instruction `again` of the function, by its point, has gone back in this call.
+    pub turns: [u16; 256],
+    /// The variable that takes the result.
+    pub to: Variable,
+    /// The point where the call goes on if the one that it has made fails.
+    pub otherwise: usize,
 }
 
 /// Where a thread is in its calls once its agenda is done. The beginning of a call is no step of its own.
-#[derive(Clone, Copy, Debug)]
 pub enum Place {
     /// Before its first call, between two calls or after the last, with `left` calls still to make.
     Idle {
         left: u32,
     },
-    /// Before the instruction `at` of a call with these counters. Each variable names a row, or is empty.
+    /// Before the instruction `at` of a call in this context. Each variable names a row, or is empty.
     InCall {
-        counters: Counters,
+        context: Context,
         at: usize,
         variables: [Option<u32>; 16],
     },
     /// Inside the instruction `at`, which takes several steps, after its first one.
     Inside {
-        counters: Counters,
+        context: Context,
         at: usize,
         variables: [Option<u32>; 16],
         stage: Stage,
+    },
+    /// It has stopped. It gives up what its calls hold, and then exits.
+    Stopping {
+        /// The row that it has still to unlock.
+        locked: Option<u32>,
+        /// The rows to which it has still to give up references: for each open call, the innermost first, by variable.
+        calls: LinkedList<[Option<u32>; 16]>,
     },
     /// It has dispatched its exit.
     Exiting,

@@ -3,8 +3,12 @@ use brc_lang::Variable;
 /// How a thread holds a reference.
 #[derive(Clone, Copy, Debug)]
 pub enum Holding {
-    /// By a variable of its current call.
-    ByVariable(Variable),
+    /// By a variable of one of its open calls.
+    ByVariable {
+        /// How many calls are open around that one: 0 for the outermost.
+        depth: u8,
+        variable: Variable,
+    },
     /// As the caller that lends the root.
     AsCaller,
     /// In flight: the thread is giving the reference up.

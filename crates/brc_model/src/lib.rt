@@ -25,7 +25,7 @@ mod thread;
 mod work_laws;
 mod world_laws;
 
-pub use actor::{Counters, Place, Stage, Status};
+pub use actor::{Context, OpenCall, Place, Stage, Status};
 pub use address::Address;
 pub use call_laws::calls_are_bounded;
 pub use cell_laws::{cells_are_swapped, items_are_there};
@@ -66,6 +66,6 @@ pub use work_laws::{
     work_is_taken_back,
 };
 pub use world_laws::{
-    steps_are_within, steps_move, threads_make_their_traces, worlds_are_small,
-    worlds_follow_machines, worlds_lead_on,
+    steps_are_within, steps_move, stops_give_up_what_is_owned, threads_make_their_traces,
+    worlds_are_small, worlds_follow_machines, worlds_lead_on,
 };

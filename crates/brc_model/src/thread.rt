@@ -16,4 +16,6 @@ pub enum Choice {
     Fault,
     /// The thread takes the row's mark, if the object is in its queue.
     Claim { row: u32 },
+    /// The thread stops, if it is between two instructions: it gives up what its calls hold, and makes no further call.
+    Stop,
 }

@@ -27,29 +27,35 @@ eqb_swapped a b = elim (eqb_tells a b) [
 ]
 
 pub same_holding-true : (h k : Holding) → same_holding h k ≡ true → h ≡ k
-same_holding-true (ByVariable v) (ByVariable w) e = ap ByVariable (eqb-true v w e)
-same_holding-true (ByVariable v) AsCaller e = absurd cc
-same_holding-true AsCaller (ByVariable w) e = absurd cc
+same_holding-true (ByVariable depth v) (ByVariable other w) e =
+    let depths : depth ≡ other = eqb-true depth other (and_first (depth == other) (v == w) e) in
+    let variables : v ≡ w = eqb-true v w (and_second (depth == other) (v == w) e) in
+    λ i. ByVariable (depths i) (variables i)
+same_holding-true (ByVariable depth v) AsCaller e = absurd cc
+same_holding-true AsCaller (ByVariable other w) e = absurd cc
 same_holding-true AsCaller AsCaller e = refl
-same_holding-true (ByVariable v) InFlight e = absurd cc
+same_holding-true (ByVariable depth v) InFlight e = absurd cc
 same_holding-true AsCaller InFlight e = absurd cc
-same_holding-true InFlight (ByVariable w) e = absurd cc
+same_holding-true InFlight (ByVariable other w) e = absurd cc
 same_holding-true InFlight AsCaller e = absurd cc
 same_holding-true InFlight InFlight e = refl
 
 pub same_holding-refl : (h : Holding) → same_holding h h ≡ true
-same_holding-refl (ByVariable v) = eq-eqb v v refl
+same_holding-refl (ByVariable depth v) =
+    ap (λ (b : Bool). b && (v == v)) (eq-eqb depth depth refl) ∙ eq-eqb v v refl
 same_holding-refl AsCaller = refl
 same_holding-refl InFlight = refl
 
 pub same_holding-swapped : (h k : Holding) → same_holding h k ≡ same_holding k h
-same_holding-swapped (ByVariable v) (ByVariable w) = eqb_swapped v w
-same_holding-swapped (ByVariable v) AsCaller = refl
-same_holding-swapped (ByVariable v) InFlight = refl
-same_holding-swapped AsCaller (ByVariable w) = refl
+same_holding-swapped (ByVariable depth v) (ByVariable other w) =
+    ap (λ (b : Bool). b && (v == w)) (eqb_swapped depth other) ∙ ap (λ (b : Bool). (other == depth) && b)
+    (eqb_swapped v w)
+same_holding-swapped (ByVariable depth v) AsCaller = refl
+same_holding-swapped (ByVariable depth v) InFlight = refl
+same_holding-swapped AsCaller (ByVariable other w) = refl
 same_holding-swapped AsCaller AsCaller = refl
 same_holding-swapped AsCaller InFlight = refl
-same_holding-swapped InFlight (ByVariable w) = refl
+same_holding-swapped InFlight (ByVariable other w) = refl
 same_holding-swapped InFlight AsCaller = refl
 same_holding-swapped InFlight InFlight = refl
 

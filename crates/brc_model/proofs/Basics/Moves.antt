@@ -57,8 +57,8 @@ effects_are : (memory : Address → ℕ) (t : ℕ) (d : Duty) (found : ℕ)
 effects_are memory t (RetainLoad x h) found = on _ (is_immortal_word found) _ (Gains x h (λ y. refl), tt)
 effects_are memory t (RetainStore x h w) found = (Gains x h (λ y. refl), tt)
 effects_are memory t (RetainAdd x h) found = (Gains x h (λ y. refl), tt)
-effects_are memory t (ReleaseLoad x (ByVariable v)) found =
-    (PutsInFlight x (ByVariable v) (λ y. refl), on _ (is_immortal_word found) _ (Loses x (λ y. refl), tt))
+effects_are memory t (ReleaseLoad x (ByVariable depth v)) found =
+    (PutsInFlight x (ByVariable depth v) (λ y. refl), on _ (is_immortal_word found) _ (Loses x (λ y. refl), tt))
 effects_are memory t (ReleaseLoad x AsCaller) found =
     (PutsInFlight x AsCaller (λ y. refl), on _ (is_immortal_word found) _ (Loses x (λ y. refl), tt))
 effects_are memory t (ReleaseLoad x InFlight) found = on _ (is_immortal_word found) _ (Loses x (λ y. refl), tt)

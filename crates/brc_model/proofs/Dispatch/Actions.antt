@@ -1,344 +1,43 @@
--- Whatever a thread of accepted code does at an event fits it: it is never stuck, the moves of a silent step are its
--- own, and a duty that it does is one that the invariant allows in its agenda.
-use Rattle.brc_model.proofs.Objects.ResourcesLent.{lending_finds}
-use Rattle.std.proofs.Common.{◌≡◌, ◌≢◌, ℕ, ◌<◌, ◌≤◌, true, List, [], ◌∷◌, Option, Some, refl, sym, ap, ◌∙◌, subst, arith}
-use Rattle.std.specs.Prelude.{◌==◌, slice_get, sum_by}
-use Rattle.std.proofs.lemmas.Option.{slice_get_within}
+-- What a thread does at an event with any choice fits the thread: its next step, a claim, or a stop.
+use Rattle.std.proofs.Common.{◌≡◌, ℕ, true, List, [], ◌∷◌, Option, Some, refl, sym, ap, ◌∙◌, subst, arith, suc, zero, None}
+use Rattle.std.specs.Prelude.{slice_get, map}
 use Rattle.brc_lang.specs.declared.module.Module.{Module}
-use Rattle.brc_model.specs.AbstractState.{Move}
 use Rattle.brc_model.specs.Threads.{code_of}
 use Rattle.brc_model.specs.declared.duty.Duty.{Duty}
-use Rattle.brc_model.specs.declared.duty.Duty.TheVariants.{ClaimMark, LendSlot}
+use Rattle.brc_model.specs.declared.duty.Duty.TheVariants.{ClaimMark}
 use Rattle.brc_model.specs.declared.actor.Status.{Status}
-use Rattle.brc_model.specs.declared.actor.Status.TheVariants.{Running, Leaving, Gone}
 use Rattle.brc_model.specs.declared.actor.Place.{Place}
-use Rattle.brc_model.specs.declared.actor.Place.TheVariants.{Idle, InCall, Inside, Exiting}
+use Rattle.brc_model.specs.declared.actor.Place.TheVariants.{Idle, InCall, Inside, Stopping, Exiting}
 use Rattle.brc_model.specs.declared.thread.Choice.{Choice}
-use Rattle.brc_model.specs.declared.thread.Choice.TheVariants.{Ok, Fault, Claim}
-use Rattle.brc_model.specs.Machine.{Actor, Machine, with_actor, locked_by, lent_by}
-use Rattle.brc_model.specs.declared.slot.Exit.{Exit}
-use Rattle.brc_model.specs.Actions.{StepActor, Action, Skip, Stuck, Silent, Calls, Does, agenda_action, status_action, may_claim, action_of, dispatch}
+use Rattle.brc_model.specs.declared.thread.Choice.TheVariants.{Ok, Fault, Claim, Stop}
+use Rattle.brc_model.specs.Actions.{StepActor, Skip, may_claim, action_of, is_before_instruction, may_stop, stop_action, stop_in_call, stopping, row_locked, owned_rows, none_of}
 use Rattle.brc_model.specs.StepMachine.{StepMachine, counting}
-use Rattle.brc_model.proofs.Basics.Lists.{either, slice_get-set_same, set_found, none_some}
-use Rattle.brc_model.specs.References.{held, one_if, reference_of}
-use Rattle.brc_model.specs.KnownKinds.{KnowsKinds, kind_words}
-use Rattle.brc_model.specs.Items.{KnowsItems}
-use Rattle.brc_model.specs.Gates.{LocksFit}
-use Rattle.brc_model.specs.declared.duty.Holding.{Holding}
-use Rattle.brc_model.specs.AbstractState.{Reference}
+use Rattle.brc_model.proofs.Basics.Lists.{either, none_some}
 use Rattle.brc_lang.specs.declared.module.Instr.{Instr}
 use Rattle.brc_lang.specs.declared.module.Function.{Function}
-use Rattle.brc_model.specs.Limits.{cell_limit}
-use Rattle.brc_model.proofs.Frame.Aside.{HoldsAlone}
-use Rattle.brc_model.proofs.Dispatch.Holds.{of_variables, of_inside, holds_variables, holds_inside}
-use Rattle.brc_model.proofs.Dispatch.Guards.{guards_held}
-use Rattle.brc_model.proofs.Dispatch.Kinds.{entry_true}
-use Rattle.brc_model.proofs.Dispatch.Lockable.{lockable_counted}
-use Rattle.brc_model.proofs.Dispatch.Taking.{SeesKinds}
-use Rattle.std.proofs.lemmas.List.Sums.{sum_by-cons}
-use Rattle.brc_model.specs.Accounts.{Account, Accounts, lacks}
-use Rattle.brc_model.specs.OpenWork.{exits, is_about}
-use Rattle.brc_model.specs.Invariant.{CoreInvariant, Invariant}
-use Rattle.brc_model.proofs.Dispatch.Coded.{PlaceSays, PlaceFits, in_flight, idle_unlocked, is_departing, stays_elsewhere, placed_by, says_bounded}
-use Rattle.brc_model.proofs.Dispatch.AtOnce.{at_once, plain_locked, plain_lent}
-use Rattle.brc_model.proofs.Dispatch.Rooms.{awaits_birth}
-use Rattle.brc_model.proofs.Dispatch.Lending.{lent_at, FollowsLent, dispatch_lent, FindsFull}
-use Rattle.brc_model.proofs.Keeping.SilentSteps.{SilentSits}
-use Rattle.brc_model.proofs.Dispatch.Begins.{scene_of, holds_plain, Backs, ByOwn, ByList, Starts, Gives, Takes, Bears, Asks, Locks, Unlocks, Loads, Swaps, Follows, Nothing, Settles, Leaves, SilentTaken, IsTaken, Lends, Returns}
-use Rattle.brc_model.proofs.Keeping.SilentMoves.{bag_after}
-use Rattle.brc_model.proofs.Keeping.Sits.{sitting, Sits, AtRest}
-use Rattle.brc_model.specs.Counting.{with_account}
-use Rattle.brc_model.proofs.Keeping.Replaced.{with_account_itself}
-use Rattle.brc_model.proofs.Dispatch.Begun.{starts_settled, follows_plain}
-use Rattle.brc_model.proofs.Dispatch.TakenSits.{taken_sits, claim_sits, rests, dispatch_fits}
+use Rattle.brc_model.proofs.Frame.Aside.{HoldsAlone, alone_holds}
+use Rattle.brc_model.specs.Accounts.{HoldsAt}
+use Rattle.brc_model.specs.OpenWork.{exits}
+use Rattle.brc_model.proofs.Dispatch.Coded.{PlaceFits, idle_unlocked, is_departing, place_fits}
+use Rattle.brc_model.proofs.Dispatch.Lending.{lent_at}
+use Rattle.brc_model.proofs.Dispatch.Begins.{scene_of, idle_stays}
+use Rattle.brc_model.proofs.Keeping.SilentMoves.{Stays}
+use Rattle.brc_model.proofs.Keeping.Sits.{Sits, AtRest}
+use Rattle.brc_model.proofs.Dispatch.TakenSits.{claim_sits}
 use Rattle.brc_model.proofs.Dispatch.Counting.{its_found}
-use Rattle.brc_model.proofs.Stepping.Neutral.{found_by}
-use Rattle.brc_model.proofs.Keeping.Kept.{Doing, sits_down}
+use Rattle.brc_model.proofs.Keeping.Kept.{sits_down}
 use Rattle.brc_model.proofs.Keeping.CodeInvariant.{CodeInvariant}
-use Rattle.brc_model.proofs.Basics.Blocks.{used_row, next_within}
-use Rattle.brc_model.specs.Ranges.{IsSmall, AreSmall, HasFewCells, cells_named}
-use Rattle.brc_model.specs.Knowledge.{ByReference, ByItem}
-use Rattle.brc_model.proofs.Frame.Alive.{backed_referenced}
-use Rattle.brc_model.proofs.Limits.Ranges.{row_small, settle_small, leave_small, referenced_small}
-use Rattle.brc_model.proofs.Dispatch.Claims.{claimer}
-use Rattle.brc_model.specs.declared.layout.Layout.{Layout}
-use Rattle.brc_model.specs.Layout.{row_count, row_at}
-
--- A silent step of a thread at rest, with the thread's account afterwards.
-pub record SilentFits (p : Module) (c : Accounts) (n : ℕ) (m : StepMachine) (t : ℕ) (a : StepActor) (moves : List Move)
-    (place : Place) : Type 0 where
-  pub at : AtRest c n (counting m) t a.actor
-  pub account : Account
-  pub says : PlaceSays (code_of (slice_get p.functions a.function)) place a.actor.locked account
-  pub departs : exits a.actor.status [] ≡ is_departing place
-  pub lent : a.actor.lent ≡ lent_at (code_of (slice_get p.functions a.function)) place
-  pub sits : SilentSits (counting m) t a.actor moves account
-
--- A call of the host by a thread at rest uses the resource that the thread has lent, and is silent.
-pub record CallFits (p : Module) (c : Accounts) (n : ℕ) (m : StepMachine) (t : ℕ) (a : StepActor) (row : Option ℕ)
-    (place : Exit → Place) : Type 0 where
-  pub uses : a.actor.lent ≡ row
-  pub silent : (exit : Exit) → SilentFits p c n m t a [] (place exit)
-
--- A duty that the thread does, with the thread's account from then on. `doing` says it of the thread with the duty in
--- its agenda. The duties are as small as those that the thread had.
-pub record DutyFits (p : Module) (c : Accounts) (n : ℕ) (m : StepMachine) (t : ℕ) (a : StepActor) (d : Duty)
-    (rest : List Duty) (place : Place) : Type 0 where
-  pub account : Account
-  pub says : PlaceSays (code_of (slice_get p.functions a.function)) place
-      (locked_by a.actor.locked d (found_by (counting m) t a.actor d)) account
-  pub departs : exits a.actor.status (d ∷ rest) ≡ is_departing place
-  pub lent : lent_by a.actor.lent d (found_by (counting m) t a.actor d)
-      ≡ lent_at (code_of (slice_get p.functions a.function)) place
-  pub doing : Doing (with_account c t account) n (with_actor (counting m) t (sitting a.actor (d ∷ rest))) t
-      (sitting a.actor (d ∷ rest)) d rest
-  pub small : HasFewCells (counting m) → AreSmall (row_count m.layout) a.actor.agenda
-      → AreSmall (row_count m.layout) (d ∷ rest)
-  pub plain : sum_by at_once rest ≡ 0
-
-abbrev pub ActionFits : Module → Accounts → ℕ → StepMachine → ℕ → StepActor → Action → Type 0
-ActionFits p c n m t a Skip = Unit {0}
-ActionFits p c n m t a Stuck = ⊥
-ActionFits p c n m t a (Silent moves place) = SilentFits p c n m t a moves place
-ActionFits p c n m t a (Calls row place) = CallFits p c n m t a row place
-ActionFits p c n m t a (Does d rest place) =
-    DutyFits p c n m t a d rest (place (found_by (counting m) t a.actor d))
-
--- ---- the duty is in the agenda
-
-duty_fits : (p : Module) (n : ℕ) (m : StepMachine) (t : ℕ) (a : StepActor) (d : Duty) (rest : List Duty)
-    → (whole : CodeInvariant p n m) → slice_get m.actors t ≡ Some a → a.actor.status ≢ Gone → a.actor.agenda ≡ d ∷ rest
-    → DutyFits p whole.accounts n m t a d rest a.place
-duty_fits p n m t a d rest whole found alive is =
-    let there = its_found m t a found in
-    let now : sitting a.actor (d ∷ rest) ≡ a.actor = ap (sitting a.actor) (sym is) in
-    let actors = ap (λ (b : Actor). with_actor (counting m) t b) now in
-    let same : with_actor (counting m) t (sitting a.actor (d ∷ rest)) ≡ counting m =
-    actors ∙ (λ i. record {
-      layout = m.layout;
-      memory = m.memory;
-      actors = set_found (counting m).actors t a.actor there i;
-      abstract = m.abstract;
-      life = m.life;
-    }) in
-    let c = whole.accounts in
-    let own = whole.coded t a found in
-    let plain : sum_by at_once (d ∷ rest) ≡ 0 = ap (sum_by at_once) (sym is) ∙ own.plain in
-    let first : at_once d ≡ 0 = omega (arith, plain, sum_by-cons at_once d rest) in
-    let unlocked = plain_locked a.actor.locked d (found_by (counting m) t a.actor d) first in
-    let unlent = plain_lent a.actor.lent d (found_by (counting m) t a.actor d) first in
-    record {
-      account = c t;
-      says = subst (λ (w : Option ℕ). PlaceSays (code_of (slice_get p.functions a.function)) a.place w (c t))
-          (sym unlocked)
-          own.says;
-      departs = ap (exits a.actor.status) (sym is) ∙ (whole.coded t a found).departs;
-      lent = unlent ∙ own.lent;
-      doing = record {
-        kept = subst (λ (q : Accounts). Invariant q n (with_actor (counting m) t (sitting a.actor (d ∷ rest))))
-            (sym (with_account_itself c t)) (subst (Invariant c n) (sym same) whole.kept);
-        found =
-            slice_get-set_same (counting m).actors t (sitting a.actor (d ∷ rest))
-            (slice_get_within (counting m).actors t a.actor there);
-        agenda = refl;
-        alive = alive;
-      };
-      small = λ few was. subst (AreSmall (row_count m.layout)) is was;
-      plain = omega (arith, plain, sum_by-cons at_once d rest);
-    }
-
--- ---- the duty is dispatched
-
-backs_small : (p : Accounts) (n : ℕ) (m : Machine) (t row : ℕ) (a : Actor) (d : Duty) → CoreInvariant p n m
-    → Backs (scene_of m t a) row → ((y : ℕ) → is_about y d ≡ (row == y)) → cells_named d ≤ cell_limit
-    → IsSmall (row_count m.layout) d
-backs_small p n m t row a d core (ByOwn by some) about few =
-    row_small (row_count m.layout) row d
-    (referenced_small p n m row core (backed_referenced p n m t a row core (ByReference by some))) about few
-backs_small p n m t row a d core (ByList list cell has holds) about few =
-    row_small (row_count m.layout) row d
-    (referenced_small p n m row core (backed_referenced p n m t a row core (ByItem list cell has holds))) about few
-
-pub starts_small : (p : Accounts) (n : ℕ) (m : Machine) (t : ℕ) (a : Actor) (d : Duty) (rest : List Duty)
-    → CoreInvariant p n m → HasFewCells m → slice_get m.actors t ≡ Some a → Starts (scene_of m t a) d rest
-    → IsSmall (row_count m.layout) d
-starts_small p n m t a d rest core few found (Gives row h behind some) =
-    row_small (row_count m.layout) row d (referenced_small p n m row core some) (λ y. refl) (omega arith)
-starts_small p n m t a d rest core few found (Takes row h behind backs) =
-    backs_small p n m t row a d core backs (λ y. refl) (omega arith)
-starts_small p n m t a d rest core few found (Bears h w room below said) =
-    row_small (row_count m.layout) (row_at m.layout t a.used) d (next_within p n m t a core found room) (λ y. refl)
-    below
-starts_small p n m t a d rest core few found (Asks row backs) =
-    backs_small p n m t row a d core backs (λ y. refl) (omega arith)
-starts_small p n m t a d rest core few found (Locks row backs counted none) =
-    backs_small p n m t row a d core backs (λ y. refl) (omega arith)
-starts_small p n m t a d rest core few found (Unlocks row backs has none) =
-    backs_small p n m t row a d core backs (λ y. refl) (omega arith)
-starts_small p n m t a d rest core few found (Loads row i backs has within) =
-    backs_small p n m t row a d core backs (λ y. refl) (omega (arith, within, few row))
-starts_small p n m t a d rest core few found (Swaps row i item h behind backs has within some) =
-    backs_small p n m t row a d core backs (λ y. refl) (omega (arith, within, few row))
-starts_small p n m t a d rest core few found (Lends row backs has none some) =
-    backs_small p n m t row a d core backs (λ y. refl) (omega arith)
-starts_small p n m t a d rest core few found (Returns row backs lent) =
-    backs_small p n m t row a d core backs (λ y. refl) (omega arith)
-
-follows_small : (k : ℕ) (layout : Layout) (t used : ℕ) (place : Place) (rest : List Duty)
-    → Follows layout t used place rest
-    → AreSmall k rest
-follows_small k layout t used place rest (Nothing stays) = tt
-follows_small k layout t used place rest (Settles stays) = (settle_small k, tt)
-follows_small k layout t used place rest (Leaves leaves) = (settle_small k, (leave_small k 0 used, tt))
-
--- A silent step leaves the thread what it has locked.
-place_held : (code : List Instr) (bag : List Reference) (t x : ℕ) (locked : Option ℕ) (place : Place)
-    → PlaceFits code bag t [] locked place → locked ≡ Some x → (by : Holding) × (0 < held (reference_of t by x) bag)
-place_held code bag t x locked (Idle left) fits is = absurd (none_some x (sym fits.0 ∙ is))
-place_held code bag t x locked (InCall counters at variables) fits is =
-    let lock =
-    guards_held bag t fits.0 variables fits.0.locked locked x fits.2 is fits.1.grounded
-    (holds_variables bag t fits.0 variables (holds_plain bag t (of_variables fits.0 variables) fits.3)) in
-    (lock.by, lock.held_so)
-place_held code bag t x locked (Inside counters at variables stage) fits is =
-    let flight = in_flight (slice_get code at) stage variables in
-    let lock =
-    guards_held bag t fits.0 variables fits.0.locked locked x fits.2 is fits.1.grounded
-    (holds_inside bag t flight fits.0 variables (holds_plain bag t (of_inside flight fits.0 variables) fits.3)) in
-    (lock.by, lock.held_so)
-place_held code bag t x locked Exiting fits is = absurd (none_some x (sym fits.0 ∙ is))
-
-silent_locks : (p : Accounts) (n : ℕ) (m : Machine) (t : ℕ) (a : Actor) (bag : List Reference) (code : List Instr)
-    (place : Place) (account : Account)
-    → AtRest p n m t a → a.aside ≡ [] → PlaceFits code bag t [] a.locked place → HoldsAlone bag t account []
-    → LocksFit account m t (sitting a [])
-silent_locks p n m t a bag code place account at alone fits holds x is =
-    let old = (at.core.each t a at.found).0.locks x is in
-    let has = place_held code bag t x a.locked place fits is in
-    let none : sum_by (λ d. one_if (lacks d has.0 x)) a.aside ≡ 0 = ap (sum_by (λ d. one_if (lacks d has.0 x))) alone in
-    record {
-      counted = old.counted;
-      by = has.0;
-      held_so = omega (arith, holds.each has.0 x, has.1, none);
-      gate = old.gate;
-    }
-
-silent_fits : (p : Module) (n : ℕ) (m : StepMachine) (t : ℕ) (a : StepActor) (moves : List Move) (place : Place)
-    → (whole : CodeInvariant p n m) → slice_get m.actors t ≡ Some a
-    → AtRest whole.accounts n (counting m) t a.actor
-    → SilentTaken (code_of (slice_get p.functions a.function)) (scene_of (counting m) t a.actor) moves place
-    → a.actor.lent ≡ lent_at (code_of (slice_get p.functions a.function)) place
-    → SilentFits p whole.accounts n m t a moves place
-silent_fits p n m t a moves place whole found at taken lent =
-    let code = code_of (slice_get p.functions a.function) in
-    let bag = bag_after m.abstract.references moves in
-    let own = whole.coded t a found in
-    let placed = placed_by code bag t [] a.actor.locked place taken.placed in
-    record {
-      at = at;
-      account = placed.account;
-      says = placed.says;
-      departs = ap (λ (s : Status). exits s []) at.running ∙ sym (stays_elsewhere place taken.stays);
-      lent = lent;
-      sits = record {
-        alone = own.alone;
-        moves_fit = taken.moves_fit;
-        holds = placed.holds;
-        bounded = says_bounded m.layout code place a.actor.locked placed.account placed.says;
-        locks =
-            silent_locks whole.accounts n (counting m) t a.actor bag code place placed.account at own.alone
-            taken.placed placed.holds;
-      };
-    }
-
--- A duty that lends a resource finds it in its slot, as the invariant says.
-finds_full : (c : Accounts) (n : ℕ) (m : StepMachine) (t : ℕ) (a : StepActor) (d : Duty) (rest : List Duty)
-    → Doing c n (with_actor (counting m) t (sitting a.actor (d ∷ rest))) t (sitting a.actor (d ∷ rest)) d rest
-    → FindsFull d (found_by (counting m) t a.actor d)
-finds_full c n m t a (LendSlot x) rest doing =
-    lending_finds c n (with_actor (counting m) t (sitting a.actor (LendSlot x ∷ rest))) t
-    (sitting a.actor (LendSlot x ∷ rest)) x rest
-    (record { core = doing.kept.core; found = doing.found; agenda = doing.agenda })
-finds_full c n m t a _ rest doing = tt
-
-taken_fits : (p : Module) (n : ℕ) (m : StepMachine) (t : ℕ) (a : StepActor) (x : Action) → (whole : CodeInvariant p n m)
-    → slice_get m.actors t ≡ Some a → AtRest whole.accounts n (counting m) t a.actor
-    → IsTaken (code_of (slice_get p.functions a.function)) (scene_of (counting m) t a.actor) x
-    → FollowsLent (code_of (slice_get p.functions a.function)) a.actor.lent x
-    → ActionFits p whole.accounts n m t a x
-taken_fits p n m t a Skip whole found at taken lent = absurd taken
-taken_fits p n m t a Stuck whole found at taken lent = absurd taken
-taken_fits p n m t a (Silent moves place) whole found at taken lent =
-    silent_fits p n m t a moves place whole found at taken lent
-taken_fits p n m t a (Calls row place) whole found at taken lent = record {
-  uses = lent.0;
-  silent = λ exit. silent_fits p n m t a [] (place exit) whole found at (taken exit) (lent.1 exit);
-}
-taken_fits p n m t a (Does d rest place) whole found at taken lent =
-    let c = whole.accounts in
-    let word = found_by (counting m) t a.actor d in
-    let there = place word in
-    let begun = taken word in
-    let own = whole.coded t a found in
-    let here = taken_sits p c n (counting m) t a word there d rest at own.alone begun in
-    let doing =
-    sits_down c n (counting m) t a.actor d rest here.account whole.kept at here.sits
-    (starts_settled (scene_of (counting m) t a.actor) a.actor.head there d rest begun.starts begun.follows) in
-    record {
-      account = here.account;
-      says = here.says;
-      departs = ap (λ (s : Status). exits s (d ∷ rest)) at.running ∙ here.departs;
-      lent = lent word (finds_full (with_account c t here.account) n m t a d rest doing);
-      doing = doing;
-      small = λ few _. (
-        starts_small c n (counting m) t a.actor d rest at.core few at.found begun.starts,
-        follows_small (row_count m.layout) m.layout t a.actor.used there rest begun.follows,
-      );
-      plain = follows_plain m.layout t a.actor.used there rest begun.follows;
-    }
-
--- What a thread sees of kinds is what the invariant says of them.
-sees_kinds : (p : Module) (n : ℕ) (m : StepMachine) (t : ℕ) (a : StepActor) → (whole : CodeInvariant p n m)
-    → slice_get m.actors t ≡ Some a
-    → SeesKinds (code_of (slice_get p.functions a.function)) (scene_of (counting m) t a.actor) a.place
-sees_kinds p n m t a whole found = record {
-  begins = entry_true (kind_words m) whole.kinds.named;
-  knows = subst (λ (f : List Function). KnowsKinds (code_of (slice_get f a.function)) (kind_words m) a.place)
-      whole.functions (whole.kinds.known t a found);
-  items = subst (λ (f : List Function). KnowsItems (code_of (slice_get f a.function)) m.memory a.actor.locked a.place)
-      whole.functions (whole.items t a found);
-  counted = λ x can. lockable_counted m.layout (kind_words m) x whole.kinds.named whole.mortal can;
-  lent = (whole.coded t a found).lent;
-  room = λ awaits. (whole.rooms t a found
-      (ap (λ (f : List Function). awaits_birth (code_of (slice_get f a.function)) a.place)
-      whole.functions ∙ awaits)).room;
-}
-
-agenda_fits : (p : Module) (n : ℕ) (m : StepMachine) (t : ℕ) (a : StepActor) (agenda : List Duty)
-    → (whole : CodeInvariant p n m) → slice_get m.actors t ≡ Some a → a.actor.status ≢ Gone → a.actor.agenda ≡ agenda
-    → ActionFits p whole.accounts n m t a (agenda_action m.functions m.layout t a agenda)
-agenda_fits p n m t a [] whole found alive is =
-    let c = whole.accounts in
-    let there = its_found m t a found in
-    let at_rest = rests c n (counting m) t a.actor whole.kept.core there alive is in
-    let at : AtRest c n (counting m) t a.actor =
-    record { core = whole.kept.core; found = there; agenda = is; running = at_rest } in
-    taken_fits p n m t a (agenda_action m.functions m.layout t a []) whole found at
-    (dispatch_fits p c n m t a at whole.functions (whole.coded t a found) (sees_kinds p n m t a whole found))
-    (subst (λ (f : List Function). FollowsLent (code_of (slice_get p.functions a.function)) a.actor.lent
-    (dispatch m.layout t a.actor.used (code_of (slice_get f a.function)) a.place)) (sym whole.functions)
-    (dispatch_lent (code_of (slice_get p.functions a.function)) m.layout t a.actor.used a.place a.actor.lent
-    (whole.coded t a found).lent))
-agenda_fits p n m t a (d ∷ rest) whole found alive is = duty_fits p n m t a d rest whole found alive is
-
-status_fits : (p : Module) (n : ℕ) (m : StepMachine) (t : ℕ) (a : StepActor) (status : Status)
-    → (whole : CodeInvariant p n m) → slice_get m.actors t ≡ Some a → a.actor.status ≡ status
-    → ActionFits p whole.accounts n m t a (status_action m.functions m.layout t a status)
-status_fits p n m t a Gone whole found is = tt
-status_fits p n m t a Running whole found is =
-    agenda_fits p n m t a a.actor.agenda whole found (λ e. let wrong : Running ≡ Gone = sym is ∙ e in absurd cc) refl
-status_fits p n m t a Leaving whole found is =
-    agenda_fits p n m t a a.actor.agenda whole found (λ e. let wrong : Leaving ≡ Gone = sym is ∙ e in absurd cc) refl
+use Rattle.brc_model.proofs.Basics.Blocks.{used_row}
+use Rattle.brc_model.proofs.Limits.Ranges.{row_small}
+use Rattle.brc_model.proofs.Dispatch.Claims.{claimer, stopper}
+use Rattle.brc_model.specs.Layout.{row_count}
+use Rattle.brc_model.proofs.Dispatch.Decided.{stopping_decides}
+use Rattle.brc_model.proofs.Dispatch.TakingStops.{stop_taken}
+use Rattle.brc_model.proofs.Dispatch.Passing.{passes_on}
+use Rattle.brc_model.specs.Tables.{AreTrueWhereReached, Reaches}
+use Rattle.brc_model.specs.declared.slot.State.{State}
+pub use Rattle.brc_model.proofs.Dispatch.ActionsFit.{SilentFits, CallFits, DutyFits, ActionFits}
+use Rattle.brc_model.proofs.Dispatch.ActionsFit.{silent_fits, status_fits}
 
 -- ---- a claim
 
@@ -372,14 +71,73 @@ claim_fits p n m t a row whole found may =
       plain = refl;
     }
 
+-- ---- a stop
+
+-- The table has the state of a point that a path of an accepted module's function reaches.
+pub state_there : (p : Module) (states : ℕ → ℕ → Option State) (function at : ℕ) (s : State) (i : Instr)
+    (o : Option Function)
+    → AreTrueWhereReached p states → slice_get p.functions function ≡ o → slice_get (code_of o) at ≡ Some i
+    → Reaches (code_of o) at s → states function at ≡ Some s
+state_there p states function at s i None true_states found is reached = absurd (none_some i is)
+state_there p states function at s i (Some f) true_states found is reached =
+    true_states function at f s found reached
+
+stop_at : (p : Module) (n : ℕ) (m : StepMachine) (t : ℕ) (a : StepActor) (place : Place) → (whole : CodeInvariant p n m)
+    → slice_get m.actors t ≡ Some a → AtRest whole.accounts n (counting m) t a.actor → a.place ≡ place
+    → is_before_instruction place ≡ true
+    → PlaceFits (code_of (slice_get p.functions a.function)) m.abstract.references t [] a.actor.locked place
+    → a.actor.lent ≡ lent_at (code_of (slice_get p.functions a.function)) place
+    → ActionFits p whole.accounts n m t a (stop_action (m.states a.function) place)
+stop_at p n m t a (Idle zero) whole found at is before fits lent = absurd cc
+stop_at p n m t a (Idle (suc left)) whole found at is before fits lent =
+    silent_fits p n m t a [] (Idle 0) whole found at
+    (record { moves_fit = Stays; placed = fits; stays = idle_stays 0 }) lent
+stop_at p n m t a (InCall context at variables) whole found rest is before fits lent =
+    let code = code_of (slice_get p.functions a.function) in
+    let s = fits.0 in
+    let on = passes_on code fits.1.exits at s (whole.coded t a found).accepted fits.1.arrived in
+    let known : m.states a.function at ≡ Some s =
+    state_there p m.states a.function at s on.here (slice_get p.functions a.function) whole.states_true refl on.found
+    (record { exits = fits.1.exits; reaches = fits.1.arrived }) in
+    let lock = row_locked s.locked variables in
+    let calls = owned_rows s.slots variables ∷ map none_of context.outer in
+    subst (λ (o : Option State). ActionFits p whole.accounts n m t a (stop_in_call context variables o)) (sym known)
+    (silent_fits p n m t a [] (stopping lock calls) whole found rest
+    (stop_taken code (scene_of (counting m) t a.actor) context at variables s fits.1 fits.2 fits.3)
+    (stopping_decides (λ (next : Place). a.actor.lent ≡ lent_at code next) lock calls lent lent))
+stop_at p n m t a (Inside context at variables stage) whole found rest is before fits lent = absurd cc
+stop_at p n m t a (Stopping lock calls) whole found rest is before fits lent = absurd cc
+stop_at p n m t a Exiting whole found rest is before fits lent = absurd cc
+
+stop_fits : (p : Module) (n : ℕ) (m : StepMachine) (t : ℕ) (a : StepActor) → (whole : CodeInvariant p n m)
+    → slice_get m.actors t ≡ Some a → may_stop a ≡ true
+    → ActionFits p whole.accounts n m t a (stop_action (m.states a.function) a.place)
+stop_fits p n m t a whole found may =
+    let c = whole.accounts in
+    let stops = stopper a may in
+    let there = its_found m t a found in
+    let own = whole.coded t a found in
+    let at : AtRest c n (counting m) t a.actor =
+    record { core = whole.kept.core; found = there; agenda = stops.agenda; running = stops.running } in
+    let holds : HoldsAlone m.abstract.references t (c t) [] =
+    alone_holds m.abstract.references t (c t) [] a.actor.aside own.alone
+    (subst (λ (l : List Duty). HoldsAt m.abstract.references t (c t) l a.actor.aside) stops.agenda
+    (whole.kept.core.each t a.actor there).0.holds) in
+    stop_at p n m t a a.place whole found at refl stops.before
+    (place_fits (code_of (slice_get p.functions a.function)) m.abstract.references t [] a.actor.locked a.place (c t)
+    own.says holds) own.lent
+
 -- ---- any event
 
 -- What a thread does at an event with any choice fits the thread.
 pub action_fits : (p : Module) (n : ℕ) (m : StepMachine) (t : ℕ) (a : StepActor) (choice : Choice)
     → (whole : CodeInvariant p n m)
-    → slice_get m.actors t ≡ Some a → ActionFits p whole.accounts n m t a (action_of m.functions m.layout t a choice)
+    → slice_get m.actors t ≡ Some a → ActionFits p whole.accounts n m t a
+    (action_of m.functions m.states m.layout t a choice)
 action_fits p n m t a Ok whole found = status_fits p n m t a a.actor.status whole found refl
 action_fits p n m t a Fault whole found = status_fits p n m t a a.actor.status whole found refl
+action_fits p n m t a Stop whole found =
+    either (ActionFits p whole.accounts n m t a) (may_stop a) _ Skip (stop_fits p n m t a whole found) tt
 action_fits p n m t a (Claim row) whole found =
     either (ActionFits p whole.accounts n m t a) (may_claim m.layout t a row) _ Skip
     (claim_fits p n m t a row whole found) tt

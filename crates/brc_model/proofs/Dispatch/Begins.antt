@@ -1,7 +1,6 @@
 -- The condition under which a thread takes up work: its new agenda fits the place where it then is.
 use Rattle.std.proofs.Common.{◌≡◌, ◌≢◌, ℕ, ◌+◌, ◌<◌, Bool, true, false, List, [], ◌∷◌, ◌++◌, inl, inr, length, Option, None, Some, refl, sym, ap, ◌∙◌, subst, arith, ◌≤◌}
 use Rattle.std.specs.Prelude.{◌==◌, ◌&&◌, slice_set, slice_get}
-use Rattle.std.specs.List.{list_any}
 use Rattle.std.proofs.lemmas.Bool.{eq-eqb}
 use Rattle.std.proofs.lemmas.Bool.Decides.{eqb_tells}
 use Rattle.brc_lang.specs.declared.module.Instr.{Instr}
@@ -26,20 +25,19 @@ use Rattle.brc_model.specs.Threads.{row_of}
 use Rattle.brc_model.specs.declared.duty.Duty.{Duty}
 use Rattle.brc_model.specs.declared.duty.Duty.TheVariants.{RetainLoad, ReleaseLoad, Settle, Leave, BirthKind, KindLoad, LockGate, UnlockGate, CellLoad, CellSwap, LendSlot, ReturnSlot}
 use Rattle.brc_model.specs.declared.actor.Place.{Place}
-use Rattle.brc_model.specs.declared.actor.Counters.{Counters}
+use Rattle.brc_model.specs.declared.actor.Context.{Context}
 use Rattle.brc_model.specs.declared.actor.Place.TheVariants.{Idle, InCall, Inside, Exiting}
 use Rattle.brc_model.specs.declared.actor.Stage.{Stage}
 use Rattle.brc_model.specs.Actions.{Action, Skip, Stuck, Silent, Calls, Does, with_row}
 use Rattle.brc_model.specs.References.{held, one_if, reference_of}
-use Rattle.brc_model.proofs.Basics.Lists.{none_at}
-use Rattle.brc_model.proofs.Dispatch.Holds.{the_root, of_variables, of_inside, Holds}
+use Rattle.brc_model.proofs.Dispatch.Holds.{once_each, Activation, call_of, of_variables, of_inside, own_depth, other_depth, by_depth, Holds}
 use Rattle.brc_model.proofs.Dispatch.Grounded.{IsInside, slot_of-put_same, slot_of-put_other, row_of-set_same, row_of-set_other}
 use Rattle.brc_model.proofs.Stepping.Counts.{flip_eqb}
 use Rattle.brc_model.proofs.Frame.Aside.{HoldsAlone}
 use Rattle.brc_model.proofs.Keeping.SilentMoves.{SilentMoves, bag_after}
 use Rattle.brc_model.proofs.Dispatch.Lending.{lent_to}
 use Rattle.brc_model.proofs.Dispatch.Rooms.{awaits_inside}
-use Rattle.brc_model.proofs.Dispatch.Coded.{once_each, has_stage, in_flight, PlaceFits}
+use Rattle.brc_model.proofs.Dispatch.Coded.{has_stage, in_flight, PlaceFits}
 use Rattle.brc_model.specs.Duties.{cells_of, has_resource}
 use Rattle.brc_model.specs.Kinds.{kind_of_word, is_counted_kind}
 use Rattle.brc_model.specs.Limits.{cell_limit}
@@ -92,11 +90,11 @@ CountsLockable g = (x : ℕ) → is_one_of (kind_of_word (words_of g x)) lockabl
 -- A thread at an instruction whose conditions are met: some path reaches the point and goes on from it, and what the
 -- path's state says of references, of the lock, of kinds and of items is true. The thread got to the instruction at the
 -- place `before`.
-pub record StandsAt (code : List Instr) (g : Scene) (before : Place) (at : ℕ) (rows : List (Option ℕ)) (s : State)
-    (i : Instr) : Type 0 where
+pub record StandsAt (code : List Instr) (context : Context) (g : Scene) (before : Place) (at : ℕ)
+    (rows : List (Option ℕ)) (s : State) (i : Instr) : Type 0 where
   pub found : slice_get code at ≡ Some i
-  pub inside : IsInside code at rows s
-  pub holds : Holds g.bag g.thread (of_variables s rows)
+  pub inside : IsInside (call_of code context) at rows s
+  pub holds : Holds g.bag g.thread (of_variables (call_of code context) s rows)
   pub guards : LocksAgree s rows g.locked
   pub kinds : HaveTrueKinds (words_of g) s rows
   pub items : HaveItems g.memory g.locked s rows
@@ -112,11 +110,11 @@ pub record StandsAt (code : List Instr) (g : Scene) (before : Place) (at : ℕ) 
 
 -- A thread inside an instruction: what the state before the instruction says is still true, and beside that what the
 -- stage says.
-pub record StandsInside (code : List Instr) (g : Scene) (at : ℕ) (rows : List (Option ℕ)) (s : State) (stage : Stage)
-    (i : Instr) : Type 0 where
+pub record StandsInside (code : List Instr) (context : Context) (g : Scene) (at : ℕ) (rows : List (Option ℕ))
+    (s : State) (stage : Stage) (i : Instr) : Type 0 where
   pub found : slice_get code at ≡ Some i
-  pub inside : IsInside code at rows s
-  pub holds : Holds g.bag g.thread (of_inside (in_flight (Some i) stage rows) s rows)
+  pub inside : IsInside (call_of code context) at rows s
+  pub holds : Holds g.bag g.thread (of_inside (call_of code context) (in_flight (Some i) stage rows) s rows)
   pub guards : LocksAgree s rows g.locked
   pub kinds : HaveTrueKinds (words_of g) s rows
   pub items : HaveItems g.memory g.locked s rows
@@ -193,152 +191,206 @@ taken_with_row code g object row work is taken =
 pub idle_stays : (left : ℕ) → Idle left ≢ Exiting
 idle_stays left e = cc
 
-pub inside_stays : (counters : Counters) (at : ℕ) (variables : List (Option ℕ)) (stage : Stage)
-    → Inside counters at variables stage ≢ Exiting
-inside_stays counters at variables stage e = cc
+pub inside_stays : (context : Context) (at : ℕ) (variables : List (Option ℕ)) (stage : Stage)
+    → Inside context at variables stage ≢ Exiting
+inside_stays context at variables stage e = cc
 
-pub in_call_stays : (counters : Counters) (at : ℕ) (variables : List (Option ℕ))
-    → InCall counters at variables ≢ Exiting
-in_call_stays counters at variables e = cc
+pub in_call_stays : (context : Context) (at : ℕ) (variables : List (Option ℕ))
+    → InCall context at variables ≢ Exiting
+in_call_stays context at variables e = cc
 
 -- ---- one reference more or less
 
-abbrev by_variable : Slot → Option ℕ → ℕ → ℕ
-by_variable slot row object = one_if (is_owned slot && names row object)
+abbrev naming : Slot → Option ℕ → ℕ → ℕ
+naming slot row object = one_if (is_owned slot && names row object)
+
+-- A variable of the call isn't one at another depth.
+off_depth : (call : Activation) (to depth v row object : ℕ) → (depth == call.depth) ≡ false
+    → one_if (same_holding (ByVariable call.depth to) (ByVariable depth v) && (row == object)) ≡ 0
+off_depth call to depth v row object apart =
+    ap (λ (b : Bool). one_if ((b && (to == v)) && (row == object))) (flip_eqb call.depth depth ∙ apart)
+
+-- At its own depth two variables of the call are the same if their numbers are.
+on_depth : (call : Activation) (to v row object : ℕ)
+    → one_if (same_holding (ByVariable call.depth to) (ByVariable call.depth v) && (row == object))
+    ≡ one_if ((to == v) && (row == object))
+on_depth call to v row object =
+    ap (λ (b : Bool). one_if ((b && (to == v)) && (row == object))) (eq-eqb call.depth call.depth refl)
+
+-- At another depth a call's variables and states make no difference.
+same_outside : (call : Activation) (s after : State) (variables rows : List (Option ℕ)) (depth v object : ℕ)
+    → (depth == call.depth) ≡ false
+    → of_variables call s variables (ByVariable depth v) object ≡ of_variables call after rows (ByVariable depth v)
+    object
+same_outside call s after variables rows depth v object apart =
+    other_depth call s variables depth v object apart ∙ sym (other_depth call after rows depth v object apart)
 
 -- Naming an object by an owning variable adds one reference to what the thread is to hold. The bag doesn't have it yet.
-pub newref_held : (bag : List Reference) (t : ℕ) (s : State) (variables : List (Option ℕ)) (to row : ℕ) (slot : Slot)
+pub newref_held : (bag : List Reference) (t : ℕ) (call : Activation) (s : State) (variables : List (Option ℕ))
+    (to row : ℕ) (slot : Slot)
     → to < length s.slots → to < length variables → is_owned (slot_of s to) ≡ false
-    → is_owned slot ≡ true → Holds bag t (of_variables s variables)
+    → is_owned slot ≡ true → Holds bag t (of_variables call s variables)
     → (k : Holding) (object : ℕ)
-    → held (reference_of t k object) bag + one_if (same_holding (ByVariable to) k && (row == object))
-    ≡ one_if (of_variables (put s to slot) (slice_set variables to (Some row)) k object) + 0
-newref_held bag t s variables to row slot in_slots in_rows free owned holds AsCaller object =
+    → held (reference_of t k object) bag + one_if (same_holding (ByVariable call.depth to) k && (row == object))
+    ≡ one_if (of_variables call (put s to slot) (slice_set variables to (Some row)) k object) + 0
+newref_held bag t call s variables to row slot in_slots in_rows free owned holds AsCaller object =
     omega (arith, holds.each AsCaller object)
-newref_held bag t s variables to row slot in_slots in_rows free owned holds InFlight object =
+newref_held bag t call s variables to row slot in_slots in_rows free owned holds InFlight object =
     omega (arith, holds.each InFlight object)
-newref_held bag t s variables to row slot in_slots in_rows free owned holds (ByVariable v) object =
-    elim (eqb_tells to v) [
+newref_held bag t call s variables to row slot in_slots in_rows free owned holds (ByVariable depth v) object =
+    let after = put s to slot in
+    let rows = slice_set variables to (Some row) in
+    by_depth call
+    (λ k. held (reference_of t k object) bag + one_if (same_holding (ByVariable call.depth to) k && (row == object))
+    ≡ one_if (of_variables call after rows k object) + 0)
+    (λ w.
+    let now : held (reference_of t (ByVariable call.depth w) object) bag
+    ≡ naming (slot_of s w) (row_of variables w) object =
+    holds.each (ByVariable call.depth w) object ∙ ap one_if (own_depth call s variables w object) in
+    let now_left : one_if (of_variables call after rows (ByVariable call.depth w) object)
+    ≡ naming (slot_of after w) (row_of rows w) object =
+    ap one_if (own_depth call after rows w object) in
+    let more = on_depth call to w row object in
+    elim (eqb_tells to w) [
       | inl this ↦
-          let P : ℕ
-          → Type 0 = λ w. held (reference_of t (ByVariable w) object) bag + one_if ((to == w) && (row == object))
-          ≡ one_if (of_variables (put s to slot) (slice_set variables to (Some row)) (ByVariable w) object)
-          + 0 in
-          let before : held (reference_of t (ByVariable to) object) bag ≡ 0 =
-          holds.each (ByVariable to) object
-          ∙ ap (λ (b : Bool). one_if (b && names (row_of variables to) object)) free in
-          let more : one_if ((to == to) && (row == object)) ≡ one_if (row == object) =
-          ap (λ (b : Bool). one_if (b && (row == object))) (eq-eqb to to refl) in
-          let said : by_variable (slot_of (put s to slot) to) (row_of (slice_set variables to (Some row)) to) object
-          ≡ one_if (object == row) =
-          ap (λ (x : Slot). by_variable x (row_of (slice_set variables to (Some row)) to) object)
-          (slot_of-put_same s to slot in_slots)
-          ∙ ap (λ (b : Bool). one_if (b && names (row_of (slice_set variables to (Some row)) to) object)) owned
-          ∙ ap (λ (x : Option ℕ). one_if (names x object)) (row_of-set_same variables to (Some row) in_rows) in
+          let none : naming (slot_of s w) (row_of variables w) object ≡ 0 =
+          subst (λ (x : ℕ). naming (slot_of s x) (row_of variables x) object ≡ 0) this.1
+          (ap (λ (b : Bool). one_if (b && names (row_of variables to) object)) free) in
+          let one : one_if ((to == w) && (row == object)) ≡ one_if (row == object) =
+          ap (λ (b : Bool). one_if (b && (row == object))) this.0 in
+          let said : naming (slot_of after w) (row_of rows w) object ≡ one_if (object == row) =
+          subst (λ (x : ℕ). naming (slot_of after x) (row_of rows x) object ≡ one_if (object == row)) this.1
+          (ap (λ (x : Slot). naming x (row_of rows to) object) (slot_of-put_same s to slot in_slots)
+          ∙ ap (λ (b : Bool). one_if (b && names (row_of rows to) object)) owned
+          ∙ ap (λ (x : Option ℕ). one_if (names x object)) (row_of-set_same variables to (Some row) in_rows)) in
           let flipped : one_if (object == row) ≡ one_if (row == object) = ap one_if (flip_eqb object row) in
-          subst P this.1 (omega (arith, before, more, said, flipped))
+          omega (arith, now, now_left, more, none, one, said, flipped)
       | inr other ↦
-          let none : one_if ((to == v) && (row == object)) ≡ 0 =
+          let none : one_if ((to == w) && (row == object)) ≡ 0 =
           ap (λ (b : Bool). one_if (b && (row == object))) other.0 in
-          let apart : v ≢ to = λ e. other.1 (sym e) in
-          let said : by_variable (slot_of (put s to slot) v) (row_of (slice_set variables to (Some row)) v) object
-          ≡ by_variable (slot_of s v) (row_of variables v) object =
-          ap (λ (x : Slot). by_variable x (row_of (slice_set variables to (Some row)) v) object)
-          (slot_of-put_other s to v slot apart)
-          ∙ ap (λ (x : Option ℕ). by_variable (slot_of s v) x object)
-          (row_of-set_other variables to v (Some row) apart) in
-          omega (arith, holds.each (ByVariable v) object, none, said)
-    ]
+          let apart : w ≢ to = λ e. other.1 (sym e) in
+          let said : naming (slot_of after w) (row_of rows w) object
+          ≡ naming (slot_of s w) (row_of variables w) object =
+          ap (λ (x : Slot). naming x (row_of rows w) object) (slot_of-put_other s to w slot apart)
+          ∙ ap (λ (x : Option ℕ). naming (slot_of s w) x object) (row_of-set_other variables to w (Some row) apart) in
+          omega (arith, now, now_left, more, none, said)
+    ])
+    (λ d w apart.
+    omega (
+      arith,
+      holds.each (ByVariable d w) object,
+      off_depth call to d w row object apart,
+      ap one_if (same_outside call s after variables rows d w object apart),
+    ))
+    depth v
 
 -- Emptying an owning variable takes one reference from what the thread is to hold. The bag still has it.
-pub emptied_held : (bag : List Reference) (t : ℕ) (s : State) (variables : List (Option ℕ)) (from row : ℕ)
+pub emptied_held : (bag : List Reference) (t : ℕ) (call : Activation) (s : State) (variables : List (Option ℕ))
+    (from row : ℕ)
     → from < length s.slots → is_owned (slot_of s from) ≡ true → row_of variables from ≡ Some row
-    → Holds bag t (of_variables s variables)
+    → Holds bag t (of_variables call s variables)
     → (k : Holding) (object : ℕ)
     → held (reference_of t k object) bag + 0
-    ≡ one_if (of_variables (put s from Empty) (slice_set variables from None) k object)
-    + one_if (same_holding (ByVariable from) k && (row == object))
-emptied_held bag t s variables from row in_slots owned is holds AsCaller object =
+    ≡ one_if (of_variables call (put s from Empty) (slice_set variables from None) k object)
+    + one_if (same_holding (ByVariable call.depth from) k && (row == object))
+emptied_held bag t call s variables from row in_slots owned is holds AsCaller object =
     omega (arith, holds.each AsCaller object)
-emptied_held bag t s variables from row in_slots owned is holds InFlight object =
+emptied_held bag t call s variables from row in_slots owned is holds InFlight object =
     omega (arith, holds.each InFlight object)
-emptied_held bag t s variables from row in_slots owned is holds (ByVariable v) object =
-    elim (eqb_tells from v) [
+emptied_held bag t call s variables from row in_slots owned is holds (ByVariable depth v) object =
+    let after = put s from Empty in
+    let rows = slice_set variables from None in
+    by_depth call
+    (λ k. held (reference_of t k object) bag + 0
+    ≡ one_if (of_variables call after rows k object)
+    + one_if (same_holding (ByVariable call.depth from) k && (row == object)))
+    (λ w.
+    let now : held (reference_of t (ByVariable call.depth w) object) bag
+    ≡ naming (slot_of s w) (row_of variables w) object =
+    holds.each (ByVariable call.depth w) object ∙ ap one_if (own_depth call s variables w object) in
+    let now_left : one_if (of_variables call after rows (ByVariable call.depth w) object)
+    ≡ naming (slot_of after w) (row_of rows w) object =
+    ap one_if (own_depth call after rows w object) in
+    let more = on_depth call from w row object in
+    elim (eqb_tells from w) [
       | inl this ↦
-          let P : ℕ
-          → Type 0 = λ w. held (reference_of t (ByVariable w) object) bag + 0
-          ≡ one_if (of_variables (put s from Empty) (slice_set variables from None) (ByVariable w) object)
-          + one_if ((from == w) && (row == object)) in
-          let before : held (reference_of t (ByVariable from) object) bag ≡ one_if (object == row) =
-          holds.each (ByVariable from) object
-          ∙ ap (λ (b : Bool). one_if (b && names (row_of variables from) object)) owned
-          ∙ ap (λ (o : Option ℕ). one_if (names o object)) is in
-          let more : one_if ((from == from) && (row == object)) ≡ one_if (row == object) =
-          ap (λ (b : Bool). one_if (b && (row == object))) (eq-eqb from from refl) in
-          let said : by_variable (slot_of (put s from Empty) from) (row_of (slice_set variables from None) from) object
-          ≡ 0 =
-          ap (λ (x : Slot). by_variable x (row_of (slice_set variables from None) from) object)
-          (slot_of-put_same s from Empty in_slots) in
+          let before : naming (slot_of s w) (row_of variables w) object ≡ one_if (object == row) =
+          subst (λ (x : ℕ). naming (slot_of s x) (row_of variables x) object ≡ one_if (object == row)) this.1
+          (ap (λ (b : Bool). one_if (b && names (row_of variables from) object)) owned
+          ∙ ap (λ (o : Option ℕ). one_if (names o object)) is) in
+          let one : one_if ((from == w) && (row == object)) ≡ one_if (row == object) =
+          ap (λ (b : Bool). one_if (b && (row == object))) this.0 in
+          let said : naming (slot_of after w) (row_of rows w) object ≡ 0 =
+          subst (λ (x : ℕ). naming (slot_of after x) (row_of rows x) object ≡ 0) this.1
+          (ap (λ (x : Slot). naming x (row_of rows from) object) (slot_of-put_same s from Empty in_slots)) in
           let flipped : one_if (object == row) ≡ one_if (row == object) = ap one_if (flip_eqb object row) in
-          subst P this.1 (omega (arith, before, more, said, flipped))
+          omega (arith, now, now_left, more, before, one, said, flipped)
       | inr other ↦
-          let none : one_if ((from == v) && (row == object)) ≡ 0 =
+          let none : one_if ((from == w) && (row == object)) ≡ 0 =
           ap (λ (b : Bool). one_if (b && (row == object))) other.0 in
-          let apart : v ≢ from = λ e. other.1 (sym e) in
-          let said : by_variable (slot_of (put s from Empty) v) (row_of (slice_set variables from None) v) object
-          ≡ by_variable (slot_of s v) (row_of variables v) object =
-          ap (λ (x : Slot). by_variable x (row_of (slice_set variables from None) v) object)
-          (slot_of-put_other s from v Empty apart)
-          ∙ ap (λ (x : Option ℕ). by_variable (slot_of s v) x object) (row_of-set_other variables from v None apart) in
-          omega (arith, holds.each (ByVariable v) object, none, said)
-    ]
-
--- If no slot owns a reference, the thread is to hold the root alone, as after a call.
-pub ended_says : (s : State) (variables : List (Option ℕ)) (k : Holding) (object : ℕ)
-    → list_any is_owned s.slots ≡ false → of_variables s variables k object ≡ the_root k object
-ended_says s variables AsCaller object none = refl
-ended_says s variables InFlight object none = refl
-ended_says s variables (ByVariable v) object none =
-    ap (λ (b : Bool). b && names (row_of variables v) object) (none_at is_owned s.slots v Empty none refl)
+          let apart : w ≢ from = λ e. other.1 (sym e) in
+          let said : naming (slot_of after w) (row_of rows w) object
+          ≡ naming (slot_of s w) (row_of variables w) object =
+          ap (λ (x : Slot). naming x (row_of rows w) object) (slot_of-put_other s from w Empty apart)
+          ∙ ap (λ (x : Option ℕ). naming (slot_of s w) x object) (row_of-set_other variables from w None apart) in
+          omega (arith, now, now_left, more, none, said)
+    ])
+    (λ d w apart.
+    omega (
+      arith,
+      holds.each (ByVariable d w) object,
+      off_depth call from d w row object apart,
+      ap one_if (same_outside call s after variables rows d w object apart),
+    ))
+    depth v
 
 -- A variable that owns nothing and comes to name an object that it doesn't own, or none, doesn't change what the thread
 -- is to hold.
-pub unowned_held : (bag : List Reference) (t : ℕ) (s : State) (variables : List (Option ℕ)) (to : ℕ) (slot : Slot)
-    (row : Option ℕ)
+pub unowned_held : (bag : List Reference) (t : ℕ) (call : Activation) (s : State) (variables : List (Option ℕ))
+    (to : ℕ) (slot : Slot) (row : Option ℕ)
     → to < length s.slots → is_owned (slot_of s to) ≡ false → is_owned slot ≡ false
-    → Holds bag t (of_variables s variables)
+    → Holds bag t (of_variables call s variables)
     → (k : Holding) (object : ℕ)
-    → held (reference_of t k object) bag ≡ one_if (of_variables (put s to slot) (slice_set variables to row) k object)
-unowned_held bag t s variables to slot row in_slots free none holds AsCaller object = holds.each AsCaller object
-unowned_held bag t s variables to slot row in_slots free none holds InFlight object = holds.each InFlight object
-unowned_held bag t s variables to slot row in_slots free none holds (ByVariable v) object =
-    elim (eqb_tells to v) [
+    → held (reference_of t k object) bag
+    ≡ one_if (of_variables call (put s to slot) (slice_set variables to row) k object)
+unowned_held bag t call s variables to slot row in_slots free none holds AsCaller object = holds.each AsCaller object
+unowned_held bag t call s variables to slot row in_slots free none holds InFlight object = holds.each InFlight object
+unowned_held bag t call s variables to slot row in_slots free none holds (ByVariable depth v) object =
+    let after = put s to slot in
+    let rows = slice_set variables to row in
+    by_depth call
+    (λ k. held (reference_of t k object) bag ≡ one_if (of_variables call after rows k object))
+    (λ w.
+    let now : held (reference_of t (ByVariable call.depth w) object) bag
+    ≡ naming (slot_of s w) (row_of variables w) object =
+    holds.each (ByVariable call.depth w) object ∙ ap one_if (own_depth call s variables w object) in
+    let now_left : one_if (of_variables call after rows (ByVariable call.depth w) object)
+    ≡ naming (slot_of after w) (row_of rows w) object =
+    ap one_if (own_depth call after rows w object) in
+    let said : naming (slot_of s w) (row_of variables w) object ≡ naming (slot_of after w) (row_of rows w) object =
+    elim (eqb_tells to w) [
       | inl this ↦
-          let P : ℕ
-          → Type 0 = λ w. held (reference_of t (ByVariable w) object) bag
-          ≡ one_if (of_variables (put s to slot) (slice_set variables to row) (ByVariable w) object) in
-          let before : held (reference_of t (ByVariable to) object) bag ≡ 0 =
-          holds.each (ByVariable to) object
-          ∙ ap (λ (b : Bool). one_if (b && names (row_of variables to) object)) free in
-          let said : by_variable (slot_of (put s to slot) to) (row_of (slice_set variables to row) to) object ≡ 0 =
-          ap (λ (x : Slot). by_variable x (row_of (slice_set variables to row) to) object)
-          (slot_of-put_same s to slot in_slots)
-          ∙ ap (λ (b : Bool). one_if (b && names (row_of (slice_set variables to row) to) object)) none in
-          subst P this.1 (before ∙ sym said)
+          subst (λ (x : ℕ). naming (slot_of s x) (row_of variables x) object
+          ≡ naming (slot_of after x) (row_of rows x) object) this.1
+          (ap (λ (b : Bool). one_if (b && names (row_of variables to) object)) free
+          ∙ sym (ap (λ (x : Slot). naming x (row_of rows to) object) (slot_of-put_same s to slot in_slots)
+          ∙ ap (λ (b : Bool). one_if (b && names (row_of rows to) object)) none))
       | inr other ↦
-          let apart : v ≢ to = λ e. other.1 (sym e) in
-          let said : by_variable (slot_of (put s to slot) v) (row_of (slice_set variables to row) v) object
-          ≡ by_variable (slot_of s v) (row_of variables v) object =
-          ap (λ (x : Slot). by_variable x (row_of (slice_set variables to row) v) object)
-          (slot_of-put_other s to v slot apart)
-          ∙ ap (λ (x : Option ℕ). by_variable (slot_of s v) x object) (row_of-set_other variables to v row apart) in
-          holds.each (ByVariable v) object ∙ sym said
-    ]
+          let apart : w ≢ to = λ e. other.1 (sym e) in
+          sym (ap (λ (x : Slot). naming x (row_of rows w) object) (slot_of-put_other s to w slot apart)
+          ∙ ap (λ (x : Option ℕ). naming (slot_of s w) x object) (row_of-set_other variables to w row apart))
+    ] in
+    now ∙ said ∙ sym now_left)
+    (λ d w apart.
+    holds.each (ByVariable d w) object ∙ ap one_if (same_outside call s after variables rows d w object apart))
+    depth v
 
 -- So it is if the variable becomes empty.
-pub cleared_held : (bag : List Reference) (t : ℕ) (s : State) (variables : List (Option ℕ)) (to : ℕ)
-    → to < length s.slots → is_owned (slot_of s to) ≡ false → Holds bag t (of_variables s variables)
+pub cleared_held : (bag : List Reference) (t : ℕ) (call : Activation) (s : State) (variables : List (Option ℕ))
+    (to : ℕ)
+    → to < length s.slots → is_owned (slot_of s to) ≡ false → Holds bag t (of_variables call s variables)
     → (k : Holding) (object : ℕ)
-    → held (reference_of t k object) bag ≡ one_if (of_variables (put s to Empty) (slice_set variables to None) k object)
-cleared_held bag t s variables to in_slots free holds =
-    unowned_held bag t s variables to Empty None in_slots free refl holds
+    → held (reference_of t k object) bag
+    ≡ one_if (of_variables call (put s to Empty) (slice_set variables to None) k object)
+cleared_held bag t call s variables to in_slots free holds =
+    unowned_held bag t call s variables to Empty None in_slots free refl holds

@@ -1,7 +1,9 @@
 -- The account of a thread of accepted code is the one that its place gives, and its place says whether its exit is
 -- under way. The step world has this layer of the invariant on top of what holds of any thread.
-use Rattle.std.proofs.Common.{◌≡◌, ◌≢◌, ℕ, ◌≤◌, Bool, true, false, List, [], Option, length, refl, sym, ap, subst, arith, None, Some}
-use Rattle.std.specs.Prelude.{◌==◌, ◌&&◌, slice_get, sum_by}
+use Rattle.std.proofs.Common.{◌≡◌, ◌≢◌, ℕ, ◌<◌, ◌≤◌, inl, inr, Bool, true, false, List, [], Option, length, refl, sym, ap, subst, arith, None, Some, ◌∙◌}
+use Rattle.std.specs.Prelude.{◌==◌, ◌&&◌, ◌||◌, is_some, slice_get, sum_by}
+use Rattle.std.proofs.lemmas.Bool.{ne_eqb}
+use Rattle.std.proofs.lemmas.Bool.Decides.{eqb_tells}
 use Rattle.std.proofs.lemmas.List.{get_or_past}
 use Rattle.brc_model.specs.declared.slot.Slot.TheVariants.{Empty}
 use Rattle.brc_model.specs.Slots.{slot_of, is_owned, names}
@@ -11,19 +13,21 @@ use Rattle.brc_lang.specs.declared.module.Module.{Module}
 use Rattle.brc_model.specs.declared.slot.State.{State}
 use Rattle.brc_model.specs.Paths.{IsAcceptableCode}
 use Rattle.brc_model.specs.declared.duty.Holding.{Holding}
+use Rattle.brc_model.specs.declared.duty.Holding.TheVariants.{ByVariable, AsCaller}
 use Rattle.brc_model.specs.AbstractState.{Reference}
 use Rattle.brc_model.specs.Threads.{code_of}
 use Rattle.brc_model.specs.declared.duty.Duty.{Duty}
 use Rattle.brc_model.specs.declared.actor.Place.{Place}
-use Rattle.brc_model.specs.declared.actor.Place.TheVariants.{Idle, InCall, Inside, Exiting}
+use Rattle.brc_model.specs.declared.actor.Place.TheVariants.{Idle, InCall, Inside, Stopping, Exiting}
 use Rattle.brc_model.specs.declared.actor.Stage.{Stage}
 use Rattle.brc_model.specs.declared.actor.Stage.TheVariants.{InRange, OutOfRange, Found, Retained, Loaded, Lent, Called, Granted}
 use Rattle.brc_lang.specs.declared.module.Instr.TheVariants.{Borrow, Fetch, Set, Put, Open, Connect, Read, Write}
-use Rattle.brc_model.specs.Actions.{StepActor}
+use Rattle.brc_model.specs.Actions.{StepActor, holds_some}
 use Rattle.brc_model.specs.References.{one_if}
 use Rattle.brc_model.specs.Accounts.{Account, HoldsNone, IsBounded, lacks_of, extra_of}
 use Rattle.brc_model.specs.OpenWork.{exits}
-use Rattle.brc_model.proofs.Dispatch.Holds.{nothing, the_root, of_variables, of_inside}
+use Rattle.brc_model.proofs.Dispatch.Stopped.{of_stopped, IsStopped, stopped_bounded}
+use Rattle.brc_model.proofs.Dispatch.Holds.{once_each, nothing, the_root, Activation, call_of, IsActivation, of_variables, of_inside, own_depth, other_depth}
 use Rattle.brc_model.proofs.Dispatch.AtOnce.{at_once}
 use Rattle.brc_model.proofs.Dispatch.Lending.{lent_at}
 use Rattle.brc_model.proofs.Dispatch.Guards.{LocksAgree}
@@ -32,10 +36,7 @@ use Rattle.brc_model.proofs.Frame.Aside.{HoldsAlone}
 use Rattle.brc_model.proofs.Basics.Bag.{one_if_low}
 use Rattle.brc_model.specs.declared.layout.Layout.{Layout}
 use Rattle.brc_model.specs.Layout.{root_row}
-
--- The account of a thread that holds just these references, each once.
-abbrev pub once_each : (Holding → ℕ → Bool) → Account
-once_each holds k object = one_if (holds k object)
+use Rattle.brc_model.specs.Limits.{depth_limit}
 
 -- Says whether a thread can be so far inside the instruction.
 abbrev pub has_stage : Option Instr → Stage → Bool
@@ -65,32 +66,39 @@ in_flight i stage variables = None
 -- has once its agenda is done.
 abbrev pub PlaceSays : List Instr → Place → Option ℕ → Account → Type 0
 PlaceSays code (Idle left) locked account = (locked ≡ None) × (account ≡ once_each the_root)
-PlaceSays code (InCall counters at variables) locked account =
-    (s : State) × IsInside code at variables s × LocksAgree s variables locked
-    × (account ≡ once_each (of_variables s variables))
-PlaceSays code (Inside counters at variables stage) locked account =
-    (s : State) × IsInside code at variables s × LocksAgree s variables locked
-    × (account ≡ once_each (of_inside (in_flight (slice_get code at) stage variables) s variables))
+PlaceSays code (InCall context at variables) locked account =
+    (s : State) × IsInside (call_of code context) at variables s × LocksAgree s variables locked
+    × (account ≡ once_each (of_variables (call_of code context) s variables))
+PlaceSays code (Inside context at variables stage) locked account =
+    (s : State) × IsInside (call_of code context) at variables s × LocksAgree s variables locked
+    × (account
+    ≡ once_each (of_inside (call_of code context) (in_flight (slice_get code at) stage variables) s variables))
     × (has_stage (slice_get code at) stage ≡ true)
+PlaceSays code (Stopping lock calls) locked account =
+    (locked ≡ lock) × IsStopped lock calls × ((is_some lock || holds_some calls) ≡ true)
+    × (account ≡ once_each (of_stopped calls))
 PlaceSays code Exiting locked account = (locked ≡ None) × (account ≡ once_each nothing)
 
 -- Says whether the place is that of a thread whose exit is under way or done.
 abbrev pub is_departing : Place → Bool
 is_departing (Idle left) = false
-is_departing (InCall counters at variables) = false
-is_departing (Inside counters at variables stage) = false
+is_departing (InCall context at variables) = false
+is_departing (Inside context at variables stage) = false
+is_departing (Stopping lock calls) = false
 is_departing Exiting = true
 
 pub departing_is : (place : Place) → is_departing place ≡ true → place ≡ Exiting
 departing_is (Idle left) e = absurd cc
-departing_is (InCall counters at variables) e = absurd cc
-departing_is (Inside counters at variables stage) e = absurd cc
+departing_is (InCall context at variables) e = absurd cc
+departing_is (Inside context at variables stage) e = absurd cc
+departing_is (Stopping lock calls) e = absurd cc
 departing_is Exiting e = refl
 
 pub stays_elsewhere : (place : Place) → place ≢ Exiting → is_departing place ≡ false
 stays_elsewhere (Idle left) stays = refl
-stays_elsewhere (InCall counters at variables) stays = refl
-stays_elsewhere (Inside counters at variables stage) stays = refl
+stays_elsewhere (InCall context at variables) stays = refl
+stays_elsewhere (Inside context at variables stage) stays = refl
+stays_elsewhere (Stopping lock calls) stays = refl
 stays_elsewhere Exiting stays = absurd (stays refl)
 
 pub record InCode (p : Module) (a : StepActor) (account : Account) : Type 0 where
@@ -120,13 +128,17 @@ alone_with bag t account agenda lacks extra holds = record {
 -- what the first duty makes or gives up.
 abbrev pub PlaceFits : List Instr → List Reference → ℕ → List Duty → Option ℕ → Place → Type 0
 PlaceFits code bag t agenda locked (Idle left) = (locked ≡ None) × HoldsAlone bag t (once_each the_root) agenda
-PlaceFits code bag t agenda locked (InCall counters at variables) =
-    (s : State) × IsInside code at variables s × LocksAgree s variables locked
-    × HoldsAlone bag t (once_each (of_variables s variables)) agenda
-PlaceFits code bag t agenda locked (Inside counters at variables stage) =
-    (s : State) × IsInside code at variables s × LocksAgree s variables locked
-    × HoldsAlone bag t (once_each (of_inside (in_flight (slice_get code at) stage variables) s variables)) agenda
+PlaceFits code bag t agenda locked (InCall context at variables) =
+    (s : State) × IsInside (call_of code context) at variables s × LocksAgree s variables locked
+    × HoldsAlone bag t (once_each (of_variables (call_of code context) s variables)) agenda
+PlaceFits code bag t agenda locked (Inside context at variables stage) =
+    (s : State) × IsInside (call_of code context) at variables s × LocksAgree s variables locked
+    × HoldsAlone bag t
+    (once_each (of_inside (call_of code context) (in_flight (slice_get code at) stage variables) s variables)) agenda
     × (has_stage (slice_get code at) stage ≡ true)
+PlaceFits code bag t agenda locked (Stopping lock calls) =
+    (locked ≡ lock) × IsStopped lock calls × ((is_some lock || holds_some calls) ≡ true)
+    × HoldsAlone bag t (once_each (of_stopped calls)) agenda
 PlaceFits code bag t agenda locked Exiting = (locked ≡ None) × HoldsAlone bag t (once_each nothing) agenda
 
 pub place_fits : (code : List Instr) (bag : List Reference) (t : ℕ) (agenda : List Duty) (locked : Option ℕ)
@@ -135,10 +147,12 @@ pub place_fits : (code : List Instr) (bag : List Reference) (t : ℕ) (agenda : 
     → PlaceFits code bag t agenda locked place
 place_fits code bag t agenda locked (Idle left) account says holds =
     (says.0, subst (λ (c : Account). HoldsAlone bag t c agenda) says.1 holds)
-place_fits code bag t agenda locked (InCall counters at variables) account says holds =
+place_fits code bag t agenda locked (InCall context at variables) account says holds =
     (says.0, says.1, says.2, subst (λ (c : Account). HoldsAlone bag t c agenda) says.3 holds)
-place_fits code bag t agenda locked (Inside counters at variables stage) account says holds =
+place_fits code bag t agenda locked (Inside context at variables stage) account says holds =
     (says.0, says.1, says.2, subst (λ (c : Account). HoldsAlone bag t c agenda) says.3 holds, says.4)
+place_fits code bag t agenda locked (Stopping lock calls) account says holds =
+    (says.0, says.1, says.2, subst (λ (c : Account). HoldsAlone bag t c agenda) says.3 holds)
 place_fits code bag t agenda locked Exiting account says holds =
     (says.0, subst (λ (c : Account). HoldsAlone bag t c agenda) says.1 holds)
 
@@ -154,18 +168,24 @@ pub placed_by : (code : List Instr) (bag : List Reference) (t : ℕ) (agenda : L
     → PlaceFits code bag t agenda locked place → Placed code bag t agenda locked place
 placed_by code bag t agenda locked (Idle left) fits =
     record { account = once_each the_root; says = (fits.0, refl); holds = fits.1 }
-placed_by code bag t agenda locked (InCall counters at variables) fits =
+placed_by code bag t agenda locked (InCall context at variables) fits =
     record {
-      account = once_each (of_variables fits.0 variables);
+      account = once_each (of_variables (call_of code context) fits.0 variables);
       says = (fits.0, fits.1, fits.2, refl);
       holds = fits.3;
     }
-placed_by code bag t agenda locked (Inside counters at variables stage) fits =
+placed_by code bag t agenda locked (Inside context at variables stage) fits =
     record {
-      account = once_each (of_inside (in_flight (slice_get code at) stage variables) fits.0 variables);
+      account =
+          once_each (of_inside (call_of code context) (in_flight (slice_get code at) stage variables) fits.0 variables);
       says = (fits.0, fits.1, fits.2, refl, fits.4);
       holds = fits.3;
     }
+placed_by code bag t agenda locked (Stopping lock calls) fits = record {
+  account = once_each (of_stopped calls);
+  says = (fits.0, fits.1, fits.2, refl);
+  holds = fits.3;
+}
 placed_by code bag t agenda locked Exiting fits =
     record { account = once_each nothing; says = (fits.0, refl); holds = fits.1 }
 
@@ -177,11 +197,15 @@ pub fits_with : (code : List Instr) (bag : List Reference) (t : ℕ) (agenda : L
     → PlaceFits code bag t [] locked place → PlaceFits code bag t agenda locked place
 fits_with code bag t agenda locked (Idle left) lacks extra fits =
     (fits.0, alone_with bag t (once_each the_root) agenda lacks extra fits.1)
-fits_with code bag t agenda locked (InCall counters at variables) lacks extra fits =
-    (fits.0, fits.1, fits.2, alone_with bag t (once_each (of_variables fits.0 variables)) agenda lacks extra fits.3)
-fits_with code bag t agenda locked (Inside counters at variables stage) lacks extra fits =
-    let holds = once_each (of_inside (in_flight (slice_get code at) stage variables) fits.0 variables) in
+fits_with code bag t agenda locked (InCall context at variables) lacks extra fits =
+    let holds = once_each (of_variables (call_of code context) fits.0 variables) in
+    (fits.0, fits.1, fits.2, alone_with bag t holds agenda lacks extra fits.3)
+fits_with code bag t agenda locked (Inside context at variables stage) lacks extra fits =
+    let holds =
+    once_each (of_inside (call_of code context) (in_flight (slice_get code at) stage variables) fits.0 variables) in
     (fits.0, fits.1, fits.2, alone_with bag t holds agenda lacks extra fits.3, fits.4)
+fits_with code bag t agenda locked (Stopping lock calls) lacks extra fits =
+    (fits.0, fits.1, fits.2, alone_with bag t (once_each (of_stopped calls)) agenda lacks extra fits.3)
 fits_with code bag t agenda locked Exiting lacks extra fits =
     (fits.0, alone_with bag t (once_each nothing) agenda lacks extra fits.1)
 
@@ -191,10 +215,12 @@ pub exited_none : (code : List Instr) (place : Place) (locked : Option ℕ) (acc
     → place ≡ Exiting → HoldsNone account
 exited_none code (Idle left) locked account says e k object =
     absurd (let wrong : Idle left ≡ Exiting = e in cc)
-exited_none code (InCall counters at variables) locked account says e k object =
-    absurd (let wrong : InCall counters at variables ≡ Exiting = e in cc)
-exited_none code (Inside counters at variables stage) locked account says e k object =
-    absurd (let wrong : Inside counters at variables stage ≡ Exiting = e in cc)
+exited_none code (InCall context at variables) locked account says e k object =
+    absurd (let wrong : InCall context at variables ≡ Exiting = e in cc)
+exited_none code (Inside context at variables stage) locked account says e k object =
+    absurd (let wrong : Inside context at variables stage ≡ Exiting = e in cc)
+exited_none code (Stopping lock calls) locked account says e k object =
+    absurd (let wrong : Stopping lock calls ≡ Exiting = e in cc)
 exited_none code Exiting locked account says e k object = ap (λ (c : Account). c k object) says.1
 
 -- A thread outside its calls has locked nothing.
@@ -205,22 +231,26 @@ idle_unlocked code left (InCall other at variables) locked account says e =
     absurd (let wrong : InCall other at variables ≡ Idle left = e in cc)
 idle_unlocked code left (Inside other at variables stage) locked account says e =
     absurd (let wrong : Inside other at variables stage ≡ Idle left = e in cc)
+idle_unlocked code left (Stopping lock calls) locked account says e =
+    absurd (let wrong : Stopping lock calls ≡ Idle left = e in cc)
 idle_unlocked code left Exiting locked account says e = says.0
 
 -- ---- how much the thread holds
 
 pub root_bounded : (layout : Layout) → IsBounded layout (once_each the_root)
 root_bounded layout = record {
-  by_variable = λ v object. omega arith;
-  sixteen = λ v object past. refl;
+  by_variable = λ depth v object. omega arith;
+  sixteen = λ depth v object past. refl;
+  shallow = λ depth v object deep. refl;
   lent = λ object counted. omega (arith, one_if_low (object == root_row));
   in_flight = λ object. omega arith;
 }
 
 nothing_bounded : (layout : Layout) → IsBounded layout (once_each nothing)
 nothing_bounded layout = record {
-  by_variable = λ v object. omega arith;
-  sixteen = λ v object past. refl;
+  by_variable = λ depth v object. omega arith;
+  sixteen = λ depth v object past. refl;
+  shallow = λ depth v object deep. refl;
   lent = λ object counted. omega arith;
   in_flight = λ object. omega arith;
 }
@@ -229,23 +259,58 @@ nothing_bounded layout = record {
 past_owns_none : (s : State) (v : ℕ) → length s.slots ≡ 16 → 16 ≤ v → is_owned (slot_of s v) ≡ false
 past_owns_none s v slots past = ap is_owned (get_or_past s.slots v Empty (omega (arith, slots, past)))
 
-variables_bounded : (layout : Layout) (s : State) (variables : List (Option ℕ)) → length s.slots ≡ 16
-    → IsBounded layout (once_each (of_variables s variables))
-variables_bounded layout s variables slots = record {
-  by_variable = λ v object. one_if_low (is_owned (slot_of s v) && names (row_of variables v) object);
-  sixteen = λ v object past.
-      ap (λ (b : Bool). one_if (b && names (row_of variables v) object)) (past_owns_none s v slots past);
-  lent = λ object counted. omega (arith, one_if_low (object == root_row));
+-- Outside the call the thread holds nothing by a variable that isn't one of the sixteen of a call further out.
+outside_none : (call : Activation) (depth v object : ℕ) → IsActivation call
+    → ((depth < call.depth) × (v < 16) → ⊥) → call.outside (ByVariable depth v) object ≡ false
+outside_none call depth v object is none =
+    elim (call.outside (ByVariable depth v) object) as
+    (λ b. call.outside (ByVariable depth v) object ≡ b → call.outside (ByVariable depth v) object ≡ false) [
+      | true ↦ λ held. absurd (none (is.outer depth v object held))
+      | false ↦ λ held. held
+    ] refl
+
+-- A variable past the sixteenth holds nothing, and neither does one of a call that is too deep.
+past_holds_none : (call : Activation) (s : State) (variables : List (Option ℕ)) (depth v object : ℕ)
+    → IsActivation call → length s.slots ≡ 16 → 16 ≤ v
+    → of_variables call s variables (ByVariable depth v) object ≡ false
+past_holds_none call s variables depth v object is slots past =
+    elim (eqb_tells depth call.depth) [
+      | inl this ↦
+          subst (λ (d : ℕ). of_variables call s variables (ByVariable d v) object ≡ false) (sym this.1)
+          (own_depth call s variables v object
+          ∙ ap (λ (b : Bool). b && names (row_of variables v) object) (past_owns_none s v slots past))
+      | inr apart ↦
+          other_depth call s variables depth v object apart.0
+          ∙ outside_none call depth v object is (λ low. omega (arith, low.1, past))
+    ]
+
+deep_holds_none : (call : Activation) (s : State) (variables : List (Option ℕ)) (depth v object : ℕ)
+    → IsActivation call → depth_limit ≤ depth
+    → of_variables call s variables (ByVariable depth v) object ≡ false
+deep_holds_none call s variables depth v object is deep =
+    other_depth call s variables depth v object
+    (ne_eqb depth call.depth (λ e. absurd (omega (arith, e, deep, is.shallow))))
+    ∙ outside_none call depth v object is (λ low. omega (arith, low.0, deep, is.shallow))
+
+variables_bounded : (layout : Layout) (call : Activation) (s : State) (variables : List (Option ℕ))
+    → IsActivation call → length s.slots ≡ 16
+    → IsBounded layout (once_each (of_variables call s variables))
+variables_bounded layout call s variables is slots = record {
+  by_variable = λ depth v object. one_if_low (of_variables call s variables (ByVariable depth v) object);
+  sixteen = λ depth v object past. ap one_if (past_holds_none call s variables depth v object is slots past);
+  shallow = λ depth v object deep. ap one_if (deep_holds_none call s variables depth v object is deep);
+  lent = λ object counted. omega (arith, one_if_low (call.outside AsCaller object));
   in_flight = λ object. omega arith;
 }
 
-inside_bounded : (layout : Layout) (flight : Option ℕ) (s : State) (variables : List (Option ℕ)) → length s.slots ≡ 16
-    → IsBounded layout (once_each (of_inside flight s variables))
-inside_bounded layout flight s variables slots = record {
-  by_variable = λ v object. one_if_low (is_owned (slot_of s v) && names (row_of variables v) object);
-  sixteen = λ v object past.
-      ap (λ (b : Bool). one_if (b && names (row_of variables v) object)) (past_owns_none s v slots past);
-  lent = λ object counted. omega (arith, one_if_low (object == root_row));
+inside_bounded : (layout : Layout) (call : Activation) (flight : Option ℕ) (s : State) (variables : List (Option ℕ))
+    → IsActivation call → length s.slots ≡ 16
+    → IsBounded layout (once_each (of_inside call flight s variables))
+inside_bounded layout call flight s variables is slots = record {
+  by_variable = λ depth v object. one_if_low (of_variables call s variables (ByVariable depth v) object);
+  sixteen = λ depth v object past. ap one_if (past_holds_none call s variables depth v object is slots past);
+  shallow = λ depth v object deep. ap one_if (deep_holds_none call s variables depth v object is deep);
+  lent = λ object counted. omega (arith, one_if_low (call.outside AsCaller object));
   in_flight = λ object. one_if_low (names flight object);
 }
 
@@ -253,10 +318,14 @@ pub says_bounded : (layout : Layout) (code : List Instr) (place : Place) (locked
     → PlaceSays code place locked account → IsBounded layout account
 says_bounded layout code (Idle left) locked account says =
     subst (IsBounded layout) (sym says.1) (root_bounded layout)
-says_bounded layout code (InCall counters at variables) locked account says =
-    subst (IsBounded layout) (sym says.3) (variables_bounded layout says.0 variables says.1.slots)
-says_bounded layout code (Inside counters at variables stage) locked account says =
+says_bounded layout code (InCall context at variables) locked account says =
+    subst (IsBounded layout) (sym says.3) (variables_bounded layout (call_of code context) says.0 variables
+    says.1.is_call says.1.slots)
+says_bounded layout code (Inside context at variables stage) locked account says =
     let flight = in_flight (slice_get code at) stage variables in
-    subst (IsBounded layout) (sym says.3) (inside_bounded layout flight says.0 variables says.1.slots)
+    subst (IsBounded layout) (sym says.3)
+    (inside_bounded layout (call_of code context) flight says.0 variables says.1.is_call says.1.slots)
+says_bounded layout code (Stopping lock calls) locked account says =
+    subst (IsBounded layout) (sym says.3) (stopped_bounded layout lock calls says.1)
 says_bounded layout code Exiting locked account says =
     subst (IsBounded layout) (sym says.1) (nothing_bounded layout)

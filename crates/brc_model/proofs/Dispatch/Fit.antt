@@ -12,12 +12,12 @@ use Rattle.brc_model.specs.Kinds.{kind_of_word}
 use Rattle.brc_lang.specs.declared.module.Module.{Module}
 use Rattle.brc_model.specs.declared.slot.State.{State}
 use Rattle.brc_model.specs.declared.actor.Place.{Place}
-use Rattle.brc_model.specs.declared.actor.Place.TheVariants.{Idle, InCall, Inside, Exiting}
+use Rattle.brc_model.specs.declared.actor.Place.TheVariants.{Idle, InCall, Inside, Stopping, Exiting}
 use Rattle.brc_model.specs.declared.address.Address.{Address}
 use Rattle.brc_model.specs.declared.address.Address.TheVariants.{KindOf}
 use Rattle.brc_model.specs.declared.duty.Duty.{Duty}
 use Rattle.brc_model.specs.declared.thread.Choice.{Choice}
-use Rattle.brc_model.specs.declared.thread.Choice.TheVariants.{Ok, Fault, Claim}
+use Rattle.brc_model.specs.declared.thread.Choice.TheVariants.{Ok, Fault, Claim, Stop}
 use Rattle.brc_model.specs.Slots.{slot_of, is_empty, kind_of, names, entry, is_one_of, lockable, with_resource}
 use Rattle.brc_model.specs.Paths.{IsAcceptableCode}
 use Rattle.brc_model.specs.Threads.{code_of, row_of, entry_variables}
@@ -25,7 +25,7 @@ use Rattle.brc_model.specs.KnownKinds.{IsTrueKind, HaveTrueKinds, KnowsKinds, ki
 use Rattle.brc_model.specs.Needs.{kind_at, has_locked, has_needs, lacks_needs, starts_unfit}
 use Rattle.brc_model.specs.Events.{begins_unfit, chooses_unfit}
 use Rattle.brc_model.specs.Accounts.{Account}
-use Rattle.brc_model.specs.Actions.{StepActor}
+use Rattle.brc_model.specs.Actions.{first_context, StepActor}
 use Rattle.brc_model.specs.StepMachine.{StepMachine}
 use Rattle.brc_model.proofs.Basics.Lists.{first_false, second_false}
 use Rattle.brc_model.proofs.Dispatch.Grounded.{IsGrounded, IsInside, named_row, entry_in_call}
@@ -35,11 +35,13 @@ use Rattle.brc_model.proofs.Dispatch.Coded.{PlaceSays}
 use Rattle.brc_model.proofs.Dispatch.Lockable.{lockable_word}
 use Rattle.brc_model.proofs.Dispatch.Kinds.{entry_true}
 use Rattle.brc_model.proofs.Keeping.CodeInvariant.{CodeInvariant}
+use Rattle.brc_model.proofs.Dispatch.Holds.{Activation, call_of}
 
 -- What a thread knows at an instruction whose conditions are met.
-record Meets (memory : Address → ℕ) (locked : Option ℕ) (variables : List (Option ℕ)) (s : State) (i : Instr) : Type 0
+record Meets (call : Activation) (memory : Address → ℕ) (locked : Option ℕ) (variables : List (Option ℕ)) (s : State)
+    (i : Instr) : Type 0
   where
-    grounded : (v : ℕ) → IsGrounded (slot_of s v) (row_of variables v)
+    grounded : (v : ℕ) → IsGrounded call (slot_of s v) (row_of variables v)
     guards : LocksAgree s variables locked
     kinds : HaveTrueKinds (λ x. memory (KindOf x)) s variables
     met : AreMet i s
@@ -55,97 +57,100 @@ kind_fits asked kind word none (inl any) can =
 kind_fits asked kind word none (inr names) can = ap (λ (k : Kind). is_one_of k asked) names ∙ can
 
 -- The kind of the object that a variable names.
-named_fit : (memory : Address → ℕ) (variables : List (Option ℕ)) (s : State) (v : ℕ) (asked : List Kind)
+named_fit : (call : Activation) (memory : Address → ℕ) (variables : List (Option ℕ)) (s : State) (v : ℕ)
+    (asked : List Kind)
     → is_one_of kinds.Any asked ≡ false → is_empty (slot_of s v) ≡ false
     → is_one_of (kind_of (slot_of s v)) asked ≡ true
-    → IsGrounded (slot_of s v) (row_of variables v) → HaveTrueKinds (λ x. memory (KindOf x)) s variables
+    → IsGrounded call (slot_of s v) (row_of variables v) → HaveTrueKinds (λ x. memory (KindOf x)) s variables
     → is_one_of (kind_at memory (row_of variables v)) asked ≡ true
-named_fit memory variables s v asked none some can grounded kinds_known =
-    let row = named_row (slot_of s v) (row_of variables v) some grounded in
+named_fit call memory variables s v asked none some can grounded kinds_known =
+    let row = named_row call (slot_of s v) (row_of variables v) some grounded in
     ap (λ (o : Option ℕ). is_one_of (kind_at memory o) asked) row.1
     ∙ kind_fits asked (kind_of (slot_of s v)) (memory (KindOf row.0)) none (kinds_known v row.0 row.1) can
 
 -- The object of such a kind that the thread has locked.
-locked_fit : (memory : Address → ℕ) (locked : Option ℕ) (variables : List (Option ℕ)) (s : State) (v : ℕ)
+locked_fit : (call : Activation) (memory : Address → ℕ) (locked : Option ℕ) (variables : List (Option ℕ)) (s : State)
+    (v : ℕ)
     (asked : List Kind) → is_one_of kinds.Any asked ≡ false
     → is_empty (slot_of s v) ≡ false → is_one_of (kind_of (slot_of s v)) asked ≡ true
-    → names s.locked v ≡ true → ((v : ℕ) → IsGrounded (slot_of s v) (row_of variables v))
+    → names s.locked v ≡ true → ((v : ℕ) → IsGrounded call (slot_of s v) (row_of variables v))
     → LocksAgree s variables locked → HaveTrueKinds (λ x. memory (KindOf x)) s variables
     → (is_one_of (kind_at memory (row_of variables v)) asked && has_locked locked (row_of variables v)) ≡ true
-locked_fit memory locked variables s v asked none some can this grounded guards kinds_known =
-    let row = named_row (slot_of s v) (row_of variables v) some (grounded v) in
+locked_fit call memory locked variables s v asked none some can this grounded guards kinds_known =
+    let row = named_row call (slot_of s v) (row_of variables v) some (grounded v) in
     let has = guards_row s variables v row.0 s.locked locked this row.1 guards in
     ap (λ (b : Bool). b && has_locked locked (row_of variables v))
-    (named_fit memory variables s v asked none some can (grounded v) kinds_known)
+    (named_fit call memory variables s v asked none some can (grounded v) kinds_known)
     ∙ ap (has_locked locked) row.1
     ∙ ap (λ (o : Option ℕ). has_locked o (Some row.0)) has ∙ eq-eqb row.0 row.0 refl
 
-instruction_fit : (memory : Address → ℕ) (locked : Option ℕ) (variables : List (Option ℕ)) (s : State) (i : Instr)
-    → Meets memory locked variables s i → has_needs memory locked variables i ≡ true
-instruction_fit memory locked variables s (Lock object) meets =
+instruction_fit : (call : Activation) (memory : Address → ℕ) (locked : Option ℕ) (variables : List (Option ℕ))
+    (s : State) (i : Instr)
+    → Meets call memory locked variables s i → has_needs memory locked variables i ≡ true
+instruction_fit call memory locked variables s (Lock object) meets =
     let some : is_empty (slot_of s object) ≡ false = first_false _ _ meets.met.not_empty in
-    let row = named_row (slot_of s object) (row_of variables object) some (meets.grounded object) in
+    let row = named_row call (slot_of s object) (row_of variables object) some (meets.grounded object) in
     let can = not-false _ (first_false _ _ meets.met.right_kind) in
     let word = lockable_word (kind_of (slot_of s object)) (memory (KindOf row.0))
     (meets.kinds object row.0 row.1) can in
     let free = guards_none s variables s.locked locked (first_false _ _ meets.met.first_lock) meets.guards in
     ap (λ (o : Option ℕ). is_one_of (kind_at memory o) lockable && not (is_some locked)) row.1
     ∙ ap (λ (b : Bool). b && not (is_some locked)) word ∙ no_lock locked free
-instruction_fit memory locked variables s (Unlock object) meets =
+instruction_fit call memory locked variables s (Unlock object) meets =
     let some : is_empty (slot_of s object) ≡ false = first_false _ _ meets.met.not_empty in
-    let row = named_row (slot_of s object) (row_of variables object) some (meets.grounded object) in
+    let row = named_row call (slot_of s object) (row_of variables object) some (meets.grounded object) in
     let this = not-false _ (first_false _ _ meets.met.has_lock) in
     let has = guards_row s variables object row.0 s.locked locked this row.1 meets.guards in
     ap (λ (o : Option ℕ). has_locked o (row_of variables object)) has
     ∙ ap (λ (o : Option ℕ). has_locked (Some row.0) o) row.1 ∙ eq-eqb row.0 row.0 refl
-instruction_fit memory locked variables s (Borrow to list index otherwise) meets =
-    locked_fit memory locked variables s list (kinds.List ∷ []) refl (first_false _ _ meets.met.not_empty)
+instruction_fit call memory locked variables s (Borrow to list index otherwise) meets =
+    locked_fit call memory locked variables s list (kinds.List ∷ []) refl (first_false _ _ meets.met.not_empty)
     (not-false _ (first_false _ _ meets.met.right_kind)) (not-false _ (first_false _ _ meets.met.has_lock))
     meets.grounded meets.guards meets.kinds
-instruction_fit memory locked variables s (Fetch to list index otherwise) meets =
-    locked_fit memory locked variables s list (kinds.List ∷ []) refl (first_false _ _ meets.met.not_empty)
+instruction_fit call memory locked variables s (Fetch to list index otherwise) meets =
+    locked_fit call memory locked variables s list (kinds.List ∷ []) refl (first_false _ _ meets.met.not_empty)
     (not-false _ (first_false _ _ meets.met.right_kind)) (not-false _ (first_false _ _ meets.met.has_lock))
     meets.grounded meets.guards meets.kinds
-instruction_fit memory locked variables s (Set list index from otherwise) meets =
-    locked_fit memory locked variables s list (kinds.List ∷ []) refl
+instruction_fit call memory locked variables s (Set list index from otherwise) meets =
+    locked_fit call memory locked variables s list (kinds.List ∷ []) refl
     (first_false _ _ (second_false _ _ meets.met.not_empty))
     (not-false _ (first_false _ _ meets.met.right_kind)) (not-false _ (first_false _ _ meets.met.has_lock))
     meets.grounded meets.guards meets.kinds
-instruction_fit memory locked variables s (Put list index from otherwise) meets =
-    let row = named_row (slot_of s from) (row_of variables from) (first_false _ _ meets.met.not_empty)
+instruction_fit call memory locked variables s (Put list index from otherwise) meets =
+    let row = named_row call (slot_of s from) (row_of variables from) (first_false _ _ meets.met.not_empty)
     (meets.grounded from) in
     ap (λ (b : Bool). b && is_some (row_of variables from))
-    (locked_fit memory locked variables s list (kinds.List ∷ []) refl
+    (locked_fit call memory locked variables s list (kinds.List ∷ []) refl
     (first_false _ _ (second_false _ _ meets.met.not_empty))
     (not-false _ (first_false _ _ meets.met.right_kind)) (not-false _ (first_false _ _ meets.met.has_lock))
     meets.grounded meets.guards meets.kinds)
     ∙ ap is_some row.1
-instruction_fit memory locked variables s (Read to file most otherwise) meets =
-    locked_fit memory locked variables s file with_resource refl (first_false _ _ meets.met.not_empty)
+instruction_fit call memory locked variables s (Read to file most otherwise) meets =
+    locked_fit call memory locked variables s file with_resource refl (first_false _ _ meets.met.not_empty)
     (not-false _ (first_false _ _ meets.met.right_kind)) (not-false _ (first_false _ _ meets.met.has_lock))
     meets.grounded meets.guards meets.kinds
-instruction_fit memory locked variables s (Write file number otherwise) meets =
+instruction_fit call memory locked variables s (Write file number otherwise) meets =
     ap (λ (b : Bool). b && is_one_of (kind_at memory (row_of variables number)) (kinds.Num ∷ []))
-    (locked_fit memory locked variables s file with_resource refl (first_false _ _ meets.met.not_empty)
+    (locked_fit call memory locked variables s file with_resource refl (first_false _ _ meets.met.not_empty)
     (not-false _ (first_false _ _ meets.met.right_kind)) (not-false _ (first_false _ _ meets.met.has_lock))
     meets.grounded meets.guards meets.kinds)
-    ∙ named_fit memory variables s number (kinds.Num ∷ []) refl
+    ∙ named_fit call memory variables s number (kinds.Num ∷ []) refl
     (first_false _ _ (second_false _ _ meets.met.not_empty))
     (not-false _ (first_false _ _ (second_false _ _ meets.met.right_kind))) (meets.grounded number) meets.kinds
-instruction_fit memory locked variables s (Ret from) meets =
+instruction_fit call memory locked variables s (Ret from) meets =
     no_lock locked (guards_none s variables s.locked locked (first_false _ _ meets.met.no_lock_left) meets.guards)
-instruction_fit memory locked variables s Fail meets =
+instruction_fit call memory locked variables s Fail meets =
     no_lock locked (guards_none s variables s.locked locked (first_false _ _ meets.met.no_lock_left) meets.guards)
-instruction_fit memory locked variables s _ meets = refl
+instruction_fit call memory locked variables s _ meets = refl
 
-in_call_fit : (code : List Instr) (memory : Address → ℕ) (locked : Option ℕ) (at : ℕ) (variables : List (Option ℕ))
+in_call_fit : (call : Activation) (memory : Address → ℕ) (locked : Option ℕ) (at : ℕ) (variables : List (Option ℕ))
     (s : State)
-    → IsAcceptableCode code → IsInside code at variables s → LocksAgree s variables locked
+    → IsAcceptableCode call.code → IsInside call at variables s → LocksAgree s variables locked
     → HaveTrueKinds (λ x. memory (KindOf x)) s variables
-    → lacks_needs memory locked variables (slice_get code at) ≡ false
-in_call_fit code memory locked at variables s accepted inside guards kinds =
-    let on = passes_on code inside.exits at s accepted inside.arrived in
-    let fit = instruction_fit memory locked variables s on.here (record {
+    → lacks_needs memory locked variables (slice_get call.code at) ≡ false
+in_call_fit call memory locked at variables s accepted inside guards kinds =
+    let on = passes_on call.code inside.exits at s accepted inside.arrived in
+    let fit = instruction_fit call memory locked variables s on.here (record {
       grounded = inside.grounded;
       guards = guards;
       kinds = kinds;
@@ -159,13 +164,15 @@ place_fit : (code : List Instr) (memory : Address → ℕ) (locked : Option ℕ)
     → KnowsKinds code (λ x. memory (KindOf x)) place → starts_unfit memory locked code place ≡ false
 place_fit code memory locked (Idle zero) account accepted says begins knows = ap is_some says.0
 place_fit code memory locked (Idle (suc left)) account accepted says begins knows =
-    in_call_fit code memory locked 0 entry_variables entry accepted (entry_in_call code) says.0 begins
-place_fit code memory locked (InCall counters at variables) account accepted says begins knows =
-    in_call_fit code memory locked at variables says.0 accepted says.1 says.2
+    in_call_fit (call_of code (first_context left)) memory locked 0 entry_variables entry accepted
+    (entry_in_call code left) says.0 begins
+place_fit code memory locked (InCall context at variables) account accepted says begins knows =
+    in_call_fit (call_of code context) memory locked at variables says.0 accepted says.1 says.2
     (knows says.1.exits says.0 says.1.arrived)
-place_fit code memory locked (Inside counters at variables stage) account accepted says begins knows =
-    in_call_fit code memory locked at variables says.0 accepted says.1 says.2
+place_fit code memory locked (Inside context at variables stage) account accepted says begins knows =
+    in_call_fit (call_of code context) memory locked at variables says.0 accepted says.1 says.2
     (knows says.1.exits says.0 says.1.arrived)
+place_fit code memory locked (Stopping lock calls) account accepted says begins knows = refl
 place_fit code memory locked Exiting account accepted says begins knows = refl
 
 agenda_fit : (p : Module) (n : ℕ) (m : StepMachine) (t : ℕ) (a : StepActor) (agenda : List Duty) → CodeInvariant p n m
@@ -186,4 +193,5 @@ pub choice_fit : (p : Module) (n : ℕ) (m : StepMachine) (t : ℕ) (a : StepAct
     → slice_get m.actors t ≡ Some a → chooses_unfit m a choice ≡ false
 choice_fit p n m t a Ok whole found = agenda_fit p n m t a a.actor.agenda whole found
 choice_fit p n m t a Fault whole found = agenda_fit p n m t a a.actor.agenda whole found
+choice_fit p n m t a Stop whole found = refl
 choice_fit p n m t a (Claim row) whole found = refl

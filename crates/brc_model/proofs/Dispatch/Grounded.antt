@@ -1,7 +1,7 @@
 -- A thread in a call is at a point that some path reaches, and what the path's state says of each variable is true of
 -- the row in that variable.
-use Rattle.std.proofs.Common.{◌≡◌, ◌≢◌, ℕ, zero, suc, ◌<◌, Bool, true, false, List, [], length, Option, None, Some, refl, sym, ap, ◌∙◌, subst, arith, inl, inr, get_or-set_same, get_or-set_other}
-use Rattle.std.specs.Prelude.{◌&&◌, slice_get, slice_set}
+use Rattle.std.proofs.Common.{◌≡◌, ◌≢◌, ℕ, zero, suc, ◌<◌, Bool, true, false, List, [], length, Option, None, Some, cond, refl, sym, ap, ◌∙◌, subst, arith, inl, inr, get_or-set_same, get_or-set_other}
+use Rattle.std.specs.Prelude.{◌==◌, ◌&&◌, slice_get, slice_set}
 use Rattle.std.proofs.lemmas.Bool.{cases_lt}
 use Rattle.std.proofs.lemmas.Bool.Decides.{eqb_tells}
 use Rattle.std.proofs.lemmas.List.{get_or_past}
@@ -17,25 +17,42 @@ use Rattle.brc_model.specs.Slots.{slot_of, is_empty, is_owned, is_borrowed, with
 use Rattle.brc_model.specs.Paths.{At, path_end}
 use Rattle.brc_model.specs.declared.duty.Holding.{Holding}
 use Rattle.brc_model.specs.declared.duty.Holding.TheVariants.{ByVariable, AsCaller, InFlight}
+use Rattle.brc_model.specs.declared.actor.Context.{Context}
+use Rattle.brc_model.specs.Actions.{first_context}
 use Rattle.brc_model.specs.Threads.{row_of, entry_variables}
 use Rattle.brc_model.proofs.Basics.Lists.{get_or-replicate_default}
-use Rattle.brc_model.proofs.Dispatch.Holds.{of_variables}
+use Rattle.brc_model.proofs.Dispatch.Holds.{Activation, call_of, IsOuter, IsActivation, outermost, of_variables}
 use Rattle.brc_model.specs.Layout.{root_row}
 
--- What a slot says of the row in its variable.
-abbrev pub IsGrounded : Slot → Option ℕ → Type 0
-IsGrounded Empty row = Unit {0}
-IsGrounded (Owned k) row = (r : ℕ) × (row ≡ Some r)
-IsGrounded (Caller k) row = row ≡ Some root_row
-IsGrounded (Locked k) row = (r : ℕ) × (row ≡ Some r)
+-- What a slot says of the row in its variable. What a variable borrows from its caller the thread holds outside the
+-- call. (Python/C API manual, Reference Count Details: the caller lends its arguments for the whole call.)
+abbrev pub IsGrounded : Activation → Slot → Option ℕ → Type 0
+IsGrounded call Empty row = Unit {0}
+IsGrounded call (Owned k) row = (r : ℕ) × (row ≡ Some r)
+IsGrounded call (Caller k) row =
+    (r : ℕ) × (row ≡ Some r) × (by : Holding) × IsOuter call.depth by × (call.outside by r ≡ true)
+IsGrounded call (Locked k) row = (r : ℕ) × (row ≡ Some r)
 
 -- Some path reaches the point in this state, and the state is true of the variables.
-pub record IsInside (code : List Instr) (at : ℕ) (variables : List (Option ℕ)) (s : State) : Type 0 where
+pub record IsInside (call : Activation) (at : ℕ) (variables : List (Option ℕ)) (s : State) : Type 0 where
+  pub is_call : IsActivation call
+  pub exits : List Exit
+  pub arrived : path_end call.code exits ≡ At at s
+  pub slots : length s.slots ≡ 16
+  pub rows : length variables ≡ 16
+  pub grounded : (v : ℕ) → IsGrounded call (slot_of s v) (row_of variables v)
+
+-- Some path reaches the point in this state, and there are as many variables as slots.
+pub record IsReached (code : List Instr) (at : ℕ) (variables : List (Option ℕ)) (s : State) : Type 0 where
   pub exits : List Exit
   pub arrived : path_end code exits ≡ At at s
   pub slots : length s.slots ≡ 16
   pub rows : length variables ≡ 16
-  pub grounded : (v : ℕ) → IsGrounded (slot_of s v) (row_of variables v)
+
+pub reached : (call : Activation) (at : ℕ) (variables : List (Option ℕ)) (s : State) → IsInside call at variables s
+    → IsReached call.code at variables s
+reached call at variables s inside =
+    record { exits = inside.exits; arrived = inside.arrived; slots = inside.slots; rows = inside.rows }
 
 pub record AreInstructions (code : List Instr) : Type 0 where
   pub forward : LeadsForward code
@@ -57,45 +74,49 @@ pub row_of-set_other : (rows : List (Option ℕ)) (x v : ℕ) (row : Option ℕ)
     → row_of (slice_set rows x row) v ≡ row_of rows v
 row_of-set_other rows x v row ne = get_or-set_other rows x v row None ne
 
-pub grounded-put : (s : State) (rows : List (Option ℕ)) (x : ℕ) (slot : Slot) (row : Option ℕ) → x < length s.slots
-    → x < length rows → IsGrounded slot row
-    → ((v : ℕ) → IsGrounded (slot_of s v) (row_of rows v)) → (v : ℕ)
-    → IsGrounded (slot_of (put s x slot) v) (row_of (slice_set rows x row) v)
-grounded-put s rows x slot row in_slots in_rows new old v =
+pub grounded-put : (call : Activation) (s : State) (rows : List (Option ℕ)) (x : ℕ) (slot : Slot) (row : Option ℕ) → x
+    < length s.slots
+    → x < length rows → IsGrounded call slot row
+    → ((v : ℕ) → IsGrounded call (slot_of s v) (row_of rows v)) → (v : ℕ)
+    → IsGrounded call (slot_of (put s x slot) v) (row_of (slice_set rows x row) v)
+grounded-put call s rows x slot row in_slots in_rows new old v =
     elim (eqb_tells v x) [
       | inl this ↦
-          let P : ℕ → Type 0 = λ w. IsGrounded (slot_of (put s x slot) w) (row_of (slice_set rows x row) w) in
-          let there : IsGrounded (slot_of (put s x slot) x) row =
-          subst (λ (w : Slot). IsGrounded w row) (sym (slot_of-put_same s x slot in_slots)) new in
-          subst P (sym this.1) (subst (λ (w : Option ℕ). IsGrounded (slot_of (put s x slot) x) w)
+          let P : ℕ → Type 0 = λ w. IsGrounded call (slot_of (put s x slot) w) (row_of (slice_set rows x row) w) in
+          let there : IsGrounded call (slot_of (put s x slot) x) row =
+          subst (λ (w : Slot). IsGrounded call w row) (sym (slot_of-put_same s x slot in_slots)) new in
+          subst P (sym this.1) (subst (λ (w : Option ℕ). IsGrounded call (slot_of (put s x slot) x) w)
           (sym (row_of-set_same rows x row in_rows)) there)
       | inr other ↦
-          let there : IsGrounded (slot_of (put s x slot) v) (row_of rows v) =
-          subst (λ (w : Slot). IsGrounded w (row_of rows v)) (sym (slot_of-put_other s x v slot other.1)) (old v) in
-          subst (λ (w : Option ℕ). IsGrounded (slot_of (put s x slot) v) w)
+          let there : IsGrounded call (slot_of (put s x slot) v) (row_of rows v) =
+          subst (λ (w : Slot). IsGrounded call w (row_of rows v)) (sym (slot_of-put_other s x v slot other.1)) (old v)
+          in
+          subst (λ (w : Option ℕ). IsGrounded call (slot_of (put s x slot) v) w)
           (sym (row_of-set_other rows x v row other.1)) there
     ]
 
 -- ---- a variable's kind becomes known
 
-kind_grounded : (slot : Slot) (k : Kind) (row : Option ℕ) → IsGrounded slot row → IsGrounded (with_kind slot k) row
-kind_grounded Empty k row grounded = tt
-kind_grounded (Owned old) k row grounded = grounded
-kind_grounded (Caller old) k row grounded = grounded
-kind_grounded (Locked old) k row grounded = grounded
+kind_grounded : (call : Activation) (slot : Slot) (k : Kind) (row : Option ℕ) → IsGrounded call slot row
+    → IsGrounded call (with_kind slot k) row
+kind_grounded call Empty k row grounded = tt
+kind_grounded call (Owned old) k row grounded = grounded
+kind_grounded call (Caller old) k row grounded = grounded
+kind_grounded call (Locked old) k row grounded = grounded
 
-pub grounded-with_kind : (s : State) (rows : List (Option ℕ)) (x : ℕ) (k : Kind) → x < length s.slots
-    → ((v : ℕ) → IsGrounded (slot_of s v) (row_of rows v)) → (v : ℕ)
-    → IsGrounded (slot_of (put s x (with_kind (slot_of s x) k)) v) (row_of rows v)
-grounded-with_kind s rows x k in_slots old v =
+pub grounded-with_kind : (call : Activation) (s : State) (rows : List (Option ℕ)) (x : ℕ) (k : Kind) → x
+    < length s.slots
+    → ((v : ℕ) → IsGrounded call (slot_of s v) (row_of rows v)) → (v : ℕ)
+    → IsGrounded call (slot_of (put s x (with_kind (slot_of s x) k)) v) (row_of rows v)
+grounded-with_kind call s rows x k in_slots old v =
     let slot = with_kind (slot_of s x) k in
     elim (eqb_tells v x) [
       | inl this ↦
-          let P : ℕ → Type 0 = λ w. IsGrounded (slot_of (put s x slot) w) (row_of rows w) in
-          subst P (sym this.1) (subst (λ (w : Slot). IsGrounded w (row_of rows x))
-          (sym (slot_of-put_same s x slot in_slots)) (kind_grounded (slot_of s x) k (row_of rows x) (old x)))
+          let P : ℕ → Type 0 = λ w. IsGrounded call (slot_of (put s x slot) w) (row_of rows w) in
+          subst P (sym this.1) (subst (λ (w : Slot). IsGrounded call w (row_of rows x))
+          (sym (slot_of-put_same s x slot in_slots)) (kind_grounded call (slot_of s x) k (row_of rows x) (old x)))
       | inr other ↦
-          subst (λ (w : Slot). IsGrounded w (row_of rows v)) (sym (slot_of-put_other s x v slot other.1)) (old v)
+          subst (λ (w : Slot). IsGrounded call w (row_of rows v)) (sym (slot_of-put_other s x v slot other.1)) (old v)
     ]
 
 kind_owned : (slot : Slot) (k : Kind) → is_owned (with_kind slot k) ≡ is_owned slot
@@ -116,31 +137,35 @@ slot-with_kind s x v k in_slots =
     ]
 
 -- Another kind for a variable doesn't change what the thread is to hold.
-pub says-with_kind : (s : State) (variables : List (Option ℕ)) (x : ℕ) (k : Kind) (h : Holding) (object : ℕ)
-    → x < length s.slots
-    → of_variables s variables h object ≡ of_variables (put s x (with_kind (slot_of s x) k)) variables h object
-says-with_kind s variables x k AsCaller object in_slots = refl
-says-with_kind s variables x k InFlight object in_slots = refl
-says-with_kind s variables x k (ByVariable v) object in_slots =
-    ap (λ (b : Bool). b && names (row_of variables v) object) (sym (slot-with_kind s x v k in_slots))
+pub says-with_kind : (call : Activation) (s : State) (variables : List (Option ℕ)) (x : ℕ) (k : Kind) (h : Holding)
+    (object : ℕ) → x < length s.slots
+    → of_variables call s variables h object
+    ≡ of_variables call (put s x (with_kind (slot_of s x) k)) variables h object
+says-with_kind call s variables x k AsCaller object in_slots = refl
+says-with_kind call s variables x k InFlight object in_slots = refl
+says-with_kind call s variables x k (ByVariable depth v) object in_slots =
+    ap (λ (b : Bool). cond (depth == call.depth) (b && names (row_of variables v) object)
+    (call.outside (ByVariable depth v) object)) (sym (slot-with_kind s x v k in_slots))
 
 -- ---- the variables that borrow from the locked list become empty
 
 pub slot_of-without : (s : State) (v : ℕ) → slot_of (without_items s) v ≡ without_item (slot_of s v)
 slot_of-without s v = get_or-map without_item s.slots v Empty
 
-without_grounded : (slot : Slot) (row : Option ℕ) → IsGrounded slot row → IsGrounded (without_item slot) row
-without_grounded Empty row grounded = tt
-without_grounded (Owned k) row grounded = grounded
-without_grounded (Caller k) row grounded = grounded
-without_grounded (Locked k) row grounded = tt
+without_grounded : (call : Activation) (slot : Slot) (row : Option ℕ) → IsGrounded call slot row
+    → IsGrounded call (without_item slot) row
+without_grounded call Empty row grounded = tt
+without_grounded call (Owned k) row grounded = grounded
+without_grounded call (Caller k) row grounded = grounded
+without_grounded call (Locked k) row grounded = tt
 
 -- What is true of the variables is true of them once those that borrowed from the locked list are empty.
-pub grounded-without : (s : State) (rows : List (Option ℕ)) → ((v : ℕ) → IsGrounded (slot_of s v) (row_of rows v))
-    → (v : ℕ) → IsGrounded (slot_of (without_items s) v) (row_of rows v)
-grounded-without s rows old v =
-    subst (λ (slot : Slot). IsGrounded slot (row_of rows v)) (sym (slot_of-without s v))
-    (without_grounded (slot_of s v) (row_of rows v) (old v))
+pub grounded-without : (call : Activation) (s : State) (rows : List (Option ℕ))
+    → ((v : ℕ) → IsGrounded call (slot_of s v) (row_of rows v))
+    → (v : ℕ) → IsGrounded call (slot_of (without_items s) v) (row_of rows v)
+grounded-without call s rows old v =
+    subst (λ (slot : Slot). IsGrounded call slot (row_of rows v)) (sym (slot_of-without s v))
+    (without_grounded call (slot_of s v) (row_of rows v) (old v))
 
 without_owned : (slot : Slot) → is_owned (without_item slot) ≡ is_owned slot
 without_owned Empty = refl
@@ -149,12 +174,13 @@ without_owned (Caller k) = refl
 without_owned (Locked k) = refl
 
 -- A variable that borrows from the locked list owns nothing, so the thread is to hold what it held.
-pub says-without : (s : State) (variables : List (Option ℕ)) (h : Holding) (object : ℕ)
-    → of_variables s variables h object ≡ of_variables (without_items s) variables h object
-says-without s variables AsCaller object = refl
-says-without s variables InFlight object = refl
-says-without s variables (ByVariable v) object =
-    ap (λ (b : Bool). b && names (row_of variables v) object)
+pub says-without : (call : Activation) (s : State) (variables : List (Option ℕ)) (h : Holding) (object : ℕ)
+    → of_variables call s variables h object ≡ of_variables call (without_items s) variables h object
+says-without call s variables AsCaller object = refl
+says-without call s variables InFlight object = refl
+says-without call s variables (ByVariable depth v) object =
+    ap (λ (b : Bool). cond (depth == call.depth) (b && names (row_of variables v) object)
+    (call.outside (ByVariable depth v) object))
     (sym (without_owned (slot_of s v)) ∙ ap is_owned (sym (slot_of-without s v)))
 
 -- ---- what a slot says
@@ -171,12 +197,12 @@ owned_low s v slots owned =
     ]
 
 -- A variable that isn't empty names a row.
-pub named_row : (slot : Slot) (row : Option ℕ) → is_empty slot ≡ false → IsGrounded slot row
+pub named_row : (call : Activation) (slot : Slot) (row : Option ℕ) → is_empty slot ≡ false → IsGrounded call slot row
     → (x : ℕ) × (row ≡ Some x)
-named_row Empty row some grounded = absurd cc
-named_row (Owned k) row some grounded = grounded
-named_row (Caller k) row some grounded = (_, grounded)
-named_row (Locked k) row some grounded = grounded
+named_row call Empty row some grounded = absurd cc
+named_row call (Owned k) row some grounded = grounded
+named_row call (Caller k) row some grounded = (grounded.0, grounded.1)
+named_row call (Locked k) row some grounded = grounded
 
 -- A slot that is neither empty nor borrowed owns its reference.
 pub owned_slot : (slot : Slot) → is_empty slot ≡ false → is_borrowed slot ≡ false → is_owned slot ≡ true
@@ -185,19 +211,29 @@ owned_slot (Owned k) e b = refl
 owned_slot (Caller k) e b = absurd cc
 owned_slot (Locked k) e b = absurd cc
 
-pub owned_row : (slot : Slot) (row : Option ℕ) → is_owned slot ≡ true → IsGrounded slot row → (r : ℕ) × (row ≡ Some r)
-owned_row Empty row owned grounded = absurd cc
-owned_row (Owned k) row owned grounded = grounded
-owned_row (Caller k) row owned grounded = absurd cc
-owned_row (Locked k) row owned grounded = absurd cc
+pub owned_row : (call : Activation) (slot : Slot) (row : Option ℕ) → is_owned slot ≡ true → IsGrounded call slot row
+    → (r : ℕ) × (row ≡ Some r)
+owned_row call Empty row owned grounded = absurd cc
+owned_row call (Owned k) row owned grounded = grounded
+owned_row call (Caller k) row owned grounded = absurd cc
+owned_row call (Locked k) row owned grounded = absurd cc
 
 -- ---- the beginning of a call
 
-entry_grounded : (v : ℕ) → IsGrounded (slot_of entry v) (row_of entry_variables v)
-entry_grounded zero = refl
-entry_grounded (suc v) =
-    subst (λ (slot : Slot). IsGrounded slot (row_of entry_variables (suc v)))
+entry_grounded : (code : List Instr) (context : Context) (v : ℕ)
+    → IsGrounded (call_of code context) (slot_of entry v) (row_of entry_variables v)
+entry_grounded code context zero = (root_row, refl, AsCaller, tt, refl)
+entry_grounded code context (suc v) =
+    subst (λ (slot : Slot). IsGrounded (call_of code context) slot (row_of entry_variables (suc v)))
     (sym (get_or-replicate_default 15 v Empty)) tt
 
-pub entry_in_call : (code : List Instr) → IsInside code 0 entry_variables entry
-entry_in_call code = record { exits = []; arrived = refl; slots = refl; rows = refl; grounded = entry_grounded }
+pub entry_in_call : (code : List Instr) (left : ℕ)
+    → IsInside (call_of code (first_context left)) 0 entry_variables entry
+entry_in_call code left = record {
+  is_call = outermost code (first_context left) refl;
+  exits = [];
+  arrived = refl;
+  slots = refl;
+  rows = refl;
+  grounded = entry_grounded code (first_context left);
+}

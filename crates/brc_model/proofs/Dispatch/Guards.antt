@@ -2,7 +2,7 @@
 -- reference to it.
 use Rattle.std.proofs.Common.{◌≡◌, ◌≢◌, ℕ, ◌<◌, ◌⊎◌, Bool, true, false, List, inl, inr, length, Option, None, Some, refl, sym, ap, ◌∙◌, subst, arith}
 use Rattle.std.specs.Prelude.{◌==◌, ◌&&◌, slice_set, is_some}
-use Rattle.std.proofs.lemmas.Bool.{false≢true, eq-eqb, eqb-true}
+use Rattle.std.proofs.lemmas.Bool.{false≢true, eq-eqb, eqb-true, ne_eqb}
 use Rattle.std.proofs.lemmas.Bool.Decides.{eqb_tells}
 use Rattle.brc_lang.specs.declared.kind.Kind.{Kind}
 use Rattle.brc_model.specs.declared.slot.Slot.{Slot}
@@ -10,14 +10,14 @@ use Rattle.brc_model.specs.declared.slot.Slot.TheVariants.{Empty, Owned, Caller,
 use Rattle.brc_model.specs.declared.slot.State.{State}
 use Rattle.brc_model.specs.Slots.{slot_of, is_owned, with_kind, names, put, without_item, without_items}
 use Rattle.brc_model.specs.declared.duty.Holding.{Holding}
-use Rattle.brc_model.specs.declared.duty.Holding.TheVariants.{ByVariable, AsCaller}
+use Rattle.brc_model.specs.declared.duty.Holding.TheVariants.{ByVariable, AsCaller, InFlight}
 use Rattle.brc_model.specs.declared.duty.Duty.{Duty}
 use Rattle.brc_model.specs.AbstractState.{Reference, same_holding}
 use Rattle.brc_model.specs.Threads.{row_of}
-use Rattle.brc_model.specs.References.{held, reference_of}
+use Rattle.brc_model.specs.References.{held, one_if, reference_of}
 use Rattle.brc_model.specs.Accounts.{extra}
-use Rattle.brc_model.specs.Layout.{root_row}
-use Rattle.brc_model.proofs.Dispatch.Holds.{HoldsVariables, variable_has}
+use Rattle.brc_model.proofs.Basics.Lists.{some_is}
+use Rattle.brc_model.proofs.Dispatch.Holds.{Activation, IsOuter, HoldsVariables, variable_has}
 use Rattle.brc_model.proofs.Dispatch.Grounded.{IsGrounded, slot_of-put_same, slot_of-put_other, row_of-set_other, slot_of-without}
 
 -- The slot's reference doesn't hang on the locked list.
@@ -114,61 +114,79 @@ pub record HeldBeside (bag : List Reference) (t x : ℕ) (d : Duty) : Type 0 whe
   pub held_so : 0 < held (reference_of t by x) bag
   pub beside : extra d by x ≡ false
 
--- How the thread holds the object of a variable that is locked.
-pub record HeldLocked (bag : List Reference) (t x : ℕ) (o : Option ℕ) : Type 0 where
+-- How a thread whose call has this depth holds the object of a variable that is locked.
+pub record HeldLocked (bag : List Reference) (t depth x : ℕ) (o : Option ℕ) : Type 0 where
   pub variable : ℕ
   pub is : o ≡ Some variable
   pub by : Holding
-  pub sort : (by ≡ ByVariable variable) ⊎ (by ≡ AsCaller)
+  pub sort : (by ≡ ByVariable depth variable) ⊎ IsOuter depth by
   pub held_so : 0 < held (reference_of t by x) bag
 
-kept_held : (bag : List Reference) (t : ℕ) (s : State) (variables : List (Option ℕ)) (c x : ℕ) (slot : Slot)
-    → slot_of s c ≡ slot → is_kept slot ≡ true → row_of variables c ≡ Some x → IsGrounded slot (row_of variables c)
-    → HoldsVariables bag t s variables → HeldLocked bag t x (Some c)
-kept_held bag t s variables c x Empty is kept named grounded holds = absurd cc
-kept_held bag t s variables c x (Owned k) is kept named grounded holds =
-    let one : held (reference_of t (ByVariable c) x) bag ≡ 1 =
-    variable_has bag t s variables c x (ap is_owned is) named holds in
-    record { variable = c; is = refl; by = ByVariable c; sort = inl refl; held_so = omega (arith, one) }
-kept_held bag t s variables c x (Caller k) is kept named grounded holds =
-    let this : x ≡ root_row = (let e : Some x ≡ Some root_row = sym named ∙ grounded in cc) in
-    let one : held (reference_of t AsCaller root_row) bag ≡ 1 = holds.as_caller root_row in
+kept_held : (bag : List Reference) (t : ℕ) (call : Activation) (s : State) (variables : List (Option ℕ)) (c x : ℕ)
+    (slot : Slot) → slot_of s c ≡ slot → is_kept slot ≡ true → row_of variables c ≡ Some x
+    → IsGrounded call slot (row_of variables c)
+    → HoldsVariables bag t call s variables → HeldLocked bag t call.depth x (Some c)
+kept_held bag t call s variables c x Empty is kept named grounded holds = absurd cc
+kept_held bag t call s variables c x (Owned k) is kept named grounded holds =
+    let one : held (reference_of t (ByVariable call.depth c) x) bag ≡ 1 =
+    variable_has bag t call s variables c x (ap is_owned is) named holds in
+    record { variable = c; is = refl; by = ByVariable call.depth c; sort = inl refl; held_so = omega (arith, one) }
+kept_held bag t call s variables c x (Caller k) is kept named grounded holds =
+    let same : grounded.0 ≡ x = some_is grounded.0 x (sym grounded.1 ∙ named) in
+    let by = grounded.2 in
+    let one : held (reference_of t by grounded.0) bag ≡ 1 =
+    holds.outside by grounded.0 grounded.3 ∙ ap one_if grounded.4 in
     record {
       variable = c;
       is = refl;
-      by = AsCaller;
-      sort = inr refl;
-      held_so = subst (λ (y : ℕ). 0 < held (reference_of t AsCaller y) bag) (sym this) (omega (arith, one));
+      by = by;
+      sort = inr grounded.3;
+      held_so = subst (λ (y : ℕ). 0 < held (reference_of t by y) bag) same (omega (arith, one));
     }
-kept_held bag t s variables c x (Locked k) is kept named grounded holds = absurd cc
+kept_held bag t call s variables c x (Locked k) is kept named grounded holds = absurd cc
 
-pub guards_held : (bag : List Reference) (t : ℕ) (s : State) (variables : List (Option ℕ)) (o locked : Option ℕ) (x : ℕ)
+pub guards_held : (bag : List Reference) (t : ℕ) (call : Activation) (s : State) (variables : List (Option ℕ))
+    (o locked : Option ℕ) (x : ℕ)
     → Guards s variables o locked → locked ≡ Some x
-    → ((v : ℕ) → IsGrounded (slot_of s v) (row_of variables v))
-    → HoldsVariables bag t s variables → HeldLocked bag t x o
-guards_held bag t s variables None locked x guards is grounded holds =
+    → ((v : ℕ) → IsGrounded call (slot_of s v) (row_of variables v))
+    → HoldsVariables bag t call s variables → HeldLocked bag t call.depth x o
+guards_held bag t call s variables None locked x guards is grounded holds =
     let wrong : None ≡ Some x = sym guards ∙ is in absurd cc
-guards_held bag t s variables (Some c) locked x guards is grounded holds =
+guards_held bag t call s variables (Some c) locked x guards is grounded holds =
     let same : Some guards.0 ≡ Some x = sym guards.1 ∙ is in
-    kept_held bag t s variables c x (slot_of s c) refl guards.3 (guards.2 ∙ same) (grounded c) holds
+    kept_held bag t call s variables c x (slot_of s c) refl guards.3 (guards.2 ∙ same) (grounded c) holds
+
+-- A variable of a call isn't how its thread holds what it holds outside the call.
+outer_beside : (depth from : ℕ) (by : Holding) → IsOuter depth by → same_holding (ByVariable depth from) by ≡ false
+outer_beside depth from (ByVariable other v) outer =
+    ap (λ (b : Bool). b && (from == v)) (ne_eqb depth other (λ e. absurd (omega (arith, e, outer))))
+outer_beside depth from AsCaller outer = refl
+outer_beside depth from InFlight outer = refl
+
+-- Neither is a reference in flight.
+pub outer_flight : (depth : ℕ) (by : Holding) → IsOuter depth by → same_holding InFlight by ≡ false
+outer_flight depth (ByVariable other v) outer = refl
+outer_flight depth AsCaller outer = refl
+outer_flight depth InFlight outer = absurd outer
 
 -- Giving up what another variable owns leaves the reference to the locked object.
-gives_beside : (row x from c : ℕ) (by : Holding) → names (Some c) from ≡ false
-    → (by ≡ ByVariable c) ⊎ (by ≡ AsCaller) → (same_holding (ByVariable from) by && (row == x)) ≡ false
-gives_beside row x from c by free (inl variable) =
-    subst (λ (k : Holding). (same_holding (ByVariable from) k && (row == x)) ≡ false) (sym variable)
-    (ap (λ (b : Bool). b && (row == x)) free)
-gives_beside row x from c by free (inr caller) =
-    subst (λ (k : Holding). (same_holding (ByVariable from) k && (row == x)) ≡ false) (sym caller) refl
+gives_beside : (depth row x from c : ℕ) (by : Holding) → names (Some c) from ≡ false
+    → (by ≡ ByVariable depth c) ⊎ IsOuter depth by → (same_holding (ByVariable depth from) by && (row == x)) ≡ false
+gives_beside depth row x from c by free (inl variable) =
+    subst (λ (k : Holding). (same_holding (ByVariable depth from) k && (row == x)) ≡ false) (sym variable)
+    (ap (λ (b : Bool). (b && (from == c)) && (row == x)) (eq-eqb depth depth refl)
+    ∙ ap (λ (b : Bool). b && (row == x)) free)
+gives_beside depth row x from c by free (inr outer) =
+    ap (λ (b : Bool). b && (row == x)) (outer_beside depth from by outer)
 
 -- A duty that gives up what the variable owns, which isn't the locked one.
-pub gives_keeps : (bag : List Reference) (t row x from : ℕ) (o : Option ℕ) (d : Duty) → names o from ≡ false
-    → ((k : Holding) (object : ℕ) → extra d k object ≡ (same_holding (ByVariable from) k && (row == object)))
-    → HeldLocked bag t x o → HeldBeside bag t x d
-gives_keeps bag t row x from o d free gives lock =
+pub gives_keeps : (bag : List Reference) (t depth row x from : ℕ) (o : Option ℕ) (d : Duty) → names o from ≡ false
+    → ((k : Holding) (object : ℕ) → extra d k object ≡ (same_holding (ByVariable depth from) k && (row == object)))
+    → HeldLocked bag t depth x o → HeldBeside bag t x d
+gives_keeps bag t depth row x from o d free gives lock =
     record {
       by = lock.by;
       held_so = lock.held_so;
-      beside = gives lock.by x ∙ gives_beside row x from lock.variable lock.by
+      beside = gives lock.by x ∙ gives_beside depth row x from lock.variable lock.by
           (subst (λ (w : Option ℕ). names w from ≡ false) lock.is free) lock.sort;
     }

@@ -7,7 +7,7 @@ use Rattle.brc_lang.specs.declared.kind.Kind.{Kind}
 use Rattle.brc_lang.specs.declared.module.Instr.{Instr}
 use Rattle.brc_lang.specs.declared.module.Instr.TheVariants.{Borrow, Fetch, Set, Put}
 use Rattle.brc_model.specs.declared.actor.Place.{Place}
-use Rattle.brc_model.specs.declared.actor.Place.TheVariants.{Idle, InCall, Inside, Exiting}
+use Rattle.brc_model.specs.declared.actor.Place.TheVariants.{Idle, InCall, Inside, Stopping, Exiting}
 use Rattle.brc_model.specs.declared.actor.Stage.{Stage}
 use Rattle.brc_model.specs.declared.actor.Stage.TheVariants.{InRange, Found, Retained}
 use Rattle.brc_model.specs.declared.address.Address.{Address}
@@ -68,12 +68,13 @@ module _ (memory new : Address → ℕ) (locked : Option ℕ) (stays : ItemsStay
   pub knows_stay : (code : List Instr) (place : Place) → KnowsItems code memory locked place
       → KnowsItems code new locked place
   knows_stay code (Idle left) knows = tt
-  knows_stay code (InCall counters at variables) knows =
+  knows_stay code (InCall context at variables) knows =
       λ exits s arrived. items_stay s variables (knows exits s arrived)
-  knows_stay code (Inside counters at variables stage) knows = record {
+  knows_stay code (Inside context at variables stage) knows = record {
     items = λ exits s arrived. items_stay s variables (knows.items exits s arrived);
     cell = stage_stays variables stage (slice_get code at) knows.cell;
   }
+  knows_stay code (Stopping lock calls) knows = tt
   knows_stay code Exiting knows = tt
 
 -- ---- a variable changes

@@ -1,16 +1,16 @@
 -- Whatever a thread of accepted code does, it knows at the place that its step leads to what it has to know of items.
-use Rattle.std.proofs.Common.{◌≡◌, ℕ, zero, suc, List, [], ◌∷◌, Option, Some, refl, sym, subst, arith}
+use Rattle.std.proofs.Common.{◌≡◌, ℕ, zero, suc, List, [], ◌∷◌, Option, Some, refl, sym, subst, arith, None}
 use Rattle.std.specs.Prelude.{slice_get, sum_by}
 use Rattle.std.proofs.lemmas.List.Sums.{sum_by-cons}
 use Rattle.brc_lang.specs.declared.module.Function.{Function}
 use Rattle.brc_lang.specs.declared.module.Instr.{Instr}
 use Rattle.brc_model.specs.declared.thread.Choice.{Choice}
-use Rattle.brc_model.specs.declared.thread.Choice.TheVariants.{Ok, Fault, Claim}
+use Rattle.brc_model.specs.declared.thread.Choice.TheVariants.{Ok, Fault, Claim, Stop}
 use Rattle.brc_model.specs.declared.actor.Status.{Status}
 use Rattle.brc_model.specs.declared.actor.Status.TheVariants.{Running, Leaving, Gone}
 use Rattle.brc_model.specs.declared.actor.Place.{Place}
-use Rattle.brc_model.specs.declared.actor.Counters.{Counters}
-use Rattle.brc_model.specs.declared.actor.Place.TheVariants.{Idle, InCall, Inside, Exiting}
+use Rattle.brc_model.specs.declared.actor.Context.{Context}
+use Rattle.brc_model.specs.declared.actor.Place.TheVariants.{Idle, InCall, Inside, Stopping, Exiting}
 use Rattle.brc_model.specs.declared.address.Address.{Address}
 use Rattle.brc_model.specs.declared.duty.Duty.{Duty}
 use Rattle.brc_model.specs.declared.duty.Duty.TheVariants.{ClaimMark}
@@ -20,10 +20,11 @@ use Rattle.brc_model.specs.Slots.{entry}
 use Rattle.brc_model.specs.Paths.{IsAcceptableCode}
 use Rattle.brc_model.specs.Threads.{code_of, entry_variables}
 use Rattle.brc_model.specs.Accounts.{Account}
-use Rattle.brc_model.specs.Actions.{StepActor, Skip, Does, always, first_counters, dispatch_instruction, dispatch_inside, dispatch, may_claim, agenda_action, status_action, action_of}
+use Rattle.brc_model.specs.Actions.{StepActor, Skip, Does, always, first_context, dispatch_instruction, dispatch_inside, dispatch, may_claim, agenda_action, status_action, action_of, may_stop, stop_action}
 use Rattle.brc_model.specs.Items.{HaveItems, StageKnows, KnowsItems}
 use Rattle.brc_model.proofs.Basics.Lists.{either}
-use Rattle.brc_model.proofs.Dispatch.Grounded.{IsInside, AreInstructions, entry_in_call}
+use Rattle.brc_model.proofs.Dispatch.Holds.{call_of}
+use Rattle.brc_model.proofs.Dispatch.Grounded.{reached, IsReached, AreInstructions, entry_in_call}
 use Rattle.brc_model.proofs.Dispatch.Guards.{LocksAgree}
 use Rattle.brc_model.proofs.Dispatch.Passing.{passes_on}
 use Rattle.brc_model.proofs.Dispatch.AtOnce.{at_once, plain_locked, plain_keeps}
@@ -31,6 +32,7 @@ use Rattle.brc_model.proofs.Dispatch.Coded.{PlaceSays}
 use Rattle.brc_model.proofs.Dispatch.Items.{knows_stay, entry_items}
 use Rattle.brc_model.proofs.Dispatch.ItemsUsed.{LeavesItems, UsesAt}
 use Rattle.brc_model.proofs.Dispatch.ItemsLeft.{instruction_uses, inside_uses}
+use Rattle.brc_model.proofs.Dispatch.Decided.{stopping_decides, stop_decides, give_up_decides}
 
 -- The thread's place before its step, and what it knows of items there.
 pub record StandsUsing (code : List Instr) (memory : Address → ℕ) (locked : Option ℕ) (place : Place) : Type 0 where
@@ -42,7 +44,7 @@ pub record StandsUsing (code : List Instr) (memory : Address → ℕ) (locked : 
 
 -- The thread is at the instruction that its point has, in the state in which a path reaches it.
 uses_at : (code : List Instr) (memory : Address → ℕ) (locked : Option ℕ) (at : ℕ) (variables : List (Option ℕ))
-    (s : State) → IsAcceptableCode code → AreInstructions code → IsInside code at variables s
+    (s : State) → IsAcceptableCode code → AreInstructions code → IsReached code at variables s
     → LocksAgree s variables locked → HaveItems memory locked s variables
     → (i : Instr) × (slice_get code at ≡ Some i) × UsesAt code memory locked at variables s i
 uses_at code memory locked at variables s accepted instructions inside guards items =
@@ -62,43 +64,51 @@ uses_at code memory locked at variables s accepted instructions inside guards it
     )
 
 in_call_uses : (code : List Instr) (memory : Address → ℕ) (locked : Option ℕ) (layout : Layout) (t used : ℕ)
-    (before : Place) (counters : Counters) (at : ℕ) (variables : List (Option ℕ)) (s : State)
+    (before : Place) (context : Context) (at : ℕ) (variables : List (Option ℕ)) (s : State)
     → KnowsItems code memory locked before
-    → IsAcceptableCode code → AreInstructions code → IsInside code at variables s → LocksAgree s variables locked
-    → HaveItems memory locked s variables
+    → IsAcceptableCode code → AreInstructions code → IsReached code at variables s
+    → LocksAgree s variables locked → HaveItems memory locked s variables
     → LeavesItems code memory locked
-    (dispatch_instruction layout t used before counters at variables (slice_get code at))
-in_call_uses code memory locked layout t used before counters at variables s knew accepted instructions inside guards
+    (dispatch_instruction layout t used before context at variables (slice_get code at))
+in_call_uses code memory locked layout t used before context at variables s knew accepted instructions inside guards
     items =
     let here = uses_at code memory locked at variables s accepted instructions inside guards items in
     subst (λ (o : Option Instr). LeavesItems code memory locked
-    (dispatch_instruction layout t used before counters at variables o)) (sym here.1)
-    (instruction_uses code memory locked counters at variables s layout t used before here.0 knew here.2)
+    (dispatch_instruction layout t used before context at variables o)) (sym here.1)
+    (instruction_uses code memory locked context at variables s layout t used before here.0 knew here.2)
 
 dispatch_uses : (code : List Instr) (memory : Address → ℕ) (locked : Option ℕ) (layout : Layout) (t used : ℕ)
     (place : Place) → StandsUsing code memory locked place
     → LeavesItems code memory locked (dispatch layout t used code place)
 dispatch_uses code memory locked layout t used Exiting stands = tt
+dispatch_uses code memory locked layout t used (Stopping (Some row) calls) stands = λ new found done.
+    stopping_decides (KnowsItems code new None) None calls tt tt
+dispatch_uses code memory locked layout t used (Stopping None calls) stands =
+    give_up_decides (LeavesItems code memory locked) tt
+    (λ row depth v after new found done. stopping_decides (KnowsItems code new locked) None after tt tt) calls
 dispatch_uses code memory locked layout t used (Idle zero) stands = λ new found done. tt
 dispatch_uses code memory locked layout t used (Idle (suc left)) stands =
     in_call_uses code memory locked layout t used (Idle (suc left))
-    (first_counters left) 0 entry_variables entry tt stands.accepted
-    stands.instructions (entry_in_call code) stands.says.0
+    (first_context left) 0 entry_variables entry tt stands.accepted
+    stands.instructions (reached (call_of code (first_context left)) 0 entry_variables entry (entry_in_call code left))
+    stands.says.0
     (entry_items memory locked)
-dispatch_uses code memory locked layout t used (InCall counters at variables) stands =
+dispatch_uses code memory locked layout t used (InCall context at variables) stands =
     let says = stands.says in
-    in_call_uses code memory locked layout t used (InCall counters at variables) counters at variables says.0
+    in_call_uses code memory locked layout t used (InCall context at variables) context at variables says.0
     stands.knows
-    stands.accepted stands.instructions says.1 says.2 (stands.knows says.1.exits says.0 says.1.arrived)
-dispatch_uses code memory locked layout t used (Inside counters at variables stage) stands =
+    stands.accepted stands.instructions (reached (call_of code context) at variables says.0 says.1) says.2
+    (stands.knows says.1.exits says.0 says.1.arrived)
+dispatch_uses code memory locked layout t used (Inside context at variables stage) stands =
     let says = stands.says in
     let knows = stands.knows in
-    let here = uses_at code memory locked at variables says.0 stands.accepted stands.instructions says.1 says.2
+    let here = uses_at code memory locked at variables says.0 stands.accepted stands.instructions
+    (reached (call_of code context) at variables says.0 says.1) says.2
     (knows.items says.1.exits says.0 says.1.arrived) in
     subst (λ (o : Option Instr). LeavesItems code memory locked
-    (dispatch_inside layout t used counters at variables stage o))
+    (dispatch_inside layout t used context at variables stage o))
     (sym here.1)
-    (inside_uses code memory locked counters at variables says.0 layout t used stage here.0
+    (inside_uses code memory locked context at variables says.0 layout t used stage here.0
     (subst (StageKnows memory locked variables stage) here.1 knows.cell) here.2)
 
 -- A duty that isn't dispatched at once leaves the thread's lock and its items.
@@ -131,16 +141,22 @@ status_uses functions memory layout t a Running plain stands =
 status_uses functions memory layout t a Leaving plain stands =
     agenda_uses functions memory layout t a a.actor.agenda plain stands
 
-pub action_uses : (functions : List Function) (memory : Address → ℕ) (layout : Layout) (t : ℕ) (a : StepActor)
-    (choice : Choice) → sum_by at_once a.actor.agenda ≡ 0
+pub action_uses : (functions : List Function) (states : ℕ → ℕ → Option State) (memory : Address → ℕ)
+    (layout : Layout) (t : ℕ) (a : StepActor) (choice : Choice) → sum_by at_once a.actor.agenda ≡ 0
     → StandsUsing (code_of (slice_get functions a.function)) memory a.actor.locked a.place
     → LeavesItems (code_of (slice_get functions a.function)) memory a.actor.locked
-    (action_of functions layout t a choice)
-action_uses functions memory layout t a Ok plain stands =
+    (action_of functions states layout t a choice)
+action_uses functions states memory layout t a Ok plain stands =
     status_uses functions memory layout t a a.actor.status plain stands
-action_uses functions memory layout t a Fault plain stands =
+action_uses functions states memory layout t a Fault plain stands =
     status_uses functions memory layout t a a.actor.status plain stands
-action_uses functions memory layout t a (Claim row) plain stands =
+action_uses functions states memory layout t a Stop plain stands =
+    let code = code_of (slice_get functions a.function) in
+    let locked = a.actor.locked in
+    either (LeavesItems code memory locked) (may_stop a) (stop_action (states a.function) a.place) Skip
+    (λ may. stop_decides (LeavesItems code memory locked) (states a.function) a.place tt tt
+    (λ lock calls. stopping_decides (KnowsItems code memory locked) lock calls tt tt) tt) tt
+action_uses functions states memory layout t a (Claim row) plain stands =
     let code = code_of (slice_get functions a.function) in
     either (LeavesItems code memory a.actor.locked) (may_claim layout t a row) _ Skip
     (λ may. plain_uses code memory a.actor.locked a.place (ClaimMark row) [] stands.knows refl) tt

@@ -8,7 +8,7 @@ use Rattle.brc_lang.specs.declared.module.Instr.{Instr}
 use Rattle.brc_lang.specs.declared.module.Instr.TheVariants.{Num, List as ListObject, NoneObject, Newref, Move as MoveReference, Drop, As, Lock, Unlock, Borrow, Fetch, Set, Put, Goto, Again, Ret, Fail, Open, Connect, Read, Write}
 use Rattle.brc_word.specs.Words.{free_word}
 use Rattle.brc_model.specs.declared.actor.Place.{Place}
-use Rattle.brc_model.specs.declared.actor.Counters.{Counters}
+use Rattle.brc_model.specs.declared.actor.Context.{Context}
 use Rattle.brc_model.specs.declared.actor.Place.TheVariants.{InCall, Inside}
 use Rattle.brc_model.specs.declared.actor.Stage.{Stage}
 use Rattle.brc_model.specs.declared.actor.Stage.TheVariants.{InRange, OutOfRange, Found, Retained, Loaded, Lent, Called, Granted}
@@ -35,7 +35,7 @@ use Rattle.brc_model.proofs.Dispatch.Decided.{range_decides, item_decides, exit_
 use Rattle.brc_model.proofs.Dispatch.Items.{ItemsStay, all_stay, items_stay, cell_stays, knows_stay, items_put, needs_none, items_with_kind, BorrowsNone, none_borrowed, without_items_free, unlocked_items}
 use Rattle.brc_model.proofs.Dispatch.ItemsUsed.{LeavesItems, UsesAt}
 
-module _ (code : List Instr) (memory : Address → ℕ) (locked : Option ℕ) (counters : Counters) (at : ℕ)
+module _ (code : List Instr) (memory : Address → ℕ) (locked : Option ℕ) (context : Context) (at : ℕ)
     (variables : List (Option ℕ))
     (s : State) where
   abbrev Here : Instr → Type 0
@@ -52,7 +52,7 @@ module _ (code : List Instr) (memory : Address → ℕ) (locked : Option ℕ) (c
   -- Where the paths to the next point agree, what holds of the state after the exit holds of theirs.
   goes_on : (new : Address → ℕ) (lock : Option ℕ) (next : ℕ) (rows : List (Option ℕ)) (i : Instr) (exit : Exit)
       → (here : Here i) → target i exit at ≡ Some next → HaveItems new lock (after i exit s) rows
-      → KnowsItems code new lock (InCall counters next rows)
+      → KnowsItems code new lock (InCall context next rows)
   goes_on new lock next rows i exit here to items = λ exits other arrived.
       subst (λ (state : State). HaveItems new lock state rows)
       (here.accepted.states_agree (here.inside.exits ++ exit ∷ []) exits next (after i exit s) other
@@ -62,7 +62,7 @@ module _ (code : List Instr) (memory : Address → ℕ) (locked : Option ℕ) (c
   goes_on_put : (new : Address → ℕ) (next : ℕ) (i : Instr) (exit : Exit) (x : ℕ) (slot : Slot) (row : Option ℕ)
       → ItemsStay memory new locked → (here : Here i) → target i exit at ≡ Some next → after i exit s ≡ put s x slot
       → x < 16 → ((y : ℕ) → borrows_item slot ≡ true → row ≡ Some y → IsItem new locked y)
-      → KnowsItems code new locked (InCall counters next (slice_set variables x row))
+      → KnowsItems code new locked (InCall context next (slice_set variables x row))
   goes_on_put new next i exit x slot row stays here to is low item =
       goes_on new locked next (slice_set variables x row) i exit here to
       (subst (λ (state : State). HaveItems new locked state (slice_set variables x row)) (sym is)
@@ -73,14 +73,14 @@ module _ (code : List Instr) (memory : Address → ℕ) (locked : Option ℕ) (c
   goes_on_free : (new : Address → ℕ) (next : ℕ) (i : Instr) (exit : Exit) (x : ℕ) (slot : Slot) (row : Option ℕ)
       → ItemsStay memory new locked → (here : Here i) → target i exit at ≡ Some next → after i exit s ≡ put s x slot
       → x < 16 → borrows_item slot ≡ false → KnowsItems code new locked
-      (InCall counters next (slice_set variables x row))
+      (InCall context next (slice_set variables x row))
   goes_on_free new next i exit x slot row stays here to is low free =
       goes_on_put new next i exit x slot row stays here to is low (needs_none new locked slot row free)
 
   -- The exit changes no variable.
   goes_on_same : (new : Address → ℕ) (next : ℕ) (i : Instr) (exit : Exit) → ItemsStay memory new locked
       → (here : Here i) → target i exit at ≡ Some next → after i exit s ≡ s
-      → KnowsItems code new locked (InCall counters next variables)
+      → KnowsItems code new locked (InCall context next variables)
   goes_on_same new next i exit stays here to is =
       goes_on new locked next variables i exit here to
       (subst (λ (state : State). HaveItems new locked state variables) (sym is)
@@ -89,14 +89,14 @@ module _ (code : List Instr) (memory : Address → ℕ) (locked : Option ℕ) (c
   -- After the exit nothing is borrowed any more.
   goes_on_without : (new : Address → ℕ) (lock : Option ℕ) (next : ℕ) (rows : List (Option ℕ)) (i : Instr) (exit : Exit)
       → (here : Here i) → target i exit at ≡ Some next → BorrowsNone (after i exit s)
-      → KnowsItems code new lock (InCall counters next rows)
+      → KnowsItems code new lock (InCall context next rows)
   goes_on_without new lock next rows i exit here to none =
       goes_on new lock next rows i exit here to (none_borrowed new lock (after i exit s) rows none)
 
   -- ---- inside the instruction
 
   goes_inside : (new : Address → ℕ) (stage : Stage) (i : Instr) → ItemsStay memory new locked → (here : Here i)
-      → StageKnows new locked variables stage (Some i) → KnowsItems code new locked (Inside counters at variables stage)
+      → StageKnows new locked variables stage (Some i) → KnowsItems code new locked (Inside context at variables stage)
   goes_inside new stage i stays here knows = record {
     items = λ exits other arrived.
         subst (λ (state : State). HaveItems new locked state variables)
@@ -126,7 +126,7 @@ module _ (code : List Instr) (memory : Address → ℕ) (locked : Option ℕ) (c
       → to < 16 → borrows_item slot ≡ false
       → target i Success at ≡ Some (at + 1) → after i Success s ≡ put s to slot
       → target i FaultExit at ≡ Some otherwise → after i FaultExit s ≡ put s to Empty
-      → LeavesItems code memory locked (birth_action layout t used counters at variables to word otherwise)
+      → LeavesItems code memory locked (birth_action layout t used context at variables to word otherwise)
   birth_uses layout t used i to word otherwise slot here low free next owned else_at empty =
       either (LeavesItems code memory locked) (has_room layout t used) _ _
       (λ room new found done.
@@ -138,26 +138,26 @@ module _ (code : List Instr) (memory : Address → ℕ) (locked : Option ℕ) (c
   grant_uses : (layout : Layout) (t used : ℕ) (i : Instr) (to otherwise : ℕ) → (here : Here i) → to < 16
       → StageKnows memory locked variables Granted (Some i)
       → target i FaultExit at ≡ Some otherwise → after i FaultExit s ≡ put s to Empty
-      → LeavesItems code memory locked (grant_action layout t used counters at variables to otherwise)
+      → LeavesItems code memory locked (grant_action layout t used context at variables to otherwise)
   grant_uses layout t used i to otherwise here low knows else_at empty =
-      let refused : KnowsItems code memory locked (InCall counters otherwise (slice_set variables to None)) =
+      let refused : KnowsItems code memory locked (InCall context otherwise (slice_set variables to None)) =
       goes_on_free memory otherwise i FaultExit to Empty None (all_stay memory locked) here else_at empty low refl in
       either (LeavesItems code memory locked) (has_room layout t used) _ _
-      (λ room. exit_decides (KnowsItems code memory locked) (Inside counters at variables Granted)
-      (InCall counters otherwise (slice_set variables to None))
+      (λ room. exit_decides (KnowsItems code memory locked) (Inside context at variables Granted)
+      (InCall context otherwise (slice_set variables to None))
       (goes_inside memory Granted i (all_stay memory locked) here knows) refused) refused
 
   -- The birth that it awaits leaves in the variable what borrows nothing.
   granted_uses : (layout : Layout) (t used : ℕ) (i : Instr) (to word : ℕ) (slot : Slot) → (here : Here i) → to < 16
       → borrows_item slot ≡ false → target i Success at ≡ Some (at + 1) → after i Success s ≡ put s to slot
-      → LeavesItems code memory locked (granted_birth layout t used counters at variables to word)
+      → LeavesItems code memory locked (granted_birth layout t used context at variables to word)
   granted_uses layout t used i to word slot here low free next owned = λ new found done.
       goes_on_free new (at + 1) i Success to slot (Some (row_at layout t used)) (done.keeps refl) here next owned low
       free
 
   -- A thread lends a resource inside an instruction.
   lend_uses : (i : Instr) (file : ℕ) → Here i → ((new : Address → ℕ) → StageKnows new locked variables Lent (Some i))
-      → LeavesItems code memory locked (lend_action counters at variables file)
+      → LeavesItems code memory locked (lend_action context at variables file)
   lend_uses i file here knows =
       row_uses (row_of variables file) _ (λ row is new found done.
       goes_inside new Lent i (done.keeps refl) here (knows new))
@@ -175,11 +175,11 @@ module _ (code : List Instr) (memory : Address → ℕ) (locked : Option ℕ) (c
       → ((new : Address → ℕ) → ItemsStay memory new locked → KnowsItems code new locked outside)
       → LeavesItems code memory locked
       (with_row (row_of variables list)
-      (λ row. Does (KindLoad row) [] (by_range index (Inside counters at variables stage) outside)))
+      (λ row. Does (KindLoad row) [] (by_range index (Inside context at variables stage) outside)))
   range_uses i list index stage outside here cell past =
       row_uses (row_of variables list) _ (λ row is new found done.
       let stays = done.keeps refl in
-      range_decides (KnowsItems code new locked) (Inside counters at variables stage) outside index found
+      range_decides (KnowsItems code new locked) (Inside context at variables stage) outside index found
       (λ within.
       goes_inside new stage i stays here (cell new (has_cell new list index row found stays is done.finds within)))
       (past new stays))
@@ -189,12 +189,12 @@ module _ (code : List Instr) (memory : Address → ℕ) (locked : Option ℕ) (c
   lock_uses : (before : Place) (object : ℕ) → KnowsItems code memory locked before → Here (Lock object)
       → (layout : Layout) (t used : ℕ)
       → LeavesItems code memory locked
-      (dispatch_instruction layout t used before counters at variables (Some (Lock object)))
+      (dispatch_instruction layout t used before context at variables (Some (Lock object)))
   lock_uses before object knew here layout t used =
       row_uses (row_of variables object) _ (λ row is new found done.
       let none = guards_none s variables s.locked locked (first_false _ _ here.met.first_lock) here.guards in
       elim (found == free_word) as
-      (λ b. KnowsItems code new (cond b (Some row) locked) (cond b (InCall counters (at + 1) variables) before)) [
+      (λ b. KnowsItems code new (cond b (Some row) locked) (cond b (InCall context (at + 1) variables) before)) [
         | true ↦
             goes_on new (Some row) (at + 1) variables (Lock object) Success here refl
             (unlocked_items memory new locked (Some row) s variables none here.items)
@@ -203,7 +203,7 @@ module _ (code : List Instr) (memory : Address → ℕ) (locked : Option ℕ) (c
 
   pub instruction_uses : (layout : Layout) (t used : ℕ) (before : Place) (i : Instr)
       → KnowsItems code memory locked before → Here i
-      → LeavesItems code memory locked (dispatch_instruction layout t used before counters at variables (Some i))
+      → LeavesItems code memory locked (dispatch_instruction layout t used before context at variables (Some i))
   instruction_uses layout t used before (Num to value otherwise) knew here =
       birth_uses layout t used (Num to value otherwise) to (number_word value) otherwise (Owned kinds.Num) here
       here.operands.0 refl refl refl refl refl
@@ -238,22 +238,22 @@ module _ (code : List Instr) (memory : Address → ℕ) (locked : Option ℕ) (c
       goes_on_without new None (at + 1) variables (Unlock object) Success here refl (without_items_free s))
   instruction_uses layout t used before (Borrow to list index otherwise) knew here =
       range_uses (Borrow to list index otherwise) list index InRange
-      (InCall counters otherwise (slice_set variables to None)) here (λ new has. has)
+      (InCall context otherwise (slice_set variables to None)) here (λ new has. has)
       (λ new stays.
       goes_on_free new otherwise (Borrow to list index otherwise) FaultExit to Empty None stays here refl refl
       here.operands.0 refl)
   instruction_uses layout t used before (Fetch to list index otherwise) knew here =
       range_uses (Fetch to list index otherwise) list index InRange
-      (InCall counters otherwise (slice_set variables to None)) here (λ new has. has)
+      (InCall context otherwise (slice_set variables to None)) here (λ new has. has)
       (λ new stays.
       goes_on_free new otherwise (Fetch to list index otherwise) FaultExit to Empty None stays here refl refl
       here.operands.0 refl)
   instruction_uses layout t used before (Set list index from otherwise) knew here =
-      range_uses (Set list index from otherwise) list index InRange (Inside counters at variables OutOfRange) here
+      range_uses (Set list index from otherwise) list index InRange (Inside context at variables OutOfRange) here
       (λ new has. has)
       (λ new stays. goes_inside new OutOfRange (Set list index from otherwise) stays here tt)
   instruction_uses layout t used before (Put list index from otherwise) knew here =
-      range_uses (Put list index from otherwise) list index InRange (InCall counters otherwise variables) here
+      range_uses (Put list index from otherwise) list index InRange (InCall context otherwise variables) here
       (λ new has. has)
       (λ new stays.
       goes_on_without new locked otherwise variables (Put list index from otherwise) FaultExit here refl
@@ -273,7 +273,7 @@ module _ (code : List Instr) (memory : Address → ℕ) (locked : Option ℕ) (c
   instruction_uses layout t used before (As from kind otherwise) knew here =
       row_uses (row_of variables from) _ (λ row is new found done.
       let stays = done.keeps refl in
-      either (λ (next : ℕ). KnowsItems code new locked (InCall counters next variables))
+      either (λ (next : ℕ). KnowsItems code new locked (InCall context next variables))
       (same_kind (kind_of_word found) kind) _ _
       (λ same.
       goes_on new locked (at + 1) variables (As from kind otherwise) Success here refl
@@ -283,8 +283,8 @@ module _ (code : List Instr) (memory : Address → ℕ) (locked : Option ℕ) (c
   instruction_uses layout t used before (Goto to) knew here =
       goes_on_same memory to (Goto to) Success (all_stay memory locked) here refl refl
   instruction_uses layout t used before (Again to times) knew here =
-      either (KnowsItems code memory locked) (nat_lt (turns_at counters at) times)
-      (InCall (turned counters at) to variables) (InCall counters (at + 1) variables)
+      either (KnowsItems code memory locked) (nat_lt (turns_at context at) times)
+      (InCall (turned context at) to variables) (InCall context (at + 1) variables)
       (λ more. goes_on_same memory to (Again to times) FaultExit (all_stay memory locked) here refl refl)
       (goes_on_same memory (at + 1) (Again to times) Success (all_stay memory locked) here refl refl)
   instruction_uses layout t used before (Ret from) knew here =
@@ -316,10 +316,10 @@ module _ (code : List Instr) (memory : Address → ℕ) (locked : Option ℕ) (c
 
   pub inside_uses : (layout : Layout) (t used : ℕ) (stage : Stage) (i : Instr)
       → StageKnows memory locked variables stage (Some i) → Here i
-      → LeavesItems code memory locked (dispatch_inside layout t used counters at variables stage (Some i))
+      → LeavesItems code memory locked (dispatch_inside layout t used context at variables stage (Some i))
   inside_uses layout t used InRange (Borrow to list index otherwise) knows here =
-      cell_uses (Borrow to list index otherwise) list index (InCall counters otherwise (slice_set variables to None))
-      (λ item. InCall counters (at + 1) (slice_set variables to (Some item))) here
+      cell_uses (Borrow to list index otherwise) list index (InCall context otherwise (slice_set variables to None))
+      (λ item. InCall context (at + 1) (slice_set variables to (Some item))) here
       (not-false (names s.locked list) (first_false _ _ here.met.has_lock))
       (λ new stays.
       goes_on_free new otherwise (Borrow to list index otherwise) FaultExit to Empty None stays here refl refl
@@ -328,8 +328,8 @@ module _ (code : List Instr) (memory : Address → ℕ) (locked : Option ℕ) (c
       goes_on_put new (at + 1) (Borrow to list index otherwise) Success to (Locked kinds.Any) (Some item) stays here
       refl refl here.operands.0 (λ x borrows is. subst (IsItem new locked) (some_is item x is) there))
   inside_uses layout t used InRange (Fetch to list index otherwise) knows here =
-      cell_uses (Fetch to list index otherwise) list index (InCall counters otherwise (slice_set variables to None))
-      (λ item. Inside counters at variables (Found item)) here
+      cell_uses (Fetch to list index otherwise) list index (InCall context otherwise (slice_set variables to None))
+      (λ item. Inside context at variables (Found item)) here
       (not-false (names s.locked list) (first_false _ _ here.met.has_lock))
       (λ new stays.
       goes_on_free new otherwise (Fetch to list index otherwise) FaultExit to Empty None stays here refl refl
@@ -366,10 +366,10 @@ module _ (code : List Instr) (memory : Address → ℕ) (locked : Option ℕ) (c
   inside_uses layout t used Lent (Read to file most otherwise) knows here = λ exit.
       goes_inside memory (Called exit) (Read to file most otherwise) (all_stay memory locked) here tt
   inside_uses layout t used (Called Success) (Read to file most otherwise) knows here =
-      return_uses file (Inside counters at variables Granted)
+      return_uses file (Inside context at variables Granted)
       (λ new stays. goes_inside new Granted (Read to file most otherwise) stays here tt)
   inside_uses layout t used (Called FaultExit) (Read to file most otherwise) knows here =
-      return_uses file (InCall counters otherwise (slice_set variables to None))
+      return_uses file (InCall context otherwise (slice_set variables to None))
       (λ new stays. goes_on_free new otherwise (Read to file most otherwise) FaultExit to Empty None stays here refl
       refl
       here.operands.0 refl)
@@ -381,9 +381,9 @@ module _ (code : List Instr) (memory : Address → ℕ) (locked : Option ℕ) (c
   inside_uses layout t used Lent (Write file number otherwise) knows here = λ exit.
       goes_inside memory (Called exit) (Write file number otherwise) (all_stay memory locked) here tt
   inside_uses layout t used (Called Success) (Write file number otherwise) knows here =
-      return_uses file (InCall counters (at + 1) variables)
+      return_uses file (InCall context (at + 1) variables)
       (λ new stays. goes_on_same new (at + 1) (Write file number otherwise) Success stays here refl refl)
   inside_uses layout t used (Called FaultExit) (Write file number otherwise) knows here =
-      return_uses file (InCall counters otherwise variables)
+      return_uses file (InCall context otherwise variables)
       (λ new stays. goes_on_same new otherwise (Write file number otherwise) FaultExit stays here refl refl)
   inside_uses layout t used stage i knows here = tt

@@ -15,7 +15,7 @@ use Rattle.brc_model.specs.Paths.{At, path_end, IsAcceptableCode}
 use Rattle.brc_model.specs.Machine.{locked_by}
 use Rattle.brc_model.specs.Actions.{Action, Skip, Stuck, Silent, Calls, Does}
 use Rattle.brc_model.specs.Items.{HaveItems, KnowsItems}
-use Rattle.brc_model.proofs.Dispatch.Grounded.{IsInside}
+use Rattle.brc_model.proofs.Dispatch.Grounded.{IsReached}
 use Rattle.brc_model.proofs.Dispatch.Guards.{LocksAgree}
 use Rattle.brc_model.proofs.Dispatch.Passing.{AreMet}
 use Rattle.brc_model.proofs.Dispatch.Items.{ItemsStay}
@@ -47,7 +47,7 @@ LeavesItems code memory locked (Does d rest place) =
 pub record UsesAt (code : List Instr) (memory : Address → ℕ) (locked : Option ℕ) (at : ℕ) (variables : List (Option ℕ))
     (s : State) (i : Instr) : Type 0 where
   pub accepted : IsAcceptableCode code
-  pub inside : IsInside code at variables s
+  pub inside : IsReached code at variables s
   pub found : slice_get code at ≡ Some i
   pub leads : (exit : Exit) (next : ℕ) → target i exit at ≡ Some next
       → path_end code (inside.exits ++ exit ∷ []) ≡ At next (after i exit s)

@@ -7,7 +7,7 @@ use Rattle.brc_lang.specs.declared.kind.Kind.{Kind}
 use Rattle.brc_lang.specs.declared.kind.Kind.TheVariants as kinds
 use Rattle.brc_lang.specs.declared.module.Instr.{Instr}
 use Rattle.brc_model.specs.declared.actor.Place.{Place}
-use Rattle.brc_model.specs.declared.actor.Place.TheVariants.{Idle, InCall, Inside, Exiting}
+use Rattle.brc_model.specs.declared.actor.Place.TheVariants.{Idle, InCall, Inside, Stopping, Exiting}
 use Rattle.brc_model.specs.declared.slot.Slot.{Slot}
 use Rattle.brc_model.specs.declared.slot.Slot.TheVariants.{Empty, Owned, Caller, Locked}
 use Rattle.brc_model.specs.declared.slot.State.{State}
@@ -39,10 +39,11 @@ true_kinds_stay words new stays s rows known v x is =
 pub knows_still : (code : List Instr) (words new : ℕ → ℕ) → StoredStay words new → (place : Place)
     → KnowsKinds code words place → KnowsKinds code new place
 knows_still code words new stays (Idle left) knows = tt
-knows_still code words new stays (InCall counters at variables) knows =
+knows_still code words new stays (InCall context at variables) knows =
     λ exits s arrived. true_kinds_stay words new stays s variables (knows exits s arrived)
-knows_still code words new stays (Inside counters at variables stage) knows =
+knows_still code words new stays (Inside context at variables stage) knows =
     λ exits s arrived. true_kinds_stay words new stays s variables (knows exits s arrived)
+knows_still code words new stays (Stopping lock calls) knows = tt
 knows_still code words new stays Exiting knows = tt
 
 pub true_put : (words : ℕ → ℕ) (s : State) (rows : List (Option ℕ)) (x : ℕ) (slot : Slot) (row : Option ℕ)

@@ -9,7 +9,7 @@ use Rattle.brc_lang.specs.declared.module.Instr.TheVariants.{Num, List as ListOb
 use Rattle.brc_lang.specs.Grammar.{IsInstruction}
 use Rattle.brc_word.specs.Words.{free_word, half, kind_part}
 use Rattle.brc_model.specs.declared.actor.Place.{Place}
-use Rattle.brc_model.specs.declared.actor.Counters.{Counters}
+use Rattle.brc_model.specs.declared.actor.Context.{Context}
 use Rattle.brc_model.specs.declared.actor.Place.TheVariants.{InCall, Inside}
 use Rattle.brc_model.specs.declared.actor.Stage.{Stage}
 use Rattle.brc_model.specs.declared.actor.Stage.TheVariants.{InRange, OutOfRange, Found, Retained, Loaded, Lent, Called, Granted}
@@ -30,7 +30,7 @@ use Rattle.brc_model.specs.Machine.{has_room}
 use Rattle.brc_model.specs.Actions.{Action, Skip, Stuck, Silent, Calls, Does, with_row, by_range, by_item, number_word, list_word, birth_action, dispatch_instruction, dispatch_inside, turns_at, turned, file_word, sock_word, grant_action, granted_birth, return_action}
 use Rattle.brc_model.specs.KnownKinds.{IsTrueKind, HasTrueKind, HaveTrueKinds, KnowsKinds, AreNamed}
 use Rattle.brc_model.proofs.Basics.Lists.{some_is, either}
-use Rattle.brc_model.proofs.Dispatch.Grounded.{IsInside}
+use Rattle.brc_model.proofs.Dispatch.Grounded.{IsReached}
 use Rattle.brc_model.proofs.Dispatch.Decided.{range_decides, item_decides, exit_decides}
 use Rattle.brc_model.proofs.Dispatch.Kinds.{true_put, empty_true, same_kind_is, true_with_kind, true_without_items}
 
@@ -60,7 +60,7 @@ row_leaves code words (Some x) work leaves = leaves x refl
 pub record KnowsAt (code : List Instr) (words : ℕ → ℕ) (at : ℕ) (variables : List (Option ℕ)) (s : State) (i : Instr)
     : Type 0 where
   pub accepted : IsAcceptableCode code
-  pub inside : IsInside code at variables s
+  pub inside : IsReached code at variables s
   pub leads : (exit : Exit) (next : ℕ) → target i exit at ≡ Some next
       → path_end code (inside.exits ++ exit ∷ []) ≡ At next (after i exit s)
   pub operands : IsInstruction i
@@ -68,23 +68,23 @@ pub record KnowsAt (code : List Instr) (words : ℕ → ℕ) (at : ℕ) (variabl
   pub known : HaveTrueKinds words s variables
 
 -- Where the paths to the next point agree, what holds of the state after the exit holds of theirs.
-goes_on : (code : List Instr) (words : ℕ → ℕ) (counters : Counters) (at next : ℕ) (variables rows : List (Option ℕ))
+goes_on : (code : List Instr) (words : ℕ → ℕ) (context : Context) (at next : ℕ) (variables rows : List (Option ℕ))
     (s : State)
     (i : Instr) (exit : Exit) → (here : KnowsAt code words at variables s i) → target i exit at ≡ Some next
-    → HaveTrueKinds words (after i exit s) rows → KnowsKinds code words (InCall counters next rows)
-goes_on code words counters at next variables rows s i exit here to known = λ exits other arrived.
+    → HaveTrueKinds words (after i exit s) rows → KnowsKinds code words (InCall context next rows)
+goes_on code words context at next variables rows s i exit here to known = λ exits other arrived.
     subst (λ (state : State). HaveTrueKinds words state rows)
     (here.accepted.states_agree (here.inside.exits ++ exit ∷ []) exits next (after i exit s) other
     (here.leads exit next to) arrived) known
 
 -- The same, where the exit changes one variable.
-goes_on_put : (code : List Instr) (words : ℕ → ℕ) (counters : Counters) (at next : ℕ) (variables : List (Option ℕ))
+goes_on_put : (code : List Instr) (words : ℕ → ℕ) (context : Context) (at next : ℕ) (variables : List (Option ℕ))
     (s : State)
     (i : Instr) (exit : Exit) (x : ℕ) (slot : Slot) (row : Option ℕ) → (here : KnowsAt code words at variables s i)
     → target i exit at ≡ Some next → after i exit s ≡ put s x slot → x < 16 → HasTrueKind words slot row
-    → KnowsKinds code words (InCall counters next (slice_set variables x row))
-goes_on_put code words counters at next variables s i exit x slot row here to is low new =
-    goes_on code words counters at next variables (slice_set variables x row) s i exit here to
+    → KnowsKinds code words (InCall context next (slice_set variables x row))
+goes_on_put code words context at next variables s i exit x slot row here to is low new =
+    goes_on code words context at next variables (slice_set variables x row) s i exit here to
     (subst (λ (state : State). HaveTrueKinds words state (slice_set variables x row)) (sym is)
     (true_put words s variables x slot row (omega (arith, low, here.inside.slots))
     (omega (arith, low, here.inside.rows)) new here.known))
@@ -114,48 +114,48 @@ cell_leaves code words list index empty holds none some =
     item_decides (λ word. KnowsKinds code words) empty holds none some found)
 
 -- A birth leaves an object of its kind word's kind.
-birth_leaves : (code : List Instr) (words : ℕ → ℕ) (layout : Layout) (t used : ℕ) (counters : Counters) (at : ℕ)
+birth_leaves : (code : List Instr) (words : ℕ → ℕ) (layout : Layout) (t used : ℕ) (context : Context) (at : ℕ)
     (variables : List (Option ℕ))
     (s : State) (i : Instr) (to word otherwise : ℕ) (kind : Kind) → (here : KnowsAt code words at variables s i)
     → to < 16 → kind_of_word word ≡ kind
     → target i Success at ≡ Some (at + 1) → after i Success s ≡ put s to (Owned kind)
     → target i FaultExit at ≡ Some otherwise → after i FaultExit s ≡ put s to Empty
-    → Leaves code words (birth_action layout t used counters at variables to word otherwise)
-birth_leaves code words layout t used counters at variables s i to word otherwise kind here low names next owned else_at
+    → Leaves code words (birth_action layout t used context at variables to word otherwise)
+birth_leaves code words layout t used context at variables s i to word otherwise kind here low names next owned else_at
     empty =
     either (Leaves code words) (has_room layout t used) _ _
     (λ room found stored.
-    goes_on_put code words counters at (at + 1) variables s i Success to (Owned kind) (Some (row_at layout t used)) here
+    goes_on_put code words context at (at + 1) variables s i Success to (Owned kind) (Some (row_at layout t used)) here
     next owned low
     (λ x is. inr (ap (λ (y : ℕ). kind_of_word (words y)) (sym (some_is (row_at layout t used) x is))
     ∙ ap kind_of_word stored ∙ names)))
-    (goes_on_put code words counters at otherwise variables s i FaultExit to Empty None here else_at empty low
+    (goes_on_put code words context at otherwise variables s i FaultExit to Empty None here else_at empty low
     (empty_true words None))
 
 -- A thread that asks the host for a resource awaits its birth, or leaves the variable empty.
-grant_leaves : (code : List Instr) (words : ℕ → ℕ) (layout : Layout) (t used : ℕ) (counters : Counters) (at : ℕ)
+grant_leaves : (code : List Instr) (words : ℕ → ℕ) (layout : Layout) (t used : ℕ) (context : Context) (at : ℕ)
     (variables : List (Option ℕ)) (s : State) (i : Instr) (to otherwise : ℕ)
     → (here : KnowsAt code words at variables s i)
     → to < 16 → target i FaultExit at ≡ Some otherwise → after i FaultExit s ≡ put s to Empty
-    → Leaves code words (grant_action layout t used counters at variables to otherwise)
-grant_leaves code words layout t used counters at variables s i to otherwise here low else_at empty =
-    let refused : KnowsKinds code words (InCall counters otherwise (slice_set variables to None)) =
-    goes_on_put code words counters at otherwise variables s i FaultExit to Empty None here else_at empty low
+    → Leaves code words (grant_action layout t used context at variables to otherwise)
+grant_leaves code words layout t used context at variables s i to otherwise here low else_at empty =
+    let refused : KnowsKinds code words (InCall context otherwise (slice_set variables to None)) =
+    goes_on_put code words context at otherwise variables s i FaultExit to Empty None here else_at empty low
     (empty_true words None) in
     either (Leaves code words) (has_room layout t used) _ _
-    (λ room. exit_decides (KnowsKinds code words) (Inside counters at variables Granted)
-    (InCall counters otherwise (slice_set variables to None)) (knows_here code words at variables s i here) refused)
+    (λ room. exit_decides (KnowsKinds code words) (Inside context at variables Granted)
+    (InCall context otherwise (slice_set variables to None)) (knows_here code words at variables s i here) refused)
     refused
 
 -- The birth that it awaits leaves an object of the kind word's kind.
-granted_leaves : (code : List Instr) (words : ℕ → ℕ) (layout : Layout) (t used : ℕ) (counters : Counters) (at : ℕ)
+granted_leaves : (code : List Instr) (words : ℕ → ℕ) (layout : Layout) (t used : ℕ) (context : Context) (at : ℕ)
     (variables : List (Option ℕ)) (s : State) (i : Instr) (to word : ℕ) (kind : Kind)
     → (here : KnowsAt code words at variables s i) → to < 16 → kind_of_word word ≡ kind
     → target i Success at ≡ Some (at + 1) → after i Success s ≡ put s to (Owned kind)
-    → Leaves code words (granted_birth layout t used counters at variables to word)
-granted_leaves code words layout t used counters at variables s i to word kind here low names next owned =
+    → Leaves code words (granted_birth layout t used context at variables to word)
+granted_leaves code words layout t used context at variables s i to word kind here low names next owned =
     λ found stored.
-    goes_on_put code words counters at (at + 1) variables s i Success to (Owned kind) (Some (row_at layout t used)) here
+    goes_on_put code words context at (at + 1) variables s i Success to (Owned kind) (Some (row_at layout t used)) here
     next owned low
     (λ x is. inr (ap (λ (y : ℕ). kind_of_word (words y)) (sym (some_is (row_at layout t used) x is))
     ∙ ap kind_of_word stored ∙ names))
@@ -180,34 +180,34 @@ list_kind cells few =
 
 -- A thread that doesn't get its lock stays at `before`, where it knew the kinds.
 pub instruction_leaves : (code : List Instr) (words : ℕ → ℕ) (layout : Layout) (t used : ℕ) (before : Place)
-    (counters : Counters) (at : ℕ)
+    (context : Context) (at : ℕ)
     (variables : List (Option ℕ)) (s : State) (i : Instr) → KnowsKinds code words before
     → KnowsAt code words at variables s i
-    → Leaves code words (dispatch_instruction layout t used before counters at variables (Some i))
-instruction_leaves code words layout t used before counters at variables s (Num to value otherwise) knew here =
-    birth_leaves code words layout t used counters at variables s (Num to value otherwise) to
+    → Leaves code words (dispatch_instruction layout t used before context at variables (Some i))
+instruction_leaves code words layout t used before context at variables s (Num to value otherwise) knew here =
+    birth_leaves code words layout t used context at variables s (Num to value otherwise) to
     (number_word value) otherwise
     kinds.Num here here.operands.0 (number_kind value here.operands.1) refl refl refl refl
-instruction_leaves code words layout t used before counters at variables s (ListObject to cells otherwise) knew here =
-    birth_leaves code words layout t used counters at variables s (ListObject to cells otherwise) to (list_word cells)
+instruction_leaves code words layout t used before context at variables s (ListObject to cells otherwise) knew here =
+    birth_leaves code words layout t used context at variables s (ListObject to cells otherwise) to (list_word cells)
     otherwise kinds.List here here.operands.0 (list_kind cells here.operands.2) refl refl refl refl
-instruction_leaves code words layout t used before counters at variables s (NoneObject to) knew here =
-    goes_on_put code words counters at (at + 1) variables s (NoneObject to) Success to (Owned kinds.None)
+instruction_leaves code words layout t used before context at variables s (NoneObject to) knew here =
+    goes_on_put code words context at (at + 1) variables s (NoneObject to) Success to (Owned kinds.None)
     (Some none_row)
     here refl refl here.operands
     (λ x is. inr (ap (λ (y : ℕ). kind_of_word (words y)) (sym (some_is none_row x is)) ∙ here.named.none))
-instruction_leaves code words layout t used before counters at variables s (Newref to from) knew here =
+instruction_leaves code words layout t used before context at variables s (Newref to from) knew here =
     row_leaves code words (row_of variables from) _ (λ row is found stored.
-    goes_on_put code words counters at (at + 1) variables s (Newref to from) Success to
+    goes_on_put code words context at (at + 1) variables s (Newref to from) Success to
     (Owned (kind_of (slot_of s from))) (Some row) here refl refl here.operands.0
     (λ x this. subst (λ (y : ℕ). IsTrueKind (kind_of (slot_of s from)) (words y)) (some_is row x this)
     (here.known from row is)))
-instruction_leaves code words layout t used before counters at variables s (MoveReference to from) knew here =
+instruction_leaves code words layout t used before context at variables s (MoveReference to from) knew here =
     row_leaves code words (row_of variables from) _ (λ row is.
     let emptied : HaveTrueKinds words (put s from Empty) (slice_set variables from None) =
     true_put words s variables from Empty None (omega (arith, here.operands.1, here.inside.slots))
     (omega (arith, here.operands.1, here.inside.rows)) (empty_true words None) here.known in
-    goes_on code words counters at (at + 1) variables (slice_set (slice_set variables from None) to (Some row)) s
+    goes_on code words context at (at + 1) variables (slice_set (slice_set variables from None) to (Some row)) s
     (MoveReference to from) Success here refl
     (true_put words (put s from Empty) (slice_set variables from None) to (Owned (kind_of (slot_of s from)))
     (Some row)
@@ -215,91 +215,91 @@ instruction_leaves code words layout t used before counters at variables s (Move
     (omega (arith, here.operands.0, here.inside.rows, length-set variables from None))
     (λ x this. subst (λ (y : ℕ). IsTrueKind (kind_of (slot_of s from)) (words y)) (some_is row x this)
     (here.known from row is)) emptied))
-instruction_leaves code words layout t used before counters at variables s (Drop from) knew here =
+instruction_leaves code words layout t used before context at variables s (Drop from) knew here =
     row_leaves code words (row_of variables from) _ (λ row is found stored.
-    goes_on_put code words counters at (at + 1) variables s (Drop from) Success from Empty None here refl refl
+    goes_on_put code words context at (at + 1) variables s (Drop from) Success from Empty None here refl refl
     here.operands (empty_true words None))
-instruction_leaves code words layout t used before counters at variables s (Lock object) knew here =
+instruction_leaves code words layout t used before context at variables s (Lock object) knew here =
     row_leaves code words (row_of variables object) _ (λ row is found seen.
     either (KnowsKinds code words) (found == free_word) _ _
-    (λ free. goes_on code words counters at (at + 1) variables variables s (Lock object) Success here refl here.known)
+    (λ free. goes_on code words context at (at + 1) variables variables s (Lock object) Success here refl here.known)
     knew)
-instruction_leaves code words layout t used before counters at variables s (Unlock object) knew here =
+instruction_leaves code words layout t used before context at variables s (Unlock object) knew here =
     row_leaves code words (row_of variables object) _ (λ row is found seen.
-    goes_on code words counters at (at + 1) variables variables s (Unlock object) Success here refl
+    goes_on code words context at (at + 1) variables variables s (Unlock object) Success here refl
     (true_without_items words s variables here.known))
-instruction_leaves code words layout t used before counters at variables s (Borrow to list index otherwise) knew here =
-    range_leaves code words (row_of variables list) index (Inside counters at variables InRange)
-    (InCall counters otherwise (slice_set variables to None))
+instruction_leaves code words layout t used before context at variables s (Borrow to list index otherwise) knew here =
+    range_leaves code words (row_of variables list) index (Inside context at variables InRange)
+    (InCall context otherwise (slice_set variables to None))
     (knows_here code words at variables s (Borrow to list index otherwise) here)
-    (goes_on_put code words counters at otherwise variables s
+    (goes_on_put code words context at otherwise variables s
     (Borrow to list index otherwise) FaultExit to Empty None here
     refl refl here.operands.0 (empty_true words None))
-instruction_leaves code words layout t used before counters at variables s (Fetch to list index otherwise) knew here =
-    range_leaves code words (row_of variables list) index (Inside counters at variables InRange)
-    (InCall counters otherwise (slice_set variables to None))
+instruction_leaves code words layout t used before context at variables s (Fetch to list index otherwise) knew here =
+    range_leaves code words (row_of variables list) index (Inside context at variables InRange)
+    (InCall context otherwise (slice_set variables to None))
     (knows_here code words at variables s (Fetch to list index otherwise) here)
-    (goes_on_put code words counters at otherwise variables s
+    (goes_on_put code words context at otherwise variables s
     (Fetch to list index otherwise) FaultExit to Empty None here
     refl refl here.operands.0 (empty_true words None))
-instruction_leaves code words layout t used before counters at variables s (Set list index from otherwise) knew here =
+instruction_leaves code words layout t used before context at variables s (Set list index from otherwise) knew here =
     let within = knows_here code words at variables s (Set list index from otherwise) here in
-    range_leaves code words (row_of variables list) index (Inside counters at variables InRange)
-    (Inside counters at variables OutOfRange) within within
-instruction_leaves code words layout t used before counters at variables s (Put list index from otherwise) knew here =
-    range_leaves code words (row_of variables list) index (Inside counters at variables InRange)
-    (InCall counters otherwise variables) (knows_here code words at variables s (Put list index from otherwise) here)
-    (goes_on code words counters at otherwise variables variables s (Put list index from otherwise) FaultExit here refl
+    range_leaves code words (row_of variables list) index (Inside context at variables InRange)
+    (Inside context at variables OutOfRange) within within
+instruction_leaves code words layout t used before context at variables s (Put list index from otherwise) knew here =
+    range_leaves code words (row_of variables list) index (Inside context at variables InRange)
+    (InCall context otherwise variables) (knows_here code words at variables s (Put list index from otherwise) here)
+    (goes_on code words context at otherwise variables variables s (Put list index from otherwise) FaultExit here refl
     (true_without_items words s variables here.known))
-instruction_leaves code words layout t used before counters at variables s (Open to path mode otherwise) knew here =
-    grant_leaves code words layout t used counters at variables s (Open to path mode otherwise) to otherwise here
+instruction_leaves code words layout t used before context at variables s (Open to path mode otherwise) knew here =
+    grant_leaves code words layout t used context at variables s (Open to path mode otherwise) to otherwise here
     here.operands.0 refl refl
-instruction_leaves code words layout t used before counters at variables s (Connect to peer otherwise) knew here =
-    grant_leaves code words layout t used counters at variables s (Connect to peer otherwise) to otherwise here
+instruction_leaves code words layout t used before context at variables s (Connect to peer otherwise) knew here =
+    grant_leaves code words layout t used context at variables s (Connect to peer otherwise) to otherwise here
     here.operands.0 refl refl
-instruction_leaves code words layout t used before counters at variables s (Read to file most otherwise) knew here =
+instruction_leaves code words layout t used before context at variables s (Read to file most otherwise) knew here =
     either (Leaves code words) (has_room layout t used) _ _
     (λ room. row_leaves code words (row_of variables file) _ (λ row is found seen.
     knows_here code words at variables s (Read to file most otherwise) here))
-    (goes_on_put code words counters at otherwise variables s (Read to file most otherwise) FaultExit to Empty None here
+    (goes_on_put code words context at otherwise variables s (Read to file most otherwise) FaultExit to Empty None here
     refl refl here.operands.0 (empty_true words None))
-instruction_leaves code words layout t used before counters at variables s (Write file number otherwise) knew here =
+instruction_leaves code words layout t used before context at variables s (Write file number otherwise) knew here =
     row_leaves code words (row_of variables number) _ (λ row is found seen.
     knows_here code words at variables s (Write file number otherwise) here)
-instruction_leaves code words layout t used before counters at variables s (As from kind otherwise) knew here =
+instruction_leaves code words layout t used before context at variables s (As from kind otherwise) knew here =
     row_leaves code words (row_of variables from) _ (λ row is found seen.
-    either (λ (next : ℕ). KnowsKinds code words (InCall counters next variables))
+    either (λ (next : ℕ). KnowsKinds code words (InCall context next variables))
     (same_kind (kind_of_word found) kind) _ _
     (λ same.
-    goes_on code words counters at (at + 1) variables variables s (As from kind otherwise) Success here refl
+    goes_on code words context at (at + 1) variables variables s (As from kind otherwise) Success here refl
     (true_with_kind words s variables from kind (omega (arith, here.operands.0, here.inside.slots))
     (λ x this. inr (ap (λ (y : ℕ). kind_of_word (words y)) (some_is x row (sym this ∙ is)) ∙ ap kind_of_word (sym seen)
     ∙ same_kind_is (kind_of_word found) kind same)) here.known))
-    (goes_on code words counters at otherwise variables variables s (As from kind otherwise) FaultExit here refl
+    (goes_on code words context at otherwise variables variables s (As from kind otherwise) FaultExit here refl
     here.known))
-instruction_leaves code words layout t used before counters at variables s (Goto to) knew here =
-    goes_on code words counters at to variables variables s (Goto to) Success here refl here.known
-instruction_leaves code words layout t used before counters at variables s (Again to times) knew here =
-    either (KnowsKinds code words) (nat_lt (turns_at counters at) times) (InCall (turned counters at) to variables)
-    (InCall counters (at + 1) variables)
-    (λ more. goes_on code words (turned counters at) at to variables variables s (Again to times) FaultExit here refl
+instruction_leaves code words layout t used before context at variables s (Goto to) knew here =
+    goes_on code words context at to variables variables s (Goto to) Success here refl here.known
+instruction_leaves code words layout t used before context at variables s (Again to times) knew here =
+    either (KnowsKinds code words) (nat_lt (turns_at context at) times) (InCall (turned context at) to variables)
+    (InCall context (at + 1) variables)
+    (λ more. goes_on code words (turned context at) at to variables variables s (Again to times) FaultExit here refl
     here.known)
-    (goes_on code words counters at (at + 1) variables variables s (Again to times) Success here refl here.known)
-instruction_leaves code words layout t used before counters at variables s (Ret from) knew here =
+    (goes_on code words context at (at + 1) variables variables s (Again to times) Success here refl here.known)
+instruction_leaves code words layout t used before context at variables s (Ret from) knew here =
     row_leaves code words (row_of variables from) _ (λ row is found stored. tt)
-instruction_leaves code words layout t used before counters at variables s Fail knew here = tt
+instruction_leaves code words layout t used before context at variables s Fail knew here = tt
 
 -- ---- what a step inside an instruction leaves
 
 -- `set` empties the variable whose reference it stores, and those that borrowed from the list.
-set_leaves : (code : List Instr) (words : ℕ → ℕ) (counters : Counters) (at next : ℕ) (variables : List (Option ℕ))
+set_leaves : (code : List Instr) (words : ℕ → ℕ) (context : Context) (at next : ℕ) (variables : List (Option ℕ))
     (s : State)
     (list index from otherwise : ℕ) (exit : Exit)
     → (here : KnowsAt code words at variables s (Set list index from otherwise))
     → target (Set list index from otherwise) exit at ≡ Some next
-    → KnowsKinds code words (InCall counters next (slice_set variables from None))
-set_leaves code words counters at next variables s list index from otherwise exit here to =
-    goes_on code words counters at next variables (slice_set variables from None) s (Set list index from otherwise) exit
+    → KnowsKinds code words (InCall context next (slice_set variables from None))
+set_leaves code words context at next variables s list index from otherwise exit here to =
+    goes_on code words context at next variables (slice_set variables from None) s (Set list index from otherwise) exit
     here to
     (true_without_items words (put s from Empty) (slice_set variables from None)
     (true_put words s variables from Empty None (omega (arith, here.operands.0, here.inside.slots))
@@ -309,76 +309,76 @@ set_leaves code words counters at next variables s list index from otherwise exi
 any_true : (words : ℕ → ℕ) (slot : Slot) (row : Option ℕ) → kind_of slot ≡ kinds.Any → HasTrueKind words slot row
 any_true words slot row any x is = inl any
 
-pub inside_leaves : (code : List Instr) (words : ℕ → ℕ) (layout : Layout) (t used : ℕ) (counters : Counters) (at : ℕ)
+pub inside_leaves : (code : List Instr) (words : ℕ → ℕ) (layout : Layout) (t used : ℕ) (context : Context) (at : ℕ)
     (variables : List (Option ℕ))
     (stage : Stage)
     (s : State) (i : Instr) → KnowsAt code words at variables s i
-    → Leaves code words (dispatch_inside layout t used counters at variables stage (Some i))
-inside_leaves code words layout t used counters at variables InRange s (Borrow to list index otherwise) here =
-    cell_leaves code words (row_of variables list) index (InCall counters otherwise (slice_set variables to None))
-    (λ item. InCall counters (at + 1) (slice_set variables to (Some item)))
-    (goes_on_put code words counters at otherwise variables s
+    → Leaves code words (dispatch_inside layout t used context at variables stage (Some i))
+inside_leaves code words layout t used context at variables InRange s (Borrow to list index otherwise) here =
+    cell_leaves code words (row_of variables list) index (InCall context otherwise (slice_set variables to None))
+    (λ item. InCall context (at + 1) (slice_set variables to (Some item)))
+    (goes_on_put code words context at otherwise variables s
     (Borrow to list index otherwise) FaultExit to Empty None here
     refl refl here.operands.0 (empty_true words None))
     (λ item.
-    goes_on_put code words counters at (at + 1) variables s (Borrow to list index otherwise) Success to
+    goes_on_put code words context at (at + 1) variables s (Borrow to list index otherwise) Success to
     (Locked kinds.Any)
     (Some item) here refl refl here.operands.0 (any_true words (Locked kinds.Any) (Some item) refl))
-inside_leaves code words layout t used counters at variables InRange s (Fetch to list index otherwise) here =
-    cell_leaves code words (row_of variables list) index (InCall counters otherwise (slice_set variables to None))
-    (λ item. Inside counters at variables (Found item))
-    (goes_on_put code words counters at otherwise variables s
+inside_leaves code words layout t used context at variables InRange s (Fetch to list index otherwise) here =
+    cell_leaves code words (row_of variables list) index (InCall context otherwise (slice_set variables to None))
+    (λ item. Inside context at variables (Found item))
+    (goes_on_put code words context at otherwise variables s
     (Fetch to list index otherwise) FaultExit to Empty None here
     refl refl here.operands.0 (empty_true words None))
     (λ item. knows_here code words at variables s (Fetch to list index otherwise) here)
-inside_leaves code words layout t used counters at variables (Found item) s (Fetch to list index otherwise) here =
+inside_leaves code words layout t used context at variables (Found item) s (Fetch to list index otherwise) here =
     λ found seen.
-    goes_on_put code words counters at (at + 1) variables s (Fetch to list index otherwise) Success to (Owned kinds.Any)
+    goes_on_put code words context at (at + 1) variables s (Fetch to list index otherwise) Success to (Owned kinds.Any)
     (Some item) here refl refl here.operands.0 (any_true words (Owned kinds.Any) (Some item) refl)
-inside_leaves code words layout t used counters at variables InRange s (Set list index from otherwise) here =
+inside_leaves code words layout t used context at variables InRange s (Set list index from otherwise) here =
     row_leaves code words (row_of variables list) _ (λ row is.
     row_leaves code words (row_of variables from) _ (λ item this found seen.
-    set_leaves code words counters at (at + 1) variables s list index from otherwise Success here refl))
-inside_leaves code words layout t used counters at variables OutOfRange s (Set list index from otherwise) here =
+    set_leaves code words context at (at + 1) variables s list index from otherwise Success here refl))
+inside_leaves code words layout t used context at variables OutOfRange s (Set list index from otherwise) here =
     row_leaves code words (row_of variables from) _ (λ item this found seen.
-    set_leaves code words counters at otherwise variables s list index from otherwise FaultExit here refl)
-inside_leaves code words layout t used counters at variables InRange s (Put list index from otherwise) here =
+    set_leaves code words context at otherwise variables s list index from otherwise FaultExit here refl)
+inside_leaves code words layout t used context at variables InRange s (Put list index from otherwise) here =
     row_leaves code words (row_of variables from) _ (λ item is found seen.
     knows_here code words at variables s (Put list index from otherwise) here)
-inside_leaves code words layout t used counters at variables Retained s (Put list index from otherwise) here =
+inside_leaves code words layout t used context at variables Retained s (Put list index from otherwise) here =
     row_leaves code words (row_of variables list) _ (λ row is.
     row_leaves code words (row_of variables from) _ (λ item this found seen.
-    goes_on code words counters at (at + 1) variables variables s (Put list index from otherwise) Success here refl
+    goes_on code words context at (at + 1) variables variables s (Put list index from otherwise) Success here refl
     (true_without_items words s variables here.known)))
-inside_leaves code words layout t used counters at variables Granted s (Open to path mode otherwise) here =
-    granted_leaves code words layout t used counters at variables s (Open to path mode otherwise) to file_word
+inside_leaves code words layout t used context at variables Granted s (Open to path mode otherwise) here =
+    granted_leaves code words layout t used context at variables s (Open to path mode otherwise) to file_word
     kinds.File here here.operands.0 refl refl refl
-inside_leaves code words layout t used counters at variables Granted s (Connect to peer otherwise) here =
-    granted_leaves code words layout t used counters at variables s (Connect to peer otherwise) to sock_word
+inside_leaves code words layout t used context at variables Granted s (Connect to peer otherwise) here =
+    granted_leaves code words layout t used context at variables s (Connect to peer otherwise) to sock_word
     kinds.Sock here here.operands.0 refl refl refl
-inside_leaves code words layout t used counters at variables Lent s (Read to file most otherwise) here = λ exit.
+inside_leaves code words layout t used context at variables Lent s (Read to file most otherwise) here = λ exit.
     knows_here code words at variables s (Read to file most otherwise) here
-inside_leaves code words layout t used counters at variables (Called Success) s (Read to file most otherwise) here =
-    return_leaves code words variables file (Inside counters at variables Granted)
+inside_leaves code words layout t used context at variables (Called Success) s (Read to file most otherwise) here =
+    return_leaves code words variables file (Inside context at variables Granted)
     (knows_here code words at variables s (Read to file most otherwise) here)
-inside_leaves code words layout t used counters at variables (Called FaultExit) s (Read to file most otherwise) here =
-    return_leaves code words variables file (InCall counters otherwise (slice_set variables to None))
-    (goes_on_put code words counters at otherwise variables s (Read to file most otherwise) FaultExit to Empty None here
+inside_leaves code words layout t used context at variables (Called FaultExit) s (Read to file most otherwise) here =
+    return_leaves code words variables file (InCall context otherwise (slice_set variables to None))
+    (goes_on_put code words context at otherwise variables s (Read to file most otherwise) FaultExit to Empty None here
     refl refl here.operands.0 (empty_true words None))
-inside_leaves code words layout t used counters at variables Granted s (Read to file most otherwise) here =
-    granted_leaves code words layout t used counters at variables s (Read to file most otherwise) to (number_word 0)
+inside_leaves code words layout t used context at variables Granted s (Read to file most otherwise) here =
+    granted_leaves code words layout t used context at variables s (Read to file most otherwise) to (number_word 0)
     kinds.Num here here.operands.0 refl refl refl
-inside_leaves code words layout t used counters at variables Loaded s (Write file number otherwise) here =
+inside_leaves code words layout t used context at variables Loaded s (Write file number otherwise) here =
     row_leaves code words (row_of variables file) _ (λ row is found seen.
     knows_here code words at variables s (Write file number otherwise) here)
-inside_leaves code words layout t used counters at variables Lent s (Write file number otherwise) here = λ exit.
+inside_leaves code words layout t used context at variables Lent s (Write file number otherwise) here = λ exit.
     knows_here code words at variables s (Write file number otherwise) here
-inside_leaves code words layout t used counters at variables (Called Success) s (Write file number otherwise) here =
-    return_leaves code words variables file (InCall counters (at + 1) variables)
-    (goes_on code words counters at (at + 1) variables variables s (Write file number otherwise) Success here refl
+inside_leaves code words layout t used context at variables (Called Success) s (Write file number otherwise) here =
+    return_leaves code words variables file (InCall context (at + 1) variables)
+    (goes_on code words context at (at + 1) variables variables s (Write file number otherwise) Success here refl
     here.known)
-inside_leaves code words layout t used counters at variables (Called FaultExit) s (Write file number otherwise) here =
-    return_leaves code words variables file (InCall counters otherwise variables)
-    (goes_on code words counters at otherwise variables variables s (Write file number otherwise) FaultExit here refl
+inside_leaves code words layout t used context at variables (Called FaultExit) s (Write file number otherwise) here =
+    return_leaves code words variables file (InCall context otherwise variables)
+    (goes_on code words context at otherwise variables variables s (Write file number otherwise) FaultExit here refl
     here.known)
-inside_leaves code words layout t used counters at variables stage s i here = tt
+inside_leaves code words layout t used context at variables stage s i here = tt

@@ -1,7 +1,7 @@
 -- What a thread of accepted code has lent to a call of the host: its place says so, and each of its actions leads to a
 -- place that says what the thread has lent then.
 use Rattle.brc_model.specs.declared.duty.Duty.{Duty}
-use Rattle.brc_model.proofs.Dispatch.Decided.{exit_decides}
+use Rattle.brc_model.proofs.Dispatch.Decided.{exit_decides, stopping_decides, give_up_decides}
 use Rattle.brc_model.specs.declared.slot.Exit.TheVariants.{Success, Fault}
 use Rattle.std.proofs.Common.{◌≡◌, ℕ, zero, suc, ◌+◌, List, [], Option, None, Some, ◌∙◌, ap, sym, refl, cond}
 use Rattle.std.specs.Prelude.{◌==◌, slice_get, slice_set, nat_lt}
@@ -9,19 +9,18 @@ use Rattle.brc_lang.specs.declared.module.Instr.{Instr}
 use Rattle.brc_lang.specs.declared.module.Instr.TheVariants.{Num, List as ListObject, NoneObject, Newref, Move as MoveReference, Drop, Lock, Unlock, Borrow, Fetch, Set, Put, Goto, Again, Ret, Fail, As, Open, Connect, Read, Write}
 use Rattle.brc_word.specs.Words.{free_word}
 use Rattle.brc_model.specs.declared.actor.Place.{Place}
-use Rattle.brc_model.specs.declared.actor.Counters.{Counters}
+use Rattle.brc_model.specs.declared.actor.Context.{Context}
 use Rattle.brc_model.specs.declared.slot.Exit.{Exit}
-use Rattle.brc_model.specs.declared.actor.Place.TheVariants.{Idle, InCall, Inside, Exiting}
+use Rattle.brc_model.specs.declared.actor.Place.TheVariants.{Idle, InCall, Inside, Stopping, Exiting}
 use Rattle.brc_model.specs.declared.actor.Stage.{Stage}
 use Rattle.brc_model.specs.declared.actor.Stage.TheVariants.{InRange, OutOfRange, Found, Retained, Loaded, Lent, Called, Granted}
 use Rattle.brc_model.specs.declared.duty.Duty.TheVariants.{BirthKind, KindLoad, CellLoad, LendSlot}
-use Rattle.brc_model.specs.declared.duty.Holding.TheVariants.{ByVariable}
 use Rattle.brc_model.specs.declared.layout.Layout.{Layout}
 use Rattle.brc_model.specs.Layout.{row_at}
 use Rattle.brc_model.specs.Duties.{cells_of}
 use Rattle.brc_model.specs.Machine.{lent_by, has_room}
 use Rattle.brc_model.specs.Threads.{row_of, entry_variables}
-use Rattle.brc_model.specs.Actions.{Action, Skip, Stuck, Silent, Calls, Does, always, with_row, number_word, list_word, birth_action, first_counters, turns_at, turned, by_range, by_item, dispatch_instruction, dispatch_inside, dispatch, lend_action, grant_action}
+use Rattle.brc_model.specs.Actions.{by_variable, Action, Skip, Stuck, Silent, Calls, Does, always, with_row, number_word, list_word, birth_action, first_context, turns_at, turned, by_range, by_item, dispatch_instruction, dispatch_inside, dispatch, lend_action, grant_action}
 use Rattle.brc_model.proofs.Basics.Lists.{either}
 
 -- The row whose resource a thread so far inside the instruction has lent.
@@ -42,8 +41,9 @@ lent_to Granted i variables = None
 -- The row whose resource a thread at the place has lent.
 abbrev pub lent_at : List Instr → Place → Option ℕ
 lent_at code (Idle left) = None
-lent_at code (InCall counters at variables) = None
-lent_at code (Inside counters at variables stage) = lent_to stage (slice_get code at) variables
+lent_at code (InCall context at variables) = None
+lent_at code (Inside context at variables stage) = lent_to stage (slice_get code at) variables
+lent_at code (Stopping lock calls) = None
 lent_at code Exiting = None
 
 -- A duty that lends a resource finds it in its slot.
@@ -70,15 +70,15 @@ this_lent : (code : List Instr) (lent : Option ℕ) (o : Option ℕ) (work : ℕ
 this_lent code lent None work each = tt
 this_lent code lent (Some row) work each = each row refl
 
-birth_lent : (code : List Instr) (lent : Option ℕ) (layout : Layout) (t used : ℕ) (counters : Counters) (at : ℕ)
+birth_lent : (code : List Instr) (lent : Option ℕ) (layout : Layout) (t used : ℕ) (context : Context) (at : ℕ)
     (variables : List (Option ℕ))
     (to word otherwise : ℕ) → lent ≡ None
-    → FollowsLent code lent (birth_action layout t used counters at variables to word otherwise)
-birth_lent code lent layout t used counters at variables to word otherwise none =
+    → FollowsLent code lent (birth_action layout t used context at variables to word otherwise)
+birth_lent code lent layout t used context at variables to word otherwise none =
     either (FollowsLent code lent) (has_room layout t used)
-    (Does (BirthKind (row_at layout t used) (ByVariable to) word) []
-    (always (InCall counters (at + 1) (slice_set variables to (Some (row_at layout t used))))))
-    (Silent [] (InCall counters otherwise (slice_set variables to None)))
+    (Does (BirthKind (row_at layout t used) (by_variable context to) word) []
+    (always (InCall context (at + 1) (slice_set variables to (Some (row_at layout t used))))))
+    (Silent [] (InCall context otherwise (slice_set variables to None)))
     (λ room found full. none) none
 
 -- A look at a list's kind word lends nothing, wherever it leads.
@@ -104,137 +104,137 @@ cell_lent code lent list index empty holds none some =
     row_lent code lent list _ (λ row found full. item_lent code lent empty holds found none some)
 
 -- A thread that asks the host for a resource has lent nothing, wherever it goes on.
-grant_lent : (code : List Instr) (lent : Option ℕ) (layout : Layout) (t used : ℕ) (counters : Counters) (at : ℕ)
+grant_lent : (code : List Instr) (lent : Option ℕ) (layout : Layout) (t used : ℕ) (context : Context) (at : ℕ)
     (variables : List (Option ℕ)) (to otherwise : ℕ) → lent ≡ None
-    → FollowsLent code lent (grant_action layout t used counters at variables to otherwise)
-grant_lent code lent layout t used counters at variables to otherwise none =
+    → FollowsLent code lent (grant_action layout t used context at variables to otherwise)
+grant_lent code lent layout t used context at variables to otherwise none =
     either (FollowsLent code lent) (has_room layout t used) _ _
     (λ room. (
       none,
       exit_decides (λ (place : Place). lent ≡ lent_at code place)
-          (Inside counters at variables Granted) (InCall counters otherwise (slice_set variables to None)) none none,
+          (Inside context at variables Granted) (InCall context otherwise (slice_set variables to None)) none none,
     )) none
 
 -- A thread that lends the resource of a file has lent that one.
-lend_lent : (code : List Instr) (counters : Counters) (at : ℕ) (variables : List (Option ℕ)) (file : ℕ) (i : Instr)
+lend_lent : (code : List Instr) (context : Context) (at : ℕ) (variables : List (Option ℕ)) (file : ℕ) (i : Instr)
     (lent : Option ℕ) → slice_get code at ≡ Some i → lent_to Lent (Some i) variables ≡ row_of variables file
-    → FollowsLent code lent (lend_action counters at variables file)
-lend_lent code counters at variables file i lent is lends =
-    let there : lent_at code (Inside counters at variables Lent) ≡ row_of variables file =
+    → FollowsLent code lent (lend_action context at variables file)
+lend_lent code context at variables file i lent is lends =
+    let there : lent_at code (Inside context at variables Lent) ≡ row_of variables file =
     ap (λ (o : Option Instr). lent_to Lent o variables) is ∙ lends in
     this_lent code lent (row_of variables file) _ (λ row this found full.
     ap (λ (w : ℕ). cond (w == 1) (Some row) lent) full ∙ sym this ∙ sym there)
 
-instruction_lent : (code : List Instr) (layout : Layout) (t used : ℕ) (before : Place) (counters : Counters) (at : ℕ)
+instruction_lent : (code : List Instr) (layout : Layout) (t used : ℕ) (before : Place) (context : Context) (at : ℕ)
     (variables : List (Option ℕ)) (i : Option Instr) (lent : Option ℕ) → slice_get code at ≡ i → lent ≡ None
     → lent ≡ lent_at code before
-    → FollowsLent code lent (dispatch_instruction layout t used before counters at variables i)
-instruction_lent code layout t used before counters at variables None lent is none back = tt
-instruction_lent code layout t used before counters at variables (Some (Num to value otherwise)) lent is none back =
-    birth_lent code lent layout t used counters at variables to (number_word value) otherwise none
-instruction_lent code layout t used before counters at variables (Some (ListObject to cells otherwise)) lent is none
+    → FollowsLent code lent (dispatch_instruction layout t used before context at variables i)
+instruction_lent code layout t used before context at variables None lent is none back = tt
+instruction_lent code layout t used before context at variables (Some (Num to value otherwise)) lent is none back =
+    birth_lent code lent layout t used context at variables to (number_word value) otherwise none
+instruction_lent code layout t used before context at variables (Some (ListObject to cells otherwise)) lent is none
     back =
-    birth_lent code lent layout t used counters at variables to (list_word cells) otherwise none
-instruction_lent code layout t used before counters at variables (Some (NoneObject to)) lent is none back = none
-instruction_lent code layout t used before counters at variables (Some (Newref to from)) lent is none back =
+    birth_lent code lent layout t used context at variables to (list_word cells) otherwise none
+instruction_lent code layout t used before context at variables (Some (NoneObject to)) lent is none back = none
+instruction_lent code layout t used before context at variables (Some (Newref to from)) lent is none back =
     row_lent code lent (row_of variables from) _ (λ row found full. none)
-instruction_lent code layout t used before counters at variables (Some (MoveReference to from)) lent is none back =
+instruction_lent code layout t used before context at variables (Some (MoveReference to from)) lent is none back =
     row_lent code lent (row_of variables from) _ (λ row. none)
-instruction_lent code layout t used before counters at variables (Some (Drop from)) lent is none back =
+instruction_lent code layout t used before context at variables (Some (Drop from)) lent is none back =
     row_lent code lent (row_of variables from) _ (λ row found full. none)
-instruction_lent code layout t used before counters at variables (Some (Lock object)) lent is none back =
+instruction_lent code layout t used before context at variables (Some (Lock object)) lent is none back =
     row_lent code lent (row_of variables object) _ (λ row found full.
-    either (λ (place : Place). lent ≡ lent_at code place) (found == free_word) (InCall counters (at + 1) variables)
+    either (λ (place : Place). lent ≡ lent_at code place) (found == free_word) (InCall context (at + 1) variables)
     before
     (λ free. none) back)
-instruction_lent code layout t used before counters at variables (Some (Unlock object)) lent is none back =
+instruction_lent code layout t used before context at variables (Some (Unlock object)) lent is none back =
     row_lent code lent (row_of variables object) _ (λ row found full. none)
-instruction_lent code layout t used before counters at variables (Some (Borrow to list index otherwise)) lent is none
+instruction_lent code layout t used before context at variables (Some (Borrow to list index otherwise)) lent is none
     back =
-    range_lent code lent (row_of variables list) index (Inside counters at variables InRange)
-    (InCall counters otherwise (slice_set variables to None)) none none
-instruction_lent code layout t used before counters at variables (Some (Fetch to list index otherwise)) lent is none
+    range_lent code lent (row_of variables list) index (Inside context at variables InRange)
+    (InCall context otherwise (slice_set variables to None)) none none
+instruction_lent code layout t used before context at variables (Some (Fetch to list index otherwise)) lent is none
     back =
-    range_lent code lent (row_of variables list) index (Inside counters at variables InRange)
-    (InCall counters otherwise (slice_set variables to None)) none none
-instruction_lent code layout t used before counters at variables (Some (Set list index from otherwise)) lent is none
+    range_lent code lent (row_of variables list) index (Inside context at variables InRange)
+    (InCall context otherwise (slice_set variables to None)) none none
+instruction_lent code layout t used before context at variables (Some (Set list index from otherwise)) lent is none
     back =
-    range_lent code lent (row_of variables list) index (Inside counters at variables InRange)
-    (Inside counters at variables OutOfRange) none none
-instruction_lent code layout t used before counters at variables (Some (Put list index from otherwise)) lent is none
+    range_lent code lent (row_of variables list) index (Inside context at variables InRange)
+    (Inside context at variables OutOfRange) none none
+instruction_lent code layout t used before context at variables (Some (Put list index from otherwise)) lent is none
     back =
-    range_lent code lent (row_of variables list) index (Inside counters at variables InRange)
-    (InCall counters otherwise variables) none none
-instruction_lent code layout t used before counters at variables (Some (Open to path mode otherwise)) lent is none
+    range_lent code lent (row_of variables list) index (Inside context at variables InRange)
+    (InCall context otherwise variables) none none
+instruction_lent code layout t used before context at variables (Some (Open to path mode otherwise)) lent is none
     back =
-    grant_lent code lent layout t used counters at variables to otherwise none
-instruction_lent code layout t used before counters at variables (Some (Connect to peer otherwise)) lent is none back =
-    grant_lent code lent layout t used counters at variables to otherwise none
-instruction_lent code layout t used before counters at variables
+    grant_lent code lent layout t used context at variables to otherwise none
+instruction_lent code layout t used before context at variables (Some (Connect to peer otherwise)) lent is none back =
+    grant_lent code lent layout t used context at variables to otherwise none
+instruction_lent code layout t used before context at variables
     (Some (Read to file most otherwise)) lent is none back
     =
-    either (FollowsLent code lent) (has_room layout t used) (lend_action counters at variables file)
-    (Silent [] (InCall counters otherwise (slice_set variables to None)))
-    (λ room. lend_lent code counters at variables file (Read to file most otherwise) lent is refl) none
-instruction_lent code layout t used before counters at variables
+    either (FollowsLent code lent) (has_room layout t used) (lend_action context at variables file)
+    (Silent [] (InCall context otherwise (slice_set variables to None)))
+    (λ room. lend_lent code context at variables file (Read to file most otherwise) lent is refl) none
+instruction_lent code layout t used before context at variables
     (Some (Write file number otherwise)) lent is none back
     =
     row_lent code lent (row_of variables number) _ (λ row found full. none)
-instruction_lent code layout t used before counters at variables (Some (As from kind otherwise)) lent is none back =
+instruction_lent code layout t used before context at variables (Some (As from kind otherwise)) lent is none back =
     row_lent code lent (row_of variables from) _ (λ row found full. none)
-instruction_lent code layout t used before counters at variables (Some (Goto to)) lent is none back = none
-instruction_lent code layout t used before counters at variables (Some (Again to times)) lent is none back =
-    either (λ (place : Place). lent ≡ lent_at code place) (nat_lt (turns_at counters at) times)
-    (InCall (turned counters at) to variables) (InCall counters (at + 1) variables) (λ more. none) none
-instruction_lent code layout t used before counters at variables (Some (Ret from)) lent is none back =
+instruction_lent code layout t used before context at variables (Some (Goto to)) lent is none back = none
+instruction_lent code layout t used before context at variables (Some (Again to times)) lent is none back =
+    either (λ (place : Place). lent ≡ lent_at code place) (nat_lt (turns_at context at) times)
+    (InCall (turned context at) to variables) (InCall context (at + 1) variables) (λ more. none) none
+instruction_lent code layout t used before context at variables (Some (Ret from)) lent is none back =
     row_lent code lent (row_of variables from) _ (λ row found full. none)
-instruction_lent code layout t used before counters at variables (Some Fail) lent is none back = none
+instruction_lent code layout t used before context at variables (Some Fail) lent is none back = none
 
-inside_lent : (code : List Instr) (layout : Layout) (t used : ℕ) (counters : Counters) (at : ℕ)
+inside_lent : (code : List Instr) (layout : Layout) (t used : ℕ) (context : Context) (at : ℕ)
     (variables : List (Option ℕ)) (stage : Stage) (i : Option Instr)
     (lent : Option ℕ) → slice_get code at ≡ i → lent ≡ lent_to stage i variables
-    → FollowsLent code lent (dispatch_inside layout t used counters at variables stage i)
-inside_lent code layout t used counters at variables InRange (Some (Borrow to list index otherwise)) lent is says =
-    cell_lent code lent (row_of variables list) index (InCall counters otherwise (slice_set variables to None))
-    (λ item. InCall counters (at + 1) (slice_set variables to (Some item))) says (λ item. says)
-inside_lent code layout t used counters at variables InRange (Some (Fetch to list index otherwise)) lent is says =
-    cell_lent code lent (row_of variables list) index (InCall counters otherwise (slice_set variables to None))
-    (λ item. Inside counters at variables (Found item)) says (λ item. says)
-inside_lent code layout t used counters at variables (Found item) (Some (Fetch to list index otherwise)) lent is says =
+    → FollowsLent code lent (dispatch_inside layout t used context at variables stage i)
+inside_lent code layout t used context at variables InRange (Some (Borrow to list index otherwise)) lent is says =
+    cell_lent code lent (row_of variables list) index (InCall context otherwise (slice_set variables to None))
+    (λ item. InCall context (at + 1) (slice_set variables to (Some item))) says (λ item. says)
+inside_lent code layout t used context at variables InRange (Some (Fetch to list index otherwise)) lent is says =
+    cell_lent code lent (row_of variables list) index (InCall context otherwise (slice_set variables to None))
+    (λ item. Inside context at variables (Found item)) says (λ item. says)
+inside_lent code layout t used context at variables (Found item) (Some (Fetch to list index otherwise)) lent is says =
     λ found full. says
-inside_lent code layout t used counters at variables InRange (Some (Set list index from otherwise)) lent is says =
+inside_lent code layout t used context at variables InRange (Some (Set list index from otherwise)) lent is says =
     row_lent code lent (row_of variables list) _ (λ row.
     row_lent code lent (row_of variables from) _ (λ item found full. says))
-inside_lent code layout t used counters at variables OutOfRange (Some (Set list index from otherwise)) lent is says =
+inside_lent code layout t used context at variables OutOfRange (Some (Set list index from otherwise)) lent is says =
     row_lent code lent (row_of variables from) _ (λ item found full. says)
-inside_lent code layout t used counters at variables InRange (Some (Put list index from otherwise)) lent is says =
+inside_lent code layout t used context at variables InRange (Some (Put list index from otherwise)) lent is says =
     row_lent code lent (row_of variables from) _ (λ item found full. says)
-inside_lent code layout t used counters at variables Retained (Some (Put list index from otherwise)) lent is says =
+inside_lent code layout t used context at variables Retained (Some (Put list index from otherwise)) lent is says =
     row_lent code lent (row_of variables list) _ (λ row.
     row_lent code lent (row_of variables from) _ (λ item found full. says))
-inside_lent code layout t used counters at variables Granted (Some (Open to path mode otherwise)) lent is says =
+inside_lent code layout t used context at variables Granted (Some (Open to path mode otherwise)) lent is says =
     λ found full. says
-inside_lent code layout t used counters at variables Granted (Some (Connect to peer otherwise)) lent is says =
+inside_lent code layout t used context at variables Granted (Some (Connect to peer otherwise)) lent is says =
     λ found full. says
-inside_lent code layout t used counters at variables Lent (Some (Read to file most otherwise)) lent is says =
+inside_lent code layout t used context at variables Lent (Some (Read to file most otherwise)) lent is says =
     (says, λ exit. says ∙ sym (ap (λ (o : Option Instr). lent_to (Called exit) o variables) is))
-inside_lent code layout t used counters at variables (Called Success) (Some (Read to file most otherwise)) lent is says
+inside_lent code layout t used context at variables (Called Success) (Some (Read to file most otherwise)) lent is says
     =
     row_lent code lent (row_of variables file) _ (λ row found full. refl)
-inside_lent code layout t used counters at variables (Called Fault) (Some (Read to file most otherwise)) lent is says =
+inside_lent code layout t used context at variables (Called Fault) (Some (Read to file most otherwise)) lent is says =
     row_lent code lent (row_of variables file) _ (λ row found full. refl)
-inside_lent code layout t used counters at variables Granted (Some (Read to file most otherwise)) lent is says =
+inside_lent code layout t used context at variables Granted (Some (Read to file most otherwise)) lent is says =
     λ found full. says
-inside_lent code layout t used counters at variables Loaded (Some (Write file number otherwise)) lent is says =
-    lend_lent code counters at variables file (Write file number otherwise) lent is refl
-inside_lent code layout t used counters at variables Lent (Some (Write file number otherwise)) lent is says =
+inside_lent code layout t used context at variables Loaded (Some (Write file number otherwise)) lent is says =
+    lend_lent code context at variables file (Write file number otherwise) lent is refl
+inside_lent code layout t used context at variables Lent (Some (Write file number otherwise)) lent is says =
     (says, λ exit. says ∙ sym (ap (λ (o : Option Instr). lent_to (Called exit) o variables) is))
-inside_lent code layout t used counters at variables (Called Success) (Some (Write file number otherwise)) lent is says
+inside_lent code layout t used context at variables (Called Success) (Some (Write file number otherwise)) lent is says
     =
     row_lent code lent (row_of variables file) _ (λ row found full. refl)
-inside_lent code layout t used counters at variables (Called Fault) (Some (Write file number otherwise)) lent is says =
+inside_lent code layout t used context at variables (Called Fault) (Some (Write file number otherwise)) lent is says =
     row_lent code lent (row_of variables file) _ (λ row found full. refl)
-inside_lent code layout t used counters at variables stage i lent is says = tt
+inside_lent code layout t used context at variables stage i lent is says = tt
 
 -- Whatever a thread of the code dispatches, its place says afterwards what it has lent.
 pub dispatch_lent : (code : List Instr) (layout : Layout) (t used : ℕ) (place : Place) (lent : Option ℕ)
@@ -242,10 +242,16 @@ pub dispatch_lent : (code : List Instr) (layout : Layout) (t used : ℕ) (place 
 dispatch_lent code layout t used Exiting lent says = tt
 dispatch_lent code layout t used (Idle zero) lent says = λ found full. says
 dispatch_lent code layout t used (Idle (suc left)) lent says =
-    instruction_lent code layout t used (Idle (suc left)) (first_counters left) 0 entry_variables (slice_get code 0)
+    instruction_lent code layout t used (Idle (suc left)) (first_context left) 0 entry_variables (slice_get code 0)
     lent refl says says
-dispatch_lent code layout t used (InCall counters at variables) lent says =
-    instruction_lent code layout t used (InCall counters at variables) counters at variables (slice_get code at) lent
+dispatch_lent code layout t used (InCall context at variables) lent says =
+    instruction_lent code layout t used (InCall context at variables) context at variables (slice_get code at) lent
     refl says says
-dispatch_lent code layout t used (Inside counters at variables stage) lent says =
-    inside_lent code layout t used counters at variables stage (slice_get code at) lent refl says
+dispatch_lent code layout t used (Inside context at variables stage) lent says =
+    inside_lent code layout t used context at variables stage (slice_get code at) lent refl says
+dispatch_lent code layout t used (Stopping (Some row) calls) lent says = λ found full.
+    stopping_decides (λ (place : Place). lent ≡ lent_at code place) None calls says says
+dispatch_lent code layout t used (Stopping None calls) lent says =
+    give_up_decides (FollowsLent code lent) tt
+    (λ row depth v after found full.
+    stopping_decides (λ (place : Place). lent ≡ lent_at code place) None after says says) calls

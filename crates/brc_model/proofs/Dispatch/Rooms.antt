@@ -1,7 +1,7 @@
 -- Where a thread awaits a birth: the host has granted it a resource, and its block has room for the object that it is
 -- to make of it. The thread has nothing else to do meanwhile.
 use Rattle.brc_model.specs.declared.slot.Exit.TheVariants.{Success, Fault as FaultExit}
-use Rattle.std.proofs.Common.{◌≡◌, ℕ, zero, suc, ◌+◌, Bool, true, false, List, [], ◌∷◌, Option, None, Some, refl, sym, ap, ◌∙◌}
+use Rattle.std.proofs.Common.{◌≡◌, ℕ, zero, suc, ◌+◌, Bool, true, false, List, [], ◌∷◌, Option, None, Some, refl, sym, ap, ◌∙◌, cond}
 use Rattle.std.specs.Prelude.{◌==◌, nat_lt, slice_get, slice_set}
 use Rattle.brc_lang.specs.declared.module.Function.{Function}
 use Rattle.brc_lang.specs.declared.module.Instr.{Instr}
@@ -9,24 +9,26 @@ use Rattle.brc_lang.specs.declared.module.Instr.TheVariants.{Num, List as ListOb
 use Rattle.brc_word.specs.Words.{free_word}
 use Rattle.brc_model.specs.declared.slot.Exit.{Exit}
 use Rattle.brc_model.specs.declared.thread.Choice.{Choice}
-use Rattle.brc_model.specs.declared.thread.Choice.TheVariants.{Ok, Fault, Claim}
+use Rattle.brc_model.specs.declared.thread.Choice.TheVariants.{Ok, Fault, Claim, Stop}
 use Rattle.brc_model.specs.declared.actor.Status.{Status}
 use Rattle.brc_model.specs.declared.actor.Status.TheVariants.{Running, Leaving, Gone}
 use Rattle.brc_model.specs.declared.actor.Place.{Place}
-use Rattle.brc_model.specs.declared.actor.Place.TheVariants.{Idle, InCall, Inside, Exiting}
-use Rattle.brc_model.specs.declared.actor.Counters.{Counters}
+use Rattle.brc_model.specs.declared.actor.Place.TheVariants.{Idle, InCall, Inside, Stopping, Exiting}
+use Rattle.brc_model.specs.declared.actor.Context.{Context}
 use Rattle.brc_model.specs.declared.actor.Stage.{Stage}
 use Rattle.brc_model.specs.declared.actor.Stage.TheVariants.{InRange, OutOfRange, Found, Retained, Granted, Loaded, Lent, Called}
 use Rattle.brc_model.specs.declared.duty.Duty.{Duty}
-use Rattle.brc_model.specs.declared.duty.Duty.TheVariants.{KindLoad, LockGate, CellLoad, LendSlot}
+use Rattle.brc_model.specs.declared.duty.Duty.TheVariants.{KindLoad, LockGate, CellLoad, LendSlot, UnlockGate, ReleaseLoad, Settle}
 use Rattle.brc_model.specs.declared.layout.Layout.{Layout}
 use Rattle.brc_model.specs.Machine.{Actor, is_lending, has_room}
 use Rattle.brc_model.specs.Threads.{code_of, row_of, entry_variables}
-use Rattle.brc_model.specs.Actions.{StepActor, Action, Skip, Stuck, Silent, Calls, Does, with_row, number_word, list_word, birth_action, first_counters, turns_at, turned, again_place, by_range, by_item, dispatch_instruction, dispatch_inside, dispatch, may_claim, agenda_action, status_action, action_of, lend_action, always}
+use Rattle.brc_model.specs.Actions.{StepActor, Action, Skip, Stuck, Silent, Calls, Does, with_row, number_word, list_word, birth_action, first_context, turns_at, turned, again_place, by_range, by_item, dispatch_instruction, dispatch_inside, dispatch, may_claim, agenda_action, status_action, action_of, lend_action, always, holds_some, stopping, may_stop, stop_action}
 use Rattle.brc_model.specs.StepMachine.{StepMachine}
 use Rattle.brc_model.proofs.Basics.Lists.{either}
-use Rattle.brc_model.proofs.Dispatch.Decided.{range_decides, item_decides}
+use Rattle.brc_model.proofs.Dispatch.Decided.{range_decides, item_decides, stopping_decides, stop_decides, give_up_decides}
 use Rattle.brc_model.proofs.Dispatch.Claims.{claimer}
+use Rattle.brc_model.specs.declared.slot.State.{State}
+use Rattle.brc_model.specs.declared.duty.Holding.TheVariants.{ByVariable}
 
 -- Says whether a thread so far inside the instruction awaits a birth.
 abbrev pub awaits_inside : Stage → Option Instr → Bool
@@ -38,8 +40,9 @@ awaits_inside stage i = false
 -- Says whether a thread at the place awaits a birth.
 abbrev pub awaits_birth : List Instr → Place → Bool
 awaits_birth code (Idle left) = false
-awaits_birth code (InCall counters at variables) = false
-awaits_birth code (Inside counters at variables stage) = awaits_inside stage (slice_get code at)
+awaits_birth code (InCall context at variables) = false
+awaits_birth code (Inside context at variables stage) = awaits_inside stage (slice_get code at)
+awaits_birth code (Stopping lock calls) = false
 awaits_birth code Exiting = false
 
 -- A thread that awaits a birth has room for it, and nothing else to do.
@@ -86,10 +89,10 @@ module _ (code : List Instr) (room : Bool) where
   row_room None work each = tt
   row_room (Some row) work each = each row
 
-  birth_none : (layout : Layout) (t used : ℕ) (counters : Counters) (at : ℕ) (variables : List (Option ℕ))
+  birth_none : (layout : Layout) (t used : ℕ) (context : Context) (at : ℕ) (variables : List (Option ℕ))
       (to word otherwise : ℕ)
-      → FollowsRoom code room (birth_action layout t used counters at variables to word otherwise)
-  birth_none layout t used counters at variables to word otherwise =
+      → FollowsRoom code room (birth_action layout t used context at variables to word otherwise)
+  birth_none layout t used context at variables to word otherwise =
       either (FollowsRoom code room) (has_room layout t used) _ _ (λ has found e. absurd cc) (λ e. absurd cc)
 
   range_room : (list : Option ℕ) (index : ℕ) (inside outside : Place) → AwaitsNone code inside
@@ -110,115 +113,124 @@ module _ (code : List Instr) (layout : Layout) (t used : ℕ) where
   abbrev Follows : Action → Type 0
   Follows = FollowsRoom code (has_room layout t used)
 
-  instruction_room : (before : Place) (counters : Counters) (at : ℕ) (variables : List (Option ℕ)) (i : Option Instr)
+  instruction_room : (before : Place) (context : Context) (at : ℕ) (variables : List (Option ℕ)) (i : Option Instr)
       → slice_get code at ≡ i → AwaitsNone code before
-      → Follows (dispatch_instruction layout t used before counters at variables i)
-  instruction_room before counters at variables None is none = tt
-  instruction_room before counters at variables (Some (Num to value otherwise)) is none =
-      birth_none code (has_room layout t used) layout t used counters at variables to (number_word value) otherwise
-  instruction_room before counters at variables (Some (ListObject to cells otherwise)) is none =
-      birth_none code (has_room layout t used) layout t used counters at variables to (list_word cells) otherwise
-  instruction_room before counters at variables (Some (NoneObject to)) is none = λ e. absurd cc
-  instruction_room before counters at variables (Some (Newref to from)) is none =
+      → Follows (dispatch_instruction layout t used before context at variables i)
+  instruction_room before context at variables None is none = tt
+  instruction_room before context at variables (Some (Num to value otherwise)) is none =
+      birth_none code (has_room layout t used) layout t used context at variables to (number_word value) otherwise
+  instruction_room before context at variables (Some (ListObject to cells otherwise)) is none =
+      birth_none code (has_room layout t used) layout t used context at variables to (list_word cells) otherwise
+  instruction_room before context at variables (Some (NoneObject to)) is none = λ e. absurd cc
+  instruction_room before context at variables (Some (Newref to from)) is none =
       row_room code (has_room layout t used) (row_of variables from) _ (λ row found e. absurd cc)
-  instruction_room before counters at variables (Some (MoveReference to from)) is none =
+  instruction_room before context at variables (Some (MoveReference to from)) is none =
       row_room code (has_room layout t used) (row_of variables from) _ (λ row e. absurd cc)
-  instruction_room before counters at variables (Some (Drop from)) is none =
+  instruction_room before context at variables (Some (Drop from)) is none =
       row_room code (has_room layout t used) (row_of variables from) _ (λ row found e. absurd cc)
-  instruction_room before counters at variables (Some (Lock object)) is none =
+  instruction_room before context at variables (Some (Lock object)) is none =
       row_room code (has_room layout t used) (row_of variables object) _ (λ row.
       does_none code (has_room layout t used) (LockGate row) [] _ (λ found.
-      either (AwaitsNone code) (found == free_word) (InCall counters (at + 1) variables) before (λ free. refl) none))
-  instruction_room before counters at variables (Some (Unlock object)) is none =
+      either (AwaitsNone code) (found == free_word) (InCall context (at + 1) variables) before (λ free. refl) none))
+  instruction_room before context at variables (Some (Unlock object)) is none =
       row_room code (has_room layout t used) (row_of variables object) _ (λ row found e. absurd cc)
-  instruction_room before counters at variables (Some (Borrow to list index otherwise)) is none =
-      range_room code (has_room layout t used) (row_of variables list) index (Inside counters at variables InRange)
-      (InCall counters otherwise (slice_set variables to None)) refl refl
-  instruction_room before counters at variables (Some (Fetch to list index otherwise)) is none =
-      range_room code (has_room layout t used) (row_of variables list) index (Inside counters at variables InRange)
-      (InCall counters otherwise (slice_set variables to None)) refl refl
-  instruction_room before counters at variables (Some (Set list index from otherwise)) is none =
-      range_room code (has_room layout t used) (row_of variables list) index (Inside counters at variables InRange)
-      (Inside counters at variables OutOfRange) refl refl
-  instruction_room before counters at variables (Some (Put list index from otherwise)) is none =
-      range_room code (has_room layout t used) (row_of variables list) index (Inside counters at variables InRange)
-      (InCall counters otherwise variables) refl refl
-  instruction_room before counters at variables (Some (Open to path mode otherwise)) is none =
+  instruction_room before context at variables (Some (Borrow to list index otherwise)) is none =
+      range_room code (has_room layout t used) (row_of variables list) index (Inside context at variables InRange)
+      (InCall context otherwise (slice_set variables to None)) refl refl
+  instruction_room before context at variables (Some (Fetch to list index otherwise)) is none =
+      range_room code (has_room layout t used) (row_of variables list) index (Inside context at variables InRange)
+      (InCall context otherwise (slice_set variables to None)) refl refl
+  instruction_room before context at variables (Some (Set list index from otherwise)) is none =
+      range_room code (has_room layout t used) (row_of variables list) index (Inside context at variables InRange)
+      (Inside context at variables OutOfRange) refl refl
+  instruction_room before context at variables (Some (Put list index from otherwise)) is none =
+      range_room code (has_room layout t used) (row_of variables list) index (Inside context at variables InRange)
+      (InCall context otherwise variables) refl refl
+  instruction_room before context at variables (Some (Open to path mode otherwise)) is none =
       either Follows (has_room layout t used) _ _ (λ room exit awaits. room) (λ e. absurd cc)
-  instruction_room before counters at variables (Some (Connect to peer otherwise)) is none =
+  instruction_room before context at variables (Some (Connect to peer otherwise)) is none =
       either Follows (has_room layout t used) _ _ (λ room exit awaits. room) (λ e. absurd cc)
-  instruction_room before counters at variables (Some (Read to file most otherwise)) is none =
-      either Follows (has_room layout t used) (lend_action counters at variables file)
-      (Silent [] (InCall counters otherwise (slice_set variables to None)))
+  instruction_room before context at variables (Some (Read to file most otherwise)) is none =
+      either Follows (has_room layout t used) (lend_action context at variables file)
+      (Silent [] (InCall context otherwise (slice_set variables to None)))
       (λ room.
       row_room code (has_room layout t used) (row_of variables file) _ (λ row found awaits. (refl, refl, room)))
       (λ e. absurd cc)
-  instruction_room before counters at variables (Some (Write file number otherwise)) is none =
+  instruction_room before context at variables (Some (Write file number otherwise)) is none =
       row_room code (has_room layout t used) (row_of variables number) _ (λ row found e. absurd cc)
-  instruction_room before counters at variables (Some (As from kind otherwise)) is none =
+  instruction_room before context at variables (Some (As from kind otherwise)) is none =
       row_room code (has_room layout t used) (row_of variables from) _ (λ row found e. absurd cc)
-  instruction_room before counters at variables (Some (Goto to)) is none = λ e. absurd cc
-  instruction_room before counters at variables (Some (Again to times)) is none =
-      silent_none code (has_room layout t used) (again_place counters at variables to times)
-      (either (AwaitsNone code) (nat_lt (turns_at counters at) times) (InCall (turned counters at) to variables)
-      (InCall counters (at + 1) variables) (λ more. refl) refl)
-  instruction_room before counters at variables (Some (Ret from)) is none =
+  instruction_room before context at variables (Some (Goto to)) is none = λ e. absurd cc
+  instruction_room before context at variables (Some (Again to times)) is none =
+      silent_none code (has_room layout t used) (again_place context at variables to times)
+      (either (AwaitsNone code) (nat_lt (turns_at context at) times) (InCall (turned context at) to variables)
+      (InCall context (at + 1) variables) (λ more. refl) refl)
+  instruction_room before context at variables (Some (Ret from)) is none =
       row_room code (has_room layout t used) (row_of variables from) _ (λ row found e. absurd cc)
-  instruction_room before counters at variables (Some Fail) is none = λ e. absurd cc
+  instruction_room before context at variables (Some Fail) is none = λ e. absurd cc
 
-  inside_room : (counters : Counters) (at : ℕ) (variables : List (Option ℕ)) (stage : Stage) (i : Option Instr)
+  inside_room : (context : Context) (at : ℕ) (variables : List (Option ℕ)) (stage : Stage) (i : Option Instr)
       → slice_get code at ≡ i → (awaits_inside stage i ≡ true → has_room layout t used ≡ true)
-      → Follows (dispatch_inside layout t used counters at variables stage i)
-  inside_room counters at variables InRange (Some (Borrow to list index otherwise)) is has =
+      → Follows (dispatch_inside layout t used context at variables stage i)
+  inside_room context at variables InRange (Some (Borrow to list index otherwise)) is has =
       cell_room code (has_room layout t used) (row_of variables list) index
-      (InCall counters otherwise (slice_set variables to None))
-      (λ item. InCall counters (at + 1) (slice_set variables to (Some item))) refl (λ item. refl)
-  inside_room counters at variables InRange (Some (Fetch to list index otherwise)) is has =
+      (InCall context otherwise (slice_set variables to None))
+      (λ item. InCall context (at + 1) (slice_set variables to (Some item))) refl (λ item. refl)
+  inside_room context at variables InRange (Some (Fetch to list index otherwise)) is has =
       cell_room code (has_room layout t used) (row_of variables list) index
-      (InCall counters otherwise (slice_set variables to None))
-      (λ item. Inside counters at variables (Found item)) refl (λ item. refl)
-  inside_room counters at variables (Found item) (Some (Fetch to list index otherwise)) is has = λ found e. absurd cc
-  inside_room counters at variables InRange (Some (Set list index from otherwise)) is has =
+      (InCall context otherwise (slice_set variables to None))
+      (λ item. Inside context at variables (Found item)) refl (λ item. refl)
+  inside_room context at variables (Found item) (Some (Fetch to list index otherwise)) is has = λ found e. absurd cc
+  inside_room context at variables InRange (Some (Set list index from otherwise)) is has =
       row_room code (has_room layout t used) (row_of variables list) _ (λ row.
       row_room code (has_room layout t used) (row_of variables from) _ (λ item found e. absurd cc))
-  inside_room counters at variables OutOfRange (Some (Set list index from otherwise)) is has =
+  inside_room context at variables OutOfRange (Some (Set list index from otherwise)) is has =
       row_room code (has_room layout t used) (row_of variables from) _ (λ item found e. absurd cc)
-  inside_room counters at variables InRange (Some (Put list index from otherwise)) is has =
+  inside_room context at variables InRange (Some (Put list index from otherwise)) is has =
       row_room code (has_room layout t used) (row_of variables from) _ (λ item found e. absurd cc)
-  inside_room counters at variables Retained (Some (Put list index from otherwise)) is has =
+  inside_room context at variables Retained (Some (Put list index from otherwise)) is has =
       row_room code (has_room layout t used) (row_of variables list) _ (λ row.
       row_room code (has_room layout t used) (row_of variables from) _ (λ item found e. absurd cc))
-  inside_room counters at variables Granted (Some (Open to path mode otherwise)) is has = λ found e. absurd cc
-  inside_room counters at variables Granted (Some (Connect to peer otherwise)) is has = λ found e. absurd cc
-  inside_room counters at variables Lent (Some (Read to file most otherwise)) is has = λ exit awaits. has refl
-  inside_room counters at variables (Called Success) (Some (Read to file most otherwise)) is has =
+  inside_room context at variables Granted (Some (Open to path mode otherwise)) is has = λ found e. absurd cc
+  inside_room context at variables Granted (Some (Connect to peer otherwise)) is has = λ found e. absurd cc
+  inside_room context at variables Lent (Some (Read to file most otherwise)) is has = λ exit awaits. has refl
+  inside_room context at variables (Called Success) (Some (Read to file most otherwise)) is has =
       row_room code (has_room layout t used) (row_of variables file) _ (λ row found awaits. (refl, refl, has refl))
-  inside_room counters at variables (Called FaultExit) (Some (Read to file most otherwise)) is has =
+  inside_room context at variables (Called FaultExit) (Some (Read to file most otherwise)) is has =
       row_room code (has_room layout t used) (row_of variables file) _ (λ row found e. absurd cc)
-  inside_room counters at variables Granted (Some (Read to file most otherwise)) is has = λ found e. absurd cc
-  inside_room counters at variables Loaded (Some (Write file number otherwise)) is has =
+  inside_room context at variables Granted (Some (Read to file most otherwise)) is has = λ found e. absurd cc
+  inside_room context at variables Loaded (Some (Write file number otherwise)) is has =
       row_room code (has_room layout t used) (row_of variables file) _ (λ row.
-      does_none code (has_room layout t used) (LendSlot row) [] (always (Inside counters at variables Lent))
+      does_none code (has_room layout t used) (LendSlot row) [] (always (Inside context at variables Lent))
       (λ found. ap (awaits_inside Lent) is))
-  inside_room counters at variables Lent (Some (Write file number otherwise)) is has = λ exit.
-      silent_none code (has_room layout t used) (Inside counters at variables (Called exit))
+  inside_room context at variables Lent (Some (Write file number otherwise)) is has = λ exit.
+      silent_none code (has_room layout t used) (Inside context at variables (Called exit))
       (ap (awaits_inside (Called exit)) is)
-  inside_room counters at variables (Called Success) (Some (Write file number otherwise)) is has =
+  inside_room context at variables (Called Success) (Some (Write file number otherwise)) is has =
       row_room code (has_room layout t used) (row_of variables file) _ (λ row found e. absurd cc)
-  inside_room counters at variables (Called FaultExit) (Some (Write file number otherwise)) is has =
+  inside_room context at variables (Called FaultExit) (Some (Write file number otherwise)) is has =
       row_room code (has_room layout t used) (row_of variables file) _ (λ row found e. absurd cc)
-  inside_room counters at variables stage i is has = tt
+  inside_room context at variables stage i is has = tt
 
   dispatch_room : (place : Place) → (awaits_birth code place ≡ true → has_room layout t used ≡ true)
       → Follows (dispatch layout t used code place)
   dispatch_room Exiting has = tt
   dispatch_room (Idle zero) has = λ found e. absurd cc
   dispatch_room (Idle (suc left)) has =
-      instruction_room (Idle (suc left)) (first_counters left) 0 entry_variables (slice_get code 0) refl refl
-  dispatch_room (InCall counters at variables) has =
-      instruction_room (InCall counters at variables) counters at variables (slice_get code at) refl refl
-  dispatch_room (Inside counters at variables stage) has =
-      inside_room counters at variables stage (slice_get code at) refl has
+      instruction_room (Idle (suc left)) (first_context left) 0 entry_variables (slice_get code 0) refl refl
+  dispatch_room (InCall context at variables) has =
+      instruction_room (InCall context at variables) context at variables (slice_get code at) refl refl
+  dispatch_room (Inside context at variables stage) has =
+      inside_room context at variables stage (slice_get code at) refl has
+  dispatch_room (Stopping (Some row) calls) has =
+      does_none code (has_room layout t used) (UnlockGate row) [] (always (stopping None calls))
+      (λ found. stopping_decides (AwaitsNone code) None calls refl refl)
+  dispatch_room (Stopping None calls) has =
+      give_up_decides (FollowsRoom code (has_room layout t used)) tt
+      (λ row depth v after.
+      does_none code (has_room layout t used) (ReleaseLoad row (ByVariable depth v))
+      (cond (holds_some after) [] (Settle ∷ [])) (always (stopping None after))
+      (λ found. stopping_decides (AwaitsNone code) None after refl refl)) calls
 
 module _ (functions : List Function) (layout : Layout) (t : ℕ) (a : StepActor)
     (has : awaits_birth (code_of (slice_get functions a.function)) a.place ≡ true → HasRoom layout t a.actor) where
@@ -238,10 +250,18 @@ module _ (functions : List Function) (layout : Layout) (t : ℕ) (a : StepActor)
   status_room Leaving = agenda_room a.actor.agenda refl
 
   -- Whatever a thread does, there is room where a birth is awaited after it.
-  pub action_room : (choice : Choice) → Stays (action_of functions layout t a choice)
-  action_room Ok = status_room a.actor.status
-  action_room Fault = status_room a.actor.status
-  action_room (Claim row) =
+  pub action_room : (states : ℕ → ℕ → Option State) (choice : Choice)
+      → Stays (action_of functions states layout t a choice)
+  action_room states Ok = status_room a.actor.status
+  action_room states Fault = status_room a.actor.status
+  action_room states Stop =
+      let code = code_of (slice_get functions a.function) in
+      let room = has_room layout t a.actor.used in
+      either Stays (may_stop a) (stop_action (states a.function) a.place) Skip
+      (λ may. stop_decides Stays (states a.function) a.place tt tt
+      (λ lock calls. silent_none code room (stopping lock calls)
+      (stopping_decides (AwaitsNone code) lock calls refl refl)) (λ e. absurd cc)) tt
+  action_room states (Claim row) =
       either Stays (may_claim layout t a row) _ Skip
       (λ may found awaits.
       absurd (let wrong : true ≡ false = sym awaits

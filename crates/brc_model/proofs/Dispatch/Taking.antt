@@ -16,14 +16,14 @@ use Rattle.brc_model.specs.AbstractState.{Reference, same_holding}
 use Rattle.brc_model.specs.Threads.{row_of, entry_variables}
 use Rattle.brc_model.specs.declared.duty.Duty.TheVariants.{RetainLoad, ReleaseLoad, Settle, Leave}
 use Rattle.brc_model.specs.declared.actor.Place.{Place}
-use Rattle.brc_model.specs.declared.actor.Counters.{Counters}
-use Rattle.brc_model.specs.declared.actor.Place.TheVariants.{Idle, InCall, Inside, Exiting}
+use Rattle.brc_model.specs.declared.actor.Context.{Context}
+use Rattle.brc_model.specs.declared.actor.Place.TheVariants.{Idle, InCall, Inside, Stopping, Exiting}
 use Rattle.brc_model.specs.declared.actor.Stage.{Stage}
-use Rattle.brc_model.specs.Actions.{Does, always, first_counters, dispatch_instruction, dispatch, dispatch_inside}
+use Rattle.brc_model.specs.Actions.{Does, always, first_context, dispatch_instruction, dispatch, dispatch_inside, by_variable}
 use Rattle.brc_model.proofs.Basics.Bag.{held-le-references_to}
 use Rattle.brc_model.specs.References.{held, one_if, reference_of}
 use Rattle.brc_model.proofs.Basics.Lists.{first_false, none_some}
-use Rattle.brc_model.proofs.Dispatch.Holds.{the_root, of_variables, Holds, holds-ended, holds-entered, of_inside}
+use Rattle.brc_model.proofs.Dispatch.Holds.{once_each, ended_says, the_root, of_variables, Holds, holds-ended, holds-entered, of_inside, call_of}
 use Rattle.brc_model.proofs.Dispatch.Grounded.{IsInside, AreInstructions, owned_slot, owned_row, grounded-put, entry_in_call}
 use Rattle.brc_model.proofs.Dispatch.Guards.{LocksAgree, guards-put, guards_none}
 use Rattle.brc_model.proofs.Dispatch.Standing.{named_at, given_referenced, keeps_all, keeps_given}
@@ -39,43 +39,51 @@ use Rattle.brc_model.proofs.Dispatch.Items.{entry_items}
 use Rattle.brc_model.proofs.Dispatch.Passing.{passes_on}
 use Rattle.brc_model.proofs.Stepping.Counts.{flip_eqb}
 use Rattle.brc_model.proofs.Frame.Aside.{HoldsAlone}
-use Rattle.brc_model.proofs.Dispatch.Coded.{once_each, PlaceFits, has_stage, in_flight}
+use Rattle.brc_model.proofs.Dispatch.Coded.{PlaceFits, has_stage, in_flight}
 use Rattle.brc_model.proofs.Dispatch.Lending.{lent_to, lent_at}
 use Rattle.brc_model.proofs.Dispatch.Rooms.{awaits_inside, awaits_birth}
 use Rattle.brc_model.specs.Machine.{has_room}
-use Rattle.brc_model.proofs.Dispatch.Begins.{Scene, words_of, CountsLockable, StandsAt, holds_plain, holds_at_none, Gives, Takes, Nothing, Settles, Leaves, Taken, IsTaken, taken_with_row, idle_stays, in_call_stays, newref_held, emptied_held, ended_says, SilentTaken, StandsInside}
+use Rattle.brc_model.proofs.Dispatch.Begins.{Scene, words_of, CountsLockable, StandsAt, holds_plain, holds_at_none, Gives, Takes, Nothing, Settles, Leaves, Taken, IsTaken, taken_with_row, idle_stays, in_call_stays, newref_held, emptied_held, SilentTaken, StandsInside}
 use Rattle.brc_model.proofs.Keeping.SilentMoves.{Stays}
 use Rattle.brc_model.proofs.Dispatch.TakingSilent.{none_taken, move_taken, goto_taken, again_taken}
 use Rattle.brc_model.specs.Layout.{root_row}
+use Rattle.brc_model.proofs.Dispatch.TakingStops.{stopped_unlocks, give_up_taken}
 
-newref_taken : (code : List Instr) (g : Scene) (before : Place) (counters : Counters) (at : ℕ)
+newref_taken : (code : List Instr) (g : Scene) (before : Place) (context : Context) (at : ℕ)
     (variables : List (Option ℕ))
     (s : State) (to from : ℕ)
-    → StandsAt code g before at variables s (Newref to from)
-    → IsTaken code g (dispatch_instruction g.layout g.thread g.used before counters at variables
+    → StandsAt code context g before at variables s (Newref to from)
+    → IsTaken code g (dispatch_instruction g.layout g.thread g.used before context at variables
     (Some (Newref to from)))
-newref_taken code g before counters at variables s to from here =
+newref_taken code g before context at variables s to from here =
     let some : is_empty (slot_of s from) ≡ false = first_false _ _ here.met.not_empty in
     let free : is_owned (slot_of s to) ≡ false = first_false _ _ here.met.free in
-    let live = named_at code g before at variables s (Newref to from) from here some in
+    let live = named_at code context g before at variables s (Newref to from) from here some in
     let in_slots : to < length s.slots = omega (arith, here.variables.0, here.inside.slots) in
     let in_rows : to < length variables = omega (arith, here.variables.0, here.inside.rows) in
     let slot = Owned (kind_of (slot_of s from)) in
-    let next : IsInside code (at + 1) (slice_set variables to (Some live.object)) (put s to slot) = record {
+    let next : IsInside (call_of code context) (at + 1) (slice_set variables to (Some live.object)) (put s to slot) =
+    record {
+      is_call = here.inside.is_call;
       exits = here.inside.exits ++ Success ∷ [];
       arrived = here.leads Success (at + 1) refl;
       slots = length-set s.slots to slot ∙ here.inside.slots;
       rows = length-set variables to (Some live.object) ∙ here.inside.rows;
       grounded =
-          grounded-put s variables to slot (Some live.object) in_slots in_rows (live.object, refl) here.inside.grounded;
+          grounded-put (call_of code context) s variables to slot (Some live.object) in_slots in_rows
+          (live.object, refl) here.inside.grounded;
     } in
-    let held_now : HoldsAlone g.bag g.thread (once_each (of_variables (put s to slot) (slice_set variables to
+    let held_now : HoldsAlone g.bag g.thread (once_each
+    (of_variables (call_of code context) (put s to slot) (slice_set variables to
     (Some live.object))))
-    (RetainLoad live.object (ByVariable to) ∷ []) =
-    record { each = newref_held g.bag g.thread s variables to live.object slot in_slots in_rows free refl here.holds }
+    (RetainLoad live.object (by_variable context to) ∷ []) =
+    record {
+      each = newref_held g.bag g.thread (call_of code context) s variables to live.object slot in_slots in_rows
+          free refl here.holds;
+    }
     in
-    let taken : (found : ℕ) → Taken code g found (InCall counters (at + 1) (slice_set variables to (Some live.object)))
-    (RetainLoad live.object (ByVariable to)) [] = λ found. record {
+    let taken : (found : ℕ) → Taken code g found (InCall context (at + 1) (slice_set variables to (Some live.object)))
+    (RetainLoad live.object (by_variable context to)) [] = λ found. record {
       placed = (
         put s to slot,
         next,
@@ -83,39 +91,46 @@ newref_taken code g before counters at variables s to from here =
             here.guards,
         held_now,
       );
-      starts = Takes live.object (ByVariable to) [] live.backs;
-      follows = Nothing (in_call_stays counters (at + 1) (slice_set variables to (Some live.object)));
-      keeps = keeps_all code g before at variables s (Newref to from) (RetainLoad live.object (ByVariable to)) here
+      starts = Takes live.object (by_variable context to) [] live.backs;
+      follows = Nothing (in_call_stays context (at + 1) (slice_set variables to (Some live.object)));
+      keeps = keeps_all code context g before at variables s (Newref to from)
+          (RetainLoad live.object (by_variable context to)) here
           (λ k object. refl);
     } in
     taken_with_row code g live.object (row_of variables from)
-    (λ row. Does (RetainLoad row (ByVariable to)) []
-    (always (InCall counters (at + 1) (slice_set variables to (Some row))))) live.is_row taken
+    (λ row. Does (RetainLoad row (by_variable context to)) []
+    (always (InCall context (at + 1) (slice_set variables to (Some row))))) live.is_row taken
 
-drop_taken : (code : List Instr) (g : Scene) (before : Place) (counters : Counters) (at : ℕ)
+drop_taken : (code : List Instr) (g : Scene) (before : Place) (context : Context) (at : ℕ)
     (variables : List (Option ℕ))
     (s : State) (from : ℕ)
-    → StandsAt code g before at variables s (Drop from)
-    → IsTaken code g (dispatch_instruction g.layout g.thread g.used before counters at variables (Some (Drop from)))
-drop_taken code g before counters at variables s from here =
+    → StandsAt code context g before at variables s (Drop from)
+    → IsTaken code g (dispatch_instruction g.layout g.thread g.used before context at variables (Some (Drop from)))
+drop_taken code g before context at variables s from here =
     let owned = owned_slot (slot_of s from) (first_false _ _ here.met.not_empty) (first_false _ _ here.met.owned) in
-    let row = owned_row (slot_of s from) (row_of variables from) owned (here.inside.grounded from) in
+    let row = owned_row (call_of code context) (slot_of s from) (row_of variables from) owned
+    (here.inside.grounded from) in
     let in_slots : from < length s.slots = omega (arith, here.variables, here.inside.slots) in
     let in_rows : from < length variables = omega (arith, here.variables, here.inside.rows) in
-    let next : IsInside code (at + 1) (slice_set variables from None) (put s from Empty) = record {
+    let next : IsInside (call_of code context) (at + 1) (slice_set variables from None) (put s from Empty) = record {
+      is_call = here.inside.is_call;
       exits = here.inside.exits ++ Success ∷ [];
       arrived = here.leads Success (at + 1) refl;
       slots = length-set s.slots from Empty ∙ here.inside.slots;
       rows = length-set variables from None ∙ here.inside.rows;
-      grounded = grounded-put s variables from Empty None in_slots in_rows tt here.inside.grounded;
+      grounded = grounded-put (call_of code context) s variables from Empty None in_slots in_rows tt
+          here.inside.grounded;
     } in
-    let held_now : HoldsAlone g.bag g.thread (once_each (of_variables (put s from Empty)
+    let held_now : HoldsAlone g.bag g.thread (once_each (of_variables (call_of code context) (put s from Empty)
     (slice_set variables from None)))
-    (ReleaseLoad row.0 (ByVariable from) ∷ Settle ∷ []) =
-    record { each = emptied_held g.bag g.thread s variables from row.0 in_slots owned row.1 here.holds } in
+    (ReleaseLoad row.0 (by_variable context from) ∷ Settle ∷ []) =
+    record {
+      each = emptied_held g.bag g.thread (call_of code context) s variables from row.0 in_slots owned row.1
+          here.holds;
+    } in
     let free : names s.locked from ≡ false = first_false _ _ here.met.unlocked in
-    let taken : (found : ℕ) → Taken code g found (InCall counters (at + 1) (slice_set variables from None))
-    (ReleaseLoad row.0 (ByVariable from)) (Settle ∷ []) = λ found. record {
+    let taken : (found : ℕ) → Taken code g found (InCall context (at + 1) (slice_set variables from None))
+    (ReleaseLoad row.0 (by_variable context from)) (Settle ∷ []) = λ found. record {
       placed = (
         put s from Empty,
         next,
@@ -123,108 +138,112 @@ drop_taken code g before counters at variables s from here =
         held_now,
       );
       starts =
-          Gives row.0 (ByVariable from) (Settle ∷ [])
-          (given_referenced g.bag g.thread s variables from row.0 owned row.1 here.holds);
-      follows = Settles (in_call_stays counters (at + 1) (slice_set variables from None));
-      keeps = keeps_given code g before at variables s (Drop from) row.0 from here free;
+          Gives row.0 (by_variable context from) (Settle ∷ [])
+          (given_referenced g.bag g.thread (call_of code context) s variables from row.0 owned row.1 here.holds);
+      follows = Settles (in_call_stays context (at + 1) (slice_set variables from None));
+      keeps = keeps_given code context g before at variables s (Drop from) row.0 from here free;
     } in
     taken_with_row code g row.0 (row_of variables from)
-    (λ r. Does (ReleaseLoad r (ByVariable from)) (Settle ∷ [])
-    (always (InCall counters (at + 1) (slice_set variables from None)))) row.1 taken
+    (λ r. Does (ReleaseLoad r (by_variable context from)) (Settle ∷ [])
+    (always (InCall context (at + 1) (slice_set variables from None)))) row.1 taken
 
-ret_taken : (code : List Instr) (g : Scene) (before : Place) (counters : Counters) (at : ℕ)
+ret_taken : (code : List Instr) (g : Scene) (before : Place) (context : Context) (at : ℕ)
     (variables : List (Option ℕ))
     (s : State) (from : ℕ)
-    → StandsAt code g before at variables s (Ret from)
-    → IsTaken code g (dispatch_instruction g.layout g.thread g.used before counters at variables (Some (Ret from)))
-ret_taken code g before counters at variables s from here =
+    → StandsAt code context g before at variables s (Ret from)
+    → IsTaken code g (dispatch_instruction g.layout g.thread g.used before context at variables (Some (Ret from)))
+ret_taken code g before context at variables s from here =
     let owned = owned_slot (slot_of s from) (first_false _ _ here.met.not_empty) (first_false _ _ here.met.owned) in
-    let row = owned_row (slot_of s from) (row_of variables from) owned (here.inside.grounded from) in
+    let row = owned_row (call_of code context) (slot_of s from) (row_of variables from) owned
+    (here.inside.grounded from) in
     let in_slots : from < length s.slots = omega (arith, here.variables, here.inside.slots) in
     let none : list_any is_owned (put s from Empty).slots ≡ false = first_false _ _ here.met.none_left in
-    let held_now : HoldsAlone g.bag g.thread (once_each the_root) (ReleaseLoad row.0 (ByVariable from) ∷ Settle ∷ []) =
+    let held_now : HoldsAlone g.bag g.thread (once_each the_root)
+    (ReleaseLoad row.0 (by_variable context from) ∷ Settle ∷ []) =
     record {
       each = λ k object.
-          let said : one_if (of_variables (put s from Empty) (slice_set variables from None) k object)
+          let said : one_if (of_variables (call_of code context) (put s from Empty) (slice_set variables from None) k
+          object)
           ≡ one_if (the_root k object) =
-          ap one_if (ended_says (put s from Empty) (slice_set variables from None) k object none) in
+          ap one_if (ended_says code context (put s from Empty) (slice_set variables from None) k object none) in
           omega (
             arith,
-            emptied_held g.bag g.thread s variables from row.0 in_slots owned row.1 here.holds k object,
+            emptied_held g.bag g.thread (call_of code context) s variables from row.0 in_slots owned row.1 here.holds k
+                object,
             said,
           );
     } in
     let free : names s.locked from ≡ false = first_false _ _ here.met.unlocked in
     let none_locked = guards_none s variables s.locked g.locked (first_false _ _ here.met.no_lock_left) here.guards in
-    let taken : (found : ℕ) → Taken code g found (Idle counters.left) (ReleaseLoad row.0 (ByVariable from))
+    let taken : (found : ℕ) → Taken code g found (Idle context.left) (ReleaseLoad row.0 (by_variable context from))
     (Settle ∷ []) =
     λ found. record {
       placed = (none_locked, held_now);
       starts =
-          Gives row.0 (ByVariable from) (Settle ∷ [])
-          (given_referenced g.bag g.thread s variables from row.0 owned row.1 here.holds);
-      follows = Settles (idle_stays counters.left);
-      keeps = keeps_given code g before at variables s (Ret from) row.0 from here free;
+          Gives row.0 (by_variable context from) (Settle ∷ [])
+          (given_referenced g.bag g.thread (call_of code context) s variables from row.0 owned row.1 here.holds);
+      follows = Settles (idle_stays context.left);
+      keeps = keeps_given code context g before at variables s (Ret from) row.0 from here free;
     } in
     taken_with_row code g row.0 (row_of variables from)
-    (λ r. Does (ReleaseLoad r (ByVariable from)) (Settle ∷ []) (always (Idle counters.left))) row.1 taken
+    (λ r. Does (ReleaseLoad r (by_variable context from)) (Settle ∷ []) (always (Idle context.left))) row.1 taken
 
 -- ---- each instruction
 
-instruction_taken : (code : List Instr) (g : Scene) (before : Place) (counters : Counters) (at : ℕ)
+instruction_taken : (code : List Instr) (g : Scene) (before : Place) (context : Context) (at : ℕ)
     (variables : List (Option ℕ))
     (s : State) (i : Instr)
-    → StandsAt code g before at variables s i
-    → IsTaken code g (dispatch_instruction g.layout g.thread g.used before counters at variables (Some i))
-instruction_taken code g before counters at variables s (Num to value otherwise) here =
-    num_taken code g before counters at variables s to value otherwise here
-instruction_taken code g before counters at variables s (ListObject to cells otherwise) here =
-    list_taken code g before counters at variables s to cells otherwise here
-instruction_taken code g before counters at variables s (NoneObject to) here =
-    none_taken code g before counters at variables s to here
-instruction_taken code g before counters at variables s (MoveReference to from) here =
-    move_taken code g before counters at variables s to from here
-instruction_taken code g before counters at variables s (Newref to from) here =
-    newref_taken code g before counters at variables s to from here
-instruction_taken code g before counters at variables s (Drop from) here =
-    drop_taken code g before counters at variables s from here
-instruction_taken code g before counters at variables s (Lock object) here =
-    lock_taken code g before counters at variables s object here
-instruction_taken code g before counters at variables s (Unlock object) here =
-    unlock_taken code g before counters at variables s object here
-instruction_taken code g before counters at variables s (Borrow to list index otherwise) here =
-    borrow_taken code g before counters at variables s to list index otherwise here
-instruction_taken code g before counters at variables s (Fetch to list index otherwise) here =
-    fetch_taken code g before counters at variables s to list index otherwise here
-instruction_taken code g before counters at variables s (Set list index from otherwise) here =
-    set_taken code g before counters at variables s list index from otherwise here
-instruction_taken code g before counters at variables s (Put list index from otherwise) here =
-    put_taken code g before counters at variables s list index from otherwise here
-instruction_taken code g before counters at variables s (Open to path mode otherwise) here =
-    open_taken code g counters at variables s before to path mode otherwise here
-instruction_taken code g before counters at variables s (Connect to peer otherwise) here =
-    connect_taken code g counters at variables s before to peer otherwise here
-instruction_taken code g before counters at variables s (Read to file most otherwise) here =
-    read_taken code g counters at variables s before to file most otherwise here
-instruction_taken code g before counters at variables s (Write file number otherwise) here =
-    write_taken code g counters at variables s before file number otherwise here
-instruction_taken code g before counters at variables s (As from kind otherwise) here =
-    as_taken code g before counters at variables s from kind otherwise here
-instruction_taken code g before counters at variables s (Ret from) here =
-    ret_taken code g before counters at variables s from here
-instruction_taken code g before counters at variables s (Goto to) here =
-    goto_taken code g before counters at variables s to here
-instruction_taken code g before counters at variables s (Again to times) here =
-    again_taken code g before counters at variables s to times here
-instruction_taken code g before counters at variables s Fail here =
-    let taken : SilentTaken code g [] (Idle counters.left) = record {
+    → StandsAt code context g before at variables s i
+    → IsTaken code g (dispatch_instruction g.layout g.thread g.used before context at variables (Some i))
+instruction_taken code g before context at variables s (Num to value otherwise) here =
+    num_taken code g before context at variables s to value otherwise here
+instruction_taken code g before context at variables s (ListObject to cells otherwise) here =
+    list_taken code g before context at variables s to cells otherwise here
+instruction_taken code g before context at variables s (NoneObject to) here =
+    none_taken code g before context at variables s to here
+instruction_taken code g before context at variables s (MoveReference to from) here =
+    move_taken code g before context at variables s to from here
+instruction_taken code g before context at variables s (Newref to from) here =
+    newref_taken code g before context at variables s to from here
+instruction_taken code g before context at variables s (Drop from) here =
+    drop_taken code g before context at variables s from here
+instruction_taken code g before context at variables s (Lock object) here =
+    lock_taken code g before context at variables s object here
+instruction_taken code g before context at variables s (Unlock object) here =
+    unlock_taken code g before context at variables s object here
+instruction_taken code g before context at variables s (Borrow to list index otherwise) here =
+    borrow_taken code g before context at variables s to list index otherwise here
+instruction_taken code g before context at variables s (Fetch to list index otherwise) here =
+    fetch_taken code g before context at variables s to list index otherwise here
+instruction_taken code g before context at variables s (Set list index from otherwise) here =
+    set_taken code g before context at variables s list index from otherwise here
+instruction_taken code g before context at variables s (Put list index from otherwise) here =
+    put_taken code g before context at variables s list index from otherwise here
+instruction_taken code g before context at variables s (Open to path mode otherwise) here =
+    open_taken code g context at variables s before to path mode otherwise here
+instruction_taken code g before context at variables s (Connect to peer otherwise) here =
+    connect_taken code g context at variables s before to peer otherwise here
+instruction_taken code g before context at variables s (Read to file most otherwise) here =
+    read_taken code g context at variables s before to file most otherwise here
+instruction_taken code g before context at variables s (Write file number otherwise) here =
+    write_taken code g context at variables s before file number otherwise here
+instruction_taken code g before context at variables s (As from kind otherwise) here =
+    as_taken code g before context at variables s from kind otherwise here
+instruction_taken code g before context at variables s (Ret from) here =
+    ret_taken code g before context at variables s from here
+instruction_taken code g before context at variables s (Goto to) here =
+    goto_taken code g before context at variables s to here
+instruction_taken code g before context at variables s (Again to times) here =
+    again_taken code g before context at variables s to times here
+instruction_taken code g before context at variables s Fail here =
+    let taken : SilentTaken code g [] (Idle context.left) = record {
       moves_fit = Stays;
       placed = (
         guards_none s variables s.locked g.locked (first_false _ _ here.met.no_lock_left) here.guards,
         holds_at_none g.bag g.thread the_root
-            (holds-ended g.bag g.thread s variables (first_false _ _ here.met.none_left) here.holds),
+            (holds-ended g.bag g.thread code context s variables (first_false _ _ here.met.none_left) here.holds),
       );
-      stays = idle_stays counters.left;
+      stays = idle_stays context.left;
     } in
     taken
 
@@ -238,17 +257,18 @@ pub record SeesKinds (code : List Instr) (g : Scene) (place : Place) : Type 0 wh
   pub lent : g.lent ≡ lent_at code place
   pub room : awaits_birth code place ≡ true → has_room g.layout g.thread g.used ≡ true
 
-in_call_taken : (code : List Instr) (g : Scene) (before : Place) (counters : Counters) (at : ℕ)
+in_call_taken : (code : List Instr) (g : Scene) (before : Place) (context : Context) (at : ℕ)
     (variables : List (Option ℕ)) (s : State)
-    → IsAcceptableCode code → AreInstructions code → IsInside code at variables s → LocksAgree s variables g.locked
-    → Holds g.bag g.thread (of_variables s variables) → HaveTrueKinds (words_of g) s variables
+    → IsAcceptableCode code → AreInstructions code → IsInside (call_of code context) at variables s
+    → LocksAgree s variables g.locked
+    → Holds g.bag g.thread (of_variables (call_of code context) s variables) → HaveTrueKinds (words_of g) s variables
     → HaveItems g.memory g.locked s variables → CountsLockable g → g.lent ≡ None
     → PlaceFits code g.bag g.thread [] g.locked before → (before ≢ Exiting)
-    → IsTaken code g (dispatch_instruction g.layout g.thread g.used before counters at variables (slice_get code at))
-in_call_taken code g before counters at variables s accepted instructions inside guards holds kinds items counted unlent
+    → IsTaken code g (dispatch_instruction g.layout g.thread g.used before context at variables (slice_get code at))
+in_call_taken code g before context at variables s accepted instructions inside guards holds kinds items counted unlent
     back remains =
     let on = passes_on code inside.exits at s accepted inside.arrived in
-    let here : StandsAt code g before at variables s on.here =
+    let here : StandsAt code context g before at variables s on.here =
     record {
       found = on.found;
       inside = inside;
@@ -265,26 +285,28 @@ in_call_taken code g before counters at variables s accepted instructions inside
       leads = on.leads;
     } in
     subst (λ (o : Option Instr). IsTaken code g
-    (dispatch_instruction g.layout g.thread g.used before counters at variables o))
-    (sym on.found) (instruction_taken code g before counters at variables s on.here here)
+    (dispatch_instruction g.layout g.thread g.used before context at variables o))
+    (sym on.found) (instruction_taken code g before context at variables s on.here here)
 
 -- Inside an instruction the state before it still stands.
-inside_call_taken : (code : List Instr) (g : Scene) (counters : Counters) (at : ℕ) (variables : List (Option ℕ))
+inside_call_taken : (code : List Instr) (g : Scene) (context : Context) (at : ℕ) (variables : List (Option ℕ))
     (stage : Stage) → IsAcceptableCode code → AreInstructions code
-    → PlaceFits code g.bag g.thread [] g.locked (Inside counters at variables stage)
-    → SeesKinds code g (Inside counters at variables stage)
-    → IsTaken code g (dispatch_inside g.layout g.thread g.used counters at variables stage (slice_get code at))
-inside_call_taken code g counters at variables stage accepted instructions fits sees =
+    → PlaceFits code g.bag g.thread [] g.locked (Inside context at variables stage)
+    → SeesKinds code g (Inside context at variables stage)
+    → IsTaken code g (dispatch_inside g.layout g.thread g.used context at variables stage (slice_get code at))
+inside_call_taken code g context at variables stage accepted instructions fits sees =
     let s = fits.0 in
     let inside = fits.1 in
     let on = passes_on code inside.exits at s accepted inside.arrived in
     let holds =
-    holds_plain g.bag g.thread (of_inside (in_flight (slice_get code at) stage variables) s variables) fits.3 in
-    let here : StandsInside code g at variables s stage on.here =
+    holds_plain g.bag g.thread (of_inside (call_of code context) (in_flight (slice_get code at) stage variables) s
+    variables) fits.3 in
+    let here : StandsInside code context g at variables s stage on.here =
     record {
       found = on.found;
       inside = inside;
-      holds = subst (λ (o : Option Instr). Holds g.bag g.thread (of_inside (in_flight o stage variables) s variables))
+      holds = subst (λ (o : Option Instr). Holds g.bag g.thread
+          (of_inside (call_of code context) (in_flight o stage variables) s variables))
           on.found holds;
       guards = fits.2;
       kinds = sees.knows inside.exits s inside.arrived;
@@ -298,8 +320,8 @@ inside_call_taken code g counters at variables stage accepted instructions fits 
       leads = on.leads;
     } in
     subst (λ (o : Option Instr). IsTaken code g
-    (dispatch_inside g.layout g.thread g.used counters at variables stage o)) (sym on.found)
-    (inside_taken code g counters at variables s on.here stage here)
+    (dispatch_inside g.layout g.thread g.used context at variables stage o)) (sym on.found)
+    (inside_taken code g context at variables s on.here stage here)
 
 -- The exit gives up the reference that the thread holds as the caller.
 exit_held : (bag : List Reference) (t : ℕ) → Holds bag t the_root → (k : Holding) (object : ℕ)
@@ -308,7 +330,7 @@ exit_held bag t holds AsCaller object =
     let flipped : one_if (object == root_row) ≡ one_if (root_row == object) = ap one_if (flip_eqb object root_row) in
     omega (arith, holds.each AsCaller object, flipped)
 exit_held bag t holds InFlight object = omega (arith, holds.each InFlight object)
-exit_held bag t holds (ByVariable v) object = omega (arith, holds.each (ByVariable v) object)
+exit_held bag t holds (ByVariable depth v) object = omega (arith, holds.each (ByVariable depth v) object)
 
 -- What a thread at rest takes up meets its condition, whatever it dispatches.
 pub dispatch_taken : (code : List Instr) (g : Scene) (place : Place)
@@ -328,16 +350,21 @@ dispatch_taken code g (Idle zero) accepted instructions stays fits sees =
       keeps = λ x locked. absurd (none_some x (sym fits.0 ∙ locked));
     }
 dispatch_taken code g (Idle (suc left)) accepted instructions stays fits sees =
-    in_call_taken code g (Idle (suc left)) (first_counters left) 0 entry_variables entry accepted instructions
-    (entry_in_call code)
-    fits.0 (holds-entered g.bag g.thread (holds_plain g.bag g.thread the_root fits.1)) sees.begins
+    in_call_taken code g (Idle (suc left)) (first_context left) 0 entry_variables entry accepted instructions
+    (entry_in_call code left)
+    fits.0 (holds-entered g.bag g.thread code (first_context left) (holds_plain g.bag g.thread the_root fits.1))
+    sees.begins
     (entry_items g.memory g.locked)
     sees.counted sees.lent fits stays
-dispatch_taken code g (Inside counters at variables stage) accepted instructions stays fits sees =
-    inside_call_taken code g counters at variables stage accepted instructions fits sees
-dispatch_taken code g (InCall counters at variables) accepted instructions stays fits sees =
-    in_call_taken code g (InCall counters at variables) counters at variables fits.0 accepted instructions fits.1 fits.2
-    (holds_plain g.bag g.thread (of_variables fits.0 variables) fits.3)
+dispatch_taken code g (Inside context at variables stage) accepted instructions stays fits sees =
+    inside_call_taken code g context at variables stage accepted instructions fits sees
+dispatch_taken code g (InCall context at variables) accepted instructions stays fits sees =
+    in_call_taken code g (InCall context at variables) context at variables fits.0 accepted instructions fits.1 fits.2
+    (holds_plain g.bag g.thread (of_variables (call_of code context) fits.0 variables) fits.3)
     (sees.knows fits.1.exits fits.0 fits.1.arrived) (sees.items fits.1.exits fits.0 fits.1.arrived) sees.counted
     sees.lent fits
     stays
+dispatch_taken code g (Stopping (Some row) calls) accepted instructions stays fits sees =
+    stopped_unlocks code g row calls fits sees.lent
+dispatch_taken code g (Stopping None calls) accepted instructions stays fits sees =
+    give_up_taken code g calls fits.0 fits.1 fits.3 fits.2

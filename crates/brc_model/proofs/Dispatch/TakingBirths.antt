@@ -15,24 +15,22 @@ use Rattle.brc_model.specs.declared.slot.State.{State}
 use Rattle.brc_model.specs.declared.slot.Exit.TheVariants.{Success, Fault}
 use Rattle.brc_model.specs.Slots.{slot_of, is_owned, put, names}
 use Rattle.brc_model.specs.Paths.{At, path_end}
-use Rattle.brc_model.specs.declared.duty.Holding.TheVariants.{ByVariable}
 use Rattle.brc_model.specs.declared.duty.Duty.TheVariants.{BirthKind}
 use Rattle.brc_model.specs.declared.actor.Place.{Place}
-use Rattle.brc_model.specs.declared.actor.Counters.{Counters}
+use Rattle.brc_model.specs.declared.actor.Context.{Context}
 use Rattle.brc_model.specs.declared.actor.Place.TheVariants.{InCall}
 use Rattle.brc_model.specs.Kinds.{kind_numbered, kind_of_word, is_counted_kind}
 use Rattle.brc_model.specs.Duties.{cells_of}
 use Rattle.brc_model.specs.Limits.{cell_limit}
 use Rattle.brc_model.specs.Layout.{block_size, row_at}
 use Rattle.brc_model.specs.Machine.{has_room}
-use Rattle.brc_model.specs.Actions.{birth_action, dispatch_instruction, number_word, list_word}
+use Rattle.brc_model.specs.Actions.{birth_action, dispatch_instruction, number_word, list_word, by_variable}
 use Rattle.brc_model.proofs.Basics.Lists.{either, first_false}
 use Rattle.brc_model.proofs.Keeping.SilentMoves.{Stays}
 use Rattle.brc_model.proofs.Frame.Aside.{HoldsAlone}
-use Rattle.brc_model.proofs.Dispatch.Holds.{of_variables, Holds}
+use Rattle.brc_model.proofs.Dispatch.Holds.{once_each, of_variables, Holds, call_of}
 use Rattle.brc_model.proofs.Dispatch.Grounded.{IsInside, grounded-put}
 use Rattle.brc_model.proofs.Dispatch.Guards.{LocksAgree, HeldBeside, guards-put}
-use Rattle.brc_model.proofs.Dispatch.Coded.{once_each}
 use Rattle.brc_model.proofs.Dispatch.Begins.{Scene, StandsAt, Bears, Nothing, Taken, SilentTaken, IsTaken, holds_at_none, in_call_stays, newref_held, cleared_held}
 use Rattle.brc_model.proofs.Dispatch.Standing.{keeps_all}
 
@@ -69,15 +67,16 @@ list_counts cells few =
 
 -- A thread at an instruction that makes an object of the kind word in a variable that owns nothing: on success the
 -- variable owns an object of the kind, and where the thread has no row left the variable is empty.
-pub record BearsAt (code : List Instr) (g : Scene) (at : ℕ) (variables : List (Option ℕ)) (s : State)
+pub record BearsAt (code : List Instr) (context : Context) (g : Scene) (at : ℕ) (variables : List (Option ℕ))
+    (s : State)
     (to word otherwise : ℕ)
     (kind : Kind) : Type 0 where
-  pub inside : IsInside code at variables s
-  pub holds : Holds g.bag g.thread (of_variables s variables)
+  pub inside : IsInside (call_of code context) at variables s
+  pub holds : Holds g.bag g.thread (of_variables (call_of code context) s variables)
   pub guards : LocksAgree s variables g.locked
   pub unlocked : names s.locked to ≡ false
   pub keeps : (x : ℕ) → g.locked ≡ Some x
-      → HeldBeside g.bag g.thread x (BirthKind (row_at g.layout g.thread g.used) (ByVariable to) word)
+      → HeldBeside g.bag g.thread x (BirthKind (row_at g.layout g.thread g.used) (by_variable context to) word)
   pub variable : to < variable_count
   pub free : is_owned (slot_of s to) ≡ false
   pub few_cells : cells_of word ≤ cell_limit
@@ -85,28 +84,33 @@ pub record BearsAt (code : List Instr) (g : Scene) (at : ℕ) (variables : List 
   pub owned_next : path_end code (inside.exits ++ Success ∷ []) ≡ At (at + 1) (put s to (Owned kind))
   pub empty_next : path_end code (inside.exits ++ Fault ∷ []) ≡ At otherwise (put s to Empty)
 
-pub born : (code : List Instr) (g : Scene) (counters : Counters) (at : ℕ) (variables : List (Option ℕ))
+pub born : (code : List Instr) (g : Scene) (context : Context) (at : ℕ) (variables : List (Option ℕ))
     (s : State) (to word otherwise : ℕ) (kind : Kind)
-    → BearsAt code g at variables s to word otherwise kind → has_room g.layout g.thread g.used ≡ true
+    → BearsAt code context g at variables s to word otherwise kind → has_room g.layout g.thread g.used ≡ true
     → (found : ℕ)
-    → Taken code g found (InCall counters (at + 1) (slice_set variables to (Some (row_at g.layout g.thread g.used))))
-    (BirthKind (row_at g.layout g.thread g.used) (ByVariable to) word) []
-born code g counters at variables s to word otherwise kind here room found =
+    → Taken code g found (InCall context (at + 1) (slice_set variables to (Some (row_at g.layout g.thread g.used))))
+    (BirthKind (row_at g.layout g.thread g.used) (by_variable context to) word) []
+born code g context at variables s to word otherwise kind here room found =
     let row = row_at g.layout g.thread g.used in
     let slot : Slot = Owned kind in
     let in_slots : to < length s.slots = omega (arith, here.variable, here.inside.slots) in
     let in_rows : to < length variables = omega (arith, here.variable, here.inside.rows) in
-    let next : IsInside code (at + 1) (slice_set variables to (Some row)) (put s to slot) = record {
+    let next : IsInside (call_of code context) (at + 1) (slice_set variables to (Some row)) (put s to slot) = record {
+      is_call = here.inside.is_call;
       exits = here.inside.exits ++ Success ∷ [];
       arrived = here.owned_next;
       slots = length-set s.slots to slot ∙ here.inside.slots;
       rows = length-set variables to (Some row) ∙ here.inside.rows;
-      grounded = grounded-put s variables to slot (Some row) in_slots in_rows (row, refl) here.inside.grounded;
+      grounded = grounded-put (call_of code context) s variables to slot (Some row) in_slots in_rows (row, refl)
+          here.inside.grounded;
     } in
-    let held_now : HoldsAlone g.bag g.thread (once_each (of_variables (put s to slot)
+    let held_now : HoldsAlone g.bag g.thread (once_each (of_variables (call_of code context) (put s to slot)
     (slice_set variables to (Some row))))
-    (BirthKind row (ByVariable to) word ∷ []) =
-    record { each = newref_held g.bag g.thread s variables to row slot in_slots in_rows here.free refl here.holds } in
+    (BirthKind row (by_variable context to) word ∷ []) =
+    record {
+      each = newref_held g.bag g.thread (call_of code context) s variables to row slot in_slots in_rows
+          here.free refl here.holds;
+    } in
     record {
       placed = (
         put s to slot,
@@ -114,30 +118,33 @@ born code g counters at variables s to word otherwise kind here room found =
         guards-put s variables to slot (Some row) s.locked g.locked here.unlocked here.guards,
         held_now,
       );
-      starts = Bears (ByVariable to) word (ltb-true g.used (block_size g.layout g.thread) room) here.few_cells
+      starts = Bears (by_variable context to) word (ltb-true g.used (block_size g.layout g.thread) room) here.few_cells
           here.counted;
-      follows = Nothing (in_call_stays counters (at + 1) (slice_set variables to (Some row)));
+      follows = Nothing (in_call_stays context (at + 1) (slice_set variables to (Some row)));
       keeps = here.keeps;
     }
 
 -- A thread whose instruction makes no object empties the variable and goes on at the fault exit.
-pub refused : (code : List Instr) (g : Scene) (counters : Counters) (at : ℕ) (variables : List (Option ℕ)) (s : State)
-    (to otherwise : ℕ) → (inside : IsInside code at variables s) → Holds g.bag g.thread (of_variables s variables)
+pub refused : (code : List Instr) (g : Scene) (context : Context) (at : ℕ) (variables : List (Option ℕ)) (s : State)
+    (to otherwise : ℕ) → (inside : IsInside (call_of code context) at variables s)
+    → Holds g.bag g.thread (of_variables (call_of code context) s variables)
     → LocksAgree s variables g.locked → names s.locked to ≡ false → to < variable_count
     → is_owned (slot_of s to) ≡ false → path_end code (inside.exits ++ Fault ∷ []) ≡ At otherwise (put s to Empty)
-    → SilentTaken code g [] (InCall counters otherwise (slice_set variables to None))
-refused code g counters at variables s to otherwise inside holds guards unlocked low free arrived =
+    → SilentTaken code g [] (InCall context otherwise (slice_set variables to None))
+refused code g context at variables s to otherwise inside holds guards unlocked low free arrived =
     let in_slots : to < length s.slots = omega (arith, low, inside.slots) in
     let in_rows : to < length variables = omega (arith, low, inside.rows) in
-    let next : IsInside code otherwise (slice_set variables to None) (put s to Empty) = record {
+    let next : IsInside (call_of code context) otherwise (slice_set variables to None) (put s to Empty) = record {
+      is_call = inside.is_call;
       exits = inside.exits ++ Fault ∷ [];
       arrived = arrived;
       slots = length-set s.slots to Empty ∙ inside.slots;
       rows = length-set variables to None ∙ inside.rows;
-      grounded = grounded-put s variables to Empty None in_slots in_rows tt inside.grounded;
+      grounded = grounded-put (call_of code context) s variables to Empty None in_slots in_rows tt inside.grounded;
     } in
-    let cleared : Holds g.bag g.thread (of_variables (put s to Empty) (slice_set variables to None)) =
-    record { each = cleared_held g.bag g.thread s variables to in_slots free holds } in
+    let cleared : Holds g.bag g.thread (of_variables (call_of code context) (put s to Empty)
+    (slice_set variables to None)) =
+    record { each = cleared_held g.bag g.thread (call_of code context) s variables to in_slots free holds } in
     record {
       moves_fit = Stays;
       placed = (
@@ -146,42 +153,43 @@ refused code g counters at variables s to otherwise inside holds guards unlocked
         guards-put s variables to Empty None s.locked g.locked unlocked guards,
         holds_at_none g.bag g.thread _ cleared,
       );
-      stays = in_call_stays counters otherwise (slice_set variables to None);
+      stays = in_call_stays context otherwise (slice_set variables to None);
     }
 
 -- If the thread has no room for a row, its instruction makes no object.
-not_born : (code : List Instr) (g : Scene) (counters : Counters) (at : ℕ) (variables : List (Option ℕ)) (s : State)
+not_born : (code : List Instr) (g : Scene) (context : Context) (at : ℕ) (variables : List (Option ℕ)) (s : State)
     (to word otherwise : ℕ) (kind : Kind)
-    → BearsAt code g at variables s to word otherwise kind
-    → SilentTaken code g [] (InCall counters otherwise (slice_set variables to None))
-not_born code g counters at variables s to word otherwise kind here =
-    refused code g counters at variables s to otherwise here.inside here.holds here.guards here.unlocked here.variable
+    → BearsAt code context g at variables s to word otherwise kind
+    → SilentTaken code g [] (InCall context otherwise (slice_set variables to None))
+not_born code g context at variables s to word otherwise kind here =
+    refused code g context at variables s to otherwise here.inside here.holds here.guards here.unlocked here.variable
     here.free here.empty_next
 
-birth_taken : (code : List Instr) (g : Scene) (counters : Counters) (at : ℕ)
+birth_taken : (code : List Instr) (g : Scene) (context : Context) (at : ℕ)
     (variables : List (Option ℕ))
     (s : State) (to word otherwise : ℕ) (kind : Kind)
-    → BearsAt code g at variables s to word otherwise kind
-    → IsTaken code g (birth_action g.layout g.thread g.used counters at variables to word otherwise)
-birth_taken code g counters at variables s to word otherwise kind here =
+    → BearsAt code context g at variables s to word otherwise kind
+    → IsTaken code g (birth_action g.layout g.thread g.used context at variables to word otherwise)
+birth_taken code g context at variables s to word otherwise kind here =
     either (IsTaken code g) (has_room g.layout g.thread g.used) _ _
-    (λ room found. born code g counters at variables s to word otherwise kind here room found)
-    (not_born code g counters at variables s to word otherwise kind here)
+    (λ room found. born code g context at variables s to word otherwise kind here room found)
+    (not_born code g context at variables s to word otherwise kind here)
 
-pub num_taken : (code : List Instr) (g : Scene) (before : Place) (counters : Counters) (at : ℕ)
+pub num_taken : (code : List Instr) (g : Scene) (before : Place) (context : Context) (at : ℕ)
     (variables : List (Option ℕ))
     (s : State) (to value otherwise : ℕ)
-    → StandsAt code g before at variables s (Num to value otherwise)
+    → StandsAt code context g before at variables s (Num to value otherwise)
     → IsTaken code g
-    (dispatch_instruction g.layout g.thread g.used before counters at variables (Some (Num to value otherwise)))
-num_taken code g before counters at variables s to value otherwise here =
-    birth_taken code g counters at variables s to (number_word value) otherwise kinds.Num (record {
+    (dispatch_instruction g.layout g.thread g.used before context at variables (Some (Num to value otherwise)))
+num_taken code g before context at variables s to value otherwise here =
+    birth_taken code g context at variables s to (number_word value) otherwise kinds.Num (record {
       inside = here.inside;
       holds = here.holds;
       guards = here.guards;
       unlocked = first_false _ _ here.met.unlocked;
-      keeps = keeps_all code g before at variables s (Num to value otherwise)
-          (BirthKind (row_at g.layout g.thread g.used) (ByVariable to) (number_word value)) here (λ k object. refl);
+      keeps = keeps_all code context g before at variables s (Num to value otherwise)
+          (BirthKind (row_at g.layout g.thread g.used) (by_variable context to) (number_word value)) here
+          (λ k object. refl);
       variable = here.variables.0;
       free = first_false _ _ here.met.free;
       few_cells = number_cells value here.variables.1;
@@ -190,20 +198,21 @@ num_taken code g before counters at variables s to value otherwise here =
       empty_next = here.leads Fault otherwise refl;
     })
 
-pub list_taken : (code : List Instr) (g : Scene) (before : Place) (counters : Counters) (at : ℕ)
+pub list_taken : (code : List Instr) (g : Scene) (before : Place) (context : Context) (at : ℕ)
     (variables : List (Option ℕ))
     (s : State) (to cells otherwise : ℕ)
-    → StandsAt code g before at variables s (ListObject to cells otherwise)
+    → StandsAt code context g before at variables s (ListObject to cells otherwise)
     → IsTaken code g
-    (dispatch_instruction g.layout g.thread g.used before counters at variables (Some (ListObject to cells otherwise)))
-list_taken code g before counters at variables s to cells otherwise here =
-    birth_taken code g counters at variables s to (list_word cells) otherwise kinds.List (record {
+    (dispatch_instruction g.layout g.thread g.used before context at variables (Some (ListObject to cells otherwise)))
+list_taken code g before context at variables s to cells otherwise here =
+    birth_taken code g context at variables s to (list_word cells) otherwise kinds.List (record {
       inside = here.inside;
       holds = here.holds;
       guards = here.guards;
       unlocked = first_false _ _ here.met.unlocked;
-      keeps = keeps_all code g before at variables s (ListObject to cells otherwise)
-          (BirthKind (row_at g.layout g.thread g.used) (ByVariable to) (list_word cells)) here (λ k object. refl);
+      keeps = keeps_all code context g before at variables s (ListObject to cells otherwise)
+          (BirthKind (row_at g.layout g.thread g.used) (by_variable context to) (list_word cells)) here
+          (λ k object. refl);
       variable = here.variables.0;
       free = first_false _ _ here.met.free;
       few_cells = list_cells cells here.variables.2;

@@ -13,10 +13,9 @@ use Rattle.brc_model.specs.declared.slot.Slot.TheVariants.{Empty, Owned}
 use Rattle.brc_model.specs.declared.slot.State.{State}
 use Rattle.brc_model.specs.declared.slot.Exit.{Exit}
 use Rattle.brc_model.specs.declared.slot.Exit.TheVariants.{Success, Fault}
-use Rattle.brc_model.specs.declared.duty.Holding.TheVariants.{ByVariable}
 use Rattle.brc_model.specs.declared.duty.Duty.TheVariants.{BirthKind, KindLoad, LendSlot, ReturnSlot}
 use Rattle.brc_model.specs.declared.actor.Place.{Place}
-use Rattle.brc_model.specs.declared.actor.Counters.{Counters}
+use Rattle.brc_model.specs.declared.actor.Context.{Context}
 use Rattle.brc_model.specs.declared.actor.Place.TheVariants.{InCall, Inside}
 use Rattle.brc_model.specs.declared.actor.Stage.{Stage}
 use Rattle.brc_model.specs.declared.actor.Stage.TheVariants.{Loaded, Lent, Called, Granted}
@@ -29,10 +28,10 @@ use Rattle.brc_model.specs.Duties.{cells_of, has_resource}
 use Rattle.brc_model.specs.Limits.{cell_limit}
 use Rattle.brc_model.specs.Layout.{row_at}
 use Rattle.brc_model.specs.Machine.{has_room}
-use Rattle.brc_model.specs.Actions.{Does, Silent, always, number_word, file_word, sock_word, grant_action, granted_birth, lend_action, return_action, dispatch_instruction, dispatch_inside}
+use Rattle.brc_model.specs.Actions.{Does, Silent, always, number_word, file_word, sock_word, grant_action, granted_birth, lend_action, return_action, dispatch_instruction, dispatch_inside, by_variable}
 use Rattle.brc_model.proofs.Basics.Lists.{either, first_false, second_false}
 use Rattle.brc_model.proofs.Keeping.SilentMoves.{Stays}
-use Rattle.brc_model.proofs.Dispatch.Holds.{of_variables, of_inside, Holds}
+use Rattle.brc_model.proofs.Dispatch.Holds.{of_variables, of_inside, Holds, call_of}
 use Rattle.brc_model.proofs.Dispatch.Grounded.{IsInside}
 use Rattle.brc_model.proofs.Dispatch.Guards.{LocksAgree, HeldBeside, guards_row}
 use Rattle.brc_model.proofs.Dispatch.Lending.{lent_to}
@@ -76,46 +75,49 @@ resource_word kind word (inr names) can =
     numbered_resource (kind_part word) (ap (λ (k : Kind). is_one_of k with_resource) names ∙ can)
 
 -- A thread that holds what its variables own, at an instruction or inside it.
-record Rests (code : List Instr) (g : Scene) (at : ℕ) (rows : List (Option ℕ)) (s : State) (i : Instr) : Type 0 where
+record Rests (code : List Instr) (context : Context) (g : Scene) (at : ℕ) (rows : List (Option ℕ)) (s : State)
+    (i : Instr) : Type 0 where
   found : slice_get code at ≡ Some i
-  inside : IsInside code at rows s
+  inside : IsInside (call_of code context) at rows s
   guards : LocksAgree s rows g.locked
-  holds : Holds g.bag g.thread (of_variables s rows)
+  holds : Holds g.bag g.thread (of_variables (call_of code context) s rows)
 
-module _ (code : List Instr) (g : Scene) (counters : Counters) (at : ℕ) (rows : List (Option ℕ)) (s : State) where
-  abbrev rests_at : (before : Place) (i : Instr) → StandsAt code g before at rows s i → Rests code g at rows s i
+module _ (code : List Instr) (g : Scene) (context : Context) (at : ℕ) (rows : List (Option ℕ)) (s : State) where
+  abbrev rests_at : (before : Place) (i : Instr) → StandsAt code context g before at rows s i
+      → Rests code context g at rows s i
   rests_at before i here =
       record { found = here.found; inside = here.inside; guards = here.guards; holds = here.holds }
 
-  abbrev rests_within : (stage : Stage) (i : Instr) → StandsInside code g at rows s stage i
-      → in_flight (Some i) stage rows ≡ None → Rests code g at rows s i
+  abbrev rests_within : (stage : Stage) (i : Instr) → StandsInside code context g at rows s stage i
+      → in_flight (Some i) stage rows ≡ None → Rests code context g at rows s i
   rests_within stage i here none = record {
     found = here.found;
     inside = here.inside;
     guards = here.guards;
-    holds = holds_still code g counters at rows s stage i here none;
+    holds = holds_still code g context at rows s stage i here none;
   }
 
   -- ---- places
 
   -- The place inside the instruction.
-  at_stage : (stage : Stage) (i : Instr) → Rests code g at rows s i → in_flight (Some i) stage rows ≡ None
-      → has_stage (Some i) stage ≡ true → SilentTaken code g [] (Inside counters at rows stage)
+  at_stage : (stage : Stage) (i : Instr) → Rests code context g at rows s i → in_flight (Some i) stage rows ≡ None
+      → has_stage (Some i) stage ≡ true → SilentTaken code g [] (Inside context at rows stage)
   at_stage stage i here none staged = record {
     moves_fit = Stays;
     placed =
-        inside_fits code g.bag g.thread [] g.locked counters at rows s stage i None here.found none staged here.inside
+        inside_fits code g.bag g.thread [] g.locked context at rows s stage i None here.found none staged here.inside
         here.guards
-        (holds_at_none g.bag g.thread (of_inside None s rows)
-        (holds_nothing_in_flight g.bag g.thread s rows here.holds));
-    stays = inside_stays counters at rows stage;
+        (holds_at_none g.bag g.thread (of_inside (call_of code context) None s rows)
+        (holds_nothing_in_flight g.bag g.thread (call_of code context) s rows here.holds));
+    stays = inside_stays context at rows stage;
   }
 
   -- The next point, where the variables are as they were.
-  at_next : (i : Instr) (exit : Exit) (next : ℕ) → (here : Rests code g at rows s i)
-      → path_end code (here.inside.exits ++ exit ∷ []) ≡ At next s → SilentTaken code g [] (InCall counters next rows)
+  at_next : (i : Instr) (exit : Exit) (next : ℕ) → (here : Rests code context g at rows s i)
+      → path_end code (here.inside.exits ++ exit ∷ []) ≡ At next s → SilentTaken code g [] (InCall context next rows)
   at_next i exit next here arrived =
-      let inside : IsInside code next rows s = record {
+      let inside : IsInside (call_of code context) next rows s = record {
+        is_call = here.inside.is_call;
         exits = here.inside.exits ++ exit ∷ [];
         arrived = arrived;
         slots = here.inside.slots;
@@ -124,45 +126,53 @@ module _ (code : List Instr) (g : Scene) (counters : Counters) (at : ℕ) (rows 
       } in
       record {
         moves_fit = Stays;
-        placed = (s, inside, here.guards, holds_at_none g.bag g.thread (of_variables s rows) here.holds);
-        stays = in_call_stays counters next rows;
+        placed = (
+          s,
+          inside,
+          here.guards,
+          holds_at_none g.bag g.thread (of_variables (call_of code context) s rows)
+              here.holds,
+        );
+        stays = in_call_stays context next rows;
       }
 
   -- The other point, where the variable is empty.
-  at_other : (i : Instr) (to otherwise : ℕ) → (here : Rests code g at rows s i) → names s.locked to ≡ false → to < 16
+  at_other : (i : Instr) (to otherwise : ℕ) → (here : Rests code context g at rows s i) → names s.locked to ≡ false
+      → to < 16
       → is_owned (slot_of s to) ≡ false
       → path_end code (here.inside.exits ++ Fault ∷ []) ≡ At otherwise (put s to Empty)
-      → SilentTaken code g [] (InCall counters otherwise (slice_set rows to None))
+      → SilentTaken code g [] (InCall context otherwise (slice_set rows to None))
   at_other i to otherwise here unlocked low free arrived =
-      refused code g counters at rows s to otherwise here.inside here.holds here.guards unlocked low free arrived
+      refused code g context at rows s to otherwise here.inside here.holds here.guards unlocked low free arrived
 
   -- ---- a resource that the host grants
 
-  grant_taken : (i : Instr) (to otherwise : ℕ) → (here : Rests code g at rows s i) → names s.locked to ≡ false → to < 16
+  grant_taken : (i : Instr) (to otherwise : ℕ) → (here : Rests code context g at rows s i) → names s.locked to ≡ false
+      → to < 16
       → is_owned (slot_of s to) ≡ false → in_flight (Some i) Granted rows ≡ None → has_stage (Some i) Granted ≡ true
       → path_end code (here.inside.exits ++ Fault ∷ []) ≡ At otherwise (put s to Empty)
-      → IsTaken code g (grant_action g.layout g.thread g.used counters at rows to otherwise)
+      → IsTaken code g (grant_action g.layout g.thread g.used context at rows to otherwise)
   grant_taken i to otherwise here unlocked low free none staged arrived =
       let other = at_other i to otherwise here unlocked low free arrived in
       either (IsTaken code g) (has_room g.layout g.thread g.used) _ _
-      (λ room. exit_decides (SilentTaken code g []) (Inside counters at rows Granted)
-      (InCall counters otherwise (slice_set rows to None)) (at_stage Granted i here none staged) other) other
+      (λ room. exit_decides (SilentTaken code g []) (Inside context at rows Granted)
+      (InCall context otherwise (slice_set rows to None)) (at_stage Granted i here none staged) other) other
 
   granted_taken : (i : Instr) (to word otherwise : ℕ) (kind : Kind)
-      → (here : StandsInside code g at rows s Granted i) → in_flight (Some i) Granted rows ≡ None
+      → (here : StandsInside code context g at rows s Granted i) → in_flight (Some i) Granted rows ≡ None
       → names s.locked to ≡ false → to < 16 → is_owned (slot_of s to) ≡ false → cells_of word ≤ cell_limit
       → is_counted_kind (kind_of_word word) ≡ true
       → path_end code (here.inside.exits ++ Success ∷ []) ≡ At (at + 1) (put s to (Owned kind))
       → path_end code (here.inside.exits ++ Fault ∷ []) ≡ At otherwise (put s to Empty)
-      → IsTaken code g (granted_birth g.layout g.thread g.used counters at rows to word)
+      → IsTaken code g (granted_birth g.layout g.thread g.used context at rows to word)
   granted_taken i to word otherwise kind here none unlocked low free few counted owned empty = λ found.
-      born code g counters at rows s to word otherwise kind (record {
+      born code g context at rows s to word otherwise kind (record {
         inside = here.inside;
-        holds = holds_still code g counters at rows s Granted i here none;
+        holds = holds_still code g context at rows s Granted i here none;
         guards = here.guards;
         unlocked = unlocked;
-        keeps = all_kept code g counters at rows s Granted i
-            (BirthKind (row_at g.layout g.thread g.used) (ByVariable to) word) here (λ k object. refl);
+        keeps = all_kept code g context at rows s Granted i
+            (BirthKind (row_at g.layout g.thread g.used) (by_variable context to) word) here (λ k object. refl);
         variable = low;
         free = free;
         few_cells = few;
@@ -173,43 +183,43 @@ module _ (code : List Instr) (g : Scene) (counters : Counters) (at : ℕ) (rows 
 
   -- ---- a resource that is lent
 
-  lend_taken : (i : Instr) (file row : ℕ) → Rests code g at rows s i → row_of rows file ≡ Some row → Backs g row
+  lend_taken : (i : Instr) (file row : ℕ) → Rests code context g at rows s i → row_of rows file ≡ Some row → Backs g row
       → names s.locked file ≡ true → g.lent ≡ None → has_resource (words_of g row) ≡ true
       → in_flight (Some i) Lent rows ≡ None → has_stage (Some i) Lent ≡ true
       → ((x : ℕ) → g.locked ≡ Some x → HeldBeside g.bag g.thread x (LendSlot row))
-      → IsTaken code g (lend_action counters at rows file)
+      → IsTaken code g (lend_action context at rows file)
   lend_taken i file row here is backs this unlent some none staged keeps =
-      let place = Inside counters at rows Lent in
+      let place = Inside context at rows Lent in
       let there = at_stage Lent i here none staged in
       let taken : (found : ℕ) → Taken code g found place (LendSlot row) [] = λ found. record {
         placed = fits_with code g.bag g.thread (LendSlot row ∷ []) g.locked place (λ k object. refl) (λ k object. refl)
             there.placed;
         starts = Lends row backs (guards_row s rows file row s.locked g.locked this is here.guards) unlent some;
-        follows = Nothing (inside_stays counters at rows Lent);
+        follows = Nothing (inside_stays context at rows Lent);
         keeps = keeps;
       } in
       taken_with_row code g row (row_of rows file) (λ x. Does (LendSlot x) [] (always place)) is taken
 
-  return_taken : (stage : Stage) (i : Instr) (file : ℕ) (place : Place) → StandsInside code g at rows s stage i
+  return_taken : (stage : Stage) (i : Instr) (file : ℕ) (place : Place) → StandsInside code context g at rows s stage i
       → is_empty (slot_of s file) ≡ false → lent_to stage (Some i) rows ≡ row_of rows file
       → SilentTaken code g [] place → IsTaken code g (return_action rows file place)
   return_taken stage i file place here some lends there =
-      let named = named_inside code g counters at rows s stage i file here some in
+      let named = named_inside code g context at rows s stage i file here some in
       let row = named.object in
       let taken : (found : ℕ) → Taken code g found place (ReturnSlot row) [] = λ found. record {
         placed = fits_with code g.bag g.thread (ReturnSlot row ∷ []) g.locked place (λ k object. refl)
             (λ k object. refl) there.placed;
         starts = Returns row named.backs (here.lent ∙ lends ∙ named.is_row);
         follows = Nothing there.stays;
-        keeps = all_kept code g counters at rows s stage i (ReturnSlot row) here (λ k object. refl);
+        keeps = all_kept code g context at rows s stage i (ReturnSlot row) here (λ k object. refl);
       } in
       taken_with_row code g row (row_of rows file) (λ x. Does (ReturnSlot x) [] (always place)) named.is_row taken
 
   -- ---- open and connect
 
   pub open_taken : (before : Place) (to path : ℕ) (mode : Mode) (otherwise : ℕ)
-      → StandsAt code g before at rows s (Open to path mode otherwise)
-      → IsTaken code g (dispatch_instruction g.layout g.thread g.used before counters at rows
+      → StandsAt code context g before at rows s (Open to path mode otherwise)
+      → IsTaken code g (dispatch_instruction g.layout g.thread g.used before context at rows
       (Some (Open to path mode otherwise)))
   open_taken before to path mode otherwise here =
       let i = Open to path mode otherwise in
@@ -217,8 +227,8 @@ module _ (code : List Instr) (g : Scene) (counters : Counters) (at : ℕ) (rows 
       (first_false _ _ here.met.free) refl refl (here.leads Fault otherwise refl)
 
   pub connect_taken : (before : Place) (to peer otherwise : ℕ)
-      → StandsAt code g before at rows s (Connect to peer otherwise)
-      → IsTaken code g (dispatch_instruction g.layout g.thread g.used before counters at rows
+      → StandsAt code context g before at rows s (Connect to peer otherwise)
+      → IsTaken code g (dispatch_instruction g.layout g.thread g.used before context at rows
       (Some (Connect to peer otherwise)))
   connect_taken before to peer otherwise here =
       let i = Connect to peer otherwise in
@@ -226,16 +236,17 @@ module _ (code : List Instr) (g : Scene) (counters : Counters) (at : ℕ) (rows 
       (first_false _ _ here.met.free) refl refl (here.leads Fault otherwise refl)
 
   pub open_granted : (to path : ℕ) (mode : Mode) (otherwise : ℕ)
-      → StandsInside code g at rows s Granted (Open to path mode otherwise)
-      → IsTaken code g (dispatch_inside g.layout g.thread g.used counters at rows Granted
+      → StandsInside code context g at rows s Granted (Open to path mode otherwise)
+      → IsTaken code g (dispatch_inside g.layout g.thread g.used context at rows Granted
       (Some (Open to path mode otherwise)))
   open_granted to path mode otherwise here =
       granted_taken (Open to path mode otherwise) to file_word otherwise kinds.File here refl
       (first_false _ _ here.met.unlocked) here.variables.0 (first_false _ _ here.met.free) (omega arith) refl
       (here.leads Success (at + 1) refl) (here.leads Fault otherwise refl)
 
-  pub connect_granted : (to peer otherwise : ℕ) → StandsInside code g at rows s Granted (Connect to peer otherwise)
-      → IsTaken code g (dispatch_inside g.layout g.thread g.used counters at rows Granted
+  pub connect_granted : (to peer otherwise : ℕ) → StandsInside code context g at rows s Granted
+      (Connect to peer otherwise)
+      → IsTaken code g (dispatch_inside g.layout g.thread g.used context at rows Granted
       (Some (Connect to peer otherwise)))
   connect_granted to peer otherwise here =
       granted_taken (Connect to peer otherwise) to sock_word otherwise kinds.Sock here refl
@@ -245,54 +256,56 @@ module _ (code : List Instr) (g : Scene) (counters : Counters) (at : ℕ) (rows 
   -- ---- read
 
   pub read_taken : (before : Place) (to file most otherwise : ℕ)
-      → StandsAt code g before at rows s (Read to file most otherwise)
-      → IsTaken code g (dispatch_instruction g.layout g.thread g.used before counters at rows
+      → StandsAt code context g before at rows s (Read to file most otherwise)
+      → IsTaken code g (dispatch_instruction g.layout g.thread g.used before context at rows
       (Some (Read to file most otherwise)))
   read_taken before to file most otherwise here =
       let i = Read to file most otherwise in
       let rests = rests_at before i here in
-      let named = named_at code g before at rows s i file here (first_false _ _ here.met.not_empty) in
+      let named = named_at code context g before at rows s i file here (first_false _ _ here.met.not_empty) in
       let row = named.object in
-      either (IsTaken code g) (has_room g.layout g.thread g.used) (lend_action counters at rows file)
-      (Silent [] (InCall counters otherwise (slice_set rows to None)))
+      either (IsTaken code g) (has_room g.layout g.thread g.used) (lend_action context at rows file)
+      (Silent [] (InCall context otherwise (slice_set rows to None)))
       (λ room.
       lend_taken i file row rests named.is_row named.backs (not-false _ (first_false _ _ here.met.has_lock)) here.unlent
       (resource_word (kind_of (slot_of s file)) (words_of g row) (here.kinds file row named.is_row)
       (not-false _ (first_false _ _ here.met.right_kind))) refl refl
-      (keeps_all code g before at rows s i (LendSlot row) here (λ k object. refl)))
+      (keeps_all code context g before at rows s i (LendSlot row) here (λ k object. refl)))
       (at_other i to otherwise rests (first_false _ _ here.met.unlocked) here.variables.0
       (first_false _ _ here.met.free)
       (here.leads Fault otherwise refl))
 
-  pub read_lent : (to file most otherwise : ℕ) → StandsInside code g at rows s Lent (Read to file most otherwise)
-      → IsTaken code g (dispatch_inside g.layout g.thread g.used counters at rows Lent
+  pub read_lent : (to file most otherwise : ℕ) → StandsInside code context g at rows s Lent
+      (Read to file most otherwise)
+      → IsTaken code g (dispatch_inside g.layout g.thread g.used context at rows Lent
       (Some (Read to file most otherwise)))
   read_lent to file most otherwise here = λ exit.
       let i = Read to file most otherwise in
       at_stage (Called exit) i (rests_within Lent i here refl) refl refl
 
   pub read_returned : (to file most otherwise : ℕ)
-      → StandsInside code g at rows s (Called Success) (Read to file most otherwise)
-      → IsTaken code g (dispatch_inside g.layout g.thread g.used counters at rows (Called Success)
+      → StandsInside code context g at rows s (Called Success) (Read to file most otherwise)
+      → IsTaken code g (dispatch_inside g.layout g.thread g.used context at rows (Called Success)
       (Some (Read to file most otherwise)))
   read_returned to file most otherwise here =
       let i = Read to file most otherwise in
-      return_taken (Called Success) i file (Inside counters at rows Granted) here (first_false _ _ here.met.not_empty)
+      return_taken (Called Success) i file (Inside context at rows Granted) here (first_false _ _ here.met.not_empty)
       refl (at_stage Granted i (rests_within (Called Success) i here refl) refl refl)
 
   pub read_failed : (to file most otherwise : ℕ)
-      → StandsInside code g at rows s (Called Fault) (Read to file most otherwise)
-      → IsTaken code g (dispatch_inside g.layout g.thread g.used counters at rows (Called Fault)
+      → StandsInside code context g at rows s (Called Fault) (Read to file most otherwise)
+      → IsTaken code g (dispatch_inside g.layout g.thread g.used context at rows (Called Fault)
       (Some (Read to file most otherwise)))
   read_failed to file most otherwise here =
       let i = Read to file most otherwise in
-      return_taken (Called Fault) i file (InCall counters otherwise (slice_set rows to None)) here
+      return_taken (Called Fault) i file (InCall context otherwise (slice_set rows to None)) here
       (first_false _ _ here.met.not_empty) refl
       (at_other i to otherwise (rests_within (Called Fault) i here refl) (first_false _ _ here.met.unlocked)
       here.variables.0 (first_false _ _ here.met.free) (here.leads Fault otherwise refl))
 
-  pub read_granted : (to file most otherwise : ℕ) → StandsInside code g at rows s Granted (Read to file most otherwise)
-      → IsTaken code g (dispatch_inside g.layout g.thread g.used counters at rows Granted
+  pub read_granted : (to file most otherwise : ℕ) → StandsInside code context g at rows s Granted
+      (Read to file most otherwise)
+      → IsTaken code g (dispatch_inside g.layout g.thread g.used context at rows Granted
       (Some (Read to file most otherwise)))
   read_granted to file most otherwise here =
       granted_taken (Read to file most otherwise) to (number_word 0) otherwise kinds.Num here refl
@@ -303,13 +316,13 @@ module _ (code : List Instr) (g : Scene) (counters : Counters) (at : ℕ) (rows 
   -- ---- write
 
   pub write_taken : (before : Place) (file number otherwise : ℕ)
-      → StandsAt code g before at rows s (Write file number otherwise)
-      → IsTaken code g (dispatch_instruction g.layout g.thread g.used before counters at rows
+      → StandsAt code context g before at rows s (Write file number otherwise)
+      → IsTaken code g (dispatch_instruction g.layout g.thread g.used before context at rows
       (Some (Write file number otherwise)))
   write_taken before file number otherwise here =
       let i = Write file number otherwise in
-      let place = Inside counters at rows Loaded in
-      let named = named_at code g before at rows s i number here
+      let place = Inside context at rows Loaded in
+      let named = named_at code context g before at rows s i number here
       (first_false _ _ (second_false (is_empty (slot_of s file)) _ here.met.not_empty)) in
       let row = named.object in
       let there = at_stage Loaded i (rests_at before i here) refl refl in
@@ -317,45 +330,47 @@ module _ (code : List Instr) (g : Scene) (counters : Counters) (at : ℕ) (rows 
         placed = fits_with code g.bag g.thread (KindLoad row ∷ []) g.locked place (λ k object. refl) (λ k object. refl)
             there.placed;
         starts = Asks row named.backs;
-        follows = Nothing (inside_stays counters at rows Loaded);
-        keeps = keeps_all code g before at rows s i (KindLoad row) here (λ k object. refl);
+        follows = Nothing (inside_stays context at rows Loaded);
+        keeps = keeps_all code context g before at rows s i (KindLoad row) here (λ k object. refl);
       } in
       taken_with_row code g row (row_of rows number) (λ x. Does (KindLoad x) [] (always place)) named.is_row taken
 
-  pub write_loaded : (file number otherwise : ℕ) → StandsInside code g at rows s Loaded (Write file number otherwise)
-      → IsTaken code g (dispatch_inside g.layout g.thread g.used counters at rows Loaded
+  pub write_loaded : (file number otherwise : ℕ) → StandsInside code context g at rows s Loaded
+      (Write file number otherwise)
+      → IsTaken code g (dispatch_inside g.layout g.thread g.used context at rows Loaded
       (Some (Write file number otherwise)))
   write_loaded file number otherwise here =
       let i = Write file number otherwise in
-      let named = named_inside code g counters at rows s Loaded i file here (first_false _ _ here.met.not_empty) in
+      let named = named_inside code g context at rows s Loaded i file here (first_false _ _ here.met.not_empty) in
       let row = named.object in
       lend_taken i file row (rests_within Loaded i here refl) named.is_row named.backs
       (not-false _ (first_false _ _ here.met.has_lock)) here.lent
       (resource_word (kind_of (slot_of s file)) (words_of g row) (here.kinds file row named.is_row)
       (not-false _ (first_false _ _ here.met.right_kind))) refl refl
-      (all_kept code g counters at rows s Loaded i (LendSlot row) here (λ k object. refl))
+      (all_kept code g context at rows s Loaded i (LendSlot row) here (λ k object. refl))
 
-  pub write_lent : (file number otherwise : ℕ) → StandsInside code g at rows s Lent (Write file number otherwise)
-      → IsTaken code g (dispatch_inside g.layout g.thread g.used counters at rows Lent
+  pub write_lent : (file number otherwise : ℕ) → StandsInside code context g at rows s Lent
+      (Write file number otherwise)
+      → IsTaken code g (dispatch_inside g.layout g.thread g.used context at rows Lent
       (Some (Write file number otherwise)))
   write_lent file number otherwise here = λ exit.
       let i = Write file number otherwise in
       at_stage (Called exit) i (rests_within Lent i here refl) refl refl
 
   pub write_returned : (file number otherwise : ℕ)
-      → StandsInside code g at rows s (Called Success) (Write file number otherwise)
-      → IsTaken code g (dispatch_inside g.layout g.thread g.used counters at rows (Called Success)
+      → StandsInside code context g at rows s (Called Success) (Write file number otherwise)
+      → IsTaken code g (dispatch_inside g.layout g.thread g.used context at rows (Called Success)
       (Some (Write file number otherwise)))
   write_returned file number otherwise here =
       let i = Write file number otherwise in
-      return_taken (Called Success) i file (InCall counters (at + 1) rows) here (first_false _ _ here.met.not_empty)
+      return_taken (Called Success) i file (InCall context (at + 1) rows) here (first_false _ _ here.met.not_empty)
       refl (at_next i Success (at + 1) (rests_within (Called Success) i here refl) (here.leads Success (at + 1) refl))
 
   pub write_failed : (file number otherwise : ℕ)
-      → StandsInside code g at rows s (Called Fault) (Write file number otherwise)
-      → IsTaken code g (dispatch_inside g.layout g.thread g.used counters at rows (Called Fault)
+      → StandsInside code context g at rows s (Called Fault) (Write file number otherwise)
+      → IsTaken code g (dispatch_inside g.layout g.thread g.used context at rows (Called Fault)
       (Some (Write file number otherwise)))
   write_failed file number otherwise here =
       let i = Write file number otherwise in
-      return_taken (Called Fault) i file (InCall counters otherwise rows) here (first_false _ _ here.met.not_empty)
+      return_taken (Called Fault) i file (InCall context otherwise rows) here (first_false _ _ here.met.not_empty)
       refl (at_next i Fault otherwise (rests_within (Called Fault) i here refl) (here.leads Fault otherwise refl))

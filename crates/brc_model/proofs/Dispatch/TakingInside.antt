@@ -1,6 +1,6 @@
 -- What a thread inside `borrow` or `fetch` takes up meets its condition, and what a thread inside an instruction that
 -- uses a cell knows.
-use Rattle.std.proofs.Common.{◌≡◌, ℕ, suc, ◌+◌, ◌<◌, true, false, List, [], ◌∷◌, ◌++◌, length, Option, None, Some, refl, ap, ◌∙◌, arith, inl, inr}
+use Rattle.std.proofs.Common.{Bool, ◌≡◌, ℕ, suc, ◌+◌, ◌<◌, true, false, List, [], ◌∷◌, ◌++◌, length, Option, None, Some, refl, ap, ◌∙◌, arith, inl, inr}
 use Rattle.std.specs.Prelude.{◌==◌, ◌&&◌, slice_set}
 use Rattle.std.proofs.lemmas.List.{length-set, length-map}
 use Rattle.std.proofs.lemmas.Bool.{not-false}
@@ -13,11 +13,11 @@ use Rattle.brc_model.specs.declared.slot.State.{State}
 use Rattle.brc_model.specs.declared.slot.Exit.{Exit}
 use Rattle.brc_model.specs.declared.slot.Exit.TheVariants.{Success, Fault}
 use Rattle.brc_model.specs.declared.duty.Holding.{Holding}
-use Rattle.brc_model.specs.declared.duty.Holding.TheVariants.{ByVariable, InFlight}
+use Rattle.brc_model.specs.declared.duty.Holding.TheVariants.{InFlight}
 use Rattle.brc_model.specs.declared.duty.Duty.{Duty}
 use Rattle.brc_model.specs.declared.duty.Duty.TheVariants.{RetainLoad, CellLoad, CellSwap}
 use Rattle.brc_model.specs.declared.actor.Place.{Place}
-use Rattle.brc_model.specs.declared.actor.Counters.{Counters}
+use Rattle.brc_model.specs.declared.actor.Context.{Context}
 use Rattle.brc_model.specs.declared.actor.Place.TheVariants.{InCall, Inside}
 use Rattle.brc_model.specs.declared.actor.Stage.{Stage}
 use Rattle.brc_model.specs.declared.actor.Stage.TheVariants.{InRange, Found}
@@ -28,11 +28,11 @@ use Rattle.brc_model.specs.Duties.{cells_of}
 use Rattle.brc_model.specs.AbstractState.{same_holding}
 use Rattle.brc_model.specs.Accounts.{extra}
 use Rattle.brc_model.specs.References.{one_if}
-use Rattle.brc_model.specs.Actions.{Does, by_item, dispatch_inside}
+use Rattle.brc_model.specs.Actions.{Does, by_item, dispatch_inside, by_variable, depth_of}
 use Rattle.brc_model.proofs.Basics.Lists.{first_false}
-use Rattle.brc_model.proofs.Dispatch.Holds.{of_variables, of_inside, inside_none, Holds, HoldsVariables, holds_inside}
+use Rattle.brc_model.proofs.Dispatch.Holds.{of_variables, of_inside, inside_none, Holds, HoldsVariables, holds_inside, call_of}
 use Rattle.brc_model.proofs.Dispatch.Grounded.{IsGrounded, IsInside, grounded-put, grounded-without}
-use Rattle.brc_model.proofs.Dispatch.Guards.{HeldLocked, HeldBeside, guards-put, guards_row, guards_held}
+use Rattle.brc_model.proofs.Dispatch.Guards.{outer_flight, HeldLocked, HeldBeside, guards-put, guards_row, guards_held}
 use Rattle.brc_model.proofs.Dispatch.Coded.{in_flight}
 use Rattle.brc_model.proofs.Dispatch.Begins.{Scene, words_of, StandsInside, Backs, ByList, Takes, Loads, Nothing, Taken, IsTaken, taken_with_row, in_call_stays, inside_stays, newref_held, unowned_held, cleared_held}
 use Rattle.brc_model.proofs.Dispatch.Standing.{Named, named_slot}
@@ -41,34 +41,37 @@ use Rattle.brc_model.proofs.Dispatch.TakingItems.{inside_fits, holds_nothing_in_
 
 -- ---- what the thread knows inside an instruction
 
-module _ (code : List Instr) (g : Scene) (counters : Counters) (at : ℕ) (rows : List (Option ℕ)) (s : State) where
+module _ (code : List Instr) (g : Scene) (context : Context) (at : ℕ) (rows : List (Option ℕ)) (s : State) where
   -- Before it has made a reference for the cell, the thread holds what its variables own.
-  pub holds_still : (stage : Stage) (i : Instr) → StandsInside code g at rows s stage i
-      → in_flight (Some i) stage rows ≡ None → Holds g.bag g.thread (of_variables s rows)
+  pub holds_still : (stage : Stage) (i : Instr) → StandsInside code context g at rows s stage i
+      → in_flight (Some i) stage rows ≡ None → Holds g.bag g.thread (of_variables (call_of code context) s rows)
   holds_still stage i here is = record {
     each = λ k object.
-        here.holds.each k object ∙ ap (λ (f : Option ℕ). one_if (of_inside f s rows k object)) is
-        ∙ ap one_if (inside_none s rows k object);
+        here.holds.each k object ∙ ap (λ (f : Option ℕ). one_if (of_inside (call_of code context) f s rows k object)) is
+        ∙ ap one_if (inside_none (call_of code context) s rows k object);
   }
 
-  pub variables_held : (stage : Stage) (i : Instr) → StandsInside code g at rows s stage i
-      → HoldsVariables g.bag g.thread s rows
+  pub variables_held : (stage : Stage) (i : Instr) → StandsInside code context g at rows s stage i
+      → HoldsVariables g.bag g.thread (call_of code context) s rows
   variables_held stage i here =
-      holds_inside g.bag g.thread (in_flight (Some i) stage rows) s rows here.holds
+      holds_inside g.bag g.thread (call_of code context) (in_flight (Some i) stage rows) s rows here.holds
 
-  pub named_inside : (stage : Stage) (i : Instr) (v : ℕ) → StandsInside code g at rows s stage i
+  pub named_inside : (stage : Stage) (i : Instr) (v : ℕ) → StandsInside code context g at rows s stage i
       → is_empty (slot_of s v) ≡ false → Named g (row_of rows v)
   named_inside stage i v here some =
-      named_slot g s rows v (slot_of s v) refl some (here.inside.grounded v) (variables_held stage i here) here.items
+      named_slot g (call_of code context) s rows v (slot_of s v) refl some (here.inside.grounded v)
+      (variables_held stage i here) here.items
 
-  pub lock_inside : (stage : Stage) (i : Instr) → StandsInside code g at rows s stage i → (x : ℕ) → g.locked ≡ Some x
-      → HeldLocked g.bag g.thread x s.locked
+  pub lock_inside : (stage : Stage) (i : Instr) → StandsInside code context g at rows s stage i → (x : ℕ) → g.locked
+      ≡ Some x
+      → HeldLocked g.bag g.thread (depth_of context) x s.locked
   lock_inside stage i here x locked =
-      guards_held g.bag g.thread s rows s.locked g.locked x here.guards locked here.inside.grounded
+      guards_held g.bag g.thread (call_of code context) s rows s.locked g.locked x here.guards locked
+      here.inside.grounded
       (variables_held stage i here)
 
   -- A duty that gives up nothing leaves the thread what it has locked.
-  pub all_kept : (stage : Stage) (i : Instr) (d : Duty) → StandsInside code g at rows s stage i
+  pub all_kept : (stage : Stage) (i : Instr) (d : Duty) → StandsInside code context g at rows s stage i
       → ((k : Holding) (object : ℕ) → extra d k object ≡ false) → (x : ℕ) → g.locked ≡ Some x
       → HeldBeside g.bag g.thread x d
   all_kept stage i d here none x locked =
@@ -76,7 +79,8 @@ module _ (code : List Instr) (g : Scene) (counters : Counters) (at : ℕ) (rows 
       record { by = lock.by; held_so = lock.held_so; beside = none lock.by x }
 
   -- So does one that gives up the reference in flight.
-  pub flight_kept : (stage : Stage) (i : Instr) (row index item : ℕ) → StandsInside code g at rows s stage i → (x : ℕ)
+  pub flight_kept : (stage : Stage) (i : Instr) (row index item : ℕ) → StandsInside code context g at rows s stage i
+      → (x : ℕ)
       → g.locked ≡ Some x → HeldBeside g.bag g.thread x (CellSwap row index item InFlight)
   flight_kept stage i row index item here x locked =
       let lock = lock_inside stage i here x locked in
@@ -86,12 +90,13 @@ module _ (code : List Instr) (g : Scene) (counters : Counters) (at : ℕ) (rows 
         beside = elim lock.sort [
           | inl variable ↦
               ap (λ (k : Holding). same_holding InFlight k && (item == x)) variable
-          | inr caller ↦ ap (λ (k : Holding). same_holding InFlight k && (item == x)) caller
+          | inr outer ↦
+              ap (λ (b : Bool). b && (item == x)) (outer_flight (depth_of context) lock.by outer)
         ];
       }
 
   -- The list that the instruction uses is the one that the thread has locked.
-  pub uses_locked : (stage : Stage) (i : Instr) (list row : ℕ) → StandsInside code g at rows s stage i
+  pub uses_locked : (stage : Stage) (i : Instr) (list row : ℕ) → StandsInside code context g at rows s stage i
       → names s.locked list ≡ true → row_of rows list ≡ Some row → g.locked ≡ Some row
   uses_locked stage i list row here this is = guards_row s rows list row s.locked g.locked this is here.guards
 
@@ -99,63 +104,68 @@ module _ (code : List Instr) (g : Scene) (counters : Counters) (at : ℕ) (rows 
 
   -- The exit leads to a point where one variable has changed.
   next_put : (stage : Stage) (i : Instr) (exit : Exit) (next to : ℕ) (slot : Slot) (row : Option ℕ)
-      → (here : StandsInside code g at rows s stage i) → to < 16 → IsGrounded slot row
+      → (here : StandsInside code context g at rows s stage i) → to < 16 → IsGrounded (call_of code context) slot row
       → path_end code (here.inside.exits ++ exit ∷ []) ≡ At next (put s to slot)
-      → IsInside code next (slice_set rows to row) (put s to slot)
+      → IsInside (call_of code context) next (slice_set rows to row) (put s to slot)
   next_put stage i exit next to slot row here low grounded arrived =
       let in_slots : to < length s.slots = omega (arith, low, here.inside.slots) in
       let in_rows : to < length rows = omega (arith, low, here.inside.rows) in
       record {
+        is_call = here.inside.is_call;
         exits = here.inside.exits ++ exit ∷ [];
         arrived = arrived;
         slots = length-set s.slots to slot ∙ here.inside.slots;
         rows = length-set rows to row ∙ here.inside.rows;
-        grounded = grounded-put s rows to slot row in_slots in_rows grounded here.inside.grounded;
+        grounded = grounded-put (call_of code context) s rows to slot row in_slots in_rows grounded
+            here.inside.grounded;
       }
 
   -- The exit leads to a point where the variables that borrowed from the list are empty.
   pub next_without : (stage : Stage) (i : Instr) (exit : Exit) (next : ℕ)
-      → (here : StandsInside code g at rows s stage i)
+      → (here : StandsInside code context g at rows s stage i)
       → path_end code (here.inside.exits ++ exit ∷ []) ≡ At next (without_items s)
-      → IsInside code next rows (without_items s)
+      → IsInside (call_of code context) next rows (without_items s)
   next_without stage i exit next here arrived = record {
+    is_call = here.inside.is_call;
     exits = here.inside.exits ++ exit ∷ [];
     arrived = arrived;
     slots = length-map s.slots without_item ∙ here.inside.slots;
     rows = here.inside.rows;
-    grounded = grounded-without s rows here.inside.grounded;
+    grounded = grounded-without (call_of code context) s rows here.inside.grounded;
   }
 
   -- The exit leads to such a point, where a variable that gave up its reference is empty too.
   pub next_given : (stage : Stage) (i : Instr) (exit : Exit) (next from : ℕ)
-      → (here : StandsInside code g at rows s stage i) → from < 16
+      → (here : StandsInside code context g at rows s stage i) → from < 16
       → path_end code (here.inside.exits ++ exit ∷ []) ≡ At next (without_items (put s from Empty))
-      → IsInside code next (slice_set rows from None) (without_items (put s from Empty))
+      → IsInside (call_of code context) next (slice_set rows from None) (without_items (put s from Empty))
   next_given stage i exit next from here low arrived =
       let in_slots : from < length s.slots = omega (arith, low, here.inside.slots) in
       let in_rows : from < length rows = omega (arith, low, here.inside.rows) in
       record {
+        is_call = here.inside.is_call;
         exits = here.inside.exits ++ exit ∷ [];
         arrived = arrived;
         slots = length-map (put s from Empty).slots without_item ∙ length-set s.slots from Empty ∙ here.inside.slots;
         rows = length-set rows from None ∙ here.inside.rows;
         grounded =
-            grounded-without (put s from Empty) (slice_set rows from None)
-            (grounded-put s rows from Empty None in_slots in_rows tt here.inside.grounded);
+            grounded-without (call_of code context) (put s from Empty) (slice_set rows from None)
+            (grounded-put (call_of code context) s rows from Empty None in_slots in_rows tt here.inside.grounded);
       }
 
   -- ---- borrow and fetch: the cell is loaded
 
   -- The cell is empty, so the variable is empty at the fault exit.
   nothing_found : (i : Instr) (to row index otherwise found : ℕ)
-      → (here : StandsInside code g at rows s InRange i) → in_flight (Some i) InRange rows ≡ None → to < 16
+      → (here : StandsInside code context g at rows s InRange i) → in_flight (Some i) InRange rows ≡ None → to < 16
       → is_owned (slot_of s to) ≡ false → names s.locked to ≡ false
       → Backs g row → g.locked ≡ Some row → index < cells_of (words_of g row)
       → path_end code (here.inside.exits ++ Fault ∷ []) ≡ At otherwise (put s to Empty)
-      → Taken code g found (InCall counters otherwise (slice_set rows to None)) (CellLoad row index) []
+      → Taken code g found (InCall context otherwise (slice_set rows to None)) (CellLoad row index) []
   nothing_found i to row index otherwise found here is low free unlocked backs has within arrived =
       let in_slots : to < length s.slots = omega (arith, low, here.inside.slots) in
-      let cleared = cleared_held g.bag g.thread s rows to in_slots free (holds_still InRange i here is) in
+      let cleared = cleared_held g.bag g.thread (call_of code context) s rows to in_slots free
+      (holds_still InRange i here is) in
       record {
         placed = (
           put s to Empty,
@@ -164,13 +174,13 @@ module _ (code : List Instr) (g : Scene) (counters : Counters) (at : ℕ) (rows 
           record { each = λ k object. omega (arith, cleared k object) },
         );
         starts = Loads row index backs has within;
-        follows = Nothing (in_call_stays counters otherwise (slice_set rows to None));
+        follows = Nothing (in_call_stays context otherwise (slice_set rows to None));
         keeps = all_kept InRange i (CellLoad row index) here (λ k object. refl);
       }
 
   pub borrow_inside : (to list index otherwise : ℕ)
-      → StandsInside code g at rows s InRange (Borrow to list index otherwise)
-      → IsTaken code g (dispatch_inside g.layout g.thread g.used counters at rows InRange
+      → StandsInside code context g at rows s InRange (Borrow to list index otherwise)
+      → IsTaken code g (dispatch_inside g.layout g.thread g.used context at rows InRange
       (Some (Borrow to list index otherwise)))
   borrow_inside to list index otherwise here =
       let i = Borrow to list index otherwise in
@@ -182,11 +192,11 @@ module _ (code : List Instr) (g : Scene) (counters : Counters) (at : ℕ) (rows 
       uses_locked InRange i list row here (not-false _ (first_false _ _ here.met.has_lock)) named.is_row in
       let within : index < cells_of (words_of g row) = here.cell row named.is_row in
       let in_slots : to < length s.slots = omega (arith, here.variables.0, here.inside.slots) in
-      let empty = InCall counters otherwise (slice_set rows to None) in
-      let there : (item : ℕ) → Place = λ item. InCall counters (at + 1) (slice_set rows to (Some item)) in
+      let empty = InCall context otherwise (slice_set rows to None) in
+      let there : (item : ℕ) → Place = λ item. InCall context (at + 1) (slice_set rows to (Some item)) in
       let found_item : (item : ℕ) → Taken code g (suc item) (there item) (CellLoad row index) [] = λ item.
       let same =
-      unowned_held g.bag g.thread s rows to (Locked kinds.Any) (Some item) in_slots free refl
+      unowned_held g.bag g.thread (call_of code context) s rows to (Locked kinds.Any) (Some item) in_slots free refl
       (holds_still InRange i here refl) in
       record {
         placed = (
@@ -197,7 +207,7 @@ module _ (code : List Instr) (g : Scene) (counters : Counters) (at : ℕ) (rows 
           record { each = λ k object. omega (arith, same k object) },
         );
         starts = Loads row index named.backs has within;
-        follows = Nothing (in_call_stays counters (at + 1) (slice_set rows to (Some item)));
+        follows = Nothing (in_call_stays context (at + 1) (slice_set rows to (Some item)));
         keeps = all_kept InRange i (CellLoad row index) here (λ k object. refl);
       } in
       taken_with_row code g row (row_of rows list)
@@ -207,8 +217,8 @@ module _ (code : List Instr) (g : Scene) (counters : Counters) (at : ℕ) (rows 
       (here.leads Fault otherwise refl)) found_item found)
 
   pub fetch_inside : (to list index otherwise : ℕ)
-      → StandsInside code g at rows s InRange (Fetch to list index otherwise)
-      → IsTaken code g (dispatch_inside g.layout g.thread g.used counters at rows InRange
+      → StandsInside code context g at rows s InRange (Fetch to list index otherwise)
+      → IsTaken code g (dispatch_inside g.layout g.thread g.used context at rows InRange
       (Some (Fetch to list index otherwise)))
   fetch_inside to list index otherwise here =
       let i = Fetch to list index otherwise in
@@ -219,16 +229,17 @@ module _ (code : List Instr) (g : Scene) (counters : Counters) (at : ℕ) (rows 
       let has =
       uses_locked InRange i list row here (not-false _ (first_false _ _ here.met.has_lock)) named.is_row in
       let within : index < cells_of (words_of g row) = here.cell row named.is_row in
-      let empty = InCall counters otherwise (slice_set rows to None) in
-      let there : (item : ℕ) → Place = λ item. Inside counters at rows (Found item) in
-      let holds = holds_nothing_in_flight g.bag g.thread s rows (holds_still InRange i here refl) in
+      let empty = InCall context otherwise (slice_set rows to None) in
+      let there : (item : ℕ) → Place = λ item. Inside context at rows (Found item) in
+      let holds = holds_nothing_in_flight g.bag g.thread (call_of code context) s rows
+      (holds_still InRange i here refl) in
       let found_item : (item : ℕ) → Taken code g (suc item) (there item) (CellLoad row index) [] = λ item. record {
         placed =
-            inside_fits code g.bag g.thread (CellLoad row index ∷ []) g.locked counters at rows s (Found item) i None
+            inside_fits code g.bag g.thread (CellLoad row index ∷ []) g.locked context at rows s (Found item) i None
             here.found refl refl here.inside here.guards
             (record { each = λ k object. omega (arith, holds.each k object) });
         starts = Loads row index named.backs has within;
-        follows = Nothing (inside_stays counters at rows (Found item));
+        follows = Nothing (inside_stays context at rows (Found item));
         keeps = all_kept InRange i (CellLoad row index) here (λ k object. refl);
       } in
       taken_with_row code g row (row_of rows list)
@@ -239,8 +250,8 @@ module _ (code : List Instr) (g : Scene) (counters : Counters) (at : ℕ) (rows 
 
   -- The item is in the cell, so the thread may make a reference to it.
   pub found_inside : (to list index otherwise item : ℕ)
-      → StandsInside code g at rows s (Found item) (Fetch to list index otherwise)
-      → IsTaken code g (dispatch_inside g.layout g.thread g.used counters at rows (Found item)
+      → StandsInside code context g at rows s (Found item) (Fetch to list index otherwise)
+      → IsTaken code g (dispatch_inside g.layout g.thread g.used context at rows (Found item)
       (Some (Fetch to list index otherwise)))
   found_inside to list index otherwise item here =
       let i = Fetch to list index otherwise in
@@ -256,12 +267,12 @@ module _ (code : List Instr) (g : Scene) (counters : Counters) (at : ℕ) (rows 
               (here.leads Success (at + 1) refl),
           guards-put s rows to slot (Some item) s.locked g.locked unlocked here.guards,
           record {
-            each = newref_held g.bag g.thread s rows to item slot in_slots in_rows free refl
+            each = newref_held g.bag g.thread (call_of code context) s rows to item slot in_slots in_rows free refl
                 (holds_still (Found item) i here refl);
           },
         );
-        starts = Takes item (ByVariable to) [] (ByList here.cell.list here.cell.cell here.cell.is_locked
+        starts = Takes item (by_variable context to) [] (ByList here.cell.list here.cell.cell here.cell.is_locked
             here.cell.holds);
-        follows = Nothing (in_call_stays counters (at + 1) (slice_set rows to (Some item)));
-        keeps = all_kept (Found item) i (RetainLoad item (ByVariable to)) here (λ k object. refl);
+        follows = Nothing (in_call_stays context (at + 1) (slice_set rows to (Some item)));
+        keeps = all_kept (Found item) i (RetainLoad item (by_variable context to)) here (λ k object. refl);
       }

@@ -11,58 +11,62 @@ use Rattle.brc_model.specs.Threads.{row_of}
 use Rattle.brc_model.specs.declared.duty.Duty.TheVariants.{KindLoad}
 use Rattle.brc_model.specs.Kinds.{kind_of_word, same_kind}
 use Rattle.brc_model.specs.declared.actor.Place.{Place}
-use Rattle.brc_model.specs.declared.actor.Counters.{Counters}
+use Rattle.brc_model.specs.declared.actor.Context.{Context}
 use Rattle.brc_model.specs.declared.actor.Place.TheVariants.{InCall}
 use Rattle.brc_model.specs.Actions.{Does, dispatch_instruction}
 use Rattle.brc_model.specs.References.{one_if}
 use Rattle.brc_model.proofs.Basics.Lists.{either, first_false}
-use Rattle.brc_model.proofs.Dispatch.Holds.{of_variables, Holds}
+use Rattle.brc_model.proofs.Dispatch.Holds.{once_each, of_variables, Holds, call_of}
 use Rattle.brc_model.proofs.Dispatch.Grounded.{IsInside, grounded-with_kind, says-with_kind}
 use Rattle.brc_model.proofs.Dispatch.Guards.{LocksAgree, HeldBeside, guards-with_kind}
 use Rattle.brc_model.proofs.Dispatch.Standing.{named_at, keeps_all}
 use Rattle.brc_model.proofs.Frame.Aside.{HoldsAlone}
-use Rattle.brc_model.proofs.Dispatch.Coded.{once_each}
 use Rattle.brc_model.proofs.Dispatch.Begins.{Scene, Backs, StandsAt, Asks, Nothing, Taken, IsTaken, taken_with_row, in_call_stays}
 
 -- The thread holds what it held, wherever it goes on after it has loaded the kind.
-asks_taken : (code : List Instr) (g : Scene) (counters : Counters) (next found : ℕ)
+asks_taken : (code : List Instr) (g : Scene) (context : Context) (next found : ℕ)
     (variables : List (Option ℕ)) (s : State) (row : ℕ)
-    → IsInside code next variables s → LocksAgree s variables g.locked → Holds g.bag g.thread (of_variables s variables)
+    → IsInside (call_of code context) next variables s → LocksAgree s variables g.locked
+    → Holds g.bag g.thread (of_variables (call_of code context) s variables)
     → Backs g row
     → ((x : ℕ) → g.locked ≡ Some x → HeldBeside g.bag g.thread x (KindLoad row))
-    → Taken code g found (InCall counters next variables) (KindLoad row) []
-asks_taken code g counters next found variables s row inside guards holds backs keeps =
-    let held_now : HoldsAlone g.bag g.thread (once_each (of_variables s variables)) (KindLoad row ∷ []) =
+    → Taken code g found (InCall context next variables) (KindLoad row) []
+asks_taken code g context next found variables s row inside guards holds backs keeps =
+    let held_now : HoldsAlone g.bag g.thread (once_each (of_variables (call_of code context) s variables))
+    (KindLoad row ∷ []) =
     record { each = λ k object. omega (arith, holds.each k object) } in
     record {
       placed = (s, inside, guards, held_now);
       starts = Asks row backs;
-      follows = Nothing (in_call_stays counters next variables);
+      follows = Nothing (in_call_stays context next variables);
       keeps = keeps;
     }
 
-pub as_taken : (code : List Instr) (g : Scene) (before : Place) (counters : Counters) (at : ℕ)
+pub as_taken : (code : List Instr) (g : Scene) (before : Place) (context : Context) (at : ℕ)
     (variables : List (Option ℕ)) (s : State) (from : ℕ) (kind : Kind) (otherwise : ℕ)
-    → StandsAt code g before at variables s (As from kind otherwise)
+    → StandsAt code context g before at variables s (As from kind otherwise)
     → IsTaken code g
-    (dispatch_instruction g.layout g.thread g.used before counters at variables (Some (As from kind otherwise)))
-as_taken code g before counters at variables s from kind otherwise here =
+    (dispatch_instruction g.layout g.thread g.used before context at variables (Some (As from kind otherwise)))
+as_taken code g before context at variables s from kind otherwise here =
     let some : is_empty (slot_of s from) ≡ false = first_false _ _ here.met.not_empty in
-    let live = named_at code g before at variables s (As from kind otherwise) from here some in
+    let live = named_at code context g before at variables s (As from kind otherwise) from here some in
     let in_slots : from < length s.slots = omega (arith, here.variables.0, here.inside.slots) in
     let narrowed = put s from (with_kind (slot_of s from) kind) in
-    let next : IsInside code (at + 1) variables narrowed = record {
+    let next : IsInside (call_of code context) (at + 1) variables narrowed = record {
+      is_call = here.inside.is_call;
       exits = here.inside.exits ++ Success ∷ [];
       arrived = here.leads Success (at + 1) refl;
       slots = length-set s.slots from (with_kind (slot_of s from) kind) ∙ here.inside.slots;
       rows = here.inside.rows;
-      grounded = grounded-with_kind s variables from kind in_slots here.inside.grounded;
+      grounded = grounded-with_kind (call_of code context) s variables from kind in_slots here.inside.grounded;
     } in
-    let holds : Holds g.bag g.thread (of_variables narrowed variables) = record {
+    let holds : Holds g.bag g.thread (of_variables (call_of code context) narrowed variables) = record {
       each = λ h object.
-          here.holds.each h object ∙ ap one_if (says-with_kind s variables from kind h object in_slots);
+          here.holds.each h object ∙ ap one_if (says-with_kind (call_of code context) s variables from kind h object
+          in_slots);
     } in
-    let aside : IsInside code otherwise variables s = record {
+    let aside : IsInside (call_of code context) otherwise variables s = record {
+      is_call = here.inside.is_call;
       exits = here.inside.exits ++ Fault ∷ [];
       arrived = here.leads Fault otherwise refl;
       slots = here.inside.slots;
@@ -70,18 +74,19 @@ as_taken code g before counters at variables s from kind otherwise here =
       grounded = here.inside.grounded;
     } in
     let keeps =
-    keeps_all code g before at variables s (As from kind otherwise) (KindLoad live.object) here (λ k object. refl) in
+    keeps_all code context g before at variables s (As from kind otherwise) (KindLoad live.object) here
+    (λ k object. refl) in
     let taken : (found : ℕ) → Taken code g found
-    (InCall counters (cond (same_kind (kind_of_word found) kind) (at + 1) otherwise) variables)
+    (InCall context (cond (same_kind (kind_of_word found) kind) (at + 1) otherwise) variables)
     (KindLoad live.object) [] =
-    λ found. either (λ (next : ℕ). Taken code g found (InCall counters next variables) (KindLoad live.object) [])
+    λ found. either (λ (next : ℕ). Taken code g found (InCall context next variables) (KindLoad live.object) [])
     (same_kind (kind_of_word found) kind) _ _
     (λ same.
-    asks_taken code g counters (at + 1) found variables narrowed live.object next
+    asks_taken code g context (at + 1) found variables narrowed live.object next
     (guards-with_kind s variables from kind s.locked g.locked in_slots here.guards) holds live.backs keeps)
-    (asks_taken code g counters otherwise found variables s live.object aside here.guards here.holds live.backs keeps)
+    (asks_taken code g context otherwise found variables s live.object aside here.guards here.holds live.backs keeps)
     in
     taken_with_row code g live.object (row_of variables from)
     (λ row. Does (KindLoad row) []
-    (λ found. InCall counters (cond (same_kind (kind_of_word found) kind) (at + 1) otherwise) variables))
+    (λ found. InCall context (cond (same_kind (kind_of_word found) kind) (at + 1) otherwise) variables))
     live.is_row taken

@@ -14,7 +14,7 @@ use Rattle.brc_model.specs.declared.duty.Holding.{Holding}
 use Rattle.brc_model.specs.declared.duty.Holding.TheVariants.{ByVariable, AsCaller, InFlight}
 use Rattle.brc_model.specs.declared.duty.Duty.TheVariants.{LockGate, UnlockGate}
 use Rattle.brc_model.specs.declared.actor.Place.{Place}
-use Rattle.brc_model.specs.declared.actor.Counters.{Counters}
+use Rattle.brc_model.specs.declared.actor.Context.{Context}
 use Rattle.brc_model.specs.declared.actor.Place.TheVariants.{InCall, Exiting}
 use Rattle.brc_model.specs.Slots.{slot_of, is_empty, kind_of, names, without_item, without_items, with_lock, is_one_of, lockable}
 use Rattle.brc_model.specs.Threads.{row_of}
@@ -23,10 +23,10 @@ use Rattle.brc_model.specs.Actions.{Does, always, dispatch_instruction}
 use Rattle.brc_model.specs.Items.{borrows_item}
 use Rattle.brc_model.proofs.Basics.Lists.{first_false, none_some}
 use Rattle.brc_model.proofs.Frame.Aside.{HoldsAlone}
-use Rattle.brc_model.proofs.Dispatch.Holds.{of_variables}
+use Rattle.brc_model.proofs.Dispatch.Holds.{once_each, Activation, of_variables, call_of}
 use Rattle.brc_model.proofs.Dispatch.Grounded.{IsInside, grounded-without, says-without}
 use Rattle.brc_model.proofs.Dispatch.Guards.{is_kept, guards_none, guards_row}
-use Rattle.brc_model.proofs.Dispatch.Coded.{once_each, PlaceFits, fits_with}
+use Rattle.brc_model.proofs.Dispatch.Coded.{PlaceFits, fits_with}
 use Rattle.brc_model.proofs.Dispatch.Lockable.{lockable_word}
 use Rattle.brc_model.proofs.Dispatch.Begins.{Scene, StandsAt, Locks, Unlocks, Nothing, Taken, IsTaken, taken_with_row, in_call_stays, words_of}
 use Rattle.brc_model.proofs.Dispatch.Standing.{named_at, keeps_all}
@@ -41,11 +41,11 @@ slot_kept (Caller k) some none = refl
 slot_kept (Locked k) some none = absurd (none refl)
 
 -- A lock changes nothing of what the thread is to hold.
-says_locked : (s : State) (variables : List (Option ℕ)) (o : Option ℕ) (h : Holding) (object : ℕ)
-    → of_variables s variables h object ≡ of_variables (with_lock s o) variables h object
-says_locked s variables o (ByVariable v) object = refl
-says_locked s variables o AsCaller object = refl
-says_locked s variables o InFlight object = refl
+says_locked : (call : Activation) (s : State) (variables : List (Option ℕ)) (o : Option ℕ) (h : Holding) (object : ℕ)
+    → of_variables call s variables h object ≡ of_variables call (with_lock s o) variables h object
+says_locked call s variables o (ByVariable depth v) object = refl
+says_locked call s variables o AsCaller object = refl
+says_locked call s variables o InFlight object = refl
 
 -- The gate is free: the thread has locked the object and is at the next instruction. The gate isn't free: the thread is
 -- where it was.
@@ -63,14 +63,14 @@ lock_taken_at code g before after row found fits goes back remains =
       | false ↦ (back, remains)
     ]
 
-pub lock_taken : (code : List Instr) (g : Scene) (before : Place) (counters : Counters) (at : ℕ)
+pub lock_taken : (code : List Instr) (g : Scene) (before : Place) (context : Context) (at : ℕ)
     (variables : List (Option ℕ))
     (s : State) (object : ℕ)
-    → StandsAt code g before at variables s (Lock object)
-    → IsTaken code g (dispatch_instruction g.layout g.thread g.used before counters at variables (Some (Lock object)))
-lock_taken code g before counters at variables s object here =
+    → StandsAt code context g before at variables s (Lock object)
+    → IsTaken code g (dispatch_instruction g.layout g.thread g.used before context at variables (Some (Lock object)))
+lock_taken code g before context at variables s object here =
     let some : is_empty (slot_of s object) ≡ false = first_false _ _ here.met.not_empty in
-    let live = named_at code g before at variables s (Lock object) object here some in
+    let live = named_at code context g before at variables s (Lock object) object here some in
     let none : g.locked ≡ None =
     guards_none s variables s.locked g.locked (first_false _ _ here.met.first_lock) here.guards in
     let no_items : borrows_item (slot_of s object) ≡ true → ⊥ = λ borrows.
@@ -78,27 +78,36 @@ lock_taken code g before counters at variables s object here =
     let can : is_one_of (kind_of (slot_of s object)) lockable ≡ true =
     not-false _ (first_false _ _ here.met.right_kind) in
     let locked = with_lock s (Some object) in
-    let next : IsInside code (at + 1) variables locked = record {
+    let next : IsInside (call_of code context) (at + 1) variables locked = record {
+      is_call = here.inside.is_call;
       exits = here.inside.exits ++ Success ∷ [];
       arrived = here.leads Success (at + 1) refl;
       slots = here.inside.slots;
       rows = here.inside.rows;
       grounded = here.inside.grounded;
     } in
-    let held_now : HoldsAlone g.bag g.thread (once_each (of_variables locked variables)) (LockGate live.object ∷ []) =
-    record { each = λ k o. omega (arith, here.holds.each k o, ap one_if (says_locked s variables (Some object) k o)) }
+    let held_now : HoldsAlone g.bag g.thread (once_each (of_variables (call_of code context) locked variables))
+    (LockGate live.object ∷ []) =
+    record {
+      each = λ k o. omega (
+        arith,
+        here.holds.each k o,
+        ap one_if
+            (says_locked (call_of code context) s variables (Some object) k o),
+      );
+    }
     in
     let goes : PlaceFits code g.bag g.thread (LockGate live.object ∷ []) (Some live.object)
-    (InCall counters (at + 1) variables) =
+    (InCall context (at + 1) variables) =
     (locked, next, (live.object, refl, live.is_row, slot_kept (slot_of s object) some no_items), held_now)
     in
     let back = fits_with code g.bag g.thread (LockGate live.object ∷ []) g.locked before (λ k o. refl) (λ k o. refl)
     here.back in
-    let taken : (found : ℕ) → Taken code g found (cond (found == free_word) (InCall counters (at + 1) variables) before)
+    let taken : (found : ℕ) → Taken code g found (cond (found == free_word) (InCall context (at + 1) variables) before)
     (LockGate live.object) [] = λ found.
     let placed =
-    lock_taken_at code g before (InCall counters (at + 1) variables) live.object found goes
-    (in_call_stays counters (at + 1) variables) back here.remains in
+    lock_taken_at code g before (InCall context (at + 1) variables) live.object found goes
+    (in_call_stays context (at + 1) variables) back here.remains in
     record {
       placed = placed.0;
       starts = Locks live.object live.backs (here.counted live.object
@@ -109,43 +118,47 @@ lock_taken code g before counters at variables s object here =
     } in
     taken_with_row code g live.object (row_of variables object)
     (λ row. Does (LockGate row) []
-    (λ found. cond (found == free_word) (InCall counters (at + 1) variables) before)) live.is_row taken
+    (λ found. cond (found == free_word) (InCall context (at + 1) variables) before)) live.is_row taken
 
 -- ---- unlock
 
-pub unlock_taken : (code : List Instr) (g : Scene) (before : Place) (counters : Counters) (at : ℕ)
+pub unlock_taken : (code : List Instr) (g : Scene) (before : Place) (context : Context) (at : ℕ)
     (variables : List (Option ℕ))
     (s : State) (object : ℕ)
-    → StandsAt code g before at variables s (Unlock object)
-    → IsTaken code g (dispatch_instruction g.layout g.thread g.used before counters at variables (Some (Unlock object)))
-unlock_taken code g before counters at variables s object here =
+    → StandsAt code context g before at variables s (Unlock object)
+    → IsTaken code g (dispatch_instruction g.layout g.thread g.used before context at variables (Some (Unlock object)))
+unlock_taken code g before context at variables s object here =
     let some : is_empty (slot_of s object) ≡ false = first_false _ _ here.met.not_empty in
-    let live = named_at code g before at variables s (Unlock object) object here some in
+    let live = named_at code context g before at variables s (Unlock object) object here some in
     let this : names s.locked object ≡ true = not-false _ (first_false _ _ here.met.has_lock) in
     let has : g.locked ≡ Some live.object =
     guards_row s variables object live.object s.locked g.locked this live.is_row here.guards in
     let unlocked = with_lock (without_items s) None in
-    let next : IsInside code (at + 1) variables unlocked = record {
+    let next : IsInside (call_of code context) (at + 1) variables unlocked = record {
+      is_call = here.inside.is_call;
       exits = here.inside.exits ++ Success ∷ [];
       arrived = here.leads Success (at + 1) refl;
       slots = length-map s.slots without_item ∙ here.inside.slots;
       rows = here.inside.rows;
-      grounded = grounded-without s variables here.inside.grounded;
+      grounded = grounded-without (call_of code context) s variables here.inside.grounded;
     } in
-    let held_now : HoldsAlone g.bag g.thread (once_each (of_variables unlocked variables))
+    let held_now : HoldsAlone g.bag g.thread (once_each (of_variables (call_of code context) unlocked variables))
     (UnlockGate live.object ∷ []) =
     record {
       each = λ k o.
-          let same : of_variables s variables k o ≡ of_variables unlocked variables k o =
-          says-without s variables k o ∙ says_locked (without_items s) variables None k o in
+          let same : of_variables (call_of code context) s variables k o
+          ≡ of_variables (call_of code context) unlocked variables k o =
+          says-without (call_of code context) s variables k o ∙ says_locked (call_of code context) (without_items s)
+          variables None k o in
           omega (arith, here.holds.each k o, ap one_if same);
     } in
-    let taken : (found : ℕ) → Taken code g found (InCall counters (at + 1) variables) (UnlockGate live.object) [] =
+    let taken : (found : ℕ) → Taken code g found (InCall context (at + 1) variables) (UnlockGate live.object) [] =
     λ found. record {
       placed = (unlocked, next, refl, held_now);
       starts = Unlocks live.object live.backs has here.unlent;
-      follows = Nothing (in_call_stays counters (at + 1) variables);
-      keeps = keeps_all code g before at variables s (Unlock object) (UnlockGate live.object) here (λ k o. refl);
+      follows = Nothing (in_call_stays context (at + 1) variables);
+      keeps = keeps_all code context g before at variables s (Unlock object) (UnlockGate live.object) here
+          (λ k o. refl);
     } in
     taken_with_row code g live.object (row_of variables object)
-    (λ row. Does (UnlockGate row) [] (always (InCall counters (at + 1) variables))) live.is_row taken
+    (λ row. Does (UnlockGate row) [] (always (InCall context (at + 1) variables))) live.is_row taken

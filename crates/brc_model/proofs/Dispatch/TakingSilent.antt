@@ -18,65 +18,69 @@ use Rattle.brc_model.specs.declared.duty.Holding.TheVariants.{ByVariable}
 use Rattle.brc_model.specs.AbstractState.{Reference, same_holding, same, without}
 use Rattle.brc_model.specs.Threads.{row_of}
 use Rattle.brc_model.specs.declared.actor.Place.{Place}
-use Rattle.brc_model.specs.declared.actor.Counters.{Counters}
+use Rattle.brc_model.specs.declared.actor.Context.{Context}
 use Rattle.brc_model.specs.declared.actor.Place.TheVariants.{InCall}
-use Rattle.brc_model.specs.Actions.{turns_at, turned, dispatch_instruction, Silent}
+use Rattle.brc_model.specs.Actions.{turns_at, turned, dispatch_instruction, Silent, by_variable}
 use Rattle.brc_model.specs.Moves.{gain, pass_on}
 use Rattle.brc_model.proofs.Basics.Bag.{held_has, held-without, held-cons}
 use Rattle.brc_model.specs.References.{held, one_if, reference_of}
 use Rattle.brc_model.proofs.Basics.Lists.{either, first_false, second_false}
-use Rattle.brc_model.proofs.Dispatch.Holds.{of_variables, Holds, owned_has}
+use Rattle.brc_model.proofs.Dispatch.Holds.{Activation, of_variables, Holds, owned_has, call_of}
 use Rattle.brc_model.proofs.Dispatch.Grounded.{IsInside, owned_slot, owned_row, grounded-put, slot_of-put_same, slot_of-put_other}
 use Rattle.brc_model.proofs.Stepping.Counts.{same_is}
 use Rattle.brc_model.proofs.Dispatch.Guards.{guards-put}
+use Rattle.brc_model.proofs.Dispatch.Coded.{PlaceFits}
 use Rattle.brc_model.proofs.Dispatch.Begins.{Scene, StandsAt, holds_at_none, IsTaken, taken_with_row, in_call_stays, newref_held, emptied_held, SilentTaken}
 use Rattle.brc_model.proofs.Keeping.SilentMoves.{Stays, GainsNone, PassesOn}
 use Rattle.std.proofs.lemmas.Bool.Decides.{eqb_tells}
 use Rattle.brc_model.specs.Layout.{none_row}
 
 -- Gaining the reference that the thread lacks makes the bag fit what the thread is to hold.
-pub gained_holds : (bag : List Reference) (t to row : ℕ) (says : Holding → ℕ → Bool)
+pub gained_holds : (bag : List Reference) (t : ℕ) (by : Holding) (row : ℕ) (says : Holding → ℕ → Bool)
     → ((k : Holding) (object : ℕ) → held (reference_of t k object) bag
-    + one_if (same_holding (ByVariable to) k && (row == object)) ≡ one_if (says k object) + 0)
+    + one_if (same_holding by k && (row == object)) ≡ one_if (says k object) + 0)
     → (k : Holding) (object : ℕ)
-    → held (reference_of t k object) (reference_of t (ByVariable to) row ∷ bag) ≡ one_if (says k object)
-gained_holds bag t to row says lacks k object =
+    → held (reference_of t k object) (reference_of t by row ∷ bag) ≡ one_if (says k object)
+gained_holds bag t by row says lacks k object =
     let r = reference_of t k object in
-    let one : one_if (same r (reference_of t (ByVariable to) row))
-    ≡ one_if (same_holding (ByVariable to) k && (row == object)) =
-    ap one_if (same_is t row (ByVariable to) k object) in
-    omega (arith, lacks k object, held-cons r (reference_of t (ByVariable to) row) bag, one)
+    let one : one_if (same r (reference_of t by row)) ≡ one_if (same_holding by k && (row == object)) =
+    ap one_if (same_is t row by k object) in
+    omega (arith, lacks k object, held-cons r (reference_of t by row) bag, one)
 
 -- ---- none
 
-pub none_taken : (code : List Instr) (g : Scene) (before : Place) (counters : Counters) (at : ℕ)
+pub none_taken : (code : List Instr) (g : Scene) (before : Place) (context : Context) (at : ℕ)
     (variables : List (Option ℕ))
     (s : State) (to : ℕ)
-    → StandsAt code g before at variables s (NoneObject to)
-    → IsTaken code g (dispatch_instruction g.layout g.thread g.used before counters at variables (Some (NoneObject to)))
-none_taken code g before counters at variables s to here =
+    → StandsAt code context g before at variables s (NoneObject to)
+    → IsTaken code g (dispatch_instruction g.layout g.thread g.used before context at variables (Some (NoneObject to)))
+none_taken code g before context at variables s to here =
     let slot : Slot = Owned kinds.None in
     let free : is_owned (slot_of s to) ≡ false = first_false _ _ here.met.free in
     let in_slots : to < length s.slots = omega (arith, here.variables, here.inside.slots) in
     let in_rows : to < length variables = omega (arith, here.variables, here.inside.rows) in
-    let next : IsInside code (at + 1) (slice_set variables to (Some none_row)) (put s to slot) = record {
+    let next : IsInside (call_of code context) (at + 1) (slice_set variables to (Some none_row)) (put s to slot) =
+    record {
+      is_call = here.inside.is_call;
       exits = here.inside.exits ++ Success ∷ [];
       arrived = here.leads Success (at + 1) refl;
       slots = length-set s.slots to slot ∙ here.inside.slots;
       rows = length-set variables to (Some none_row) ∙ here.inside.rows;
       grounded =
-          grounded-put s variables to slot (Some none_row) in_slots in_rows (none_row, refl) here.inside.grounded;
+          grounded-put (call_of code context) s variables to slot (Some none_row) in_slots in_rows (none_row, refl)
+          here.inside.grounded;
     } in
-    let holds : Holds (reference_of g.thread (ByVariable to) none_row ∷ g.bag) g.thread
-    (of_variables (put s to slot) (slice_set variables to (Some none_row))) =
+    let holds : Holds (reference_of g.thread (by_variable context to) none_row ∷ g.bag) g.thread
+    (of_variables (call_of code context) (put s to slot) (slice_set variables to (Some none_row))) =
     record {
-      each = gained_holds g.bag g.thread to none_row _
-          (newref_held g.bag g.thread s variables to none_row slot in_slots in_rows free refl here.holds);
+      each = gained_holds g.bag g.thread (by_variable context to) none_row _
+          (newref_held g.bag g.thread (call_of code context) s variables to none_row slot in_slots in_rows free refl
+          here.holds);
     } in
-    let taken : SilentTaken code g (gain g.thread (ByVariable to) none_row)
-    (InCall counters (at + 1) (slice_set variables to (Some none_row))) =
+    let taken : SilentTaken code g (gain g.thread (by_variable context to) none_row)
+    (InCall context (at + 1) (slice_set variables to (Some none_row))) =
     record {
-      moves_fit = GainsNone (ByVariable to);
+      moves_fit = GainsNone (by_variable context to);
       placed = (
         put s to slot,
         next,
@@ -84,29 +88,30 @@ none_taken code g before counters at variables s to here =
             (first_false _ _ here.met.unlocked) here.guards,
         holds_at_none _ g.thread _ holds,
       );
-      stays = in_call_stays counters (at + 1) (slice_set variables to (Some none_row));
+      stays = in_call_stays context (at + 1) (slice_set variables to (Some none_row));
     } in
     taken
 
 -- ---- a reference passed on
 
 -- Losing the reference that a variable owns, and emptying the variable, makes the bag fit what the thread is to hold.
-lost_holds : (bag : List Reference) (t : ℕ) (s : State) (variables : List (Option ℕ)) (from row : ℕ)
+lost_holds : (bag : List Reference) (t : ℕ) (call : Activation) (s : State) (variables : List (Option ℕ))
+    (from row : ℕ)
     → from < length s.slots → is_owned (slot_of s from) ≡ true → row_of variables from ≡ Some row
-    → Holds bag t (of_variables s variables)
-    → list_any (same (reference_of t (ByVariable from) row)) bag ≡ true
-    → Holds (without (reference_of t (ByVariable from) row) bag) t
-    (of_variables (put s from Empty) (slice_set variables from None))
-lost_holds bag t s variables from row in_slots owned is holds has = record {
+    → Holds bag t (of_variables call s variables)
+    → list_any (same (reference_of t (ByVariable call.depth from) row)) bag ≡ true
+    → Holds (without (reference_of t (ByVariable call.depth from) row) bag) t
+    (of_variables call (put s from Empty) (slice_set variables from None))
+lost_holds bag t call s variables from row in_slots owned is holds has = record {
   each = λ k object.
       let r = reference_of t k object in
-      let one : one_if (same r (reference_of t (ByVariable from) row))
-      ≡ one_if (same_holding (ByVariable from) k && (row == object)) =
-      ap one_if (same_is t row (ByVariable from) k object) in
+      let by = ByVariable call.depth from in
+      let one : one_if (same r (reference_of t by row)) ≡ one_if (same_holding by k && (row == object)) =
+      ap one_if (same_is t row by k object) in
       omega (
         arith,
-        emptied_held bag t s variables from row in_slots owned is holds k object,
-        held-without r (reference_of t (ByVariable from) row) bag has,
+        emptied_held bag t call s variables from row in_slots owned is holds k object,
+        held-without r (reference_of t by row) bag has,
         one,
       );
 }
@@ -121,41 +126,46 @@ still_free s from to in_slots free =
       | inr other ↦ ap is_owned (slot_of-put_other s from to Empty other.1) ∙ free
     ]
 
-pub move_taken : (code : List Instr) (g : Scene) (before : Place) (counters : Counters) (at : ℕ)
+pub move_taken : (code : List Instr) (g : Scene) (before : Place) (context : Context) (at : ℕ)
     (variables : List (Option ℕ))
     (s : State) (to from : ℕ)
-    → StandsAt code g before at variables s (MoveReference to from)
+    → StandsAt code context g before at variables s (MoveReference to from)
     → IsTaken code g
-    (dispatch_instruction g.layout g.thread g.used before counters at variables (Some (MoveReference to from)))
-move_taken code g before counters at variables s to from here =
+    (dispatch_instruction g.layout g.thread g.used before context at variables (Some (MoveReference to from)))
+move_taken code g before context at variables s to from here =
     let owned = owned_slot (slot_of s from) (first_false _ _ here.met.not_empty) (first_false _ _ here.met.owned) in
     let free : is_owned (slot_of s to) ≡ false = first_false _ _ here.met.free in
-    let row = owned_row (slot_of s from) (row_of variables from) owned (here.inside.grounded from) in
+    let row = owned_row (call_of code context) (slot_of s from) (row_of variables from) owned
+    (here.inside.grounded from) in
     let slot : Slot = Owned (kind_of (slot_of s from)) in
     let s1 = put s from Empty in
     let v1 = slice_set variables from None in
-    let r = reference_of g.thread (ByVariable from) row.0 in
+    let r = reference_of g.thread (by_variable context from) row.0 in
     let in_slots : from < length s.slots = omega (arith, here.variables.1, here.inside.slots) in
     let in_rows : from < length variables = omega (arith, here.variables.1, here.inside.rows) in
     let to_slots : to < length s1.slots =
     omega (arith, here.variables.0, here.inside.slots, length-set s.slots from Empty) in
     let to_rows : to < length v1 = omega (arith, here.variables.0, here.inside.rows, length-set variables from None) in
-    let grounded = grounded-put s variables from Empty None in_slots in_rows tt here.inside.grounded in
-    let next : IsInside code (at + 1) (slice_set v1 to (Some row.0)) (put s1 to slot) = record {
+    let grounded = grounded-put (call_of code context) s variables from Empty None in_slots in_rows tt
+    here.inside.grounded in
+    let next : IsInside (call_of code context) (at + 1) (slice_set v1 to (Some row.0)) (put s1 to slot) = record {
+      is_call = here.inside.is_call;
       exits = here.inside.exits ++ Success ∷ [];
       arrived = here.leads Success (at + 1) refl;
       slots = length-set s1.slots to slot ∙ length-set s.slots from Empty ∙ here.inside.slots;
       rows = length-set v1 to (Some row.0) ∙ length-set variables from None ∙ here.inside.rows;
-      grounded = grounded-put s1 v1 to slot (Some row.0) to_slots to_rows (row.0, refl) grounded;
+      grounded = grounded-put (call_of code context) s1 v1 to slot (Some row.0) to_slots to_rows (row.0, refl) grounded;
     } in
-    let one : held r g.bag ≡ 1 = owned_has g.bag g.thread s variables from row.0 owned row.1 here.holds in
+    let one : held r g.bag ≡ 1 = owned_has g.bag g.thread (call_of code context) s variables from row.0 owned row.1
+    here.holds in
     let has = held_has r g.bag (omega (arith, one)) in
-    let fewer = lost_holds g.bag g.thread s variables from row.0 in_slots owned row.1 here.holds has in
-    let holds : Holds (reference_of g.thread (ByVariable to) row.0 ∷ without r g.bag) g.thread
-    (of_variables (put s1 to slot) (slice_set v1 to (Some row.0))) =
+    let fewer = lost_holds g.bag g.thread (call_of code context) s variables from row.0 in_slots owned row.1 here.holds
+    has in
+    let holds : Holds (reference_of g.thread (by_variable context to) row.0 ∷ without r g.bag) g.thread
+    (of_variables (call_of code context) (put s1 to slot) (slice_set v1 to (Some row.0))) =
     record {
-      each = gained_holds (without r g.bag) g.thread to row.0 _
-          (newref_held (without r g.bag) g.thread s1 v1 to row.0 slot to_slots to_rows
+      each = gained_holds (without r g.bag) g.thread (by_variable context to) row.0 _
+          (newref_held (without r g.bag) g.thread (call_of code context) s1 v1 to row.0 slot to_slots to_rows
           (still_free s from to in_slots free) refl
           fewer);
     } in
@@ -164,55 +174,63 @@ move_taken code g before counters at variables s to from here =
     let guards =
     guards-put s1 v1 to slot (Some row.0) s.locked g.locked to_free
     (guards-put s variables from Empty None s.locked g.locked from_free here.guards) in
-    let taken : SilentTaken code g (pass_on g.thread (ByVariable from) (ByVariable to) row.0)
-    (InCall counters (at + 1) (slice_set v1 to (Some row.0))) =
+    let taken : SilentTaken code g (pass_on g.thread (by_variable context from) (by_variable context to) row.0)
+    (InCall context (at + 1) (slice_set v1 to (Some row.0))) =
     record {
-      moves_fit = PassesOn (ByVariable from) (ByVariable to) row.0 has;
+      moves_fit = PassesOn (by_variable context from) (by_variable context to) row.0 has;
       placed = (put s1 to slot, next, guards, holds_at_none _ g.thread _ holds);
-      stays = in_call_stays counters (at + 1) (slice_set v1 to (Some row.0));
+      stays = in_call_stays context (at + 1) (slice_set v1 to (Some row.0));
     } in
     taken_with_row code g row.0 (row_of variables from)
-    (λ x. Silent (pass_on g.thread (ByVariable from) (ByVariable to) x)
-    (InCall counters (at + 1) (slice_set v1 to (Some x))))
+    (λ x. Silent (pass_on g.thread (by_variable context from) (by_variable context to) x)
+    (InCall context (at + 1) (slice_set v1 to (Some x))))
     row.1 taken
 
 -- ---- a jump
 
--- An instruction that changes no variable leads to the point of its exit, with any counters.
-jump_taken : (code : List Instr) (g : Scene) (before : Place) (counters : Counters) (at next : ℕ)
+-- An instruction that changes no variable leads to the point of its exit.
+jump_fits : (code : List Instr) (g : Scene) (before : Place) (context : Context) (at next : ℕ)
     (variables : List (Option ℕ)) (s : State) (i : Instr) (exit : Exit)
-    → StandsAt code g before at variables s i
-    → target i exit at ≡ Some next → after i exit s ≡ s → SilentTaken code g [] (InCall counters next variables)
-jump_taken code g before counters at next variables s i exit here to same =
-    let there : IsInside code next variables s = record {
+    → StandsAt code context g before at variables s i
+    → target i exit at ≡ Some next → after i exit s ≡ s
+    → PlaceFits code g.bag g.thread [] g.locked (InCall context next variables)
+jump_fits code g before context at next variables s i exit here to same =
+    let there : IsInside (call_of code context) next variables s = record {
+      is_call = here.inside.is_call;
       exits = here.inside.exits ++ exit ∷ [];
       arrived = here.leads exit next to ∙ ap (At next) same;
       slots = here.inside.slots;
       rows = here.inside.rows;
       grounded = here.inside.grounded;
     } in
-    record {
-      moves_fit = Stays;
-      placed = (s, there, here.guards, holds_at_none g.bag g.thread _ here.holds);
-      stays = in_call_stays counters next variables;
-    }
+    (s, there, here.guards, holds_at_none g.bag g.thread _ here.holds)
 
-pub goto_taken : (code : List Instr) (g : Scene) (before : Place) (counters : Counters) (at : ℕ)
+jump_taken : (code : List Instr) (g : Scene) (context : Context) (next : ℕ) (variables : List (Option ℕ))
+    → PlaceFits code g.bag g.thread [] g.locked (InCall context next variables)
+    → SilentTaken code g [] (InCall context next variables)
+jump_taken code g context next variables placed =
+    record { moves_fit = Stays; placed = placed; stays = in_call_stays context next variables }
+
+pub goto_taken : (code : List Instr) (g : Scene) (before : Place) (context : Context) (at : ℕ)
     (variables : List (Option ℕ))
     (s : State) (to : ℕ)
-    → StandsAt code g before at variables s (Goto to)
-    → IsTaken code g (dispatch_instruction g.layout g.thread g.used before counters at variables (Some (Goto to)))
-goto_taken code g before counters at variables s to here =
-    jump_taken code g before counters at to variables s (Goto to) Success here refl refl
+    → StandsAt code context g before at variables s (Goto to)
+    → IsTaken code g (dispatch_instruction g.layout g.thread g.used before context at variables (Some (Goto to)))
+goto_taken code g before context at variables s to here =
+    jump_taken code g context to variables
+    (jump_fits code g before context at to variables s (Goto to) Success here refl refl)
 
-pub again_taken : (code : List Instr) (g : Scene) (before : Place) (counters : Counters) (at : ℕ)
+-- Counting a turn leaves the calls that are open around this one, and so what the thread holds.
+pub again_taken : (code : List Instr) (g : Scene) (before : Place) (context : Context) (at : ℕ)
     (variables : List (Option ℕ))
     (s : State) (to times : ℕ)
-    → StandsAt code g before at variables s (Again to times)
+    → StandsAt code context g before at variables s (Again to times)
     → IsTaken code g
-    (dispatch_instruction g.layout g.thread g.used before counters at variables (Some (Again to times)))
-again_taken code g before counters at variables s to times here =
-    either (SilentTaken code g []) (nat_lt (turns_at counters at) times) (InCall (turned counters at) to variables)
-    (InCall counters (at + 1) variables)
-    (λ more. jump_taken code g before (turned counters at) at to variables s (Again to times) Fault here refl refl)
-    (jump_taken code g before counters at (at + 1) variables s (Again to times) Success here refl refl)
+    (dispatch_instruction g.layout g.thread g.used before context at variables (Some (Again to times)))
+again_taken code g before context at variables s to times here =
+    either (SilentTaken code g []) (nat_lt (turns_at context at) times) (InCall (turned context at) to variables)
+    (InCall context (at + 1) variables)
+    (λ more. jump_taken code g (turned context at) to variables
+    (jump_fits code g before context at to variables s (Again to times) Fault here refl refl))
+    (jump_taken code g context (at + 1) variables
+    (jump_fits code g before context at (at + 1) variables s (Again to times) Success here refl refl))

@@ -1,21 +1,19 @@
 -- A ready thread that has put nothing aside begins what it does in one go: to settle, to claim a mark, or to leave. And
 -- a ready thread asks for an object's kind.
-use Rattle.std.proofs.Common.{◌≡◌, ℕ, ◌+◌, ◌<◌, Bool, cond, true, false, List, [], ◌∷◌, inl, inr, refl, ap, subst, arith}
-use Rattle.std.specs.Prelude.{◌==◌, ◌⊎◌, count_by}
-use Rattle.std.proofs.lemmas.Bool.{eq-eqb, false≢true}
-use Rattle.std.proofs.lemmas.List.Sums.{sum_by-cons}
+use Rattle.std.proofs.Common.{◌≡◌, ℕ, ◌<◌, Bool, cond, true, false, [], ◌∷◌, inl, inr, refl, ap, subst, arith}
+use Rattle.std.specs.Prelude.{◌⊎◌, count_by}
+use Rattle.std.proofs.lemmas.Bool.{false≢true}
 use Rattle.brc_model.specs.declared.duty.Holding.{Holding}
 use Rattle.brc_model.specs.declared.duty.Duty.{Duty}
 use Rattle.brc_model.specs.declared.duty.Duty.TheVariants.{Settle, Leave, ClaimMark, KindLoad}
 use Rattle.brc_model.specs.declared.actor.Status.TheVariants.{Running}
 use Rattle.brc_model.specs.Layout.{row_count}
-use Rattle.brc_model.specs.declared.address.Address.{Address}
 use Rattle.brc_model.specs.Machine.{Actor, Life, Machine, with_actor}
 use Rattle.brc_model.specs.References.{one_if}
 use Rattle.brc_model.specs.RowInvariant.{waits, carries, merges, decides}
 use Rattle.brc_model.specs.Accounts.{Account, Accounts, lacks, extra, HoldsNone}
 use Rattle.brc_model.specs.Knowledge.{MayLook, HeadFits}
-use Rattle.brc_model.specs.OpenWork.{Linked, dies_by, is_about, is_finalising, has_leave, Agenda, IsSettled}
+use Rattle.brc_model.specs.OpenWork.{dies_by, is_about, is_finalising, has_leave, Agenda, IsSettled}
 use Rattle.brc_model.specs.Gates.{LocksFit}
 use Rattle.brc_model.specs.Invariant.{looks, CoreInvariant, Invariant}
 use Rattle.brc_model.specs.Ranges.{IsSmall}
@@ -133,7 +131,8 @@ alone_begins p n m t a d counts ready none new =
     } in
     record {
       kept =
-          subst (λ (q : Accounts). Invariant q n (with_actor m t (working a (d ∷ []) a.aside))) (with_account_itself p t)
+          subst (λ (q : Accounts). Invariant q n (with_actor m t (working a (d ∷ []) a.aside)))
+          (with_account_itself p t)
           (kept_sits p n m t a (d ∷ []) (p t) counts.kept (ready_rests p n m t a core ready) sits new.settled);
       ranges =
           working_ranges n m t a (d ∷ []) a.aside counts.ranges ready.found (new.small, tt)
@@ -255,7 +254,8 @@ kinds_asked p n m t a x counts ready alone asks =
     let core = counts.kept.core in
     let holds = ready_holds p n m t a core ready in
     let looks = asked_looks p n m t a x core ready alone asks in
-    subst (λ (q : Accounts). Counts q n (with_actor m t (working a (KindLoad x ∷ []) a.aside))) (with_account_itself p t)
+    subst (λ (q : Accounts). Counts q n (with_actor m t (working a (KindLoad x ∷ []) a.aside)))
+    (with_account_itself p t)
     (work_begins p n m t a x (KindLoad x) (p t) counts ready alone (record {
       begins = kind_load_begins x;
       no_flight = counts.no_flight t;

@@ -37,8 +37,8 @@ callers_off_cells (suc n) x i object =
 
 its_caller : (n : ℕ) (h : Holding) (object : ℕ)
     → one_if (same (reference_of n h object) (caller_reference n)) ≡ one_if (the_root h object)
-its_caller n (ByVariable v) object =
-    ap one_if (same-other_holder (reference_of n (ByVariable v) object) (caller_reference n)
+its_caller n (ByVariable depth v) object =
+    ap one_if (same-other_holder (reference_of n (ByVariable depth v) object) (caller_reference n)
     (rw (eq-eqb n n refl) refl))
 its_caller n InFlight object =
     ap one_if (same-other_holder (reference_of n InFlight object) (caller_reference n) (rw (eq-eqb n n refl) refl))

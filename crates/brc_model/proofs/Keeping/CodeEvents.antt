@@ -60,6 +60,7 @@ silent_keeps p n m t a moves place whole found fits kinds items rooms =
         accounts = new;
         kept = subst (Invariant new n) same here;
         functions = whole.functions;
+        states_true = whole.states_true;
         mortal = whole.mortal;
         kinds = kinds;
         items = items;
@@ -97,6 +98,7 @@ action_keeps p n m t a exit (Calls row place) whole found fits kinds items rooms
         accounts = quiet.accounts;
         kept = quiet.kept;
         functions = quiet.functions;
+        states_true = quiet.states_true;
         mortal = quiet.mortal;
         kinds = kinds;
         items = items;
@@ -120,6 +122,7 @@ action_keeps p n m t a exit (Does d rest place) whole found fits kinds items roo
             subst (Invariant new n)
             (taken_up_step (counting m) t a.actor d rest ∙ counting_done m t a exit d rest place) done.1;
         functions = whole.functions;
+        states_true = whole.states_true;
         mortal = whole.mortal;
         kinds = kinds;
         items = items;
@@ -144,12 +147,12 @@ thread_keeps : (p : Module) (n : ℕ) (m : StepMachine) (t : ℕ) (choice : Choi
     → slice_get m.actors t ≡ o
     → KeepsOn p n
     (of_thread false
-    (λ a. is_bad_action m t a (action_of m.functions m.layout t a choice) || chooses_unfit m a choice) o)
-    (of_thread m (λ a. machine_by m t a (exit_of choice) (action_of m.functions m.layout t a choice)) o)
+    (λ a. is_bad_action m t a (action_of m.functions m.states m.layout t a choice) || chooses_unfit m a choice) o)
+    (of_thread m (λ a. machine_by m t a (exit_of choice) (action_of m.functions m.states m.layout t a choice)) o)
 thread_keeps p n m t choice None whole found = (refl, whole)
 thread_keeps p n m t choice (Some a) whole found =
     let kept =
-    action_keeps p n m t a (exit_of choice) (action_of m.functions m.layout t a choice) whole found
+    action_keeps p n m t a (exit_of choice) (action_of m.functions m.states m.layout t a choice) whole found
     (action_fits p n m t a choice whole found) (thread_holds p n m t choice (Some a) whole found)
     (thread_items p n m t choice (Some a) whole found) (thread_rooms p n m t choice (Some a) whole found) in
     (ap (λ (b : Bool). b || chooses_unfit m a choice) kept.0 ∙ choice_fit p n m t a choice whole found, kept.1)

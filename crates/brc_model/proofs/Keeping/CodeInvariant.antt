@@ -6,6 +6,7 @@ use Rattle.std.specs.Prelude.{slice_get, slice_set}
 use Rattle.std.proofs.lemmas.Bool.Decides.{eqb_tells}
 use Rattle.std.proofs.lemmas.Option.{slice_get_within}
 use Rattle.brc_lang.specs.declared.module.Module.{Module}
+use Rattle.brc_model.specs.Tables.{AreTrueWhereReached}
 use Rattle.brc_model.specs.Actions.{StepActor}
 use Rattle.brc_model.specs.StepMachine.{StepMachine, counting}
 use Rattle.brc_model.proofs.Basics.Lists.{some_is, slice_get-set_same, slice_get-set_other}
@@ -22,6 +23,7 @@ pub record CodeInvariant (p : Module) (n : ℕ) (m : StepMachine) : Type 0 where
   pub accounts : Accounts
   pub kept : Invariant accounts n (counting m)
   pub functions : m.functions ≡ p.functions
+  pub states_true : AreTrueWhereReached p m.states
   -- none is the only immortal object
   pub mortal : m.layout.immortal_lists ≡ 0
   pub kinds : KindsHold m

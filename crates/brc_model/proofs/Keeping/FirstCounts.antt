@@ -260,10 +260,12 @@ caller_bounded : (layout : Layout) (account : Account) (t callers : ℕ)
 caller_bounded layout account t callers says =
     elim (cases_lt t callers) [
       | inl below ↦ record {
-        by_variable = λ v object.
-            omega (arith, says (ByVariable v) object, callers_hold callers t (ByVariable v) object below);
-        sixteen = λ v object past.
-            omega (arith, says (ByVariable v) object, callers_hold callers t (ByVariable v) object below);
+        by_variable = λ depth v object.
+            omega (arith, says (ByVariable depth v) object, callers_hold callers t (ByVariable depth v) object below);
+        sixteen = λ depth v object past.
+            omega (arith, says (ByVariable depth v) object, callers_hold callers t (ByVariable depth v) object below);
+        shallow = λ depth v object deep.
+            omega (arith, says (ByVariable depth v) object, callers_hold callers t (ByVariable depth v) object below);
         lent = λ object counted.
             omega (
               arith,
@@ -274,10 +276,12 @@ caller_bounded layout account t callers says =
         in_flight = λ object. omega (arith, says InFlight object, callers_hold callers t InFlight object below);
       }
       | inr past ↦ record {
-        by_variable = λ v object.
-            omega (arith, says (ByVariable v) object, callers_beyond callers t (ByVariable v) object past);
-        sixteen = λ v object high.
-            omega (arith, says (ByVariable v) object, callers_beyond callers t (ByVariable v) object past);
+        by_variable = λ depth v object.
+            omega (arith, says (ByVariable depth v) object, callers_beyond callers t (ByVariable depth v) object past);
+        sixteen = λ depth v object high.
+            omega (arith, says (ByVariable depth v) object, callers_beyond callers t (ByVariable depth v) object past);
+        shallow = λ depth v object deep.
+            omega (arith, says (ByVariable depth v) object, callers_beyond callers t (ByVariable depth v) object past);
         lent = λ object counted. omega (arith, says AsCaller object, callers_beyond callers t AsCaller object past);
         in_flight = λ object. omega (arith, says InFlight object, callers_beyond callers t InFlight object past);
       }

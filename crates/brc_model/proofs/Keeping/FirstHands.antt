@@ -17,7 +17,7 @@ use Rattle.brc_model.proofs.Keeping.FirstCounts.{IsRooted, rooted_kept, rooted_r
 -- The account of each thread says what the bag has.
 hands_hold : (t : ℕ) (k : Holding) (object : ℕ)
     → hands_accounts t k object ≡ held (reference_of t k object) (callers_below 1)
-hands_hold zero (ByVariable v) object = sym (callers_hold 1 0 (ByVariable v) object (omega arith))
+hands_hold zero (ByVariable depth v) object = sym (callers_hold 1 0 (ByVariable depth v) object (omega arith))
 hands_hold zero AsCaller object =
     ap one_if (eqb_swapped root_row object) ∙ sym (callers_hold 1 0 AsCaller object (omega arith))
 hands_hold zero InFlight object = sym (callers_hold 1 0 InFlight object (omega arith))

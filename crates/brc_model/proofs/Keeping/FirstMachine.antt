@@ -4,6 +4,7 @@ use Rattle.std.specs.Prelude.{slice_get, map, replicate}
 use Rattle.brc_lang.specs.declared.module.Module.{Module}
 use Rattle.brc_lang.specs.declared.module.Function.{Function}
 use Rattle.brc_lang.specs.Grammar.{IsInstruction, IsFunction, IsModule}
+use Rattle.brc_model.specs.declared.slot.State.{State}
 use Rattle.brc_model.specs.declared.thread.Call.{Call}
 use Rattle.brc_model.specs.Paths.{IsAcceptableCode, IsAcceptable}
 use Rattle.brc_model.specs.Threads.{code_of}
@@ -17,8 +18,8 @@ use Rattle.brc_model.proofs.Basics.Lists.{some_is, all_at, all_of_found, slice_g
 use Rattle.brc_model.proofs.Keeping.FirstCounts.{idle_actors, rooted_machine, each_idle, rooted_kept}
 use Rattle.brc_model.proofs.Keeping.Callers.{callers_hold}
 use Rattle.brc_model.proofs.Dispatch.Grounded.{AreInstructions}
-use Rattle.brc_model.proofs.Dispatch.Holds.{the_root}
-use Rattle.brc_model.proofs.Dispatch.Coded.{once_each, InCode}
+use Rattle.brc_model.proofs.Dispatch.Holds.{once_each, the_root}
+use Rattle.brc_model.proofs.Dispatch.Coded.{InCode}
 use Rattle.brc_model.specs.Limits.{row_limit}
 use Rattle.brc_model.specs.Layout.{front_rows}
 
@@ -65,9 +66,9 @@ each_first P calls main worker =
     (each_idle P (length calls) main worker)
 
 -- The threads count as main and workers that all hold the root.
-pub first_rooted : (m : Module) (rows : ℕ) (calls : List Call)
-    → rooted_machine (first_layout rows calls) (1 + length calls) ≡ counting (first_machine m rows calls)
-first_rooted m rows calls =
+pub first_rooted : (m : Module) (states : ℕ → ℕ → Option State) (rows : ℕ) (calls : List Call)
+    → rooted_machine (first_layout rows calls) (1 + length calls) ≡ counting (first_machine m states rows calls)
+first_rooted m states rows calls =
     let rooted = rooted_machine (first_layout rows calls) (1 + length calls) in
     λ i. record {
       layout = rooted.layout;
@@ -82,11 +83,12 @@ abbrev pub first_accounts : Accounts
 first_accounts t = once_each the_root
 
 -- The first machine has the invariant.
-pub first_kept : (m : Module) (rows : ℕ) (calls : List Call) → AreCalls m calls → 0 < rows → rows ≤ row_limit
-    → Invariant first_accounts (1 + length calls) (counting (first_machine m rows calls))
-first_kept m rows calls are_calls some_rows few_rows =
+pub first_kept : (m : Module) (states : ℕ → ℕ → Option State) (rows : ℕ) (calls : List Call) → AreCalls m calls
+    → 0 < rows → rows ≤ row_limit
+    → Invariant first_accounts (1 + length calls) (counting (first_machine m states rows calls))
+first_kept m states rows calls are_calls some_rows few_rows =
     let n = 1 + length calls in
-    subst (Invariant first_accounts n) (first_rooted m rows calls)
+    subst (Invariant first_accounts n) (first_rooted m states rows calls)
     (rooted_kept first_accounts (first_layout rows calls) n (record {
       some_callers = omega arith;
       few_callers = omega arith;

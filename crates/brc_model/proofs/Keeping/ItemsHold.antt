@@ -16,6 +16,7 @@ use Rattle.brc_model.specs.Threads.{code_of}
 use Rattle.brc_model.specs.Accounts.{Accounts}
 use Rattle.brc_model.specs.Counting.{with_account}
 use Rattle.brc_model.specs.Machine.{Actor, Machine, with_actor}
+use Rattle.brc_model.specs.declared.slot.State.{State}
 use Rattle.brc_model.specs.declared.slot.Exit.{Exit}
 use Rattle.brc_model.specs.Actions.{StepActor, Action, Skip, Stuck, Silent, Calls, Does, exit_of, action_of}
 use Rattle.brc_model.specs.StepMachine.{StepMachine, counting, of_thread, at_place, step_actor, machine_by, first_machine, main_actor, worker_actor}
@@ -43,12 +44,13 @@ Knows m memory a = KnowsItems (code_of (slice_get m.functions a.function)) memor
 
 -- ---- the first machine
 
-pub first_items : (p : Module) (rows : ℕ) (calls : List Call) → ItemsAreThere (first_machine p rows calls)
-first_items p rows calls zero a is =
-    let m = first_machine p rows calls in
+pub first_items : (p : Module) (states : ℕ → ℕ → Option State) (rows : ℕ) (calls : List Call)
+    → ItemsAreThere (first_machine p states rows calls)
+first_items p states rows calls zero a is =
+    let m = first_machine p states rows calls in
     subst (Knows m m.memory) (some_is main_actor a is) tt
-first_items p rows calls (suc t) a is =
-    let m = first_machine p rows calls in
+first_items p states rows calls (suc t) a is =
+    let m = first_machine p states rows calls in
     let call = slice_get-map worker_actor calls t a is in
     subst (Knows m m.memory) call.is_image tt
 
@@ -120,11 +122,12 @@ acted p c n m t a exit (Does d rest place) found fits stored there others own =
 -- Borrowed items are there after each event, whatever thread and choice it has.
 pub thread_items : (p : Module) (n : ℕ) (m : StepMachine) (t : ℕ) (choice : Choice) (o : Option StepActor)
     → CodeInvariant p n m → slice_get m.actors t ≡ o
-    → ItemsAreThere (of_thread m (λ a. machine_by m t a (exit_of choice) (action_of m.functions m.layout t a choice)) o)
+    → ItemsAreThere (of_thread m (λ a. machine_by m t a (exit_of choice)
+    (action_of m.functions m.states m.layout t a choice)) o)
 thread_items p n m t choice None whole found = whole.items
 thread_items p n m t choice (Some a) whole found =
     let exit = exit_of choice in
-    let x = action_of m.functions m.layout t a choice in
+    let x = action_of m.functions m.states m.layout t a choice in
     let stored = thread_stored p n m t choice (Some a) whole found in
     let lists = thread_shows (lists_shown n) m t choice (Some a) whole found in
     let others : (u : ℕ) (b : StepActor) → u ≢ t → slice_get m.actors u ≡ Some b
@@ -147,4 +150,4 @@ thread_items p n m t choice (Some a) whole found =
       knows = whole.items t a found;
     } in
     acted p whole.accounts n m t a exit x found (action_fits p n m t a choice whole found) stored whole.items others
-    (action_uses m.functions m.memory m.layout t a choice coded.plain stands)
+    (action_uses m.functions m.states m.memory m.layout t a choice coded.plain stands)

@@ -12,6 +12,7 @@ use Rattle.brc_model.specs.declared.duty.Duty.{Duty}
 use Rattle.brc_model.specs.declared.duty.Duty.TheVariants.{KindLoad, BirthKind}
 use Rattle.brc_model.specs.Paths.{IsAcceptableCode}
 use Rattle.brc_model.specs.Threads.{code_of}
+use Rattle.brc_model.specs.declared.slot.State.{State}
 use Rattle.brc_model.specs.declared.slot.Exit.{Exit}
 use Rattle.brc_model.specs.Actions.{StepActor, Action, Skip, Stuck, Silent, Calls, Does, exit_of, action_of}
 use Rattle.brc_model.specs.StepMachine.{StepMachine, counting, of_thread, at_place, step_actor, machine_by, next_machine, first_machine, main_actor, worker_actor}
@@ -31,19 +32,21 @@ use Rattle.brc_model.specs.Machine.{Machine}
 
 -- ---- the first machine
 
-first_known : (p : Module) (rows : ℕ) (calls : List Call) → KindsAreKnown (first_machine p rows calls)
-first_known p rows calls zero a is =
+first_known : (p : Module) (states : ℕ → ℕ → Option State) (rows : ℕ) (calls : List Call)
+    → KindsAreKnown (first_machine p states rows calls)
+first_known p states rows calls zero a is =
     subst (λ (x : StepActor). KnowsKinds (code_of (slice_get p.functions x.function))
-    (kind_words (first_machine p rows calls)) x.place) (some_is main_actor a is) tt
-first_known p rows calls (suc t) a is =
+    (kind_words (first_machine p states rows calls)) x.place) (some_is main_actor a is) tt
+first_known p states rows calls (suc t) a is =
     let call = slice_get-map worker_actor calls t a is in
     subst (λ (x : StepActor). KnowsKinds (code_of (slice_get p.functions x.function))
-    (kind_words (first_machine p rows calls)) x.place) call.is_image tt
+    (kind_words (first_machine p states rows calls)) x.place) call.is_image tt
 
-pub first_holds : (p : Module) (rows : ℕ) (calls : List Call) → KindsHold (first_machine p rows calls)
-first_holds p rows calls = record {
+pub first_holds : (p : Module) (states : ℕ → ℕ → Option State) (rows : ℕ) (calls : List Call)
+    → KindsHold (first_machine p states rows calls)
+first_holds p states rows calls = record {
   named = record { none = refl; root = refl };
-  known = first_known p rows calls;
+  known = first_known p states rows calls;
 }
 
 -- ---- kind words
@@ -63,7 +66,8 @@ stays_shown n = record {
 pub thread_stored : (p : Module) (n : ℕ) (m : StepMachine) (t : ℕ) (choice : Choice) (o : Option StepActor)
     → CodeInvariant p n m → slice_get m.actors t ≡ o
     → StoredStay (kind_words m)
-    (kind_words (of_thread m (λ a. machine_by m t a (exit_of choice) (action_of m.functions m.layout t a choice)) o))
+    (kind_words (of_thread m (λ a. machine_by m t a (exit_of choice)
+    (action_of m.functions m.states m.layout t a choice)) o))
 thread_stored p n m t choice o whole found = thread_shows (stays_shown n) m t choice o whole found
 
 pub stored_stay : (p : Module) (n : ℕ) (m : StepMachine) (event : ℕ × Choice) → CodeInvariant p n m
@@ -105,11 +109,12 @@ acted m t a exit (Does d rest place) found others own =
 -- The kinds hold after each event, whatever thread and choice it has.
 pub thread_holds : (p : Module) (n : ℕ) (m : StepMachine) (t : ℕ) (choice : Choice) (o : Option StepActor)
     → CodeInvariant p n m → slice_get m.actors t ≡ o
-    → KindsHold (of_thread m (λ a. machine_by m t a (exit_of choice) (action_of m.functions m.layout t a choice)) o)
+    → KindsHold (of_thread m (λ a. machine_by m t a (exit_of choice)
+    (action_of m.functions m.states m.layout t a choice)) o)
 thread_holds p n m t choice None whole found = whole.kinds
 thread_holds p n m t choice (Some a) whole found =
     let exit = exit_of choice in
-    let x = action_of m.functions m.layout t a choice in
+    let x = action_of m.functions m.states m.layout t a choice in
     let new = kind_words (machine_by m t a exit x) in
     let stays : StoredStay (kind_words m) new = thread_stored p n m t choice (Some a) whole found in
     let named = named_stay (kind_words m) new stays whole.kinds.named in
@@ -136,5 +141,5 @@ thread_holds p n m t choice (Some a) whole found =
     record {
       named = named;
       known =
-          acted m t a exit x found others (action_leaves m.functions new m.layout t a choice stands);
+          acted m t a exit x found others (action_leaves m.functions m.states new m.layout t a choice stands);
     }

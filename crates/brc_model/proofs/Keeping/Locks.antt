@@ -25,7 +25,7 @@ more_locks account m t a b x locks same makes y e =
 still_holds : (account : Account) (a b : Actor) (x y : ℕ) (k : Holding) → making a k y < account k y
     → ((h : Holding) (z : ℕ) → making b h z ≤ making a h z) → making b AsCaller x ≡ 0 → (x ≡ y → 2 ≤ account AsCaller x)
     → making b k y < with_one_less account AsCaller x k y
-still_holds account a b x y (ByVariable v) some less none more = omega (arith, some, less (ByVariable v) y)
+still_holds account a b x y (ByVariable depth v) some less none more = omega (arith, some, less (ByVariable depth v) y)
 still_holds account a b x y InFlight some less none more = omega (arith, some, less InFlight y)
 still_holds account a b x y AsCaller some less none more =
     elim (eqb_tells x y) [

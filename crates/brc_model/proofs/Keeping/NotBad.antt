@@ -196,8 +196,8 @@ mortal_row m x alive = ne_eqb (local_part (m.memory (Local x))) immortal_local (
 put_in_flight_allowed : (layout : Layout) (p : AbstractState) (t x : ℕ) (h : Holding)
     → list_any (same (reference_of t h x)) p.references ≡ true
     → are_allowed layout p (put_in_flight t h x ++ []) ≡ true
-put_in_flight_allowed layout p t x (ByVariable v) has =
-    one_allowed layout p (PassOn (reference_of t (ByVariable v) x) (ByThread t InFlight)) has
+put_in_flight_allowed layout p t x (ByVariable depth v) has =
+    one_allowed layout p (PassOn (reference_of t (ByVariable depth v) x) (ByThread t InFlight)) has
 put_in_flight_allowed layout p t x AsCaller has =
     one_allowed layout p (PassOn (reference_of t AsCaller x) (ByThread t InFlight)) has
 put_in_flight_allowed layout p t x InFlight has = refl
@@ -216,7 +216,7 @@ both_allowed layout p t x h has =
 let_go_allowed : (layout : Layout) (p : AbstractState) (t x : ℕ) (h : Holding)
     → list_any (same (reference_of t h x)) p.references ≡ true
     → are_allowed layout p (put_in_flight t h x ++ lose t x) ≡ true
-let_go_allowed layout p t x (ByVariable v) has = both_allowed layout p t x (ByVariable v) has
+let_go_allowed layout p t x (ByVariable depth v) has = both_allowed layout p t x (ByVariable depth v) has
 let_go_allowed layout p t x AsCaller has = both_allowed layout p t x AsCaller has
 let_go_allowed layout p t x InFlight has = one_allowed layout p (Lose (reference_of t InFlight x)) has
 

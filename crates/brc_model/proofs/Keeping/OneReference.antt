@@ -111,8 +111,9 @@ holds_more bag t account agenda aside h x holds = record {
 pub bounded_less : (layout : Layout) (account : Account) (x : ℕ) → IsBounded layout account
     → IsBounded layout (with_one_less account AsCaller x)
 bounded_less layout account x bounded = record {
-  by_variable = λ v object. omega (arith, bounded.by_variable v object);
-  sixteen = λ v object past. omega (arith, bounded.sixteen v object past);
+  by_variable = λ depth v object. omega (arith, bounded.by_variable depth v object);
+  sixteen = λ depth v object past. omega (arith, bounded.sixteen depth v object past);
+  shallow = λ depth v object deep. omega (arith, bounded.shallow depth v object deep);
   lent = λ object counted. omega (arith, bounded.lent object counted);
   in_flight = λ object. omega (arith, bounded.in_flight object);
 }
@@ -120,8 +121,9 @@ bounded_less layout account x bounded = record {
 pub bounded_more : (layout : Layout) (account : Account) (x : ℕ) → IsBounded layout account
     → account AsCaller x < most_lent → IsBounded layout (with_one_more account AsCaller x)
 bounded_more layout account x bounded room = record {
-  by_variable = λ v object. omega (arith, bounded.by_variable v object);
-  sixteen = λ v object past. omega (arith, bounded.sixteen v object past);
+  by_variable = λ depth v object. omega (arith, bounded.by_variable depth v object);
+  sixteen = λ depth v object past. omega (arith, bounded.sixteen depth v object past);
+  shallow = λ depth v object deep. omega (arith, bounded.shallow depth v object deep);
   lent = λ object counted. elim (eqb_tells x object) [
     | inl this ↦
         let one : one_if (x == object) ≡ 1 = ap one_if this.0 in

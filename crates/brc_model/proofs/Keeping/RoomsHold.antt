@@ -2,6 +2,7 @@
 use Rattle.std.proofs.Common.{◌≡◌, ℕ, zero, suc, true, List, [], Option, None, Some, ap, subst}
 use Rattle.std.specs.Prelude.{slice_get}
 use Rattle.brc_lang.specs.declared.module.Module.{Module}
+use Rattle.brc_model.specs.declared.slot.State.{State}
 use Rattle.brc_model.specs.declared.slot.Exit.{Exit}
 use Rattle.brc_model.specs.declared.thread.Call.{Call}
 use Rattle.brc_model.specs.declared.thread.Choice.{Choice}
@@ -22,12 +23,13 @@ use Rattle.brc_model.specs.Accounts.{Accounts}
 
 -- ---- the first machine
 
-pub first_rooms : (p : Module) (rows : ℕ) (calls : List Call) → RoomsFit (first_machine p rows calls)
-first_rooms p rows calls zero a is =
-    subst (RoomFits (first_machine p rows calls) 0) (some_is main_actor a is) (λ e. absurd cc)
-first_rooms p rows calls (suc t) a is =
+pub first_rooms : (p : Module) (states : ℕ → ℕ → Option State) (rows : ℕ) (calls : List Call)
+    → RoomsFit (first_machine p states rows calls)
+first_rooms p states rows calls zero a is =
+    subst (RoomFits (first_machine p states rows calls) 0) (some_is main_actor a is) (λ e. absurd cc)
+first_rooms p states rows calls (suc t) a is =
     let call = slice_get-map worker_actor calls t a is in
-    subst (RoomFits (first_machine p rows calls) (suc t)) call.is_image (λ e. absurd cc)
+    subst (RoomFits (first_machine p states rows calls) (suc t)) call.is_image (λ e. absurd cc)
 
 -- ---- each event
 
@@ -62,9 +64,9 @@ acted p c n m t a exit (Does d rest place) found fits rooms follows =
 pub thread_rooms : (p : Module) (n : ℕ) (m : StepMachine) (t : ℕ) (choice : Choice) (o : Option StepActor)
     → CodeInvariant p n m → slice_get m.actors t ≡ o
     → RoomsFit (of_thread m
-    (λ a. machine_by m t a (exit_of choice) (action_of m.functions m.layout t a choice)) o)
+    (λ a. machine_by m t a (exit_of choice) (action_of m.functions m.states m.layout t a choice)) o)
 thread_rooms p n m t choice None whole found = whole.rooms
 thread_rooms p n m t choice (Some a) whole found =
-    acted p whole.accounts n m t a (exit_of choice) (action_of m.functions m.layout t a choice) found
+    acted p whole.accounts n m t a (exit_of choice) (action_of m.functions m.states m.layout t a choice) found
     (action_fits p n m t a choice whole found) whole.rooms
-    (action_room m.functions m.layout t a (whole.rooms t a found) choice)
+    (action_room m.functions m.layout t a (whole.rooms t a found) m.states choice)

@@ -66,10 +66,10 @@ pub thread_shows : {Q : ℕ → Machine → Machine → Type 0} {p : Module} {n 
     → (m : StepMachine) (t : ℕ) (choice : Choice) (o : Option StepActor) → CodeInvariant p n m
     → slice_get m.actors t ≡ o
     → Q t (counting m) (counting
-    (of_thread m (λ a. machine_by m t a (exit_of choice) (action_of m.functions m.layout t a choice)) o))
+    (of_thread m (λ a. machine_by m t a (exit_of choice) (action_of m.functions m.states m.layout t a choice)) o))
 thread_shows shows m t choice None whole found = shows.stays whole.accounts t (counting m) whole.kept
 thread_shows {p = p} {n = n} shows m t choice (Some a) whole found =
-    action_shows shows m t a (exit_of choice) (action_of m.functions m.layout t a choice) whole found
+    action_shows shows m t a (exit_of choice) (action_of m.functions m.states m.layout t a choice) whole found
     (action_fits p n m t a choice whole found)
 
 -- The property holds of every event.

@@ -183,8 +183,9 @@ work_begins p n m t a x d account counts ready alone new =
 pub more_bounded : (layout : Layout) (account : Account) (x : ℕ) → IsBounded layout account
     → (IsCounted layout x → account AsCaller x < most_lent) → IsBounded layout (with_one_more account AsCaller x)
 more_bounded layout account x bounded few = record {
-  by_variable = λ v object. omega (arith, bounded.by_variable v object);
-  sixteen = λ v object past. omega (arith, bounded.sixteen v object past);
+  by_variable = λ depth v object. omega (arith, bounded.by_variable depth v object);
+  sixteen = λ depth v object past. omega (arith, bounded.sixteen depth v object past);
+  shallow = λ depth v object deep. omega (arith, bounded.shallow depth v object deep);
   lent = λ object counted. elim (eqb_tells x object) [
     | inl same ↦
         let low = subst (λ (y : ℕ). IsCounted layout y → account AsCaller y < most_lent) same.1 few counted in
@@ -200,8 +201,9 @@ more_bounded layout account x bounded few = record {
 less_bounded : (layout : Layout) (account : Account) (x : ℕ) → IsBounded layout account
     → IsBounded layout (with_one_less account AsCaller x)
 less_bounded layout account x bounded = record {
-  by_variable = λ v object. omega (arith, bounded.by_variable v object);
-  sixteen = λ v object past. omega (arith, bounded.sixteen v object past);
+  by_variable = λ depth v object. omega (arith, bounded.by_variable depth v object);
+  sixteen = λ depth v object past. omega (arith, bounded.sixteen depth v object past);
+  shallow = λ depth v object deep. omega (arith, bounded.shallow depth v object deep);
   lent = λ object counted. omega (arith, bounded.lent object counted);
   in_flight = λ object. omega (arith, bounded.in_flight object);
 }
@@ -209,7 +211,7 @@ less_bounded layout account x bounded = record {
 -- The account has the reference that it loses.
 has_one : (account : Account) (x : ℕ) (k : Holding) (object : ℕ) → 1 ≤ account AsCaller x
     → one_if (same_holding AsCaller k && (x == object)) ≤ account k object
-has_one account x (ByVariable v) object some = omega arith
+has_one account x (ByVariable depth v) object some = omega arith
 has_one account x InFlight object some = omega arith
 has_one account x AsCaller object some =
     elim (eqb_tells x object) [

@@ -1,4 +1,4 @@
--- A thread holds an object in at most nineteen ways, in each way within a bound, and there are few cells, so an object
+-- A thread holds an object in few ways, in each way within a bound, and there are few cells, so an object
 -- has few references.
 use Rattle.std.proofs.Common.{◌≡◌, ℕ, zero, suc, ◌+◌, ◌*◌, ◌<◌, ◌≤◌, true, false, cond, List, [], ◌∷◌, Option, Some, inl, inr, refl, sym, ap, ◌∙◌, subst, arith}
 use Rattle.std.specs.Prelude.{◌==◌, if◌then◌else◌, slice_get, count_by}
@@ -20,7 +20,7 @@ use Rattle.brc_model.specs.Accounts.{Account, Accounts, extra, extra_of, extra_a
 use Rattle.brc_model.specs.Invariant.{CellFits, CoreInvariant}
 use Rattle.brc_model.specs.declared.address.Address.TheVariants.{Cell}
 use Rattle.brc_model.specs.Ranges.{HasFewCells}
-use Rattle.brc_model.specs.Limits.{cell_limit, total_limit}
+use Rattle.brc_model.specs.Limits.{cell_limit, depth_limit, total_limit}
 use Rattle.brc_model.proofs.Basics.Blocks.{born_within, rows_low}
 use Rattle.brc_model.specs.declared.layout.Layout.{Layout}
 use Rattle.brc_model.specs.Layout.{row_count, IsCounted}
@@ -30,19 +30,26 @@ use Rattle.brc_model.proofs.Limits.Ways.{Covers, covered, most_by, most_held, su
 
 -- ---- the references of one thread
 
--- A thread that holds an object by a variable holds it by one of the sixteen.
+-- A thread that holds an object by a variable holds it by one of the sixteen of one of its open calls.
 account_low : (layout : Layout) (account : Account) (h : Holding) (object : ℕ) → IsBounded layout account
     → 0 < account h object → is_low h
-account_low layout account (ByVariable v) object bounded some = elim (cases_lt v 16) [
-  | inl lt ↦ lt
-  | inr past ↦ absurd (omega (arith, some, bounded.sixteen v object past))
-]
+account_low layout account (ByVariable depth v) object bounded some = (
+  elim (cases_lt depth depth_limit) [
+    | inl lt ↦ lt
+    | inr deep ↦ absurd (omega (arith, some, bounded.shallow depth v object deep))
+  ],
+  elim (cases_lt v 16) [
+    | inl lt ↦ lt
+    | inr past ↦ absurd (omega (arith, some, bounded.sixteen depth v object past))
+  ],
+)
 account_low layout account AsCaller object bounded some = tt
 account_low layout account InFlight object bounded some = tt
 
 account_most : (layout : Layout) (account : Account) (t : ℕ) (h : Holding) (object : ℕ) → IsBounded layout account
     → IsCounted layout object → account h object + 1 ≤ most_by (ByThread t h)
-account_most layout account t (ByVariable v) object bounded counted = omega (arith, bounded.by_variable v object)
+account_most layout account t (ByVariable depth v) object bounded counted =
+    omega (arith, bounded.by_variable depth v object)
 account_most layout account t AsCaller object bounded counted = omega (arith, bounded.lent object counted)
 account_most layout account t InFlight object bounded counted = omega (arith, bounded.in_flight object)
 

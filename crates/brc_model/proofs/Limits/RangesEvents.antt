@@ -4,6 +4,7 @@ use Rattle.std.specs.Prelude.{slice_get}
 use Rattle.brc_lang.specs.declared.module.Module.{Module}
 use Rattle.brc_model.specs.AbstractState.{Move}
 use Rattle.brc_model.specs.Machine.{with_actor, with_moves}
+use Rattle.brc_model.specs.declared.slot.State.{State}
 use Rattle.brc_model.specs.declared.thread.Call.{Call}
 use Rattle.brc_model.specs.declared.thread.Choice.{Choice}
 use Rattle.brc_model.proofs.Basics.Lists.{written_actor}
@@ -59,10 +60,10 @@ thread_ranges : (p : Module) (n : ℕ) (m : StepMachine) (t : ℕ) (choice : Cho
     → CodeInvariant p n m
     → Ranges n (counting m) → slice_get m.actors t ≡ o
     → Ranges n (counting (of_thread m
-    (λ a. machine_by m t a (exit_of choice) (action_of m.functions m.layout t a choice)) o))
+    (λ a. machine_by m t a (exit_of choice) (action_of m.functions m.states m.layout t a choice)) o))
 thread_ranges p n m t choice None whole ranges found = ranges
 thread_ranges p n m t choice (Some a) whole ranges found =
-    action_ranges p n m t a (exit_of choice) (action_of m.functions m.layout t a choice) whole ranges found
+    action_ranges p n m t a (exit_of choice) (action_of m.functions m.states m.layout t a choice) whole ranges found
     (action_fits p n m t a choice whole found)
 
 -- Both invariants hold: that of accepted code, and the ranges.
@@ -82,8 +83,8 @@ bounded_after p n m (e ∷ events) bounded = bounded_after p n (next_machine m e
 -- ---- the first machine
 
 -- The duties and kind words of the first machine are in range.
-pub first_ranges : (m : Module) (rows : ℕ) (calls : List Call)
-    → Ranges (1 + length calls) (counting (first_machine m rows calls))
-first_ranges m rows calls =
-    subst (Ranges (1 + length calls)) (first_rooted m rows calls)
+pub first_ranges : (m : Module) (states : ℕ → ℕ → Option State) (rows : ℕ) (calls : List Call)
+    → Ranges (1 + length calls) (counting (first_machine m states rows calls))
+first_ranges m states rows calls =
+    subst (Ranges (1 + length calls)) (first_rooted m states rows calls)
     (rooted_ranges (first_layout rows calls) (1 + length calls))

@@ -49,7 +49,7 @@ shares x bag t = held (reference_of t AsCaller x) bag + held (reference_of t InF
 
 -- Of the threads, nothing but those below the number holds the object, each as the caller or in flight.
 record IsOfThreads (x n : ℕ) (bag : List Reference) : Type 0 where
-  variables : (t v : ℕ) → held (reference_of t (ByVariable v) x) bag ≡ 0
+  variables : (t depth v : ℕ) → held (reference_of t (ByVariable depth v) x) bag ≡ 0
   beyond : (t : ℕ) → n ≤ t → (k : Holding) → held (reference_of t k x) bag ≡ 0
 
 other_row : (holders : Bool) (a b : ℕ) → (a ≡ b → ⊥) → one_if (holders && (a == b)) ≡ 0
@@ -103,8 +103,8 @@ share_here x n (ByCell y i) bag of =
     let none : over_threads (share x (cell_reference y i x)) n ≡ 0 =
     over_each (share x (cell_reference y i x)) (λ t. 0) n (λ t. refl) ∙ over_none n in
     omega (arith, none)
-share_here x n (ByThread u (ByVariable v)) bag of =
-    absurd (omega (arith, of.variables u v, held_itself (reference_of u (ByVariable v) x) bag))
+share_here x n (ByThread u (ByVariable depth v)) bag of =
+    absurd (omega (arith, of.variables u depth v, held_itself (reference_of u (ByVariable depth v) x) bag))
 share_here x n (ByThread u AsCaller) bag of =
     let one = caller_share x n u (holder_low x n u AsCaller bag of) in omega (arith, one)
 share_here x n (ByThread u InFlight) bag of =
@@ -115,7 +115,8 @@ share_here x n (ByThread u InFlight) bag of =
 -- What holds of a bag holds of the bag without its first reference.
 of_rest : (x n : ℕ) (q : Reference) (bag : List Reference) → IsOfThreads x n (q ∷ bag) → IsOfThreads x n bag
 of_rest x n q bag of = record {
-  variables = λ t v. omega (arith, of.variables t v, held-cons (reference_of t (ByVariable v) x) q bag);
+  variables = λ t depth v.
+      omega (arith, of.variables t depth v, held-cons (reference_of t (ByVariable depth v) x) q bag);
   beyond = λ t past k. omega (arith, of.beyond t past k, held-cons (reference_of t k x) q bag);
 }
 

@@ -13,6 +13,7 @@ use Rattle.brc_word.specs.Words.{owner_part}
 use Rattle.brc_model.specs.declared.actor.Place.{Place}
 use Rattle.brc_model.specs.Duties.{address_of}
 use Rattle.brc_model.specs.Machine.{Actor, Life, Live, Machine, with_actor, used_by}
+use Rattle.brc_model.specs.Tables.{AreTrueWhereReached}
 use Rattle.brc_model.specs.World.{World, world_of, IsReachable}
 use Rattle.brc_model.specs.Actions.{StepActor}
 use Rattle.brc_model.specs.StepMachine.{StepMachine, its_actor, counting, first_machine, machine_after}
@@ -165,17 +166,20 @@ machine_within p n m t a bounded few found choice d rest place is =
 -- ---- reachable worlds
 
 reached_bounded : (p : Module) (w : World) (r : IsReachable p w)
-    → Bounded p (1 + length r.calls) (machine_after (first_machine p r.rows r.calls) r.events)
-reached_bounded p w r = bounded_after p (1 + length r.calls) (first_machine p r.rows r.calls) r.events (record {
-  whole = first_code_invariant p r.rows r.calls r.fits r.accepted r.calls_fit r.some_rows r.most_rows;
-  ranges = first_ranges p r.rows r.calls;
-})
+    → Bounded p (1 + length r.calls) (machine_after (first_machine p r.states r.rows r.calls) r.events)
+reached_bounded p w r =
+    bounded_after p (1 + length r.calls) (first_machine p r.states r.rows r.calls) r.events (record {
+      whole =
+          first_code_invariant p r.states r.rows r.calls r.fits r.accepted r.states_true r.calls_fit r.some_rows
+          r.most_rows;
+      ranges = first_ranges p r.states r.rows r.calls;
+    })
 
 -- Each duty that a thread of a reachable world may do next is within the world's bounds.
 pub steps_within : (p : Module) (w : World) (t : ℕ) (a : StepActor) → IsReachable p w → slice_get w.actors t ≡ Some a
     → StepsWithin w t a
 steps_within p w t a r found =
-    let m = machine_after (first_machine p r.rows r.calls) r.events in
+    let m = machine_after (first_machine p r.states r.rows r.calls) r.events in
     let there : slice_get m.actors t ≡ Some a = sym (ap (λ (v : World). slice_get v.actors t) r.reached) ∙ found in
     subst (λ (v : World). StepsWithin v t a) (sym r.reached)
     (machine_within p (1 + length r.calls) m t a (reached_bounded p w r) (omega (arith, r.calls_fit.most)) there)
@@ -185,9 +189,13 @@ steps_within p w t a r found =
 pub same_functions : (p : Module) (w : World) → IsReachable p w → w.functions ≡ p.functions
 same_functions p w r = ap (λ (v : World). v.functions) r.reached ∙ (reached_bounded p w r).whole.functions
 
+pub true_states : (p : Module) (w : World) → IsReachable p w → AreTrueWhereReached p w.states
+true_states p w r =
+    subst (λ (v : World). AreTrueWhereReached p v.states) (sym r.reached) (reached_bounded p w r).whole.states_true
+
 threads_are : (p : Module) (w : World) (r : IsReachable p w) → length w.actors ≡ 1 + length r.calls
 threads_are p w r =
-    let m = machine_after (first_machine p r.rows r.calls) r.events in
+    let m = machine_after (first_machine p r.states r.rows r.calls) r.events in
     ap (λ (v : World). length v.actors) r.reached
     ∙ sym (threads_in p (1 + length r.calls) m (reached_bounded p w r).whole)
 
@@ -199,25 +207,25 @@ few_threads p w r = omega (arith, threads_are p w r, r.calls_fit.most)
 
 pub some_rows : (p : Module) (w : World) → IsReachable p w → 0 < w.layout.rows
 some_rows p w r =
-    let same : w.layout.rows ≡ (machine_after (first_machine p r.rows r.calls) r.events).layout.rows =
+    let same : w.layout.rows ≡ (machine_after (first_machine p r.states r.rows r.calls) r.events).layout.rows =
     ap (λ (v : World). v.layout.rows) r.reached in
     omega (arith, same, (reached_bounded p w r).whole.kept.core.some_rows)
 
 pub few_rows : (p : Module) (w : World) → IsReachable p w → w.layout.rows ≤ row_limit
 few_rows p w r =
-    let same : w.layout.rows ≡ (machine_after (first_machine p r.rows r.calls) r.events).layout.rows =
+    let same : w.layout.rows ≡ (machine_after (first_machine p r.states r.rows r.calls) r.events).layout.rows =
     ap (λ (v : World). v.layout.rows) r.reached in
     omega (arith, same, (reached_bounded p w r).whole.kept.core.few_rows)
 
 pub few_in_all : (p : Module) (w : World) → IsReachable p w → row_count w.layout ≤ total_limit
 few_in_all p w r =
-    let m = machine_after (first_machine p r.rows r.calls) r.events in
+    let m = machine_after (first_machine p r.states r.rows r.calls) r.events in
     let same : row_count w.layout ≡ row_count m.layout = ap (λ (v : World). row_count v.layout) r.reached in
     let whole = (reached_bounded p w r).whole in
     omega (arith, same, rows_low whole.accounts (1 + length r.calls) (counting m) whole.kept.core)
 
 pub workers_are : (p : Module) (w : World) → IsReachable p w → length w.actors ≡ 1 + w.layout.workers
 workers_are p w r =
-    let m = machine_after (first_machine p r.rows r.calls) r.events in
+    let m = machine_after (first_machine p r.states r.rows r.calls) r.events in
     let same : w.layout.workers ≡ m.layout.workers = ap (λ (v : World). v.layout.workers) r.reached in
     omega (arith, threads_are p w r, same, (reached_bounded p w r).whole.kept.core.workers)

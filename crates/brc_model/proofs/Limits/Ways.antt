@@ -1,5 +1,4 @@
--- The ways in which an object may be held: by each thread in nineteen ways, each within a bound, and by the cells of
--- lists.
+-- The ways in which an object may be held: by each thread in few ways, each within a bound, and by the cells of lists.
 use Rattle.std.proofs.Common.{◌≡◌, ℕ, zero, suc, ◌+◌, ◌*◌, ◌<◌, ◌≤◌, Bool, true, false, List, [], ◌∷◌, inl, inr, refl, sym, ap, ◌∙◌, subst, arith}
 use Rattle.std.specs.Prelude.{◌==◌, ◌||◌, sum_by}
 use Rattle.std.specs.List.{list_any}
@@ -12,7 +11,7 @@ use Rattle.brc_model.specs.AbstractState.{Holder, ByThread, ByCell, Reference, s
 use Rattle.brc_model.proofs.Basics.Bag.{same-true, same-refl, held-cons, references_to-cons}
 use Rattle.brc_model.specs.References.{held, one_if, reference_of, cell_reference}
 use Rattle.brc_model.specs.Accounts.{most_lent}
-use Rattle.brc_model.specs.Limits.{cell_limit}
+use Rattle.brc_model.specs.Limits.{cell_limit, depth_limit}
 
 -- ---- counting references by a list of keys
 
@@ -77,7 +76,7 @@ covered keys (q ∷ bag) x covers =
 -- other way of a thread, two. The one more is a reference that a duty is just giving up. A cell holds one.
 abbrev pub most_by : Holder → ℕ
 most_by (ByThread t AsCaller) = most_lent + 1
-most_by (ByThread t (ByVariable v)) = 2
+most_by (ByThread t (ByVariable depth v)) = 2
 most_by (ByThread t InFlight) = 2
 most_by (ByCell x i) = 1
 
@@ -103,54 +102,71 @@ sum_below f g x (k ∷ keys) of_x below =
 
 -- ---- the ways to hold an object
 
--- References by the variables below a number, in front of a list.
-abbrev pub variables_of : ℕ → ℕ → ℕ → List Reference → List Reference
-variables_of t x zero tail = tail
-variables_of t x (suc v) tail = reference_of t (ByVariable v) x ∷ variables_of t x v tail
+-- References by the variables below a number of the call at a depth, in front of a list.
+abbrev pub variables_of : ℕ → ℕ → ℕ → ℕ → List Reference → List Reference
+variables_of t depth x zero tail = tail
+variables_of t depth x (suc v) tail = reference_of t (ByVariable depth v) x ∷ variables_of t depth x v tail
+
+-- References by the sixteen variables of each call below a depth, in front of a list.
+abbrev pub calls_of : ℕ → ℕ → ℕ → List Reference → List Reference
+calls_of t x zero tail = tail
+calls_of t x (suc depth) tail = variables_of t depth x 16 (calls_of t x depth tail)
 
 -- The references to an object that the threads below a number can have: one way of each thread's own, in flight, as the
--- caller, and by the sixteen variables.
+-- caller, and by the sixteen variables of each open call.
 abbrev pub ways : (ℕ → Holding) → ℕ → ℕ → List Reference
 ways own x zero = []
 ways own x (suc t) =
-    reference_of t (own t) x ∷ reference_of t InFlight x ∷ reference_of t AsCaller x ∷ variables_of t x 16
+    reference_of t (own t) x ∷ reference_of t InFlight x ∷ reference_of t AsCaller x ∷ calls_of t x depth_limit
     (ways own x t)
 
 -- The most references to one object that one thread may have.
 abbrev pub most_each : ℕ
-most_each = 2 * most_lent + 36
+most_each = 2 * most_lent + 2 * 16 * depth_limit + 4
 
 -- All ways to hold an object are references to it.
-pub variables_are_of : (t x v : ℕ) (tail : List Reference) → AreOf x tail → AreOf x (variables_of t x v tail)
-variables_are_of t x zero tail of_x = of_x
-variables_are_of t x (suc v) tail of_x = (refl, variables_are_of t x v tail of_x)
+pub variables_are_of : (t depth x v : ℕ) (tail : List Reference) → AreOf x tail
+    → AreOf x (variables_of t depth x v tail)
+variables_are_of t depth x zero tail of_x = of_x
+variables_are_of t depth x (suc v) tail of_x = (refl, variables_are_of t depth x v tail of_x)
+
+pub calls_are_of : (t x depth : ℕ) (tail : List Reference) → AreOf x tail → AreOf x (calls_of t x depth tail)
+calls_are_of t x zero tail of_x = of_x
+calls_are_of t x (suc depth) tail of_x =
+    variables_are_of t depth x 16 (calls_of t x depth tail) (calls_are_of t x depth tail of_x)
 
 pub ways_are_of : (own : ℕ → Holding) (x n : ℕ) → AreOf x (ways own x n)
 ways_are_of own x zero = tt
 ways_are_of own x (suc t) =
-    (refl, (refl, (refl, variables_are_of t x 16 (ways own x t) (ways_are_of own x t))))
+    (refl, (refl, (refl, calls_are_of t x depth_limit (ways own x t) (ways_are_of own x t))))
 
 pub most_of_one : (t : ℕ) (h : Holding) → most_by (ByThread t h) ≤ most_lent + 1
-most_of_one t (ByVariable v) = omega arith
+most_of_one t (ByVariable depth v) = omega arith
 most_of_one t AsCaller = omega arith
 most_of_one t InFlight = omega arith
 
-pub most_of_variables : (t x v : ℕ) (tail : List Reference)
-    → sum_by most_held (variables_of t x v tail) ≡ 2 * v + sum_by most_held tail
-most_of_variables t x zero tail = omega arith
-most_of_variables t x (suc v) tail =
-    let rest = variables_of t x v tail in
+pub most_of_variables : (t depth x v : ℕ) (tail : List Reference)
+    → sum_by most_held (variables_of t depth x v tail) ≡ 2 * v + sum_by most_held tail
+most_of_variables t depth x zero tail = omega arith
+most_of_variables t depth x (suc v) tail =
+    let rest = variables_of t depth x v tail in
     omega (
       arith,
-      sum_by-cons most_held (reference_of t (ByVariable v) x) rest,
-      most_of_variables t x v tail,
+      sum_by-cons most_held (reference_of t (ByVariable depth v) x) rest,
+      most_of_variables t depth x v tail,
     )
+
+pub most_of_calls : (t x depth : ℕ) (tail : List Reference)
+    → sum_by most_held (calls_of t x depth tail) ≡ 32 * depth + sum_by most_held tail
+most_of_calls t x zero tail = omega arith
+most_of_calls t x (suc depth) tail =
+    omega (arith, most_of_variables t depth x 16 (calls_of t x depth tail), most_of_calls t x depth tail)
 
 pub most_of_ways : (own : ℕ → Holding) (x n : ℕ) → sum_by most_held (ways own x n) ≤ most_each * n
 most_of_ways own x zero = omega arith
 most_of_ways own x (suc t) =
     let later = ways own x t in
-    let variables = variables_of t x 16 later in
+    let variables = calls_of t x depth_limit later in
     let called = reference_of t AsCaller x ∷ variables in
     let in_flight = reference_of t InFlight x ∷ called in
     omega (
@@ -159,37 +175,57 @@ most_of_ways own x (suc t) =
       sum_by-cons most_held (reference_of t InFlight x) called,
       sum_by-cons most_held (reference_of t AsCaller x) variables,
       most_of_one t (own t),
-      most_of_variables t x 16 later,
+      most_of_calls t x depth_limit later,
       most_of_ways own x t,
     )
 
-pub among_tail : (r : Reference) (t x v : ℕ) (tail : List Reference) → list_any (same r) tail ≡ true
-    → list_any (same r) (variables_of t x v tail) ≡ true
-among_tail r t x zero tail e = e
-among_tail r t x (suc v) tail e = or_second (same r (reference_of t (ByVariable v) x)) _ (among_tail r t x v tail e)
+pub among_tail : (r : Reference) (t depth x v : ℕ) (tail : List Reference) → list_any (same r) tail ≡ true
+    → list_any (same r) (variables_of t depth x v tail) ≡ true
+among_tail r t depth x zero tail e = e
+among_tail r t depth x (suc v) tail e =
+    or_second (same r (reference_of t (ByVariable depth v) x)) _ (among_tail r t depth x v tail e)
 
-pub among_variables : (t x k v : ℕ) (tail : List Reference) → v < k
-    → list_any (same (reference_of t (ByVariable v) x)) (variables_of t x k tail) ≡ true
-among_variables t x zero v tail low = absurd (omega (arith, low))
-among_variables t x (suc k) v tail low =
-    let r = reference_of t (ByVariable v) x in
+pub among_calls_tail : (r : Reference) (t x depth : ℕ) (tail : List Reference) → list_any (same r) tail ≡ true
+    → list_any (same r) (calls_of t x depth tail) ≡ true
+among_calls_tail r t x zero tail e = e
+among_calls_tail r t x (suc depth) tail e =
+    among_tail r t depth x 16 (calls_of t x depth tail) (among_calls_tail r t x depth tail e)
+
+pub among_variables : (t depth x k v : ℕ) (tail : List Reference) → v < k
+    → list_any (same (reference_of t (ByVariable depth v) x)) (variables_of t depth x k tail) ≡ true
+among_variables t depth x zero v tail low = absurd (omega (arith, low))
+among_variables t depth x (suc k) v tail low =
+    let r = reference_of t (ByVariable depth v) x in
     elim (eqb_tells v k) [
       | inl this ↦
-          let is : same r (reference_of t (ByVariable k) x) ≡ true =
-          subst (λ (w : ℕ). same r (reference_of t (ByVariable w) x) ≡ true) this.1 (same-refl r) in
-          or_first (same r (reference_of t (ByVariable k) x)) _ is
+          let is : same r (reference_of t (ByVariable depth k) x) ≡ true =
+          subst (λ (w : ℕ). same r (reference_of t (ByVariable depth w) x) ≡ true) this.1 (same-refl r) in
+          or_first (same r (reference_of t (ByVariable depth k) x)) _ is
       | inr other ↦
           let below : v < k = elim (cases_lt v k) [
             | inl lt ↦ lt
             | inr past ↦ absurd (other.1 (omega (arith, past, low)))
           ] in
-          or_second (same r (reference_of t (ByVariable k) x)) _ (among_variables t x k v tail below)
+          or_second (same r (reference_of t (ByVariable depth k) x)) _ (among_variables t depth x k v tail below)
+    ]
+
+pub among_calls : (t x k depth v : ℕ) (tail : List Reference) → depth < k → v < 16
+    → list_any (same (reference_of t (ByVariable depth v) x)) (calls_of t x k tail) ≡ true
+among_calls t x zero depth v tail low few = absurd (omega (arith, low))
+among_calls t x (suc k) depth v tail low few =
+    let r = reference_of t (ByVariable depth v) x in
+    elim (eqb_tells depth k) [
+      | inl this ↦
+          subst (λ (d : ℕ). list_any (same r) (variables_of t d x 16 (calls_of t x k tail)) ≡ true) this.1
+          (among_variables t depth x 16 v (calls_of t x k tail) few)
+      | inr other ↦
+          among_tail r t k x 16 (calls_of t x k tail) (among_calls t x k depth v tail (omega (arith, low, other.1)) few)
     ]
 
 pub among_later : (own : ℕ → Holding) (r : Reference) (x t : ℕ) → list_any (same r) (ways own x t) ≡ true
     → list_any (same r) (ways own x (suc t)) ≡ true
 among_later own r x t e =
-    let rest = among_tail r t x 16 (ways own x t) e in
+    let rest = among_calls_tail r t x depth_limit (ways own x t) e in
     or_second (same r (reference_of t (own t) x)) _
     (or_second (same r (reference_of t InFlight x)) _ (or_second (same r (reference_of t AsCaller x)) _ rest))
 
@@ -201,17 +237,18 @@ among_own own x t h e =
     (subst (λ (k : Holding). same r (reference_of t k x) ≡ true) e (same-refl r))
 
 abbrev pub is_low : Holding → Type 0
-is_low (ByVariable v) = v < 16
+is_low (ByVariable depth v) = (depth < depth_limit) × (v < 16)
 is_low AsCaller = Unit {0}
 is_low InFlight = Unit {0}
 
 pub among_low : (own : ℕ → Holding) (x t : ℕ) (h : Holding) → is_low h
     → list_any (same (reference_of t h x)) (ways own x (suc t)) ≡ true
-among_low own x t (ByVariable v) low =
-    let r = reference_of t (ByVariable v) x in
+among_low own x t (ByVariable depth v) low =
+    let r = reference_of t (ByVariable depth v) x in
     or_second (same r (reference_of t (own t) x)) _
     (or_second (same r (reference_of t InFlight x)) _
-    (or_second (same r (reference_of t AsCaller x)) _ (among_variables t x 16 v (ways own x t) low)))
+    (or_second (same r (reference_of t AsCaller x)) _
+    (among_calls t x depth_limit depth v (ways own x t) low.0 low.1)))
 among_low own x t AsCaller low =
     let r = reference_of t AsCaller x in
     or_second (same r (reference_of t (own t) x)) _

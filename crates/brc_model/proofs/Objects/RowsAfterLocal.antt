@@ -171,12 +171,12 @@ passed_on t y AsCaller p lost =
       lost.less,
       one,
     )
-passed_on t y (ByVariable v) p lost =
+passed_on t y (ByVariable depth v) p lost =
     let one = one_own y in
     omega (
       arith,
       references_to-cons y (reference_of t InFlight y)
-          (without (reference_of t (ByVariable v) y) p.references),
+          (without (reference_of t (ByVariable depth v) y) p.references),
       lost.less,
       one,
     )

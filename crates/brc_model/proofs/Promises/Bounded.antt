@@ -9,7 +9,7 @@ use Rattle.brc_lang.specs.declared.module.Module.{Module}
 use Rattle.brc_lang.specs.Grammar.{IsModule}
 use Rattle.brc_word.specs.Words.{free_word}
 use Rattle.brc_model.specs.declared.thread.Choice.{Choice}
-use Rattle.brc_model.specs.declared.thread.Choice.TheVariants.{Ok, Fault, Claim}
+use Rattle.brc_model.specs.declared.thread.Choice.TheVariants.{Ok, Fault, Claim, Stop}
 use Rattle.brc_model.specs.declared.slot.Exit.{Exit}
 use Rattle.brc_model.specs.declared.address.Address.TheVariants.{Gate}
 use Rattle.brc_model.specs.declared.duty.Duty.{Duty}
@@ -17,19 +17,20 @@ use Rattle.brc_model.specs.declared.duty.Duty.TheVariants.{LockGate, ClaimMark}
 use Rattle.brc_model.specs.declared.actor.Status.{Status}
 use Rattle.brc_model.specs.declared.actor.Status.TheVariants.{Running, Leaving, Gone}
 use Rattle.brc_model.specs.declared.actor.Place.{Place}
-use Rattle.brc_model.specs.declared.actor.Place.TheVariants.{Idle, InCall, Inside, Exiting}
+use Rattle.brc_model.specs.declared.actor.Place.TheVariants.{Idle, InCall, Inside, Stopping, Exiting}
 use Rattle.brc_model.specs.Duties.{address_of}
 use Rattle.brc_model.specs.References.{one_if}
 use Rattle.brc_model.specs.Threads.{code_of}
-use Rattle.brc_model.specs.Actions.{StepActor, Action, Skip, Stuck, Silent, Calls, Does, always, may_claim, dispatch, agenda_action, status_action, exit_of, action_of}
+use Rattle.brc_model.specs.Actions.{StepActor, Action, Skip, Stuck, Silent, Calls, Does, always, may_claim, dispatch, agenda_action, status_action, exit_of, action_of, is_before_instruction, may_stop, stop_action}
 use Rattle.brc_model.specs.StepMachine.{StepMachine, of_thread, at_place, step_actor, machine_by, next_machine, first_machine, machine_after}
 use Rattle.brc_model.specs.Progress.{Always}
-use Rattle.brc_model.specs.Bounded.{call_limit, is_before_instruction, takes_step, begins_by, begins_at, begun, calls_after, IsInOrAfter, CallsAreBounded, ThreadsAreBounded}
+use Rattle.brc_model.specs.Bounded.{call_limit, takes_step, begins_by, begins_at, begun, calls_after, IsInOrAfter, CallsAreBounded, ThreadsAreBounded}
 use Rattle.brc_model.proofs.Basics.Lists.{either, some_is, none_some, slice_get-set_same}
 use Rattle.brc_model.proofs.Promises.Leading.{LeadsTo}
 use Rattle.brc_model.proofs.Promises.Turns.{CountsTurns, FitsCode, TurnsHold, code_here, first_turns, turns_next, turns_after}
 use Rattle.brc_model.proofs.Promises.Trace.{thread_leaves}
 use Rattle.brc_model.proofs.Promises.CallsLeft.{instructions_left, call_bounded, Lowers, dispatch_lowers}
+use Rattle.brc_model.proofs.Dispatch.Decided.{stopping_decides, stop_decides}
 
 -- ---- a thread's action
 
@@ -129,9 +130,17 @@ status_lowers m t a exit Leaving fits all = agenda_lowers m t a exit a.actor.age
 action_lowers : (m : StepMachine) (t : ℕ) (a : StepActor) (choice : Choice)
     → FitsCode (code_of (slice_get m.functions a.function)) → CountsTurns a.place
     → ActionLowers (code_of (slice_get m.functions a.function)) m t a (exit_of choice) (begins_by m t a choice)
-    (action_of m.functions m.layout t a choice)
+    (action_of m.functions m.states m.layout t a choice)
 action_lowers m t a Ok fits all = status_lowers m t a (exit_of Ok) a.actor.status fits all
 action_lowers m t a Fault fits all = status_lowers m t a (exit_of Fault) a.actor.status fits all
+action_lowers m t a Stop fits all =
+    let code = code_of (slice_get m.functions a.function) in
+    let lowers = ActionLowers code m t a (exit_of Stop) false in
+    either lowers (may_stop a) (stop_action (m.states a.function) a.place) Skip
+    (λ may. stop_decides lowers (m.states a.function) a.place (omega arith) (omega arith)
+    (λ lock calls. stopping_decides (λ (place : Place). 0 + instructions_left code place
+    ≤ instructions_left code a.place)
+    lock calls (omega arith) (omega arith)) (omega arith)) (omega arith)
 action_lowers m t a (Claim row) fits all =
     let code = code_of (slice_get m.functions a.function) in
     either (ActionLowers code m t a (exit_of (Claim row)) false) (may_claim m.layout t a row)
@@ -183,7 +192,8 @@ action_goes m t a exit begins (Does d rest place) found lowers =
 
 -- The machine after an event of the thread.
 abbrev after : StepMachine → ℕ → Choice → Option StepActor → StepMachine
-after m t choice o = of_thread m (λ a. machine_by m t a (exit_of choice) (action_of m.functions m.layout t a choice)) o
+after m t choice o = of_thread m (λ a. machine_by m t a (exit_of choice)
+    (action_of m.functions m.states m.layout t a choice)) o
 
 abbrev begins : StepMachine → ℕ → Choice → Option StepActor → Bool
 begins m t choice o = of_thread false (λ a. begins_by m t a choice) o
@@ -193,7 +203,8 @@ own_goes : (p : Module) (m : StepMachine) (event : ℕ × Choice) (t : ℕ) (a :
     → Goes m (next_machine m event) t a (begins m t event.1 (slice_get m.actors t))
 own_goes p m event t a fits holds found same =
     let own =
-    action_goes m t a (exit_of event.1) (begins_by m t a event.1) (action_of m.functions m.layout t a event.1) found
+    action_goes m t a (exit_of event.1) (begins_by m t a event.1) (action_of m.functions m.states m.layout t a event.1)
+    found
     (action_lowers m t a event.1 (code_here p m a.function fits holds) (holds.counts t a found)) in
     let at_slot : Goes m (after m t event.1 (slice_get m.actors t)) t a (begins m t event.1 (slice_get m.actors t)) =
     subst (λ (o : Option StepActor). Goes m (after m t event.1 o) t a (begins m t event.1 o)) (sym found) own in
@@ -262,10 +273,11 @@ left_in_call : (code : List Instr) (place : Place) (left : ℕ) → calls_after 
 left_in_call code (Idle zero) left is = absurd (none_some left is)
 left_in_call code (Idle (suc n)) left is =
     omega (arith, same_calls code n left is)
-left_in_call code (InCall counters at variables) left is =
-    omega (arith, same_calls code counters.left left is, call_bounded code counters at)
-left_in_call code (Inside counters at variables stage) left is =
-    omega (arith, same_calls code counters.left left is, call_bounded code counters (at + 1))
+left_in_call code (InCall context at variables) left is =
+    omega (arith, same_calls code context.left left is, call_bounded code context at)
+left_in_call code (Inside context at variables stage) left is =
+    omega (arith, same_calls code context.left left is, call_bounded code context (at + 1))
+left_in_call code (Stopping lock calls) left is = absurd (none_some left is)
 left_in_call code Exiting left is = absurd (none_some left is)
 
 -- As long as it hasn't gone on to the next call, it can still begin what its later calls allow.
@@ -277,10 +289,11 @@ left_after_call code place left (inr ended) =
 left_after_call code (Idle zero) left (inl is) = absurd (none_some left is)
 left_after_call code (Idle (suc n)) left (inl is) =
     omega (arith, same_calls code n left is)
-left_after_call code (InCall counters at variables) left (inl is) =
-    omega (arith, same_calls code counters.left left is)
-left_after_call code (Inside counters at variables stage) left (inl is) =
-    omega (arith, same_calls code counters.left left is)
+left_after_call code (InCall context at variables) left (inl is) =
+    omega (arith, same_calls code context.left left is)
+left_after_call code (Inside context at variables stage) left (inl is) =
+    omega (arith, same_calls code context.left left is)
+left_after_call code (Stopping lock calls) left (inl is) = absurd (none_some left is)
 left_after_call code Exiting left (inl is) = absurd (none_some left is)
 
 call_is_bounded : (p : Module) (m : StepMachine) → IsModule p → TurnsHold p m → CallsAreBounded m
@@ -306,9 +319,11 @@ thread_is_bounded p m fits holds events t left a found idle =
     omega (arith, reach.lowers, whole)
 
 pub calls_bounded : (p : Module) → IsModule p → Always CallsAreBounded p
-calls_bounded p fits = λ rows calls events some most are_calls.
-    call_is_bounded p _ fits (turns_after p (first_machine p rows calls) events fits (first_turns p rows calls))
+calls_bounded p fits = λ states rows calls events states_true some most are_calls.
+    call_is_bounded p _ fits
+    (turns_after p (first_machine p states rows calls) events fits (first_turns p states rows calls))
 
 pub threads_bounded : (p : Module) → IsModule p → Always ThreadsAreBounded p
-threads_bounded p fits = λ rows calls events some most are_calls.
-    thread_is_bounded p _ fits (turns_after p (first_machine p rows calls) events fits (first_turns p rows calls))
+threads_bounded p fits = λ states rows calls events states_true some most are_calls.
+    thread_is_bounded p _ fits
+    (turns_after p (first_machine p states rows calls) events fits (first_turns p states rows calls))

@@ -1,17 +1,18 @@
 -- Where each dispatch leads: to another place than the thread's, unless it waits for a lock.
-use Rattle.std.proofs.Common.{◌≡◌, ◌≢◌, ℕ, zero, suc, ◌+◌, ◌<◌, List, length, Option, ap, arith, get_or-set_same}
+use Rattle.std.proofs.Common.{◌≡◌, ◌≢◌, ℕ, zero, suc, ◌+◌, ◌<◌, List, length, Option, ap, arith, get_or-set_same, None, Some}
 use Rattle.brc_lang.specs.declared.module.Instr.{Instr}
 use Rattle.brc_word.specs.Words.{free_word}
 use Rattle.brc_model.specs.declared.duty.Duty.{Duty}
 use Rattle.brc_model.specs.declared.duty.Duty.TheVariants.{LockGate}
 use Rattle.brc_model.specs.declared.actor.Place.{Place}
-use Rattle.brc_model.specs.declared.actor.Counters.{Counters}
-use Rattle.brc_model.specs.declared.actor.Place.TheVariants.{Idle, InCall, Inside, Exiting}
+use Rattle.brc_model.specs.declared.actor.Context.{Context}
+use Rattle.brc_model.specs.declared.actor.Place.TheVariants.{Idle, InCall, Inside, Stopping, Exiting}
 use Rattle.brc_model.specs.declared.actor.Stage.{Stage}
 use Rattle.brc_model.specs.declared.layout.Layout.{Layout}
 use Rattle.brc_model.specs.Actions.{Action, turns_at, turned, dispatch}
-use Rattle.brc_model.proofs.Promises.Leading.{Leads, LeadsTo, HoldsBeyond, dispatch_leads}
+use Rattle.brc_model.proofs.Promises.Leading.{Leads, LeadsTo, HoldsBeyond, dispatch_leads, count_named}
 use Rattle.brc_model.proofs.Promises.Turns.{CountsTurns, FitsCode}
+use Rattle.brc_model.proofs.Dispatch.Decided.{stopping_decides}
 
 -- The action leads the thread to another place, unless it waits for a lock.
 abbrev pub IsElsewhere : Place → Action → Type 0
@@ -29,27 +30,32 @@ leads_free P place (LockGate x) found next free leads = leads.0 free
 leads_free P place d found next free leads = leads
 
 -- The point at which a thread goes back counts one turn more.
-pub one_turn_more : (counters : Counters) (at : ℕ) → at < length counters.turns
-    → turns_at (turned counters at) at ≡ turns_at counters at + 1
-one_turn_more counters at low = get_or-set_same counters.turns at (turns_at counters at + 1) 0 low
+pub one_turn_more : (context : Context) (at : ℕ) → at < length context.turns
+    → turns_at (turned context at) at ≡ turns_at context at + 1
+one_turn_more context at low = get_or-set_same context.turns at (turns_at context at + 1) 0 low
 
 one_call_less : (left : ℕ) → Idle left ≢ Idle (suc left)
 one_call_less left e = (let same : left ≡ suc left = cc in omega (arith, same))
 
-one_point_on : (counters : Counters) (at next : ℕ) (variables later : List (Option ℕ)) → at < next
-    → InCall counters next later ≢ InCall counters at variables
-one_point_on counters at next variables later on e = (let same : next ≡ at = cc in omega (arith, same, on))
+one_point_on : (context : Context) (at next : ℕ) (variables later : List (Option ℕ)) → at < next
+    → InCall context next later ≢ InCall context at variables
+one_point_on context at next variables later on e = (let same : next ≡ at = cc in omega (arith, same, on))
 
-turned_apart : (counters : Counters) (at to : ℕ) (variables : List (Option ℕ)) → at < length counters.turns
-    → InCall (turned counters at) to variables ≢ InCall counters at variables
-turned_apart counters at to variables low e =
-    let same : turned counters at ≡ counters = cc in
-    let turns : turns_at (turned counters at) at ≡ turns_at counters at = ap (λ (c : Counters). turns_at c at) same in
-    omega (arith, turns, one_turn_more counters at low)
+turned_apart : (context : Context) (at to : ℕ) (variables : List (Option ℕ)) → at < length context.turns
+    → InCall (turned context at) to variables ≢ InCall context at variables
+turned_apart context at to variables low e =
+    let same : turned context at ≡ context = cc in
+    let turns : turns_at (turned context at) at ≡ turns_at context at = ap (λ (c : Context). turns_at c at) same in
+    omega (arith, turns, one_turn_more context at low)
 
-other_stage : (counters : Counters) (at : ℕ) (variables : List (Option ℕ)) (stage further : Stage) → further ≢ stage
-    → Inside counters at variables further ≢ Inside counters at variables stage
-other_stage counters at variables stage further apart e = (let same : further ≡ stage = cc in apart same)
+other_stage : (context : Context) (at : ℕ) (variables : List (Option ℕ)) (stage further : Stage) → further ≢ stage
+    → Inside context at variables further ≢ Inside context at variables stage
+other_stage context at variables stage further apart e = (let same : further ≡ stage = cc in apart same)
+
+fewer_calls : (fewer calls : List (List (Option ℕ))) → count_named fewer < count_named calls
+    → Stopping None fewer ≢ Stopping None calls
+fewer_calls fewer calls less e =
+    (let same : fewer ≡ calls = cc in let one = ap count_named same in omega (arith, less, one))
 
 elsewhere_beyond : (code : List Instr) (place : Place) → FitsCode code → CountsTurns place
     → HoldsBeyond (λ next. next ≢ place) code place
@@ -61,17 +67,21 @@ elsewhere_beyond code (Idle (suc left)) fits all = λ low. record {
   into = λ stage e. cc;
   ends = one_call_less left;
 }
-elsewhere_beyond code (InCall counters at variables) fits all = λ low. record {
-  on = λ next later ahead. one_point_on counters at next variables later ahead;
+elsewhere_beyond code (InCall context at variables) fits all = λ low. record {
+  on = λ next later ahead. one_point_on context at next variables later ahead;
   back = λ to i is less.
-      turned_apart counters at to variables (omega (arith, low, fits.few, all));
+      turned_apart context at to variables (omega (arith, low, fits.few, all));
   into = λ stage e. cc;
   ends = λ e. cc;
 }
-elsewhere_beyond code (Inside counters at variables stage) fits all = record {
+elsewhere_beyond code (Inside context at variables stage) fits all = record {
   on = λ next later ahead e. cc;
-  into = λ further apart. other_stage counters at variables stage further apart;
+  into = λ further apart. other_stage context at variables stage further apart;
 }
+elsewhere_beyond code (Stopping (Some row) calls) fits all =
+    stopping_decides (λ next. next ≢ Stopping (Some row) calls) None calls (λ e. cc) (λ e. cc)
+elsewhere_beyond code (Stopping None calls) fits all = λ fewer less.
+    stopping_decides (λ next. next ≢ Stopping None calls) None fewer (fewer_calls fewer calls less) (λ e. cc)
 
 pub dispatch_elsewhere : (layout : Layout) (t used : ℕ) (code : List Instr) (place : Place) → FitsCode code
     → CountsTurns place → IsElsewhere place (dispatch layout t used code place)

@@ -31,10 +31,12 @@ action_counts m t a exit (Does d rest place) = record { calls = refl; closings =
 
 abbrev after : StepMachine → ℕ × Choice → Option StepActor → StepMachine
 after m event o =
-    of_thread m (λ a. machine_by m event.0 a (exit_of event.1) (action_of m.functions m.layout event.0 a event.1)) o
+    of_thread m (λ a. machine_by m event.0 a (exit_of event.1)
+    (action_of m.functions m.states m.layout event.0 a event.1)) o
 
 abbrev says : (Action → Bool) → StepMachine → ℕ × Choice → Option StepActor → Bool
-says of_action m event o = of_thread false (λ a. of_action (action_of m.functions m.layout event.0 a event.1)) o
+says of_action m event o = of_thread false (λ a. of_action (action_of m.functions m.states m.layout event.0 a event.1))
+    o
 
 record CountsAt (m : StepMachine) (event : ℕ × Choice) (o : Option StepActor) : Type 0 where
   calls : (after m event o).host_faults
@@ -45,7 +47,8 @@ record CountsAt (m : StepMachine) (event : ℕ × Choice) (o : Option StepActor)
 thread_counts : (m : StepMachine) (event : ℕ × Choice) (o : Option StepActor) → CountsAt m event o
 thread_counts m event None = record { calls = refl; closings = refl }
 thread_counts m event (Some a) =
-    let counts = action_counts m event.0 a (exit_of event.1) (action_of m.functions m.layout event.0 a event.1) in
+    let counts = action_counts m event.0 a (exit_of event.1)
+    (action_of m.functions m.states m.layout event.0 a event.1) in
     record { calls = counts.calls; closings = counts.closings }
 
 -- An event counts the fault of its host call or of its close.
@@ -85,8 +88,8 @@ counts_fit_after m (event ∷ events) fits =
 
 -- In every machine of a module the counts fit.
 pub counts_fit : (p : Module) → Always CountsFit p
-counts_fit p rows calls events some most fit =
-    counts_fit_after (first_machine p rows calls) events (record { calls = omega arith; closings = omega arith })
+counts_fit p states rows calls events states_true some most fit =
+    counts_fit_after (first_machine p states rows calls) events (record { calls = omega arith; closings = omega arith })
 
 -- ---- a fault elsewhere
 
@@ -107,6 +110,7 @@ action_alike m t a (Does d rest place) quiet unclosed =
     omega (arith, counts, before) in
     λ i. record {
       functions = new.functions;
+      states = new.states;
       layout = new.layout;
       memory = new.memory;
       actors = new.actors;

@@ -17,6 +17,7 @@ use Rattle.brc_model.specs.StepMachine.{StepMachine}
 use Rattle.brc_model.specs.HostCalls.{file_of, CallsUseTheLent}
 use Rattle.brc_model.proofs.Basics.Lists.{some_is, first_false}
 use Rattle.brc_model.proofs.Dispatch.Passing.{AreMet, passes_on}
+use Rattle.brc_model.proofs.Dispatch.Holds.{call_of}
 use Rattle.brc_model.proofs.Dispatch.Grounded.{named_row}
 use Rattle.brc_model.proofs.Dispatch.Lending.{lent_to, lent_at}
 use Rattle.brc_model.proofs.Dispatch.Coded.{PlaceSays}
@@ -40,7 +41,7 @@ file_lent (Some (Write this number otherwise)) variables file is = ap (row_of va
 file_lent _ variables file is = absurd cc
 
 lent_used : (p : Module) (n : ℕ) (m : StepMachine) → CodeInvariant p n m → CallsUseTheLent m
-lent_used p n m whole t at file a counters variables found place uses =
+lent_used p n m whole t at file a context variables found place uses =
     let code = code_of (slice_get p.functions a.function) in
     let own = whole.coded t a found in
     let names : file_of (slice_get code at) ≡ Some file =
@@ -49,7 +50,8 @@ lent_used p n m whole t at file a counters variables found place uses =
     let says = subst (λ (x : Place). PlaceSays code x a.actor.locked (whole.accounts t)) place own.says in
     let on = passes_on code says.1.exits at says.0 own.accepted says.1.arrived in
     let some = file_some on.here says.0 file on.met (sym (ap file_of on.found) ∙ names) in
-    let row = named_row (slot_of says.0 file) (row_of variables file) some (says.1.grounded file) in
+    let row = named_row (call_of code context) (slot_of says.0 file) (row_of variables file) some
+    (says.1.grounded file) in
     record {
       row = row.0;
       named = row.1;

@@ -1,8 +1,8 @@
 -- Where each dispatch leads. An instruction of a call leads on to a later point, into itself or to the end of the call;
 -- a lock that isn't got leaves the thread where it was. What holds of all these places holds after the action.
 use Rattle.brc_model.specs.declared.slot.Exit.TheVariants.{Success, Fault}
-use Rattle.std.proofs.Common.{◌≡◌, ◌≢◌, ℕ, zero, suc, ◌+◌, cond, Bool, false, List, [], Option, None, Some, refl, sym, ap, subst, arith, ◌<◌, length}
-use Rattle.std.specs.Prelude.{◌==◌, nat_lt, slice_get, slice_set}
+use Rattle.std.proofs.Common.{◌≡◌, ◌≢◌, ℕ, zero, suc, ◌+◌, cond, Bool, false, List, [], Option, None, Some, refl, sym, ap, subst, arith, ◌<◌, length, ◌≤◌, ◌∷◌}
+use Rattle.std.specs.Prelude.{◌==◌, nat_lt, slice_get, slice_set, is_some, count_by}
 use Rattle.std.proofs.lemmas.Bool.{ltb-true}
 use Rattle.std.proofs.lemmas.Option.{slice_get_within}
 use Rattle.brc_lang.specs.declared.module.Instr.{Instr}
@@ -12,20 +12,24 @@ use Rattle.brc_word.specs.Words.{free_word}
 use Rattle.brc_model.specs.Kinds.{same_kind, kind_of_word}
 use Rattle.brc_model.specs.Threads.{row_of, entry_variables}
 use Rattle.brc_model.specs.declared.duty.Duty.{Duty}
-use Rattle.brc_model.specs.declared.duty.Duty.TheVariants.{LockGate, KindLoad, CellLoad}
+use Rattle.brc_model.specs.declared.duty.Duty.TheVariants.{LockGate, KindLoad, CellLoad, ReleaseLoad, Settle}
 use Rattle.brc_model.specs.declared.actor.Place.{Place}
-use Rattle.brc_model.specs.declared.actor.Counters.{Counters}
-use Rattle.brc_model.specs.declared.actor.Place.TheVariants.{Idle, InCall, Inside, Exiting}
+use Rattle.brc_model.specs.declared.actor.Context.{Context}
+use Rattle.brc_model.specs.declared.actor.Place.TheVariants.{Idle, InCall, Inside, Stopping, Exiting}
 use Rattle.brc_model.specs.declared.actor.Stage.{Stage}
 use Rattle.brc_model.specs.declared.actor.Stage.TheVariants.{InRange, OutOfRange, Found, Retained, Loaded, Lent, Called, Granted}
 use Rattle.brc_model.specs.declared.slot.Exit.{Exit}
 use Rattle.brc_model.specs.Machine.{has_room}
-use Rattle.brc_model.specs.Actions.{Action, Skip, Stuck, Silent, Calls, Does, with_row, by_range, by_item, birth_action, first_counters, turns_at, turned, dispatch_instruction, dispatch_inside, dispatch, number_word, list_word, grant_action, lend_action}
-use Rattle.brc_model.proofs.Basics.Lists.{either}
+use Rattle.brc_model.specs.Actions.{Action, Skip, Stuck, Silent, Calls, Does, with_row, by_range, by_item, birth_action, first_context, turns_at, turned, dispatch_instruction, dispatch_inside, dispatch, number_word, list_word, grant_action, lend_action, stopping, holds_some, first_named, give_up_first, give_up, always}
+use Rattle.brc_model.proofs.Basics.Lists.{either, none_some}
 use Rattle.brc_model.proofs.Dispatch.Decided.{range_decides, item_decides, exit_decides}
 use Rattle.brc_model.specs.Bounded.{times_of}
 use Rattle.brc_model.specs.declared.layout.Layout.{Layout}
 use Rattle.brc_model.specs.Layout.{none_row, row_at}
+use Rattle.std.specs.List.{list_any}
+use Rattle.std.proofs.lemmas.List.Sums.{sum_by-cons}
+use Rattle.brc_model.specs.declared.duty.Holding.TheVariants.{ByVariable}
+use Rattle.brc_model.specs.References.{one_if}
 
 -- The property holds of the next place, if the duty goes on; a lock that isn't got leaves the thread at the place.
 abbrev pub Leads : (Place → Type 0) → Place → Duty → ℕ → Place → Type 0
@@ -41,19 +45,19 @@ LeadsTo P place (Calls row next) = (exit : Exit) → P (next exit)
 LeadsTo P place (Does d rest next) = (found : ℕ) → Leads P place d found (next found)
 
 -- The property holds of each place to which an instruction at the point of a call can lead.
-pub record HoldsAfter (P : Place → Type 0) (code : List Instr) (counters : Counters) (at : ℕ)
+pub record HoldsAfter (P : Place → Type 0) (code : List Instr) (context : Context) (at : ℕ)
     (variables : List (Option ℕ)) : Type 0 where
-  pub on : (next : ℕ) (later : List (Option ℕ)) → at < next → P (InCall counters next later)
-  pub back : (to : ℕ) (i : Instr) → slice_get code at ≡ Some i → turns_at counters at < times_of i
-      → P (InCall (turned counters at) to variables)
-  pub into : (stage : Stage) → P (Inside counters at variables stage)
-  pub ends : P (Idle counters.left)
+  pub on : (next : ℕ) (later : List (Option ℕ)) → at < next → P (InCall context next later)
+  pub back : (to : ℕ) (i : Instr) → slice_get code at ≡ Some i → turns_at context at < times_of i
+      → P (InCall (turned context at) to variables)
+  pub into : (stage : Stage) → P (Inside context at variables stage)
+  pub ends : P (Idle context.left)
 
 -- The property holds of each place to which a thread inside an instruction can go.
-pub record HoldsWithin (P : Place → Type 0) (counters : Counters) (at : ℕ) (variables : List (Option ℕ))
+pub record HoldsWithin (P : Place → Type 0) (context : Context) (at : ℕ) (variables : List (Option ℕ))
     (stage : Stage) : Type 0 where
-  pub on : (next : ℕ) (later : List (Option ℕ)) → at < next → P (InCall counters next later)
-  pub into : (further : Stage) → further ≢ stage → P (Inside counters at variables further)
+  pub on : (next : ℕ) (later : List (Option ℕ)) → at < next → P (InCall context next later)
+  pub into : (further : Stage) → further ≢ stage → P (Inside context at variables further)
 
 module _ (P : Place → Type 0) (place : Place) where
   row_leads : (o : Option ℕ) (work : ℕ → Action) → ((row : ℕ) → LeadsTo P place (work row))
@@ -74,12 +78,12 @@ module _ (P : Place → Type 0) (place : Place) where
   cell_leads list index empty holds none some =
       row_leads list _ (λ row found. item_decides (λ word next. P next) empty holds none some found)
 
-module _ (P : Place → Type 0) (place : Place) (code : List Instr) (forward : LeadsForward code) (counters : Counters)
+module _ (P : Place → Type 0) (place : Place) (code : List Instr) (forward : LeadsForward code) (context : Context)
     (at : ℕ) (variables : List (Option ℕ))
   where
-    module _ (layout : Layout) (t used : ℕ) (holds : HoldsAfter P code counters at variables) where
+    module _ (layout : Layout) (t used : ℕ) (holds : HoldsAfter P code context at variables) where
       birth_leads : (to word otherwise : ℕ) → at < otherwise
-          → LeadsTo P place (birth_action layout t used counters at variables to word otherwise)
+          → LeadsTo P place (birth_action layout t used context at variables to word otherwise)
       birth_leads to word otherwise ahead =
           either (LeadsTo P place) (has_room layout t used) _ _
           (λ room found. holds.on (at + 1) (slice_set variables to (Some (row_at layout t used))) (omega arith))
@@ -87,15 +91,15 @@ module _ (P : Place → Type 0) (place : Place) (code : List Instr) (forward : L
 
       -- A thread that asks the host for a resource goes into the instruction, or on to the other point.
       grant_leads : (to otherwise : ℕ) → at < otherwise
-          → LeadsTo P place (grant_action layout t used counters at variables to otherwise)
+          → LeadsTo P place (grant_action layout t used context at variables to otherwise)
       grant_leads to otherwise ahead =
           let refused = holds.on otherwise (slice_set variables to None) ahead in
           either (LeadsTo P place) (has_room layout t used) _ _
-          (λ room. exit_decides P (Inside counters at variables Granted)
-          (InCall counters otherwise (slice_set variables to None)) (holds.into Granted) refused) refused
+          (λ room. exit_decides P (Inside context at variables Granted)
+          (InCall context otherwise (slice_set variables to None)) (holds.into Granted) refused) refused
 
       pub instruction_leads : (i : Option Instr) → slice_get code at ≡ i
-          → LeadsTo P place (dispatch_instruction layout t used place counters at variables i)
+          → LeadsTo P place (dispatch_instruction layout t used place context at variables i)
       instruction_leads None is = tt
       instruction_leads (Some (Num to value otherwise)) is =
           birth_leads to (number_word value) otherwise (forward at (Num to value otherwise) otherwise is refl).0
@@ -114,37 +118,37 @@ module _ (P : Place → Type 0) (place : Place) (code : List Instr) (forward : L
           (λ row found. holds.on (at + 1) (slice_set variables from None) (omega arith))
       instruction_leads (Some (Lock object)) is =
           row_leads P place (row_of variables object) _ (λ row word. (
-            λ free. subst P (sym (ap (λ (w : ℕ). cond (w == free_word) (InCall counters (at + 1) variables) place)
+            λ free. subst P (sym (ap (λ (w : ℕ). cond (w == free_word) (InCall context (at + 1) variables) place)
                 free))
                 (holds.on (at + 1) variables (omega arith)),
-            λ taken. ap (λ (b : Bool). cond b (InCall counters (at + 1) variables) place) taken,
+            λ taken. ap (λ (b : Bool). cond b (InCall context (at + 1) variables) place) taken,
           ))
       instruction_leads (Some (Unlock object)) is =
           row_leads P place (row_of variables object) _ (λ row found. holds.on (at + 1) variables (omega arith))
       instruction_leads (Some (Borrow to list index otherwise)) is =
-          range_leads P place (row_of variables list) index (Inside counters at variables InRange)
-          (InCall counters otherwise (slice_set variables to None)) (holds.into InRange)
+          range_leads P place (row_of variables list) index (Inside context at variables InRange)
+          (InCall context otherwise (slice_set variables to None)) (holds.into InRange)
           (holds.on otherwise (slice_set variables to None)
           (forward at (Borrow to list index otherwise) otherwise is refl).0)
       instruction_leads (Some (Fetch to list index otherwise)) is =
-          range_leads P place (row_of variables list) index (Inside counters at variables InRange)
-          (InCall counters otherwise (slice_set variables to None)) (holds.into InRange)
+          range_leads P place (row_of variables list) index (Inside context at variables InRange)
+          (InCall context otherwise (slice_set variables to None)) (holds.into InRange)
           (holds.on otherwise (slice_set variables to None)
           (forward at (Fetch to list index otherwise) otherwise is refl).0)
       instruction_leads (Some (Set list index from otherwise)) is =
-          range_leads P place (row_of variables list) index (Inside counters at variables InRange)
-          (Inside counters at variables OutOfRange) (holds.into InRange) (holds.into OutOfRange)
+          range_leads P place (row_of variables list) index (Inside context at variables InRange)
+          (Inside context at variables OutOfRange) (holds.into InRange) (holds.into OutOfRange)
       instruction_leads (Some (Put list index from otherwise)) is =
-          range_leads P place (row_of variables list) index (Inside counters at variables InRange)
-          (InCall counters otherwise variables) (holds.into InRange)
+          range_leads P place (row_of variables list) index (Inside context at variables InRange)
+          (InCall context otherwise variables) (holds.into InRange)
           (holds.on otherwise variables (forward at (Put list index from otherwise) otherwise is refl).0)
       instruction_leads (Some (Open to path mode otherwise)) is =
           grant_leads to otherwise (forward at (Open to path mode otherwise) otherwise is refl).0
       instruction_leads (Some (Connect to peer otherwise)) is =
           grant_leads to otherwise (forward at (Connect to peer otherwise) otherwise is refl).0
       instruction_leads (Some (Read to file most otherwise)) is =
-          either (LeadsTo P place) (has_room layout t used) (lend_action counters at variables file)
-          (Silent [] (InCall counters otherwise (slice_set variables to None)))
+          either (LeadsTo P place) (has_room layout t used) (lend_action context at variables file)
+          (Silent [] (InCall context otherwise (slice_set variables to None)))
           (λ room. row_leads P place (row_of variables file) _ (λ row found. holds.into Lent))
           (holds.on otherwise (slice_set variables to None)
           (forward at (Read to file most otherwise) otherwise is refl).0)
@@ -157,26 +161,26 @@ module _ (P : Place → Type 0) (place : Place) (code : List Instr) (forward : L
           (λ same. omega arith) (forward at (As from kind otherwise) otherwise is refl).0))
       instruction_leads (Some (Goto to)) is = holds.on to variables (forward at (Goto to) to is refl).0
       instruction_leads (Some (Again to times)) is =
-          either P (nat_lt (turns_at counters at) times) (InCall (turned counters at) to variables)
-          (InCall counters (at + 1) variables)
-          (λ more. holds.back to (Again to times) is (ltb-true (turns_at counters at) times more))
+          either P (nat_lt (turns_at context at) times) (InCall (turned context at) to variables)
+          (InCall context (at + 1) variables)
+          (λ more. holds.back to (Again to times) is (ltb-true (turns_at context at) times more))
           (holds.on (at + 1) variables (omega arith))
       instruction_leads (Some (Ret from)) is = row_leads P place (row_of variables from) _ (λ row found. holds.ends)
       instruction_leads (Some Fail) is = holds.ends
 
     -- Inside an instruction too, each step leads on: to a later point, or further in.
     pub inside_leads : (layout : Layout) (t used : ℕ) (stage : Stage) (i : Option Instr) → slice_get code at ≡ i
-        → HoldsWithin P counters at variables stage
-        → LeadsTo P place (dispatch_inside layout t used counters at variables stage i)
+        → HoldsWithin P context at variables stage
+        → LeadsTo P place (dispatch_inside layout t used context at variables stage i)
     inside_leads layout t used InRange (Some (Borrow to list index otherwise)) is holds =
-        cell_leads P place (row_of variables list) index (InCall counters otherwise (slice_set variables to None))
-        (λ item. InCall counters (at + 1) (slice_set variables to (Some item)))
+        cell_leads P place (row_of variables list) index (InCall context otherwise (slice_set variables to None))
+        (λ item. InCall context (at + 1) (slice_set variables to (Some item)))
         (holds.on otherwise (slice_set variables to None)
         (forward at (Borrow to list index otherwise) otherwise is refl).0)
         (λ item. holds.on (at + 1) (slice_set variables to (Some item)) (omega arith))
     inside_leads layout t used InRange (Some (Fetch to list index otherwise)) is holds =
-        cell_leads P place (row_of variables list) index (InCall counters otherwise (slice_set variables to None))
-        (λ item. Inside counters at variables (Found item))
+        cell_leads P place (row_of variables list) index (InCall context otherwise (slice_set variables to None))
+        (λ item. Inside context at variables (Found item))
         (holds.on otherwise (slice_set variables to None)
         (forward at (Fetch to list index otherwise) otherwise is refl).0) (λ item. holds.into (Found item) (λ e. cc))
     inside_leads layout t used (Found item) (Some (Fetch to list index otherwise)) is holds =
@@ -217,21 +221,63 @@ module _ (P : Place → Type 0) (place : Place) (code : List Instr) (forward : L
         (forward at (Write file number otherwise) otherwise is refl).0)
     inside_leads layout t used stage i is holds = tt
 
+-- The rows to which the calls of a stopped thread have still to give up references.
+abbrev pub count_named : List (List (Option ℕ)) → ℕ
+count_named [] = 0
+count_named (rows ∷ outer) = count_by is_some rows + count_named outer
+
 -- The property holds of each place to which the thread's dispatch can lead. Past the last instruction it leads nowhere.
 abbrev pub HoldsBeyond : (Place → Type 0) → List Instr → Place → Type 0
 HoldsBeyond P code Exiting = Unit {0}
 HoldsBeyond P code (Idle zero) = P Exiting
-HoldsBeyond P code (Idle (suc left)) = 0 < length code → HoldsAfter P code (first_counters left) 0 entry_variables
-HoldsBeyond P code (InCall counters at variables) = at < length code → HoldsAfter P code counters at variables
-HoldsBeyond P code (Inside counters at variables stage) = HoldsWithin P counters at variables stage
+HoldsBeyond P code (Idle (suc left)) = 0 < length code → HoldsAfter P code (first_context left) 0 entry_variables
+HoldsBeyond P code (InCall context at variables) = at < length code → HoldsAfter P code context at variables
+HoldsBeyond P code (Inside context at variables stage) = HoldsWithin P context at variables stage
+HoldsBeyond P code (Stopping (Some row) calls) = P (stopping None calls)
+HoldsBeyond P code (Stopping None calls) =
+    (fewer : List (List (Option ℕ))) → count_named fewer < count_named calls → P (stopping None fewer)
 
-found_leads : (P : Place → Type 0) (place : Place) (code : List Instr) (counters : Counters) (at : ℕ)
+count_some : (o : Option ℕ) (rows : List (Option ℕ))
+    → count_by is_some (o ∷ rows) ≡ one_if (is_some o) + count_by is_some rows
+count_some o rows = sum_by-cons (λ (x : Option ℕ). cond (is_some x) 1 0) o rows
+
+-- One variable less names a row.
+one_named_less : (rows : List (Option ℕ)) (v row : ℕ) → row_of rows v ≡ Some row
+    → count_by is_some (slice_set rows v None) < count_by is_some rows
+one_named_less [] v row is = absurd (none_some row is)
+one_named_less (o ∷ rows) zero row is =
+    let one : one_if (is_some o) ≡ 1 = ap (λ (x : Option ℕ). one_if (is_some x)) is in
+    let left = count_some None rows in
+    omega (arith, count_some o rows, left, one)
+one_named_less (o ∷ rows) (suc v) row is =
+    let left = count_some o (slice_set rows v None) in
+    omega (arith, count_some o rows, left, one_named_less rows v row is)
+
+-- Each release of a stopped thread leaves fewer references to give up.
+give_up_leads : (P : Place → Type 0) (place : Place) (most : ℕ)
+    → ((fewer : List (List (Option ℕ))) → count_named fewer < most → P (stopping None fewer))
+    → (calls : List (List (Option ℕ))) → count_named calls ≤ most → LeadsTo P place (give_up calls)
+give_up_leads P place most holds [] few = tt
+give_up_leads P place most holds (rows ∷ outer) few =
+    let v = first_named rows in
+    let after = slice_set rows v None ∷ outer in
+    let work : ℕ → Action = λ row. Does (ReleaseLoad row (ByVariable (length outer) v))
+    (cond (holds_some after) [] (Settle ∷ [])) (always (stopping None after)) in
+    let first : LeadsTo P place (give_up_first rows outer) =
+    elim (row_of rows v) as (λ o. row_of rows v ≡ o → LeadsTo P place (with_row o work)) [
+      | None ↦ λ is. tt
+      | Some row ↦ λ is found. holds after (let less = one_named_less rows v row is in omega (arith, few, less))
+    ] refl in
+    either (LeadsTo P place) (list_any is_some rows) (give_up_first rows outer) (give_up outer) (λ names. first)
+    (give_up_leads P place most holds outer (omega (arith, few)))
+
+found_leads : (P : Place → Type 0) (place : Place) (code : List Instr) (context : Context) (at : ℕ)
     (variables : List (Option ℕ)) (layout : Layout) (t used : ℕ) (o : Option Instr) → LeadsForward code
-    → (at < length code → HoldsAfter P code counters at variables) → slice_get code at ≡ o
-    → LeadsTo P place (dispatch_instruction layout t used place counters at variables o)
-found_leads P place code counters at variables layout t used None forward holds is = tt
-found_leads P place code counters at variables layout t used (Some i) forward holds is =
-    instruction_leads P place code forward counters at variables layout t used (holds (slice_get_within code at i is))
+    → (at < length code → HoldsAfter P code context at variables) → slice_get code at ≡ o
+    → LeadsTo P place (dispatch_instruction layout t used place context at variables o)
+found_leads P place code context at variables layout t used None forward holds is = tt
+found_leads P place code context at variables layout t used (Some i) forward holds is =
+    instruction_leads P place code forward context at variables layout t used (holds (slice_get_within code at i is))
     (Some i) is
 
 pub dispatch_leads : (P : Place → Type 0) (layout : Layout) (t used : ℕ) (code : List Instr) (place : Place)
@@ -239,12 +285,15 @@ pub dispatch_leads : (P : Place → Type 0) (layout : Layout) (t used : ℕ) (co
 dispatch_leads P layout t used code Exiting forward holds = tt
 dispatch_leads P layout t used code (Idle zero) forward holds = λ found. holds
 dispatch_leads P layout t used code (Idle (suc left)) forward holds =
-    found_leads P (Idle (suc left)) code (first_counters left) 0 entry_variables layout t used (slice_get code 0)
+    found_leads P (Idle (suc left)) code (first_context left) 0 entry_variables layout t used (slice_get code 0)
     forward holds refl
-dispatch_leads P layout t used code (InCall counters at variables) forward holds =
-    found_leads P (InCall counters at variables) code counters at variables layout t used (slice_get code at)
+dispatch_leads P layout t used code (InCall context at variables) forward holds =
+    found_leads P (InCall context at variables) code context at variables layout t used (slice_get code at)
     forward holds refl
-dispatch_leads P layout t used code (Inside counters at variables stage) forward holds =
-    inside_leads P (Inside counters at variables stage) code forward counters at variables layout t used stage
+dispatch_leads P layout t used code (Inside context at variables stage) forward holds =
+    inside_leads P (Inside context at variables stage) code forward context at variables layout t used stage
     (slice_get code at)
     refl holds
+dispatch_leads P layout t used code (Stopping (Some row) calls) forward holds = λ found. holds
+dispatch_leads P layout t used code (Stopping None calls) forward holds =
+    give_up_leads P (Stopping None calls) (count_named calls) holds calls (omega arith)

@@ -18,8 +18,8 @@ use Rattle.brc_model.specs.declared.address.Address.TheVariants.{Gate}
 use Rattle.brc_model.specs.declared.actor.Status.{Status}
 use Rattle.brc_model.specs.declared.actor.Status.TheVariants.{Running, Leaving, Gone}
 use Rattle.brc_model.specs.declared.actor.Place.{Place}
-use Rattle.brc_model.specs.declared.actor.Counters.{Counters}
-use Rattle.brc_model.specs.declared.actor.Place.TheVariants.{Idle, InCall, Inside, Exiting}
+use Rattle.brc_model.specs.declared.actor.Context.{Context}
+use Rattle.brc_model.specs.declared.actor.Place.TheVariants.{Idle, InCall, Inside, Stopping, Exiting}
 use Rattle.brc_model.specs.declared.actor.Stage.{Stage}
 use Rattle.brc_model.specs.declared.actor.Stage.TheVariants.{InRange, OutOfRange, Found, Retained, Loaded, Lent, Called, Granted}
 use Rattle.brc_model.specs.declared.layout.Layout.{Layout}
@@ -27,13 +27,14 @@ use Rattle.brc_model.specs.Threads.{row_of, entry_variables, code_of}
 use Rattle.brc_model.specs.Duties.{ready}
 use Rattle.brc_model.specs.Machine.{has_room, written}
 use Rattle.brc_model.specs.declared.slot.Exit.{Exit}
-use Rattle.brc_model.specs.Actions.{StepActor, Action, Does, with_row, dispatch_instruction, dispatch_inside, dispatch, agenda_action, status_action, exit_of, action_of, first_counters}
+use Rattle.brc_model.specs.Actions.{StepActor, Action, Does, with_row, dispatch_instruction, dispatch_inside, dispatch, agenda_action, status_action, exit_of, action_of, first_context}
 use Rattle.brc_model.specs.StepMachine.{step_actor, machine_by}
 use Rattle.brc_model.specs.World.{World, world_of, machine_of, step, finds_locked, waits_for_lock, IsReachable}
 use Rattle.brc_model.proofs.Basics.Lists.{either, set_found}
 use Rattle.brc_model.proofs.Basics.Written.{written_load}
 use Rattle.brc_model.proofs.Dispatch.AtOnce.{at_once}
 use Rattle.brc_model.proofs.Promises.StepsMove.{after, reached_code, reached_found}
+use Rattle.brc_model.proofs.Dispatch.Decided.{give_up_decides}
 
 -- ---- where a thread waits
 
@@ -52,98 +53,101 @@ row_waits : (place : Place) (o : Option ℕ) (work : ℕ → Action) → ((row :
 row_waits place None work each = tt
 row_waits place (Some row) work each = each row
 
-instruction_waits : (layout : Layout) (t used : ℕ) (place : Place) (counters : Counters) (at : ℕ)
+instruction_waits : (layout : Layout) (t used : ℕ) (place : Place) (context : Context) (at : ℕ)
     (variables : List (Option ℕ))
-    (i : Option Instr) → WaitsAt place (dispatch_instruction layout t used place counters at variables i)
-instruction_waits layout t used place counters at variables None = tt
-instruction_waits layout t used place counters at variables (Some (Num to value otherwise)) =
+    (i : Option Instr) → WaitsAt place (dispatch_instruction layout t used place context at variables i)
+instruction_waits layout t used place context at variables None = tt
+instruction_waits layout t used place context at variables (Some (Num to value otherwise)) =
     either (WaitsAt place) (has_room layout t used) _ _ (λ room. tt) tt
-instruction_waits layout t used place counters at variables (Some (ListObject to cells otherwise)) =
+instruction_waits layout t used place context at variables (Some (ListObject to cells otherwise)) =
     either (WaitsAt place) (has_room layout t used) _ _ (λ room. tt) tt
-instruction_waits layout t used place counters at variables (Some (NoneObject to)) = tt
-instruction_waits layout t used place counters at variables (Some (Newref to from)) =
+instruction_waits layout t used place context at variables (Some (NoneObject to)) = tt
+instruction_waits layout t used place context at variables (Some (Newref to from)) =
     row_waits place (row_of variables from) _ (λ row. tt)
-instruction_waits layout t used place counters at variables (Some (MoveReference to from)) =
+instruction_waits layout t used place context at variables (Some (MoveReference to from)) =
     row_waits place (row_of variables from) _ (λ row. tt)
-instruction_waits layout t used place counters at variables (Some (Drop from)) =
+instruction_waits layout t used place context at variables (Some (Drop from)) =
     row_waits place (row_of variables from) _ (λ row. tt)
-instruction_waits layout t used place counters at variables (Some (Lock object)) =
+instruction_waits layout t used place context at variables (Some (Lock object)) =
     row_waits place (row_of variables object) _
     (λ row. record {
       alone = refl;
-      stays = λ found taken. ap (λ (b : Bool). cond b (InCall counters (at + 1) variables) place) taken;
+      stays = λ found taken. ap (λ (b : Bool). cond b (InCall context (at + 1) variables) place) taken;
     })
-instruction_waits layout t used place counters at variables (Some (Unlock object)) =
+instruction_waits layout t used place context at variables (Some (Unlock object)) =
     row_waits place (row_of variables object) _ (λ row. tt)
-instruction_waits layout t used place counters at variables (Some (Borrow to list index otherwise)) =
+instruction_waits layout t used place context at variables (Some (Borrow to list index otherwise)) =
     row_waits place (row_of variables list) _ (λ row. tt)
-instruction_waits layout t used place counters at variables (Some (Fetch to list index otherwise)) =
+instruction_waits layout t used place context at variables (Some (Fetch to list index otherwise)) =
     row_waits place (row_of variables list) _ (λ row. tt)
-instruction_waits layout t used place counters at variables (Some (Set list index from otherwise)) =
+instruction_waits layout t used place context at variables (Some (Set list index from otherwise)) =
     row_waits place (row_of variables list) _ (λ row. tt)
-instruction_waits layout t used place counters at variables (Some (Put list index from otherwise)) =
+instruction_waits layout t used place context at variables (Some (Put list index from otherwise)) =
     row_waits place (row_of variables list) _ (λ row. tt)
-instruction_waits layout t used place counters at variables (Some (Open to path mode otherwise)) =
+instruction_waits layout t used place context at variables (Some (Open to path mode otherwise)) =
     either (WaitsAt place) (has_room layout t used) _ _ (λ room. tt) tt
-instruction_waits layout t used place counters at variables (Some (Connect to peer otherwise)) =
+instruction_waits layout t used place context at variables (Some (Connect to peer otherwise)) =
     either (WaitsAt place) (has_room layout t used) _ _ (λ room. tt) tt
-instruction_waits layout t used place counters at variables (Some (Read to file most otherwise)) =
+instruction_waits layout t used place context at variables (Some (Read to file most otherwise)) =
     either (WaitsAt place) (has_room layout t used) _ _
     (λ room. row_waits place (row_of variables file) _ (λ row. tt)) tt
-instruction_waits layout t used place counters at variables (Some (Write file number otherwise)) =
+instruction_waits layout t used place context at variables (Some (Write file number otherwise)) =
     row_waits place (row_of variables number) _ (λ row. tt)
-instruction_waits layout t used place counters at variables (Some (As from kind otherwise)) =
+instruction_waits layout t used place context at variables (Some (As from kind otherwise)) =
     row_waits place (row_of variables from) _ (λ row. tt)
-instruction_waits layout t used place counters at variables (Some (Goto to)) = tt
-instruction_waits layout t used place counters at variables (Some (Again to times)) = tt
-instruction_waits layout t used place counters at variables (Some (Ret from)) =
+instruction_waits layout t used place context at variables (Some (Goto to)) = tt
+instruction_waits layout t used place context at variables (Some (Again to times)) = tt
+instruction_waits layout t used place context at variables (Some (Ret from)) =
     row_waits place (row_of variables from) _ (λ row. tt)
-instruction_waits layout t used place counters at variables (Some Fail) = tt
+instruction_waits layout t used place context at variables (Some Fail) = tt
 
-inside_waits : (place : Place) (layout : Layout) (t used : ℕ) (counters : Counters) (at : ℕ)
+inside_waits : (place : Place) (layout : Layout) (t used : ℕ) (context : Context) (at : ℕ)
     (variables : List (Option ℕ)) (stage : Stage)
     (i : Option Instr)
-    → WaitsAt place (dispatch_inside layout t used counters at variables stage i)
-inside_waits place layout t used counters at variables InRange (Some (Borrow to list index otherwise)) =
+    → WaitsAt place (dispatch_inside layout t used context at variables stage i)
+inside_waits place layout t used context at variables InRange (Some (Borrow to list index otherwise)) =
     row_waits place (row_of variables list) _ (λ row. tt)
-inside_waits place layout t used counters at variables InRange (Some (Fetch to list index otherwise)) =
+inside_waits place layout t used context at variables InRange (Some (Fetch to list index otherwise)) =
     row_waits place (row_of variables list) _ (λ row. tt)
-inside_waits place layout t used counters at variables (Found item) (Some (Fetch to list index otherwise)) = tt
-inside_waits place layout t used counters at variables InRange (Some (Set list index from otherwise)) =
+inside_waits place layout t used context at variables (Found item) (Some (Fetch to list index otherwise)) = tt
+inside_waits place layout t used context at variables InRange (Some (Set list index from otherwise)) =
     row_waits place (row_of variables list) _ (λ row. row_waits place (row_of variables from) _ (λ item. tt))
-inside_waits place layout t used counters at variables OutOfRange (Some (Set list index from otherwise)) =
+inside_waits place layout t used context at variables OutOfRange (Some (Set list index from otherwise)) =
     row_waits place (row_of variables from) _ (λ item. tt)
-inside_waits place layout t used counters at variables InRange (Some (Put list index from otherwise)) =
+inside_waits place layout t used context at variables InRange (Some (Put list index from otherwise)) =
     row_waits place (row_of variables from) _ (λ item. tt)
-inside_waits place layout t used counters at variables Retained (Some (Put list index from otherwise)) =
+inside_waits place layout t used context at variables Retained (Some (Put list index from otherwise)) =
     row_waits place (row_of variables list) _ (λ row. row_waits place (row_of variables from) _ (λ item. tt))
-inside_waits place layout t used counters at variables Granted (Some (Open to path mode otherwise)) = tt
-inside_waits place layout t used counters at variables Granted (Some (Connect to peer otherwise)) = tt
-inside_waits place layout t used counters at variables Lent (Some (Read to file most otherwise)) = tt
-inside_waits place layout t used counters at variables (Called Success) (Some (Read to file most otherwise)) =
+inside_waits place layout t used context at variables Granted (Some (Open to path mode otherwise)) = tt
+inside_waits place layout t used context at variables Granted (Some (Connect to peer otherwise)) = tt
+inside_waits place layout t used context at variables Lent (Some (Read to file most otherwise)) = tt
+inside_waits place layout t used context at variables (Called Success) (Some (Read to file most otherwise)) =
     row_waits place (row_of variables file) _ (λ row. tt)
-inside_waits place layout t used counters at variables (Called FaultExit) (Some (Read to file most otherwise)) =
+inside_waits place layout t used context at variables (Called FaultExit) (Some (Read to file most otherwise)) =
     row_waits place (row_of variables file) _ (λ row. tt)
-inside_waits place layout t used counters at variables Granted (Some (Read to file most otherwise)) = tt
-inside_waits place layout t used counters at variables Loaded (Some (Write file number otherwise)) =
+inside_waits place layout t used context at variables Granted (Some (Read to file most otherwise)) = tt
+inside_waits place layout t used context at variables Loaded (Some (Write file number otherwise)) =
     row_waits place (row_of variables file) _ (λ row. tt)
-inside_waits place layout t used counters at variables Lent (Some (Write file number otherwise)) = tt
-inside_waits place layout t used counters at variables (Called Success) (Some (Write file number otherwise)) =
+inside_waits place layout t used context at variables Lent (Some (Write file number otherwise)) = tt
+inside_waits place layout t used context at variables (Called Success) (Some (Write file number otherwise)) =
     row_waits place (row_of variables file) _ (λ row. tt)
-inside_waits place layout t used counters at variables (Called FaultExit) (Some (Write file number otherwise)) =
+inside_waits place layout t used context at variables (Called FaultExit) (Some (Write file number otherwise)) =
     row_waits place (row_of variables file) _ (λ row. tt)
-inside_waits place layout t used counters at variables stage i = tt
+inside_waits place layout t used context at variables stage i = tt
 
 dispatch_waits : (layout : Layout) (t used : ℕ) (code : List Instr) (place : Place)
     → WaitsAt place (dispatch layout t used code place)
 dispatch_waits layout t used code Exiting = tt
+dispatch_waits layout t used code (Stopping (Some row) calls) = tt
+dispatch_waits layout t used code (Stopping None calls) =
+    give_up_decides (WaitsAt (Stopping None calls)) tt (λ row depth v after. tt) calls
 dispatch_waits layout t used code (Idle zero) = tt
 dispatch_waits layout t used code (Idle (suc left)) =
-    instruction_waits layout t used (Idle (suc left)) (first_counters left) 0 entry_variables (slice_get code 0)
-dispatch_waits layout t used code (InCall counters at variables) =
-    instruction_waits layout t used (InCall counters at variables) counters at variables (slice_get code at)
-dispatch_waits layout t used code (Inside counters at variables stage) =
-    inside_waits (Inside counters at variables stage) layout t used counters at variables stage (slice_get code at)
+    instruction_waits layout t used (Idle (suc left)) (first_context left) 0 entry_variables (slice_get code 0)
+dispatch_waits layout t used code (InCall context at variables) =
+    instruction_waits layout t used (InCall context at variables) context at variables (slice_get code at)
+dispatch_waits layout t used code (Inside context at variables stage) =
+    inside_waits (Inside context at variables stage) layout t used context at variables stage (slice_get code at)
 
 -- A thread waits with an empty agenda.
 abbrev WaitsIdly : StepActor → Action → Type 0
@@ -207,6 +211,7 @@ tried_stays w t a exit (Does (LockGate y) rest place) found waits locked =
     ∙ written_load w.memory (Gate y) b) in
     λ i. record {
       functions = w.functions;
+      states = w.states;
       layout = w.layout;
       memory = memory i;
       actors = actors i;
@@ -220,8 +225,8 @@ pub waiting_stays : (p : Module) (w : World) (t : ℕ) (a : StepActor) → IsRea
 waiting_stays p w t a here found locked =
     let plain = ((reached_code p w here).coded t a (reached_found p w t a here found)).plain in
     let still : (exit : Exit)
-    → world_of (machine_by (machine_of w) t a exit (action_of w.functions w.layout t a Ok)) ≡ w =
-    λ exit. tried_stays w t a exit (action_of w.functions w.layout t a Ok) found
+    → world_of (machine_by (machine_of w) t a exit (action_of w.functions w.states w.layout t a Ok)) ≡ w =
+    λ exit. tried_stays w t a exit (action_of w.functions w.states w.layout t a Ok) found
     (status_waits w.functions w.layout t a a.actor.status plain) locked in (
       ap (λ (o : Option StepActor). world_of (after (machine_of w) t Ok o)) found ∙ still (exit_of Ok),
       ap (λ (o : Option StepActor). world_of (after (machine_of w) t Fault o)) found ∙ still (exit_of Fault),

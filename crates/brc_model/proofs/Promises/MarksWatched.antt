@@ -135,7 +135,7 @@ all_watched : (p : Module) (n : ℕ) (m : StepMachine) → CodeInvariant p n m �
 all_watched p n m whole = λ x set. mark_watched whole.accounts n (counting m) x whole.kept.core set
 
 pub marks_watched : (p : Module) → IsModule p → IsAcceptable p → Always MarksWatched p
-marks_watched p fits accepted = λ rows calls events some most are_calls.
+marks_watched p fits accepted = λ states rows calls events states_true some most are_calls.
     let n = 1 + length calls in
-    all_watched p n _ (code_invariant_after p n (first_machine p rows calls) events
-    (first_code_invariant p rows calls fits accepted are_calls some most))
+    all_watched p n _ (code_invariant_after p n (first_machine p states rows calls) events
+    (first_code_invariant p states rows calls fits accepted states_true are_calls some most))

@@ -22,9 +22,9 @@ use Rattle.brc_model.specs.KnownKinds.{KindsStay}
 pub always : (P : StepMachine → Type 0) → ((p : Module) (n : ℕ) (m : StepMachine) → CodeInvariant p n m → P m)
     → (p : Module)
     → IsModule p → IsAcceptable p → Always P p
-always P holds p fits accepted = λ rows calls events some most are_calls.
-    holds p (1 + length calls) _ (code_invariant_after p (1 + length calls) (first_machine p rows calls) events
-    (first_code_invariant p rows calls fits accepted are_calls some most))
+always P holds p fits accepted = λ states rows calls events states_true some most are_calls.
+    holds p (1 + length calls) _ (code_invariant_after p (1 + length calls) (first_machine p states rows calls) events
+    (first_code_invariant p states rows calls fits accepted states_true are_calls some most))
 
 -- What both layers of the invariant imply of each event holds in every such machine.
 pub at_each_event : (P : StepMachine → ℕ × Choice → Type 0)

@@ -1,9 +1,11 @@
 -- The invariant implies what an accepted module promises, so each accepted module is safe.
-use Rattle.std.proofs.Common.{◌≡◌, ℕ, ◌+◌, ◌<◌, true, List, inl, length, refl, ap, ◌∙◌, subst, arith, ◌≤◌}
+use Rattle.std.proofs.Common.{◌≡◌, ℕ, ◌+◌, ◌<◌, true, List, inl, length, refl, ap, ◌∙◌, subst, arith, ◌≤◌, Option}
 use Rattle.brc_lang.specs.declared.module.Module.{Module}
 use Rattle.brc_lang.specs.Grammar.{IsModule}
 use Rattle.brc_model.specs.declared.thread.Call.{Call}
+use Rattle.brc_model.specs.declared.slot.State.{State}
 use Rattle.brc_model.specs.Paths.{IsAcceptable}
+use Rattle.brc_model.specs.Tables.{AreTrueWhereReached}
 use Rattle.brc_model.specs.declared.address.Address.TheVariants.{ThreadWord}
 use Rattle.brc_model.specs.declared.actor.Status.{Status}
 use Rattle.brc_model.specs.declared.actor.Status.TheVariants.{Running, Leaving, Gone}
@@ -78,22 +80,24 @@ safe_now p n m whole some = record {
 }
 
 -- Both layers of the invariant hold of the first machine.
-pub first_code_invariant : (m : Module) (rows : ℕ) (calls : List Call) → IsModule m → IsAcceptable m → AreCalls m calls
-    → 0 < rows → rows ≤ row_limit → CodeInvariant m (1 + length calls) (first_machine m rows calls)
-first_code_invariant m rows calls fits accepted are_calls some few = record {
+pub first_code_invariant : (m : Module) (states : ℕ → ℕ → Option State) (rows : ℕ) (calls : List Call) → IsModule m
+    → IsAcceptable m → AreTrueWhereReached m states → AreCalls m calls → 0 < rows → rows ≤ row_limit
+    → CodeInvariant m (1 + length calls) (first_machine m states rows calls)
+first_code_invariant m states rows calls fits accepted states_true are_calls some few = record {
   accounts = first_accounts;
-  kept = first_kept m rows calls are_calls some few;
+  kept = first_kept m states rows calls are_calls some few;
   functions = refl;
+  states_true = states_true;
   mortal = refl;
-  kinds = first_holds m rows calls;
-  items = first_items m rows calls;
-  rooms = first_rooms m rows calls;
+  kinds = first_holds m states rows calls;
+  items = first_items m states rows calls;
+  rooms = first_rooms m states rows calls;
   coded = λ t a is. first_coded m calls t a fits accepted are_calls is;
 }
 
 -- Each acceptable module is safe.
 pub accepted_is_safe : (m : Module) → IsModule m → IsAcceptable m → Safe m
-accepted_is_safe m fits accepted = λ rows calls events some most are_calls.
-    let whole = first_code_invariant m rows calls fits accepted are_calls some most in
+accepted_is_safe m fits accepted = λ states rows calls events states_true some most are_calls.
+    let whole = first_code_invariant m states rows calls fits accepted states_true are_calls some most in
     safe_now m (1 + length calls) _
-    (code_invariant_after m (1 + length calls) (first_machine m rows calls) events whole) (omega arith)
+    (code_invariant_after m (1 + length calls) (first_machine m states rows calls) events whole) (omega arith)

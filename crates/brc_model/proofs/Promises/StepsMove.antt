@@ -1,13 +1,13 @@
 -- Which steps change the world: every step of a thread that isn't gone, except for a claim that isn't allowed or finds
 -- no mark, and for a lock that another thread holds (`LocksWait`).
-use Rattle.std.proofs.Common.{◌≡◌, ◌≢◌, ℕ, ◌+◌, Bool, true, false, cond, List, [], ◌∷◌, ◌++◌, length, inl, inr, Option, Some, refl, sym, ap, ◌∙◌, subst, ◌⊎◌}
-use Rattle.std.specs.Prelude.{◌==◌, slice_get, slice_set}
+use Rattle.std.proofs.Common.{◌≡◌, ◌≢◌, ℕ, ◌+◌, Bool, true, false, cond, List, [], ◌∷◌, ◌++◌, length, inl, inr, Option, Some, refl, sym, ap, ◌∙◌, subst, ◌⊎◌, zero, suc, None}
+use Rattle.std.specs.Prelude.{◌==◌, slice_get, slice_set, map}
 use Rattle.std.proofs.Math.Path.{fun_ext}
 use Rattle.std.proofs.lemmas.Option.{slice_get_within}
 use Rattle.std.proofs.lemmas.Bool.{eqb-true, not-false}
 use Rattle.brc_lang.specs.declared.module.Module.{Module}
 use Rattle.brc_model.specs.declared.thread.Choice.{Choice}
-use Rattle.brc_model.specs.declared.thread.Choice.TheVariants.{Ok, Fault, Claim}
+use Rattle.brc_model.specs.declared.thread.Choice.TheVariants.{Ok, Fault, Claim, Stop}
 use Rattle.brc_word.specs.Words.{free_word}
 use Rattle.brc_model.specs.Threads.{code_of}
 use Rattle.brc_model.specs.declared.duty.Reason.TheVariants.{Handed}
@@ -22,12 +22,12 @@ use Rattle.brc_model.specs.declared.actor.Place.{Place}
 use Rattle.brc_model.specs.Machine.{is_running, written}
 use Rattle.brc_model.specs.declared.slot.Exit.{Exit}
 use Rattle.brc_model.specs.declared.slot.Exit.TheVariants.{Success}
-use Rattle.brc_model.specs.Actions.{StepActor, Action, Skip, Stuck, Silent, Calls, Does, always, may_claim, agenda_action, status_action, exit_of, action_of}
+use Rattle.brc_model.specs.Actions.{StepActor, Action, Skip, Stuck, Silent, Calls, Does, always, may_claim, agenda_action, status_action, exit_of, action_of, is_before_instruction, may_stop, stop_action, stop_in_call, row_locked, owned_rows, none_of}
 use Rattle.brc_model.specs.StepMachine.{StepMachine, of_thread, at_place, step_actor, does_by, machine_by, next_machine, first_machine, machine_after}
 use Rattle.brc_model.specs.World.{World, world_of, machine_of, step, finds_locked, waits_for_lock, IsReachable}
 use Rattle.brc_model.proofs.Basics.Lists.{some_is, slice_get-set_same, set_found}
 use Rattle.brc_model.proofs.Basics.Written.{written_here, written_load}
-use Rattle.brc_model.proofs.Dispatch.Claims.{claimer, gone_claims_none}
+use Rattle.brc_model.proofs.Dispatch.Claims.{claimer, gone_claims_none, stopper, gone_stops_not}
 use Rattle.brc_model.proofs.Dispatch.Actions.{ActionFits, action_fits}
 use Rattle.brc_model.specs.Accounts.{Accounts}
 use Rattle.brc_model.proofs.Keeping.CodeInvariant.{CodeInvariant}
@@ -41,6 +41,9 @@ use Rattle.brc_model.proofs.Promises.Emptied.{chain_empty}
 use Rattle.brc_lang.specs.Grammar.{IsModule}
 use Rattle.brc_lang.specs.declared.module.Function.{Function}
 use Rattle.brc_model.specs.declared.layout.Layout.{Layout}
+use Rattle.brc_model.proofs.Dispatch.Decided.{stopping_decides, stop_decides}
+use Rattle.brc_model.specs.declared.actor.Place.TheVariants.{Idle, InCall, Inside, Stopping, Exiting}
+use Rattle.brc_model.specs.declared.slot.State.{State}
 
 -- ---- a thread that isn't gone
 
@@ -121,7 +124,8 @@ action_moves p c n m t a exit (Does d rest place) found free fits moves =
 
 -- The machine after an event of the thread.
 abbrev pub after : StepMachine → ℕ → Choice → Option StepActor → StepMachine
-after m t choice o = of_thread m (λ a. machine_by m t a (exit_of choice) (action_of m.functions m.layout t a choice)) o
+after m t choice o = of_thread m (λ a. machine_by m t a (exit_of choice)
+    (action_of m.functions m.states m.layout t a choice)) o
 
 abbrev BothMove : World → ℕ → Type 0
 BothMove w t = (step w t Ok ≢ w) × (step w t Fault ≢ w)
@@ -133,8 +137,8 @@ machine_moves p n m t a whole is_module turns found alive free =
     let fits = code_here p m a.function is_module turns in
     let all = turns.counts t a found in
     let acting : (exit : Exit)
-    → world_of (machine_by m t a exit (action_of m.functions m.layout t a Ok)) ≢ world_of m =
-    λ exit. action_moves p whole.accounts n m t a exit (action_of m.functions m.layout t a Ok) found free
+    → world_of (machine_by m t a exit (action_of m.functions m.states m.layout t a Ok)) ≢ world_of m =
+    λ exit. action_moves p whole.accounts n m t a exit (action_of m.functions m.states m.layout t a Ok) found free
     (action_fits p n m t a Ok whole found) (status_moves_on m.functions m.layout t a a.actor.status alive fits all) in
     let by_ok : world_of (next_machine m (t, Ok)) ≢ world_of m =
     subst (λ (o : Option StepActor). world_of (after m t Ok o) ≢ world_of m) (sym found) (acting (exit_of Ok)) in
@@ -144,26 +148,30 @@ machine_moves p n m t a whole is_module turns found alive free =
 
 -- The machine of a reachable world has both layers of the invariant.
 pub reached_code : (p : Module) (w : World) → (here : IsReachable p w)
-    → CodeInvariant p (1 + length here.calls) (machine_after (first_machine p here.rows here.calls) here.events)
+    → CodeInvariant p (1 + length here.calls)
+    (machine_after (first_machine p here.states here.rows here.calls) here.events)
 reached_code p w here =
-    code_invariant_after p (1 + length here.calls) (first_machine p here.rows here.calls) here.events
-    (first_code_invariant p here.rows here.calls here.fits here.accepted here.calls_fit here.some_rows here.most_rows)
+    code_invariant_after p (1 + length here.calls) (first_machine p here.states here.rows here.calls) here.events
+    (first_code_invariant p here.states here.rows here.calls here.fits here.accepted here.states_true here.calls_fit
+    here.some_rows here.most_rows)
 
 reached_turns : (p : Module) (w : World) → (here : IsReachable p w)
-    → TurnsHold p (machine_after (first_machine p here.rows here.calls) here.events)
+    → TurnsHold p (machine_after (first_machine p here.states here.rows here.calls) here.events)
 reached_turns p w here =
-    turns_after p (first_machine p here.rows here.calls) here.events here.fits (first_turns p here.rows here.calls)
+    turns_after p (first_machine p here.states here.rows here.calls) here.events here.fits
+    (first_turns p here.states here.rows here.calls)
 
 pub reached_found : (p : Module) (w : World) (t : ℕ) (a : StepActor) → (here : IsReachable p w)
     → slice_get w.actors t ≡ Some a
-    → slice_get (machine_after (first_machine p here.rows here.calls) here.events).actors t ≡ Some a
+    → slice_get (machine_after (first_machine p here.states here.rows here.calls) here.events).actors t ≡ Some a
 reached_found p w t a here found = ap (λ (v : World). slice_get v.actors t) (sym here.reached) ∙ found
 
 pub going_on_moves : (p : Module) (w : World) (t : ℕ) (a : StepActor) → IsReachable p w → slice_get w.actors t ≡ Some a
     → a.actor.status ≢ Gone → waits_for_lock w t a ≡ false → (step w t Ok ≢ w) × (step w t Fault ≢ w)
 going_on_moves p w t a here found alive free =
     subst (λ (v : World). BothMove v t) (sym here.reached)
-    (machine_moves p (1 + length here.calls) (machine_after (first_machine p here.rows here.calls) here.events) t a
+    (machine_moves p (1 + length here.calls)
+    (machine_after (first_machine p here.states here.rows here.calls) here.events) t a
     (reached_code p w here) here.fits (reached_turns p w here) (reached_found p w t a here found) alive
     (subst (λ (v : World). waits_for_lock v t a ≡ false) here.reached free))
 
@@ -224,6 +232,7 @@ miss_stays w t a row found rest empty none =
     let memory = unmarked_stays w.memory row none in
     λ i. record {
       functions = w.functions;
+      states = w.states;
       layout = w.layout;
       memory = memory i;
       actors = actors i;
@@ -238,22 +247,87 @@ claim_misses p w t a row here found may none =
     let rest = (claimer w.layout t a row may).agenda in
     let there = reached_found p w t a here found in
     claim_is w t a row true found may
-    ∙ miss_stays w t a row found rest (chain_empty p here.rows here.calls here.events t a there rest) none
+    ∙ miss_stays w t a row found rest (chain_empty p here.states here.rows here.calls here.events t
+    (claimer w.layout t a row may).left a here.fits there
+    rest (claimer w.layout t a row may).idle) none
 
 pub claim_stays : (w : World) (t : ℕ) (a : StepActor) (row : ℕ) → slice_get w.actors t ≡ Some a
     → may_claim w.layout t a row ≡ false → step w t (Claim row) ≡ w
 claim_stays w t a row found may = claim_is w t a row false found may
 
+-- ---- stops
+
+-- The action of a stop.
+abbrev stopped : World → StepActor → Bool → Action
+stopped w a may = cond may (stop_action (w.states a.function) a.place) Skip
+
+stop_is : (w : World) (t : ℕ) (a : StepActor) (may : Bool) → slice_get w.actors t ≡ Some a → may_stop a ≡ may
+    → step w t Stop ≡ world_of (machine_by (machine_of w) t a Success (stopped w a may))
+stop_is w t a may found is =
+    ap (λ (o : Option StepActor). world_of (after (machine_of w) t Stop o)) found
+    ∙ ap (λ (b : Bool). world_of (machine_by (machine_of w) t a Success (stopped w a b))) is
+
+-- A stop that acts leads the thread to another place.
+stop_elsewhere : (states : ℕ → Option State) (place : Place) → is_before_instruction place ≡ true
+    → IsElsewhere place (stop_action states place)
+stop_elsewhere states (Idle zero) before = absurd cc
+stop_elsewhere states (Idle (suc left)) before = λ e. cc
+stop_elsewhere states (InCall context at variables) before =
+    elim (states at) as (λ o. IsElsewhere (InCall context at variables) (stop_in_call context variables o)) [
+      | None ↦ tt
+      | Some s ↦
+          stopping_decides (λ (next : Place). next ≢ InCall context at variables) (row_locked s.locked variables)
+          (owned_rows s.slots variables ∷ map none_of context.outer) (λ e. cc) (λ e. cc)
+    ]
+stop_elsewhere states (Inside context at variables stage) before = absurd cc
+stop_elsewhere states (Stopping lock calls) before = absurd cc
+stop_elsewhere states Exiting before = absurd cc
+
+-- A thread that stops takes no lock.
+stop_free : (memory : Address → ℕ) (states : ℕ → Option State) (place : Place)
+    → finds_locked memory (stop_action states place) ≡ false
+stop_free memory states place =
+    stop_decides (λ (x : Action). finds_locked memory x ≡ false) states place refl refl (λ lock calls. refl) refl
+
+pub world_stops : (m : StepMachine) (t : ℕ) (a : StepActor) → slice_get m.actors t ≡ Some a → may_stop a ≡ true
+    → step (world_of m) t Stop ≡ world_of (machine_by m t a Success (stop_action (m.states a.function) a.place))
+world_stops m t a found may =
+    sym (worlds_follow m (t, Stop)) ∙ ap (λ (o : Option StepActor). world_of (after m t Stop o)) found
+    ∙ ap (λ (b : Bool). world_of (machine_by m t a Success (stopped (world_of m) a b))) may
+
+stop_moves_in : (p : Module) (n : ℕ) (m : StepMachine) (t : ℕ) (a : StepActor) → CodeInvariant p n m
+    → slice_get m.actors t ≡ Some a → may_stop a ≡ true → step (world_of m) t Stop ≢ world_of m
+stop_moves_in p n m t a whole found may e =
+    let x = stop_action (m.states a.function) a.place in
+    let fits = subst (λ (b : Bool). ActionFits p whole.accounts n m t a (cond b x Skip)) may
+    (action_fits p n m t a Stop whole found) in
+    action_moves p whole.accounts n m t a Success x found (stop_free m.memory (m.states a.function) a.place) fits
+    (elsewhere_moves a x (stop_elsewhere (m.states a.function) a.place (stopper a may).before))
+    (sym (world_stops m t a found may) ∙ e)
+
+pub stop_moves : (p : Module) (w : World) (t : ℕ) (a : StepActor) → IsReachable p w → slice_get w.actors t ≡ Some a
+    → may_stop a ≡ true → step w t Stop ≢ w
+stop_moves p w t a here found may =
+    subst (λ (v : World). step v t Stop ≢ v) (sym here.reached)
+    (stop_moves_in p (1 + length here.calls)
+    (machine_after (first_machine p here.states here.rows here.calls) here.events) t a
+    (reached_code p w here) (reached_found p w t a here found) may)
+
+pub stop_stays : (w : World) (t : ℕ) (a : StepActor) → slice_get w.actors t ≡ Some a → may_stop a ≡ false
+    → step w t Stop ≡ w
+stop_stays w t a found may = stop_is w t a false found may
+
 -- ---- a thread that is gone
 
 pub gone_stays : (w : World) (t : ℕ) (a : StepActor) (row : ℕ) → slice_get w.actors t ≡ Some a → a.actor.status ≡ Gone
-    → (step w t Ok ≡ w) × (step w t Fault ≡ w) × (step w t (Claim row) ≡ w)
+    → (step w t Ok ≡ w) × (step w t Fault ≡ w) × (step w t (Claim row) ≡ w) × (step w t Stop ≡ w)
 gone_stays w t a row found gone =
     let still : (exit : Exit)
-    → world_of (machine_by (machine_of w) t a exit (action_of w.functions w.layout t a Ok)) ≡ w =
+    → world_of (machine_by (machine_of w) t a exit (action_of w.functions w.states w.layout t a Ok)) ≡ w =
     λ exit. ap (λ (s : Status). world_of (machine_by (machine_of w) t a exit
     (status_action w.functions w.layout t a s))) gone in (
       ap (λ (o : Option StepActor). world_of (after (machine_of w) t Ok o)) found ∙ still (exit_of Ok),
       ap (λ (o : Option StepActor). world_of (after (machine_of w) t Fault o)) found ∙ still (exit_of Fault),
       claim_stays w t a row found (gone_claims_none w.layout t a row gone),
+      stop_stays w t a found (gone_stops_not a gone),
     )

@@ -13,37 +13,41 @@ use Rattle.brc_model.specs.Trace.{WordEvent, MakesStep, GoesSilently, CallsHost,
 use Rattle.brc_model.proofs.Basics.Lists.{some_is, slice_get-set_same, slice_get-set_other}
 use Rattle.brc_model.proofs.Stepping.Neutral.{found_by}
 use Rattle.brc_model.specs.declared.layout.Layout.{Layout}
+use Rattle.brc_model.specs.declared.slot.State.{State}
 
 -- ---- an event of the thread
 
 -- At an event the thread is unchanged, or takes one of its automaton's steps.
-data Went (functions : List Function) (layout : Layout) (t : ℕ) (a : StepActor) (made : List WordEvent)
+data Went (functions : List Function) (states : ℕ → ℕ → Option State) (layout : Layout) (t : ℕ) (a : StepActor)
+    (made : List WordEvent)
     (b : StepActor) : Type 0 where
-  Stays : b ≡ a → made ≡ [] → Went functions layout t a made b
-  Steps : MakesStep functions layout t a made b → Went functions layout t a made b
+  Stays : b ≡ a → made ≡ [] → Went functions states layout t a made b
+  Steps : MakesStep functions states layout t a made b → Went functions states layout t a made b
 
 record Goes (m new : StepMachine) (t : ℕ) (a : StepActor) (made : List WordEvent) : Type 0 where
   functions : new.functions ≡ m.functions
+  states : new.states ≡ m.states
   layout : new.layout ≡ m.layout
   after : StepActor
   is_there : slice_get new.actors t ≡ Some after
-  went : Went m.functions m.layout t a made after
+  went : Went m.functions m.states m.layout t a made after
 
 stays_there : (m : StepMachine) (t : ℕ) (a : StepActor) → slice_get m.actors t ≡ Some a → Goes m m t a []
 stays_there m t a found =
-    record { functions = refl; layout = refl; after = a; is_there = found; went = Stays refl refl }
+    record { functions = refl; states = refl; layout = refl; after = a; is_there = found; went = Stays refl refl }
 
 set_goes : (m : StepMachine) (t : ℕ) (a b : StepActor) → slice_get m.actors t ≡ Some a
     → slice_get (set m.actors t b) t ≡ Some b
 set_goes m t a b found = slice_get-set_same m.actors t b (slice_get_within m.actors t a found)
 
 action_goes : (m : StepMachine) (t : ℕ) (a : StepActor) (choice : Choice) (x : Action) → slice_get m.actors t ≡ Some a
-    → action_of m.functions m.layout t a choice ≡ x
+    → action_of m.functions m.states m.layout t a choice ≡ x
     → Goes m (machine_by m t a (exit_of choice) x) t a (made_by m t a x)
 action_goes m t a choice Skip found is = stays_there m t a found
 action_goes m t a choice Stuck found is = stays_there m t a found
 action_goes m t a choice (Silent moves place) found is = record {
   functions = refl;
+  states = refl;
   layout = refl;
   after = at_place a place;
   is_there = set_goes m t a (at_place a place) found;
@@ -51,6 +55,7 @@ action_goes m t a choice (Silent moves place) found is = record {
 }
 action_goes m t a choice (Calls row place) found is = record {
   functions = refl;
+  states = refl;
   layout = refl;
   after = at_place a (place (exit_of choice));
   is_there = set_goes m t a (at_place a (place (exit_of choice))) found;
@@ -61,6 +66,7 @@ action_goes m t a choice (Does d rest place) found is =
     let after = step_actor m.layout t a d rest (place word) word in
     record {
       functions = refl;
+      states = refl;
       layout = refl;
       after = after;
       is_there = set_goes m t a after found;
@@ -71,40 +77,55 @@ action_goes m t a choice (Does d rest place) found is =
 
 pub record LeavesAt (m new : StepMachine) (t : ℕ) : Type 0 where
   pub functions : new.functions ≡ m.functions
+  pub states : new.states ≡ m.states
   pub layout : new.layout ≡ m.layout
   pub actor : slice_get new.actors t ≡ slice_get m.actors t
 
 leaves_all : (m : StepMachine) (t : ℕ) → LeavesAt m m t
-leaves_all m t = record { functions = refl; layout = refl; actor = refl }
+leaves_all m t = record { functions = refl; states = refl; layout = refl; actor = refl }
 
 action_leaves : (m : StepMachine) (u t : ℕ) (a : StepActor) (exit : Exit) (x : Action) → t ≢ u
     → LeavesAt m (machine_by m u a exit x) t
 action_leaves m u t a exit Skip ne = leaves_all m t
 action_leaves m u t a exit Stuck ne = leaves_all m t
 action_leaves m u t a exit (Silent moves place) ne =
-    record { functions = refl; layout = refl; actor = slice_get-set_other m.actors u t (at_place a place) ne }
+    record {
+      functions = refl;
+      states = refl;
+      layout = refl;
+      actor = slice_get-set_other m.actors u t
+          (at_place a place) ne;
+    }
 action_leaves m u t a exit (Calls row place) ne =
-    record { functions = refl; layout = refl; actor = slice_get-set_other m.actors u t (at_place a (place exit)) ne }
+    record {
+      functions = refl;
+      states = refl;
+      layout = refl;
+      actor = slice_get-set_other m.actors u t
+          (at_place a (place exit)) ne;
+    }
 action_leaves m u t a exit (Does d rest place) ne =
     let word = found_by (counting m) u a.actor d in
     record {
       functions = refl;
+      states = refl;
       layout = refl;
       actor = slice_get-set_other m.actors u t (step_actor m.layout u a d rest (place word) word) ne;
     }
 
 -- The machine after an event of the thread.
 abbrev after : StepMachine → ℕ → Choice → Option StepActor → StepMachine
-after m t choice o = of_thread m (λ a. machine_by m t a (exit_of choice) (action_of m.functions m.layout t a choice)) o
+after m t choice o = of_thread m (λ a. machine_by m t a (exit_of choice)
+    (action_of m.functions m.states m.layout t a choice)) o
 
 abbrev made : StepMachine → ℕ → Choice → Option StepActor → List WordEvent
-made m t choice o = of_thread [] (λ a. made_by m t a (action_of m.functions m.layout t a choice)) o
+made m t choice o = of_thread [] (λ a. made_by m t a (action_of m.functions m.states m.layout t a choice)) o
 
 pub thread_leaves : (m : StepMachine) (u t : ℕ) (choice : Choice) (o : Option StepActor) → t ≢ u
     → LeavesAt m (after m u choice o) t
 thread_leaves m u t choice None ne = leaves_all m t
 thread_leaves m u t choice (Some a) ne = action_leaves m u t a (exit_of choice)
-    (action_of m.functions m.layout u a choice) ne
+    (action_of m.functions m.states m.layout u a choice) ne
 
 -- ---- any event
 
@@ -115,6 +136,7 @@ other_goes m event t a found ne =
     let leaves = thread_leaves m event.0 t event.1 (slice_get m.actors event.0) ne in
     record {
       functions = leaves.functions;
+      states = leaves.states;
       layout = leaves.layout;
       after = a;
       is_there = leaves.actor ∙ found;
@@ -124,7 +146,7 @@ other_goes m event t a found ne =
 own_goes : (m : StepMachine) (event : ℕ × Choice) (t : ℕ) (a : StepActor) → slice_get m.actors t ≡ Some a → event.0 ≡ t
     → Goes m (next_machine m event) t a (made m t event.1 (slice_get m.actors t))
 own_goes m event t a found same =
-    let own = action_goes m t a event.1 (action_of m.functions m.layout t a event.1) found refl in
+    let own = action_goes m t a event.1 (action_of m.functions m.states m.layout t a event.1) found refl in
     let at_slot : Goes m (after m t event.1 (slice_get m.actors t)) t a
     (made m t event.1 (slice_get m.actors t)) =
     subst (λ (o : Option StepActor). Goes m (after m t event.1 o) t a (made m t event.1 o)) (sym found) own in
@@ -147,29 +169,34 @@ event_goes m event t a found =
 
 -- ---- a list of events
 
-then_make : (functions : List Function) (layout : Layout) (t : ℕ) (a b c : StepActor) (made rest : List WordEvent)
-    → Went functions layout t a made b → CanMake functions layout t b rest c
-    → CanMake functions layout t a (made ++ rest) c
-then_make functions layout t a b c made rest (Steps step) can = Then a b c made rest step can
-then_make functions layout t a b c made rest (Stays same none) can =
-    subst (λ (l : List WordEvent). CanMake functions layout t a (l ++ rest) c) (sym none)
-    (subst (λ (x : StepActor). CanMake functions layout t x rest c) same can)
+then_make : (functions : List Function) (states : ℕ → ℕ → Option State) (layout : Layout) (t : ℕ) (a b c : StepActor)
+    (made rest : List WordEvent)
+    → Went functions states layout t a made b → CanMake functions states layout t b rest c
+    → CanMake functions states layout t a (made ++ rest) c
+then_make functions states layout t a b c made rest (Steps step) can = Then a b c made rest step can
+then_make functions states layout t a b c made rest (Stays same none) can =
+    subst (λ (l : List WordEvent). CanMake functions states layout t a (l ++ rest) c) (sym none)
+    (subst (λ (x : StepActor). CanMake functions states layout t x rest c) same can)
 
 -- What a thread does with words along a list of events is what its automaton can do.
 pub traces_made : (m : StepMachine) (events : List (ℕ × Choice)) (t : ℕ) (a b : StepActor)
     → slice_get m.actors t ≡ Some a
-    → slice_get (machine_after m events).actors t ≡ Some b → CanMake m.functions m.layout t a (events_on t m events) b
+    → slice_get (machine_after m events).actors t ≡ Some b → CanMake m.functions m.states m.layout t a
+    (events_on t m events) b
 traces_made m [] t a b found ends =
-    subst (λ (c : StepActor). CanMake m.functions m.layout t a [] c) (some_is a b (sym found ∙ ends)) (Nothing a)
+    subst (λ (c : StepActor). CanMake m.functions m.states m.layout t a [] c) (some_is a b (sym found ∙ ends))
+    (Nothing a)
 traces_made m (event ∷ rest) t a b found ends =
     let goes = event_goes m event t a found in
     let behind = traces_made (next_machine m event) rest t goes.after b goes.is_there ends in
-    let by_functions : CanMake m.functions (next_machine m event).layout t goes.after
-    (events_on t (next_machine m event) rest) b =
-    subst (λ (f : List Function). CanMake f (next_machine m event).layout t goes.after
-    (events_on t (next_machine m event) rest) b) goes.functions behind in
-    let here : CanMake m.functions m.layout t goes.after (events_on t (next_machine m event) rest) b =
-    subst (λ (l : Layout). CanMake m.functions l t goes.after (events_on t (next_machine m event) rest) b) goes.layout
-    by_functions in
-    then_make m.functions m.layout t a goes.after b (made_at t m event) (events_on t (next_machine m event) rest)
-    goes.went here
+    let later = events_on t (next_machine m event) rest in
+    let by_functions : CanMake m.functions (next_machine m event).states (next_machine m event).layout t goes.after
+    later b =
+    subst (λ (f : List Function). CanMake f (next_machine m event).states (next_machine m event).layout t goes.after
+    later b) goes.functions behind in
+    let by_states : CanMake m.functions m.states (next_machine m event).layout t goes.after later b =
+    subst (λ (s : ℕ → ℕ → Option State). CanMake m.functions s (next_machine m event).layout t goes.after later b)
+    goes.states by_functions in
+    let here : CanMake m.functions m.states m.layout t goes.after later b =
+    subst (λ (l : Layout). CanMake m.functions m.states l t goes.after later b) goes.layout by_states in
+    then_make m.functions m.states m.layout t a goes.after b (made_at t m event) later goes.went here

@@ -9,28 +9,30 @@ use Rattle.brc_lang.specs.declared.module.Function.{Function}
 use Rattle.brc_lang.specs.declared.module.Module.{Module}
 use Rattle.brc_lang.specs.Grammar.{IsModule, IsFunction, LeadsForward}
 use Rattle.brc_word.specs.Words.{free_word}
+use Rattle.brc_model.specs.declared.slot.State.{State}
 use Rattle.brc_model.specs.declared.thread.Call.{Call}
 use Rattle.brc_model.specs.declared.thread.Choice.{Choice}
-use Rattle.brc_model.specs.declared.thread.Choice.TheVariants.{Ok, Fault, Claim}
+use Rattle.brc_model.specs.declared.thread.Choice.TheVariants.{Ok, Fault, Claim, Stop}
 use Rattle.brc_model.specs.declared.duty.Duty.{Duty}
 use Rattle.brc_model.specs.declared.duty.Duty.TheVariants.{LockGate, ClaimMark}
 use Rattle.brc_model.specs.declared.actor.Status.{Status}
 use Rattle.brc_model.specs.declared.actor.Status.TheVariants.{Running, Leaving, Gone}
-use Rattle.brc_model.specs.declared.actor.Counters.{Counters}
+use Rattle.brc_model.specs.declared.actor.Context.{Context}
 use Rattle.brc_model.specs.declared.actor.Place.{Place}
-use Rattle.brc_model.specs.declared.actor.Place.TheVariants.{Idle, InCall, Inside, Exiting}
+use Rattle.brc_model.specs.declared.actor.Place.TheVariants.{Idle, InCall, Inside, Stopping, Exiting}
 use Rattle.brc_model.specs.declared.layout.Layout.{Layout}
 use Rattle.brc_model.specs.Threads.{code_of, entry_variables}
-use Rattle.brc_model.specs.Actions.{StepActor, Action, Skip, Stuck, Silent, Calls, Does, always, first_counters, turns_at, may_claim, dispatch, agenda_action, status_action, exit_of, action_of}
+use Rattle.brc_model.specs.Actions.{StepActor, Action, Skip, Stuck, Silent, Calls, Does, always, first_context, turns_at, may_claim, dispatch, agenda_action, status_action, exit_of, action_of, may_stop, stop_action}
 use Rattle.brc_model.specs.declared.slot.Exit.{Exit}
 use Rattle.brc_model.specs.StepMachine.{StepMachine, main_actor, worker_actor, of_thread, machine_by, next_machine, first_machine, machine_after}
 use Rattle.brc_model.proofs.Basics.Lists.{either, some_is, none_some, slice_get-set_same, slice_get-set_other, slice_get-map, all_of_found}
 use Rattle.brc_model.proofs.Promises.Leading.{Leads, LeadsTo, HoldsAfter, HoldsBeyond, dispatch_leads}
+use Rattle.brc_model.proofs.Dispatch.Decided.{stopping_decides, stop_decides}
 
 -- ---- each place of a thread's action
 
 -- The property holds of each place to which the action leads, or at which it leaves a thread that waits.
-abbrev EachPlace : (Place → Type 0) → Action → Type 0
+abbrev pub EachPlace : (Place → Type 0) → Action → Type 0
 EachPlace P Skip = Unit {0}
 EachPlace P Stuck = Unit {0}
 EachPlace P (Silent moves next) = P next
@@ -46,7 +48,7 @@ leads_or_stays P place (LockGate x) found next here leads =
     ]
 leads_or_stays P place d found next here leads = leads
 
-each_place : (P : Place → Type 0) (place : Place) (x : Action) → P place → LeadsTo P place x → EachPlace P x
+pub each_place : (P : Place → Type 0) (place : Place) (x : Action) → P place → LeadsTo P place x → EachPlace P x
 each_place P place Skip here leads = tt
 each_place P place Stuck here leads = tt
 each_place P place (Silent moves next) here leads = leads
@@ -59,15 +61,16 @@ each_place P place (Does d rest next) here leads =
 -- In a call the thread counts the turns of 256 instructions.
 abbrev pub CountsTurns : Place → Type 0
 CountsTurns (Idle left) = Unit {0}
-CountsTurns (InCall counters at variables) = length counters.turns ≡ 256
-CountsTurns (Inside counters at variables stage) = length counters.turns ≡ 256
+CountsTurns (InCall context at variables) = length context.turns ≡ 256
+CountsTurns (Inside context at variables stage) = length context.turns ≡ 256
+CountsTurns (Stopping lock calls) = Unit {0}
 CountsTurns Exiting = Unit {0}
 
-counts_after : (code : List Instr) (counters : Counters) (at : ℕ) (variables : List (Option ℕ))
-    → length counters.turns ≡ 256 → HoldsAfter CountsTurns code counters at variables
-counts_after code counters at variables all = record {
+counts_after : (code : List Instr) (context : Context) (at : ℕ) (variables : List (Option ℕ))
+    → length context.turns ≡ 256 → HoldsAfter CountsTurns code context at variables
+counts_after code context at variables all = record {
   on = λ next later ahead. all;
-  back = λ to i is less. length-set counters.turns at (turns_at counters at + 1) ∙ all;
+  back = λ to i is less. length-set context.turns at (turns_at context at + 1) ∙ all;
   into = λ stage. all;
   ends = tt;
 }
@@ -76,10 +79,12 @@ pub counts_beyond : (code : List Instr) (place : Place) → CountsTurns place �
 counts_beyond code Exiting all = tt
 counts_beyond code (Idle zero) all = tt
 counts_beyond code (Idle (suc left)) all =
-    λ low. counts_after code (first_counters left) 0 entry_variables (length-replicate {A = ℕ} 256 0)
-counts_beyond code (InCall counters at variables) all = λ low. counts_after code counters at variables all
-counts_beyond code (Inside counters at variables stage) all =
+    λ low. counts_after code (first_context left) 0 entry_variables (length-replicate {A = ℕ} 256 0)
+counts_beyond code (InCall context at variables) all = λ low. counts_after code context at variables all
+counts_beyond code (Inside context at variables stage) all =
     record { on = λ next later ahead. all; into = λ further apart. all }
+counts_beyond code (Stopping (Some row) calls) all = stopping_decides CountsTurns None calls tt tt
+counts_beyond code (Stopping None calls) all = λ fewer less. stopping_decides CountsTurns None fewer tt tt
 
 agenda_counts : (functions : List Function) (layout : Layout) (t : ℕ) (a : StepActor) (agenda : List Duty)
     → LeadsForward (code_of (slice_get functions a.function)) → CountsTurns a.place
@@ -97,12 +102,18 @@ status_counts functions layout t a Gone forward all = tt
 status_counts functions layout t a Running forward all = agenda_counts functions layout t a a.actor.agenda forward all
 status_counts functions layout t a Leaving forward all = agenda_counts functions layout t a a.actor.agenda forward all
 
-action_counts : (functions : List Function) (layout : Layout) (t : ℕ) (a : StepActor) (choice : Choice)
+action_counts : (functions : List Function) (states : ℕ → ℕ → Option State) (layout : Layout) (t : ℕ) (a : StepActor)
+    (choice : Choice)
     → LeadsForward (code_of (slice_get functions a.function)) → CountsTurns a.place
-    → EachPlace CountsTurns (action_of functions layout t a choice)
-action_counts functions layout t a Ok forward all = status_counts functions layout t a a.actor.status forward all
-action_counts functions layout t a Fault forward all = status_counts functions layout t a a.actor.status forward all
-action_counts functions layout t a (Claim row) forward all =
+    → EachPlace CountsTurns (action_of functions states layout t a choice)
+action_counts functions states layout t a Ok forward all = status_counts functions layout t a a.actor.status forward all
+action_counts functions states layout t a Fault forward all = status_counts functions layout t a a.actor.status forward
+    all
+action_counts functions states layout t a Stop forward all =
+    either (EachPlace CountsTurns) (may_stop a) (stop_action (states a.function) a.place) Skip
+    (λ may. stop_decides (EachPlace CountsTurns) (states a.function) a.place tt tt
+    (λ lock calls. stopping_decides CountsTurns lock calls tt tt) tt) tt
+action_counts functions states layout t a (Claim row) forward all =
     either (EachPlace CountsTurns) (may_claim layout t a row) (Does (ClaimMark row) [] (always a.place)) Skip
     (λ may found. all) tt
 
@@ -162,11 +173,12 @@ action_holds p m t a exit (Does d rest place) holds found each =
 
 thread_holds : (p : Module) (m : StepMachine) (t : ℕ) (choice : Choice) (o : Option StepActor) → IsModule p
     → TurnsHold p m → slice_get m.actors t ≡ o
-    → TurnsHold p (of_thread m (λ a. machine_by m t a (exit_of choice) (action_of m.functions m.layout t a choice)) o)
+    → TurnsHold p (of_thread m (λ a. machine_by m t a (exit_of choice)
+    (action_of m.functions m.states m.layout t a choice)) o)
 thread_holds p m t choice None fits holds found = holds
 thread_holds p m t choice (Some a) fits holds found =
-    action_holds p m t a (exit_of choice) (action_of m.functions m.layout t a choice) holds found
-    (action_counts m.functions m.layout t a choice (code_here p m a.function fits holds).forward
+    action_holds p m t a (exit_of choice) (action_of m.functions m.states m.layout t a choice) holds found
+    (action_counts m.functions m.states m.layout t a choice (code_here p m a.function fits holds).forward
     (holds.counts t a found))
 
 pub turns_next : (p : Module) (m : StepMachine) (event : ℕ × Choice) → IsModule p → TurnsHold p m
@@ -186,5 +198,6 @@ first_counts calls (suc t) a is =
     let call = slice_get-map worker_actor calls t a is in
     subst (λ (x : StepActor). CountsTurns x.place) call.is_image tt
 
-pub first_turns : (p : Module) (rows : ℕ) (calls : List Call) → TurnsHold p (first_machine p rows calls)
-first_turns p rows calls = record { functions = refl; counts = first_counts calls }
+pub first_turns : (p : Module) (states : ℕ → ℕ → Option State) (rows : ℕ) (calls : List Call)
+    → TurnsHold p (first_machine p states rows calls)
+first_turns p states rows calls = record { functions = refl; counts = first_counts calls }

@@ -1,8 +1,9 @@
 -- Three schedules of the smallest module, with one worker that makes one call, by computation.
-use Rattle.std.proofs.Common.{◌≡◌, ℕ, List, [], ◌∷◌, ◌++◌, map, refl}
+use Rattle.std.proofs.Common.{◌≡◌, ℕ, List, [], ◌∷◌, ◌++◌, map, Option, None, refl}
 use Rattle.std.specs.Prelude.{replicate}
 use Rattle.brc_lang.specs.declared.module.Instr.TheVariants.{Fail}
 use Rattle.brc_lang.specs.declared.module.Module.{Module}
+use Rattle.brc_model.specs.declared.slot.State.{State}
 use Rattle.brc_model.specs.declared.thread.Call.{Call}
 use Rattle.brc_model.specs.declared.actor.Status.{Status}
 use Rattle.brc_model.specs.declared.actor.Status.TheVariants.{Running, Gone}
@@ -18,11 +19,14 @@ smallest = record { functions = record { name = 102 ∷ []; code = Fail ∷ [] }
 one_call : List Call
 one_call = record { function = 0; times = 1 } ∷ []
 
+no_states : ℕ → ℕ → Option State
+no_states number at = None
+
 steps : ℕ → ℕ → List (ℕ × Choice)
 steps n t = replicate n (t, Ok)
 
 after_events : List (ℕ × Choice) → StepMachine
-after_events events = machine_after (first_machine smallest 4 one_call) events
+after_events events = machine_after (first_machine smallest no_states 4 one_call) events
 
 statuses : StepMachine → List Status
 statuses m = map (λ (a : StepActor). a.actor.status) m.actors
@@ -32,15 +36,15 @@ mark_set : List (ℕ × Choice)
 mark_set = steps 5 1 ++ steps 40 0
 
 mark_set-life : (after_events mark_set).life 1 ≡ Closed
-unfolding smallest one_call steps after_events mark_set
+unfolding smallest no_states one_call steps after_events mark_set
 mark_set-life = refl
 
 mark_set-statuses : statuses (after_events mark_set) ≡ Gone ∷ Running ∷ []
-unfolding smallest one_call steps after_events mark_set statuses
+unfolding smallest no_states one_call steps after_events mark_set statuses
 mark_set-statuses = refl
 
 mark_set-done : statuses (after_events (mark_set ++ steps 10 1)) ≡ Gone ∷ Gone ∷ []
-unfolding smallest one_call steps after_events mark_set statuses
+unfolding smallest no_states one_call steps after_events mark_set statuses
 mark_set-done = refl
 
 -- The worker has queued the root and hasn't set its mark yet when main leaves. Main's exit finds no mark, and the
@@ -49,15 +53,15 @@ queued : List (ℕ × Choice)
 queued = steps 4 1 ++ steps 40 0
 
 queued-life : (after_events queued).life 1 ≡ Live
-unfolding smallest one_call steps after_events queued
+unfolding smallest no_states one_call steps after_events queued
 queued-life = refl
 
 queued-statuses : statuses (after_events queued) ≡ Gone ∷ Running ∷ []
-unfolding smallest one_call steps after_events queued statuses
+unfolding smallest no_states one_call steps after_events queued statuses
 queued-statuses = refl
 
 queued-closed : (after_events (queued ++ steps 40 1)).life 1 ≡ Closed
-unfolding smallest one_call steps after_events queued
+unfolding smallest no_states one_call steps after_events queued
 queued-closed = refl
 
 -- The worker has set the mark, and main looks into its queue before it leaves.
@@ -65,9 +69,9 @@ claimed : List (ℕ × Choice)
 claimed = steps 5 1 ++ (0, Claim 1) ∷ steps 40 0
 
 claimed-life : (after_events claimed).life 1 ≡ Closed
-unfolding smallest one_call steps after_events claimed
+unfolding smallest no_states one_call steps after_events claimed
 claimed-life = refl
 
 claimed-statuses : statuses (after_events (claimed ++ steps 10 1)) ≡ Gone ∷ Gone ∷ []
-unfolding smallest one_call steps after_events claimed statuses
+unfolding smallest no_states one_call steps after_events claimed statuses
 claimed-statuses = refl

@@ -30,13 +30,14 @@ flip_eqb x y = elim (y == x) as (λ b. (y == x) ≡ b → (x == y) ≡ b) [
 ] refl
 
 flip_holding : (h k : Holding) → same_holding k h ≡ same_holding h k
-flip_holding (ByVariable v) (ByVariable w) = flip_eqb w v
-flip_holding (ByVariable v) AsCaller = refl
-flip_holding (ByVariable v) InFlight = refl
-flip_holding AsCaller (ByVariable w) = refl
+flip_holding (ByVariable depth v) (ByVariable other w) =
+    ap (λ (b : Bool). b && (w == v)) (flip_eqb other depth) ∙ ap (λ (b : Bool). (depth == other) && b) (flip_eqb w v)
+flip_holding (ByVariable depth v) AsCaller = refl
+flip_holding (ByVariable depth v) InFlight = refl
+flip_holding AsCaller (ByVariable other w) = refl
 flip_holding AsCaller AsCaller = refl
 flip_holding AsCaller InFlight = refl
-flip_holding InFlight (ByVariable w) = refl
+flip_holding InFlight (ByVariable other w) = refl
 flip_holding InFlight AsCaller = refl
 flip_holding InFlight InFlight = refl
 

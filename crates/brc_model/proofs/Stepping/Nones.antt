@@ -88,9 +88,9 @@ lost_from t AsCaller x p =
     let r = reference_of t InFlight x in
     let rest = without (reference_of t AsCaller x) p.references in
     ap (λ (b : Bool). cond b rest (r ∷ without r rest)) (same-refl r)
-lost_from t (ByVariable v) x p =
+lost_from t (ByVariable depth v) x p =
     let r = reference_of t InFlight x in
-    let rest = without (reference_of t (ByVariable v) x) p.references in
+    let rest = without (reference_of t (ByVariable depth v) x) p.references in
     ap (λ (b : Bool). cond b rest (r ∷ without r rest)) (same-refl r)
 
 -- The thread fits after `ReleasesImmortal`.

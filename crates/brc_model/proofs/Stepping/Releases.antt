@@ -188,8 +188,8 @@ held_passed_on : (m : Machine) (t x : ℕ) (h : Holding) (rest later : List Duty
     → ((k : Holding) (object : ℕ) → lacks_of later k object ≡ false)
     → HeldStep m.abstract.references (moved m.abstract (put_in_flight t h x ++ [])).references t
     (ReleaseLoad x h ∷ rest) later
-held_passed_on m t x (ByVariable v) rest later has more less =
-    held_taken m.abstract.references t x (ByVariable v) rest later has more less
+held_passed_on m t x (ByVariable depth v) rest later has more less =
+    held_taken m.abstract.references t x (ByVariable depth v) rest later has more less
 held_passed_on m t x AsCaller rest later has more less =
     held_taken m.abstract.references t x AsCaller rest later has more less
 held_passed_on m t x InFlight rest later has more less =

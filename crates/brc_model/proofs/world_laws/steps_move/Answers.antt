@@ -1,4 +1,4 @@
-use Rattle.brc_model.proofs.Promises.StepsMove.{going_on_moves, claim_moves, claim_misses, claim_stays, gone_stays}
+use Rattle.brc_model.proofs.Promises.StepsMove.{going_on_moves, claim_moves, claim_misses, claim_stays, stop_moves, stop_stays, gone_stays}
 use Rattle.brc_model.proofs.Promises.LocksWait.{waiting_stays}
 use Rattle.brc_model.proofs.world_laws.steps_move.Goals as goal
 
@@ -16,6 +16,12 @@ returns-clause-misses c = claim_misses
 
 pub returns-clause-stays : goal.returns-clause-stays
 returns-clause-stays c = claim_stays
+
+pub returns-clause-stops : goal.returns-clause-stops
+returns-clause-stops c = stop_moves
+
+pub returns-clause-goes_past : goal.returns-clause-goes_past
+returns-clause-goes_past c = stop_stays
 
 pub returns-clause-gone : goal.returns-clause-gone
 returns-clause-gone c = gone_stays

@@ -4,6 +4,9 @@ use Rattle.brc_model.proofs.world_laws.worlds_are_small.Goals as goal
 pub returns-clause-functions : goal.returns-clause-functions
 returns-clause-functions c = within.same_functions
 
+pub returns-clause-states : goal.returns-clause-states
+returns-clause-states c = within.true_states
+
 pub returns-clause-some_threads : goal.returns-clause-some_threads
 returns-clause-some_threads c = within.some_threads
 

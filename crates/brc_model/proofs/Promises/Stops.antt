@@ -1,0 +1,69 @@
+-- Where a thread stops in a call, it has to unlock what it has locked, and to give up just what its variables own.
+use Rattle.std.proofs.Common.{◌≡◌, ℕ, true, List, ◌∷◌, length, Option, Some, refl, sym, ap, ◌∙◌, subst, ◌+◌}
+use Rattle.std.specs.Prelude.{map, slice_get}
+use Rattle.std.proofs.lemmas.Option.{slice_get_within}
+use Rattle.brc_lang.specs.declared.module.Module.{Module}
+use Rattle.brc_model.specs.declared.slot.State.{State}
+use Rattle.brc_model.specs.declared.actor.Context.{Context}
+use Rattle.brc_model.specs.declared.actor.Place.{Place}
+use Rattle.brc_model.specs.declared.actor.Place.TheVariants.{InCall}
+use Rattle.brc_model.specs.declared.slot.Exit.TheVariants.{Success}
+use Rattle.brc_model.specs.declared.thread.Choice.TheVariants.{Stop}
+use Rattle.brc_model.specs.Threads.{code_of}
+use Rattle.brc_model.specs.Actions.{StepActor, may_stop, stop_in_call, stop_action, stopping, owned_rows, none_of, row_locked}
+use Rattle.brc_model.specs.StepMachine.{StepMachine, at_place, machine_by, machine_after, first_machine}
+use Rattle.brc_model.specs.World.{World, world_of, step, IsReachable}
+use Rattle.brc_model.specs.StopLaws.{GivesUpOwned}
+use Rattle.brc_model.proofs.Basics.Lists.{slice_get-set_same}
+use Rattle.brc_model.proofs.Dispatch.Actions.{state_there}
+use Rattle.brc_model.proofs.Dispatch.Coded.{PlaceSays}
+use Rattle.brc_model.proofs.Dispatch.Passing.{passes_on}
+use Rattle.brc_model.proofs.Dispatch.Stopped.{stop_lock, owned_exactly}
+use Rattle.brc_model.proofs.Keeping.CodeInvariant.{CodeInvariant}
+use Rattle.brc_model.proofs.Promises.StepsMove.{world_stops, reached_code, reached_found}
+
+stop_leads : (m : StepMachine) (t at : ℕ) (a : StepActor) (context : Context) (variables : List (Option ℕ)) (s : State)
+    → slice_get m.actors t ≡ Some a → may_stop a ≡ true → a.place ≡ InCall context at variables
+    → m.states a.function at ≡ Some s → a.actor.locked ≡ row_locked s.locked variables
+    → slice_get (step (world_of m) t Stop).actors t
+    ≡ Some (at_place a (stopping a.actor.locked (owned_rows s.slots variables ∷ map none_of context.outer)))
+stop_leads m t at a context variables s found may is known lock =
+    let calls = owned_rows s.slots variables ∷ map none_of context.outer in
+    let there : Place → List StepActor = λ place.
+    (machine_by m t a Success (stop_action (m.states a.function) place)).actors in
+    ap (λ (w : World). slice_get w.actors t) (world_stops m t a found may)
+    ∙ ap (λ (place : Place). slice_get (there place) t) is
+    ∙ ap (λ (o : Option State). slice_get (machine_by m t a Success (stop_in_call context variables o)).actors t) known
+    ∙ slice_get-set_same m.actors t (at_place a (stopping (row_locked s.locked variables) calls))
+    (slice_get_within m.actors t a found)
+    ∙ ap (λ (o : Option ℕ). Some (at_place a (stopping o calls))) (sym lock)
+
+gives_up : (p : Module) (n : ℕ) (m : StepMachine) (t at : ℕ) (a : StepActor) (context : Context)
+    (variables : List (Option ℕ)) → CodeInvariant p n m → slice_get m.actors t ≡ Some a → may_stop a ≡ true
+    → a.place ≡ InCall context at variables → GivesUpOwned (world_of m) t at a context variables
+gives_up p n m t at a context variables whole found may is =
+    let code = code_of (slice_get p.functions a.function) in
+    let own = whole.coded t a found in
+    let says = subst (λ (place : Place). PlaceSays code place a.actor.locked (whole.accounts t)) is own.says in
+    let s = says.0 in
+    let on = passes_on code says.1.exits at s own.accepted says.1.arrived in
+    let known =
+    state_there p m.states a.function at s on.here (slice_get p.functions a.function) whole.states_true refl on.found
+    (record { exits = says.1.exits; reaches = says.1.arrived }) in
+    let lock = stop_lock s variables s.locked a.actor.locked says.2 in
+    record {
+      state = s;
+      is_state = known;
+      lock = lock;
+      owned = owned_exactly s.slots variables;
+      leads = stop_leads m t at a context variables s found may is known lock;
+    }
+
+pub stops_give_up : (p : Module) (w : World) (t at : ℕ) (a : StepActor) (context : Context)
+    (variables : List (Option ℕ)) → IsReachable p w → slice_get w.actors t ≡ Some a → may_stop a ≡ true
+    → a.place ≡ InCall context at variables → GivesUpOwned w t at a context variables
+stops_give_up p w t at a context variables here found may is =
+    subst (λ (v : World). GivesUpOwned v t at a context variables) (sym here.reached)
+    (gives_up p (1 + length here.calls)
+    (machine_after (first_machine p here.states here.rows here.calls) here.events) t at a context variables
+    (reached_code p w here) (reached_found p w t a here found) may is)
