@@ -26,7 +26,6 @@ rests_at_first heap hand t is table = record {
   table = table;
   running = subst IsRunning (sym is) (refl, tt);
   rests = ap open_work is;
-  lent = ap (λ (v : View). v.lent) is;
   locked_is = ap (λ (v : View). v.locked) is;
   returned = tt;
 }
@@ -38,7 +37,6 @@ rests_after_birth after rest table born = record {
   table = table;
   running = (born.status ∙ rest.running.0, born.waits);
   rests = born.work ∙ rest.rests;
-  lent = born.sight.lent ∙ rest.lent;
   locked_is = born.sight.locked ∙ rest.locked_is;
   returned = tt;
 }
@@ -83,7 +81,8 @@ main_place {heap} {hand} plain rest is =
     let all = ap (count_by (λ y. y == root_row)) is in
     let few = ap length is in
     place_without root_row rest
-    (subst (λ (l : Layout). IsCounted l root_row) (sym rest.table.1) (some_counted {layout = heap.layout} root_row plain refl))
+    (subst (λ (l : Layout). IsCounted l root_row) (sym rest.table.1)
+    (some_counted {layout = heap.layout} root_row plain refl))
     (omega (arith, here, all)) (omega (arith, few))
 
 -- A worker that has given birth to a list and to an item holds both, and the root.
@@ -165,7 +164,6 @@ swaps_begin {heap} {before} {row} {cell} {held} {others} after rest counted has 
       table = table;
       running = (keeps.status ∙ rest.running.0, keeps.waits);
       rests = keeps.work ∙ rest.rests;
-      lent = keeps.lent ∙ rest.lent;
       locked_is = locked ∙ rest.locked_is;
       returned = tt;
       counted = subst (λ (l : Layout). IsCounted l row) (sym keeps.layout) counted;
@@ -200,7 +198,6 @@ rests_after_swap ready = record {
   table = ready.table;
   running = ready.running;
   rests = ready.rests;
-  lent = ready.lent;
   locked_is = ready.locked_is;
   returned = tt;
 }

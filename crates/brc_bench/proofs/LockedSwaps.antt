@@ -138,7 +138,6 @@ still_there {heap} {before} {after} {row} {cell} {held} {locked} {next} {now} re
       table = table;
       running = (keeps.status ∙ at_list.running.0, keeps.waits);
       rests = keeps.work ∙ at_list.rests;
-      lent = keeps.lent ∙ at_list.lent;
       locked_is = is;
       returned = back;
       counted = subst (λ (l : Layout). IsCounted l row) (sym keeps.layout) at_list.counted;
@@ -222,7 +221,8 @@ beside_after_swap before first after last row cell found held next references la
       references =
           later
           ∙ (swaps.references
-          ∙ (ap (λ (rows : List ℕ). with_item first.view.layout found (without_item first.view.layout (word_of held) rows))
+          ∙ (ap (λ (rows : List ℕ).
+          with_item first.view.layout found (without_item first.view.layout (word_of held) rows))
           (references ∙ has.references)
           ∙ (ap (λ (k : Layout). with_item k found (without_item k (word_of held) (with_item l (word_of held) others)))
           layout

@@ -14,12 +14,11 @@ abbrev pub HasBack : HandState → Option ℕ → Type 0
 HasBack hand None = Unit {0}
 HasBack hand (Some x) = FirstSlot hand.slots x hand.view.in_slot
 
--- The hand runs, has nothing to do, has lent nothing, and has locked the object of the row `locked`, or none.
+-- The hand runs, has nothing to do, and has locked the object of the row `locked`, or none.
 pub record IsResting (heap : TableState) (hand : HandState) (locked : Option ℕ) : Type 0 where
   pub table : IsOf heap hand
   pub running : IsRunning hand.view
   pub rests : open_work hand.view ≡ []
-  pub lent : hand.view.lent ≡ None
   pub locked_is : hand.view.locked ≡ locked
   pub returned : HasBack hand locked
 
@@ -45,14 +44,13 @@ pub record IsAtPlace (heap : TableState) (hand : HandState) (row : ℕ) (item : 
   pub counted : IsCounted hand.view.layout row
   pub holds : HoldsBeside hand row item (beside item hand.view.references)
 
--- The hand runs, has nothing to do, has lent nothing, and has locked the object of the row `locked`, or none. It knows
--- that the counted object of `row` is a list that has the cell. It holds a reference to the item, if there is one, and
--- others, one of them to the list.
+-- The hand runs, has nothing to do, and has locked the object of the row `locked`, or none. It knows that the counted
+-- object of `row` is a list that has the cell. It holds a reference to the item, if there is one, and others, one of
+-- them to the list.
 pub record IsAtList (heap : TableState) (hand : HandState) (row cell : ℕ) (held locked : Option ℕ) : Type 0 where
   pub table : IsOf heap hand
   pub running : IsRunning hand.view
   pub rests : open_work hand.view ≡ []
-  pub lent : hand.view.lent ≡ None
   pub locked_is : hand.view.locked ≡ locked
   pub returned : HasBack hand locked
   pub counted : IsCounted hand.view.layout row

@@ -116,7 +116,7 @@ chained v u w cs x found rest at is there =
     (record {
       status = refl;
       used = refl;
-      off = record { locked = refl; lent = refl; cells = λ y i is. refl; gates = gate_apart u u x apart refl };
+      off = record { locked = refl; cells = λ y i is. refl; gates = gate_apart u u x apart refl };
     }) refl
 
 -- ---- the shared word

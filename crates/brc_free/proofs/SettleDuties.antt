@@ -63,7 +63,6 @@ taken_off v w x found rest some row at is there =
       used = refl;
       off = record {
         locked = refl;
-        lent = refl;
         cells = λ y i is. refl;
         gates = gate_apart v v (v.head - 1) apart refl;
       };
@@ -81,7 +80,7 @@ kind_has_resource v u w cs x found rest at is has =
     (record {
       status = refl;
       used = refl;
-      off = record { locked = refl; lent = refl; cells = λ y i is. refl; gates = λ y is. refl };
+      off = record { locked = refl; cells = λ y i is. refl; gates = λ y is. refl };
     })
     (ap (λ (b : Bool). (if b then TakeSlot x ∷ [] else cells_from x 0 (cells_of found)) ++ rest) has)
 
@@ -95,7 +94,7 @@ kind_has_cells v u w cs x found rest at is none =
     (record {
       status = refl;
       used = refl;
-      off = record { locked = refl; lent = refl; cells = λ y i is. refl; gates = λ y is. refl };
+      off = record { locked = refl; cells = λ y i is. refl; gates = λ y is. refl };
     })
     (ap (λ (b : Bool). (if b then TakeSlot x ∷ [] else cells_from x 0 (cells_of found)) ++ rest) none)
 
@@ -112,7 +111,8 @@ cells_next v u w x found count rest at is none same =
 -- Cells that are left need steps, and so does the end.
 pub cells_first : (head x i n : ℕ) (rest : List Duty) → ready head (cells_from x i n ++ rest) ≡ cells_from x i n ++ rest
 cells_first head x i n rest = first (nat_lt i n) where
-  first : (more : Bool) → let ds = (if more then SettleCell x i n ∷ [] else SettleEnd x ∷ []) ++ rest in ready head ds ≡ ds
+  first : (more : Bool)
+      → let ds = (if more then SettleCell x i n ∷ [] else SettleEnd x ∷ []) ++ rest in ready head ds ≡ ds
   first true = settle_cell_first head x i n rest
   first false = settle_end_first head x rest
 
@@ -133,14 +133,14 @@ cell_emptied v u w cs x i m found rest at is apart =
       used = refl;
       off = record {
         locked = refl;
-        lent = refl;
         cells = λ y j is.
             ap (λ (b : Bool). b && (i == j)) (gate_apart v u x apart at.keeps.locked y is);
         gates = λ y is. refl;
       };
     })
     (behind_release found (cells_from x (i + 1) m) rest) where
-      behind_release : (found : ℕ) (ds es : List Duty) → (release_found found ++ ds) ++ es ≡ release_found found ++ (ds ++ es)
+      behind_release : (found : ℕ) (ds es : List Duty)
+          → (release_found found ++ ds) ++ es ≡ release_found found ++ (ds ++ es)
       behind_release zero ds es = refl
       behind_release (suc y) ds es = refl
 
@@ -178,7 +178,6 @@ ended v u w cs x found rest at is apart =
       used = refl;
       off = record {
         locked = refl;
-        lent = refl;
         cells = λ y i is. refl;
         gates = gate_apart v u x apart at.keeps.locked;
       };
@@ -209,7 +208,6 @@ ended_empty v u w cs x found failed rest at is apart =
             used = refl;
             off = record {
               locked = refl;
-              lent = refl;
               cells = λ y i is. refl;
               gates = gate_apart v u x apart at.keeps.locked;
             };

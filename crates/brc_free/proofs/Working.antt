@@ -26,7 +26,6 @@ keeps_first v = record {
   aside = refl;
   used = refl;
   locked = refl;
-  lent = refl;
   in_slot = refl;
   given = refl;
   kinds = λ x word seen. seen;
@@ -42,7 +41,6 @@ keeps_then v u w one other = record {
   aside = other.aside ∙ one.aside;
   used = other.used ∙ one.used;
   locked = other.locked ∙ one.locked;
-  lent = other.lent ∙ one.lent;
   in_slot = other.in_slot ∙ one.in_slot;
   given = other.given ∙ one.given;
   kinds = λ x word seen. other.kinds x word (one.kinds x word seen);
@@ -59,7 +57,6 @@ keeps_beside u ds = record {
   aside = refl;
   used = refl;
   locked = refl;
-  lent = refl;
   in_slot = refl;
   given = refl;
   kinds = λ x word seen. seen;
@@ -110,7 +107,8 @@ worked_first v ds is = record { agenda = is; works = Begun; keeps = keeps_first 
 -- ---- one duty more
 
 -- What one duty keeps.
-pub did_keeps : (u : View) (d : Duty) (rest : List Duty) (found : ℕ) → IsQuiet u d found → Keeps u (did u (d ∷ rest) found)
+pub did_keeps : (u : View) (d : Duty) (rest : List Duty) (found : ℕ) → IsQuiet u d found
+    → Keeps u (did u (d ∷ rest) found)
 did_keeps u d rest found quiet =
     let sight = did_sight u d rest found quiet.off in
     record {
@@ -121,7 +119,6 @@ did_keeps u d rest found quiet =
       aside = refl;
       used = quiet.used;
       locked = sight.locked;
-      lent = sight.lent;
       in_slot = refl;
       given = refl;
       kinds = sight.kinds;

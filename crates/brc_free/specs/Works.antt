@@ -42,7 +42,6 @@ pub record Keeps (v u : View) : Type 0 where
   pub aside : u.aside ≡ v.aside
   pub used : u.used ≡ v.used
   pub locked : u.locked ≡ v.locked
-  pub lent : u.lent ≡ v.lent
   pub in_slot : u.in_slot ≡ v.in_slot
   pub given : u.given ≡ v.given
   pub kinds : (x word : ℕ) → has_seen_kind x word v ≡ true → has_seen_kind x word u ≡ true
@@ -105,8 +104,8 @@ pub record ReleasesNext (x : ℕ) (ds : List Duty) : Type 0 where
 
 -- ---- settling
 
--- The hand runs and has nothing to do, so that it may begin to settle its chain; or to settle it is what it does next, and
--- the duties `rest` come then.
+-- The hand runs and has nothing to do, so that it may begin to settle its chain; or to settle it is what it does next,
+-- and the duties `rest` come then.
 pub data ComesToSettle (v : View) : List Duty → Type 0 where
   AtOnce : v.status ≡ Running → v.aside ≡ [] → v.agenda ≡ [] → ComesToSettle v []
   InWork : (rest : List Duty) → v.status ≢ Gone → v.agenda ≡ ready v.head (Settle ∷ rest) → ComesToSettle v rest
@@ -155,7 +154,6 @@ pub record HasReleased (x : ℕ) (v u : View) : Type 0 where
   pub aside : u.aside ≡ filter (λ d. not (is_about x d)) (open_work v)
   pub used : u.used ≡ v.used
   pub locked : u.locked ≡ v.locked
-  pub lent : u.lent ≡ v.lent
   pub in_slot : u.in_slot ≡ v.in_slot
   pub given : u.given ≡ v.given
   pub kinds : (y word : ℕ) → has_seen_kind y word v ≡ true → has_seen_kind y word u ≡ true

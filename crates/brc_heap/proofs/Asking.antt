@@ -22,7 +22,7 @@ ready_none (suc head) = refl
 pub ask_leaves : (v : View) (x word : ℕ) → HasNoWork v x → Leaves x [] v (done (asking v x) word)
 ask_leaves v x word none =
     let begun = begun_works x v (asking v x) none refl refl refl refl refl
-    (same_sight v (asking v x) refl refl refl refl) refl in
+    (same_sight v (asking v x) refl refl refl) refl in
     let works = done_works x v (asking v x) (KindLoad x ∷ []) word begun refl (plain_keeps (KindLoad x) [] refl) in
     works_leave x v (done (asking v x) word) [] works (ready_none v.head) tt tt
 

@@ -52,18 +52,16 @@ birth_sight v word =
     let filled = begun v word in
     let stays : StaysOff bears (BirthKind x AsCaller word) 0 = record {
       locked = refl;
-      lent = refl;
       cells = λ y i is. refl;
       gates = λ y is. refl;
     } in
     sight_then v filled (did filled (BirthLocal x AsCaller ∷ []) 0)
     (sight_then v stored filled
-    (sight_then v bears stored (same_sight v bears refl refl refl refl)
+    (sight_then v bears stored (same_sight v bears refl refl refl)
     (did_sight bears (BirthKind x AsCaller word) [] 0 stays))
-    (same_sight stored filled refl refl refl refl))
+    (same_sight stored filled refl refl refl))
     (did_sight filled (BirthLocal x AsCaller) [] 0 (record {
       locked = refl;
-      lent = refl;
       cells = λ y i is. refl;
       gates = λ y is. refl;
     }))

@@ -72,7 +72,7 @@ retain_ends u x word found false false is = refl
 pub retain_leaves : (v : View) (x word found : ℕ) → HasNoWork v x → Leaves x [] v (retained v x word found)
 retain_leaves v x word found none =
     let begun = begun_works x v (retaining v x) none refl refl refl refl refl (same_sight v (retaining v x) refl refl
-    refl refl) refl in
+    refl) refl in
     let loaded = done (retaining v x) word in
     let works = done_works x v (retaining v x) (RetainLoad x AsCaller ∷ []) word begun refl (plain_keeps (RetainLoad
     x AsCaller) [] refl) in
@@ -164,7 +164,7 @@ pub release_leaves : (v : View) (x word : ℕ) → HasNoWork v x
     → Leaves x (local_left x (local_answer v word)) v (released_locally v x word)
 release_leaves v x word none =
     let begun = begun_works x v (releasing v x) none refl refl refl refl refl (same_sight v (releasing v x) refl refl
-    refl refl) refl in
+    refl) refl in
     let loaded = done (releasing v x) word in
     let works =
     done_works x v (releasing v x) (ReleaseLoad x AsCaller ∷ []) word begun refl (plain_keeps (ReleaseLoad x
@@ -175,7 +175,8 @@ release_leaves v x word none =
     let next : loaded.agenda ≡ release_list x word immortal counts = release_next v.head x word immortal counts in
     let about = release_about x immortal counts last in
     works_leave x v (if counts then done loaded word else loaded) (release_left x immortal counts last)
-    (release_works x v loaded word immortal counts works next) (release_ends loaded x word immortal counts last refl next)
+    (release_works x v loaded word immortal counts works next)
+    (release_ends loaded x word immortal counts last refl next)
     about.0 about.1
 
 counted_references : (v u : View) (counts : Bool) (word : ℕ) → u.references ≡ v.references
@@ -208,7 +209,6 @@ chained_works x v u works there = record {
       sight_then v u (did u (Die x ∷ []) free_word) works.sight
       (did_sight u (Die x) [] free_word (record {
         locked = refl;
-        lent = refl;
         cells = λ y i is. refl;
         gates = λ y is. ne_eqb x y (λ same. chained_unlocked x u there (is ∙ ap Some (sym same)));
       }));
@@ -263,7 +263,8 @@ decide_leaves v x word is there =
     let loaded = done (turned v x) word in
     let works = done_works x v (turned v x) (DecideAtZero x ∷ []) word (turned_works x v) is
     (plain_keeps (DecideAtZero x) [] refl) in
-    let next = ap (λ (ds : List Duty). (did (turned v x) ds word).agenda) is ∙ decide_next v.head x (word == fresh_word) in
+    let next =
+    ap (λ (ds : List Duty). (did (turned v x) ds word).agenda) is ∙ decide_next v.head x (word == fresh_word) in
     decide_ends x v loaded (word == fresh_word) works next there
 
 -- ---- release through the shared word

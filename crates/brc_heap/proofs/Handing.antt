@@ -65,7 +65,6 @@ started_sight u thread =
     let event : Event = record { address = ThreadWord thread; found = started_word thread u; left = 1 } in
     record {
       locked = refl;
-      lent = refl;
       in_slot = refl;
       kinds = λ y word seen.
           list_any-append (shows_kind y word) u.trace (event ∷ [])

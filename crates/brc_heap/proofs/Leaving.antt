@@ -125,7 +125,7 @@ turned_works x v =
       status = refl;
       used = refl;
       given = refl;
-      sight = same_sight v (turned v x) refl refl refl refl;
+      sight = same_sight v (turned v x) refl refl refl;
       aside = refl;
     }
 
@@ -172,8 +172,6 @@ is_plain _ = false
 plain_stays : (d : Duty) → is_plain d ≡ true → StaysAway d
 plain_stays (LockGate y) is = absurd cc
 plain_stays (UnlockGate y) is = absurd cc
-plain_stays (LendSlot y) is = absurd cc
-plain_stays (ReturnSlot y) is = absurd cc
 plain_stays (Die y) is = absurd cc
 plain_stays Settle is = absurd cc
 plain_stays (SettleCell y i n) is = absurd cc
@@ -182,7 +180,6 @@ plain_stays (CellLoad y i) is = absurd cc
 plain_stays (CellSwap y i z h) is = absurd cc
 plain_stays _ is = record {
   locked = λ locked found. refl;
-  lent = λ lent found. refl;
   cells = λ layout t head y i. refl;
   gates = λ layout t head y. refl;
 }

@@ -41,7 +41,8 @@ share_by false false last is = refl
 pub share_unowned : (v : View) (x word : ℕ) → v.status ≡ Running → OwnerFits v.layout x word
     → block_of v.layout x ≡ v.thread → local.Share ≡ local_answer v word → owner_part word ≡ 0
 share_unowned v x word runs fits mine is =
-    unowned v x word fits mine (share_by (is_immortal_word word) (owner_part word == v.thread + 1) (local_part word == 1)
+    unowned v x word fits mine (share_by (is_immortal_word word) (owner_part word == v.thread + 1)
+    (local_part word == 1)
     (subst (λ (b : Bool). local.Share ≡ (if is_immortal_word word then local.Skip
     else if b && (owner_part word == v.thread + 1) then (if local_part word == 1 then local.Zero else local.Kept)
     else local.Share)) (runs_true v runs) is))

@@ -9,24 +9,22 @@ use Rattle.brc_model.specs.declared.duty.Duty.{Duty}
 use Rattle.brc_model.specs.declared.address.Address.TheVariants.{Gate, Cell}
 use Rattle.brc_model.specs.declared.layout.Layout.{Layout}
 use Rattle.brc_model.specs.Duties.{address_of}
-use Rattle.brc_model.specs.Machine.{same_address, locked_by, lent_by}
+use Rattle.brc_model.specs.Machine.{same_address, locked_by}
 use Rattle.brc_table.specs.declared.view.View.{View}
 use Rattle.brc_table.specs.declared.view.Event.{Event}
 use Rattle.brc_table.specs.Views.{did, event_of}
 use Rattle.brc_table.specs.Seen.{shows_kind, cell_known, cell_seen}
 use Rattle.brc_heap.specs.Calls.{KeepsSight}
 
--- The duty locks, unlocks, lends and returns nothing, and touches no cell and no gate.
+-- The duty locks and unlocks nothing, and touches no cell and no gate.
 pub record StaysAway (d : Duty) : Type 0 where
   pub locked : (locked : Option ℕ) (found : ℕ) → locked_by locked d found ≡ locked
-  pub lent : (lent : Option ℕ) (found : ℕ) → lent_by lent d found ≡ lent
   pub cells : (layout : Layout) (t head y i : ℕ) → same_address (address_of layout t head d) (Cell y i) ≡ false
   pub gates : (layout : Layout) (t head y : ℕ) → same_address (address_of layout t head d) (Gate y) ≡ false
 
 -- The hand's duty does so but for cells and gates of other objects than the one that the hand has locked.
 pub record StaysOff (u : View) (d : Duty) (found : ℕ) : Type 0 where
   pub locked : locked_by u.locked d found ≡ u.locked
-  pub lent : lent_by u.lent d found ≡ u.lent
   pub cells : (y i : ℕ) → u.locked ≡ Some y
       → same_address (address_of u.layout u.thread u.head d) (Cell y i) ≡ false
   pub gates : (y : ℕ) → u.locked ≡ Some y → same_address (address_of u.layout u.thread u.head d) (Gate y) ≡ false
@@ -34,17 +32,14 @@ pub record StaysOff (u : View) (d : Duty) (found : ℕ) : Type 0 where
 pub away_off : (u : View) (d : Duty) (found : ℕ) → StaysAway d → StaysOff u d found
 away_off u d found away = record {
   locked = away.locked u.locked found;
-  lent = away.lent u.lent found;
   cells = λ y i is. away.cells u.layout u.thread u.head y i;
   gates = λ y is. away.gates u.layout u.thread u.head y;
 }
 
 -- A hand whose lock and trace are the same.
-pub same_sight : (v u : View) → u.locked ≡ v.locked → u.lent ≡ v.lent → u.in_slot ≡ v.in_slot → u.trace ≡ v.trace
-    → KeepsSight v u
-same_sight v u locked lent in_slot trace = record {
+pub same_sight : (v u : View) → u.locked ≡ v.locked → u.in_slot ≡ v.in_slot → u.trace ≡ v.trace → KeepsSight v u
+same_sight v u locked in_slot trace = record {
   locked = locked;
-  lent = lent;
   in_slot = in_slot;
   kinds = λ y word seen. ap (list_any (shows_kind y word)) trace ∙ seen;
   cells = λ y i is. ap (fold (cell_known y i) None) trace;
@@ -54,7 +49,6 @@ same_sight v u locked lent in_slot trace = record {
 pub sight_then : (v u w : View) → KeepsSight v u → KeepsSight u w → KeepsSight v w
 sight_then v u w one other = record {
   locked = other.locked ∙ one.locked;
-  lent = other.lent ∙ one.lent;
   in_slot = other.in_slot ∙ one.in_slot;
   kinds = λ y word seen. other.kinds y word (one.kinds y word seen);
   cells = λ y i is. other.cells y i (one.locked ∙ is) ∙ one.cells y i is;
@@ -72,7 +66,6 @@ pub did_sight : (u : View) (d : Duty) (rest : List Duty) (found : ℕ) → Stays
     → KeepsSight u (did u (d ∷ rest) found)
 did_sight u d rest found stays = record {
   locked = stays.locked;
-  lent = stays.lent;
   in_slot = refl;
   kinds = λ y word seen.
       list_any-append (shows_kind y word) u.trace (event_of u d found ∷ [])

@@ -129,11 +129,10 @@ Merges r hand x = MergeIsFirst r hand x ⊎ ((carried : ℕ) × MergeIsBegun r h
 
 -- ---- what a call keeps
 
--- The hand has locked and lent what it had, and knows of the locked object's slot what it knew, and of kinds and of the
--- cells of the list that it has locked what it has seen.
+-- The hand has locked what it had, and knows of the locked object's slot what it knew, and of kinds and of the cells of
+-- the list that it has locked what it has seen.
 pub record KeepsSight (v u : View) : Type 0 where
   pub locked : u.locked ≡ v.locked
-  pub lent : u.lent ≡ v.lent
   pub in_slot : u.in_slot ≡ v.in_slot
   pub kinds : (y word : ℕ) → has_seen_kind y word v ≡ true → has_seen_kind y word u ≡ true
   pub cells : (y i : ℕ) → v.locked ≡ Some y → cell_seen y i u ≡ cell_seen y i v
@@ -141,13 +140,12 @@ pub record KeepsSight (v u : View) : Type 0 where
 -- ---- kinds
 
 -- The hand has loaded the row's kind word. It is the word that the hand has seen there before, if it has. If the hand
--- has locked the object, and has lent no resource, the word tells whether the object's slot has one. None's says that it
--- is none.
+-- has locked the object, the word says whether the object's slot has a resource. None's says that it is none.
 pub record SeesKind (x word : ℕ) (v u : View) : Type 0 where
   pub view_is : u ≡ done (asking v x) word
   pub seen : has_seen_kind x word u ≡ true
   pub stays : (before : ℕ) → 0 < before → has_seen_kind x before v ≡ true → word ≡ before
-  pub slot : v.locked ≡ Some x → v.lent ≡ None → v.in_slot ≡ resources_of word
+  pub slot : v.locked ≡ Some x → v.in_slot ≡ resources_of word
   pub named : x ≡ none_row → word ≡ half
 
 -- ---- births

@@ -114,7 +114,6 @@ main_alone table is = record {
   aside = ap (λ (v : View). v.aside) is;
   references = ap (λ (v : View). v.references) is;
   unlocked = ap (λ (v : View). v.locked) is;
-  lent = ap (λ (v : View). v.lent) is;
 }
 
 -- and so does a worker's.
@@ -127,7 +126,6 @@ worker_alone table is = record {
   aside = ap (λ (v : View). v.aside) is;
   references = ap (λ (v : View). v.references) is;
   unlocked = ap (λ (v : View). v.locked) is;
-  lent = ap (λ (v : View). v.lent) is;
 }
 
 -- Such a hand has no work at all,
@@ -157,7 +155,6 @@ resting_alone alone = record {
   held = (ready_alone alone).held;
   rests = alone_work alone;
   locked_is = alone.unlocked;
-  lent = alone.lent;
   returned = tt;
 }
 
@@ -171,7 +168,6 @@ alone_after_giving alone table gives = record {
   aside = gives.aside ∙ alone_work alone;
   references = gives.references ∙ alone.references;
   unlocked = gives.sight.locked ∙ alone.unlocked;
-  lent = gives.sight.lent ∙ alone.lent;
 }
 
 -- and any hand after a call that leaves nothing to do, and the same references.
@@ -184,7 +180,6 @@ alone_again {heap} {before} {after} {x} alone table leaves same = record {
   aside = leaves.aside ∙ ap (filter (λ (d : Duty). not (is_about x d))) (alone_work alone);
   references = same ∙ alone.references;
   unlocked = leaves.sight.locked ∙ alone.unlocked;
-  lent = leaves.sight.lent ∙ alone.lent;
 }
 
 -- Work about another row is as it was.

@@ -32,10 +32,9 @@ pub record IsResting (heap : TableState) (hand : HandState) (locked : Option ℕ
   pub held : 1 ≤ holds hand.view root_row
   pub rests : open_work hand.view ≡ []
   pub locked_is : hand.view.locked ≡ locked
-  pub lent : hand.view.lent ≡ None
   pub returned : HasBack hand locked
 
--- The hand runs, has nothing to do, not even aside, holds one reference, to the root, and has locked and lent nothing.
+-- The hand runs, has nothing to do, not even aside, holds one reference, to the root, and has locked nothing.
 pub record IsAlone (heap : TableState) (hand : HandState) : Type 0 where
   pub table : IsOf heap hand
   pub status : hand.view.status ≡ Running
@@ -43,7 +42,6 @@ pub record IsAlone (heap : TableState) (hand : HandState) : Type 0 where
   pub aside : hand.view.aside ≡ []
   pub references : hand.view.references ≡ root_row ∷ []
   pub unlocked : hand.view.locked ≡ None
-  pub lent : hand.view.lent ≡ None
 
 -- a fact that a struct can keep
 pub alone-prop : (heap : TableState) (hand : HandState) → IsProp (IsAlone heap hand)

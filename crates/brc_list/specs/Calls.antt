@@ -9,9 +9,9 @@ use Rattle.brc_table.specs.Seen.{has_seen_kind, cell_seen}
 use Rattle.brc_table.specs.Swaps.{swapped, with_item, without_item}
 use Rattle.brc_table.specs.Hands.{MayWait}
 
--- The hand's thread, its references, its lent resource, what it knows of the slot of the object that it has locked, its
--- chain and its other work are as before, and so are its used rows and the hands that it has given out. It still knows
--- the kinds that it has seen.
+-- The hand's thread, its references, what it knows of the slot of the object that it has locked, its chain and its
+-- other work are as before, and so are its used rows and the hands that it has given out. It still knows the kinds that
+-- it has seen.
 pub record Keeps (v u : View) : Type 0 where
   pub layout : u.layout ≡ v.layout
   pub thread : u.thread ≡ v.thread
@@ -20,7 +20,6 @@ pub record Keeps (v u : View) : Type 0 where
   pub used : u.used ≡ v.used
   pub head : u.head ≡ v.head
   pub given : u.given ≡ v.given
-  pub lent : u.lent ≡ v.lent
   pub taken_slot : u.in_slot ≡ v.in_slot
   pub waits : MayWait u.agenda
   pub work : open_work u ≡ open_work v
@@ -62,9 +61,9 @@ pub record SeesItem (x cell word : ℕ) (v u : View) : Type 0 where
   pub seen : cell_seen x cell u ≡ Some word
   pub others : (i : ℕ) → i ≢ cell → cell_seen x i u ≡ cell_seen x i v
 
--- The hand has put the word into the list's cell. It finds what it last saw or stored there, and now it has seen the new
--- word. The reference to the item that was in the cell is its own, and that to the new item is the cell's. What it has
--- seen of the other cells is as before.
+-- The hand has put the word into the list's cell. It finds what it last saw or stored there, and now it has seen the
+-- new word. The reference to the item that was in the cell is its own, and that to the new item is the cell's. What it
+-- has seen of the other cells is as before.
 pub record SwapsItem (x cell word found : ℕ) (v u : View) : Type 0 where
   pub view_is : u ≡ swapped v x cell word found
   pub there : found ≤ row_count v.layout

@@ -45,8 +45,8 @@ impl<'h, T: Drop> Lists<'h, T> {
     }
 
     /// Tries once to lock a list to which the hand holds a reference, as it has locked none. Returns whether the hand
-    /// has locked it: not if another thread has locked it just now. The hand then has the list's slot too. If it has seen
-    /// the object's kind, and has lent no resource, it knows whether the slot has one.
+    /// has locked it: not if another thread has locked it just now. The hand then has the list's slot too. If it has
+    /// seen the object's kind, it knows whether the slot has a resource.
     pub fn try_lock(&self, hand: &mut Hand<T>, row: u32) -> bool
         requires table { IsOf self.now hand.old }
         requires running { IsRunning hand.old.view }
@@ -56,8 +56,9 @@ impl<'h, T: Drop> Lists<'h, T> {
         requires unlocked { hand.old.view.locked ≡ None }
         ensures table { IsOf self.now hand.new }
         ensures carried { hand.new.carried ≡ hand.old.carried }
-        ensures slots { hand.new.slots ≡ (if result then (row, hand.new.view.in_slot) ∷ hand.old.slots else hand.old.slots) }
-        ensures kind { (word : ℕ) → result ≡ true → hand.old.view.lent ≡ None → 0 < word
+        ensures slots { hand.new.slots
+            ≡ (if result then (row, hand.new.view.in_slot) ∷ hand.old.slots else hand.old.slots) }
+        ensures kind { (word : ℕ) → result ≡ true → 0 < word
             → has_seen_kind row word hand.old.view ≡ true → hand.new.view.in_slot ≡ resources_of word }
         ensures events { (found : ℕ) × (hand.new.view ≡ done (locking hand.old.view row hand.new.view.in_slot) found)
             × (result ≡ (found == free_word)) }
@@ -67,8 +68,8 @@ impl<'h, T: Drop> Lists<'h, T> {
         self.heap.words().gate_lock(hand, row) == FREE
     }
 
-    /// Unlocks the list that the hand has locked. The hand retains nothing meanwhile, and has lent no resource: the slot
-    /// has what it had when the hand locked the list.
+    /// Unlocks the list that the hand has locked. The hand retains nothing meanwhile, and has put back a resource that
+    /// it lent: the slot has what it had when the hand locked the list.
     pub fn unlock(&self, hand: &mut Hand<T>, row: u32)
         requires table { IsOf self.now hand.old }
         requires running { IsRunning hand.old.view }
@@ -76,7 +77,6 @@ impl<'h, T: Drop> Lists<'h, T> {
         requires idle { HasNoWork hand.old.view row }
         requires locked { hand.old.view.locked ≡ Some row }
         requires retains { HasNoRetain hand.old.view }
-        requires lent { hand.old.view.lent ≡ None }
         requires returned { FirstSlot hand.old.slots row hand.old.view.in_slot }
         ensures table { IsOf self.now hand.new }
         ensures carried { hand.new.carried ≡ hand.old.carried }

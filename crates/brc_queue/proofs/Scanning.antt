@@ -32,7 +32,7 @@ claim_keeps v w x found is =
     (did_keeps (claiming v x) (ClaimMark x) [] found (record {
       status = refl;
       used = refl;
-      off = record { locked = refl; lent = refl; cells = λ y j e. refl; gates = λ y e. refl };
+      off = record { locked = refl; cells = λ y j e. refl; gates = λ y e. refl };
     })))
 
 -- ---- a scan
@@ -54,7 +54,7 @@ scanned v w i n found rest next is =
     refl is (record {
       status = refl;
       used = refl;
-      off = record { locked = refl; lent = refl; cells = λ y j e. refl; gates = λ y e. refl };
+      off = record { locked = refl; cells = λ y j e. refl; gates = λ y e. refl };
     })
     (behind_claim (row_at v.layout v.thread i) (found == 1)) where
       behind_claim : (x : ℕ) (b : Bool)

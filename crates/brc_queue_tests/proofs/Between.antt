@@ -30,7 +30,6 @@ main_holds {heap} {main} layout table is = record {
   running = subst IsRunning (sym is) (refl, tt);
   rests = ap open_work is;
   head = ap (λ (v : View). v.head) is;
-  lent = ap (λ (v : View). v.lent) is;
   locked_is = ap (λ (v : View). v.locked) is;
   returned = tt;
   references = ap (λ (v : View). v.references) is;
@@ -44,7 +43,6 @@ worker_holds {heap} {hand} thread table is = record {
   running = subst IsRunning (sym is) (refl, tt);
   rests = ap open_work is;
   head = ap (λ (v : View). v.head) is;
-  lent = ap (λ (v : View). v.lent) is;
   locked_is = ap (λ (v : View). v.locked) is;
   returned = tt;
   references = ap (λ (v : View). v.references) is;
@@ -73,16 +71,15 @@ free_at_rest {heap} {hand} rest = record {
 rests_again : {heap : TableState} {before after : HandState} {item locked next now : Option ℕ}
     → IsResting heap before item locked → IsOf heap after → after.view.layout ≡ before.view.layout
     → after.view.status ≡ before.view.status → MayWait after.view.agenda → open_work after.view ≡ []
-    → after.view.head ≡ 0 → after.view.lent ≡ before.view.lent → after.view.locked ≡ now → HasBack after now
+    → after.view.head ≡ 0 → after.view.locked ≡ now → HasBack after now
     → after.view.references ≡ with_item before.view.layout (word_of next) (root_row ∷ [])
     → IsResting heap after next now
-rests_again {heap} {before} {after} {item} {locked} {next} {now} rest table layout status waits work head lent is back
+rests_again {heap} {before} {after} {item} {locked} {next} {now} rest table layout status waits work head is back
     references = record {
       table = table;
       running = (status ∙ rest.running.0, waits);
       rests = work;
       head = head;
-      lent = lent ∙ rest.lent;
       locked_is = is;
       returned = back;
       references = references ∙ ap (λ (l : Layout). with_item l (word_of next) (root_row ∷ [])) (sym layout);
@@ -104,7 +101,7 @@ pub after_birth : {heap : TableState} {before after : HandState} (x : ℕ) → H
     → Holds heap after (Some x)
 after_birth {heap} {before} {after} x rest table is counted born =
     rests_again rest table born.layout born.status born.waits (born.work ∙ rest.rests) (born.head ∙ rest.head)
-    born.sight.lent (born.sight.locked ∙ rest.locked_is) tt
+    (born.sight.locked ∙ rest.locked_is) tt
     (born.references
     ∙ (ap (λ (y : ℕ). y ∷ before.view.references) (sym is)
     ∙ (ap (λ (rows : List ℕ). x ∷ rows) rest.references
@@ -116,7 +113,7 @@ pub after_giving : {heap : TableState} {before after : HandState} (thread : ℕ)
 after_giving {heap} {before} {after} thread rest table gives =
     rests_again rest table gives.layout gives.status (subst MayWait (sym gives.agenda) tt)
     (ap (λ (ds : List Duty). ds ++ after.view.aside) gives.agenda ∙ (gives.aside ∙ rest.rests))
-    (gives.head ∙ rest.head) gives.sight.lent (gives.sight.locked ∙ rest.locked_is) tt
+    (gives.head ∙ rest.head) (gives.sight.locked ∙ rest.locked_is) tt
     (gives.references ∙ rest.references)
 
 back_again : (before after : HandState) (locked : Option ℕ) → after.slots ≡ before.slots
@@ -136,7 +133,7 @@ pub after_call : {heap : TableState} {before after : HandState} {item locked : O
 after_call {heap} {before} {after} {item} {locked} next x rest table leaves head slots references =
     rests_again rest table leaves.layout leaves.status leaves.waits
     (none_beside x after.view rest leaves.agenda leaves.aside)
-    (head ∙ rest.head) leaves.sight.lent (leaves.sight.locked ∙ rest.locked_is)
+    (head ∙ rest.head) (leaves.sight.locked ∙ rest.locked_is)
     (back_again before after locked slots leaves.sight.in_slot rest.returned) references
 
 -- ---- calls of lists
@@ -149,7 +146,7 @@ after_list : {heap : TableState} {before after : HandState} {item locked next no
     → references ≡ with_item before.view.layout (word_of next) (root_row ∷ []) → IsResting heap after next now
 after_list references slot rest table keeps is back all =
     rests_again rest table keeps.layout keeps.status keeps.waits (keeps.work ∙ rest.rests) (keeps.head ∙ rest.head)
-    keeps.lent is back (keeps.references ∙ all)
+    is back (keeps.references ∙ all)
 
 -- as one that asks,
 pub after_asking : {heap : TableState} {before after : HandState} {item locked : Option ℕ}
@@ -217,7 +214,7 @@ after_release {heap} {before} {after} {between} x rest released table head worke
     let none : after.view.agenda ≡ [] = worked.agenda in
     rests_again rest table (worked.keeps.layout ∙ released.layout) (worked.keeps.status ∙ released.status)
     (subst MayWait (sym none) tt)
-    (none_beside x after.view rest none (worked.keeps.aside ∙ released.aside)) head (worked.keeps.lent ∙ released.lent)
+    (none_beside x after.view rest none (worked.keeps.aside ∙ released.aside)) head
     (worked.keeps.locked ∙ (released.locked ∙ rest.locked_is)) tt
     (worked.keeps.references
     ∙ (released.references
@@ -228,5 +225,5 @@ pub after_looking : {heap : TableState} {before after : HandState} → Holds hea
     → IsFree after.view → after.view.head ≡ 0 → works.Keeps before.view after.view → Holds heap after None
 after_looking {heap} {before} {after} rest table free head keeps =
     rests_again rest table keeps.layout keeps.status (subst MayWait (sym free.agenda) tt)
-    (ap (λ (ds : List Duty). ds ++ after.view.aside) free.agenda ∙ free.aside) head keeps.lent
+    (ap (λ (ds : List Duty). ds ++ after.view.aside) free.agenda ∙ free.aside) head
     (keeps.locked ∙ rest.locked_is) tt (keeps.references ∙ rest.references)

@@ -18,7 +18,6 @@ main_holds {heap} {main} table is none = record {
   aside = ap (λ (v : View). v.aside) is;
   references = ap (λ (v : View). v.references) is;
   unlocked = ap (λ (v : View). v.locked) is;
-  lent = ap (λ (v : View). v.lent) is;
   none = none shared_row;
 }
 
@@ -33,7 +32,6 @@ worker_holds {heap} {hand} thread small table is none = record {
   aside = ap (λ (v : View). v.aside) is;
   references = ap (λ (v : View). v.references) is;
   unlocked = ap (λ (v : View). v.locked) is;
-  lent = ap (λ (v : View). v.lent) is;
   none = none shared_row;
 }
 
@@ -49,6 +47,5 @@ still_holds {heap} {before} {after} thread has table gives same = record {
   aside = gives.aside ∙ open_is has;
   references = gives.references ∙ has.references;
   unlocked = gives.sight.locked ∙ has.unlocked;
-  lent = gives.sight.lent ∙ has.lent;
   none = none_still before after same has.none;
 }

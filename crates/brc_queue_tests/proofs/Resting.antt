@@ -42,7 +42,6 @@ rests_after_giving {heap} {before} {after} rest table gives = record {
   running = (gives.status ∙ rest.running.0, subst MayWait (sym gives.agenda) tt);
   rests = ap (λ (ds : List Duty). ds ++ after.view.aside) gives.agenda ∙ (gives.aside ∙ rest.rests);
   locked_is = gives.sight.locked ∙ rest.locked_is;
-  lent = gives.sight.lent ∙ rest.lent;
   returned = tt;
 }
 
@@ -54,7 +53,6 @@ rests_after_birth rest table born = record {
   running = (born.status ∙ rest.running.0, born.waits);
   rests = born.work ∙ rest.rests;
   locked_is = born.sight.locked ∙ rest.locked_is;
-  lent = born.sight.lent ∙ rest.lent;
   returned = tt;
 }
 
@@ -68,7 +66,6 @@ rests_after_call {heap} {before} {after} {x} rest table leaves = record {
       ap (λ (ds : List Duty). ds ++ after.view.aside) leaves.agenda
       ∙ (leaves.aside ∙ ap (filter (λ (d : Duty). not (is_about x d))) rest.rests);
   locked_is = leaves.sight.locked ∙ rest.locked_is;
-  lent = leaves.sight.lent ∙ rest.lent;
   returned = tt;
 }
 
@@ -82,7 +79,6 @@ rests_after_release {heap} {before} {after} {x} rest table released = record {
       ap (λ (ds : List Duty). ds ++ after.view.aside) released.agenda
       ∙ (released.aside ∙ ap (filter (λ (d : Duty). not (is_about x d))) rest.rests);
   locked_is = released.locked ∙ rest.locked_is;
-  lent = released.lent ∙ rest.lent;
   returned = tt;
 }
 
@@ -103,7 +99,6 @@ rests_after_settling {heap} {before} {after} rest table empty stands =
           ap (λ (ds : List Duty). ds ++ after.view.aside) none
           ∙ (stands.keeps.aside ∙ (free_at_rest rest).aside);
       locked_is = stands.keeps.locked ∙ rest.locked_is;
-      lent = stands.keeps.lent ∙ rest.lent;
       returned = tt;
     }
 

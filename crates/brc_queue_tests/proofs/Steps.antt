@@ -43,7 +43,6 @@ after_call {heap} {before} {after} {rows} {work} x left later has alone table le
   aside = leaves.aside ∙ (ap (filter (λ (d : Duty). not (is_about x d))) (open_is has) ∙ alone);
   references = references;
   unlocked = leaves.sight.locked ∙ has.unlocked;
-  lent = leaves.sight.lent ∙ has.lent;
   none = none;
 }
 
@@ -65,7 +64,6 @@ settled {heap} {before} {after} has table stands same = record {
   aside = stands.keeps.aside ∙ has.aside;
   references = stands.keeps.references ∙ has.references;
   unlocked = stands.keeps.locked ∙ has.unlocked;
-  lent = stands.keeps.lent ∙ has.lent;
   none = none_still before after same has.none;
 }
 

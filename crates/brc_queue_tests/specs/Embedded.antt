@@ -10,14 +10,13 @@ use Rattle.brc_table.specs.Hands.{TableState, HandState, IsOf, IsRunning, MayWai
 use Rattle.brc_list.specs.Calls.{word_of}
 use Rattle.brc_queue_tests.specs.Resting.{HasBack}
 
--- The hand runs, has nothing to do and no dying object, has lent nothing, and has locked this row's object, or none. It
--- holds a reference to the root, one to the item, if there is one, and no other.
+-- The hand runs, has nothing to do and no dying object, and has locked this row's object, or none. It holds a reference
+-- to the root, one to the item, if there is one, and no other.
 pub record IsResting (heap : TableState) (hand : HandState) (item locked : Option ℕ) : Type 0 where
   pub table : IsOf heap hand
   pub running : IsRunning hand.view
   pub rests : open_work hand.view ≡ []
   pub head : hand.view.head ≡ 0
-  pub lent : hand.view.lent ≡ None
   pub locked_is : hand.view.locked ≡ locked
   pub returned : HasBack hand locked
   pub references : hand.view.references ≡ with_item hand.view.layout (word_of item) (root_row ∷ [])

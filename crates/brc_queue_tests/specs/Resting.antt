@@ -9,11 +9,10 @@ abbrev pub HasBack : HandState → Option ℕ → Type 0
 HasBack hand None = Unit {0}
 HasBack hand (Some x) = FirstSlot hand.slots x hand.view.in_slot
 
--- The hand runs, has no work at all, has locked this row's object, or none, and has lent no resource.
+-- The hand runs, has no work at all, and has locked this row's object, or none.
 pub record IsAtRest (heap : TableState) (hand : HandState) (locked : Option ℕ) : Type 0 where
   pub table : IsOf heap hand
   pub running : IsRunning hand.view
   pub rests : open_work hand.view ≡ []
   pub locked_is : hand.view.locked ≡ locked
-  pub lent : hand.view.lent ≡ None
   pub returned : HasBack hand locked

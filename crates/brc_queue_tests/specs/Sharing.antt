@@ -16,8 +16,8 @@ small_layout = plain_layout 2 2
 abbrev pub shared_row : ℕ
 shared_row = 2
 
--- The hand runs, holds references to these rows and no others, and has this to do and nothing else. It has locked and
--- lent nothing, and carries nothing from the shared row.
+-- The hand runs, holds references to these rows and no others, and has this to do and nothing else. It has locked
+-- nothing, and carries nothing from the shared row.
 pub record HasWork (heap : TableState) (hand : HandState) (rows : List ℕ) (work : List Duty) : Type 0 where
   pub table : IsOf heap hand
   pub layout : hand.view.layout ≡ small_layout
@@ -26,7 +26,6 @@ pub record HasWork (heap : TableState) (hand : HandState) (rows : List ℕ) (wor
   pub aside : hand.view.aside ≡ []
   pub references : hand.view.references ≡ rows
   pub unlocked : hand.view.locked ≡ None
-  pub lent : hand.view.lent ≡ None
   pub none : carried_of hand shared_row ≡ None
 
 -- The hand has nothing to do, and holds one reference, to the root.

@@ -12,13 +12,12 @@ abbrev pub HasBack : HandState → Option ℕ → Type 0
 HasBack hand None = Unit {0}
 HasBack hand (Some x) = FirstSlot hand.slots x hand.view.in_slot
 
--- The hand runs, has no work at all, has locked this row's object, or none, and has lent no resource.
+-- The hand runs, has no work at all, and has locked this row's object, or none.
 pub record IsResting (heap : TableState) (hand : HandState) (locked : Option ℕ) : Type 0 where
   pub table : IsOf heap hand
   pub running : IsRunning hand.view
   pub rests : open_work hand.view ≡ []
   pub locked_is : hand.view.locked ≡ locked
-  pub lent : hand.view.lent ≡ None
   pub returned : HasBack hand locked
 
 -- The hand was just given out: it has done nothing yet, and holds one reference, to the root.
@@ -29,7 +28,6 @@ pub record IsFresh (heap : TableState) (hand : HandState) : Type 0 where
   pub aside : hand.view.aside ≡ []
   pub references : hand.view.references ≡ root_row ∷ []
   pub unlocked : hand.view.locked ≡ None
-  pub lent : hand.view.lent ≡ None
 
 -- a fact that a struct can keep
 pub fresh-prop : (heap : TableState) (hand : HandState) → IsProp (IsFresh heap hand)

@@ -182,7 +182,8 @@ module _ (layout : Layout) (words : List ℕ) (views : List View) (s : Stands la
       let fits = s.counts.kept.core.each t it.0 it.1 in
       omega (
         arith,
-        share_one x t m.abstract.references (s.accounts t) it.0 fits.0.holds fits.1 (λ i. s.no_variables t i x)
+        share_one x t m.abstract.references (s.accounts t) it.0 fits.0.holds fits.1
+            (λ depth i. s.no_variables t depth i x)
             (s.counts.no_flight t x),
         weight_there (work_of (makes x)) m.actors t it.0 it.1,
         weight_there (work_of (gives_up x)) m.actors t it.0 it.1,

@@ -1,9 +1,7 @@
 -- What a table asks of a step: whatever its words are, the hand can go on, and the rule holds again.
-use Rattle.std.proofs.Common.{◌≤◌, ◌≡◌, ◌≢◌, ℕ, ◌+◌, ◌<◌, Bool, true, Option, None, List, [], ◌∷◌, set, inl, inr, refl, sym, ap, ◌∙◌, subst, arith}
-use Rattle.std.specs.Prelude.{◌==◌, ◌||◌, ◌&&◌, slice_index, nat_le, nat_lt}
-use Rattle.std.specs.List.{list_any}
+use Rattle.std.proofs.Common.{◌≡◌, ◌≢◌, ℕ, ◌+◌, Option, None, List, [], ◌∷◌, set, inl, refl, sym, ap, ◌∙◌, subst, arith}
+use Rattle.std.specs.Prelude.{slice_index}
 use Rattle.std.proofs.lemmas.List.{set-set}
-use Rattle.std.proofs.lemmas.Bool.{cases_Bool, cases_lt, eqb-true, ltb-true}
 use Rattle.std.proofs.lemmas.Option.{slice_get_within}
 use mathlib.Core.Option.{some}
 use lib.ListN.{get_elem?}
@@ -11,24 +9,19 @@ use Rattle.atomic_table.specs.Table.{State, keeps, Me, Allows}
 use Rattle.brc_model.specs.declared.duty.Duty.{Duty}
 use Rattle.brc_model.specs.declared.duty.Duty.TheVariants.{MergeExchange, KindLoad, CellLoad}
 use Rattle.brc_model.specs.declared.duty.Reason.TheVariants.{Handed}
-use Rattle.brc_model.specs.declared.duty.Holding.TheVariants.{AsCaller}
 use Rattle.brc_model.specs.declared.actor.Status.TheVariants.{Gone}
 use Rattle.brc_model.specs.declared.address.Address.TheVariants.{Slot}
 use Rattle.brc_model.specs.declared.layout.Layout.{Layout}
-use Rattle.brc_model.specs.Limits.{cell_limit}
-use Rattle.brc_model.specs.Layout.{row_count, block_size, none_row, first_immortal_list, is_immortal_row}
-use Rattle.brc_model.specs.Duties.{address_of, new_word, cells_of}
+use Rattle.brc_model.specs.Layout.{row_count}
+use Rattle.brc_model.specs.Duties.{address_of, new_word}
 use Rattle.brc_model.specs.Machine.{is_running}
-use Rattle.brc_model.specs.OpenWork.{is_about}
-use Rattle.brc_model.specs.Ranges.{AreSmall}
 use Rattle.brc_model.specs.Within.{Suits, FindsOwner}
 use Rattle.brc_model.specs.SlotLaws.{Stays, Gives, use_of}
 use Rattle.brc_model.specs.Stores.{Overwrites}
-use Rattle.brc_model.specs.Counting.{IsPlainLayout}
 use Rattle.brc_model.specs.CountingLaws.{DutiesAreKept, DutiesAreWithin, AccountsAreThere, ChainsAreThere, HandedMergesLive}
 use Rattle.brc_model.specs.GuardLaws.{GuardedCellsStay}
 use Rattle.brc_table.specs.declared.view.View.{View}
-use Rattle.brc_table.specs.Views.{actor_of, event_of, did, taken_after, holds, NamesFewCells, RowsAreThere}
+use Rattle.brc_table.specs.Views.{actor_of, event_of, did, taken_after, holds, RowsAreThere}
 use Rattle.brc_table.specs.Rule.{Stands}
 use Rattle.brc_table.specs.Homes.{SlotsStand, TableStands}
 use Rattle.brc_table.specs.Plays.{SuitsFirst, FirstFindsOwner, FindsKnown, Continues, overwritten, Stores}
@@ -36,85 +29,12 @@ use Rattle.brc_table.specs.Hands.{TableState, HandState}
 use Rattle.brc_table.specs.Begins.{Passes, Becomes, IsAt, MakesWithoutSlot, StoresWord}
 use Rattle.brc_table.specs.Places.{place, IsTableWord}
 use Rattle.brc_table.proofs.CellGuards.{change_guards}
-use Rattle.brc_table.proofs.Lists.{set_view, and_second}
+use Rattle.brc_table.proofs.Lists.{set_view}
 use Rattle.brc_table.proofs.ThreadsKept.{KeepsThreads, object_step}
 use Rattle.brc_table.proofs.Stepping.{Does, place_of, read_of, finds, has, relies, passes_after, object_in_table, object_reads}
+use Rattle.brc_table.proofs.RowsThere.{rows_there}
 use Rattle.brc_table.proofs.SlotsKept.{slots_kept}
 use Rattle.brc_table.proofs.SlotsUsed.{lock_stays, used_left}
-
--- ---- rows
-
--- An immortal row is none's.
-pub immortal_there : (layout : Layout) (x : ℕ) → IsPlainLayout layout → is_immortal_row layout x ≡ true → x < row_count layout
-immortal_there layout x plain immortal =
-    elim (cases_Bool (x == none_row)) [
-      | inl none ↦ let it = eqb-true x none_row none in omega (arith, it)
-      | inr other ↦
-          let behind = sym (ap (λ (b : Bool). b || (nat_le (first_immortal_list layout) x
-          && nat_lt x (first_immortal_list layout + layout.immortal_lists))) other) ∙ immortal in
-          let low = and_second (nat_le (first_immortal_list layout) x)
-          (nat_lt x (first_immortal_list layout + layout.immortal_lists)) behind in
-          ltb-true x (first_immortal_list layout + layout.immortal_lists) low
-    ]
-
-small_there : (k : ℕ) (ds : List Duty) (x : ℕ) → AreSmall k ds → list_any (is_about x) ds ≡ true → x < k
-small_there k [] x small is = absurd cc
-small_there k (d ∷ ds) x small is = elim (cases_Bool (is_about x d)) [
-  | inl this ↦ small.0.row x this
-  | inr other ↦ small_there k ds x small.1 (sym (ap (λ (b : Bool). b || list_any (is_about x) ds) other) ∙ is)
-]
-
-few_named : (k : ℕ) (ds : List Duty) → AreSmall k ds → NamesFewCells ds
-few_named k [] small = tt
-few_named k (d ∷ ds) small = small.0.cells
-
-pub rows_there : AccountsAreThere → ChainsAreThere → (layout : Layout) (words : List ℕ) (views : List View) (id : ℕ) (v : View)
-    → Stands layout words views → get_elem? views id ≡ some v → RowsAreThere v
-rows_there law chains layout words views id v stands here =
-    let m = stands.machine in
-    let told = stands.told id v here in
-    let found = stands.acts id v here in
-    let chain = chains stands.accounts (1 + m.layout.workers) m v.thread (actor_of v) stands.counts found in
-    let rows : (x : ℕ) → x < row_count m.layout → x < row_count v.layout =
-    λ x low. subst (λ (l : Layout). x < row_count l) (sym told) low in
-    record {
-      thread =
-          subst (λ (l : Layout). v.thread ≤ l.workers) (sym told)
-          (omega (arith, slice_get_within m.actors v.thread (actor_of v) found, stands.counts.kept.core.threads));
-      used =
-          subst (λ (l : Layout). v.used ≤ block_size l v.thread) (sym told)
-          (stands.counts.kept.core.uses v.thread (actor_of v) found).few;
-      main = λ first.
-          subst (λ (l : Layout). v.used ≡ block_size l v.thread) (sym told)
-          ((stands.counts.kept.core.uses v.thread (actor_of v) found).main first);
-      held = λ x held. rows x (elim (cases_Bool (is_immortal_row m.layout x)) [
-        | inl immortal ↦ immortal_there m.layout x stands.plain immortal
-        | inr counted ↦
-            law stands.accounts (1 + m.layout.workers) m v.thread (actor_of v) AsCaller x stands.counts found
-            (omega (arith, held, stands.holding id v x here counted))
-      ]);
-      agenda = λ x is.
-          rows x (small_there (row_count m.layout) v.agenda x
-          (stands.counts.ranges.each v.thread (actor_of v) found) is);
-      aside = λ x is.
-          rows x (small_there (row_count m.layout) v.aside x
-          (stands.counts.ranges.aside v.thread (actor_of v) found) is);
-      head = subst (λ (l : Layout). v.head ≤ row_count l) (sym told) chain.head;
-      cells = few_named (row_count m.layout) v.agenda (stands.counts.ranges.each v.thread (actor_of v) found);
-      locked = λ x e.
-          let lock = (stands.counts.kept.core.each v.thread (actor_of v) found).0.locks x e in
-          rows x (law stands.accounts (1 + m.layout.workers) m v.thread (actor_of v) lock.by x stands.counts found
-          (omega (arith, lock.held_so)));
-      unfinalised = chain.locked;
-      kinds = λ x word seen. elim (cases_lt 0 word) [
-        | inl more ↦
-            subst (λ (w : ℕ). cells_of w ≤ cell_limit) (stands.kinds_seen id x word v here more seen)
-            (stands.counts.ranges.kinds x)
-        | inr none ↦
-            let zero_word : word ≡ 0 = omega (arith, none) in
-            subst (λ (w : ℕ). cells_of w ≤ cell_limit) (sym zero_word) (omega arith)
-      ];
-    }
 
 -- ---- a step
 
@@ -375,7 +295,8 @@ pub record Seen {S : Type 0} (words : TableState) (hand : HandState) (layout : L
 module _ (kept : DutiesAreKept) (within : DutiesAreWithin) (law : AccountsAreThere)
     (chains : ChainsAreThere) (stay : GuardedCellsStay) (live : HandedMergesLive) (words : TableState)
     (hand : HandState) (begins : View → View) {T : Type 0} (layout : Layout) (slots id index : ℕ)
-    (me : Me (Option T) View) (seen : Seen words hand layout me) (becomes : Becomes words.layout hand.view (begins hand.view)) where
+    (me : Me (Option T) View) (seen : Seen words hand layout me)
+    (becomes : Becomes words.layout hand.view (begins hand.view)) where
   -- What the hand learns is what a step that goes on says.
   continues : (d : Duty) (rest : List Duty) (found : ℕ) → (begins me.0).agenda ≡ d ∷ rest
       → Learns (begins me.0) d rest found → taken_after (begins me.0).taken (use_of d found) ≡ me.0.taken
@@ -414,8 +335,8 @@ module _ (kept : DutiesAreKept) (within : DutiesAreWithin) (law : AccountsAreThe
 
   -- A store is allowed.
   pub store_allowed : (word : ℕ) → StoresWord (begins hand.view) index word
-      → Allows (λ (s : State (Option T) View). TableStands layout s.words s.homes s.views) slots id me index (λ found. word)
-      (λ found after. Stores begins me after)
+      → Allows (λ (s : State (Option T) View). TableStands layout s.words s.homes s.views) slots id me index
+      (λ found. word) (λ found after. Stores begins me after)
   store_allowed word stores_there =
       let stores : StoresWord (begins me.0) index word =
       subst (λ (v : View). StoresWord (begins v) index word) (sym seen.view_is) stores_there in

@@ -56,7 +56,7 @@ pub record Changes (layout : Layout) (words : List ℕ) (views : List View) (v u
   pub given_more : (t : ℕ) → is_given t v ≡ true → is_given t u ≡ true
   pub holding : (x : ℕ) → IsCounted machine.layout x → accounts v.thread AsCaller x ≡ holds u x
   pub others : (t : ℕ) → t ≢ v.thread → accounts t ≡ old.accounts t
-  pub no_variables : (t i x : ℕ) → accounts t (ByVariable i) x ≡ 0
+  pub no_variables : (t depth i x : ℕ) → accounts t (ByVariable depth i) x ≡ 0
   -- what the other hands have seen stays
   pub kinds_stay : (x word : ℕ) → 0 < word → old.machine.memory (KindOf x) ≡ word → machine.memory (KindOf x) ≡ word
   pub cells_stay : (other x : ℕ) (w : View) → w.thread ≢ v.thread → get_elem? views other ≡ some w → Guards machine w x
@@ -83,8 +83,10 @@ module _ (layout : Layout) (words : List ℕ) (views : List View) (id : ℕ) (v 
   acts_after other w is =
       let found : slice_get (set old.machine.actors v.thread (actor_of u)) w.thread ≡ Some (actor_of w) =
       ⊎_elim
-      (λ t. subst (λ (x : View). slice_get (set old.machine.actors v.thread (actor_of u)) x.thread ≡ Some (actor_of x)) t.1
-      (subst (λ (k : ℕ). slice_get (set old.machine.actors v.thread (actor_of u)) k ≡ Some (actor_of u)) (sym new.thread_same)
+      (λ t. subst (λ (x : View).
+      slice_get (set old.machine.actors v.thread (actor_of u)) x.thread ≡ Some (actor_of x)) t.1
+      (subst (λ (k : ℕ). slice_get (set old.machine.actors v.thread (actor_of u)) k ≡ Some (actor_of u))
+      (sym new.thread_same)
       (slice_get-set_same old.machine.actors v.thread (actor_of u)
       (slice_get_within old.machine.actors v.thread (actor_of v) (old.acts id v here)))))
       (λ t. slice_get-set_other old.machine.actors v.thread w.thread (actor_of u) (elsewhere other w t.0 t.1)
@@ -176,7 +178,8 @@ module _ (layout : Layout) (words : List ℕ) (views : List View) (id : ℕ) (v 
       (λ t. let old_main : v.thread ≡ 0 = sym new.thread_same ∙ (ap (λ (x : View). x.thread) t.1 ∙ first) in
       subst (λ (x : View). is_given w.thread x ≡ true) t.1 (new.given_more w.thread
       (subst (λ (k : ℕ). is_given k v ≡ true) (sym b.thread) (old.given id other v b.view here old_main b.found more))))
-      (λ t. subst (λ (k : ℕ). is_given k main ≡ true) (sym b.thread) (old.given one other main b.view t.1 first b.found more))
+      (λ t. subst (λ (k : ℕ). is_given k main ≡ true) (sym b.thread)
+      (old.given one other main b.view t.1 first b.found more))
       (at_set views id one u main is)
 
   -- A joined hand is still gone: the thread that has changed is another one, or it stays gone.

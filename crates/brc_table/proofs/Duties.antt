@@ -30,7 +30,7 @@ use Rattle.brc_table.specs.Begins.{IsQuiet, Makes, MakesQuietly, StoresWord, Sto
 use Rattle.brc_table.specs.Plays.{overwritten_by}
 use Rattle.brc_table.specs.Calls.{ReleasesItem, LoadsShared, SwapsLocal, StoresLocal, AddsShared, ExchangesShared, ChainsRow, OwnsFirst}
 use Rattle.brc_model.specs.SlotLaws.{Takes, Gives}
-use Rattle.brc_table.proofs.Allowed.{immortal_there}
+use Rattle.brc_table.proofs.RowsThere.{immortal_there}
 
 pub runs_on : (v : View) → v.status ≡ Running → v.status ≢ Gone
 runs_on v runs gone = let wrong : Running ≡ Gone = sym runs ∙ gone in absurd cc
@@ -123,7 +123,8 @@ either_list x (e ∷ ds) es d rest is = elim (cases_Bool (is_about x e)) [
   | inl this ↦ inl (ap (λ (b : Bool). b || list_any (is_about x) ds) this)
   | inr other ↦
       let later : filter (is_about x) (ds ++ es) ≡ d ∷ rest =
-      sym (ap (λ (b : Bool). cond b (e ∷ filter (is_about x) (ds ++ es)) (filter (is_about x) (ds ++ es))) other) ∙ is in
+      sym (ap (λ (b : Bool). cond b (e ∷ filter (is_about x) (ds ++ es)) (filter (is_about x) (ds ++ es))) other)
+      ∙ is in
       elim (either_list x ds es d rest later) [
         | inl there ↦ inl (ap (λ (b : Bool). b || list_any (is_about x) ds) other ∙ there)
         | inr there ↦ inr there
@@ -178,20 +179,24 @@ module _ (u : View) (x : ℕ) (alive : u.status ≢ Gone) where
       → MakesQuietly u (in_tile 1 x) (λ found. found)
   shared_load_makes (DecideAtZero y ∷ rest) is same =
       at_line 1 (λ found. found) (DecideAtZero y) rest is tt (ap (in_tile 1) (sym same))
-      (record { status = λ s. refl; head = λ head found. refl; used = λ used. refl; slots = λ found. refl }) (λ found suits. refl)
+      (record { status = λ s. refl; head = λ head found. refl; used = λ used. refl; slots = λ found. refl })
+      (λ found suits. refl)
   shared_load_makes (SharedLoad y r ∷ rest) is same =
       at_line 1 (λ found. found) (SharedLoad y r) rest is tt (ap (in_tile 1) (sym same))
-      (record { status = λ s. refl; head = λ head found. refl; used = λ used. refl; slots = λ found. refl }) (λ found suits. refl)
+      (record { status = λ s. refl; head = λ head found. refl; used = λ used. refl; slots = λ found. refl })
+      (λ found suits. refl)
   shared_load_makes (MergeLoad y c r ∷ rest) is same =
       at_line 1 (λ found. found) (MergeLoad y c r) rest is tt (ap (in_tile 1) (sym same))
-      (record { status = λ s. refl; head = λ head found. refl; used = λ used. refl; slots = λ found. refl }) (λ found suits. refl)
+      (record { status = λ s. refl; head = λ head found. refl; used = λ used. refl; slots = λ found. refl })
+      (λ found suits. refl)
   shared_load_makes _ is same = absurd same
 
   pub local_swap_makes : (ds : List Duty) → u.agenda ≡ ds → SwapsLocal x ds
       → MakesQuietly u (in_tile 0 x) (λ found. 0)
   local_swap_makes (MergeSwap y r ∷ rest) is same =
       at_line 0 (λ found. 0) (MergeSwap y r) rest is tt (ap (in_tile 0) (sym same))
-      (record { status = λ s. refl; head = λ head found. refl; used = λ used. refl; slots = λ found. refl }) (λ found suits. refl)
+      (record { status = λ s. refl; head = λ head found. refl; used = λ used. refl; slots = λ found. refl })
+      (λ found suits. refl)
   local_swap_makes _ is same = absurd same
 
   pub shared_add_makes : (ds : List Duty) → u.agenda ≡ ds → AddsShared x ds
@@ -220,13 +225,15 @@ module _ (u : View) (x : ℕ) (alive : u.status ≢ Gone) where
       → StoresWord u (in_tile 0 x) word
   local_store_makes word (RetainStore y h w ∷ rest) is same = record {
     makes =
-        line_makes 0 (λ found. word) (RetainStore y h w) rest is tt (ap (in_tile 0) (sym same.0)) (λ found suits. same.1);
+        line_makes 0 (λ found. word) (RetainStore y h w) rest is tt (ap (in_tile 0) (sym same.0))
+        (λ found suits. same.1);
     knows = λ found over. over ∙ sym (ap (overwritten_by u.thread) is);
     slots = λ found. refl;
   }
   local_store_makes word (ReleaseStore y w ∷ rest) is same = record {
     makes =
-        line_makes 0 (λ found. word) (ReleaseStore y w) rest is tt (ap (in_tile 0) (sym same.0)) (λ found suits. same.1);
+        line_makes 0 (λ found. word) (ReleaseStore y w) rest is tt (ap (in_tile 0) (sym same.0))
+        (λ found suits. same.1);
     knows = λ found over. over ∙ sym (ap (overwritten_by u.thread) is);
     slots = λ found. refl;
   }

@@ -32,7 +32,8 @@ settling_from law layout v [] is may some =
           (law stands.accounts (1 + stands.machine.layout.workers) stands.machine v.thread (actor_of v) stands.counts
           (record { found = stands.acts id v here; running = may.0; agenda = is }) may.1 some);
       slots =
-          waiting_keeps v (record v { agenda = Settle ∷ [] }) (subst MayWait (sym is) tt) (refl, (λ y locks. refl), refl);
+          waiting_keeps v (record v { agenda = Settle ∷ [] }) (subst MayWait (sym is) tt)
+          (refl, (λ y locks. refl), refl);
     }
 settling_from law layout v (Settle ∷ rest) is may some =
     becomes_same layout v (record v { agenda = Settle ∷ rest }) (ap (λ (ds : List Duty). record v { agenda = ds }) is)

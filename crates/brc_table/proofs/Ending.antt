@@ -78,7 +78,8 @@ rows_ended law layout words views x s ended counted there =
     let ends =
     law s.accounts (1 + m.layout.workers) m x s.counts (machine_ended layout words views s ended) counted' there' in
     let kind : m.memory (KindOf x) ≡ kind_at words x = s.reads (KindOf x) there' in
-    let gate : (y : ℕ) → y < row_count m.layout → m.memory (Gate y) ≡ gate_at words y = λ y low_y. s.reads (Gate y) low_y in
+    let gate : (y : ℕ) → y < row_count m.layout → m.memory (Gate y)
+    ≡ gate_at words y = λ y low_y. s.reads (Gate y) low_y in
     let cell : (y i : ℕ) → y < row_count m.layout → i < cell_limit → m.memory (Cell y i) ≡ cell_at words y i =
     λ y i low_y low_i. s.reads (Cell y i) (low_y, low_i) in
     let shut : gate_at words x ≡ closed_word → m.memory (Gate x) ≡ closed_word = λ is. gate x there' ∙ is in

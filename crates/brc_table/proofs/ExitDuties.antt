@@ -55,11 +55,13 @@ claim_makes v x free = record {
 
 -- ---- the beginning of an exit
 
-module _ (kept : DutiesAreKept) (release : ReleasesBegin) (layout : Layout) (words : List ℕ) (views : List View) (id : ℕ)
+module _ (kept : DutiesAreKept) (release : ReleasesBegin) (layout : Layout) (words : List ℕ) (views : List View)
+    (id : ℕ)
     (v : View) (may : MayLeave v) (here : get_elem? views id ≡ some v) (before : Machine) where
   -- A hand that lists no reference holds none, apart from those to none.
-  holds_none : (has : HasJust kept release layout words id v may.free before views 0) → HoldsNone (has.stands.accounts v.thread)
-  holds_none has (ByVariable i) object = has.stands.no_variables v.thread i object
+  holds_none : (has : HasJust kept release layout words id v may.free before views 0)
+      → HoldsNone (has.stands.accounts v.thread)
+  holds_none has (ByVariable depth i) object = has.stands.no_variables v.thread depth i object
   holds_none has InFlight object = has.stands.counts.no_flight v.thread object
   holds_none has AsCaller object =
       elim (cases_Bool (is_immortal_row has.stands.machine.layout object)) [

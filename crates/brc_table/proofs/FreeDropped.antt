@@ -1,5 +1,5 @@
 -- A hand that has nothing to do gives up its references to immortal objects: no count has them, and no word changes.
-use Rattle.std.proofs.Common.{◌≡◌, ℕ, zero, suc, ◌+◌, Bool, true, cond, List, [], ◌∷◌, ◌++◌, set, inl, inr, refl, sym, ap, ◌∙◌, subst, arith}
+use Rattle.std.proofs.Common.{◌≡◌, ℕ, zero, suc, ◌+◌, Bool, true, cond, None, List, [], ◌∷◌, ◌++◌, set, inl, inr, refl, sym, ap, ◌∙◌, subst, arith}
 use Rattle.std.specs.Prelude.{◌==◌, ◌||◌, ◌&&◌, count_by, nat_le, nat_lt}
 use Rattle.std.proofs.lemmas.Bool.{cases_Bool, eqb-true, leb-true, ltb-true, false≢true}
 use Rattle.std.proofs.lemmas.Bool.Decides.{eqb_tells}
@@ -155,7 +155,7 @@ module _ (kept : DutiesAreKept) (law : ReleasesBegin) (layout : Layout) (words :
             head = v.head;
             used = v.used;
             locked = v.locked;
-            lent = v.lent;
+            lent = None;
           })) rests;
       thread_same = refl;
       told_same = refl;
@@ -166,14 +166,14 @@ module _ (kept : DutiesAreKept) (law : ReleasesBegin) (layout : Layout) (words :
           ap (λ (account : Account). account AsCaller x) (with_account_same s.accounts t less)
           ∙ omega (arith, s.holding id v x here counted, immortal_apart m.layout none_row x refl counted);
       others = with_account_other s.accounts t less;
-      no_variables = λ u i y. elim (eqb_tells u t) [
+      no_variables = λ u depth i y. elim (eqb_tells u t) [
         | inl this ↦
-            ap (λ (j : ℕ). with_account s.accounts t less j (ByVariable i) y) this.1
-            ∙ (ap (λ (account : Account). account (ByVariable i) y) (with_account_same s.accounts t less)
-            ∙ omega (arith, s.no_variables t i y))
+            ap (λ (j : ℕ). with_account s.accounts t less j (ByVariable depth i) y) this.1
+            ∙ (ap (λ (account : Account). account (ByVariable depth i) y) (with_account_same s.accounts t less)
+            ∙ omega (arith, s.no_variables t depth i y))
         | inr apart ↦
-            ap (λ (account : Account). account (ByVariable i) y) (with_account_other s.accounts t less u apart.1)
-            ∙ s.no_variables u i y
+            ap (λ (account : Account). account (ByVariable depth i) y) (with_account_other s.accounts t less u apart.1)
+            ∙ s.no_variables u depth i y
       ];
       kinds_stay = λ x word more is. unwritten m.memory (Local none_row) (KindOf x) ∙ is;
       cells_stay = λ other x w apart is guards. (

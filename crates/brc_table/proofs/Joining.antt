@@ -72,7 +72,8 @@ joins layout id other v w spent gone same = λ s holds here apart there.
     let found : get_elem? s.views other ≡ some w = sym (set_else s.views id other (joining v w) apart) ∙ there in
     let now = passes_joined layout s.words s.views id v w holds.stands here other found gone in
     subst (λ (l : List View). TableStands layout s.words s.homes l)
-    (sym (ap (set (set s.views id (joining v w)) other) (sym same) ∙ set_again (set s.views id (joining v w)) other w there))
+    (sym (ap (set (set s.views id (joining v w)) other) (sym same)
+    ∙ set_again (set s.views id (joining v w)) other w there))
     (record {
       stands = now.stands;
       slots =
@@ -128,7 +129,8 @@ module _ (layout : Layout) (words : List ℕ) (views : List View) (s : Stands la
       let core = s.counts.kept.core in
       let uses = core.uses hand.thread is.actor is.found in
       let blanks = core.blanks hand.thread is.actor is.found in
-      let none = law s.accounts (1 + s.machine.layout.workers) s.machine hand.thread is.actor s.counts is.found is.gone in
+      let none = law s.accounts (1 + s.machine.layout.workers) s.machine hand.thread is.actor s.counts is.found is.gone
+      in
       record {
         few =
             subst (λ (l : Layout). hand.used ≤ block_size l hand.thread) s.layout_is

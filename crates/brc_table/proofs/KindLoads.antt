@@ -19,7 +19,8 @@ use Rattle.brc_table.specs.Plays.{Asks}
 use Rattle.brc_table.specs.Hands.{TableState, HandState, MayLook, HasNoWork, IsRunning}
 use Rattle.brc_table.specs.Begins.{Becomes, MakesQuietly, MakesWithoutSlot}
 use Rattle.brc_table.proofs.Allowed.{Seen, step_allowed}
-use Rattle.brc_table.proofs.Becoming.{then_begins, rested, rearranged, is_ready, alone, has_at_hand, with_at_hand}
+use Rattle.brc_table.proofs.AtHand.{rested, is_ready, alone, has_at_hand, with_at_hand}
+use Rattle.brc_table.proofs.Becoming.{then_begins, rearranged}
 use Rattle.brc_table.proofs.Duties.{runs_on}
 use Rattle.brc_table.proofs.LockedSlots.{slot_full}
 
@@ -81,8 +82,8 @@ module _ (kept : DutiesAreKept) (within : DutiesAreWithin) (law : AccountsAreThe
         goes.3,
         (
           goes.4,
-          λ locked unlent.
-              slot_full full layout s.words s.homes s.views holds id x me.0 here locked unlent ∙ ap resources_of word,
+          λ locked.
+              slot_full full layout s.words s.homes s.views holds id x me.0 here locked ∙ ap resources_of word,
           λ is. sym word ∙ (ap (λ (y : ℕ). holds.stands.machine.memory (KindOf y)) is ∙ holds.stands.named),
         ),
       )

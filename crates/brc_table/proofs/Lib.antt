@@ -7,6 +7,7 @@ mod ThreadsKept
 mod SeenWords
 mod Stepping
 mod CellGuards
+mod RowsThere
 mod Allowed
 mod ThreadsAllowed
 mod SlotLists
@@ -15,6 +16,7 @@ mod SlotsGiven
 pub mod Picked
 pub mod Accounts
 mod Passing
+mod AtHand
 mod Becoming
 mod Silent
 mod Duties

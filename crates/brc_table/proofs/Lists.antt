@@ -1,5 +1,5 @@
--- Lists with one element changed.
-use Rattle.std.proofs.Common.{◌≡◌, ◌≢◌, ℕ, zero, suc, ◌<◌, Bool, true, false, ◌&&◌, List, [], ◌∷◌, length, replicate, set, Some, refl, sym, ap, arith}
+-- Lists with one element changed, or one more at the end.
+use Rattle.std.proofs.Common.{◌≡◌, ◌≢◌, ◌⊎◌, ℕ, zero, suc, ◌<◌, Bool, true, false, ◌&&◌, List, [], ◌∷◌, ◌++◌, length, replicate, set, Some, inl, inr, refl, sym, ap, arith}
 use Rattle.std.specs.Prelude.{slice_get, slice_index, slice_index_or}
 use mathlib.Core.Option.{some, some-injective, some-ne-none}
 use lib.ListN.{get_elem?}
@@ -29,7 +29,8 @@ get_or-same (suc n) zero x = refl
 get_or-same (suc n) (suc i) x = get_or-same n i x
 
 -- An element that is there can be replaced.
-pub set_view : {A : Type 0} (xs : List A) (i : ℕ) (x y : A) → get_elem? xs i ≡ some x → get_elem? (set xs i y) i ≡ some y
+pub set_view : {A : Type 0} (xs : List A) (i : ℕ) (x y : A) → get_elem? xs i ≡ some x
+    → get_elem? (set xs i y) i ≡ some y
 set_view [] i x y is = absurd (some-ne-none x (sym is))
 set_view (z ∷ zs) zero x y is = refl
 set_view (z ∷ zs) (suc i) x y is = set_view zs i x y is
@@ -45,6 +46,17 @@ pub index_found : (xs : List ℕ) (i x : ℕ) → get_elem? xs i ≡ some x → 
 index_found [] i x is = absurd (some-ne-none x (sym is))
 index_found (y ∷ ys) zero x is = sym (some-injective y x is)
 index_found (y ∷ ys) (suc i) x is = index_found ys i x is
+
+-- An element of a longer list was there before, or is the new one.
+pub at_end : {A : Type 0} (l : List A) (a b : A) (j : ℕ) → get_elem? (l ++ a ∷ []) j ≡ some b
+    → (get_elem? l j ≡ some b) ⊎ ((j ≡ length l) × (a ≡ b))
+at_end [] a b zero is = inr (refl, some-injective a b is)
+at_end [] a b (suc j) is = absurd (some-ne-none b (sym is))
+at_end (x ∷ xs) a b zero is = inl is
+at_end (x ∷ xs) a b (suc j) is = elim (at_end xs a b j is) [
+  | inl there ↦ inl there
+  | inr new ↦ inr (ap suc new.0, new.1)
+]
 
 pub and_first : (a b : Bool) → (a && b) ≡ true → a ≡ true
 and_first true b e = refl

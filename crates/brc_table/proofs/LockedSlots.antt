@@ -1,5 +1,5 @@
--- A hand that has locked an object, and has lent no resource, knows from the object's kind what the slot holds.
-use Rattle.std.proofs.Common.{◌≡◌, ℕ, ◌+◌, ◌<◌, true, Option, None, Some, List, [], ◌∷◌, sym, ap, ◌∙◌}
+-- A hand that has locked an object knows from the object's kind what the slot holds.
+use Rattle.std.proofs.Common.{◌≡◌, ℕ, ◌+◌, ◌<◌, true, Option, Some, List, [], ◌∷◌, refl, sym, ap, ◌∙◌}
 use Rattle.std.specs.Prelude.{◌||◌}
 use Rattle.std.specs.List.{list_any}
 use Rattle.std.proofs.lemmas.List.Folds.{list_any-append}
@@ -26,16 +26,15 @@ still_seen x word v d rest found seen =
 
 module _ (full : LockedSlotsAreFull) {T : Type 0} (layout : Layout) (words : List ℕ)
     (homes : List (home.Option (Option T))) (views : List View) (holds : TableStands layout words homes views)
-    (id x : ℕ) (v : View) (here : get_elem? views id ≡ some v) (locked : v.locked ≡ Some x) (unlent : v.lent ≡ None)
-  where
-    -- The slot holds as many resources as the machine's kind word says.
-    pub slot_full : v.in_slot ≡ resources_of (holds.stands.machine.memory (KindOf x))
-    slot_full =
-        let s = holds.stands in
-        sym ((holds.slots.locked id x v here locked).1)
-        ∙ full s.accounts (1 + s.machine.layout.workers) s.machine v.thread (actor_of v) x s.counts (s.acts id v here)
-        locked unlent
+    (id x : ℕ) (v : View) (here : get_elem? views id ≡ some v) (locked : v.locked ≡ Some x) where
+  -- The slot holds as many resources as the machine's kind word says.
+  pub slot_full : v.in_slot ≡ resources_of (holds.stands.machine.memory (KindOf x))
+  slot_full =
+      let s = holds.stands in
+      sym ((holds.slots.locked id x v here locked).1)
+      ∙ full s.accounts (1 + s.machine.layout.workers) s.machine v.thread (actor_of v) x s.counts (s.acts id v here)
+      locked refl
 
-    -- So it does by the kind word that the hand has seen.
-    pub slot_seen : (word : ℕ) → 0 < word → has_seen_kind x word v ≡ true → v.in_slot ≡ resources_of word
-    slot_seen word more seen = slot_full ∙ ap resources_of (holds.stands.kinds_seen id x word v here more seen)
+  -- So it does by the kind word that the hand has seen.
+  pub slot_seen : (word : ℕ) → 0 < word → has_seen_kind x word v ≡ true → v.in_slot ≡ resources_of word
+  slot_seen word more seen = slot_full ∙ ap resources_of (holds.stands.kinds_seen id x word v here more seen)

@@ -16,7 +16,8 @@ use Rattle.brc_table.specs.Seen.{KnowsCell}
 use Rattle.brc_table.specs.Hands.{HoldsOne, MayLoad, HasNoWork, HasNoRetain, IsRunning}
 use Rattle.brc_table.specs.Begins.{Becomes, MakesQuietly, StoresWithSlot}
 use Rattle.brc_model.specs.SlotLaws.{Gives}
-use Rattle.brc_table.proofs.Becoming.{then_begins, rested, rearranged, rearranged_with, is_ready, alone, has_one, with_one}
+use Rattle.brc_table.proofs.AtHand.{rested, is_ready, alone, has_one, with_one}
+use Rattle.brc_table.proofs.Becoming.{then_begins, rearranged, rearranged_with}
 use Rattle.brc_table.proofs.Duties.{runs_on}
 
 -- A hand begins to lock an object that it holds.
@@ -42,9 +43,9 @@ locking_becomes put law free layout v x n running counted none holding unlocked 
 
 -- A hand begins to unlock the object that it has locked.
 pub unlocking_becomes : WorkIsPutAside → UnlocksBegin → ImmortalsAreFree → (layout : Layout) (v : View) (x : ℕ)
-    → IsRunning v → HasNoWork v x → HoldsOne v x → v.locked ≡ Some x → HasNoRetain v → v.lent ≡ None
+    → IsRunning v → HasNoWork v x → HoldsOne v x → v.locked ≡ Some x → HasNoRetain v
     → Becomes layout v (unlocking v x)
-unlocking_becomes put law free layout v x running none holding locked retains returned =
+unlocking_becomes put law free layout v x running none holding locked retains =
     then_begins put layout v (unlocking v x) running.1 (refl, (λ y locks. refl), refl)
     (λ words views id stands here.
     let one =
@@ -54,7 +55,7 @@ unlocking_becomes put law free layout v x running none holding locked retains re
     with_one one
     (rearranged layout words views id (rested v) s here (UnlockGate x ∷ []) (open_work v)
     (law s.accounts (1 + s.machine.layout.workers) s.machine v.thread (actor_of (rested v)) x s.counts
-    (is_ready layout words views id v s here running.0) (alone v x none) one.more locked retains returned)))
+    (is_ready layout words views id v s here running.0) (alone v x none) one.more locked retains refl)))
 
 -- The kind word of an object with a cell is above 0.
 pub kind_some : (word i : ℕ) → i < cells_of word → 0 < word

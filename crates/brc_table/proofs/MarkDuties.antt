@@ -28,7 +28,8 @@ module _ (u : View) (x : ℕ) (alive : u.status ≢ Gone) where
       → MakesQuietly u (in_tile 4 x) (λ found. 0)
   mark_take_makes (TakeMark y ∷ rest) is same =
       at_line u x alive 4 (λ found. 0) (TakeMark y) rest is tt (ap (in_tile 4) (sym same))
-      (record { status = λ s. refl; head = λ head found. refl; used = λ used. refl; slots = λ found. refl }) (λ found suits. refl)
+      (record { status = λ s. refl; head = λ head found. refl; used = λ used. refl; slots = λ found. refl })
+      (λ found suits. refl)
   mark_take_makes _ is same = absurd same
 
   pub look_makes : (ds : List Duty) → u.agenda ≡ ds → LooksAtOwner x ds

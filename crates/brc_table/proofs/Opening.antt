@@ -105,7 +105,7 @@ module _ (begin : HandsBegin) (layout : Layout) (plain : IsPlainLayout layout) (
         let wrong : None ≡ Some word = sym none ∙ seen in cc);
     holding = λ id v x is counted.
         of_main (λ w. hands_accounts w.thread AsCaller x ≡ holds w x) id v is (main_holds layout x);
-    no_variables = λ t i x. by_none (t == 0);
+    no_variables = λ t depth i x. by_none (t == 0);
     apart = λ id other v w is that same.
         (only_one (main_view layout) v id is).0 ∙ sym (only_one (main_view layout) w other that).0;
     idle = idle_workers;
@@ -113,7 +113,8 @@ module _ (begin : HandsBegin) (layout : Layout) (plain : IsPlainLayout layout) (
         let none = ap (λ (w : View). w.thread) (only_one (main_view layout) v other that).1 in
         absurd (omega (arith, later, none));
     joined = λ id v is.
-        of_main (λ w. All (IsGone (hands_machine layout).actors) w.joined) id v is (λ k d low. absurd (omega (arith, low)));
+        of_main (λ w. All (IsGone (hands_machine layout).actors) w.joined) id v is
+        (λ k d low. absurd (omega (arith, low)));
     threads = record {
       started = λ id v is. of_main (λ w. 0 < thread_word words w.thread) id v is (omega (arith, main_runs));
       started_seen = λ id t v is low seen.
@@ -128,7 +129,8 @@ module _ (begin : HandsBegin) (layout : Layout) (plain : IsPlainLayout layout) (
   }
 
   -- Each slot is at home, and empty.
-  pub slots_open : {T : Type 0} → TableStands layout words (map home.some (replicate {A = Option T} (row_count layout) None)) hands
+  pub slots_open : {T : Type 0} → TableStands layout words
+      (map home.some (replicate {A = Option T} (row_count layout) None)) hands
   unfolding opening
   slots_open {T} = record {
     stands = opening;

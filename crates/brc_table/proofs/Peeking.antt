@@ -28,7 +28,7 @@ use Rattle.brc_table.specs.Begins.{Passes}
 use Rattle.brc_table.specs.Rule.{thread_reading, Stands}
 use Rattle.brc_table.specs.Ending.{SeesEnd}
 use Rattle.brc_table.specs.Peeks.{peeked, NeverStarted, Peeks}
-use Rattle.brc_table.proofs.Allowed.{rows_there}
+use Rattle.brc_table.proofs.RowsThere.{rows_there}
 use Rattle.brc_table.proofs.Changing.{Changes, passes}
 use Rattle.brc_table.proofs.Joining.{joined_gone}
 use Rattle.brc_table.proofs.SlotsKept.{slots_kept}
@@ -133,7 +133,8 @@ module _ (accounts : AccountsAreThere) (chains : ChainsAreThere) (layout : Layou
     pub passes_peeked : Passes layout (set words (place (ThreadWord t)) found) (set views id after) v.taken v.locked m
     unfolding changes
     passes_peeked =
-        passes layout words views id v after s here (set words (place (ThreadWord t)) found) changes v.taken v.locked (λ x which. refl)
+        passes layout words views id v after s here (set words (place (ThreadWord t)) found) changes v.taken v.locked
+        (λ x which. refl)
 
     -- The word is that of a thread's status, or 0.
     pub found_low : found ≤ 3
@@ -158,7 +159,12 @@ module _ (accounts : AccountsAreThere) (chains : ChainsAreThere) (layout : Layou
             | inl pos ↦ pos
             | inr main ↦
                 let same : v.thread ≡ t = omega (arith, first, main) in
-                absurd (omega (arith, none, subst (λ (k : ℕ). 0 < thread_word words k) same (threads.started id v here)))
+                absurd (omega (
+                  arith,
+                  none,
+                  subst (λ (k : ℕ). 0 < thread_word words k) same
+                      (threads.started id v here),
+                ))
           ];
           not_given = elim (cases_Bool (is_given t v)) [
             | inl given ↦
@@ -170,7 +176,8 @@ module _ (accounts : AccountsAreThere) (chains : ChainsAreThere) (layout : Layou
 
   -- The look is allowed.
   pub peek_allowed : {T : Type 0} (slots id index : ℕ) (me : Me (Option T) View) → me.0 ≡ v → index ≡ t
-      → Allows (λ (s : State (Option T) View). TableStands layout s.words s.homes s.views) slots id me index (λ found. found)
+      → Allows (λ (s : State (Option T) View). TableStands layout s.words s.homes s.views) slots id me index
+      (λ found. found)
       (λ found after. Peeks t me found after)
   peek_allowed slots id index me is_me at s holds homes here below =
       let mine : get_elem? s.views id ≡ some v = here ∙ ap some is_me in

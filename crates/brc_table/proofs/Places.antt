@@ -46,7 +46,8 @@ header_cell k x y i low small e =
 
 cell_apart : (x i y j : ℕ) → i < line → j < line → cell_place x i ≡ cell_place y j → (x ≡ y) × (i ≡ j)
 cell_apart x i y j small small' e =
-    let same = same_coordinates (x / line) (5 + x % line) i (y / line) (5 + y % line) j (omega (arith, rest_low x)) small
+    let same = same_coordinates (x / line) (5 + x % line) i (y / line) (5 + y % line) j (omega (arith, rest_low x))
+    small
     (omega (arith, rest_low y)) small' e in
     (same_row x y same.0 (omega (arith, same.1)), same.2)
 
@@ -56,48 +57,69 @@ not_same : (x y : ℕ) → (x == y) ≡ false → x ≢ y
 not_same x y apart e = absurd (let both : true ≡ false = sym (eq-eqb x y e) ∙ apart in cc)
 
 -- Different addresses have different places.
-pub place_apart : (layout : Layout) (a b : Address) → layout.workers ≤ worker_limit → HasWord layout a → HasWord layout b
+pub place_apart : (layout : Layout) (a b : Address) → layout.workers ≤ worker_limit → HasWord layout a
+    → HasWord layout b
     → same_address a b ≡ false → place a ≢ place b
 place_apart layout (Local x) (Local y) few one other apart e = not_same x y apart (header_row 0 x y (omega arith) e)
-place_apart layout (Local x) (Shared y) few one other apart e = absurd (omega (arith, header_line 0 1 x y (omega arith) (omega arith) e))
-place_apart layout (Local x) (Gate y) few one other apart e = absurd (omega (arith, header_line 0 2 x y (omega arith) (omega arith) e))
-place_apart layout (Local x) (KindOf y) few one other apart e = absurd (omega (arith, header_line 0 3 x y (omega arith) (omega arith) e))
-place_apart layout (Local x) (Mark y) few one other apart e = absurd (omega (arith, header_line 0 4 x y (omega arith) (omega arith) e))
+place_apart layout (Local x) (Shared y) few one other apart e = absurd
+    (omega (arith, header_line 0 1 x y (omega arith) (omega arith) e))
+place_apart layout (Local x) (Gate y) few one other apart e = absurd
+    (omega (arith, header_line 0 2 x y (omega arith) (omega arith) e))
+place_apart layout (Local x) (KindOf y) few one other apart e = absurd
+    (omega (arith, header_line 0 3 x y (omega arith) (omega arith) e))
+place_apart layout (Local x) (Mark y) few one other apart e = absurd
+    (omega (arith, header_line 0 4 x y (omega arith) (omega arith) e))
 place_apart layout (Local x) (Cell y i) few one other apart e = header_cell 0 x y i (omega arith) other.1 e
 place_apart layout (Local x) (ThreadWord u) few one other apart e = absurd (omega (arith, few, other, e))
 place_apart layout (Cell y i) (Local x) few one other apart e = header_cell 0 x y i (omega arith) one.1 (sym e)
 place_apart layout (ThreadWord u) (Local x) few one other apart e = absurd (omega (arith, few, one, e))
-place_apart layout (Shared x) (Local y) few one other apart e = absurd (omega (arith, header_line 1 0 x y (omega arith) (omega arith) e))
+place_apart layout (Shared x) (Local y) few one other apart e = absurd
+    (omega (arith, header_line 1 0 x y (omega arith) (omega arith) e))
 place_apart layout (Shared x) (Shared y) few one other apart e = not_same x y apart (header_row 1 x y (omega arith) e)
-place_apart layout (Shared x) (Gate y) few one other apart e = absurd (omega (arith, header_line 1 2 x y (omega arith) (omega arith) e))
-place_apart layout (Shared x) (KindOf y) few one other apart e = absurd (omega (arith, header_line 1 3 x y (omega arith) (omega arith) e))
-place_apart layout (Shared x) (Mark y) few one other apart e = absurd (omega (arith, header_line 1 4 x y (omega arith) (omega arith) e))
+place_apart layout (Shared x) (Gate y) few one other apart e = absurd
+    (omega (arith, header_line 1 2 x y (omega arith) (omega arith) e))
+place_apart layout (Shared x) (KindOf y) few one other apart e = absurd
+    (omega (arith, header_line 1 3 x y (omega arith) (omega arith) e))
+place_apart layout (Shared x) (Mark y) few one other apart e = absurd
+    (omega (arith, header_line 1 4 x y (omega arith) (omega arith) e))
 place_apart layout (Shared x) (Cell y i) few one other apart e = header_cell 1 x y i (omega arith) other.1 e
 place_apart layout (Shared x) (ThreadWord u) few one other apart e = absurd (omega (arith, few, other, e))
 place_apart layout (Cell y i) (Shared x) few one other apart e = header_cell 1 x y i (omega arith) one.1 (sym e)
 place_apart layout (ThreadWord u) (Shared x) few one other apart e = absurd (omega (arith, few, one, e))
-place_apart layout (Gate x) (Local y) few one other apart e = absurd (omega (arith, header_line 2 0 x y (omega arith) (omega arith) e))
-place_apart layout (Gate x) (Shared y) few one other apart e = absurd (omega (arith, header_line 2 1 x y (omega arith) (omega arith) e))
+place_apart layout (Gate x) (Local y) few one other apart e = absurd
+    (omega (arith, header_line 2 0 x y (omega arith) (omega arith) e))
+place_apart layout (Gate x) (Shared y) few one other apart e = absurd
+    (omega (arith, header_line 2 1 x y (omega arith) (omega arith) e))
 place_apart layout (Gate x) (Gate y) few one other apart e = not_same x y apart (header_row 2 x y (omega arith) e)
-place_apart layout (Gate x) (KindOf y) few one other apart e = absurd (omega (arith, header_line 2 3 x y (omega arith) (omega arith) e))
-place_apart layout (Gate x) (Mark y) few one other apart e = absurd (omega (arith, header_line 2 4 x y (omega arith) (omega arith) e))
+place_apart layout (Gate x) (KindOf y) few one other apart e = absurd
+    (omega (arith, header_line 2 3 x y (omega arith) (omega arith) e))
+place_apart layout (Gate x) (Mark y) few one other apart e = absurd
+    (omega (arith, header_line 2 4 x y (omega arith) (omega arith) e))
 place_apart layout (Gate x) (Cell y i) few one other apart e = header_cell 2 x y i (omega arith) other.1 e
 place_apart layout (Gate x) (ThreadWord u) few one other apart e = absurd (omega (arith, few, other, e))
 place_apart layout (Cell y i) (Gate x) few one other apart e = header_cell 2 x y i (omega arith) one.1 (sym e)
 place_apart layout (ThreadWord u) (Gate x) few one other apart e = absurd (omega (arith, few, one, e))
-place_apart layout (KindOf x) (Local y) few one other apart e = absurd (omega (arith, header_line 3 0 x y (omega arith) (omega arith) e))
-place_apart layout (KindOf x) (Shared y) few one other apart e = absurd (omega (arith, header_line 3 1 x y (omega arith) (omega arith) e))
-place_apart layout (KindOf x) (Gate y) few one other apart e = absurd (omega (arith, header_line 3 2 x y (omega arith) (omega arith) e))
+place_apart layout (KindOf x) (Local y) few one other apart e = absurd
+    (omega (arith, header_line 3 0 x y (omega arith) (omega arith) e))
+place_apart layout (KindOf x) (Shared y) few one other apart e = absurd
+    (omega (arith, header_line 3 1 x y (omega arith) (omega arith) e))
+place_apart layout (KindOf x) (Gate y) few one other apart e = absurd
+    (omega (arith, header_line 3 2 x y (omega arith) (omega arith) e))
 place_apart layout (KindOf x) (KindOf y) few one other apart e = not_same x y apart (header_row 3 x y (omega arith) e)
-place_apart layout (KindOf x) (Mark y) few one other apart e = absurd (omega (arith, header_line 3 4 x y (omega arith) (omega arith) e))
+place_apart layout (KindOf x) (Mark y) few one other apart e = absurd
+    (omega (arith, header_line 3 4 x y (omega arith) (omega arith) e))
 place_apart layout (KindOf x) (Cell y i) few one other apart e = header_cell 3 x y i (omega arith) other.1 e
 place_apart layout (KindOf x) (ThreadWord u) few one other apart e = absurd (omega (arith, few, other, e))
 place_apart layout (Cell y i) (KindOf x) few one other apart e = header_cell 3 x y i (omega arith) one.1 (sym e)
 place_apart layout (ThreadWord u) (KindOf x) few one other apart e = absurd (omega (arith, few, one, e))
-place_apart layout (Mark x) (Local y) few one other apart e = absurd (omega (arith, header_line 4 0 x y (omega arith) (omega arith) e))
-place_apart layout (Mark x) (Shared y) few one other apart e = absurd (omega (arith, header_line 4 1 x y (omega arith) (omega arith) e))
-place_apart layout (Mark x) (Gate y) few one other apart e = absurd (omega (arith, header_line 4 2 x y (omega arith) (omega arith) e))
-place_apart layout (Mark x) (KindOf y) few one other apart e = absurd (omega (arith, header_line 4 3 x y (omega arith) (omega arith) e))
+place_apart layout (Mark x) (Local y) few one other apart e = absurd
+    (omega (arith, header_line 4 0 x y (omega arith) (omega arith) e))
+place_apart layout (Mark x) (Shared y) few one other apart e = absurd
+    (omega (arith, header_line 4 1 x y (omega arith) (omega arith) e))
+place_apart layout (Mark x) (Gate y) few one other apart e = absurd
+    (omega (arith, header_line 4 2 x y (omega arith) (omega arith) e))
+place_apart layout (Mark x) (KindOf y) few one other apart e = absurd
+    (omega (arith, header_line 4 3 x y (omega arith) (omega arith) e))
 place_apart layout (Mark x) (Mark y) few one other apart e = not_same x y apart (header_row 4 x y (omega arith) e)
 place_apart layout (Mark x) (Cell y i) few one other apart e = header_cell 4 x y i (omega arith) other.1 e
 place_apart layout (Mark x) (ThreadWord u) few one other apart e = absurd (omega (arith, few, other, e))
@@ -105,7 +127,8 @@ place_apart layout (Cell y i) (Mark x) few one other apart e = header_cell 4 x y
 place_apart layout (ThreadWord u) (Mark x) few one other apart e = absurd (omega (arith, few, one, e))
 place_apart layout (Cell x i) (Cell y j) few one other apart e =
     let same = cell_apart x i y j one.1 other.1 e in
-    absurd (let both : ((x == y) && (i == j)) ≡ true = rw (eq-eqb x y same.0, eq-eqb i j same.1) refl in let wrong : true ≡ false = sym both ∙ apart in cc)
+    absurd (let both : ((x == y) && (i == j)) ≡ true = rw (eq-eqb x y same.0, eq-eqb i j same.1) refl in let wrong :
+    true ≡ false = sym both ∙ apart in cc)
 place_apart layout (Cell x i) (ThreadWord u) few one other apart e = absurd (omega (arith, few, other, e))
 place_apart layout (ThreadWord u) (Cell x i) few one other apart e = absurd (omega (arith, few, one, e))
 place_apart layout (ThreadWord t) (ThreadWord u) few one other apart e = not_same t u apart e
@@ -129,7 +152,8 @@ header_within layout k x low there = omega (arith, low, row_tile layout x there,
 pub cell_within : (layout : Layout) (x i : ℕ) → i < line → x < row_count layout → cell_place x i < word_count layout
 cell_within layout x i low there = omega (arith, low, row_tile layout x there, rest_low x)
 
-pub place_within : (layout : Layout) (a : Address) → layout.workers ≤ worker_limit → HasWord layout a → place a < word_count layout
+pub place_within : (layout : Layout) (a : Address) → layout.workers ≤ worker_limit → HasWord layout a → place a
+    < word_count layout
 place_within layout (Local x) few has = header_within layout 0 x (omega arith) has
 place_within layout (Shared x) few has = header_within layout 1 x (omega arith) has
 place_within layout (Gate x) few has = header_within layout 2 x (omega arith) has

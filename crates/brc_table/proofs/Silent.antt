@@ -1,5 +1,5 @@
--- A hand does a duty about a slot or a resource, which changes no word of the table: a new object's resource goes into its
--- slot, or a dying object's one is taken out and closed. The hand has the slot meanwhile.
+-- A hand does a duty about a slot or a resource, which changes no word of the table: a new object's resource goes into
+-- its slot, or a dying object's one is taken out and closed. The hand has the slot meanwhile.
 use Rattle.std.proofs.Common.{◌≡◌, ◌≢◌, ◌⊎◌, ℕ, zero, suc, ◌+◌, ◌≤◌, Bool, true, cond, Some, List, [], ◌∷◌, set, inl, inr, refl, sym, ap, ◌∙◌, subst, arith}
 use Rattle.std.specs.Prelude.{◌==◌, ◌||◌}
 use Rattle.std.specs.List.{list_any}

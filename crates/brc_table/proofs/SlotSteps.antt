@@ -164,8 +164,8 @@ module _ (kept : DutiesAreKept) (within : DutiesAreWithin) (law : AccountsAreThe
         (λ found knows. either_is found free_word gate free_word (locked_word v.thread) refl names) in
         let w = did u (LockGate x ∷ []) word in
         let rows =
-        allowed.rows_now kept within law chains stay live layout v u (LockGate x) [] index becomes next s holds id mine f
-        leaves in
+        allowed.rows_now kept within law chains stay live layout v u (LockGate x) [] index becomes next s holds id mine
+        f leaves in
         elim (cases_Bool (word == free_word)) [
           | inl is_free ↦
               let takes_it : use_of (LockGate x) word ≡ Takes x = ap (λ (b : Bool). cond b (Takes x) Stays) is_free in
@@ -189,10 +189,10 @@ module _ (kept : DutiesAreKept) (within : DutiesAreWithin) (law : AccountsAreThe
                       ∙ sym (ap (taken_after u.taken) takes_it),
                   ap (λ (k : ℕ). (x, k) ∷ held_in me.1) slot.holds
                       ∙ sym (ap (λ (b : Bool). cond b ((x, n) ∷ held_in me.1) (held_in me.1)) is_free),
-                  λ kind found_free unlent more seen.
+                  λ kind found_free more seen.
                       slot_seen full layout (set s.words index (f word)) (set s.homes x home.none) (set s.views id w)
                       now id x w (set_view s.views id v w mine) (ap (λ (b : Bool). cond b (Some x) v.locked) is_free)
-                      (sym (ap (λ (z : View). z.lent) is_me) ∙ unlent) kind more
+                      kind more
                       (still_seen x kind u (LockGate x) [] word
                       (subst (λ (z : View). has_seen_kind x kind z ≡ true) is_me seen)),
                 ),
@@ -217,7 +217,7 @@ module _ (kept : DutiesAreKept) (within : DutiesAreWithin) (law : AccountsAreThe
                   λ follows.
                       follows ∙ (ap (λ (z : View). z.taken) is_me ∙ sym (ap (taken_after u.taken) stays)),
                   sym (ap (λ (b : Bool). cond b ((x, n) ∷ held_in me.1) (held_in me.1)) other),
-                  λ kind found_free unlent more seen.
+                  λ kind found_free more seen.
                       absurd (false≢true (sym other ∙ eq-eqb word free_word found_free)),
                 ),
               )

@@ -116,12 +116,14 @@ module _ (kept : DutiesAreKept) (within : DutiesAreWithin) (law : AccountsAreThe
         let relied = relies kept within stay layout s.words (set s.views id u) id u d rest it in
         let same : k.layout ≡ m.layout = it.stands.layout_is ∙ sym holds.stands.layout_is in
         subst (λ (l : Layout). x < row_count l) same
-        (given_there k.layout u.thread u.head (row_count k.layout) (1 + k.layout.workers) d found x gives_it relied.there)
+        (given_there k.layout u.thread u.head (row_count k.layout) (1 + k.layout.workers) d found x gives_it
+        relied.there)
 
     -- What the slot holds is what the machine says.
     holds_due : resources slot ≡ k.memory (Slot x)
     holds_due =
-        let first = allowed.first kept within law chains stay live layout v u d rest index becomes next s holds id here in
+        let first = allowed.first kept within law chains stay live layout v u d rest index becomes next s holds id here
+        in
         due_is known layout s.words (set s.views id u) id v u d rest it found x (resources slot) gives_it
         (sym becomes.slots.locked) becomes.slots.in_slot
         (λ y locks. first.slots y (inr locks) ∙ (holds.slots.locked id y v here locks).1) due
@@ -165,7 +167,8 @@ module _ (kept : DutiesAreKept) (within : DutiesAreWithin) (law : AccountsAreThe
       → Uses begins (seat, (x, slot) ∷ ps) (read_of u d found) after → then found after)
       → Allows (λ (s : State (Option T) View). TableStands layout s.words s.homes s.views) slots id
       (seat, (x, slot) ∷ ps) index f then
-  given_allows slots id seat slot ps f begins then is_me becomes_is follows due all leaves goes s holds homes here below =
+  given_allows slots id seat slot ps f begins then is_me becomes_is follows due all leaves goes s holds homes here
+      below =
       let mine = here ∙ ap some is_me in
       let word = slice_index s.words index in
       let found_now = read_of u d word in
@@ -185,8 +188,10 @@ module _ (kept : DutiesAreKept) (within : DutiesAreWithin) (law : AccountsAreThe
                   leaves,
               λ same.
                   ap behind_first (follows ∙ sym becomes.slots.taken) ∙ sym (ap (taken_after u.taken) gives_it),
-              sym (ap (λ (z : SlotUse). held_after ((x, resources slot) ∷ held_in ps) z (first_due (d ∷ rest) found_now)) gives_it)
-                  ∙ ap (λ (ds : List Duty). held_after ((x, resources slot) ∷ held_in ps) (first_use ds found_now) (first_due ds found_now))
+              sym (ap (λ (z : SlotUse). held_after ((x, resources slot) ∷ held_in ps) z
+                  (first_due (d ∷ rest) found_now)) gives_it)
+                  ∙ ap (λ (ds : List Duty). held_after ((x, resources slot) ∷ held_in ps) (first_use ds found_now)
+                  (first_due ds found_now))
                   (sym next.agenda ∙ ap (λ (z : View). z.agenda) (sym is_u)),
             ),
       )
@@ -208,4 +213,5 @@ module _ (kept : DutiesAreKept) (within : DutiesAreWithin) (law : AccountsAreThe
       (given_allows slots id me.0 l.slot l.ps f begins then is_me becomes_is (sym (ap rows_of l.is) ∙ follows)
       (subst (IsDue u (d ∷ rest)) (sym l.count) due) all leaves
       (λ found after knows uses.
-      goes found after knows (subst (λ (it : Me (Option T) View). Uses begins it (read_of u d found) after) (sym whole) uses)))
+      goes found after knows (subst (λ (it : Me (Option T) View). Uses begins it (read_of u d found) after) (sym whole)
+      uses)))

@@ -1,4 +1,5 @@
--- A hand takes a slot by its first duty, and the rule holds again: the slot was at home, and is the hand's from then on.
+-- A hand takes a slot by its first duty, and the rule holds again: the slot was at home, and is the hand's from then
+-- on.
 use Rattle.std.proofs.Common.{◌≡◌, ◌⊎◌, ℕ, ◌+◌, ◌<◌, Option, Some, List, ◌∷◌, cond, set, inl, inr, refl, sym, ap, ◌∙◌, subst, arith}
 use Rattle.std.specs.Prelude.{◌==◌, slice_get, slice_index}
 use Rattle.std.proofs.lemmas.Bool.{cases_Bool, cases_lt}
@@ -141,7 +142,8 @@ module _ (kept : DutiesAreKept) (within : DutiesAreWithin) (law : AccountsAreThe
           let relied = relies kept within stay layout s.words (set s.views id u) id u d rest it in
           let same : k.layout ≡ m.layout = it.stands.layout_is ∙ sym holds.stands.layout_is in
           subst (λ (l : Layout). x < row_count l) same
-          (taken_there k.layout u.thread u.head (row_count k.layout) (1 + k.layout.workers) d found x takes_it relied.there)
+          (taken_there k.layout u.thread u.head (row_count k.layout) (1 + k.layout.workers) d found x takes_it
+          relied.there)
 
       pub slot_home : HoldsHome m s.homes x
       slot_home = holds.slots.at_home x row_low is_home
@@ -158,11 +160,13 @@ module _ (kept : DutiesAreKept) (within : DutiesAreWithin) (law : AccountsAreThe
           (locks : (y : ℕ) → locked_by u.locked d found ≡ Some y
           → ((y ≡ x) × (m.memory (Slot x) ≡ u.in_slot)) ⊎ ((v.locked ≡ Some y) × (u.in_slot ≡ v.in_slot))) where
         -- The rule holds after the step.
-        pub stands_now : TableStands layout (set s.words index (f (slice_index s.words index))) (set s.homes x home.none)
+        pub stands_now : TableStands layout (set s.words index (f (slice_index s.words index)))
+            (set s.homes x home.none)
             (set s.views id (did u (d ∷ rest) found))
         stands_now =
             let now =
-            allowed.now kept within law chains stay live layout v u d rest index becomes next s holds id here f leaves in
+            allowed.now kept within law chains stay live layout v u d rest index becomes next s holds id here f leaves
+            in
             record {
               stands = now.stands;
               slots =
@@ -215,7 +219,8 @@ module _ (kept : DutiesAreKept) (within : DutiesAreWithin) (law : AccountsAreThe
               allowed.rows_now kept within law chains stay live layout v u d rest index becomes next s holds id mine f
                   leaves,
               λ follows.
-                  ap (λ (rows : List ℕ). x ∷ rows) (follows ∙ (ap (λ (z : View). z.taken) is_me ∙ sym becomes.slots.taken))
+                  ap (λ (rows : List ℕ). x ∷ rows) (follows ∙
+                  (ap (λ (z : View). z.taken) is_me ∙ sym becomes.slots.taken))
                   ∙ sym (ap (taken_after u.taken) takes_it),
               ap (λ (n : ℕ). (x, n) ∷ held_in me.1) due
                   ∙ (sym (ap (λ (w : SlotUse). held_after (held_in me.1) w (first_due (d ∷ rest) found_now)) takes_it)

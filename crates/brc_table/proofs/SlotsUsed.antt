@@ -131,7 +131,8 @@ used_now v (SettleKind y) rest found x takes =
           ap (λ (b : Bool). list_any (needs_slot x) (cond b (TakeSlot y ∷ []) (cells_from y 0 (cells_of found)))) has
           ∙ ap (λ (b : Bool). b || false) same
       | inr has_not ↦
-          ap (λ (b : Bool). list_any (needs_slot x) (cond b (TakeSlot y ∷ []) (cells_from y 0 (cells_of found)))) has_not
+          ap (λ (b : Bool). list_any (needs_slot x) (cond b (TakeSlot y ∷ []) (cells_from y 0 (cells_of found))))
+          has_not
           ∙ cells_need x y 0 (cells_of found) same
     ] in
     inr (needs_ready x v.head (next ++ rest) ∙ (list_any-append (needs_slot x) next rest

@@ -14,7 +14,8 @@ use Rattle.brc_table.proofs.Lists.{slice_get-set_same, slice_get-set_other, get_
 
 -- One spare more, which isn't spent.
 pub spare_more : {A : Type 0} (spares : List (Option A)) (spare : A) (worker : ℕ)
-    → ((k : ℕ) → is_spent (slice_get spares k) ≡ false) → is_spent (slice_get (spares ++ Some spare ∷ []) worker) ≡ false
+    → ((k : ℕ) → is_spent (slice_get spares k) ≡ false) → is_spent (slice_get (spares ++ Some spare ∷ []) worker)
+    ≡ false
 spare_more [] spare zero left = refl
 spare_more [] spare (suc worker) left = refl
 spare_more (first ∷ spares) spare zero left = left zero
@@ -24,7 +25,8 @@ spare_more (first ∷ spares) spare (suc worker) left = spare_more spares spare 
 pub spent_at : {A : Type 0} (spares : List (Option A)) (t : ℕ) → 0 < t
     → is_spent_for spares t ≡ is_spent (slice_get spares (t - 1))
 spent_at spares t some =
-    ap (λ (b : Bool). cond b false (is_spent (slice_get spares (t - 1)))) (ne_eqb t 0 (λ e. absurd (omega (arith, e, some))))
+    ap (λ (b : Bool). cond b false (is_spent (slice_get spares (t - 1))))
+    (ne_eqb t 0 (λ e. absurd (omega (arith, e, some))))
 
 -- Where no spare is spent, no thread's is.
 pub none_spent : {A : Type 0} (spares : List (Option A)) (t : ℕ) → ((k : ℕ) → is_spent (slice_get spares k) ≡ false)
@@ -55,7 +57,8 @@ pub given_by : {A : Type 0} (spares : List (Option A)) (v : View) (t : ℕ) → 
 given_by spares v t some known says k = elim (eqb_tells k t) [
   | inl this ↦
       let same : is_spent_for (set spares (t - 1) None) t ≡ true =
-      spent_at (set spares (t - 1) None) t some ∙ ap is_spent (slice_get-set_same spares (t - 1) None (omega (arith, some, known))) in
+      spent_at (set spares (t - 1) None) t some ∙ ap is_spent
+      (slice_get-set_same spares (t - 1) None (omega (arith, some, known))) in
       ap (is_spent_for (set spares (t - 1) None)) this.1
       ∙ (same ∙ sym (ap (λ (b : Bool). b || is_given k v) (eq-eqb t k (sym this.1))))
   | inr apart ↦
@@ -73,4 +76,5 @@ room counts is = ap length is ∙ length-replicate {0} {A = Option ℕ} row_limi
 pub nothing : (counts : List (Option ℕ)) → counts ≡ replicate row_limit None → (x : ℕ)
     → slice_index_or counts (x % row_limit) None ≡ None
 nothing counts is x =
-    ap (λ (cs : List (Option ℕ)). slice_index_or cs (x % row_limit) None) is ∙ get_or-same row_limit (x % row_limit) None
+    ap (λ (cs : List (Option ℕ)). slice_index_or cs (x % row_limit) None) is
+    ∙ get_or-same row_limit (x % row_limit) None

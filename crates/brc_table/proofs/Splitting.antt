@@ -1,11 +1,11 @@
 -- Main gives out a worker's hand, with one of its references to the root, and the rule holds again.
-use Rattle.std.proofs.Common.{◌≡◌, ◌≢◌, ◌⊎◌, ℕ, zero, suc, ◌+◌, ◌<◌, ◌≤◌, Bool, true, false, cond, Option, List, [], ◌∷◌, ◌++◌, length, set, inl, inr, Some, refl, sym, ap, ◌∙◌, subst, arith, None}
+use Rattle.std.proofs.Common.{◌≡◌, ◌≢◌, ℕ, ◌+◌, ◌<◌, ◌≤◌, Bool, true, false, cond, Option, List, [], ◌∷◌, ◌++◌, length, set, inl, inr, Some, refl, sym, ap, ◌∙◌, subst, arith, None}
 use Rattle.std.specs.Prelude.{◌==◌, ◌||◌, ◌&&◌, nat_lt, count_by, slice_get, All}
 use Rattle.std.proofs.lemmas.Bool.{cases_Bool, eq-eqb, lt-leb, false≢true}
 use Rattle.std.proofs.lemmas.Bool.Decides.{eqb_tells}
 use Rattle.std.proofs.lemmas.List.{length-set}
 use Rattle.std.proofs.lemmas.List.Sums.{sum_by-append, sum_by-cons, length-filter}
-use mathlib.Core.Option.{some, some-injective, some-ne-none}
+use mathlib.Core.Option.{some, some-injective}
 use lib.ListN.{get_elem?}
 use Rattle.atomic_table.specs.Table.{State, Splits}
 use Rattle.atomic_table.proofs.Lists.{at_set, set_else, at_longer, at_last}
@@ -30,7 +30,7 @@ use Rattle.brc_table.specs.Seen.{has_seen_kind, cell_seen, has_started, started_
 use Rattle.brc_table.specs.Threads.{thread_word, ThreadsStand}
 use Rattle.brc_table.specs.Hands.{HasNoWork}
 use Rattle.brc_table.specs.Giving.{MayGive}
-use Rattle.brc_table.proofs.Lists.{set_view}
+use Rattle.brc_table.proofs.Lists.{set_view, at_end}
 use Rattle.brc_table.proofs.Picked.{count_more, count_less}
 use Rattle.brc_table.proofs.Accounts.{with_account_same, with_account_other}
 
@@ -49,17 +49,6 @@ has_none v x free =
     none_about x v.agenda v.aside (sym (length-filter (is_about x) (v.agenda ++ v.aside)) ∙ ap length free)
 
 -- ---- the hands afterwards
-
--- An element of a longer list was there before, or is the new one.
-at_end : {A : Type 0} (l : List A) (a b : A) (j : ℕ) → get_elem? (l ++ a ∷ []) j ≡ some b
-    → (get_elem? l j ≡ some b) ⊎ ((j ≡ length l) × (a ≡ b))
-at_end [] a b zero is = inr (refl, some-injective a b is)
-at_end [] a b (suc j) is = absurd (some-ne-none b (sym is))
-at_end (x ∷ xs) a b zero is = inl is
-at_end (x ∷ xs) a b (suc j) is = elim (at_end xs a b j is) [
-  | inl there ↦ inl there
-  | inr new ↦ inr (ap suc new.0, new.1)
-]
 
 module _ (law : ReferencesAreHandedOver) (layout : Layout) (words : List ℕ) (views : List View) (id : ℕ) (v : View)
     (t : ℕ) (may : MayGive v t) (old : Stands layout words views) (here : get_elem? views id ≡ some v) where
@@ -215,17 +204,18 @@ module _ (law : ReferencesAreHandedOver) (layout : Layout) (words : List ℕ) (v
       (ap (λ (a : Account). a AsCaller x) after_worker
       ∙ omega (arith, worker_idle.1 AsCaller x, count_more root_row x []))
 
-  none_after : (k i x : ℕ) → after k (ByVariable i) x ≡ 0
-  none_after k i x = elim (eqb_tells k t) [
+  none_after : (k depth i x : ℕ) → after k (ByVariable depth i) x ≡ 0
+  none_after k depth i x = elim (eqb_tells k t) [
     | inl this ↦
-        ap (λ (j : ℕ). after j (ByVariable i) x) this.1
-        ∙ (ap (λ (a : Account). a (ByVariable i) x) after_worker ∙ omega (arith, old.no_variables t i x))
+        ap (λ (j : ℕ). after j (ByVariable depth i) x) this.1
+        ∙ (ap (λ (a : Account). a (ByVariable depth i) x) after_worker ∙ omega (arith, old.no_variables t depth i x))
     | inr other ↦ elim (eqb_tells k v.thread) [
       | inl main ↦
-          ap (λ (j : ℕ). after j (ByVariable i) x) main.1
-          ∙ (ap (λ (a : Account). a (ByVariable i) x) after_main ∙ omega (arith, old.no_variables v.thread i x))
+          ap (λ (j : ℕ). after j (ByVariable depth i) x) main.1
+          ∙ (ap (λ (a : Account). a (ByVariable depth i) x) after_main
+          ∙ omega (arith, old.no_variables v.thread depth i x))
       | inr apart ↦
-          ap (λ (a : Account). a (ByVariable i) x) (after_others k apart.1 other.1) ∙ old.no_variables k i x
+          ap (λ (a : Account). a (ByVariable depth i) x) (after_others k apart.1 other.1) ∙ old.no_variables k depth i x
     ]
   ]
 

@@ -24,7 +24,7 @@ use Rattle.brc_table.specs.Homes.{TableStands}
 use Rattle.brc_table.specs.Begins.{Passes}
 use Rattle.brc_table.specs.Rule.{thread_reading, Stands}
 use Rattle.brc_table.specs.Giving.{MayStart, starting, Starts}
-use Rattle.brc_table.proofs.Allowed.{rows_there}
+use Rattle.brc_table.proofs.RowsThere.{rows_there}
 use Rattle.brc_table.proofs.Changing.{Changes, passes}
 use Rattle.brc_table.proofs.SlotsKept.{slots_kept}
 use Rattle.brc_table.proofs.Lists.{set_view, set_itself}
@@ -161,11 +161,13 @@ module _ (accounts : AccountsAreThere) (chains : ChainsAreThere) (layout : Layou
     pub passes_started : Passes layout (set words (place (ThreadWord t)) 1) (set views id after) v.taken v.locked m
     unfolding changes
     passes_started =
-        passes layout words views id v after s here (set words (place (ThreadWord t)) 1) changes v.taken v.locked (λ x which. refl)
+        passes layout words views id v after s here (set words (place (ThreadWord t)) 1) changes v.taken v.locked
+        (λ x which. refl)
 
   -- The store is allowed.
   pub start_allowed : {T : Type 0} (slots id index : ℕ) (me : Me (Option T) View) → me.0 ≡ v → index ≡ t
-      → Allows (λ (s : State (Option T) View). TableStands layout s.words s.homes s.views) slots id me index (λ found. 1)
+      → Allows (λ (s : State (Option T) View). TableStands layout s.words s.homes s.views) slots id me index
+      (λ found. 1)
       (λ found after. Starts t me after)
   start_allowed slots id index me is_me at s holds homes here below =
       let mine : get_elem? s.views id ≡ some v = here ∙ ap some is_me in

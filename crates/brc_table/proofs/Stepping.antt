@@ -1,11 +1,12 @@
 -- A hand does its first duty, which is one step on a word, and the rule holds again.
-use Rattle.std.proofs.Common.{◌≡◌, ◌≢◌, ℕ, ◌+◌, ◌≤◌, Bool, true, false, cond, None, List, [], ◌∷◌, length, set, inl, inr, refl, sym, ap, ◌∙◌, subst, arith}
+use Rattle.std.proofs.Common.{◌≡◌, ◌≢◌, ℕ, ◌+◌, ◌≤◌, Bool, true, false, cond, Option, None, List, [], ◌∷◌, length, set, inl, inr, refl, sym, ap, ◌∙◌, subst, arith}
 use Rattle.std.specs.Prelude.{◌==◌, slice_index}
 use Rattle.std.proofs.lemmas.List.{length-set, get_or-set_same, get_or-set_other}
 use Rattle.std.proofs.lemmas.Bool.{eqb-true, cases_Bool}
 use mathlib.Core.Option.{some}
 use lib.ListN.{get_elem?}
 use Rattle.brc_model.specs.declared.duty.Duty.{Duty}
+use Rattle.brc_model.specs.declared.duty.Duty.TheVariants.{LendSlot}
 use Rattle.brc_model.specs.declared.actor.Status.TheVariants.{Gone}
 use Rattle.brc_model.specs.declared.address.Address.{Address}
 use Rattle.brc_model.specs.declared.address.Address.TheVariants.{Local, Shared, Gate, KindOf, Mark, Cell, Slot, Resource, ThreadWord}
@@ -13,7 +14,7 @@ use Rattle.brc_model.specs.declared.layout.Layout.{Layout}
 use Rattle.brc_model.specs.Layout.{row_count}
 use Rattle.brc_model.specs.Limits.{worker_limit}
 use Rattle.brc_model.specs.Duties.{address_of, new_word}
-use Rattle.brc_model.specs.Machine.{Machine, same_address, written, actor_by, done_by, locked_by}
+use Rattle.brc_model.specs.Machine.{Machine, same_address, written, actor_by, done_by, locked_by, lent_by}
 use Rattle.brc_model.specs.Within.{IsThere}
 use Rattle.brc_model.specs.CountingLaws.{ComesNext, DutiesAreKept, DutyWithin, DutiesAreWithin}
 use Rattle.brc_model.specs.GuardLaws.{LeavesGuarded, GuardedCellsStay}
@@ -79,6 +80,12 @@ same_is (Slot x) (Slot y) e = ap Slot (eqb-true x y e)
 same_is (Resource x) (Resource y) e = ap Resource (eqb-true x y e)
 same_is (ThreadWord t) (ThreadWord u) e = ap ThreadWord (eqb-true t u e)
 same_is _ _ e = absurd cc
+
+-- A duty on a word of the table lends nothing.
+lends_nothing : (layout : Layout) (t head : ℕ) (d : Duty) (found : ℕ) → IsTableWord (address_of layout t head d)
+    → lent_by None d found ≡ None
+lends_nothing layout t head (LendSlot x) found table = absurd table
+lends_nothing layout t head _ found table = refl
 
 -- Writing a word in the table is writing in the machine what it says.
 pub written_reads : (layout : Layout) (words : List ℕ) (memory : Address → ℕ) (a : Address) (left word : ℕ)
@@ -190,7 +197,9 @@ module _ (kept : DutiesAreKept) (within : DutiesAreWithin) (stay : GuardedCellsS
               ≡ reading b (slice_index (set words (place_of v d) left) (place b))) told after);
           actors =
               ap (λ (k : ℕ). set m.actors t (actor_by m.layout t a d rest k)) seen
-              ∙ ap (λ (l : Layout). set m.actors t (actor_by l t a d rest found)) (sym told);
+              ∙ (ap (λ (l : Layout). set m.actors t (actor_by l t a d rest found)) (sym told)
+              ∙ ap (λ (l : Option ℕ). set m.actors t (record (actor_of (did v (d ∷ rest) found)) { lent = l }))
+              (lends_nothing v.layout t v.head d found does.word));
           thread_same = refl;
           told_same = refl;
           given_more = λ u is. is;

@@ -36,9 +36,10 @@ use Rattle.brc_table.specs.Begins.{Passes}
 use Rattle.brc_table.specs.Swaps.{with_item, without_item, swapped, MayPut, MaySwap, Swaps}
 use Rattle.brc_table.proofs.Accounts.{with_account_same, with_account_other, count_with_reference, count_without_reference}
 use Rattle.brc_table.proofs.CellGuards.{change_there, change_by, change_guards, guards_apart}
-use Rattle.brc_table.proofs.Allowed.{rows_there}
+use Rattle.brc_table.proofs.RowsThere.{rows_there}
 use Rattle.brc_table.proofs.Passing.{waiting_keeps}
-use Rattle.brc_table.proofs.Becoming.{rested, rested_becomes, is_ready, alone, has_one}
+use Rattle.brc_table.proofs.AtHand.{rested, is_ready, alone, has_one}
+use Rattle.brc_table.proofs.Becoming.{rested_becomes}
 use Rattle.brc_table.proofs.Changing.{Changes, passes}
 use Rattle.brc_table.proofs.SlotsKept.{slots_kept}
 use Rattle.brc_table.proofs.Lists.{set_view, set_itself}
@@ -99,7 +100,8 @@ lists_account layout account rows (suc z) (suc w) y counted same has =
 -- ---- the step
 
 module _ (put : WorkIsPutAside) (free : ImmortalsAreFree) (there : AccountsAreThere) (chains : ChainsAreThere)
-    (items : ItemsAreThere) (swap : CellsAreSwapped) (layout : Layout) (v : View) (x i word : ℕ) (may : MaySwap v x i word) where
+    (items : ItemsAreThere) (swap : CellsAreSwapped) (layout : Layout) (v : View) (x i word : ℕ)
+    (may : MaySwap v x i word) where
   -- The rule holds with accounts from which the thread may put the item.
   pub record Puts (words : List ℕ) (views : List View) (before : Machine) : Type 0 where
     pub stands : Stands layout words views
@@ -193,27 +195,28 @@ module _ (put : WorkIsPutAside) (free : ImmortalsAreFree) (there : AccountsAreTh
           | inr apart ↦ let none : one_if (w == y) ≡ 0 = ap one_if apart.0 in omega (arith, none)
         ]
 
-    no_variables_after : (k j y : ℕ) → with_account s.accounts v.thread account k (ByVariable j) y ≡ 0
-    no_variables_after k j y =
-        let less : (a : Account) (w : ℕ) → a (ByVariable j) y ≡ 0 → law.without_item a w (ByVariable j) y ≡ 0 =
-        λ a w. elim w as (λ w. a (ByVariable j) y ≡ 0 → law.without_item a w (ByVariable j) y ≡ 0) [
+    no_variables_after : (k depth j y : ℕ) → with_account s.accounts v.thread account k (ByVariable depth j) y ≡ 0
+    no_variables_after k depth j y =
+        let less : (a : Account) (w : ℕ) → a (ByVariable depth j) y ≡ 0 → law.without_item a w (ByVariable depth j) y
+        ≡ 0 =
+        λ a w. elim w as (λ w. a (ByVariable depth j) y ≡ 0 → law.without_item a w (ByVariable depth j) y ≡ 0) [
           | zero ↦ λ none. none
           | suc z ↦ λ none. omega (arith, none)
         ] in
-        let more : (a : Account) (w : ℕ) → a (ByVariable j) y ≡ 0 → law.with_item a w (ByVariable j) y ≡ 0 =
-        λ a w. elim w as (λ w. a (ByVariable j) y ≡ 0 → law.with_item a w (ByVariable j) y ≡ 0) [
+        let more : (a : Account) (w : ℕ) → a (ByVariable depth j) y ≡ 0 → law.with_item a w (ByVariable depth j) y ≡ 0 =
+        λ a w. elim w as (λ w. a (ByVariable depth j) y ≡ 0 → law.with_item a w (ByVariable depth j) y ≡ 0) [
           | zero ↦ λ none. none
           | suc z ↦ λ none. omega (arith, none)
         ] in
         elim (eqb_tells k v.thread) [
           | inl this ↦
-              ap (λ (u : ℕ). with_account s.accounts v.thread account u (ByVariable j) y) this.1
-              ∙ (ap (λ (a : Account). a (ByVariable j) y) (with_account_same s.accounts v.thread account)
+              ap (λ (u : ℕ). with_account s.accounts v.thread account u (ByVariable depth j) y) this.1
+              ∙ (ap (λ (a : Account). a (ByVariable depth j) y) (with_account_same s.accounts v.thread account)
               ∙ less (law.with_item (s.accounts v.thread) (m.memory (Cell x i))) word
-              (more (s.accounts v.thread) (m.memory (Cell x i)) (s.no_variables v.thread j y)))
+              (more (s.accounts v.thread) (m.memory (Cell x i)) (s.no_variables v.thread depth j y)))
           | inr apart ↦
-              ap (λ (a : Account). a (ByVariable j) y) (with_account_other s.accounts v.thread account k apart.1)
-              ∙ s.no_variables k j y
+              ap (λ (a : Account). a (ByVariable depth j) y) (with_account_other s.accounts v.thread account k apart.1)
+              ∙ s.no_variables k depth j y
         ]
 
     -- No other hand changes the list's cells.
@@ -251,7 +254,8 @@ module _ (put : WorkIsPutAside) (free : ImmortalsAreFree) (there : AccountsAreTh
       holding = λ y counted.
           ap (λ (a : Account). a AsCaller y) (with_account_same s.accounts v.thread account)
           ∙ (lists_account v.layout (s.accounts v.thread) v.references (m.memory (Cell x i)) word y
-          (subst (λ (l : Layout). IsCounted l y) (sym told) counted) (s.holding id (rested v) y here counted) (put_some y)
+          (subst (λ (l : Layout). IsCounted l y) (sym told) counted) (s.holding id (rested v) y here counted)
+          (put_some y)
           ∙ ap (λ (w : ℕ). count_by (λ z. z == y) (with_item v.layout w (without_item v.layout word v.references)))
           finds);
       others = with_account_other s.accounts v.thread account;

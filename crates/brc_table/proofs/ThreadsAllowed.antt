@@ -51,7 +51,8 @@ thread_stays layout t head _ u is found = refl
 module _ (kept : DutiesAreKept) (within : DutiesAreWithin) (law : AccountsAreThere)
     (chains : ChainsAreThere) (stay : GuardedCellsStay) (live : HandedMergesLive) (words : TableState)
     (hand : HandState) (begins : View → View) {T : Type 0} (layout : Layout) (slots id index : ℕ)
-    (me : Me (Option T) View) (seen : Seen words hand layout me) (becomes : Becomes words.layout hand.view (begins hand.view)) where
+    (me : Me (Option T) View) (seen : Seen words hand layout me)
+    (becomes : Becomes words.layout hand.view (begins hand.view)) where
   becoming : Becomes layout me.0 (begins me.0)
   becoming =
       becomes_here kept within law chains stay live words hand begins layout slots id index me seen becomes
@@ -168,7 +169,8 @@ module _ (kept : DutiesAreKept) (within : DutiesAreWithin) (law : AccountsAreThe
 
   -- A store of a thread word is allowed.
   pub thread_allowed : (word : ℕ) → index ≡ (begins hand.view).thread → StoresThreadWord (begins hand.view) index word
-      → Allows (λ (s : State (Option T) View). TableStands layout s.words s.homes s.views) slots id me index (λ found. word)
+      → Allows (λ (s : State (Option T) View). TableStands layout s.words s.homes s.views) slots id me index
+      (λ found. word)
       (λ found after. Stores begins me after)
   thread_allowed word mine stores_there =
       let stores : StoresThreadWord (begins me.0) index word =

@@ -200,7 +200,8 @@ pub any_still : {A : Type 0} (p : A → Bool) (xs : List A) (x : A) → list_any
 any_still p xs x is = any_more p xs x ∙ ap (λ (b : Bool). b || p x) is
 
 -- An element that isn't such adds none.
-pub any_same : {A : Type 0} (p : A → Bool) (xs : List A) (x : A) → p x ≡ false → list_any p (xs ++ x ∷ []) ≡ list_any p xs
+pub any_same : {A : Type 0} (p : A → Bool) (xs : List A) (x : A) → p x ≡ false → list_any p (xs ++ x ∷ [])
+    ≡ list_any p xs
 any_same p xs x none = any_more p xs x ∙ (ap (λ (b : Bool). list_any p xs || b) none ∙ or_false (list_any p xs))
 
 -- An object's word isn't a thread's.

@@ -1,5 +1,5 @@
 -- What a step on a word makes of its hand.
-use Rattle.std.specs.Prelude.{◌≡◌, ◌≢◌, ℕ, ◌<◌, true, None, Some, List, [], ◌∷◌}
+use Rattle.std.specs.Prelude.{◌≡◌, ◌≢◌, ℕ, ◌<◌, true, Some, List, [], ◌∷◌}
 use Rattle.atomic_table.specs.Table.{Me}
 use Rattle.brc_model.specs.declared.duty.Reason.TheVariants.{Handed}
 use Rattle.brc_model.specs.declared.duty.Duty.{Duty}
@@ -56,13 +56,12 @@ Continues begins me found after =
     × FirstFindsOwner (begins me.0) (begins me.0).agenda found × RowsAreThere after.0
     × FindsKnown (begins me.0) (begins me.0).agenda found × (after.0.taken ≡ me.0.taken)
 
--- The same of a hand that asks for the kind of the row's object. If it has locked the object, and has lent no resource,
--- the object's slot had as many resources as the kind word says, when the hand took it. None's kind word says that it is
--- none.
+-- The same of a hand that asks for the kind of the row's object. If it has locked the object, the object's slot had as
+-- many resources as the kind word says, when the hand took it. None's kind word says that it is none.
 abbrev pub Asks : {S : Type 0} → ℕ → Me S View → ℕ → Me S View → Type 0
 Asks x me found after =
     Continues (λ v. asking v x) me found after
-    × (me.0.locked ≡ Some x → me.0.lent ≡ None → me.0.in_slot ≡ resources_of found)
+    × (me.0.locked ≡ Some x → me.0.in_slot ≡ resources_of found)
     × (x ≡ none_row → found ≡ half)
 
 -- The same of a store, which knows the value that it overwrites.

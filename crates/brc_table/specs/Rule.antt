@@ -69,7 +69,7 @@ pub record Stands (layout : Layout) (words : List ℕ) (views : List View) : Typ
   pub cells_seen : (id x i word : ℕ) (v : View) → get_elem? views id ≡ some v → Guards machine v x
       → cell_seen x i v ≡ Some word → machine.memory (Cell x i) ≡ word
   -- no hand holds a reference by a variable
-  pub no_variables : (t i x : ℕ) → accounts t (ByVariable i) x ≡ 0
+  pub no_variables : (t depth i x : ℕ) → accounts t (ByVariable depth i) x ≡ 0
   -- no thread has two hands
   pub apart : (id other : ℕ) (v w : View) → get_elem? views id ≡ some v → get_elem? views other ≡ some w
       → v.thread ≡ w.thread → id ≡ other

@@ -1,6 +1,6 @@
--- What a step makes of the slots that its hand has taken. A hand takes a slot as it locks the slot's row, begins a birth or
--- begins a deallocation, and gives it back at the end.
-use Rattle.std.specs.Prelude.{◌≡◌, ℕ, ◌<◌, ◌==◌, true, if◌then◌else◌, Option, None, List, [], ◌∷◌}
+-- What a step makes of the slots that its hand has taken. A hand takes a slot as it locks the slot's row, begins a
+-- birth or begins a deallocation, and gives it back at the end.
+use Rattle.std.specs.Prelude.{◌≡◌, ℕ, ◌<◌, ◌==◌, true, if◌then◌else◌, Option, List, [], ◌∷◌}
 use Rattle.atomic_table.specs.Table.{Me}
 use Rattle.brc_word.specs.Words.{free_word}
 use Rattle.brc_model.specs.declared.duty.Duty.{Duty}
@@ -54,8 +54,8 @@ IsDue v (BirthLocal x h ∷ rest) n = (word : ℕ) × (0 < word) × (has_seen_ki
 IsDue v (SettleEnd x ∷ rest) n = n ≡ 0
 IsDue v _ n = ⊥
 
--- The slot that the hand took last is the row's, and holds as many resources as the row's kind word says that the hand has
--- stored.
+-- The slot that the hand took last is the row's, and holds as many resources as the row's kind word says that the hand
+-- has stored.
 pub record HoldsItsOwn (hand : HandState) (x : ℕ) : Type 0 where
   pub word : ℕ
   pub some : 0 < word
@@ -80,10 +80,10 @@ abbrev pub UsesStored : {T : Type 0} → (View → View) → Me (Option T) View 
 UsesStored begins me after = Uses begins me (overwritten (begins me.0)) after
 
 -- The hand tries to lock the row, and takes its slot if it finds the gate free. Then the slot holds as many resources
--- as the kind word says that the hand has seen, unless the hand has lent a resource.
+-- as the kind word says that the hand has seen.
 abbrev pub Locks : {T : Type 0} → ℕ → Me (Option T) View → ℕ → Me (Option T) View → Type 0
 Locks x me found after =
     (after.0 ≡ done (locking me.0 x after.0.in_slot) found) × RowsAreThere after.0 × Follows me after
     × (held_in after.1 ≡ (if found == free_word then (x, after.0.in_slot) ∷ held_in me.1 else held_in me.1))
-    × ((word : ℕ) → found ≡ free_word → me.0.lent ≡ None → 0 < word → has_seen_kind x word me.0 ≡ true
+    × ((word : ℕ) → found ≡ free_word → 0 < word → has_seen_kind x word me.0 ≡ true
     → after.0.in_slot ≡ resources_of word)

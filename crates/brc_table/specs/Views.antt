@@ -8,7 +8,7 @@ use Rattle.brc_model.specs.declared.actor.Status.TheVariants.{Running}
 use Rattle.brc_model.specs.declared.layout.Layout.{Layout}
 use Rattle.brc_model.specs.Layout.{row_count, block_size, front_rows, root_row, row_at, is_immortal_row}
 use Rattle.brc_model.specs.Duties.{address_of, new_word, continuation, new_head, ready, cells_of}
-use Rattle.brc_model.specs.Machine.{Actor, is_running, status_by, used_by, locked_by, lent_by}
+use Rattle.brc_model.specs.Machine.{Actor, is_running, status_by, used_by, locked_by}
 use Rattle.brc_model.specs.OpenWork.{is_about}
 use Rattle.brc_model.specs.Limits.{cell_limit}
 use Rattle.brc_model.specs.CountingLaws.{IsUnfinalised}
@@ -20,7 +20,8 @@ use Rattle.brc_table.specs.declared.view.Joined.{Joined}
 use Rattle.brc_table.specs.Spares.{is_spent_for}
 use Rattle.brc_table.specs.Seen.{has_seen_kind}
 
--- the thread of the counting machine that the view is of
+-- The thread of the counting machine that the view is of. A hand lends a resource by no duty: it takes the resource out
+-- of a slot that nobody else can see.
 abbrev pub actor_of : View → Actor
 actor_of v = record {
   status = v.status;
@@ -29,7 +30,7 @@ actor_of v = record {
   head = v.head;
   used = v.used;
   locked = v.locked;
-  lent = v.lent;
+  lent = None;
 }
 
 -- ---- references
@@ -101,7 +102,6 @@ did v (d ∷ rest) found = record v {
   head = new_head v.head d found;
   used = used_by v.used d;
   locked = locked_by v.locked d found;
-  lent = lent_by v.lent d found;
   taken = taken_after v.taken (use_of d found);
   trace = v.trace ++ event_of v d found ∷ [];
 }
@@ -248,7 +248,6 @@ main_view layout = record {
   head = 0;
   used = front_rows;
   locked = None;
-  lent = None;
   taken = [];
   in_slot = 0;
   given = [];
@@ -275,7 +274,6 @@ worker_view layout thread = record {
   head = 0;
   used = 0;
   locked = None;
-  lent = None;
   taken = [];
   in_slot = 0;
   given = [];

@@ -23,8 +23,8 @@ use std::marker::Brand;
 impl<T: Drop> Words<T> {
     /// Asks for the kind of an object that the hand holds, borrows from the list that it has locked, or is to finalise
     /// as the first of its dying chain: loads its kind word, which its birth stored. The word is the one that the hand
-    /// has seen there before, if it has. If the hand has locked the object, and has lent no resource, the kind tells
-    /// whether the object's slot has one.
+    /// has seen there before, if it has. If the hand has locked the object, the kind says whether the object's slot has
+    /// a resource.
     pub fn kind_load(&self, hand: &mut Hand<T>, row: u32) -> u64
         requires table { IsOf self.now hand.old }
         requires running { IsRunning hand.old.view }
@@ -35,8 +35,7 @@ impl<T: Drop> Words<T> {
         ensures slots { hand.new.slots ≡ hand.old.slots }
         ensures view { hand.new.view ≡ done (asking hand.old.view row) result }
         ensures stays { (word : ℕ) → 0 < word → has_seen_kind row word hand.old.view ≡ true → result ≡ word }
-        ensures slot { hand.old.view.locked ≡ Some row → hand.old.view.lent ≡ None
-            → hand.old.view.in_slot ≡ resources_of result }
+        ensures slot { hand.old.view.locked ≡ Some row → hand.old.view.in_slot ≡ resources_of result }
         ensures named { row ≡ none_row → result ≡ half }
     {
         self.layout_is_plain();
@@ -57,8 +56,7 @@ impl<T: Drop> Words<T> {
         ensures slots { hand.new.slots ≡ hand.old.slots }
         ensures view { hand.new.view ≡ done (asking hand.old.view row) result }
         ensures stays { (word : ℕ) → 0 < word → has_seen_kind row word hand.old.view ≡ true → result ≡ word }
-        ensures slot { hand.old.view.locked ≡ Some row → hand.old.view.lent ≡ None
-            → hand.old.view.in_slot ≡ resources_of result }
+        ensures slot { hand.old.view.locked ≡ Some row → hand.old.view.in_slot ≡ resources_of result }
         ensures named { row ≡ none_row → result ≡ half }
     {
         work_is_put_aside();

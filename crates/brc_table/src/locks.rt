@@ -24,7 +24,7 @@ const FREE: u64 = 1;
 impl<T: Drop> Words<T> {
     /// Tries once to lock an object that the hand holds: exchanges its gate, if it is free, for one that names the
     /// hand's thread, and takes the object's slot with it. Returns the gate found, 1 if it was free. If the hand has
-    /// seen the object's kind, and has lent no resource, it knows whether the slot has one.
+    /// seen the object's kind, it knows whether the slot has a resource.
     pub fn gate_lock(&self, hand: &mut Hand<T>, row: u32) -> u64
         requires table { IsOf self.now hand.old }
         requires running { IsRunning hand.old.view }
@@ -35,8 +35,9 @@ impl<T: Drop> Words<T> {
         ensures table { hand.new.table ≡ hand.old.table }
         ensures carried { hand.new.carried ≡ hand.old.carried }
         ensures view { hand.new.view ≡ done (locking hand.old.view row hand.new.view.in_slot) result }
-        ensures slots { hand.new.slots ≡ (if result == free_word then (row, hand.new.view.in_slot) ∷ hand.old.slots else hand.old.slots) }
-        ensures kind { (word : ℕ) → result ≡ free_word → hand.old.view.lent ≡ None → 0 < word
+        ensures slots { hand.new.slots
+            ≡ (if result == free_word then (row, hand.new.view.in_slot) ∷ hand.old.slots else hand.old.slots) }
+        ensures kind { (word : ℕ) → result ≡ free_word → 0 < word
             → has_seen_kind row word hand.old.view ≡ true → hand.new.view.in_slot ≡ resources_of word }
     {
         self.layout_is_plain();
@@ -45,8 +46,8 @@ impl<T: Drop> Words<T> {
         self.lock_gate::<Brand>(hand, row, gate)
     }
 
-    /// Unlocks the object that the hand has locked: stores that its gate is free, and gives the object's slot back, which
-    /// has to hold what it held when the hand took it.
+    /// Unlocks the object that the hand has locked: stores that its gate is free, and gives the object's slot back,
+    /// which has to hold what it held when the hand took it.
     pub fn gate_unlock(&self, hand: &mut Hand<T>, row: u32)
         requires table { IsOf self.now hand.old }
         requires running { IsRunning hand.old.view }
@@ -54,7 +55,6 @@ impl<T: Drop> Words<T> {
         requires idle { HasNoWork hand.old.view row }
         requires locked { hand.old.view.locked ≡ Some row }
         requires retains { HasNoRetain hand.old.view }
-        requires returned { hand.old.view.lent ≡ None }
         requires slot { FirstSlot hand.old.slots row hand.old.view.in_slot }
         ensures table { hand.new.table ≡ hand.old.table }
         ensures carried { hand.new.carried ≡ hand.old.carried }

@@ -29,9 +29,9 @@ use brc_model::{
 const FREE: u64 = 1;
 
 impl<T: Drop> Words<T> {
-    /// Tries to lock the row that the type names: exchanges its gate, if it is free, for one that names the hand's thread,
-    /// and then takes the row's slot. Returns the gate found. If the hand has seen the object's kind, and has lent no
-    /// resource, it knows whether the slot has one.
+    /// Tries to lock the row that the type names: exchanges its gate, if it is free, for one that names the hand's
+    /// thread, and then takes the row's slot. Returns the gate found. If the hand has seen the object's kind, it knows
+    /// whether the slot has a resource.
     pub(crate) fn lock_gate<R: OfRow>(&self, hand: &mut Hand<T>, row: u32, gate: u64) -> u64
         requires row { row ≡ R.target }
         requires table { IsOf self.now hand.old }
@@ -45,8 +45,9 @@ impl<T: Drop> Words<T> {
         ensures table { hand.new.table ≡ hand.old.table }
         ensures carried { hand.new.carried ≡ hand.old.carried }
         ensures view { hand.new.view ≡ done (locking hand.old.view row hand.new.view.in_slot) result }
-        ensures slots { hand.new.slots ≡ (if result == free_word then (row, hand.new.view.in_slot) ∷ hand.old.slots else hand.old.slots) }
-        ensures kind { (word : ℕ) → result ≡ free_word → hand.old.view.lent ≡ None → 0 < word
+        ensures slots { hand.new.slots
+            ≡ (if result == free_word then (row, hand.new.view.in_slot) ∷ hand.old.slots else hand.old.slots) }
+        ensures kind { (word : ℕ) → result ≡ free_word → 0 < word
             → has_seen_kind row word hand.old.view ≡ true → hand.new.view.in_slot ≡ resources_of word }
     {
         work_is_put_aside();
@@ -73,7 +74,8 @@ impl<T: Drop> Words<T> {
         requires thread { KeepsThread hand.old.view (B.begins hand.old.view) }
         requires line { line < 5 }
         requires there { row < row_count self.now.layout }
-        requires makes { MakesWithSlot (B.begins hand.old.view) (in_tile line row) (λ found. found) (λ found. Takes row) }
+        requires makes { MakesWithSlot (B.begins hand.old.view) (in_tile line row) (λ found. found)
+            (λ found. Takes row) }
         ensures table { hand.new.table ≡ hand.old.table }
         ensures carried { hand.new.carried ≡ hand.old.carried }
         ensures view { hand.new.view ≡ done (B.begins hand.old.view) result }
@@ -106,7 +108,8 @@ impl<T: Drop> Words<T> {
         requires line { line < 5 }
         requires there { row < row_count self.now.layout }
         requires makes { MakesWithSlot (B.begins hand.old.view) (in_tile line row) (λ found. new) (λ found. Gives row) }
-        requires due { (n : ℕ) × FirstSlot hand.old.slots row n × IsDue (B.begins hand.old.view) (B.begins hand.old.view).agenda n }
+        requires due { (n : ℕ) × FirstSlot hand.old.slots row n
+            × IsDue (B.begins hand.old.view) (B.begins hand.old.view).agenda n }
         ensures table { hand.new.table ≡ hand.old.table }
         ensures carried { hand.new.carried ≡ hand.old.carried }
         ensures view { hand.new.view ≡ done (B.begins hand.old.view) result }
@@ -141,7 +144,8 @@ impl<T: Drop> Words<T> {
         requires line { line < 5 }
         requires there { row < row_count self.now.layout }
         requires stores { StoresWithSlot (B.begins hand.old.view) (in_tile line row) word (Takes row) }
-        requires stays { KeepsThread hand.old.view (done (B.begins hand.old.view) (overwritten (B.begins hand.old.view))) }
+        requires stays { KeepsThread hand.old.view
+            (done (B.begins hand.old.view) (overwritten (B.begins hand.old.view))) }
         ensures table { hand.new.table ≡ hand.old.table }
         ensures carried { hand.new.carried ≡ hand.old.carried }
         ensures view { hand.new.view ≡ done (B.begins hand.old.view) (overwritten (B.begins hand.old.view)) }
@@ -179,7 +183,8 @@ impl<T: Drop> Words<T> {
         requires line { line < 5 }
         requires there { row < row_count self.now.layout }
         requires stores { StoresWithSlot (B.begins hand.old.view) (in_tile line row) word (Gives row) }
-        requires due { (n : ℕ) × FirstSlot hand.old.slots row n × IsDue (B.begins hand.old.view) (B.begins hand.old.view).agenda n }
+        requires due { (n : ℕ) × FirstSlot hand.old.slots row n
+            × IsDue (B.begins hand.old.view) (B.begins hand.old.view).agenda n }
         requires status { (done (B.begins hand.old.view) (overwritten (B.begins hand.old.view))).status
             ≡ hand.old.view.status }
         requires head { (done (B.begins hand.old.view) (overwritten (B.begins hand.old.view))).head

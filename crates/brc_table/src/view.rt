@@ -23,9 +23,6 @@ pub struct View {
     pub used: u32,
     /// The row of the list that the hand has locked.
     pub locked: Option<u32>,
-    /// The row whose resource the hand has lent, as threads of the model do. A hand lends without a duty: it takes the
-    /// resource out of a slot that nobody else can see. So this is always `None`.
-    pub lent: Option<u32>,
     /// The rows whose slots the hand has taken out of the table, the last one first.
     pub taken: LinkedList<u32>,
     /// How many resources the slot of the object that the hand has locked had, when the hand took it.

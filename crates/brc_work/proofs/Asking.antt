@@ -19,11 +19,10 @@ use Rattle.brc_model.proofs.Basics.Lists.{some_is}
 use Rattle.brc_model.proofs.Dispatch.Grounded.{slot_of-put_same, slot_of-put_other}
 use Rattle.brc_model.proofs.Dispatch.TakingHost.{resource_word}
 use Rattle.brc_table.specs.declared.view.View.{View}
-use Rattle.brc_table.specs.Views.{holds}
 use Rattle.brc_table.specs.Hands.{HandState}
 use Rattle.brc_heap.specs.Calls.{SeesKind}
 use Rattle.brc_work.specs.Acts.{ActsElsewhere}
-use Rattle.brc_work.specs.Fits.{KnowsKind, Unknown, OfNone, HasSeen, SlotFits, owns, lists, over_variables, LockFits, LocksAs, Fits}
+use Rattle.brc_work.specs.Fits.{Base, KnowsKind, Unknown, OfNone, HasSeen, SlotFits, owns, lists, over_variables, LockFits, LocksAs, Fits}
 use Rattle.brc_work.proofs.Fitting.{same_fits, says_same}
 use Rattle.brc_work.proofs.Holding.{fits_with_kind}
 
@@ -88,15 +87,16 @@ used_low [] i used = let wrong : true ≡ false = used in absurd cc
 used_low (s ∷ slots) zero used = omega arith
 used_low (s ∷ slots) (suc i) used = let rest = used_low slots i used in omega (arith, rest)
 
-module _ (first : HandState) (s : State) (rows : List (Option ℕ)) (hand after : HandState) (from x word : ℕ) (kind : Kind)
-    (fits : Fits first s rows hand) (did : ActsElsewhere hand after)
+module _ (base : Base) (s : State) (rows : List (Option ℕ)) (hand after : HandState) (from x word : ℕ) (kind : Kind)
+    (fits : Fits base s rows hand) (did : ActsElsewhere hand after)
     (same : after.view.references ≡ hand.view.references) (used : is_empty (slot_of s from) ≡ false)
-    (names : row_of rows from ≡ Some x) (sees : SeesKind x word hand.view after.view) (is : kind_of_word word ≡ kind) where
+    (names : row_of rows from ≡ Some x) (sees : SeesKind x word hand.view after.view)
+    (is : kind_of_word word ≡ kind) where
   abbrev next : State
   next = put s from (with_kind (slot_of s from) kind)
 
-  later : Fits first s rows after
-  later = same_fits first s rows hand after fits did same
+  later : Fits base s rows after
+  later = same_fits base s rows hand after fits did same
 
   knows : (y : ℕ) → row_of rows from ≡ Some y → KnowsKind after.view kind y
   knows y this =
@@ -111,7 +111,7 @@ module _ (first : HandState) (s : State) (rows : List (Option ℕ)) (hand after 
   in_slots = used_low s.slots from used
 
   -- The hand knows what the locked object's slot has, since it has just asked for the kind.
-  locked_kind : (i : ℕ) (lock : LockFits first.slots s rows after i) → LockFits first.slots next rows after i
+  locked_kind : (i : ℕ) (lock : LockFits base.first.slots s rows after i) → LockFits base.first.slots next rows after i
   locked_kind i lock = elim (eqb_tells i from) [
     | inl this ↦
         let slot_is : slot_of next i ≡ with_kind (slot_of s from) kind = ap (slot_of next) this.1 ∙ low in_slots in
@@ -129,9 +129,10 @@ module _ (first : HandState) (s : State) (rows : List (Option ℕ)) (hand after 
           slots = lock.slots;
           resource = λ has.
               let can : is_one_of kind with_resource ≡ true =
-              sym (ap (λ (k : Kind). is_one_of k with_resource) (ap kind_of slot_is ∙ kind_is (slot_of s from) kind used)) ∙ has in
+              sym (ap (λ (k : Kind). is_one_of k with_resource)
+              (ap kind_of slot_is ∙ kind_is (slot_of s from) kind used)) ∙ has in
               did.acts.in_slot
-              ∙ (sees.slot (sym did.acts.locked ∙ (lock.locked ∙ ap Some object_is)) fits.rests.lent
+              ∙ (sees.slot (sym did.acts.locked ∙ (lock.locked ∙ ap Some object_is))
               ∙ ap (λ (b : Bool). if b then 1 else 0) (resource_word kind word (inr is) can));
         }
     | inr apart ↦
@@ -149,14 +150,16 @@ module _ (first : HandState) (s : State) (rows : List (Option ℕ)) (hand after 
         }
   ]
 
-  locks_kind : (locked : Option ℕ) → LocksAs locked first.slots s rows after → LocksAs locked first.slots next rows after
+  locks_kind : (locked : Option ℕ) → LocksAs locked base.first.slots s rows after
+      → LocksAs locked base.first.slots next rows after
   locks_kind None lock = lock
   locks_kind (Some i) lock = locked_kind i lock
 
   -- The object is of the kind that the variable's slot now says.
-  pub kind_fits : Fits first next rows after
+  pub kind_fits : Fits base next rows after
   kind_fits = record {
     ready = fits.ready;
+    room = fits.room;
     plain = fits.plain;
     follows = later.follows;
     rests = later.rests;
@@ -164,21 +167,21 @@ module _ (first : HandState) (s : State) (rows : List (Option ℕ)) (hand after 
     some_rows = fits.some_rows;
     each = λ i. elim (eqb_tells i from) [
       | inl this ↦
-          subst (λ (k : ℕ). SlotFits after.view (slot_of next k) (row_of rows k)) (sym this.1)
-          (subst (λ (w : Slot). SlotFits after.view w (row_of rows from)) (sym (low in_slots))
-          (fits_with_kind after.view (slot_of s from) (row_of rows from) kind knows (later.each from)))
+          subst (λ (k : ℕ). SlotFits base.held after.view (slot_of next k) (row_of rows k)) (sym this.1)
+          (subst (λ (w : Slot). SlotFits base.held after.view w (row_of rows from)) (sym (low in_slots))
+          (fits_with_kind base.held after.view (slot_of s from) (row_of rows from) kind knows (later.each from)))
       | inr apart ↦
-          subst (λ (w : Slot). SlotFits after.view w (row_of rows i))
+          subst (λ (w : Slot). SlotFits base.held after.view w (row_of rows i))
           (sym (slot_of-put_other s from i (with_kind (slot_of s from) kind) apart.1)) (later.each i)
     ];
     held = λ y counted.
         later.held y counted
-        ∙ ap (λ (n : ℕ). holds first.view y + n)
+        ∙ ap (λ (n : ℕ). base.held y + n)
         (sym (sum_kind (owns y) from s.slots rows (with_kind (slot_of s from) kind)
         (owns_kind y (slot_of s from) kind (row_of rows from))));
     few =
-        subst (λ (n : ℕ). length after.view.references ≤ length first.view.references + n)
-        (sym (sum_kind (lists first.view.layout) from s.slots rows (with_kind (slot_of s from) kind)
-        (lists_kind first.view.layout (slot_of s from) kind (row_of rows from)))) later.few;
+        subst (λ (n : ℕ). length after.view.references ≤ base.most + n)
+        (sym (sum_kind (lists base.first.view.layout) from s.slots rows (with_kind (slot_of s from) kind)
+        (lists_kind base.first.view.layout (slot_of s from) kind (row_of rows from)))) later.few;
     lock = locks_kind s.locked later.lock;
   }

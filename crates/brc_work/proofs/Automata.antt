@@ -1,5 +1,5 @@
 -- A hand's thread and a thread of the step world make the same, but for what `Automata` of specs/ names.
-use Rattle.std.proofs.Common.{◌≡◌, ◌≢◌, ℕ, ◌+◌, false, Some, cond, List, [], ◌∷◌, ◌++◌, append_assoc, append-nil, refl, sym, ap, ◌∙◌, subst}
+use Rattle.std.proofs.Common.{◌≡◌, ◌≢◌, ℕ, ◌+◌, false, Option, Some, cond, List, [], ◌∷◌, ◌++◌, append_assoc, append-nil, refl, sym, ap, ◌∙◌, subst}
 use Rattle.std.specs.Prelude.{◌&&◌, map, slice_get, slice_set}
 use Rattle.std.proofs.lemmas.List.{map-append}
 use Rattle.brc_host.specs.HostCalls.{HostCall, Read, Close}
@@ -15,8 +15,9 @@ use Rattle.brc_model.specs.declared.address.Address.TheVariants.{Local, Shared, 
 use Rattle.brc_model.specs.declared.duty.Duty.{Duty}
 use Rattle.brc_model.specs.declared.duty.Duty.TheVariants.{CloseResource}
 use Rattle.brc_model.specs.declared.layout.Layout.{Layout}
+use Rattle.brc_model.specs.declared.slot.State.{State}
 use Rattle.brc_model.specs.declared.thread.Choice.{Choice}
-use Rattle.brc_model.specs.declared.thread.Choice.TheVariants.{Ok, Fault, Claim}
+use Rattle.brc_model.specs.declared.thread.Choice.TheVariants.{Ok, Fault, Claim, Stop}
 use Rattle.brc_model.specs.Actions.{StepActor, Action, Skip, Stuck, Silent, Calls, Does, always, dispatch_inside, dispatch, agenda_action, status_action, action_of}
 use Rattle.brc_model.specs.Duties.{address_of, new_word}
 use Rattle.brc_model.specs.Layout.{row_at}
@@ -58,7 +59,7 @@ there_and_back (e ∷ es) = ap (λ (rest : List Event). e ∷ rest) (there_and_b
 
 -- ---- actions
 
--- What a thread that isn't gone does at an event that is no claim.
+-- What a thread that isn't gone does at an event that is no claim and no stop.
 alive_action : (functions : List Function) (layout : Layout) (t : ℕ) (a : StepActor) (s : Status) → s ≢ Gone
     → status_action functions layout t a s ≡ agenda_action functions layout t a a.actor.agenda
 alive_action functions layout t a Running alive = refl
@@ -70,42 +71,43 @@ code functions function = code_of (slice_get functions function)
 
 -- ---- from a hand's thread to one of the step world
 
-module _ (functions : List Function) (layout : Layout) (t : ℕ) where
-  can_then : (a b c : StepActor) (made more : List WordEvent) (can : CanMake functions layout t a made b)
-      → HasNoClaim can → CanMakeUnclaimed functions layout t b more c
-      → CanMakeUnclaimed functions layout t a (made ++ more) c
+module _ (functions : List Function) (states : ℕ → ℕ → Option State) (layout : Layout) (t : ℕ) where
+  can_then : (a b c : StepActor) (made more : List WordEvent) (can : CanMake functions states layout t a made b)
+      → HasNoClaim can → CanMakeUnclaimed functions states layout t b more c
+      → CanMakeUnclaimed functions states layout t a (made ++ more) c
   can_then a b c made more (Nothing same) none after = after
   can_then a b c made more (Then first next last now later step rest) none after =
       let on = can_then next b c later more rest none.1 after in
-      subst (λ (all : List WordEvent). CanMakeUnclaimed functions layout t a all c) (sym (append_assoc now later more))
+      subst (λ (all : List WordEvent). CanMakeUnclaimed functions states layout t a all c)
+      (sym (append_assoc now later more))
       (Then first next c now (later ++ more) step on.0, (none.0, on.1))
 
   module _ (function : ℕ) (p : Place) (a : Actor) where
     abbrev Can : List Event → Place → Actor → Type 0
     Can es q b =
-        CanMakeUnclaimed functions layout t (thread_at function p a) (map word_event es) (thread_at function q b)
+        CanMakeUnclaimed functions states layout t (thread_at function p a) (map word_event es) (thread_at function q b)
 
     one_more : (es : List Event) (q r : Place) (b c : Actor) (made : List WordEvent) → Can es q b
-        → (step : MakesStep functions layout t (thread_at function q b) made (thread_at function r c))
+        → (step : MakesStep functions states layout t (thread_at function q b) made (thread_at function r c))
         → ClaimsNothing step
-        → CanMakeUnclaimed functions layout t (thread_at function p a) (map word_event es ++ made)
+        → CanMakeUnclaimed functions states layout t (thread_at function p a) (map word_event es ++ made)
         (thread_at function r c)
     one_more es q r b c made before step none =
         let now = thread_at function q b in
         let after = thread_at function r c in
         can_then (thread_at function p a) now after (map word_event es) made before.0 before.1
-        (subst (λ (all : List WordEvent). CanMakeUnclaimed functions layout t now all after) (append-nil made)
+        (subst (λ (all : List WordEvent). CanMakeUnclaimed functions states layout t now all after) (append-nil made)
         (Then now after after made [] step (Nothing after), (none, tt)))
 
     silent_more : (es : List Event) (q r : Place) (b c : Actor) → Can es q b
-        → (step : MakesStep functions layout t (thread_at function q b) [] (thread_at function r c))
+        → (step : MakesStep functions states layout t (thread_at function q b) [] (thread_at function r c))
         → ClaimsNothing step → Can es r c
     silent_more es q r b c before step none =
-        subst (λ (all : List WordEvent). CanMakeUnclaimed functions layout t (thread_at function p a) all
+        subst (λ (all : List WordEvent). CanMakeUnclaimed functions states layout t (thread_at function p a) all
         (thread_at function r c)) (append-nil (map word_event es)) (one_more es q r b c [] before step none)
 
     duty_more : (es : List Event) (q r : Place) (b : Actor) (d : Duty) (rest : List Duty) (found : ℕ) → Can es q b
-        → (step : MakesStep functions layout t (thread_at function q b) (model.events_of layout t b d found)
+        → (step : MakesStep functions states layout t (thread_at function q b) (model.events_of layout t b d found)
         (thread_at function r (actor_by layout t b d rest found)))
         → ClaimsNothing step → Can (es ++ events_of layout t b d found) r (actor_by layout t b d rest found)
     duty_more es q r b d rest found before step none =
@@ -114,59 +116,60 @@ module _ (functions : List Function) (layout : Layout) (t : ℕ) where
         ≡ map word_event es ++ model.events_of layout t b d found =
         map-append word_event es (events_of layout t b d found)
         ∙ ap (λ (ws : List WordEvent). map word_event es ++ ws) (same_events layout t b d found) in
-        subst (λ (ws : List WordEvent). CanMakeUnclaimed functions layout t (thread_at function p a) ws
+        subst (λ (ws : List WordEvent). CanMakeUnclaimed functions states layout t (thread_at function p a) ws
         (thread_at function r after)) (sym all)
         (one_more es q r b after (model.events_of layout t b d found) before step none)
 
     -- A thread with nothing to do does what it dispatches.
     dispatches : (q : Place) (b : Actor) (x : Action) → b.status ≢ Gone → b.agenda ≡ []
         → dispatch layout t b.used (code functions function) q ≡ x
-        → action_of functions layout t (thread_at function q b) Ok ≡ x
+        → action_of functions states layout t (thread_at function q b) Ok ≡ x
     dispatches q b x alive none is =
         alive_action functions layout t (thread_at function q b) b.status alive
         ∙ ap (agenda_action functions layout t (thread_at function q b)) none ∙ is
 
-    pub plain_can : (cs : List HostCall) (es : List Event) (q : Place) (b : Actor)
-        (made : Makes layout t (code functions function) p a cs es q b) → IsPlain made → Can es q b
-    plain_can cs es q b Begun plain = (Nothing (thread_at function p a), tt)
-    plain_can cs es q b (Silently ds fs r s c moves before none is) plain =
-        silent_more fs r s c c (plain_can ds fs r c before plain.1)
+    pub plain_can : (n : ℕ) (cs : List HostCall) (es : List Event) (q : Place) (b : Actor)
+        (made : Makes layout t (code functions function) p a n cs es q b) → IsPlain made → Can es q b
+    plain_can n cs es q b Begun plain = (Nothing (thread_at function p a), tt)
+    plain_can n cs es q b (Silently k ds fs r s c moves before none is) plain =
+        silent_more fs r s c c (plain_can k ds fs r c before plain.1)
         (GoesSilently Ok moves s (dispatches r c (Silent moves s) plain.0 none is)) tt
-    plain_can cs es q b (Asks ds fs r c row after i call before none is here asks) plain =
-        silent_more fs r (after (exit_of call)) c c (plain_can ds fs r c before plain.1)
+    plain_can n cs es q b (Asks k ds fs r c row after i call before none is here asks) plain =
+        silent_more fs r (after (exit_of call)) c c (plain_can k ds fs r c before plain.1)
         (CallsHost Ok row after (exit_of call) (dispatches r c (Calls row after) plain.0 none is)) tt
-    plain_can cs es q b (Starts ds fs r c d rest next found before none is other) plain =
-        duty_more fs r (next found) c d rest found (plain_can ds fs r c before plain.1)
+    plain_can n cs es q b (Starts k ds fs r c d rest next found before none is other) plain =
+        duty_more fs r (next found) c d rest found (plain_can k ds fs r c before plain.1)
         (DoesDuty Ok d rest next found (dispatches r c (Does d rest next) plain.0 none is)) tt
-    plain_can cs es q b (Reads ds fs counters at variables c to file most past count found before none is few) plain
+    plain_can n cs es q b (Reads k ds fs context at variables c to file most past count found before none is few) plain
         =
-        let r = Inside counters at variables Granted in
-        let after = InCall counters (at + 1) (slice_set variables to (Some (row_at layout t c.used))) in
+        let r = Inside context at variables Granted in
+        let after = InCall context (at + 1) (slice_set variables to (Some (row_at layout t c.used))) in
         let reads : dispatch layout t c.used (code functions function) r
-        ≡ Does (read_birth layout t c to 0) [] (always after) =
-        ap (dispatch_inside layout t c.used counters at variables Granted) is in
-        subst (λ (n : ℕ). Can (fs ++ events_of layout t c (read_birth layout t c to n) found) after
-        (actor_by layout t c (read_birth layout t c to n) [] found)) (sym plain.0)
-        (duty_more fs r after c (read_birth layout t c to 0) [] found
-        (plain_can (ds ++ Read most (Some count) ∷ []) fs r c before plain.2)
-        (DoesDuty Ok (read_birth layout t c to 0) [] (always after) found
-        (dispatches r c (Does (read_birth layout t c to 0) [] (always after)) plain.1 none reads)) tt)
-    plain_can cs es q b (Continues ds fs r c d rest found before is other) plain =
-        duty_more fs r r c d rest found (plain_can ds fs r c before plain.1)
+        ≡ Does (read_birth layout t c context to 0) [] (always after) =
+        ap (dispatch_inside layout t c.used context at variables Granted) is in
+        subst (λ (n : ℕ). Can (fs ++ events_of layout t c (read_birth layout t c context to n) found) after
+        (actor_by layout t c (read_birth layout t c context to n) [] found)) (sym plain.0)
+        (duty_more fs r after c (read_birth layout t c context to 0) [] found
+        (plain_can k (ds ++ Read most (Some count) ∷ []) fs r c before plain.2)
+        (DoesDuty Ok (read_birth layout t c context to 0) [] (always after) found
+        (dispatches r c (Does (read_birth layout t c context to 0) [] (always after)) plain.1 none reads)) tt)
+    plain_can n cs es q b (Continues k ds fs r c d rest found before is other) plain =
+        duty_more fs r r c d rest found (plain_can k ds fs r c before plain.1)
         (DoesDuty Ok d rest (always r) found
         (alive_action functions layout t (thread_at function r c) c.status plain.0
         ∙ ap (agenda_action functions layout t (thread_at function r c)) is)) tt
-    plain_can cs es q b (Closes ds fs r c x rest failed before is) plain =
+    plain_can n cs es q b (Closes k ds fs r c x rest failed before is) plain =
         subst (λ (gs : List Event). Can gs r (actor_by layout t c (CloseResource x) rest 0)) (append-nil fs)
-        (duty_more fs r r c (CloseResource x) rest 0 (plain_can ds fs r c before plain.1)
+        (duty_more fs r r c (CloseResource x) rest 0 (plain_can k ds fs r c before plain.1)
         (DoesDuty Ok (CloseResource x) rest (always r) 0
         (alive_action functions layout t (thread_at function r c) c.status plain.0
         ∙ ap (agenda_action functions layout t (thread_at function r c)) is)) tt)
-    plain_can cs es q b (Settles ds fs r c before none) plain = absurd plain
+    plain_can n cs es q b (Settles k ds fs r c before none) plain = absurd plain
 
 -- ---- and back
 
-module _ (functions : List Function) (layout : Layout) (t function : ℕ) (p : Place) (a : Actor) where
+module _ (functions : List Function) (states : ℕ → ℕ → Option State) (layout : Layout) (t function : ℕ) (p : Place)
+    (a : Actor) where
   abbrev Plainly : List Event → Place → Actor → Type 0
   Plainly es q b = MakesPlainly layout t (code functions function) p a es q b
 
@@ -185,11 +188,11 @@ module _ (functions : List Function) (layout : Layout) (t function : ℕ) (p : P
   dispatched es q b Skip so alive none is = tt
   dispatched es q b Stuck so alive none is = tt
   dispatched es q b (Silent moves place) so alive none is =
-      (so.0, Silently so.0 es q place b moves so.1 none is, (alive, so.2))
+      (_, so.1, Silently so.0 so.1 es q place b moves so.2 none is, (alive, so.3))
   dispatched es q b (Calls row place) so alive none is =
       tt
   dispatched es q b (Does d rest place) so alive none is =
-      λ found other. (so.0, Starts so.0 es q b d rest place found so.1 none is other, (alive, so.2))
+      λ found other. (_, so.1, Starts so.0 so.1 es q b d rest place found so.2 none is other, (alive, so.3))
 
   by_agenda : (es : List Event) (q : Place) (b : Actor) (agenda : List Duty) → Plainly es q b → b.status ≢ Gone
       → b.agenda ≡ agenda → GoesOn es q b (agenda_action functions layout t (thread_at function q b) agenda)
@@ -198,9 +201,9 @@ module _ (functions : List Function) (layout : Layout) (t function : ℕ) (p : P
   by_agenda es q b (CloseResource x ∷ rest) so alive is =
       λ found other. subst (λ (fs : List Event). Plainly fs q (actor_by layout t b (CloseResource x) rest found))
       (sym (append-nil es))
-      (so.0 ++ Close false ∷ [], Closes so.0 es q b x rest false so.1 is, (alive, so.2))
+      (so.0, so.1 ++ Close false ∷ [], Closes so.0 so.1 es q b x rest false so.2 is, (alive, so.3))
   by_agenda es q b (d ∷ rest) so alive is =
-      λ found other. (so.0, Continues so.0 es q b d rest found so.1 is refl, (alive, so.2))
+      λ found other. (so.0, so.1, Continues so.0 so.1 es q b d rest found so.2 is refl, (alive, so.3))
 
   by_status : (es : List Event) (q : Place) (b : Actor) (s : Status) → Plainly es q b → b.status ≡ s
       → GoesOn es q b (status_action functions layout t (thread_at function q b) s)
@@ -211,24 +214,26 @@ module _ (functions : List Function) (layout : Layout) (t function : ℕ) (p : P
       by_agenda es q b b.agenda so (λ gone. let wrong : Leaving ≡ Gone = sym is ∙ gone in cc) refl
 
   by_choice : (es : List Event) (q : Place) (b : Actor) (choice : Choice) (x : Action) → Plainly es q b
-      → IsNoClaim choice → action_of functions layout t (thread_at function q b) choice ≡ x → GoesOn es q b x
+      → IsNoClaim choice → action_of functions states layout t (thread_at function q b) choice ≡ x → GoesOn es q b x
   by_choice es q b Ok x so none is = subst (GoesOn es q b) is (by_status es q b b.status so refl)
   by_choice es q b Fault x so none is = subst (GoesOn es q b) is (by_status es q b b.status so refl)
   by_choice es q b (Claim row) x so none is = absurd none
+  by_choice es q b Stop x so none is = absurd none
 
-module _ (functions : List Function) (layout : Layout) (t : ℕ) (p : Place) (a : Actor) where
+module _ (functions : List Function) (states : ℕ → ℕ → Option State) (layout : Layout) (t : ℕ) (p : Place)
+    (a : Actor) where
   abbrev On : ℕ → List Event → Place → Actor → Type 0
   On function es q b = MakesPlainly layout t (code functions function) p a es q b
 
   -- A thread of the step world keeps its function.
   one_step : (x next : StepActor) (es : List Event) (now : List WordEvent)
-      → (step : MakesStep functions layout t x now next) → ClaimsNothing step → AsksNothing step
+      → (step : MakesStep functions states layout t x now next) → ClaimsNothing step → AsksNothing step
       → On x.function es x.place x.actor
       → (next.function ≡ x.function) × On x.function (es ++ map hand_event now) next.place next.actor
   one_step x next es now (GoesSilently choice moves place is) none alone so = (
     refl,
     subst (λ (fs : List Event). On x.function fs place x.actor) (sym (append-nil es))
-        (by_choice functions layout t x.function p a es x.place x.actor choice (Silent moves place) so none is),
+        (by_choice functions states layout t x.function p a es x.place x.actor choice (Silent moves place) so none is),
   )
   one_step x next es now (CallsHost choice row place exit is) none alone so = absurd alone
   one_step x next es now (DoesDuty choice d rest place found is) none alone so =
@@ -238,11 +243,13 @@ module _ (functions : List Function) (layout : Layout) (t : ℕ) (p : Place) (a 
         refl,
         subst (λ (fs : List Event). On x.function (es ++ fs) (place found) (actor_by layout t x.actor d rest found))
             (sym same)
-            (by_choice functions layout t x.function p a es x.place x.actor choice (Does d rest place) so none is found
+            (by_choice functions states layout t x.function p a es x.place x.actor choice (Does d rest place) so none
+            is found
             alone),
       )
 
-  can_plain : (x c : StepActor) (es : List Event) (made : List WordEvent) (can : CanMake functions layout t x made c)
+  can_plain : (x c : StepActor) (es : List Event) (made : List WordEvent)
+      (can : CanMake functions states layout t x made c)
       → GoesAlone can → On x.function es x.place x.actor
       → On x.function (es ++ map hand_event made) c.place c.actor
   can_plain x c es made (Nothing same) none so =
@@ -259,12 +266,13 @@ module _ (functions : List Function) (layout : Layout) (t : ℕ) (p : Place) (a 
       (can_plain next c here later rest none.2 from))
 
 pub hands_as_threads : HandsMakeAsThreads
-hands_as_threads functions layout t function p q a b es plain =
-    plain_can functions layout t function p a plain.0 es q b plain.1 plain.2
+hands_as_threads functions states layout t function p q a b es plain =
+    plain_can functions states layout t function p a plain.0 plain.1 es q b plain.2 plain.3
 
 pub threads_alone_as_hands : ThreadsAloneMakeAsHands
-threads_alone_as_hands functions layout t function p q a b es can =
+threads_alone_as_hands functions states layout t function p q a b es can =
     subst (λ (fs : List Event). MakesPlainly layout t (code_of (slice_get functions function)) p a fs q b)
     (there_and_back es)
-    (can_plain functions layout t p a (thread_at function p a) (thread_at function q b) [] (map word_event es) can.0
-    can.1 ([], Begun, tt))
+    (can_plain functions states layout t p a (thread_at function p a) (thread_at function q b) [] (map word_event es)
+    can.0
+    can.1 (0, [], Begun, tt))

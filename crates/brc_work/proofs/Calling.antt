@@ -55,7 +55,6 @@ looked_called hand after ready keeps free settled table carried slots = record {
     agenda = free.agenda;
     aside = free.aside;
     settled = settled;
-    lent = keeps.lent ∙ ready.rests.lent;
   };
   unlocked = keeps.locked ∙ ready.unlocked;
   slots = slots;

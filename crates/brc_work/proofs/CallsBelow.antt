@@ -57,7 +57,6 @@ left_acts hand after x rests left table carried slots head = record {
       agenda = left.agenda;
       aside = left.aside ∙ ap (filter (λ (d : Duty). not (is_about x d))) (no_work hand rests);
       settled = head ∙ rests.settled;
-      lent = left.sight.lent ∙ rests.lent;
     };
     more = record { layout = left.layout; kinds = left.sight.kinds };
     locked = left.sight.locked;
@@ -80,7 +79,6 @@ born_acts hand after rests born table carried slots =
           agenda = no_first after.view.agenda after.view.aside none;
           aside = no_second after.view.agenda after.view.aside none;
           settled = born.head ∙ rests.settled;
-          lent = born.sight.lent ∙ rests.lent;
         };
         more = record { layout = born.layout; kinds = born.sight.kinds };
         locked = born.sight.locked;
@@ -102,7 +100,6 @@ kept_acts hand after rests kept table carried slots locked =
         agenda = no_first after.view.agenda after.view.aside none;
         aside = no_second after.view.agenda after.view.aside none;
         settled = kept.head ∙ rests.settled;
-        lent = kept.lent ∙ rests.lent;
       };
       more = record { layout = kept.layout; kinds = kept.kinds };
       locked = locked;
@@ -143,7 +140,6 @@ beside_acts hand references rests = record {
       agenda = rests.agenda;
       aside = rests.aside;
       settled = rests.settled;
-      lent = rests.lent;
     };
     more = record { layout = refl; kinds = λ x word seen. seen };
     locked = refl;
@@ -188,7 +184,6 @@ released_acts hand mid after x closes rests released worked settled table carrie
           agenda = worked.agenda;
           aside = keeps.aside ∙ released_rests hand mid x rests released;
           settled = settled;
-          lent = keeps.lent ∙ (released.lent ∙ rests.lent);
         };
         more = record {
           layout = keeps.layout ∙ released.layout;
@@ -211,7 +206,6 @@ kept_rests hand after rests kept =
       agenda = no_first after.view.agenda after.view.aside none;
       aside = no_second after.view.agenda after.view.aside none;
       settled = kept.head ∙ rests.settled;
-      lent = kept.lent ∙ rests.lent;
     }
 
 pub kept_follows : (hand after : HandState) → Keeps hand.view after.view → after.table ≡ hand.table
@@ -229,7 +223,6 @@ slot_rests hand n rests = record {
   agenda = rests.agenda;
   aside = rests.aside;
   settled = rests.settled;
-  lent = rests.lent;
 }
 
 -- What a hand does after something else.

@@ -16,7 +16,7 @@ use Rattle.brc_model.proofs.Dispatch.Grounded.{slot_of-put_same, slot_of-put_oth
 use Rattle.brc_table.specs.Views.{holds}
 use Rattle.brc_table.specs.Hands.{HandState}
 use Rattle.brc_work.specs.Acts.{Acts, ActsElsewhere}
-use Rattle.brc_work.specs.Fits.{SlotFits, owns, lists, over_variables, LockFits, LocksAs, Follows, Fits}
+use Rattle.brc_work.specs.Fits.{Base, SlotFits, owns, lists, over_variables, LockFits, LocksAs, Follows, Fits}
 use Rattle.brc_work.proofs.Owning.{sum_set, sum_without, owns_without, lists_without}
 use Rattle.brc_work.proofs.Staying.{Stays, slot_stays, slot_bare}
 
@@ -95,45 +95,50 @@ pub record Trades (layout : Layout) (old new : Slot) (before row : Option ℕ) (
       ≤ length hand.view.references + lists layout new row
 
 -- A variable that isn't locked gets another slot.
-pub refits : (first : HandState) (s : State) (rows : List (Option ℕ)) (hand after : HandState) (to : ℕ) (slot : Slot)
-    (row : Option ℕ) → Fits first s rows hand → to < 16 → names s.locked to ≡ false → ActsElsewhere hand after
-    → SlotFits after.view slot row
-    → Trades first.view.layout (slot_of s to) slot (row_of rows to) row hand after
-    → Fits first (put s to slot) (slice_set rows to row) after
-refits first s rows hand after to slot row fits low unlocked did says trades =
+pub refits : (base : Base) (s : State) (rows : List (Option ℕ)) (hand after : HandState) (to : ℕ) (slot : Slot)
+    (row : Option ℕ) → Fits base s rows hand → to < 16 → names s.locked to ≡ false → ActsElsewhere hand after
+    → SlotFits base.held after.view slot row
+    → Trades base.first.view.layout (slot_of s to) slot (row_of rows to) row hand after
+    → Fits base (put s to slot) (slice_set rows to row) after
+refits base s rows hand after to slot row fits low unlocked did says trades =
     let in_slots : to < length s.slots = omega (arith, low, fits.some_slots) in
     let in_rows : to < length rows = omega (arith, low, fits.some_rows) in
     let stays = stays_of hand after did in
-    let other : (i : ℕ) → i ≢ to → SlotFits after.view (slot_of (put s to slot) i) (row_of (slice_set rows to row) i) =
+    let other : (i : ℕ) → i ≢ to
+    → SlotFits base.held after.view (slot_of (put s to slot) i) (row_of (slice_set rows to row) i) =
     λ i apart.
-    subst (λ (w : Slot). SlotFits after.view w (row_of (slice_set rows to row) i)) (sym (slot_of-put_other s to i slot apart))
-    (subst (λ (w : Option ℕ). SlotFits after.view (slot_of s i) w) (sym (row_of-set_other rows to i row apart))
-    (slot_stays hand.view after.view (slot_of s i) (row_of rows i) stays (fits.each i))) in
-    let this : SlotFits after.view (slot_of (put s to slot) to) (row_of (slice_set rows to row) to) =
-    subst (λ (w : Slot). SlotFits after.view w (row_of (slice_set rows to row) to))
+    subst (λ (w : Slot). SlotFits base.held after.view w (row_of (slice_set rows to row) i))
+    (sym (slot_of-put_other s to i slot apart))
+    (subst (λ (w : Option ℕ). SlotFits base.held after.view (slot_of s i) w)
+    (sym (row_of-set_other rows to i row apart))
+    (slot_stays base.held hand.view after.view (slot_of s i) (row_of rows i) stays (fits.each i))) in
+    let this : SlotFits base.held after.view (slot_of (put s to slot) to) (row_of (slice_set rows to row) to) =
+    subst (λ (w : Slot). SlotFits base.held after.view w (row_of (slice_set rows to row) to))
     (sym (slot_of-put_same s to slot in_slots))
-    (subst (λ (w : Option ℕ). SlotFits after.view slot w) (sym (row_of-set_same rows to row in_rows)) says) in
+    (subst (λ (w : Option ℕ). SlotFits base.held after.view slot w) (sym (row_of-set_same rows to row in_rows)) says) in
     let elsewhere : (i : ℕ) → s.locked ≡ Some i → i ≢ to = λ i is same.
     false≢true (sym unlocked ∙ (ap (λ (l : Option ℕ). names l to) is ∙ eq-eqb to i (sym same))) in
     record {
       ready = fits.ready;
+      room = fits.room;
       plain = fits.plain;
-      follows = follows_on first hand after fits.follows did.acts.follows;
+      follows = follows_on base.first hand after fits.follows did.acts.follows;
       rests = did.acts.rests;
       some_slots = length-set s.slots to slot ∙ fits.some_slots;
       some_rows = length-set rows to row ∙ fits.some_rows;
       each = λ i. elim (eqb_tells i to) [
-        | inl same ↦ subst (λ (k : ℕ). SlotFits after.view (slot_of (put s to slot) k) (row_of (slice_set rows to row) k))
-            (sym same.1) this
+        | inl same ↦
+            subst (λ (k : ℕ). SlotFits base.held after.view (slot_of (put s to slot) k)
+            (row_of (slice_set rows to row) k)) (sym same.1) this
         | inr apart ↦ other i apart.1
       ];
       held = λ y counted.
           let sums = sum_set (owns y) to s.slots rows slot row in_slots in_rows in
           omega (arith, sums, trades.held y counted, fits.held y counted);
       few =
-          let sums = sum_set (lists first.view.layout) to s.slots rows slot row in_slots in_rows in
+          let sums = sum_set (lists base.first.view.layout) to s.slots rows slot row in_slots in_rows in
           omega (arith, sums, trades.few, fits.few);
-      lock = locks_as first.slots s (put s to slot) rows (slice_set rows to row) hand after s.locked did.acts
+      lock = locks_as base.first.slots s (put s to slot) rows (slice_set rows to row) hand after s.locked did.acts
           (λ i is. (
             row_of-set_other rows to i row (elsewhere i is),
             says_same (slot_of s i) (slot_of (put s to slot) i) (slot_of-put_other s to i slot (elsewhere i is)),
@@ -143,43 +148,48 @@ refits first s rows hand after to slot row fits low unlocked did says trades =
 -- ---- no variable changes
 
 -- The hand has done something, and holds what it held.
-pub same_fits : (first : HandState) (s : State) (rows : List (Option ℕ)) (hand after : HandState)
-    → Fits first s rows hand → ActsElsewhere hand after → after.view.references ≡ hand.view.references
-    → Fits first s rows after
-same_fits first s rows hand after fits did same = record {
+pub same_fits : (base : Base) (s : State) (rows : List (Option ℕ)) (hand after : HandState)
+    → Fits base s rows hand → ActsElsewhere hand after → after.view.references ≡ hand.view.references
+    → Fits base s rows after
+same_fits base s rows hand after fits did same = record {
   ready = fits.ready;
+  room = fits.room;
   plain = fits.plain;
-  follows = follows_on first hand after fits.follows did.acts.follows;
+  follows = follows_on base.first hand after fits.follows did.acts.follows;
   rests = did.acts.rests;
   some_slots = fits.some_slots;
   some_rows = fits.some_rows;
-  each = λ i. slot_stays hand.view after.view (slot_of s i) (row_of rows i) (stays_of hand after did) (fits.each i);
+  each = λ i. slot_stays base.held hand.view after.view (slot_of s i) (row_of rows i) (stays_of hand after did)
+      (fits.each i);
   held = λ y counted. ap (λ (l : List ℕ). holds (record after.view { references = l }) y) same ∙ fits.held y counted;
-  few = subst (λ (l : List ℕ). length l ≤ length first.view.references + over_variables (lists first.view.layout) s.slots rows)
+  few = subst (λ (l : List ℕ). length l ≤ base.most + over_variables (lists base.first.view.layout) s.slots rows)
       (sym same) fits.few;
-  lock = locks_as first.slots s s rows rows hand after s.locked did.acts (λ i is. (refl, says_same (slot_of s i) (slot_of s i) refl)) fits.lock;
+  lock = locks_as base.first.slots s s rows rows hand after s.locked did.acts
+      (λ i is. (refl, says_same (slot_of s i) (slot_of s i) refl)) fits.lock;
 }
 
 -- Once nothing is borrowed any more, whatever became of the locked list.
-pub bare_fits : (first : HandState) (s : State) (rows : List (Option ℕ)) (hand after : HandState)
-    → Fits first s rows hand → Acts hand after → after.view.references ≡ hand.view.references
-    → Fits first (without_items s) rows after
-bare_fits first s rows hand after fits did same = record {
+pub bare_fits : (base : Base) (s : State) (rows : List (Option ℕ)) (hand after : HandState)
+    → Fits base s rows hand → Acts hand after → after.view.references ≡ hand.view.references
+    → Fits base (without_items s) rows after
+bare_fits base s rows hand after fits did same = record {
   ready = fits.ready;
+  room = fits.room;
   plain = fits.plain;
-  follows = follows_on first hand after fits.follows did.follows;
+  follows = follows_on base.first hand after fits.follows did.follows;
   rests = did.rests;
   some_slots = length-map s.slots without_item ∙ fits.some_slots;
   some_rows = fits.some_rows;
-  each = λ i. subst (λ (w : Slot). SlotFits after.view w (row_of rows i)) (sym (slot_of-without s i))
-      (slot_bare hand.view after.view (slot_of s i) (row_of rows i) did.more (fits.each i));
+  each = λ i. subst (λ (w : Slot). SlotFits base.held after.view w (row_of rows i)) (sym (slot_of-without s i))
+      (slot_bare base.held hand.view after.view (slot_of s i) (row_of rows i) did.more (fits.each i));
   held = λ y counted.
       ap (λ (l : List ℕ). holds (record after.view { references = l }) y) same
       ∙ (fits.held y counted
-      ∙ ap (λ (n : ℕ). holds first.view y + n) (sym (sum_without (owns y) (owns_without y) s.slots rows)));
+      ∙ ap (λ (n : ℕ). base.held y + n) (sym (sum_without (owns y) (owns_without y) s.slots rows)));
   few = subst (λ (l : List ℕ). length l
-      ≤ length first.view.references + over_variables (lists first.view.layout) (map without_item s.slots) rows) (sym same)
-      (subst (λ (n : ℕ). length hand.view.references ≤ length first.view.references + n)
-      (sym (sum_without (lists first.view.layout) (lists_without first.view.layout) s.slots rows)) fits.few);
-  lock = locks_as first.slots s (without_items s) rows rows hand after s.locked did (λ i is. (refl, says_bare s i)) fits.lock;
+      ≤ base.most + over_variables (lists base.first.view.layout) (map without_item s.slots) rows) (sym same)
+      (subst (λ (n : ℕ). length hand.view.references ≤ base.most + n)
+      (sym (sum_without (lists base.first.view.layout) (lists_without base.first.view.layout) s.slots rows)) fits.few);
+  lock = locks_as base.first.slots s (without_items s) rows rows hand after s.locked did
+      (λ i is. (refl, says_bare s i)) fits.lock;
 }

@@ -9,7 +9,7 @@ use Rattle.brc_model.specs.declared.slot.Slot.{Slot}
 use Rattle.brc_model.specs.declared.slot.Slot.TheVariants.{Empty, Owned, Caller, Locked}
 use Rattle.brc_model.specs.declared.slot.State.{State}
 use Rattle.brc_model.specs.Items.{borrows_item}
-use Rattle.brc_model.specs.Layout.{root_row, is_immortal_row, IsCounted}
+use Rattle.brc_model.specs.Layout.{is_immortal_row, IsCounted}
 use Rattle.brc_model.specs.Slots.{slot_of, kind_of, is_empty, is_owned, is_one_of, lockable, with_resource, with_kind, names}
 use Rattle.brc_model.specs.Duties.{resources_of}
 use Rattle.brc_model.specs.Threads.{row_of}
@@ -22,18 +22,18 @@ use Rattle.brc_table.specs.Views.{holds}
 use Rattle.brc_table.specs.Seen.{has_seen_kind}
 use Rattle.brc_table.specs.Hands.{HandState, HoldsOne, KeepsLock, Borrows, MayUse, most_references}
 use Rattle.brc_work.specs.Changes.{CanGive}
-use Rattle.brc_work.specs.Fits.{KnowsKind, Unknown, OfNone, OfRoot, HasSeen, SlotFits, owns, LockFits, LocksAs, Fits}
+use Rattle.brc_work.specs.Fits.{Base, KnowsKind, Unknown, OfNone, OfRoot, HasSeen, SlotFits, owns, LockFits, LocksAs, Fits}
 use Rattle.brc_work.proofs.Owning.{sum_at, sum_both, sum_lists}
 
 -- ---- what a slot says of its row
 
 -- A variable in use names an object.
-pub named : (v : View) (slot : Slot) (row : Option ℕ) → is_empty slot ≡ false → SlotFits v slot row
+pub named : (held : ℕ → ℕ) (v : View) (slot : Slot) (row : Option ℕ) → is_empty slot ≡ false → SlotFits held v slot row
     → (x : ℕ) × (row ≡ Some x)
-named v Empty row used fits = let wrong : true ≡ false = used in absurd cc
-named v (Owned k) row used fits = (fits.object, fits.is)
-named v (Caller k) row used fits = (root_row, fits.is)
-named v (Locked k) row used fits = (fits.names.object, fits.names.is)
+named held v Empty row used fits = let wrong : true ≡ false = used in absurd cc
+named held v (Owned k) row used fits = (fits.object, fits.is)
+named held v (Caller k) row used fits = (fits.names.object, fits.names.is)
+named held v (Locked k) row used fits = (fits.names.object, fits.names.is)
 
 owns_one : (slot : Slot) (row : Option ℕ) (x : ℕ) → is_owned slot ≡ true → row ≡ Some x → owns x slot row ≡ 1
 owns_one Empty row x owned is = let wrong : false ≡ true = owned in absurd cc
@@ -44,14 +44,14 @@ owns_one (Locked k) row x owned is = let wrong : false ≡ true = owned in absur
 
 -- ---- what the hand holds
 
-module _ (first : HandState) (s : State) (rows : List (Option ℕ)) (hand : HandState) (fits : Fits first s rows hand) where
+module _ (base : Base) (s : State) (rows : List (Option ℕ)) (hand : HandState) (fits : Fits base s rows hand) where
   low_slot : (i : ℕ) → is_owned (slot_of s i) ≡ true → i < length s.slots
   low_slot i owned = omega (arith, owned_low s i fits.some_slots owned, fits.some_slots)
 
   low_row : (i : ℕ) → is_owned (slot_of s i) ≡ true → i < length rows
   low_row i owned = omega (arith, owned_low s i fits.some_slots owned, fits.some_rows)
 
-  here : (x : ℕ) → IsCounted hand.view.layout x → IsCounted first.view.layout x
+  here : (x : ℕ) → IsCounted hand.view.layout x → IsCounted base.first.view.layout x
   here x counted = subst (λ (l : Layout). IsCounted l x) fits.follows.layout counted
 
   -- It holds a reference to what a variable owns,
@@ -62,16 +62,26 @@ module _ (first : HandState) (s : State) (rows : List (Option ℕ)) (hand : Hand
       let all = sum_at (owns x) i s.slots rows (low_slot i owned) (low_row i owned) in
       omega (arith, one, all, fits.held x (here x counted))
 
-  -- and besides one to the root.
-  pub owned_root : (i : ℕ) → is_owned (slot_of s i) ≡ true → row_of rows i ≡ Some root_row
-      → IsCounted hand.view.layout root_row → 2 ≤ holds hand.view root_row
-  owned_root i owned is counted =
-      let one = owns_one (slot_of s i) (row_of rows i) root_row owned is in
-      let all = sum_at (owns root_row) i s.slots rows (low_slot i owned) (low_row i owned) in
-      omega (arith, one, all, fits.held root_row (here root_row counted), fits.ready.root)
+  -- and one to what it holds further out,
+  outer_held : (x : ℕ) → 1 ≤ base.held x → IsCounted hand.view.layout x → 1 ≤ holds hand.view x
+  outer_held x more counted = omega (arith, more, fits.held x (here x counted))
 
-  pub root_held : IsCounted hand.view.layout root_row → 1 ≤ holds hand.view root_row
-  root_held counted = omega (arith, fits.held root_row (here root_row counted), fits.ready.root)
+  -- besides one by a variable.
+  owned_outer : (i x : ℕ) → is_owned (slot_of s i) ≡ true → row_of rows i ≡ Some x → 1 ≤ base.held x
+      → IsCounted hand.view.layout x → 2 ≤ holds hand.view x
+  owned_outer i x owned is more counted =
+      let one = owns_one (slot_of s i) (row_of rows i) x owned is in
+      let all = sum_at (owns x) i s.slots rows (low_slot i owned) (low_row i owned) in
+      omega (arith, one, all, more, fits.held x (here x counted))
+
+  -- What the caller lends it holds further out.
+  lent_outer : (i x : ℕ) (k : Kind) → slot_of s i ≡ Caller k → row_of rows i ≡ Some x → IsCounted hand.view.layout x
+      → 1 ≤ base.held x
+  lent_outer i x k is row counted =
+      let lent : SlotFits base.held hand.view (Caller k) (row_of rows i) =
+      subst (λ (w : Slot). SlotFits base.held hand.view w (row_of rows i)) is (fits.each i) in
+      let same : lent.names.object ≡ x = some_is lent.names.object x (sym lent.names.is ∙ row) in
+      subst (λ (y : ℕ). 1 ≤ base.held y) same (lent.lent (subst (IsCounted hand.view.layout) (sym same) counted))
 
   -- Two variables that own a reference to the same object hold two.
   pub both_held : (i j x : ℕ) → i ≢ j → is_owned (slot_of s i) ≡ true → row_of rows i ≡ Some x
@@ -97,14 +107,9 @@ module _ (first : HandState) (s : State) (rows : List (Option ℕ)) (hand : Hand
   lasting_slot i x Empty is used lasting row = let wrong : true ≡ false = used in absurd cc
   lasting_slot i x (Owned k) is used lasting row = owned_one i x (ap is_owned is) row
   lasting_slot i x (Caller k) is used lasting row =
-      let root : SlotFits hand.view (Caller k) (row_of rows i) =
-      subst (λ (w : Slot). SlotFits hand.view w (row_of rows i)) is (fits.each i) in
-      let same : x ≡ root_row = some_is x root_row (sym row ∙ root.is) in
       elim (cases_Bool (is_immortal_row hand.view.layout x)) [
         | inl immortal ↦ inl immortal
-        | inr counted ↦
-            inr (subst (λ (y : ℕ). 1 ≤ holds hand.view y) (sym same)
-            (root_held (subst (IsCounted hand.view.layout) same counted)))
+        | inr counted ↦ inr (outer_held x (lent_outer i x k is row counted) counted)
       ]
   lasting_slot i x (Locked k) is used lasting row = let wrong : true ≡ false = lasting in absurd cc
 
@@ -119,8 +124,8 @@ module _ (first : HandState) (s : State) (rows : List (Option ℕ)) (hand : Hand
   usable_slot i x (Owned k) is used row = inl (lasting_slot i x (Owned k) is refl refl row)
   usable_slot i x (Caller k) is used row = inl (lasting_slot i x (Caller k) is refl refl row)
   usable_slot i x (Locked k) is used row =
-      let item : SlotFits hand.view (Locked k) (row_of rows i) =
-      subst (λ (w : Slot). SlotFits hand.view w (row_of rows i)) is (fits.each i) in
+      let item : SlotFits base.held hand.view (Locked k) (row_of rows i) =
+      subst (λ (w : Slot). SlotFits base.held hand.view w (row_of rows i)) is (fits.each i) in
       let same : item.names.object ≡ x = some_is item.names.object x (sym item.names.is ∙ row) in
       inr (subst (Borrows hand.view) same item.borrows)
 
@@ -128,11 +133,11 @@ module _ (first : HandState) (s : State) (rows : List (Option ℕ)) (hand : Hand
   usable i x used row = usable_slot i x (slot_of s i) refl used row
 
   pub names_object : (i : ℕ) → is_empty (slot_of s i) ≡ false → (x : ℕ) × (row_of rows i ≡ Some x)
-  names_object i used = named hand.view (slot_of s i) (row_of rows i) used (fits.each i)
+  names_object i used = named base.held hand.view (slot_of s i) (row_of rows i) used (fits.each i)
 
   -- ---- the lock
 
-  locked_slot : (i j x : ℕ) (slot : Slot) → slot_of s i ≡ slot → LockFits first.slots s rows hand i → i ≢ j
+  locked_slot : (i j x : ℕ) (slot : Slot) → slot_of s i ≡ slot → LockFits base.first.slots s rows hand i → i ≢ j
       → row_of rows i ≡ Some x → is_owned (slot_of s j) ≡ true → row_of rows j ≡ Some x
       → IsCounted hand.view.layout x → 2 ≤ holds hand.view x
   locked_slot i j x Empty is lock apart row owned other counted =
@@ -140,16 +145,12 @@ module _ (first : HandState) (s : State) (rows : List (Option ℕ)) (hand : Hand
   locked_slot i j x (Owned k) is lock apart row owned other counted =
       both_held i j x apart (ap is_owned is) row owned other counted
   locked_slot i j x (Caller k) is lock apart row owned other counted =
-      let root : SlotFits hand.view (Caller k) (row_of rows i) =
-      subst (λ (w : Slot). SlotFits hand.view w (row_of rows i)) is (fits.each i) in
-      let same : x ≡ root_row = some_is x root_row (sym row ∙ root.is) in
-      subst (λ (y : ℕ). 2 ≤ holds hand.view y) (sym same)
-      (owned_root j owned (other ∙ ap Some same) (subst (IsCounted hand.view.layout) same counted))
+      owned_outer j x owned other (lent_outer i x k is row counted) counted
   locked_slot i j x (Locked k) is lock apart row owned other counted =
       let wrong : true ≡ false = sym (ap borrows_item is) ∙ lock.lasting in absurd cc
 
   -- A reference that may be given up isn't the last one to the locked object.
-  gives_up : (from x : ℕ) (locked : Option ℕ) → s.locked ≡ locked → LocksAs locked first.slots s rows hand
+  gives_up : (from x : ℕ) (locked : Option ℕ) → s.locked ≡ locked → LocksAs locked base.first.slots s rows hand
       → CanGive s from → row_of rows from ≡ Some x → KeepsLock hand.view x
   gives_up from x None is lock can row locked = absurd (none_some x (sym lock.0 ∙ locked))
   gives_up from x (Some i) is lock can row locked =
@@ -163,10 +164,10 @@ module _ (first : HandState) (s : State) (rows : List (Option ℕ)) (hand : Hand
   keeps_lock from x can row = gives_up from x s.locked refl fits.lock can row
 
   -- The locked object is one that the hand holds.
-  pub lock_of : (i : ℕ) → s.locked ≡ Some i → LockFits first.slots s rows hand i
-  lock_of i is = subst (λ (l : Option ℕ). LocksAs l first.slots s rows hand) is fits.lock
+  pub lock_of : (i : ℕ) → s.locked ≡ Some i → LockFits base.first.slots s rows hand i
+  lock_of i is = subst (λ (l : Option ℕ). LocksAs l base.first.slots s rows hand) is fits.lock
 
-  pub locked_held : (i : ℕ) (lock : LockFits first.slots s rows hand i) → 1 ≤ holds hand.view lock.object
+  pub locked_held : (i : ℕ) (lock : LockFits base.first.slots s rows hand i) → 1 ≤ holds hand.view lock.object
   locked_held i lock = elim (lasting_one i lock.object lock.used lock.lasting lock.names) [
     | inl immortal ↦ absurd (false≢true (sym lock.counted ∙ immortal))
     | inr more ↦ more
@@ -177,13 +178,13 @@ module _ (first : HandState) (s : State) (rows : List (Option ℕ)) (hand : Hand
   -- It may make one more.
   pub few_more : length hand.view.references + 1 < most_references
   few_more =
-      let most = sum_lists first.view.layout s.slots rows in
-      omega (arith, fits.few, fits.ready.few, most, fits.some_slots)
+      let most = sum_lists base.first.view.layout s.slots rows in
+      omega (arith, fits.few, fits.room, most, fits.some_slots)
 
   pub few_held : length hand.view.references < most_references
   few_held =
-      let most = sum_lists first.view.layout s.slots rows in
-      omega (arith, fits.few, fits.ready.few, most, fits.some_slots)
+      let most = sum_lists base.first.view.layout s.slots rows in
+      omega (arith, fits.few, fits.room, most, fits.some_slots)
 
 -- ---- kinds
 
@@ -221,24 +222,28 @@ sees_resource v kind x (HasSeen word counted some seen is) can = record {
 }
 
 -- What a variable in use names is known to be of its slot's kind.
-pub knows_slot : (v : View) (slot : Slot) (row : Option ℕ) (x : ℕ) → is_empty slot ≡ false → SlotFits v slot row
-    → row ≡ Some x → KnowsKind v (kind_of slot) x
-knows_slot v Empty row x used fits is = let wrong : true ≡ false = used in absurd cc
-knows_slot v (Owned k) row x used fits is =
+pub knows_slot : (held : ℕ → ℕ) (v : View) (slot : Slot) (row : Option ℕ) (x : ℕ) → is_empty slot ≡ false
+    → SlotFits held v slot row → row ≡ Some x → KnowsKind v (kind_of slot) x
+knows_slot held v Empty row x used fits is = let wrong : true ≡ false = used in absurd cc
+knows_slot held v (Owned k) row x used fits is =
     subst (KnowsKind v k) (some_is fits.object x (sym fits.is ∙ is)) fits.knows
-knows_slot v (Caller k) row x used fits is =
-    subst (KnowsKind v k) (some_is root_row x (sym fits.is ∙ is)) fits.knows
-knows_slot v (Locked k) row x used fits is =
+knows_slot held v (Caller k) row x used fits is =
+    subst (KnowsKind v k) (some_is fits.names.object x (sym fits.names.is ∙ is)) fits.names.knows
+knows_slot held v (Locked k) row x used fits is =
     subst (KnowsKind v k) (some_is fits.names.object x (sym fits.names.is ∙ is)) fits.names.knows
 
 -- The slot with another kind, which the hand knows to be the object's.
-pub fits_with_kind : (v : View) (slot : Slot) (row : Option ℕ) (kind : Kind)
-    → ((x : ℕ) → row ≡ Some x → KnowsKind v kind x) → SlotFits v slot row → SlotFits v (with_kind slot kind) row
-fits_with_kind v Empty row kind knows fits = tt
-fits_with_kind v (Owned k) row kind knows fits =
+pub fits_with_kind : (held : ℕ → ℕ) (v : View) (slot : Slot) (row : Option ℕ) (kind : Kind)
+    → ((x : ℕ) → row ≡ Some x → KnowsKind v kind x) → SlotFits held v slot row
+    → SlotFits held v (with_kind slot kind) row
+fits_with_kind held v Empty row kind knows fits = tt
+fits_with_kind held v (Owned k) row kind knows fits =
     record { object = fits.object; is = fits.is; knows = knows fits.object fits.is }
-fits_with_kind v (Caller k) row kind knows fits = record { is = fits.is; knows = knows root_row fits.is }
-fits_with_kind v (Locked k) row kind knows fits = record {
+fits_with_kind held v (Caller k) row kind knows fits = record {
+  names = record { object = fits.names.object; is = fits.names.is; knows = knows fits.names.object fits.names.is };
+  lent = fits.lent;
+}
+fits_with_kind held v (Locked k) row kind knows fits = record {
   names = record { object = fits.names.object; is = fits.names.is; knows = knows fits.names.object fits.names.is };
   borrows = fits.borrows;
 }

@@ -7,7 +7,7 @@ use Rattle.brc_model.proofs.Basics.Lists.{some_is}
 use Rattle.brc_table.specs.declared.view.View.{View}
 use Rattle.brc_table.specs.Uses.{FirstSlot, behind_slot}
 use Rattle.brc_table.specs.Hands.{HandState}
-use Rattle.brc_work.specs.Fits.{Fits}
+use Rattle.brc_work.specs.Fits.{Base, Fits}
 use Rattle.brc_work.proofs.Conditions.{locked_is}
 use Rattle.brc_work.proofs.Holding.{lock_of}
 
@@ -18,19 +18,19 @@ pub record OnFile (hand : HandState) (row : ℕ) : Type 0 where
   pub rest : List (ℕ × ℕ)
   pub slots : hand.slots ≡ (row, 1) ∷ rest
 
-pub on_file : (first : HandState) (s : State) (rows : List (Option ℕ)) (hand : HandState) (file row : ℕ)
-    → Fits first s rows hand → names s.locked file ≡ true
+pub on_file : (base : Base) (s : State) (rows : List (Option ℕ)) (hand : HandState) (file row : ℕ)
+    → Fits base s rows hand → names s.locked file ≡ true
     → is_one_of (kind_of (slot_of s file)) with_resource ≡ true → row_of rows file ≡ Some row → OnFile hand row
-on_file first s rows hand file row fits is has named =
-    let lock = lock_of first s rows hand fits file (locked_is s.locked file is) in
+on_file base s rows hand file row fits is has named =
+    let lock = lock_of base s rows hand fits file (locked_is s.locked file is) in
     let same : lock.object ≡ row = some_is lock.object row (sym lock.names ∙ named) in
     record {
       locked = lock.locked ∙ ap Some same;
       whole = lock.resource has;
-      rest = first.slots;
+      rest = base.first.slots;
       slots =
-          lock.slots ∙ (ap (λ (x : ℕ). (x, hand.view.in_slot) ∷ first.slots) same
-          ∙ ap (λ (n : ℕ). (row, n) ∷ first.slots) (lock.resource has));
+          lock.slots ∙ (ap (λ (x : ℕ). (x, hand.view.in_slot) ∷ base.first.slots) same
+          ∙ ap (λ (n : ℕ). (row, n) ∷ base.first.slots) (lock.resource has));
     }
 
 pub there : (hand : HandState) (row : ℕ) → OnFile hand row → FirstSlot hand.slots row 1
@@ -42,7 +42,12 @@ same_hand hand after table view carried slots =
     ap (λ t. record after { table = t }) table
     ∙ (ap (λ (v : View). record after { table = hand.table; view = v }) view
     ∙ (ap (λ (l : List (Option ℕ)). record after { table = hand.table; view = hand.view; carried = l }) carried
-    ∙ ap (λ (l : List (ℕ × ℕ)). record after { table = hand.table; view = hand.view; carried = hand.carried; slots = l }) slots))
+    ∙ ap (λ (l : List (ℕ × ℕ)). record after {
+      table = hand.table;
+      view = hand.view;
+      carried = hand.carried;
+      slots = l;
+    }) slots))
 
 -- Once the resource is back, the hand is as it was.
 pub lent_back : (hand lent after : HandState) (row : ℕ) → OnFile hand row → after.table ≡ hand.table

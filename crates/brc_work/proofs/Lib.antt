@@ -19,4 +19,5 @@ mod Places
 mod Mains
 mod Traces
 mod Automata
+mod Remembering
 mod FromOutside

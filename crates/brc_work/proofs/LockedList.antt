@@ -20,7 +20,7 @@ use Rattle.brc_table.specs.Hands.{HandState, HoldsOne, HasNoWork, KeepsLock}
 use Rattle.brc_table.proofs.Accounts.{count_with_reference}
 use Rattle.brc_list.specs.Calls.{Keeps, KeepsBesides, SeesItem, SwapsItem, row_in}
 use Rattle.brc_work.specs.Acts.{KeepsCells, Acts, ActsElsewhere}
-use Rattle.brc_work.specs.Fits.{Rests, Fits}
+use Rattle.brc_work.specs.Fits.{Base, Rests, Fits}
 use Rattle.brc_work.proofs.CallsBelow.{no_work, kept_acts, asked_cells, with_references, beside_acts, acts_then}
 use Rattle.brc_work.proofs.Conditions.{locked_is}
 use Rattle.brc_work.proofs.Fitting.{same_fits}
@@ -36,14 +36,14 @@ pub record OnList (hand : HandState) (row : ℕ) : Type 0 where
   pub locked : hand.view.locked ≡ Some row
   pub counted : IsCounted hand.view.layout row
 
-pub on_list : (first : HandState) (s : State) (rows : List (Option ℕ)) (hand : HandState) (list row : ℕ)
-    → Fits first s rows hand → names s.locked list ≡ true → row_of rows list ≡ Some row → OnList hand row
-on_list first s rows hand list row fits is named =
-    let lock = lock_of first s rows hand fits list (locked_is s.locked list is) in
+pub on_list : (base : Base) (s : State) (rows : List (Option ℕ)) (hand : HandState) (list row : ℕ)
+    → Fits base s rows hand → names s.locked list ≡ true → row_of rows list ≡ Some row → OnList hand row
+on_list base s rows hand list row fits is named =
+    let lock = lock_of base s rows hand fits list (locked_is s.locked list is) in
     let same : lock.object ≡ row = some_is lock.object row (sym lock.names ∙ named) in
     record {
-      one = lasting_one first s rows hand fits list row lock.used lock.lasting named;
-      held = subst (λ (x : ℕ). 1 ≤ holds hand.view x) same (locked_held first s rows hand fits list lock);
+      one = lasting_one base s rows hand fits list row lock.used lock.lasting named;
+      held = subst (λ (x : ℕ). 1 ≤ holds hand.view x) same (locked_held base s rows hand fits list lock);
       locked = lock.locked ∙ ap Some same;
       counted = subst (IsCounted hand.view.layout) same lock.counted;
     }
@@ -99,12 +99,14 @@ pub data CameOut (hand after : HandState) (item : ℕ) : Option ℕ → Type 0 w
   Nothing : after.view.references ≡ without_reference hand.view.layout item hand.view.references
       → CameOut hand after item None
   Something : (old : ℕ)
-      → after.view.references ≡ with_reference hand.view.layout old (without_reference hand.view.layout item hand.view.references)
+      → after.view.references ≡ with_reference hand.view.layout old
+      (without_reference hand.view.layout item hand.view.references)
       → CameOut hand after item (Some old)
 
 pub came_out : (hand after : HandState) (x cell item found : ℕ) (result : Option ℕ)
     → SwapsItem x cell (suc item) found hand.view after.view → result ≡ row_in found → CameOut hand after item result
-came_out hand after x cell item zero result swaps is = subst (CameOut hand after item) (sym is) (Nothing swaps.references)
+came_out hand after x cell item zero result swaps is = subst (CameOut hand after item) (sym is)
+    (Nothing swaps.references)
 came_out hand after x cell item (suc old) result swaps is =
     subst (CameOut hand after item) (sym is) (Something old swaps.references)
 
@@ -125,7 +127,8 @@ module _ (hand after : HandState) (row item old : ℕ) (counted : IsCounted hand
   abbrev rest : List ℕ
   rest = without_reference hand.view.layout item hand.view.references
 
-  count_is : (y : ℕ) → IsCounted hand.view.layout y → holds after.view y ≡ count_by (λ z. z == y) rest + one_if (old == y)
+  count_is : (y : ℕ) → IsCounted hand.view.layout y → holds after.view y
+      ≡ count_by (λ z. z == y) rest + one_if (old == y)
   count_is y there =
       ap (λ (l : List ℕ). count_by (λ z. z == y) l) is ∙ count_with_reference hand.view.layout old y rest there
 
@@ -183,7 +186,8 @@ pub idle_about : (hand : HandState) (x : ℕ) → Rests hand → HasNoWork hand.
 idle_about hand x rests = ap (filter (is_about x)) (no_work hand rests)
 
 -- It still knows the cell.
-pub knows_cell : (v u : View) (x cell : ℕ) → ((y word : ℕ) → has_seen_kind y word v ≡ true → has_seen_kind y word u ≡ true)
+pub knows_cell : (v u : View) (x cell : ℕ) → ((y word : ℕ) → has_seen_kind y word v ≡ true → has_seen_kind y word u
+    ≡ true)
     → KnowsCell v x cell → KnowsCell u x cell
 knows_cell v u x cell kinds knows =
     record { word = knows.word; seen = kinds x knows.word knows.seen; low = knows.low }
@@ -213,12 +217,14 @@ module _ (hand mid : HandState) (x item : ℕ) (on : OnList hand x) (rests : Res
         (omega (arith, more_is x on.counted, on.held, ap one_if (eq-eqb item x (sym same)))),
   )
 
-out_of : (hand after : HandState) (item old : ℕ) (result : Option ℕ) → CameOut hand after item result → result ≡ Some old
+out_of : (hand after : HandState) (item old : ℕ) (result : Option ℕ) → CameOut hand after item result → result
+    ≡ Some old
     → after.view.references
     ≡ with_reference hand.view.layout old (without_reference hand.view.layout item hand.view.references)
 out_of hand after item old None (Nothing is) this = absurd (none_some old this)
 out_of hand after item old (Some _) (Something other is) this =
-    is ∙ ap (λ (x : ℕ). with_reference hand.view.layout x (without_reference hand.view.layout item hand.view.references))
+    is ∙ ap (λ (x : ℕ). with_reference hand.view.layout x
+    (without_reference hand.view.layout item hand.view.references))
     (some_is other old this)
 
 -- The hand has the reference that came out.
@@ -230,10 +236,10 @@ out_is hand after x cell item old found result swaps is this =
     out_of hand after item old result (came_out hand after x cell item found result swaps is) this
 
 -- The worker has asked how many cells its list has.
-pub sized_fits : (first : HandState) (s : State) (rows : List (Option ℕ)) (hand after : HandState) (x word : ℕ)
-    → Fits first s rows hand → Keeps hand.view after.view → after.table ≡ hand.table → after.carried ≡ hand.carried
+pub sized_fits : (base : Base) (s : State) (rows : List (Option ℕ)) (hand after : HandState) (x word : ℕ)
+    → Fits base s rows hand → Keeps hand.view after.view → after.table ≡ hand.table → after.carried ≡ hand.carried
     → after.slots ≡ hand.slots → after.view.locked ≡ hand.view.locked → after.view ≡ done (asking hand.view x) word
-    → Fits first s rows after
-sized_fits first s rows hand after x word fits kept table carried slots locked view =
-    same_fits first s rows hand after fits (sized_acts hand after x word fits.rests kept table carried slots locked view)
+    → Fits base s rows after
+sized_fits base s rows hand after x word fits kept table carried slots locked view =
+    same_fits base s rows hand after fits (sized_acts hand after x word fits.rests kept table carried slots locked view)
     kept.references

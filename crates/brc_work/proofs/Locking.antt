@@ -19,39 +19,39 @@ use Rattle.brc_table.specs.Uses.{behind_slot}
 use Rattle.brc_table.specs.Hands.{HandState}
 use Rattle.brc_list.specs.Calls.{Keeps, KeepsButSlot}
 use Rattle.brc_work.specs.Acts.{KnowsMore}
-use Rattle.brc_work.specs.Fits.{SlotFits, owns, lists, over_variables, LockFits, LocksAs, Fits}
+use Rattle.brc_work.specs.Fits.{Base, SlotFits, owns, lists, over_variables, LockFits, LocksAs, Fits}
 use Rattle.brc_work.proofs.CallsBelow.{with_slot, slot_rests, kept_rests, kept_follows}
 use Rattle.brc_work.proofs.Fitting.{follows_on}
 use Rattle.brc_work.proofs.Holding.{knows_slot, lockable_counted, sees_resource}
 use Rattle.brc_work.proofs.Owning.{sum_without, owns_without, lists_without}
-use Rattle.brc_work.proofs.Staying.{names_more, knows_more, slot_bare}
+use Rattle.brc_work.proofs.Staying.{names_more, slot_bare, lent_still}
 
 -- ---- without a lock
 
 -- A hand that has locked nothing borrows nothing.
-pub borrows_none : (v : View) (slot : Slot) (row : Option ℕ) → v.locked ≡ None → SlotFits v slot row
+pub borrows_none : (held : ℕ → ℕ) (v : View) (slot : Slot) (row : Option ℕ) → v.locked ≡ None → SlotFits held v slot row
     → borrows_item slot ≡ false
-borrows_none v Empty row none fits = refl
-borrows_none v (Owned k) row none fits = refl
-borrows_none v (Caller k) row none fits = refl
-borrows_none v (Locked k) row none fits = absurd (none_some fits.borrows.list (sym none ∙ fits.borrows.locked))
+borrows_none held v Empty row none fits = refl
+borrows_none held v (Owned k) row none fits = refl
+borrows_none held v (Caller k) row none fits = refl
+borrows_none held v (Locked k) row none fits = absurd (none_some fits.borrows.list (sym none ∙ fits.borrows.locked))
 
-slot_unlocked : (v u : View) (slot : Slot) (row : Option ℕ) → KnowsMore v u → v.locked ≡ None → SlotFits v slot row
-    → SlotFits u slot row
-slot_unlocked v u Empty row more none fits = tt
-slot_unlocked v u (Owned k) row more none fits = names_more v u k row more fits
-slot_unlocked v u (Caller k) row more none fits =
-    record { is = fits.is; knows = knows_more v u k _ more fits.knows }
-slot_unlocked v u (Locked k) row more none fits = absurd (none_some fits.borrows.list (sym none ∙ fits.borrows.locked))
+slot_unlocked : (held : ℕ → ℕ) (v u : View) (slot : Slot) (row : Option ℕ) → KnowsMore v u → v.locked ≡ None
+    → SlotFits held v slot row → SlotFits held u slot row
+slot_unlocked held v u Empty row more none fits = tt
+slot_unlocked held v u (Owned k) row more none fits = names_more v u k row more fits
+slot_unlocked held v u (Caller k) row more none fits = lent_still held v u k row more fits
+slot_unlocked held v u (Locked k) row more none fits =
+    absurd (none_some fits.borrows.list (sym none ∙ fits.borrows.locked))
 
-pub no_lock : (first : HandState) (s : State) (rows : List (Option ℕ)) (hand : HandState) → Fits first s rows hand
-    → s.locked ≡ None → (hand.view.locked ≡ None) × (hand.slots ≡ first.slots)
-no_lock first s rows hand fits none =
-    subst (λ (l : Option ℕ). LocksAs l first.slots s rows hand) none fits.lock
+pub no_lock : (base : Base) (s : State) (rows : List (Option ℕ)) (hand : HandState) → Fits base s rows hand
+    → s.locked ≡ None → (hand.view.locked ≡ None) × (hand.slots ≡ base.first.slots)
+no_lock base s rows hand fits none =
+    subst (λ (l : Option ℕ). LocksAs l base.first.slots s rows hand) none fits.lock
 
 -- ---- a try to lock
 
-module _ (first : HandState) (s : State) (rows : List (Option ℕ)) (hand after : HandState) (fits : Fits first s rows hand)
+module _ (base : Base) (s : State) (rows : List (Option ℕ)) (hand after : HandState) (fits : Fits base s rows hand)
     (none : s.locked ≡ None) (kept : KeepsButSlot hand.view after.view) (table : after.table ≡ hand.table)
     (carried : after.carried ≡ hand.carried) where
   before : HandState
@@ -60,12 +60,13 @@ module _ (first : HandState) (s : State) (rows : List (Option ℕ)) (hand after 
   abbrev more : KnowsMore hand.view after.view
   more = record { layout = kept.layout; kinds = kept.kinds }
 
-  tried_with : (next : State) → next.slots ≡ s.slots → LocksAs next.locked first.slots next rows after
-      → Fits first next rows after
+  tried_with : (next : State) → next.slots ≡ s.slots → LocksAs next.locked base.first.slots next rows after
+      → Fits base next rows after
   tried_with next same lock = record {
     ready = fits.ready;
+    room = fits.room;
     plain = fits.plain;
-    follows = follows_on first hand after fits.follows (record {
+    follows = follows_on base.first hand after fits.follows (record {
       table = table;
       layout = kept.layout;
       thread = kept.thread;
@@ -77,44 +78,47 @@ module _ (first : HandState) (s : State) (rows : List (Option ℕ)) (hand after 
     some_slots = ap (λ (l : List Slot). length l) same ∙ fits.some_slots;
     some_rows = fits.some_rows;
     each = λ i.
-        subst (λ (l : List Slot). SlotFits after.view (slot_of (record next { slots = l }) i) (row_of rows i)) (sym same)
-        (slot_unlocked hand.view after.view (slot_of s i) (row_of rows i) more (no_lock first s rows hand fits none).0
+        subst (λ (l : List Slot). SlotFits base.held after.view (slot_of (record next { slots = l }) i)
+        (row_of rows i)) (sym same)
+        (slot_unlocked base.held hand.view after.view (slot_of s i) (row_of rows i) more
+        (no_lock base s rows hand fits none).0
         (fits.each i));
     held = λ y counted.
         ap (λ (l : List ℕ). holds (record after.view { references = l }) y) kept.references
         ∙ (fits.held y counted
-        ∙ ap (λ (l : List Slot). holds first.view y + over_variables (owns y) l rows) (sym same));
+        ∙ ap (λ (l : List Slot). base.held y + over_variables (owns y) l rows) (sym same));
     few =
-        subst (λ (l : List ℕ). length l ≤ length first.view.references + over_variables (lists first.view.layout) next.slots rows)
+        subst (λ (l : List ℕ). length l ≤ base.most + over_variables (lists base.first.view.layout) next.slots rows)
         (sym kept.references)
         (subst (λ (l : List Slot). length hand.view.references
-        ≤ length first.view.references + over_variables (lists first.view.layout) l rows) (sym same) fits.few);
+        ≤ base.most + over_variables (lists base.first.view.layout) l rows) (sym same) fits.few);
     lock = lock;
   }
 
   -- that fails,
-  pub still_fits : after.view.locked ≡ None → after.slots ≡ hand.slots → Fits first s rows after
+  pub still_fits : after.view.locked ≡ None → after.slots ≡ hand.slots → Fits base s rows after
   still_fits unlocked slots =
-      tried_with s refl (subst (λ (l : Option ℕ). LocksAs l first.slots s rows after) (sym none)
-      (unlocked, slots ∙ (no_lock first s rows hand fits none).1))
+      tried_with s refl (subst (λ (l : Option ℕ). LocksAs l base.first.slots s rows after) (sym none)
+      (unlocked, slots ∙ (no_lock base s rows hand fits none).1))
 
   -- and one that wins.
   pub lock_is : (i x : ℕ) → is_empty (slot_of s i) ≡ false → is_one_of (kind_of (slot_of s i)) lockable ≡ true
       → row_of rows i ≡ Some x → after.view.locked ≡ Some x → after.slots ≡ (x, after.view.in_slot) ∷ hand.slots
       → ((word : ℕ) → 0 < word → has_seen_kind x word hand.view ≡ true → after.view.in_slot ≡ resources_of word)
-      → Fits first (with_lock s (Some i)) rows after
+      → Fits base (with_lock s (Some i)) rows after
   lock_is i x used can names locked slots kinds =
-      let knows = knows_slot hand.view (slot_of s i) (row_of rows i) x used (fits.each i) names in
+      let knows = knows_slot base.held hand.view (slot_of s i) (row_of rows i) x used (fits.each i) names in
       tried_with (with_lock s (Some i)) refl (record {
         object = x;
         names = names;
         counted =
             subst (λ (l : Layout). IsCounted l x) (sym kept.layout)
             (lockable_counted hand.view (kind_of (slot_of s i)) x knows can);
-        lasting = borrows_none hand.view (slot_of s i) (row_of rows i) (no_lock first s rows hand fits none).0 (fits.each i);
+        lasting = borrows_none base.held hand.view (slot_of s i) (row_of rows i)
+            (no_lock base s rows hand fits none).0 (fits.each i);
         used = used;
         locked = locked;
-        slots = slots ∙ ap (λ (l : List (ℕ × ℕ)). (x, after.view.in_slot) ∷ l) (no_lock first s rows hand fits none).1;
+        slots = slots ∙ ap (λ (l : List (ℕ × ℕ)). (x, after.view.in_slot) ∷ l) (no_lock base s rows hand fits none).1;
         resource = λ has.
             let sees = sees_resource hand.view (kind_of (slot_of s i)) x knows has in
             kinds sees.word sees.some sees.seen ∙ sees.has;
@@ -122,30 +126,32 @@ module _ (first : HandState) (s : State) (rows : List (Option ℕ)) (hand after 
 
 -- ---- an unlock
 
-pub unlocks : (first : HandState) (s : State) (rows : List (Option ℕ)) (hand after : HandState) (i : ℕ)
-    → Fits first s rows hand → LockFits first.slots s rows hand i → Keeps hand.view after.view
+pub unlocks : (base : Base) (s : State) (rows : List (Option ℕ)) (hand after : HandState) (i : ℕ)
+    → Fits base s rows hand → LockFits base.first.slots s rows hand i → Keeps hand.view after.view
     → after.table ≡ hand.table → after.carried ≡ hand.carried → after.slots ≡ behind_slot hand.slots
-    → after.view.locked ≡ None → Fits first (with_lock (without_items s) None) rows after
-unlocks first s rows hand after i fits lock kept table carried slots unlocked = record {
+    → after.view.locked ≡ None → Fits base (with_lock (without_items s) None) rows after
+unlocks base s rows hand after i fits lock kept table carried slots unlocked = record {
   ready = fits.ready;
+  room = fits.room;
   plain = fits.plain;
-  follows = follows_on first hand after fits.follows (kept_follows hand after kept table carried);
+  follows = follows_on base.first hand after fits.follows (kept_follows hand after kept table carried);
   rests = kept_rests hand after fits.rests kept;
   some_slots = length-map s.slots without_item ∙ fits.some_slots;
   some_rows = fits.some_rows;
   each = λ j.
-      subst (λ (w : Slot). SlotFits after.view w (row_of rows j)) (sym (slot_of-without s j))
-      (slot_bare hand.view after.view (slot_of s j) (row_of rows j) (record { layout = kept.layout; kinds = kept.kinds })
+      subst (λ (w : Slot). SlotFits base.held after.view w (row_of rows j)) (sym (slot_of-without s j))
+      (slot_bare base.held hand.view after.view (slot_of s j) (row_of rows j)
+      (record { layout = kept.layout; kinds = kept.kinds })
       (fits.each j));
   held = λ y counted.
       ap (λ (l : List ℕ). holds (record after.view { references = l }) y) kept.references
       ∙ (fits.held y counted
-      ∙ ap (λ (n : ℕ). holds first.view y + n) (sym (sum_without (owns y) (owns_without y) s.slots rows)));
+      ∙ ap (λ (n : ℕ). base.held y + n) (sym (sum_without (owns y) (owns_without y) s.slots rows)));
   few =
       subst (λ (l : List ℕ). length l
-      ≤ length first.view.references + over_variables (lists first.view.layout) (map without_item s.slots) rows)
+      ≤ base.most + over_variables (lists base.first.view.layout) (map without_item s.slots) rows)
       (sym kept.references)
-      (subst (λ (n : ℕ). length hand.view.references ≤ length first.view.references + n)
-      (sym (sum_without (lists first.view.layout) (lists_without first.view.layout) s.slots rows)) fits.few);
+      (subst (λ (n : ℕ). length hand.view.references ≤ base.most + n)
+      (sym (sum_without (lists base.first.view.layout) (lists_without base.first.view.layout) s.slots rows)) fits.few);
   lock = (unlocked, slots ∙ ap behind_slot lock.slots);
 }

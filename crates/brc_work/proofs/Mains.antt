@@ -25,7 +25,7 @@ keeps_itself v may = record {
   used = refl;
   references = refl;
   head = refl;
-  sight = same_sight v v refl refl refl refl;
+  sight = same_sight v v refl refl refl;
   waits = may.running.1;
   work = refl;
 }
@@ -102,7 +102,8 @@ joins_none v = record { same = refl; still = λ hand has. has }
 pub joined_now : (u w gone : View) → w ≡ joining u gone
     → HasJoined w (record { thread = gone.thread; used = gone.used })
 joined_now u w gone is =
-    subst (λ (z : View). HasJoined z (record { thread = gone.thread; used = gone.used })) (sym is) (0, omega arith, refl)
+    subst (λ (z : View). HasJoined z (record { thread = gone.thread; used = gone.used })) (sym is)
+    (0, omega arith, refl)
 
 -- What main kept as it gave out hands it keeps as it joins them.
 pub keeps_joined : (v u w : View) → KeepsMain v u → JoinsMore u w → KeepsMain v w
@@ -115,7 +116,7 @@ keeps_joined v u w kept more =
       used = kept.used;
       references = kept.references;
       head = kept.head;
-      sight = sight_then v u joined kept.sight (same_sight u joined refl refl refl refl);
+      sight = sight_then v u joined kept.sight (same_sight u joined refl refl refl);
       waits = kept.waits;
       work = kept.work;
     })

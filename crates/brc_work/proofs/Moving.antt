@@ -17,7 +17,7 @@ use Rattle.brc_model.proofs.Dispatch.Passing.{are_met}
 use Rattle.brc_table.specs.Views.{holds, without_reference}
 use Rattle.brc_table.specs.Hands.{HandState, HoldsOne}
 use Rattle.brc_work.specs.Changes.{CanFill, CanGive}
-use Rattle.brc_work.specs.Fits.{Fits}
+use Rattle.brc_work.specs.Fits.{Base, Fits}
 use Rattle.brc_work.proofs.CallsBelow.{itself_acts, beside_acts, beside_back, with_references}
 use Rattle.brc_work.proofs.Conditions.{kept, can_give}
 use Rattle.brc_work.proofs.Fitting.{Trades, refits}
@@ -34,47 +34,52 @@ held_in layout hand x same (inl immortal) = inl (subst (λ (l : Layout). is_immo
 held_in layout hand x same (inr some) = inr some
 
 -- A variable's reference is given up: the hand has a reference less.
-pub given : (first : HandState) (s : State) (rows : List (Option ℕ)) (hand after : HandState) (from x : ℕ)
-    → Fits first s rows hand → CanGive s from → row_of rows from ≡ Some x
-    → after.view.references ≡ without_reference first.view.layout x hand.view.references
-    → Trades first.view.layout (slot_of s from) Empty (row_of rows from) None hand after
-given first s rows hand after from x fits can is less =
+pub given : (base : Base) (s : State) (rows : List (Option ℕ)) (hand after : HandState) (from x : ℕ)
+    → Fits base s rows hand → CanGive s from → row_of rows from ≡ Some x
+    → after.view.references ≡ without_reference base.first.view.layout x hand.view.references
+    → Trades base.first.view.layout (slot_of s from) Empty (row_of rows from) None hand after
+given base s rows hand after from x fits can is less =
     let owned = owned_kind (slot_of s from) can.owned in
-    let held = held_in first.view.layout hand x fits.follows.layout
-    (owned_one first s rows hand fits from x can.owned is) in
-    subst (λ (w : Slot). Trades first.view.layout w Empty (row_of rows from) None hand after) (sym owned.1)
-    (subst (λ (w : Option ℕ). Trades first.view.layout (Owned owned.0) Empty w None hand after) (sym is)
-    (loses first.view.layout owned.0 x hand after held less))
+    let held = held_in base.first.view.layout hand x fits.follows.layout
+    (owned_one base s rows hand fits from x can.owned is) in
+    subst (λ (w : Slot). Trades base.first.view.layout w Empty (row_of rows from) None hand after) (sym owned.1)
+    (subst (λ (w : Option ℕ). Trades base.first.view.layout (Owned owned.0) Empty w None hand after) (sym is)
+    (loses base.first.view.layout owned.0 x hand after held less))
 
-pub moved : (first : HandState) (s : State) (rows : List (Option ℕ)) (hand : HandState) (to from x : ℕ)
-    → Fits first s rows hand → lowest (instructions.Move to from) s ≡ None → from < 16 → to < 16
+pub moved : (base : Base) (s : State) (rows : List (Option ℕ)) (hand : HandState) (to from x : ℕ)
+    → Fits base s rows hand → lowest (instructions.Move to from) s ≡ None → from < 16 → to < 16
     → row_of rows from ≡ Some x
-    → Fits first (after_move s to from) (slice_set (slice_set rows from None) to (Some x)) hand
-moved first s rows hand to from x fits passes low low_to is =
+    → Fits base (after_move s to from) (slice_set (slice_set rows from None) to (Some x)) hand
+moved base s rows hand to from x fits passes low low_to is =
     let met = are_met (instructions.Move to from) s passes in
     let slot = slot_of s from in
     let used = kept (is_empty slot) met.not_empty in
     let give = can_give s from used (kept (is_borrowed slot) met.owned)
     (first_false (names s.locked from) (names s.locked to || false) met.unlocked) in
-    let to_unlocked = kept (names s.locked to) (second_false (names s.locked from) (names s.locked to || false) met.unlocked) in
+    let to_unlocked = kept (names s.locked to) (second_false (names s.locked from) (names s.locked to || false)
+    met.unlocked) in
     let free = kept (is_owned (slot_of s to)) met.free in
     let apart : to ≢ from = λ e.
     false≢true (sym free ∙ (ap (λ (i : ℕ). is_owned (slot_of s i)) e ∙ give.owned)) in
-    let references = without_reference first.view.layout x hand.view.references in
+    let references = without_reference base.first.view.layout x hand.view.references in
     let mid = with_references hand references in
-    let one = refits first s rows hand mid from Empty None fits low give.unlocked (beside_acts hand references fits.rests) tt
-    (given first s rows hand mid from x fits give is refl) in
-    let held = held_in first.view.layout hand x fits.follows.layout
-    (owned_one first s rows hand fits from x give.owned is) in
-    refits first (put s from Empty) (slice_set rows from None) mid hand to (Owned (kind_of slot)) (Some x) one low_to to_unlocked
+    let one = refits base s rows hand mid from Empty None fits low give.unlocked
+    (beside_acts hand references fits.rests) tt
+    (given base s rows hand mid from x fits give is refl) in
+    let held = held_in base.first.view.layout hand x fits.follows.layout
+    (owned_one base s rows hand fits from x give.owned is) in
+    let knows = knows_slot base.held hand.view slot (row_of rows from) x used (fits.each from) is in
+    refits base (put s from Empty) (slice_set rows from None) mid hand to (Owned (kind_of slot)) (Some x) one low_to
+    to_unlocked
     (beside_back hand references fits.rests)
-    (record { object = x; is = refl; knows = knows_slot hand.view slot (row_of rows from) x used (fits.each from) is })
-    (regains first.view.layout (slot_of (put s from Empty) to) (row_of (slice_set rows from None) to) (kind_of slot) x mid hand
+    (record { object = x; is = refl; knows = knows })
+    (regains base.first.view.layout (slot_of (put s from Empty) to) (row_of (slice_set rows from None) to)
+    (kind_of slot) x mid hand
     (ap is_owned (slot_of-put_other s from to Empty apart) ∙ free) held refl)
 
 -- A variable that owns nothing names nothing from then on.
-pub cleared : (first : HandState) (s : State) (rows : List (Option ℕ)) (hand : HandState) (to : ℕ) → Fits first s rows hand
-    → CanFill s to → to < 16 → Fits first (put s to Empty) (slice_set rows to None) hand
-cleared first s rows hand to fits can low =
-    refits first s rows hand hand to Empty None fits low can.unlocked (itself_acts hand fits.rests) tt
-    (nothing first.view.layout (slot_of s to) Empty (row_of rows to) None hand hand can.free refl refl)
+pub cleared : (base : Base) (s : State) (rows : List (Option ℕ)) (hand : HandState) (to : ℕ) → Fits base s rows hand
+    → CanFill s to → to < 16 → Fits base (put s to Empty) (slice_set rows to None) hand
+cleared base s rows hand to fits can low =
+    refits base s rows hand hand to Empty None fits low can.unlocked (itself_acts hand fits.rests) tt
+    (nothing base.first.view.layout (slot_of s to) Empty (row_of rows to) None hand hand can.free refl refl)

@@ -9,7 +9,7 @@ use Rattle.brc_model.specs.Slots.{without_item}
 use Rattle.brc_table.specs.declared.view.View.{View}
 use Rattle.brc_table.specs.Hands.{Borrows}
 use Rattle.brc_work.specs.Acts.{KnowsMore, KeepsCells}
-use Rattle.brc_work.specs.Fits.{KnowsKind, Unknown, OfNone, OfRoot, HasSeen, Names, SlotFits}
+use Rattle.brc_work.specs.Fits.{KnowsKind, Unknown, OfNone, OfRoot, HasSeen, Names, NamesLent, SlotFits}
 
 -- A hand has locked what it had locked, and what it has seen in the locked list is still there.
 pub record Stays (v u : View) : Type 0 where
@@ -39,22 +39,31 @@ borrows_still v u x stays borrows = record {
   there = subst (λ (l : Layout). x < row_count l) (sym stays.more.layout) borrows.there;
 }
 
--- What the slot says stays true.
-pub slot_stays : (v u : View) (slot : Slot) (row : Option ℕ) → Stays v u → SlotFits v slot row → SlotFits u slot row
+-- What is lent stays lent.
+pub lent_still : (held : ℕ → ℕ) (v u : View) (kind : Kind) (row : Option ℕ) → KnowsMore v u → NamesLent held v kind row
+    → NamesLent held u kind row
 unfolding names_more
-slot_stays v u Empty row stays fits = tt
-slot_stays v u (Owned kind) row stays fits = names_more v u kind row stays.more fits
-slot_stays v u (Caller kind) row stays fits =
-    record { is = fits.is; knows = knows_more v u kind _ stays.more fits.knows }
-slot_stays v u (Locked kind) row stays fits = record {
+lent_still held v u kind row more fits = record {
+  names = names_more v u kind row more fits.names;
+  lent = λ counted. fits.lent (subst (λ (l : Layout). IsCounted l fits.names.object) more.layout counted);
+}
+
+-- What the slot says stays true.
+pub slot_stays : (held : ℕ → ℕ) (v u : View) (slot : Slot) (row : Option ℕ) → Stays v u → SlotFits held v slot row
+    → SlotFits held u slot row
+unfolding names_more
+slot_stays held v u Empty row stays fits = tt
+slot_stays held v u (Owned kind) row stays fits = names_more v u kind row stays.more fits
+slot_stays held v u (Caller kind) row stays fits = lent_still held v u kind row stays.more fits
+slot_stays held v u (Locked kind) row stays fits = record {
   names = names_more v u kind row stays.more fits.names;
   borrows = borrows_still v u fits.names.object stays fits.borrows;
 }
 
 -- Where nothing is borrowed any more, it stays true whatever became of the list.
-pub slot_bare : (v u : View) (slot : Slot) (row : Option ℕ) → KnowsMore v u → SlotFits v slot row
-    → SlotFits u (without_item slot) row
-slot_bare v u Empty row more fits = tt
-slot_bare v u (Owned kind) row more fits = names_more v u kind row more fits
-slot_bare v u (Caller kind) row more fits = record { is = fits.is; knows = knows_more v u kind _ more fits.knows }
-slot_bare v u (Locked kind) row more fits = tt
+pub slot_bare : (held : ℕ → ℕ) (v u : View) (slot : Slot) (row : Option ℕ) → KnowsMore v u → SlotFits held v slot row
+    → SlotFits held u (without_item slot) row
+slot_bare held v u Empty row more fits = tt
+slot_bare held v u (Owned kind) row more fits = names_more v u kind row more fits
+slot_bare held v u (Caller kind) row more fits = lent_still held v u kind row more fits
+slot_bare held v u (Locked kind) row more fits = tt

@@ -8,6 +8,7 @@ use Rattle.brc_model.specs.declared.slot.Exit.TheVariants.{Success, Fault as Fau
 use Rattle.brc_lang.specs.declared.check_code.CheckCode.TheVariants.{EmptyUsed, WrongKind, NotOwned, StillOwns, LeftOwned, LeftLocked, SecondLock, NotLocked, LockedChanged}
 use Rattle.brc_model.specs.declared.slot.State.{State}
 use Rattle.brc_model.specs.declared.slot.Exit.{Exit}
+use Rattle.brc_model.specs.Layout.{root_row}
 use Rattle.brc_model.specs.Paths.{At, IsAcceptableCode}
 use Rattle.brc_model.specs.declared.slot.Slot.{Slot}
 use Rattle.brc_model.specs.declared.slot.Slot.TheVariants.{Empty}
@@ -17,8 +18,8 @@ use Rattle.brc_model.specs.Threads.{row_of, entry_variables}
 use Rattle.brc_model.proofs.Basics.Lists.{some_is, get_or-replicate_default}
 use Rattle.brc_model.proofs.Dispatch.Passing.{AreMet, are_met, PassesOn, passes_on}
 use Rattle.brc_table.specs.Hands.{HandState}
-use Rattle.brc_work.specs.Calls.{Leads, GoesTo, HasCalled, ends_call}
-use Rattle.brc_work.specs.Fits.{owns, lists, SlotFits, OfRoot, IsReady, Fits}
+use Rattle.brc_work.specs.Calls.{Leads, GoesTo, HasReturned, ends_call}
+use Rattle.brc_work.specs.Fits.{Base, outermost, owns, lists, SlotFits, OfRoot, IsReady, Fits}
 use Rattle.brc_work.proofs.CallsBelow.{follows_by}
 use Rattle.brc_work.proofs.Conditions.{kept, none_is}
 use Rattle.brc_work.proofs.Locking.{no_lock}
@@ -46,11 +47,11 @@ pub passes_at : (code : List Instr) (at : ℕ) (s : State) → IsAcceptableCode 
 passes_at code at s accepted reaches = passes_on code reaches.exits at s accepted reaches.reaches
 
 -- The call goes on by the instruction's exit.
-pub goes_to : (first : HandState) (code : List Instr) (at next : ℕ) (s : State) (i : Instr) (exit : Exit)
+pub goes_to : (base : Base) (code : List Instr) (at next : ℕ) (s : State) (i : Instr) (exit : Exit)
     (rows : List (Option ℕ)) (hand : HandState) → IsAcceptableCode code → (reaches : Reaches code at s)
-    → slice_get code at ≡ Some i → target i exit at ≡ Some next → Fits first (after i exit s) rows hand
-    → GoesTo first code next rows hand
-goes_to first code at next s i exit rows hand accepted reaches found leads fits =
+    → slice_get code at ≡ Some i → target i exit at ≡ Some next → Fits base (after i exit s) rows hand
+    → GoesTo base code next rows hand
+goes_to base code at next s i exit rows hand accepted reaches found leads fits =
     let passes = passes_at code at s accepted reaches in
     let same : passes.here ≡ i = some_is passes.here i (sym passes.found ∙ found) in
     record {
@@ -66,10 +67,10 @@ goes_to first code at next s i exit rows hand accepted reaches found leads fits 
 
 -- ---- the end of a call
 
-pub ends : (first : HandState) (s : State) (rows : List (Option ℕ)) (hand : HandState) → Fits first s rows hand
-    → list_any is_owned s.slots ≡ false → s.locked ≡ None → HasCalled first hand
-ends first s rows hand fits none unlocked =
-    let lock = no_lock first s rows hand fits unlocked in
+pub ends : (base : Base) (s : State) (rows : List (Option ℕ)) (hand : HandState) → Fits base s rows hand
+    → list_any is_owned s.slots ≡ false → s.locked ≡ None → HasReturned base hand
+ends base s rows hand fits none unlocked =
+    let lock = no_lock base s rows hand fits unlocked in
     record {
       follows = fits.follows;
       rests = fits.rests;
@@ -77,27 +78,34 @@ ends first s rows hand fits none unlocked =
       slots = lock.1;
       held = λ y counted. omega (arith, fits.held y counted, sum_none (owns y) (owns_no y) s.slots rows none);
       few =
-          omega (arith, fits.few, sum_none (lists first.view.layout) (lists_no first.view.layout) s.slots rows none);
+          let none_listed =
+          sum_none (lists base.first.view.layout) (lists_no base.first.view.layout) s.slots rows none in
+          omega (arith, fits.few, none_listed);
     }
 
 -- ---- its beginning
 
-first_slot : (hand : HandState) (i : ℕ) → SlotFits hand.view (slot_of entry i) (row_of entry_variables i)
-first_slot hand zero = record { is = refl; knows = OfRoot refl refl }
-first_slot hand (suc i) =
-    subst (λ (slot : Slot). SlotFits hand.view slot (row_of entry_variables (suc i)))
+first_slot : (hand : HandState) → IsReady hand → (i : ℕ)
+    → SlotFits (outermost hand).held hand.view (slot_of entry i) (row_of entry_variables i)
+first_slot hand ready zero = record {
+  names = record { object = root_row; is = refl; knows = OfRoot refl refl };
+  lent = λ counted. ready.root;
+}
+first_slot hand ready (suc i) =
+    subst (λ (slot : Slot). SlotFits (outermost hand).held hand.view slot (row_of entry_variables (suc i)))
     (sym (get_or-replicate_default 15 i Empty)) tt
 
 pub begins : (hand : HandState) → IsReady hand → hand.view.layout.immortal_lists ≡ 0
-    → Fits hand entry entry_variables hand
+    → Fits (outermost hand) entry entry_variables hand
 begins hand ready plain = record {
   ready = ready;
+  room = omega (arith, ready.few);
   plain = plain;
   follows = follows_by hand hand refl refl refl refl refl (omega arith);
   rests = ready.rests;
   some_slots = refl;
   some_rows = refl;
-  each = first_slot hand;
+  each = first_slot hand ready;
   held = λ y counted. omega (arith, entry_owned y);
   few = omega (arith, entry_listed hand.view.layout);
   lock = (ready.unlocked, refl);
@@ -143,14 +151,14 @@ leads_on (Ret from) exit at on = let wrong : true ≡ false = on in absurd cc
 leads_on Fail exit at on = let wrong : true ≡ false = on in absurd cc
 
 -- What a step of the call leads to.
-pub leads_by : (first : HandState) (code : List Instr) (at : ℕ) (s : State) (i : Instr) (exit : Exit) (next : Option ℕ)
+pub leads_by : (base : Base) (code : List Instr) (at : ℕ) (s : State) (i : Instr) (exit : Exit) (next : Option ℕ)
     (rows : List (Option ℕ)) (hand : HandState) → IsAcceptableCode code → Reaches code at s → slice_get code at ≡ Some i
-    → ends_call i ≡ false → next ≡ target i exit at → Fits first (after i exit s) rows hand
-    → Leads first code next rows hand
-leads_by first code at s i exit next rows hand accepted reaches found on is fits =
+    → ends_call i ≡ false → next ≡ target i exit at → Fits base (after i exit s) rows hand
+    → Leads base code next rows hand
+leads_by base code at s i exit next rows hand accepted reaches found on is fits =
     let leads = leads_on i exit at on in
-    subst (λ (o : Option ℕ). Leads first code o rows hand) (sym (is ∙ leads.1))
-    (goes_to first code at leads.0 s i exit rows hand accepted reaches found leads.1 fits)
+    subst (λ (o : Option ℕ). Leads base code o rows hand) (sym (is ∙ leads.1))
+    (goes_to base code at leads.0 s i exit rows hand accepted reaches found leads.1 fits)
 
 -- The instruction at a point that paths reach breaks no condition.
 pub passes_none : (code : List Instr) (at : ℕ) (s : State) (i : Instr) → IsAcceptableCode code → Reaches code at s
@@ -173,8 +181,8 @@ is_fail Fail ends other = refl
 is_fail _ ends other = absurd (let wrong : false ≡ true = ends in cc)
 
 -- It leaves nothing behind.
-pub fails : (first : HandState) (s : State) (rows : List (Option ℕ)) (hand : HandState) → Fits first s rows hand
-    → lowest Fail s ≡ None → HasCalled first hand
-fails first s rows hand fits passes =
+pub fails : (base : Base) (s : State) (rows : List (Option ℕ)) (hand : HandState) → Fits base s rows hand
+    → lowest Fail s ≡ None → HasReturned base hand
+fails base s rows hand fits passes =
     let met = are_met Fail s passes in
-    ends first s rows hand fits (kept _ met.none_left) (none_is s.locked (kept _ met.no_lock_left))
+    ends base s rows hand fits (kept _ met.none_left) (none_is s.locked (kept _ met.no_lock_left))

@@ -1,6 +1,7 @@
 -- What a hand's calls add to its trace: the events of a thread of the step world that makes the same calls.
 --
--- In order: `Joining` (traces one after the other), `Duties` (one duty of a hand is one of its thread, though the thread
+-- In order: `Joining` (traces one after the other), `Duties` (one duty of a hand is one of its thread, though the
+-- thread
 -- holds a reference otherwise), `Working` (duty after duty), `Releasing` (a reference is given up), `Places` (what a
 -- thread does at an instruction), `Starting` (the calls of one or two steps); then the instructions: `References`
 -- (references that are made, handed on and given up), `Births`, `Locks`, `Kinds`, `HostCalls`, `Swaps` and `Items`

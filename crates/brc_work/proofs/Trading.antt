@@ -75,7 +75,8 @@ gains layout old before kind x hand after free more = record {
   held = λ y counted.
       let none = owns_no y old before free in
       let one : holds after.view y ≡ holds hand.view y + one_if (x == y) =
-      ap (λ (l : List ℕ). count_by (λ z. z == y) l) more ∙ count_with_reference layout x y hand.view.references counted in
+      ap (λ (l : List ℕ). count_by (λ z. z == y) l) more ∙ count_with_reference layout x y hand.view.references counted
+      in
       omega (arith, none, one);
   few =
       let none = lists_no layout old before free in
@@ -94,7 +95,8 @@ less_held layout x y rows counted (inr some) =
     let less = count_without_reference layout x y rows counted in
     elim (eqb_tells x y) [
       | inl same ↦
-          let there : 1 ≤ count_by (λ z. z == y) rows = subst (λ (w : ℕ). 1 ≤ count_by (λ z. z == w) rows) same.1 some in
+          let there : 1 ≤ count_by (λ z. z == y) rows = subst (λ (w : ℕ). 1 ≤ count_by (λ z. z == w) rows) same.1 some
+          in
           omega (arith, less, there, ap one_if same.0)
       | inr apart ↦ omega (arith, less, ap one_if apart.0)
     ]

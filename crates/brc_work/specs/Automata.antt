@@ -1,9 +1,10 @@
 -- What a hand's thread makes (`Makes`), and what a thread of the step world can make (`CanMake` of the model). Three
 -- things set them apart. A hand's thread makes a number of how many bytes `read` has read, where a thread of the step
 -- world makes 0; it may begin to settle an empty chain; and a thread of the step world may claim marks between two
--- calls. Apart from that, a thread of the step world can make what a hand's thread makes, and a hand's thread what a
--- thread of the step world can make: from inside an instruction, only without other calls of the host than closes.
-use Rattle.std.specs.Prelude.{◌≡◌, ◌≢◌, ◌&&◌, ℕ, Bool, true, false, List, map, slice_get}
+-- calls, or be stopped. Apart from that, a thread of the step world can make what a hand's thread makes, and a hand's
+-- thread what a thread of the step world can make: from inside an instruction, only without other calls of the host
+-- than closes.
+use Rattle.std.specs.Prelude.{◌≡◌, ◌≢◌, ◌&&◌, ℕ, Bool, true, false, List, Option, map, slice_get}
 use Rattle.brc_host.specs.HostCalls.{HostCall}
 use Rattle.brc_lang.specs.declared.module.Function.{Function}
 use Rattle.brc_lang.specs.declared.module.Instr.{Instr}
@@ -11,8 +12,9 @@ use Rattle.brc_model.specs.declared.actor.Place.{Place}
 use Rattle.brc_model.specs.declared.actor.Place.TheVariants.{Inside}
 use Rattle.brc_model.specs.declared.actor.Status.TheVariants.{Gone}
 use Rattle.brc_model.specs.declared.layout.Layout.{Layout}
+use Rattle.brc_model.specs.declared.slot.State.{State}
 use Rattle.brc_model.specs.declared.thread.Choice.{Choice}
-use Rattle.brc_model.specs.declared.thread.Choice.TheVariants.{Ok, Fault, Claim}
+use Rattle.brc_model.specs.declared.thread.Choice.TheVariants.{Ok, Fault, Claim, Stop}
 use Rattle.brc_model.specs.Actions.{StepActor}
 use Rattle.brc_model.specs.Machine.{Actor}
 use Rattle.brc_model.specs.Threads.{code_of}
@@ -25,20 +27,20 @@ use Rattle.brc_work.specs.Traces.{Makes, Begun, Silently, Asks, Starts, Reads, C
 -- No step makes another number than 0 of what `read` has read, or begins to settle an empty chain; and the thread isn't
 -- gone before any.
 abbrev pub IsPlain : {layout : Layout} {t : ℕ} {code : List Instr} {p : Place} {a : Actor} {cs : List HostCall}
-    {es : List Event} {q : Place} {b : Actor} → Makes layout t code p a cs es q b → Type 0
+    {n : ℕ} {es : List Event} {q : Place} {b : Actor} → Makes layout t code p a n cs es q b → Type 0
 IsPlain Begun = Unit {0}
-IsPlain (Silently cs es q r b moves before none is) = (b.status ≢ Gone) × IsPlain before
-IsPlain (Asks cs es q b row after i call before none is here asks) = (b.status ≢ Gone) × IsPlain before
-IsPlain (Starts cs es q b d rest next found before none is other) = (b.status ≢ Gone) × IsPlain before
-IsPlain (Reads cs es counters at variables b to file most otherwise count found before none is few) =
+IsPlain (Silently n cs es q r b moves before none is) = (b.status ≢ Gone) × IsPlain before
+IsPlain (Asks n cs es q b row after i call before none is here asks) = (b.status ≢ Gone) × IsPlain before
+IsPlain (Starts n cs es q b d rest next found before none is other) = (b.status ≢ Gone) × IsPlain before
+IsPlain (Reads n cs es context at variables b to file most otherwise count found before none is few) =
     (count ≡ 0) × (b.status ≢ Gone) × IsPlain before
-IsPlain (Continues cs es q b d rest found before is other) = (b.status ≢ Gone) × IsPlain before
-IsPlain (Closes cs es q b x rest failed before is) = (b.status ≢ Gone) × IsPlain before
-IsPlain (Settles cs es q b before none) = ⊥
+IsPlain (Continues n cs es q b d rest found before is other) = (b.status ≢ Gone) × IsPlain before
+IsPlain (Closes n cs es q b x rest failed before is) = (b.status ≢ Gone) × IsPlain before
+IsPlain (Settles n cs es q b before none) = ⊥
 
 abbrev pub MakesPlainly : Layout → ℕ → List Instr → Place → Actor → List Event → Place → Actor → Type 0
 MakesPlainly layout t code p a es q b =
-    (cs : List HostCall) × (made : Makes layout t code p a cs es q b) × IsPlain made
+    (n : ℕ) × (cs : List HostCall) × (made : Makes layout t code p a n cs es q b) × IsPlain made
 
 -- ---- a thread of the step world
 
@@ -46,48 +48,56 @@ abbrev pub IsNoClaim : Choice → Type 0
 IsNoClaim Ok = Unit {0}
 IsNoClaim Fault = Unit {0}
 IsNoClaim (Claim row) = ⊥
+IsNoClaim Stop = ⊥
 
-abbrev pub ClaimsNothing : {functions : List Function} {layout : Layout} {t : ℕ} {a : StepActor} {made : List WordEvent}
-    {b : StepActor}
-    → MakesStep functions layout t a made b → Type 0
+abbrev pub ClaimsNothing : {functions : List Function} {states : ℕ → ℕ → Option State} {layout : Layout} {t : ℕ}
+    {a : StepActor}
+    {made : List WordEvent} {b : StepActor}
+    → MakesStep functions states layout t a made b → Type 0
 ClaimsNothing (GoesSilently choice moves place is) = IsNoClaim choice
 ClaimsNothing (CallsHost choice row place exit is) = IsNoClaim choice
 ClaimsNothing (DoesDuty choice d rest place found is) = IsNoClaim choice
 
--- No step is a claim.
-abbrev pub HasNoClaim : {functions : List Function} {layout : Layout} {t : ℕ} {a : StepActor} {made : List WordEvent}
-    {b : StepActor}
-    → CanMake functions layout t a made b → Type 0
+-- No step is a claim or a stop.
+abbrev pub HasNoClaim : {functions : List Function} {states : ℕ → ℕ → Option State} {layout : Layout} {t : ℕ}
+    {a : StepActor}
+    {made : List WordEvent} {b : StepActor}
+    → CanMake functions states layout t a made b → Type 0
 HasNoClaim (Nothing a) = Unit {0}
 HasNoClaim (Then a b c made rest step more) = ClaimsNothing step × HasNoClaim more
 
-abbrev pub CanMakeUnclaimed : List Function → Layout → ℕ → StepActor → List WordEvent → StepActor → Type 0
-CanMakeUnclaimed functions layout t a made b = (can : CanMake functions layout t a made b) × HasNoClaim can
+abbrev pub CanMakeUnclaimed : List Function → (ℕ → ℕ → Option State) → Layout → ℕ → StepActor → List WordEvent
+    → StepActor → Type 0
+CanMakeUnclaimed functions states layout t a made b = (can : CanMake functions states layout t a made b)
+    × HasNoClaim can
 
 -- Says whether the thread is inside an instruction, so that what it does next may depend on what it has done there: the
 -- line of `write` is of the word that it has loaded last, and the number of `read` of what the host has answered.
 abbrev pub is_inside : Place → Bool
-is_inside (Inside counters at variables stage) = true
+is_inside (Inside context at variables stage) = true
 is_inside _ = false
 
 -- The step is no call of the host but for a close, and not the birth of what `read` has read.
-abbrev pub AsksNothing : {functions : List Function} {layout : Layout} {t : ℕ} {a : StepActor} {made : List WordEvent}
-    {b : StepActor}
-    → MakesStep functions layout t a made b → Type 0
+abbrev pub AsksNothing : {functions : List Function} {states : ℕ → ℕ → Option State} {layout : Layout} {t : ℕ}
+    {a : StepActor}
+    {made : List WordEvent} {b : StepActor}
+    → MakesStep functions states layout t a made b → Type 0
 AsksNothing (GoesSilently choice moves place is) = Unit {0}
 AsksNothing (CallsHost choice row place exit is) = ⊥
-AsksNothing {functions} {layout} {t} {a} (DoesDuty choice d rest place found is) =
+AsksNothing {functions} {states} {layout} {t} {a} (DoesDuty choice d rest place found is) =
     (is_birth d && has_read (code_of (slice_get functions a.function)) a.place) ≡ false
 
--- No step is a claim or such a call.
-abbrev pub GoesAlone : {functions : List Function} {layout : Layout} {t : ℕ} {a : StepActor} {made : List WordEvent}
-    {b : StepActor}
-    → CanMake functions layout t a made b → Type 0
+-- No step is a claim, a stop or such a call.
+abbrev pub GoesAlone : {functions : List Function} {states : ℕ → ℕ → Option State} {layout : Layout} {t : ℕ}
+    {a : StepActor}
+    {made : List WordEvent} {b : StepActor}
+    → CanMake functions states layout t a made b → Type 0
 GoesAlone (Nothing a) = Unit {0}
 GoesAlone (Then a b c made rest step more) = ClaimsNothing step × AsksNothing step × GoesAlone more
 
-abbrev pub CanMakeAlone : List Function → Layout → ℕ → StepActor → List WordEvent → StepActor → Type 0
-CanMakeAlone functions layout t a made b = (can : CanMake functions layout t a made b) × GoesAlone can
+abbrev pub CanMakeAlone : List Function → (ℕ → ℕ → Option State) → Layout → ℕ → StepActor → List WordEvent → StepActor
+    → Type 0
+CanMakeAlone functions states layout t a made b = (can : CanMake functions states layout t a made b) × GoesAlone can
 
 -- ---- the law
 
@@ -102,22 +112,25 @@ thread_at function place actor = record { function = function; place = place; ac
 -- A thread of the step world can make what a hand's thread makes,
 abbrev pub HandsMakeAsThreads : Type 0
 HandsMakeAsThreads =
-    (functions : List Function) (layout : Layout) (t function : ℕ) (p q : Place) (a b : Actor) (es : List Event)
+    (functions : List Function) (states : ℕ → ℕ → Option State) (layout : Layout) (t function : ℕ) (p q : Place)
+    (a b : Actor) (es : List Event)
     → MakesPlainly layout t (code_of (slice_get functions function)) p a es q b
-    → CanMakeUnclaimed functions layout t (thread_at function p a) (map word_event es) (thread_at function q b)
+    → CanMakeUnclaimed functions states layout t (thread_at function p a) (map word_event es) (thread_at function q b)
 
 -- and what it can make from outside of all instructions, a hand's thread makes, calls of the host and all.
 abbrev pub ThreadsMakeAsHands : Type 0
 ThreadsMakeAsHands =
-    (functions : List Function) (layout : Layout) (t function : ℕ) (p q : Place) (a b : Actor) (es : List Event)
+    (functions : List Function) (states : ℕ → ℕ → Option State) (layout : Layout) (t function : ℕ) (p q : Place)
+    (a b : Actor) (es : List Event)
     → is_inside p ≡ false
-    → CanMakeUnclaimed functions layout t (thread_at function p a) (map word_event es) (thread_at function q b)
+    → CanMakeUnclaimed functions states layout t (thread_at function p a) (map word_event es) (thread_at function q b)
     → MakesPlainly layout t (code_of (slice_get functions function)) p a es q b
 
 -- From inside an instruction too a hand's thread makes what a thread of the step world can make without other calls of
 -- the host than closes.
 abbrev pub ThreadsAloneMakeAsHands : Type 0
 ThreadsAloneMakeAsHands =
-    (functions : List Function) (layout : Layout) (t function : ℕ) (p q : Place) (a b : Actor) (es : List Event)
-    → CanMakeAlone functions layout t (thread_at function p a) (map word_event es) (thread_at function q b)
+    (functions : List Function) (states : ℕ → ℕ → Option State) (layout : Layout) (t function : ℕ) (p q : Place)
+    (a b : Actor) (es : List Event)
+    → CanMakeAlone functions states layout t (thread_at function p a) (map word_event es) (thread_at function q b)
     → MakesPlainly layout t (code_of (slice_get functions function)) p a es q b

@@ -12,7 +12,7 @@ use Rattle.brc_model.specs.Paths.{IsAcceptableCode}
 use Rattle.brc_model.specs.Tables.{Reaches}
 use Rattle.brc_table.specs.Hands.{TableState, HandState, IsOf}
 use Rattle.brc_table.specs.Views.{holds}
-use Rattle.brc_work.specs.Fits.{Rests, Follows, Fits}
+use Rattle.brc_work.specs.Fits.{Rests, Follows, Base, outermost, Fits}
 
 -- The code of a function that the checker accepts.
 pub record IsCode (code : List Instr) : Type 0 where
@@ -21,35 +21,41 @@ pub record IsCode (code : List Instr) : Type 0 where
   pub few : length code ≤ instruction_limit
 
 -- Variables and hand are in the state in which paths reach the point.
-pub record IsAt (heap : TableState) (code : List Instr) (at : ℕ) (rows : List (Option ℕ)) (hand : HandState) : Type 0 where
-  pub first : HandState
-  pub state : State
-  pub of : IsOf heap hand
-  pub fits : Fits first state rows hand
-  pub reaches : Reaches code at state
+pub record IsAt (heap : TableState) (code : List Instr) (at : ℕ) (rows : List (Option ℕ)) (hand : HandState) : Type 0
+  where
+    pub base : Base
+    pub state : State
+    pub of : IsOf heap hand
+    pub fits : Fits base state rows hand
+    pub reaches : Reaches code at state
 
--- The call has ended: the hand holds what it held first, and has locked nothing.
-pub record HasCalled (first hand : HandState) : Type 0 where
-  pub follows : Follows first hand
+-- The call has ended: the hand holds what the base says and nothing beside, and has locked nothing.
+pub record HasReturned (base : Base) (hand : HandState) : Type 0 where
+  pub follows : Follows base.first hand
   pub rests : Rests hand
   pub unlocked : hand.view.locked ≡ None
-  pub slots : hand.slots ≡ first.slots
-  pub held : (y : ℕ) → IsCounted first.view.layout y → holds hand.view y ≡ holds first.view y
-  pub few : length hand.view.references ≤ length first.view.references
+  pub slots : hand.slots ≡ base.first.slots
+  pub held : (y : ℕ) → IsCounted base.first.view.layout y → holds hand.view y ≡ base.held y
+  pub few : length hand.view.references ≤ base.most
+
+-- The call that began with the hand `first` has ended: the hand holds what it held first.
+abbrev pub HasCalled : HandState → HandState → Type 0
+HasCalled first hand = HasReturned (outermost first) hand
 
 -- The call goes on at the next point, in the state in which paths reach it, or has ended.
-pub record GoesTo (first : HandState) (code : List Instr) (next : ℕ) (rows : List (Option ℕ)) (hand : HandState) : Type 0 where
+pub record GoesTo (base : Base) (code : List Instr) (next : ℕ) (rows : List (Option ℕ)) (hand : HandState)
+    : Type 0 where
   pub state : State
-  pub fits : Fits first state rows hand
+  pub fits : Fits base state rows hand
   pub reaches : Reaches code next state
 
-abbrev pub Leads : HandState → List Instr → Option ℕ → List (Option ℕ) → HandState → Type 0
-Leads first code None rows hand = HasCalled first hand
-Leads first code (Some next) rows hand = GoesTo first code next rows hand
+abbrev pub Leads : Base → List Instr → Option ℕ → List (Option ℕ) → HandState → Type 0
+Leads base code None rows hand = HasReturned base hand
+Leads base code (Some next) rows hand = GoesTo base code next rows hand
 
 abbrev pub GoesOn : List Instr → ℕ → List (Option ℕ) → HandState → Option ℕ → List (Option ℕ) → HandState → Type 0
 GoesOn code at rows hand next after_rows after_hand =
-    (first : HandState) (s : State) → Fits first s rows hand → Reaches code at s → Leads first code next after_rows after_hand
+    (base : Base) (s : State) → Fits base s rows hand → Reaches code at s → Leads base code next after_rows after_hand
 
 -- Says whether the instruction ends the call.
 abbrev pub ends_call : Instr → Bool
@@ -60,4 +66,4 @@ ends_call _ = false
 -- The call has ended with an instruction that breaks no condition.
 abbrev pub HasEnded : Instr → List (Option ℕ) → HandState → HandState → Type 0
 HasEnded i rows hand after_hand =
-    (first : HandState) (s : State) → Fits first s rows hand → lowest i s ≡ None → HasCalled first after_hand
+    (base : Base) (s : State) → Fits base s rows hand → lowest i s ≡ None → HasReturned base after_hand

@@ -3,7 +3,7 @@ use Rattle.std.specs.Prelude.{◌≡◌, ℕ, true, false, List, Option}
 use Rattle.brc_model.specs.declared.slot.State.{State}
 use Rattle.brc_model.specs.Slots.{slot_of, is_owned, names}
 use Rattle.brc_table.specs.Hands.{TableState, HandState, IsOf}
-use Rattle.brc_work.specs.Fits.{Fits}
+use Rattle.brc_work.specs.Fits.{Base, Fits}
 
 -- The variable may get another slot: it owns no reference, and its object isn't locked.
 pub record CanFill (s : State) (to : ℕ) : Type 0 where
@@ -17,13 +17,14 @@ pub record CanGive (s : State) (from : ℕ) : Type 0 where
 
 -- Variables and hand are in some state, in which `can` holds.
 pub record IsIn (heap : TableState) (can : State → Type 0) (rows : List (Option ℕ)) (hand : HandState) : Type 0 where
-  pub first : HandState
+  pub base : Base
   pub state : State
   pub of : IsOf heap hand
-  pub fits : Fits first state rows hand
+  pub fits : Fits base state rows hand
   pub can_do : can state
 
 -- From each state in which `can` holds they have gone to the state that `next` says.
-abbrev pub Goes : (State → Type 0) → (State → State) → List (Option ℕ) → HandState → List (Option ℕ) → HandState → Type 0
+abbrev pub Goes : (State → Type 0) → (State → State) → List (Option ℕ) → HandState → List (Option ℕ) → HandState
+    → Type 0
 Goes can next rows hand after_rows after_hand =
-    (first : HandState) (s : State) → Fits first s rows hand → can s → Fits first (next s) after_rows after_hand
+    (base : Base) (s : State) → Fits base s rows hand → can s → Fits base (next s) after_rows after_hand

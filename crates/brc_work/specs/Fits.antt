@@ -16,7 +16,7 @@ use Rattle.brc_model.specs.Items.{borrows_item}
 use Rattle.brc_model.specs.Slots.{slot_of, kind_of, is_empty, is_one_of, with_resource, lowest, after}
 use Rattle.brc_model.specs.Threads.{row_of}
 use Rattle.brc_table.specs.declared.view.View.{View}
-use Rattle.brc_table.specs.Hands.{TableState, HandState, IsOf, Borrows}
+use Rattle.brc_table.specs.Hands.{TableState, HandState, IsOf, Borrows, most_references}
 use Rattle.brc_table.specs.Seen.{has_seen_kind}
 use Rattle.brc_table.specs.Views.{holds}
 
@@ -42,17 +42,18 @@ pub record NamesItem (v : View) (kind : Kind) (row : Option ℕ) : Type 0 where
   pub names : Names v kind row
   pub borrows : Borrows v names.object
 
--- The variable names the root, which the caller lends.
-pub record NamesRoot (v : View) (kind : Kind) (row : Option ℕ) : Type 0 where
-  pub is : row ≡ Some root_row
-  pub knows : KnowsKind v kind root_row
+-- The variable names an object that the caller lends. Beside what the call's variables own the hand holds this many
+-- references to each object, and to that one, if it is counted, at least one.
+pub record NamesLent (held : ℕ → ℕ) (v : View) (kind : Kind) (row : Option ℕ) : Type 0 where
+  pub names : Names v kind row
+  pub lent : IsCounted v.layout names.object → 1 ≤ held names.object
 
 -- What the slot says of its variable is true. A slot that is empty says nothing.
-abbrev pub SlotFits : View → Slot → Option ℕ → Type 0
-SlotFits v Empty row = Unit {0}
-SlotFits v (Owned kind) row = Names v kind row
-SlotFits v (Caller kind) row = NamesRoot v kind row
-SlotFits v (Locked kind) row = NamesItem v kind row
+abbrev pub SlotFits : (ℕ → ℕ) → View → Slot → Option ℕ → Type 0
+SlotFits held v Empty row = Unit {0}
+SlotFits held v (Owned kind) row = Names v kind row
+SlotFits held v (Caller kind) row = NamesLent held v kind row
+SlotFits held v (Locked kind) row = NamesItem v kind row
 
 -- ---- what they own
 
@@ -75,7 +76,8 @@ over_variables f _ _ = 0
 
 -- The hand has locked the object of the variable, and has its slot, which holds a resource if the object is known to
 -- have one. The variable doesn't borrow it from a list.
-pub record LockFits (first : List (ℕ × ℕ)) (s : State) (rows : List (Option ℕ)) (hand : HandState) (i : ℕ) : Type 0 where
+pub record LockFits (first : List (ℕ × ℕ)) (s : State) (rows : List (Option ℕ)) (hand : HandState) (i : ℕ)
+    : Type 0 where
   pub object : ℕ
   pub names : row_of rows i ≡ Some object
   pub counted : IsCounted hand.view.layout object
@@ -92,13 +94,12 @@ LocksAs (Some i) first s rows hand = LockFits first s rows hand i
 
 -- ---- the hand
 
--- The hand runs, has nothing to do and nothing lent, and its dying chain is empty.
+-- The hand runs, has nothing to do, and its dying chain is empty.
 pub record Rests (hand : HandState) : Type 0 where
   pub running : hand.view.status ≡ Running
   pub agenda : hand.view.agenda ≡ []
   pub aside : hand.view.aside ≡ []
   pub settled : hand.view.head ≡ 0
-  pub lent : hand.view.lent ≡ None
 
 -- most of the references that a worker's hand holds as its calls begin
 abbrev pub call_references : ℕ
@@ -120,39 +121,52 @@ pub record Follows (first hand : HandState) : Type 0 where
   pub carried : hand.carried ≡ first.carried
   pub used : first.view.used ≤ hand.view.used
 
--- In a call that began with the hand `first`, the variables and the hand are as the state says: the hand holds what it
--- held first, and what the variables own.
-pub record Fits (first : HandState) (s : State) (rows : List (Option ℕ)) (hand : HandState) : Type 0 where
-  pub ready : IsReady first
-  pub plain : first.view.layout.immortal_lists ≡ 0
-  pub follows : Follows first hand
+-- What a call stands on: `first`, the hand with which the worker's call began; and what the hand holds beside what the
+-- variables of this call own. `held` says of each object how many references that is, and it is no more than `most` in
+-- all.
+pub record Base : Type 0 where
+  pub first : HandState
+  pub held : ℕ → ℕ
+  pub most : ℕ
+
+-- the base of the call that begins with the hand
+abbrev pub outermost : HandState → Base
+outermost first = record { first = first; held = holds first.view; most = length first.view.references }
+
+-- The variables and the hand are as the state says: beside what the base says, the hand holds what the variables own.
+-- There is room for a reference by each variable, and one more.
+pub record Fits (base : Base) (s : State) (rows : List (Option ℕ)) (hand : HandState) : Type 0 where
+  pub ready : IsReady base.first
+  pub room : base.most + 17 < most_references
+  pub plain : base.first.view.layout.immortal_lists ≡ 0
+  pub follows : Follows base.first hand
   pub rests : Rests hand
   pub some_slots : length s.slots ≡ 16
   pub some_rows : length rows ≡ 16
-  pub each : (i : ℕ) → SlotFits hand.view (slot_of s i) (row_of rows i)
-  pub held : (y : ℕ) → IsCounted first.view.layout y
-      → holds hand.view y ≡ holds first.view y + over_variables (owns y) s.slots rows
+  pub each : (i : ℕ) → SlotFits base.held hand.view (slot_of s i) (row_of rows i)
+  pub held : (y : ℕ) → IsCounted base.first.view.layout y
+      → holds hand.view y ≡ base.held y + over_variables (owns y) s.slots rows
   pub few : length hand.view.references
-      ≤ length first.view.references + over_variables (lists first.view.layout) s.slots rows
-  pub lock : LocksAs s.locked first.slots s rows hand
+      ≤ base.most + over_variables (lists base.first.view.layout) s.slots rows
+  pub lock : LocksAs s.locked base.first.slots s rows hand
 
 -- ---- instructions
 
 -- The instruction breaks no condition in the state that the variables and the hand are in.
 pub record MayDo (heap : TableState) (i : Instr) (rows : List (Option ℕ)) (hand : HandState) : Type 0 where
-  pub first : HandState
+  pub base : Base
   pub state : State
   pub of : IsOf heap hand
-  pub fits : Fits first state rows hand
+  pub fits : Fits base state rows hand
   pub passes : lowest i state ≡ None
 
 -- After this exit of the instruction the variables and the hand are in the state that it leaves.
 abbrev pub HasDone : Instr → Exit → List (Option ℕ) → HandState → List (Option ℕ) → HandState → Type 0
 HasDone i exit rows hand after_rows after_hand =
-    (first : HandState) (s : State) → Fits first s rows hand → lowest i s ≡ None
-    → Fits first (after i exit s) after_rows after_hand
+    (base : Base) (s : State) → Fits base s rows hand → lowest i s ≡ None
+    → Fits base (after i exit s) after_rows after_hand
 
 -- The instruction hasn't begun: whatever state they were in, they are in it still.
 abbrev pub IsStill : Instr → List (Option ℕ) → HandState → HandState → Type 0
 IsStill i rows hand after_hand =
-    (first : HandState) (s : State) → Fits first s rows hand → lowest i s ≡ None → Fits first s rows after_hand
+    (base : Base) (s : State) → Fits base s rows hand → lowest i s ≡ None → Fits base s rows after_hand

@@ -6,13 +6,12 @@ use Rattle.brc_lang.specs.declared.module.Instr.TheVariants as instructions
 use Rattle.brc_lang.specs.declared.module.Instr.TheVariants.{Again}
 use Rattle.brc_host.specs.HostCalls.{HostCall}
 use Rattle.brc_host.specs.HostCalls as asked
-use Rattle.brc_model.specs.declared.actor.Counters.{Counters}
+use Rattle.brc_model.specs.declared.actor.Context.{Context}
 use Rattle.brc_model.specs.declared.actor.Place.{Place}
 use Rattle.brc_model.specs.declared.actor.Place.TheVariants.{Idle, InCall, Inside}
 use Rattle.brc_model.specs.declared.actor.Stage.TheVariants.{Granted}
 use Rattle.brc_model.specs.declared.duty.Duty.TheVariants.{ReleaseLoad, BirthKind, CellSwap, Settle}
 use Rattle.brc_model.specs.declared.duty.Holding.{Holding}
-use Rattle.brc_model.specs.declared.duty.Holding.TheVariants.{ByVariable}
 use Rattle.brc_model.specs.declared.layout.Layout.{Layout}
 use Rattle.brc_model.specs.declared.slot.Exit.{Exit}
 use Rattle.brc_model.specs.Actions.{Does, always, with_row, number_word, dispatch, dispatch_instruction}
@@ -20,45 +19,48 @@ use Rattle.brc_model.specs.Slots.{target}
 use Rattle.brc_model.specs.Threads.{row_of}
 use Rattle.brc_table.specs.declared.view.View.{View}
 use Rattle.brc_table.specs.Views.{next_row}
-use Rattle.brc_work.specs.Traces.{Traces, MakesTrace, instruction_at, has_read}
+use Rattle.brc_work.specs.Traces.{Traces, MakesTrace, instruction_at, has_read, begun_at}
 
 -- ---- places
 
--- A thread at the place begins the instruction at the point next, with these counters and variables.
-pub record ComesTo (code : List Instr) (place : Place) (counters : Counters) (at : ℕ) (rows : List (Option ℕ)) : Type 0
+-- A thread at the place begins the instruction at the point next, in this context and variables.
+pub record ComesTo (code : List Instr) (place : Place) (context : Context) (at : ℕ) (rows : List (Option ℕ)) : Type 0
   where
     pub does : (layout : Layout) (t used : ℕ) → dispatch layout t used code place
-        ≡ dispatch_instruction layout t used place counters at rows (slice_get code at)
+        ≡ dispatch_instruction layout t used place context at rows (slice_get code at)
     pub names : instruction_at code place ≡ slice_get code at
     pub begins : has_read code place ≡ false
+    pub begun : begun_at place ≡ 1
 
 -- The instruction at the point is this one.
-pub record IsBefore (i : Instr) (code : List Instr) (place : Place) (counters : Counters) (at : ℕ) (rows : List (Option ℕ))
+pub record IsBefore (i : Instr) (code : List Instr) (place : Place) (context : Context) (at : ℕ)
+    (rows : List (Option ℕ))
     : Type 0 where
-  pub comes : ComesTo code place counters at rows
+  pub comes : ComesTo code place context at rows
   pub found : slice_get code at ≡ Some i
   pub low : at < instruction_limit
 
 -- The place after an instruction that leads to the next point, or ends the call.
-abbrev pub place_after : Counters → Option ℕ → List (Option ℕ) → Place
-place_after counters None rows = Idle counters.left
-place_after counters (Some next) rows = InCall counters next rows
+abbrev pub place_after : Context → Option ℕ → List (Option ℕ) → Place
+place_after context None rows = Idle context.left
+place_after context (Some next) rows = InCall context next rows
 
 -- ---- instructions
 
--- The hand has made the events of the instruction, with these calls of the host, and has gone on by this exit.
+-- The hand has made the events of the instruction, with these calls of the host, and has gone on by this exit. No other
+-- instruction has begun.
 abbrev pub Performs : List HostCall → Instr → Exit → List (Option ℕ) → View → List (Option ℕ) → View → Type 0
-Performs calls i exit rows v after_rows u = (code : List Instr) (place : Place) (counters : Counters) (at : ℕ)
-    → IsBefore i code place counters at rows
-    → MakesTrace calls code place v (place_after counters (target i exit at) after_rows) u
+Performs calls i exit rows v after_rows u = (code : List Instr) (place : Place) (context : Context) (at : ℕ)
+    → IsBefore i code place context at rows
+    → MakesTrace 1 calls code place v (place_after context (target i exit at) after_rows) u
 
 -- The same at this point, where the instruction may count how often it has gone back.
 abbrev pub PerformsAt : List HostCall → ℕ → Instr → Exit → List ℕ → List (Option ℕ) → View → List ℕ → List (Option ℕ)
     → View → Type 0
 PerformsAt calls at i exit turns rows v after_turns after_rows u = (code : List Instr) (place : Place) (left : ℕ)
-    → IsBefore i code place (record { left = left; turns = turns }) at rows
-    → MakesTrace calls code place v
-    (place_after (record { left = left; turns = after_turns }) (target i exit at) after_rows) u
+    → IsBefore i code place (record { left = left; turns = turns; outer = [] }) at rows
+    → MakesTrace 1 calls code place v
+    (place_after (record { left = left; turns = after_turns; outer = [] }) (target i exit at) after_rows) u
 
 -- The instruction `again` at the point makes no event. It counts in the turns if it has gone back.
 abbrev pub CountsTurn : ℕ → ℕ → Exit → List ℕ → List ℕ → Type 0
@@ -67,15 +69,16 @@ CountsTurn at times exit turns after_turns = (to : ℕ) (rows : List (Option ℕ
 
 -- The hand has tried to do the instruction, which hasn't begun: the thread is where it was.
 abbrev pub Waits : Instr → List (Option ℕ) → View → View → Type 0
-Waits i rows v u = (code : List Instr) (place : Place) (counters : Counters) (at : ℕ)
-    → IsBefore i code place counters at rows → MakesTrace [] code place v place u
+Waits i rows v u = (code : List Instr) (place : Place) (context : Context) (at : ℕ)
+    → IsBefore i code place context at rows → MakesTrace 0 [] code place v place u
 
 -- The hand has made the events of the code's instruction at the point, which leads to the next point or ends the call.
 abbrev pub StepsTo : List HostCall → List Instr → ℕ → List ℕ → List (Option ℕ) → View → Option ℕ → List ℕ
     → List (Option ℕ) → View → Type 0
 StepsTo calls code at turns rows v next after_turns after_rows u = (place : Place) (left : ℕ)
-    → ComesTo code place (record { left = left; turns = turns }) at rows
-    → MakesTrace calls code place v (place_after (record { left = left; turns = after_turns }) next after_rows) u
+    → ComesTo code place (record { left = left; turns = turns; outer = [] }) at rows
+    → MakesTrace 1 calls code place v (place_after (record { left = left; turns = after_turns; outer = [] }) next
+    after_rows) u
 
 -- ---- parts of instructions
 
@@ -85,36 +88,36 @@ pub record MakesRelease (calls : List HostCall) (row : ℕ) (v u : View) : Type 
   pub first : (code : List Instr) (place next : Place) (holding : Holding)
       → ((layout : Layout) (t used : ℕ) → dispatch layout t used code place
       ≡ Does (ReleaseLoad row holding) (Settle ∷ []) (always next))
-      → MakesTrace calls code place v next u
+      → MakesTrace (begun_at place) calls code place v next u
   pub next : (code : List Instr) (place : Place) (holding : Holding)
-      → Traces calls code place (ReleaseLoad row holding ∷ Settle ∷ []) v place [] u
+      → Traces 0 calls code place (ReleaseLoad row holding ∷ Settle ∷ []) v place [] u
 
 -- Where a thread gives up the variable's reference and settles, the hand has done so.
 pub record GivesUp (calls : List HostCall) (from : ℕ) (rows : List (Option ℕ)) (v : View)
     (after_rows : List (Option ℕ)) (u : View) : Type 0 where
   pub emptied : after_rows ≡ slice_set rows from None
-  pub makes : (code : List Instr) (place next : Place)
+  pub makes : (code : List Instr) (place next : Place) (holding : Holding)
       → ((layout : Layout) (t used : ℕ) → dispatch layout t used code place
-      ≡ with_row (row_of rows from) (λ row. Does (ReleaseLoad row (ByVariable from)) (Settle ∷ []) (always next)))
-      → MakesTrace calls code place v next u
+      ≡ with_row (row_of rows from) (λ row. Does (ReleaseLoad row holding) (Settle ∷ []) (always next)))
+      → MakesTrace (begun_at place) calls code place v next u
 
 -- Where a thread puts the item into the cell and settles, the hand has done so.
 abbrev pub MakesSwap : List HostCall → ℕ → ℕ → ℕ → View → View → Type 0
 MakesSwap calls row cell item v u = (code : List Instr) (place next : Place) (holding : Holding)
     → ((layout : Layout) (t used : ℕ) → dispatch layout t used code place
     ≡ Does (CellSwap row cell item holding) (Settle ∷ []) (always next))
-    → MakesTrace calls code place v next u
+    → MakesTrace (begun_at place) calls code place v next u
 
--- The variable names the object that the hand has given birth to. Where a thread makes an object with this kind word, or
+-- The variable names the object that the hand has given birth to. Where a thread makes an object with this kind word,
+-- or
 -- the number of what the host has just said that it has read, the hand has done so.
 pub record MakesBirth (to word : ℕ) (rows : List (Option ℕ)) (v : View) (after_rows : List (Option ℕ)) (u : View)
     : Type 0 where
   pub named : after_rows ≡ slice_set rows to (Some (next_row v))
-  pub first : (code : List Instr) (place next : Place)
-      → dispatch v.layout v.thread v.used code place
-      ≡ Does (BirthKind (next_row v) (ByVariable to) word) [] (always next)
-      → has_read code place ≡ false → MakesTrace [] code place v next u
-  pub read : (code : List Instr) (place : Place) (counters : Counters) (at file most otherwise count : ℕ)
+  pub first : (code : List Instr) (place next : Place) (holding : Holding)
+      → dispatch v.layout v.thread v.used code place ≡ Does (BirthKind (next_row v) holding word) [] (always next)
+      → has_read code place ≡ false → MakesTrace (begun_at place) [] code place v next u
+  pub read : (code : List Instr) (place : Place) (context : Context) (at file most otherwise count : ℕ)
       → slice_get code at ≡ Some (instructions.Read to file most otherwise) → count ≤ most → word ≡ number_word count
-      → MakesTrace (asked.Read most (Some count) ∷ []) code place v (Inside counters at rows Granted) v
-      → MakesTrace (asked.Read most (Some count) ∷ []) code place v (InCall counters (at + 1) after_rows) u
+      → MakesTrace 1 (asked.Read most (Some count) ∷ []) code place v (Inside context at rows Granted) v
+      → MakesTrace 1 (asked.Read most (Some count) ∷ []) code place v (InCall context (at + 1) after_rows) u

@@ -4,27 +4,26 @@
 -- Two things that set a hand apart from such a thread show in no event. A thread holds a reference by a variable or in
 -- flight where a hand holds it as its caller. And a thread does a duty on a slot or on a resource where a hand takes
 -- what is there, without a step on a word. A close is a call of the host, as are those that instructions ask for.
-use Rattle.std.specs.Prelude.{◌≡◌, ℕ, ◌+◌, ◌≤◌, Bool, true, false, ◌&&◌, if◌then◌else◌, List, [], ◌∷◌, ◌++◌, Option, None, Some, slice_get, slice_set}
+use Rattle.std.specs.Prelude.{◌≡◌, ℕ, zero, suc, ◌+◌, ◌≤◌, Bool, true, false, ◌&&◌, ◌==◌, if◌then◌else◌, List, [], ◌∷◌, ◌++◌, Option, None, Some, slice_get, slice_set}
 use Rattle.std.specs.Fmt.{decimal}
-use Rattle.brc_word.specs.Words.{argument_part}
+use Rattle.brc_word.specs.Words.{argument_part, free_word}
 use Rattle.brc_lang.specs.declared.mode.Mode.{Mode}
 use Rattle.brc_lang.specs.declared.module.Instr.{Instr}
 use Rattle.brc_lang.specs.declared.module.Instr.TheVariants as instructions
 use Rattle.brc_host.specs.HostCalls.{HostCall, Open, Connect, Read, Write, Close, has_failed}
 use Rattle.brc_model.specs.AbstractState.{Move}
-use Rattle.brc_model.specs.declared.actor.Counters.{Counters}
+use Rattle.brc_model.specs.declared.actor.Context.{Context}
 use Rattle.brc_model.specs.declared.actor.Place.{Place}
-use Rattle.brc_model.specs.declared.actor.Place.TheVariants.{Idle, InCall, Inside, Exiting}
+use Rattle.brc_model.specs.declared.actor.Place.TheVariants.{Idle, InCall, Inside, Stopping, Exiting}
 use Rattle.brc_model.specs.declared.actor.Stage.TheVariants.{Granted}
 use Rattle.brc_model.specs.declared.address.Address.{Address}
 use Rattle.brc_model.specs.declared.address.Address.TheVariants.{Slot, Resource}
 use Rattle.brc_model.specs.declared.duty.Duty.{Duty}
-use Rattle.brc_model.specs.declared.duty.Duty.TheVariants.{BirthKind, CloseResource, Settle}
-use Rattle.brc_model.specs.declared.duty.Holding.TheVariants.{ByVariable}
+use Rattle.brc_model.specs.declared.duty.Duty.TheVariants.{LockGate, BirthKind, CloseResource, Settle}
 use Rattle.brc_model.specs.declared.layout.Layout.{Layout}
 use Rattle.brc_model.specs.declared.slot.Exit.{Exit}
 use Rattle.brc_model.specs.declared.slot.Exit.TheVariants.{Success, Fault}
-use Rattle.brc_model.specs.Actions.{Silent, Calls, Does, dispatch, number_word}
+use Rattle.brc_model.specs.Actions.{Silent, Calls, Does, dispatch, number_word, by_variable}
 use Rattle.brc_model.specs.Duties.{address_of, new_word}
 use Rattle.brc_model.specs.Layout.{row_at}
 use Rattle.brc_model.specs.Machine.{Actor, actor_by}
@@ -50,8 +49,9 @@ events_of layout t a d found = word_events (address_of layout t a.head d) found 
 -- the instruction that the thread is before or inside
 abbrev pub instruction_at : List Instr → Place → Option Instr
 instruction_at code (Idle left) = slice_get code 0
-instruction_at code (InCall counters at variables) = slice_get code at
-instruction_at code (Inside counters at variables stage) = slice_get code at
+instruction_at code (InCall context at variables) = slice_get code at
+instruction_at code (Inside context at variables stage) = slice_get code at
+instruction_at code (Stopping locked calls) = None
 instruction_at code Exiting = None
 
 -- The instruction asks the host for this call, after these events of the thread. `write` sends the decimal digits of
@@ -77,7 +77,7 @@ is_read _ = false
 
 -- Says whether the thread goes on after a call of `read` that has succeeded: it makes a number next.
 abbrev pub has_read : List Instr → Place → Bool
-has_read code (Inside counters at variables Granted) = is_read (slice_get code at)
+has_read code (Inside context at variables Granted) = is_read (slice_get code at)
 has_read code _ = false
 
 -- Says whether the duty gives birth to an object.
@@ -90,53 +90,74 @@ abbrev pub is_close : Duty → Bool
 is_close (CloseResource x) = true
 is_close _ = false
 
+-- ---- instructions that begin
+
+-- An instruction begins with the first event that a thread makes at a place before it. The events inside it, the duties
+-- that its agenda has left, and the thread's exit begin none.
+
+-- how many instructions begin with what the thread dispatches at the place: one if it is before an instruction
+abbrev pub begun_at : Place → ℕ
+begun_at (Idle zero) = 0
+begun_at (Idle (suc left)) = 1
+begun_at (InCall context at variables) = 1
+begun_at (Inside context at variables stage) = 0
+begun_at (Stopping locked calls) = 0
+begun_at Exiting = 0
+
+-- The same where it dispatches the duty, and finds this word. If another thread has the lock, `lock` hasn't begun: the
+-- thread tries again.
+abbrev pub begun_by : Place → Duty → ℕ → ℕ
+begun_by place (LockGate x) found = if found == free_word then begun_at place else 0
+begun_by place d found = begun_at place
+
 -- ---- steps
 
 -- the birth of the number that `read` makes of how many bytes it has read
-abbrev pub read_birth : Layout → ℕ → Actor → ℕ → ℕ → Duty
-read_birth layout t a to count = BirthKind (row_at layout t a.used) (ByVariable to) (number_word count)
+abbrev pub read_birth : Layout → ℕ → Actor → Context → ℕ → ℕ → Duty
+read_birth layout t a context to count = BirthKind (row_at layout t a.used) (by_variable context to) (number_word count)
 
--- From place p and actor a, thread t goes by these calls of the host and by these events to a place and an actor:
--- whatever words it finds, and whatever the host answers.
+-- From place p and actor a, thread t begins this many instructions, and goes by these calls of the host and by these
+-- events to a place and an actor: whatever words it finds, and whatever the host answers.
 pub data Makes (layout : Layout) (t : ℕ) (code : List Instr) (p : Place) (a : Actor)
-    : List HostCall → List Event → Place → Actor → Type 0 where
-  Begun : Makes layout t code p a [] [] p a
+    : ℕ → List HostCall → List Event → Place → Actor → Type 0 where
+  Begun : Makes layout t code p a 0 [] [] p a
   -- a silent step
-  Silently : (cs : List HostCall) (es : List Event) (q r : Place) (b : Actor) (moves : List Move)
-      → Makes layout t code p a cs es q b → b.agenda ≡ [] → dispatch layout t b.used code q ≡ Silent moves r
-      → Makes layout t code p a cs es r b
+  Silently : (n : ℕ) (cs : List HostCall) (es : List Event) (q r : Place) (b : Actor) (moves : List Move)
+      → Makes layout t code p a n cs es q b → b.agenda ≡ [] → dispatch layout t b.used code q ≡ Silent moves r
+      → Makes layout t code p a (n + begun_at q) cs es r b
   -- the call of the host that the instruction asks for: the thread goes on as the host answers
-  Asks : (cs : List HostCall) (es : List Event) (q : Place) (b : Actor) (row : Option ℕ) (after : Exit → Place)
-      (i : Instr) (call : HostCall) → Makes layout t code p a cs es q b → b.agenda ≡ []
+  Asks : (n : ℕ) (cs : List HostCall) (es : List Event) (q : Place) (b : Actor) (row : Option ℕ)
+      (after : Exit → Place) (i : Instr) (call : HostCall) → Makes layout t code p a n cs es q b → b.agenda ≡ []
       → dispatch layout t b.used code q ≡ Calls row after → instruction_at code q ≡ Some i → Requests es i call
-      → Makes layout t code p a (cs ++ call ∷ []) es (after (exit_of call)) b
+      → Makes layout t code p a (n + begun_at q) (cs ++ call ∷ []) es (after (exit_of call)) b
   -- the duty that an instruction begins with, but for the birth of what `read` has read
-  Starts : (cs : List HostCall) (es : List Event) (q : Place) (b : Actor) (d : Duty) (rest : List Duty)
-      (next : ℕ → Place) (found : ℕ) → Makes layout t code p a cs es q b → b.agenda ≡ []
+  Starts : (n : ℕ) (cs : List HostCall) (es : List Event) (q : Place) (b : Actor) (d : Duty) (rest : List Duty)
+      (next : ℕ → Place) (found : ℕ) → Makes layout t code p a n cs es q b → b.agenda ≡ []
       → dispatch layout t b.used code q ≡ Does d rest next → (is_birth d && has_read code q) ≡ false
-      → Makes layout t code p a cs (es ++ events_of layout t b d found) (next found) (actor_by layout t b d rest found)
+      → Makes layout t code p a (n + begun_by q d found) cs (es ++ events_of layout t b d found) (next found)
+      (actor_by layout t b d rest found)
   -- that birth: the step world knows no bytes, and makes the number 0. The host has just said how many were read.
-  Reads : (cs : List HostCall) (es : List Event) (counters : Counters) (at : ℕ) (variables : List (Option ℕ))
-      (b : Actor)
-      (to file most otherwise count found : ℕ)
-      → Makes layout t code p a (cs ++ Read most (Some count) ∷ []) es (Inside counters at variables Granted) b
+  Reads : (n : ℕ) (cs : List HostCall) (es : List Event) (context : Context) (at : ℕ)
+      (variables : List (Option ℕ)) (b : Actor) (to file most otherwise count found : ℕ)
+      → Makes layout t code p a n (cs ++ Read most (Some count) ∷ []) es (Inside context at variables Granted) b
       → b.agenda ≡ [] → slice_get code at ≡ Some (instructions.Read to file most otherwise) → count ≤ most
-      → Makes layout t code p a (cs ++ Read most (Some count) ∷ [])
-      (es ++ events_of layout t b (read_birth layout t b to count) found)
-      (InCall counters (at + 1) (slice_set variables to (Some (row_at layout t b.used))))
-      (actor_by layout t b (read_birth layout t b to count) [] found)
+      → Makes layout t code p a n (cs ++ Read most (Some count) ∷ [])
+      (es ++ events_of layout t b (read_birth layout t b context to count) found)
+      (InCall context (at + 1) (slice_set variables to (Some (row_at layout t b.used))))
+      (actor_by layout t b (read_birth layout t b context to count) [] found)
   -- the next duty of its agenda, but for a close
-  Continues : (cs : List HostCall) (es : List Event) (q : Place) (b : Actor) (d : Duty) (rest : List Duty) (found : ℕ)
-      → Makes layout t code p a cs es q b → b.agenda ≡ d ∷ rest → is_close d ≡ false
-      → Makes layout t code p a cs (es ++ events_of layout t b d found) q (actor_by layout t b d rest found)
+  Continues : (n : ℕ) (cs : List HostCall) (es : List Event) (q : Place) (b : Actor) (d : Duty) (rest : List Duty)
+      (found : ℕ) → Makes layout t code p a n cs es q b → b.agenda ≡ d ∷ rest → is_close d ≡ false
+      → Makes layout t code p a n cs (es ++ events_of layout t b d found) q (actor_by layout t b d rest found)
   -- a close, of a dying object's resource
-  Closes : (cs : List HostCall) (es : List Event) (q : Place) (b : Actor) (x : ℕ) (rest : List Duty) (failed : Bool)
-      → Makes layout t code p a cs es q b → b.agenda ≡ CloseResource x ∷ rest
-      → Makes layout t code p a (cs ++ Close failed ∷ []) es q (actor_by layout t b (CloseResource x) rest 0)
+  Closes : (n : ℕ) (cs : List HostCall) (es : List Event) (q : Place) (b : Actor) (x : ℕ) (rest : List Duty)
+      (failed : Bool) → Makes layout t code p a n cs es q b → b.agenda ≡ CloseResource x ∷ rest
+      → Makes layout t code p a n (cs ++ Close failed ∷ []) es q (actor_by layout t b (CloseResource x) rest 0)
   -- With nothing to do, it begins to settle its chain. A thread that has something in its chain has that to do already,
   -- so this is for an empty chain alone: that a hand doesn't settle one isn't promised by the calls below.
-  Settles : (cs : List HostCall) (es : List Event) (q : Place) (b : Actor) → Makes layout t code p a cs es q b
-      → b.agenda ≡ [] → Makes layout t code p a cs es q (record b { agenda = Settle ∷ [] })
+  Settles : (n : ℕ) (cs : List HostCall) (es : List Event) (q : Place) (b : Actor)
+      → Makes layout t code p a n cs es q b → b.agenda ≡ []
+      → Makes layout t code p a n cs es q (record b { agenda = Settle ∷ [] })
 
 -- ---- hands
 
@@ -145,23 +166,24 @@ abbrev pub thread_with : View → List Duty → Actor
 thread_with v ds = record (actor_of v) { agenda = ds }
 
 -- What the hand's trace has gained from v to u are events by which its thread goes, with these calls of the host, from
--- place p, with duties ds to do, to place q, with duties es to do.
-pub record Traces (calls : List HostCall) (code : List Instr) (p : Place) (ds : List Duty) (v : View) (q : Place)
-    (es : List Duty) (u : View) : Type 0 where
+-- place p, with duties ds to do, to place q, with duties es to do. It has begun this many instructions.
+pub record Traces (begun : ℕ) (calls : List HostCall) (code : List Instr) (p : Place) (ds : List Duty) (v : View)
+    (q : Place) (es : List Duty) (u : View) : Type 0 where
   pub events : List Event
   pub trace : u.trace ≡ v.trace ++ events
-  pub makes : Makes v.layout v.thread code p (thread_with v ds) calls events q (thread_with u es)
+  pub makes : Makes v.layout v.thread code p (thread_with v ds) begun calls events q (thread_with u es)
   pub layout : u.layout ≡ v.layout
   pub thread : u.thread ≡ v.thread
 
 -- The same of a thread that has nothing to do at either place.
-abbrev pub MakesTrace : List HostCall → List Instr → Place → View → Place → View → Type 0
-MakesTrace calls code p v q u = Traces calls code p [] v q [] u
+abbrev pub MakesTrace : ℕ → List HostCall → List Instr → Place → View → Place → View → Type 0
+MakesTrace begun calls code p v q u = Traces begun calls code p [] v q [] u
 
 -- The hand has made this many calls of the code, with these calls of the host. Before each it has looked through its
--- queue.
-pub data MakesCalls (code : List Instr) (v : View) : ℕ → List HostCall → View → Type 0 where
-  NoCall : MakesCalls code v 0 [] v
-  OneMore : (n : ℕ) (calls closes more : List HostCall) (u w x : View) → MakesCalls code v n calls u
-      → LooksThrough u u.used closes w → MakesTrace more code (Idle 1) w (Idle 0) x
-      → MakesCalls code v (n + 1) (calls ++ (closes ++ more)) x
+-- queue. In all of them together it has begun this many instructions: the second number.
+pub data MakesCalls (code : List Instr) (v : View) : ℕ → ℕ → List HostCall → View → Type 0 where
+  NoCall : MakesCalls code v 0 0 [] v
+  OneMore : (n begun within : ℕ) (calls closes more : List HostCall) (u w x : View)
+      → MakesCalls code v n begun calls u → LooksThrough u u.used closes w
+      → MakesTrace within more code (Idle 1) w (Idle 0) x
+      → MakesCalls code v (n + 1) (begun + within) (calls ++ (closes ++ more)) x

@@ -38,13 +38,14 @@ pub record IsFresh (heap : TableState) (thread : ℕ) (hand : HandState) : Type 
   pub no_slot : hand.slots ≡ []
 
 -- The hand has made this many calls of the code, has left after them, and has done nothing else. Its host was asked for
--- these calls.
+-- these calls. `begun` is how many instructions its calls have begun.
 pub record CallsAndLeaves (code : List Instr) (times : ℕ) (calls : List HostCall) (v u : View) : Type 0 where
   pub called : View
+  pub begun : ℕ
   pub within : List HostCall
   pub closes : List HostCall
   pub calls_are : calls ≡ within ++ closes
-  pub makes : MakesCalls code v times within called
+  pub makes : MakesCalls code v times begun within called
   pub leaves : HasLeft closes called u
 
 -- The hand is the worker's, its thread is gone, and it has taken no slot.

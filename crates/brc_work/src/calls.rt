@@ -1,6 +1,6 @@
 //! A worker's call of a function, instruction after instruction.
 
-ghost use Rattle.std.specs.Prelude.{◌≡◌, ◌<◌, true, false, Some, length, slice_get};
+ghost use Rattle.std.specs.Prelude.{◌≡◌, ℕ, ◌<◌, true, false, Some, length, slice_get};
 ghost use Rattle.brc_lang.specs.Grammar.{IsInstruction};
 ghost use Rattle.brc_model.specs.declared.actor.Place.TheVariants.{Idle};
 ghost use Rattle.brc_model.specs.declared.slot.Exit.TheVariants.{Success};
@@ -53,7 +53,7 @@ impl<'h, T: Drop> Worker<'h, T> {
         ensures of { IsOf self.now hand.new }
         ensures called { HasCalled hand.old hand.new }
         ensures asked { Asked H.answers H.counts host.old host.new totals.old totals.new
-            (λ calls. MakesTrace calls code.now (Idle 1) hand.old.view (Idle 0) hand.new.view) }
+            (λ calls. (begun : ℕ) × MakesTrace begun calls code.now (Idle 1) hand.old.view (Idle 0) hand.new.view) }
     {
         self.heap.words().layout_is_plain();
         let mut rows: Variables = [None; Variable::COUNT];

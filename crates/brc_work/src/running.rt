@@ -1,6 +1,6 @@
 //! A worker's calls, one after the other.
 
-ghost use Rattle.std.specs.Prelude.{◌≡◌, ◌<◌, ◌≤◌, ◌+◌, length, slice_get};
+ghost use Rattle.std.specs.Prelude.{◌≡◌, ℕ, ◌<◌, ◌≤◌, ◌+◌, length, slice_get};
 ghost use Rattle.brc_model.specs.Threads.{code_of};
 ghost use Rattle.brc_table.specs.Hands.{IsOf};
 ghost use Rattle.brc_work.specs.Calls.{IsCode, HasCalled};
@@ -53,8 +53,8 @@ impl<'h, T: Drop> Worker<'h, T> {
         ensures called { HasCalled hand.old hand.new }
         ensures created { result.created + hand.old.view.used ≡ hand.new.view.used }
         ensures asked { Asked H.answers H.counts host.old host.new no_totals result
-            (λ calls. MakesCalls (code_of (slice_get checked.now.module.functions function)) hand.old.view times calls
-            hand.new.view) }
+            (λ calls. (begun : ℕ) × MakesCalls (code_of (slice_get checked.now.module.functions function)) hand.old.view
+            times begun calls hand.new.view) }
     {
         let code = code_of(checked, function);
         let used = hand.used();
@@ -83,7 +83,7 @@ impl<'h, T: Drop> Worker<'h, T> {
         ensures of { IsOf self.now hand.new }
         ensures called { HasCalled hand.old hand.new }
         ensures asked { Asked H.answers H.counts host.old host.new totals.old totals.new
-            (λ calls. MakesCalls code.now hand.old.view 1 calls hand.new.view) }
+            (λ calls. (begun : ℕ) × MakesCalls code.now hand.old.view 1 begun calls hand.new.view) }
     {
         let failed = self.queue.merge_pending(rt, hand, host);
         totals.count_close_faults(failed);

@@ -43,7 +43,6 @@ called_holds {heap} {hand} {after} has table called = record {
   };
   settled = called.rests.settled;
   unlocked = called.unlocked;
-  lent = called.rests.lent;
   references =
       only_root after.view.references
       (omega (arith, called.few, ap {B = ℕ} (λ (rows : List ℕ). length rows) has.references))

@@ -4,11 +4,10 @@ use Rattle.brc_model.specs.Layout.{root_row}
 use Rattle.brc_table.specs.Calls.{IsFree}
 use Rattle.brc_table.specs.Hands.{TableState, HandState, IsOf}
 
--- The hand runs, has nothing to do, has locked and lent nothing, and holds one reference, to the root.
+-- The hand runs, has nothing to do, has locked nothing, and holds one reference, to the root.
 pub record HoldsRoot (heap : TableState) (hand : HandState) : Type 0 where
   pub table : IsOf heap hand
   pub free : IsFree hand.view
   pub settled : hand.view.head ≡ 0
   pub unlocked : hand.view.locked ≡ None
-  pub lent : hand.view.lent ≡ None
   pub references : hand.view.references ≡ root_row ∷ []

@@ -1,5 +1,5 @@
 -- A call goes from point to point, and a worker from call to call.
-use Rattle.std.proofs.Common.{◌≡◌, ℕ, ◌+◌, ◌<◌, List, [], ◌++◌, Option, None, Some, append_assoc, append-nil, refl, sym, subst, arith}
+use Rattle.std.proofs.Common.{◌≡◌, ℕ, ◌+◌, ◌<◌, List, [], ◌++◌, Option, None, Some, append_assoc, append-nil, refl, sym, subst}
 use Rattle.std.specs.Prelude.{slice_get, replicate}
 use Rattle.brc_host.specs.HostCalls.{HostCall}
 use Rattle.brc_lang.specs.Limits.{instruction_limit}
@@ -13,7 +13,7 @@ use Rattle.brc_table.specs.declared.view.View.{View}
 use Rattle.brc_queue.specs.Scans.{LooksThrough}
 use Rattle.brc_work.specs.Traces.{MakesTrace, MakesCalls, NoCall, OneMore}
 use Rattle.brc_work.specs.Performs.{ComesTo, PerformsAt, StepsTo, place_after}
-use Rattle.brc_work.proofs.Traces.Joining.{no_trace, calls_then}
+use Rattle.brc_work.proofs.Traces.Joining.{none_before, none_after, added, no_trace, calls_then}
 
 -- ---- steps
 
@@ -25,67 +25,78 @@ pub steps_by : {cs : List HostCall} (code : List Instr) (at : ℕ) (i : Instr) (
     → StepsTo cs code at turns rows v next after_turns after_rows u
 steps_by {cs} code at i exit next turns after_turns rows after_rows v u found low leads performs = λ place left comes.
     subst (λ (o : Option ℕ).
-    MakesTrace cs code place v (place_after (record { left = left; turns = after_turns }) o after_rows) u) (sym leads)
+    MakesTrace 1 cs code place v (place_after (record { left = left; turns = after_turns; outer = [] }) o after_rows)
+    u) (sym leads)
     (performs code place left (record { comes = comes; found = found; low = low }))
 
 -- ---- a call
 
 -- A call that began at view v has come to the point, with these calls of the host, and with these turns and variables.
-pub record HasCome (cs : List HostCall) (code : List Instr) (v : View) (at : ℕ) (turns : List ℕ) (rows : List (Option
-    ℕ)) (u : View)
-    : Type 0 where
+-- It has begun this many instructions.
+pub record HasCome (begun : ℕ) (cs : List HostCall) (code : List Instr) (v : View) (at : ℕ) (turns : List ℕ)
+    (rows : List (Option ℕ)) (u : View) : Type 0 where
   pub place : Place
-  pub comes : ComesTo code place (record { left = 0; turns = turns }) at rows
-  pub makes : MakesTrace cs code (Idle 1) v place u
+  pub comes : ComesTo code place (record { left = 0; turns = turns; outer = [] }) at rows
+  pub makes : MakesTrace begun cs code (Idle 1) v place u
 
 -- It begins at the first point.
-pub begins_call : (code : List Instr) (v : View) → HasCome [] code v 0 (replicate 256 0) entry_variables v
+pub begins_call : (code : List Instr) (v : View) → HasCome 0 [] code v 0 (replicate 256 0) entry_variables v
 begins_call code v = record {
   place = Idle 1;
-  comes = record { does = λ layout t used. refl; names = refl; begins = refl };
+  comes = record { does = λ layout t used. refl; names = refl; begins = refl; begun = refl };
   makes = no_trace code (Idle 1) [] v;
 }
 
-module _ (cs ds : List HostCall) (code : List Instr) (v : View) (at : ℕ) (turns : List ℕ) (rows : List (Option ℕ)) (u :
-    View)
+module _ (n : ℕ) (cs ds : List HostCall) (code : List Instr) (v : View) (at : ℕ) (turns : List ℕ)
+    (rows : List (Option ℕ)) (u : View)
     (next : Option ℕ) (after_turns : List ℕ) (after_rows : List (Option ℕ)) (w : View)
-    (come : HasCome cs code v at turns rows u) (steps : StepsTo ds code at turns rows u next after_turns after_rows w)
+    (come : HasCome n cs code v at turns rows u) (steps : StepsTo ds code at turns rows u next after_turns after_rows w)
   where
-    -- It makes a step,
+    -- It makes a step, by which one instruction more has begun,
     goes_by : (o : Option ℕ) → next ≡ o
-        → MakesTrace (cs ++ ds) code (Idle 1) v (place_after (record { left = 0; turns = after_turns }) o after_rows) w
+        → MakesTrace (n + 1) (cs ++ ds) code (Idle 1) v
+        (place_after (record { left = 0; turns = after_turns; outer = [] }) o after_rows) w
     goes_by o is =
-        let after = λ (other : Option ℕ). place_after (record { left = 0; turns = after_turns }) other after_rows in
-        subst (λ (other : Option ℕ). MakesTrace (cs ++ ds) code (Idle 1) v (after other) w) is
-        (calls_then cs ds code (Idle 1) come.place (after next) [] [] [] v u w come.makes (steps come.place 0 come.comes))
+        let after = λ (other : Option ℕ). place_after (record { left = 0; turns = after_turns; outer = [] }) other
+        after_rows in
+        subst (λ (other : Option ℕ). MakesTrace (n + 1) (cs ++ ds) code (Idle 1) v (after other) w) is
+        (calls_then cs ds code (Idle 1) come.place (after next) [] [] [] v u w come.makes
+        (steps come.place 0 come.comes))
 
     -- and comes to a further point,
-    pub comes_on : (n : ℕ) → next ≡ Some n → HasCome (cs ++ ds) code v n after_turns after_rows w
-    comes_on n is = record {
-      place = InCall (record { left = 0; turns = after_turns }) n after_rows;
-      comes = record { does = λ layout t used. refl; names = refl; begins = refl };
-      makes = goes_by (Some n) is;
+    pub comes_on : (to : ℕ) → next ≡ Some to → HasCome (n + 1) (cs ++ ds) code v to after_turns after_rows w
+    comes_on to is = record {
+      place = InCall (record { left = 0; turns = after_turns; outer = [] }) to after_rows;
+      comes = record { does = λ layout t used. refl; names = refl; begins = refl; begun = refl };
+      makes = goes_by (Some to) is;
     }
 
     -- or to its end.
-    pub comes_to_end : next ≡ None → MakesTrace (cs ++ ds) code (Idle 1) v (Idle 0) w
+    pub comes_to_end : next ≡ None → MakesTrace (n + 1) (cs ++ ds) code (Idle 1) v (Idle 0) w
     comes_to_end is = goes_by None is
 
 -- ---- calls
 
 -- A worker looks through its queue and makes a call.
-pub one_call : (code : List Instr) (v w x : View) (closes calls : List HostCall) → LooksThrough v v.used closes w
-    → MakesTrace calls code (Idle 1) w (Idle 0) x → MakesCalls code v 1 (closes ++ calls) x
-one_call code v w x closes calls looks makes = OneMore 0 [] closes calls v w x NoCall looks makes
+pub one_call : (code : List Instr) (v w x : View) (begun : ℕ) (closes calls : List HostCall)
+    → LooksThrough v v.used closes w → MakesTrace begun calls code (Idle 1) w (Idle 0) x
+    → MakesCalls code v 1 begun (closes ++ calls) x
+one_call code v w x begun closes calls looks makes =
+    subst (λ (i : ℕ). MakesCalls code v 1 i (closes ++ calls) x) (none_before begun)
+    (OneMore 0 0 begun [] closes calls v w x NoCall looks makes)
 
 -- It makes more calls.
-pub more_calls : (code : List Instr) (v u : View) (n : ℕ) (cs : List HostCall) → MakesCalls code v n cs u → (m : ℕ)
-    (ds : List HostCall) (w : View) → MakesCalls code u m ds w → MakesCalls code v (n + m) (cs ++ ds) w
-more_calls code v u n cs one m ds w NoCall =
-    subst (λ (ks : List HostCall). MakesCalls code v (n + 0) ks u) (sym (append-nil cs))
-    (subst (λ (k : ℕ). MakesCalls code v k cs u) (let same : n ≡ n + 0 = omega arith in same) one)
-more_calls code v u n cs one m ds w (OneMore k ks closes more x y z other looks makes) =
-    subst (λ (hs : List HostCall). MakesCalls code v (n + (k + 1)) hs w) (append_assoc cs ks (closes ++ more))
-    (subst (λ (j : ℕ). MakesCalls code v j ((cs ++ ks) ++ (closes ++ more)) w)
-    (let same : (n + k) + 1 ≡ n + (k + 1) = omega arith in same)
-    (OneMore (n + k) (cs ++ ks) closes more x y w (more_calls code v u n cs one k ks x other) looks makes))
+pub more_calls : (code : List Instr) (v u : View) (n i : ℕ) (cs : List HostCall) → MakesCalls code v n i cs u
+    → (m j : ℕ) (ds : List HostCall) (w : View) → MakesCalls code u m j ds w
+    → MakesCalls code v (n + m) (i + j) (cs ++ ds) w
+more_calls code v u n i cs one m j ds w NoCall =
+    subst (λ (ks : List HostCall). MakesCalls code v (n + 0) (i + 0) ks u) (sym (append-nil cs))
+    (subst (λ (k : ℕ). MakesCalls code v k (i + 0) cs u) (none_after n)
+    (subst (λ (k : ℕ). MakesCalls code v n k cs u) (none_after i) one))
+more_calls code v u n i cs one m j ds w (OneMore k l within ks closes more x y z other looks makes) =
+    subst (λ (hs : List HostCall). MakesCalls code v (n + (k + 1)) (i + (l + within)) hs w)
+    (append_assoc cs ks (closes ++ more))
+    (subst (λ (p : ℕ). MakesCalls code v p (i + (l + within)) ((cs ++ ks) ++ (closes ++ more)) w) (added n k 1)
+    (subst (λ (p : ℕ). MakesCalls code v ((n + k) + 1) p ((cs ++ ks) ++ (closes ++ more)) w) (added i l within)
+    (OneMore (n + k) (i + l) within (cs ++ ks) closes more x y w (more_calls code v u n i cs one k l ks x other) looks
+    makes)))

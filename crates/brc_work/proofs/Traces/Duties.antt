@@ -1,5 +1,5 @@
 -- One duty of a hand is one of its thread, though the thread holds a reference otherwise.
-use Rattle.std.proofs.Common.{◌≡◌, ℕ, zero, suc, Bool, true, false, List, [], ◌∷◌, ◌++◌, refl, sym, ap, subst}
+use Rattle.std.proofs.Common.{◌≡◌, ℕ, zero, suc, Bool, true, false, List, [], ◌∷◌, ◌++◌, None, refl, sym, ap, subst}
 use Rattle.std.specs.Prelude.{◌&&◌}
 use Rattle.brc_lang.specs.declared.module.Instr.{Instr}
 use Rattle.brc_model.specs.Actions.{Does, dispatch}
@@ -11,7 +11,8 @@ use Rattle.brc_model.specs.declared.duty.Duty.TheVariants.{Settle, Scan}
 use Rattle.brc_table.specs.declared.view.Event.{Event}
 use Rattle.brc_table.specs.declared.view.View.{View}
 use Rattle.brc_table.specs.Views.{did, done, event_of}
-use Rattle.brc_work.specs.Traces.{Makes, Begun, Starts, Continues, Traces, thread_with, events_of, is_birth, is_close, has_read}
+use Rattle.brc_work.specs.Traces.{Makes, Begun, Starts, Continues, Traces, thread_with, events_of, begun_by, is_birth, is_close, has_read}
+use Rattle.brc_work.proofs.Traces.Joining.{only_these}
 
 -- ---- agendas
 
@@ -36,14 +37,14 @@ no_duty (suc head) = refl
 
 -- ---- one duty
 
--- The thread's duty d is the hand's duty e: they make the same event and change the same.
+-- The thread's duty d is the hand's duty e: they make the same event and change the same. A hand lends by no duty.
 pub record IsSame (u : View) (d e : Duty) (found : ℕ) : Type 0 where
   pub event : events_of u.layout u.thread (thread_with u []) d found ≡ event_of u e found ∷ []
   pub status : status_by u.status d ≡ status_by u.status e
   pub head : new_head u.head d found ≡ new_head u.head e found
   pub used : used_by u.used d ≡ used_by u.used e
   pub locked : locked_by u.locked d found ≡ locked_by u.locked e found
-  pub lent : lent_by u.lent d found ≡ lent_by u.lent e found
+  pub lent : lent_by None d found ≡ None
 
 -- what comes next after the thread's duty
 abbrev pub next_duties : View → Duty → List Duty → ℕ → List Duty
@@ -68,28 +69,28 @@ module _ (code : List Instr) (q : Place) (u : View) (d e : Duty) (rest behind : 
   -- The duty is the first one of an instruction,
   pub starts_with : (next : ℕ → Place) → dispatch u.layout u.thread u.used code q ≡ Does d rest next
       → (is_birth d && has_read code q) ≡ false
-      → Traces [] code q [] u (next found) (next_duties u d rest found) (did u (e ∷ behind) found)
+      → Traces (begun_by q d found) [] code q [] u (next found) (next_duties u d rest found) (did u (e ∷ behind) found)
   starts_with next is new = record {
     events = events_of u.layout u.thread (thread_with u []) d found;
     trace = ap (λ (es : List Event). u.trace ++ es) (sym same.event);
     makes = subst (λ (a : Actor).
-        Makes u.layout u.thread code q (thread_with u []) [] (events_of u.layout u.thread (thread_with u []) d found)
-        (next found) a) same_thread
-        (Starts [] [] q (thread_with u []) d rest next found Begun refl is new);
+        Makes u.layout u.thread code q (thread_with u []) (begun_by q d found) []
+        (events_of u.layout u.thread (thread_with u []) d found) (next found) a) same_thread
+        (only_these (Starts 0 [] [] q (thread_with u []) d rest next found Begun refl is new));
     layout = refl;
     thread = refl;
   }
 
   -- or the first one of the thread's agenda.
   pub continues_with : is_close d ≡ false
-      → Traces [] code q (d ∷ rest) u q (next_duties u d rest found) (did u (e ∷ behind) found)
+      → Traces 0 [] code q (d ∷ rest) u q (next_duties u d rest found) (did u (e ∷ behind) found)
   continues_with off = record {
     events = events_of u.layout u.thread (thread_with u []) d found;
     trace = ap (λ (es : List Event). u.trace ++ es) (sym same.event);
     makes = subst (λ (a : Actor).
-        Makes u.layout u.thread code q (thread_with u (d ∷ rest)) []
+        Makes u.layout u.thread code q (thread_with u (d ∷ rest)) 0 []
         (events_of u.layout u.thread (thread_with u []) d found) q a) same_thread
-        (Continues [] [] q (thread_with u (d ∷ rest)) d rest found Begun refl off);
+        (Continues 0 [] [] q (thread_with u (d ∷ rest)) d rest found Begun refl off);
     layout = refl;
     thread = refl;
   }

@@ -1,5 +1,5 @@
 -- Traces one after the other.
-use Rattle.std.proofs.Common.{◌≡◌, ℕ, List, [], ◌∷◌, ◌++◌, Some, append_assoc, append-nil, refl, sym, ap, ◌∙◌, subst}
+use Rattle.std.proofs.Common.{◌≡◌, ℕ, ◌+◌, List, [], ◌∷◌, ◌++◌, Some, append_assoc, append-nil, refl, sym, ap, ◌∙◌, subst, arith}
 use Rattle.brc_host.specs.HostCalls.{HostCall, Read, Close}
 use Rattle.brc_lang.specs.declared.module.Instr.{Instr}
 use Rattle.brc_model.specs.declared.actor.Place.{Place}
@@ -11,7 +11,18 @@ use Rattle.brc_model.specs.Machine.{Actor}
 use Rattle.brc_table.specs.declared.view.Event.{Event}
 use Rattle.brc_table.specs.declared.view.View.{View}
 use Rattle.brc_table.specs.Views.{open_work}
-use Rattle.brc_work.specs.Traces.{Makes, Begun, Silently, Asks, Starts, Reads, Continues, Closes, Settles, Requests, ForFile, ForPeer, ForBytes, ForLine, Traces, thread_with, events_of, read_birth}
+use Rattle.brc_work.specs.Traces.{Makes, Begun, Silently, Asks, Starts, Reads, Continues, Closes, Settles, Requests, ForFile, ForPeer, ForBytes, ForLine, Traces, thread_with, events_of, read_birth, begun_at, begun_by}
+
+-- ---- numbers
+
+pub none_before : (n : ℕ) → 0 + n ≡ n
+none_before n = omega arith
+
+pub none_after : (n : ℕ) → n ≡ n + 0
+none_after n = omega arith
+
+pub added : (n k m : ℕ) → (n + k) + m ≡ n + (k + m)
+added n k m = omega arith
 
 -- ---- threads
 
@@ -25,68 +36,86 @@ asks_after before es i call (ForLine file number otherwise first last failed is)
     ForLine file number otherwise (before ++ first) last failed
     (ap (λ (fs : List Event). before ++ fs) is ∙ sym (append_assoc before first (last ∷ [])))
 
-module _ (layout : Layout) (t : ℕ) (code : List Instr) (p : Place) (a : Actor) (cs : List HostCall) (es : List Event)
-    (q : Place) (b : Actor) (one : Makes layout t code p a cs es q b) where
+module _ (layout : Layout) (t : ℕ) (code : List Instr) (p : Place) (a : Actor) (n : ℕ) (cs : List HostCall)
+    (es : List Event) (q : Place) (b : Actor) (one : Makes layout t code p a n cs es q b) where
   -- more events,
-  with_events : (ds : List HostCall) (fs gs : List Event) (r : Place) (c : Actor)
-      → Makes layout t code p a ds ((es ++ fs) ++ gs) r c → Makes layout t code p a ds (es ++ (fs ++ gs)) r c
-  with_events ds fs gs r c done =
-      subst (λ (hs : List Event). Makes layout t code p a ds hs r c) (append_assoc es fs gs) done
+  with_events : (k : ℕ) (ds : List HostCall) (fs gs : List Event) (r : Place) (c : Actor)
+      → Makes layout t code p a k ds ((es ++ fs) ++ gs) r c → Makes layout t code p a k ds (es ++ (fs ++ gs)) r c
+  with_events k ds fs gs r c done =
+      subst (λ (hs : List Event). Makes layout t code p a k ds hs r c) (append_assoc es fs gs) done
 
-  -- and more calls
-  with_calls : (ds : List HostCall) (call : HostCall) (fs : List Event) (r : Place) (c : Actor)
-      → Makes layout t code p a ((cs ++ ds) ++ call ∷ []) fs r c
-      → Makes layout t code p a (cs ++ (ds ++ call ∷ [])) fs r c
-  with_calls ds call fs r c done =
-      subst (λ (ks : List HostCall). Makes layout t code p a ks fs r c) (append_assoc cs ds (call ∷ [])) done
+  -- more calls,
+  with_calls : (k : ℕ) (ds : List HostCall) (call : HostCall) (fs : List Event) (r : Place) (c : Actor)
+      → Makes layout t code p a k ((cs ++ ds) ++ call ∷ []) fs r c
+      → Makes layout t code p a k (cs ++ (ds ++ call ∷ [])) fs r c
+  with_calls k ds call fs r c done =
+      subst (λ (ks : List HostCall). Makes layout t code p a k ks fs r c) (append_assoc cs ds (call ∷ [])) done
+
+  -- and more instructions
+  with_begun : (k m : ℕ) (ds : List HostCall) (fs : List Event) (r : Place) (c : Actor)
+      → Makes layout t code p a ((n + k) + m) ds fs r c → Makes layout t code p a (n + (k + m)) ds fs r c
+  with_begun k m ds fs r c done = subst (λ (l : ℕ). Makes layout t code p a l ds fs r c) (added n k m) done
 
   -- A thread goes on.
-  pub makes_then : (ds : List HostCall) (fs : List Event) (r : Place) (c : Actor) → Makes layout t code q b ds fs r c
-      → Makes layout t code p a (cs ++ ds) (es ++ fs) r c
-  makes_then ds fs r c Begun =
-      subst (λ (ks : List HostCall). Makes layout t code p a ks (es ++ []) q b) (sym (append-nil cs))
-      (subst (λ (hs : List Event). Makes layout t code p a cs hs q b) (sym (append-nil es)) one)
-  makes_then ds fs r c (Silently ks gs s r' d moves other none is) =
-      Silently (cs ++ ks) (es ++ gs) s r' d moves (makes_then ks gs s d other) none is
-  makes_then ds fs r c (Asks ks gs s d row after i call other none is names asks) =
-      with_calls ks call (es ++ gs) r c
-      (Asks (cs ++ ks) (es ++ gs) s d row after i call (makes_then ks gs s d other) none is names (asks_after es gs i call
-      asks))
-  makes_then ds fs r c (Starts ks gs s d duty rest next found other none is new) =
-      with_events (cs ++ ks) gs (events_of layout t d duty found) r c
-      (Starts (cs ++ ks) (es ++ gs) s d duty rest next found (makes_then ks gs s d other) none is new)
-  makes_then ds fs r c (Reads ks gs counters at variables d to file most otherwise count found other none is few) =
+  pub makes_then : (m : ℕ) (ds : List HostCall) (fs : List Event) (r : Place) (c : Actor)
+      → Makes layout t code q b m ds fs r c → Makes layout t code p a (n + m) (cs ++ ds) (es ++ fs) r c
+  makes_then m ds fs r c Begun =
+      subst (λ (l : ℕ). Makes layout t code p a l (cs ++ []) (es ++ []) q b) (none_after n)
+      (subst (λ (ks : List HostCall). Makes layout t code p a n ks (es ++ []) q b) (sym (append-nil cs))
+      (subst (λ (hs : List Event). Makes layout t code p a n cs hs q b) (sym (append-nil es)) one))
+  makes_then m ds fs r c (Silently k ks gs s r' d moves other none is) =
+      with_begun k (begun_at s) (cs ++ ks) (es ++ gs) r c
+      (Silently (n + k) (cs ++ ks) (es ++ gs) s r' d moves (makes_then k ks gs s d other) none is)
+  makes_then m ds fs r c (Asks k ks gs s d row after i call other none is names asks) =
+      with_begun k (begun_at s) (cs ++ (ks ++ call ∷ [])) (es ++ gs) r c
+      (with_calls ((n + k) + begun_at s) ks call (es ++ gs) r c
+      (Asks (n + k) (cs ++ ks) (es ++ gs) s d row after i call (makes_then k ks gs s d other) none is names
+      (asks_after es gs i call asks)))
+  makes_then m ds fs r c (Starts k ks gs s d duty rest next found other none is new) =
+      let more = events_of layout t d duty found in
+      with_begun k (begun_by s duty found) (cs ++ ks) (es ++ (gs ++ more)) r c
+      (with_events ((n + k) + begun_by s duty found) (cs ++ ks) gs more r c
+      (Starts (n + k) (cs ++ ks) (es ++ gs) s d duty rest next found (makes_then k ks gs s d other) none is new))
+  makes_then m ds fs r c (Reads k ks gs context at variables d to file most otherwise count found other none is few) =
       let got = Read most (Some count) in
-      let before : Makes layout t code p a ((cs ++ ks) ++ got ∷ []) (es ++ gs) (Inside counters at variables Granted) d
-      =
-      subst (λ (hs : List HostCall). Makes layout t code p a hs (es ++ gs) (Inside counters at variables Granted) d)
-      (sym (append_assoc cs ks (got ∷ []))) (makes_then (ks ++ got ∷ []) gs _ d other) in
-      with_calls ks got (es ++ (gs ++ events_of layout t d (read_birth layout t d to count) found)) r c
-      (with_events ((cs ++ ks) ++ got ∷ []) gs (events_of layout t d (read_birth layout t d to count) found) r c
-      (Reads (cs ++ ks) (es ++ gs) counters at variables d to file most otherwise count found before none is few))
-  makes_then ds fs r c (Continues ks gs s d duty rest found other is off) =
-      with_events (cs ++ ks) gs (events_of layout t d duty found) r c
-      (Continues (cs ++ ks) (es ++ gs) s d duty rest found (makes_then ks gs s d other) is off)
-  makes_then ds fs r c (Closes ks gs s d x rest failed other is) =
-      with_calls ks (Close failed) (es ++ gs) r c
-      (Closes (cs ++ ks) (es ++ gs) s d x rest failed (makes_then ks gs s d other) is)
-  makes_then ds fs r c (Settles ks gs s d other none) =
-      Settles (cs ++ ks) (es ++ gs) s d (makes_then ks gs s d other) none
+      let in_read = Inside context at variables Granted in
+      let before : Makes layout t code p a (n + k) ((cs ++ ks) ++ got ∷ []) (es ++ gs) in_read d =
+      subst (λ (hs : List HostCall). Makes layout t code p a (n + k) hs (es ++ gs) in_read d)
+      (sym (append_assoc cs ks (got ∷ []))) (makes_then k (ks ++ got ∷ []) gs _ d other) in
+      with_calls (n + k) ks got (es ++ (gs ++ events_of layout t d (read_birth layout t d context to count) found)) r c
+      (with_events (n + k) ((cs ++ ks) ++ got ∷ []) gs (events_of layout t d (read_birth layout t d context to count)
+      found) r c
+      (Reads (n + k) (cs ++ ks) (es ++ gs) context at variables d to file most otherwise count found before none is
+      few))
+  makes_then m ds fs r c (Continues k ks gs s d duty rest found other is off) =
+      with_events (n + k) (cs ++ ks) gs (events_of layout t d duty found) r c
+      (Continues (n + k) (cs ++ ks) (es ++ gs) s d duty rest found (makes_then k ks gs s d other) is off)
+  makes_then m ds fs r c (Closes k ks gs s d x rest failed other is) =
+      with_calls (n + k) ks (Close failed) (es ++ gs) r c
+      (Closes (n + k) (cs ++ ks) (es ++ gs) s d x rest failed (makes_then k ks gs s d other) is)
+  makes_then m ds fs r c (Settles k ks gs s d other none) =
+      Settles (n + k) (cs ++ ks) (es ++ gs) s d (makes_then k ks gs s d other) none
+
+-- As many have begun as the one event begins.
+pub only_these : {layout : Layout} {t : ℕ} {code : List Instr} {p q : Place} {a b : Actor} {n : ℕ} {cs : List HostCall}
+    {es : List Event} → Makes layout t code p a (0 + n) cs es q b → Makes layout t code p a n cs es q b
+only_these {layout} {t} {code} {p} {q} {a} {b} {n} {cs} {es} made =
+    subst (λ (k : ℕ). Makes layout t code p a k cs es q b) (none_before n) made
 
 -- ---- hands
 
 -- A hand that has made no step.
-pub no_trace : (code : List Instr) (p : Place) (ds : List Duty) (v : View) → Traces [] code p ds v p ds v
+pub no_trace : (code : List Instr) (p : Place) (ds : List Duty) (v : View) → Traces 0 [] code p ds v p ds v
 no_trace code p ds v =
     record { events = []; trace = sym (append-nil v.trace); makes = Begun; layout = refl; thread = refl }
 
 -- A view of the same thread with the same trace.
 pub quietly : (code : List Instr) (p : Place) (ds : List Duty) (v w : View) → w.trace ≡ v.trace → w.layout ≡ v.layout
-    → w.thread ≡ v.thread → thread_with v ds ≡ thread_with w ds → Traces [] code p ds v p ds w
+    → w.thread ≡ v.thread → thread_with v ds ≡ thread_with w ds → Traces 0 [] code p ds v p ds w
 quietly code p ds v w trace layout thread same = record {
   events = [];
   trace = trace ∙ sym (append-nil v.trace);
-  makes = subst (λ (a : Actor). Makes v.layout v.thread code p (thread_with v ds) [] [] p a) same Begun;
+  makes = subst (λ (a : Actor). Makes v.layout v.thread code p (thread_with v ds) 0 [] [] p a) same Begun;
   layout = layout;
   thread = thread;
 }
@@ -94,49 +123,67 @@ quietly code p ds v w trace layout thread same = record {
 -- A hand without work turns to other duties.
 pub turns_to : (code : List Instr) (p : Place) (ds agenda : List Duty) (v : View) (references : List ℕ) (n : ℕ)
     → v.agenda ≡ []
-    → Traces [] code p ds v p ds
+    → Traces 0 [] code p ds v p ds
     (record v { agenda = agenda; aside = open_work v; references = references; in_slot = n })
 turns_to code p ds agenda v references n none =
     let same : v.aside ≡ open_work v = ap (λ (es : List Duty). es ++ v.aside) (sym none) in
-    quietly code p ds v (record v { agenda = agenda; aside = open_work v; references = references; in_slot = n }) refl refl
+    quietly code p ds v (record v { agenda = agenda; aside = open_work v; references = references; in_slot = n }) refl
+    refl
     refl (λ i. record (thread_with v ds) { aside = same i })
 
--- A hand goes on, with more calls of the host,
-pub calls_then : (cs fs : List HostCall) (code : List Instr) (p q r : Place) (ds es gs : List Duty) (v u w : View)
-    → Traces cs code p ds v q es u → Traces fs code q es u r gs w → Traces (cs ++ fs) code p ds v r gs w
-calls_then cs fs code p q r ds es gs v u w one other = record {
+-- A hand goes on: more instructions begin, with more calls of the host.
+pub calls_then : {n m : ℕ} (cs fs : List HostCall) (code : List Instr) (p q r : Place) (ds es gs : List Duty)
+    (v u w : View) → Traces n cs code p ds v q es u → Traces m fs code q es u r gs w
+    → Traces (n + m) (cs ++ fs) code p ds v r gs w
+calls_then {n} {m} cs fs code p q r ds es gs v u w one other = record {
   events = one.events ++ other.events;
   trace = other.trace
       ∙ (ap (λ (hs : List Event). hs ++ other.events) one.trace ∙ append_assoc v.trace one.events other.events);
-  makes = makes_then v.layout v.thread code p (thread_with v ds) cs one.events q (thread_with u es) one.makes fs
+  makes = makes_then v.layout v.thread code p (thread_with v ds) n cs one.events q (thread_with u es) one.makes m fs
       other.events r (thread_with w gs)
-      (subst (λ (t : ℕ). Makes v.layout t code q (thread_with u es) fs other.events r (thread_with w gs)) one.thread
-      (subst (λ (l : Layout). Makes l u.thread code q (thread_with u es) fs other.events r (thread_with w gs))
+      (subst (λ (t : ℕ). Makes v.layout t code q (thread_with u es) m fs other.events r (thread_with w gs)) one.thread
+      (subst (λ (l : Layout). Makes l u.thread code q (thread_with u es) m fs other.events r (thread_with w gs))
       one.layout
       other.makes));
   layout = other.layout ∙ one.layout;
   thread = other.thread ∙ one.thread;
 }
 
--- after steps without such a call,
-pub traces_then : {cs : List HostCall} (code : List Instr) (p q r : Place) (ds es fs : List Duty) (v u w : View)
-    → Traces [] code p ds v q es u → Traces cs code q es u r fs w → Traces cs code p ds v r fs w
-traces_then {cs} code p q r ds es fs v u w one other = calls_then [] cs code p q r ds es fs v u w one other
+-- If none of the further instructions has begun, it is as many as before:
+pub calls_on : {n : ℕ} (cs fs : List HostCall) (code : List Instr) (p q r : Place) (ds es gs : List Duty) (v u w : View)
+    → Traces n cs code p ds v q es u → Traces 0 fs code q es u r gs w → Traces n (cs ++ fs) code p ds v r gs w
+calls_on {n} cs fs code p q r ds es gs v u w one other =
+    subst (λ (k : ℕ). Traces k (cs ++ fs) code p ds v r gs w) (sym (none_after n))
+    (calls_then cs fs code p q r ds es gs v u w one other)
 
--- or with none.
-pub traces_behind : {cs : List HostCall} (code : List Instr) (p q r : Place) (ds es fs : List Duty) (v u w : View)
-    → Traces cs code p ds v q es u → Traces [] code q es u r fs w → Traces cs code p ds v r fs w
-traces_behind {cs} code p q r ds es fs v u w one other =
-    subst (λ (ks : List HostCall). Traces ks code p ds v r fs w) (append-nil cs)
-    (calls_then cs [] code p q r ds es fs v u w one other)
+-- after steps without a call of the host,
+pub traces_then : {n : ℕ} {cs : List HostCall} (code : List Instr) (p q r : Place) (ds es fs : List Duty) (v u w : View)
+    → Traces n [] code p ds v q es u → Traces 0 cs code q es u r fs w → Traces n cs code p ds v r fs w
+traces_then {n} {cs} code p q r ds es fs v u w one other = calls_on [] cs code p q r ds es fs v u w one other
+
+-- or before such steps.
+pub traces_behind : {n : ℕ} {cs : List HostCall} (code : List Instr) (p q r : Place) (ds es fs : List Duty)
+    (v u w : View) → Traces n cs code p ds v q es u → Traces 0 [] code q es u r fs w → Traces n cs code p ds v r fs w
+traces_behind {n} {cs} code p q r ds es fs v u w one other =
+    subst (λ (ks : List HostCall). Traces n ks code p ds v r fs w) (append-nil cs)
+    (calls_on cs [] code p q r ds es fs v u w one other)
+
+-- If none has begun before, it is as many as follow.
+pub traces_before : {n : ℕ} {cs : List HostCall} (code : List Instr) (p q r : Place) (ds es fs : List Duty)
+    (v u w : View) → Traces 0 [] code p ds v q es u → Traces n cs code q es u r fs w → Traces n cs code p ds v r fs w
+traces_before {n} {cs} code p q r ds es fs v u w one other =
+    subst (λ (k : ℕ). Traces k cs code p ds v r fs w) (none_before n)
+    (calls_then [] cs code p q r ds es fs v u w one other)
 
 -- The same duties, written otherwise,
-pub with_duties : {cs : List HostCall} (code : List Instr) (p q : Place) (ds es fs : List Duty) (v u : View) → es ≡ fs
-    → Traces cs code p ds v q es u → Traces cs code p ds v q fs u
-with_duties {cs} code p q ds es fs v u same one = subst (λ (gs : List Duty). Traces cs code p ds v q gs u) same one
+pub with_duties : {n : ℕ} {cs : List HostCall} (code : List Instr) (p q : Place) (ds es fs : List Duty) (v u : View)
+    → es ≡ fs → Traces n cs code p ds v q es u → Traces n cs code p ds v q fs u
+with_duties {n} {cs} code p q ds es fs v u same one =
+    subst (λ (gs : List Duty). Traces n cs code p ds v q gs u) same one
 
 -- and the same calls.
-pub with_same_calls : {cs ks : List HostCall} (code : List Instr) (p q : Place) (ds es : List Duty) (v u : View)
+pub with_same_calls : {n : ℕ} {cs ks : List HostCall} (code : List Instr) (p q : Place) (ds es : List Duty) (v u : View)
     → cs ≡ ks
-    → Traces cs code p ds v q es u → Traces ks code p ds v q es u
-with_same_calls code p q ds es v u same one = subst (λ (hs : List HostCall). Traces hs code p ds v q es u) same one
+    → Traces n cs code p ds v q es u → Traces n ks code p ds v q es u
+with_same_calls {n} code p q ds es v u same one =
+    subst (λ (hs : List HostCall). Traces n hs code p ds v q es u) same one

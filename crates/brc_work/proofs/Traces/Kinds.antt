@@ -7,7 +7,7 @@ use Rattle.brc_lang.specs.declared.module.Instr.TheVariants as instructions
 use Rattle.brc_model.specs.Actions.{Does}
 use Rattle.brc_model.specs.Kinds.{kind_number, kind_of_word, same_kind}
 use Rattle.brc_model.specs.Threads.{row_of}
-use Rattle.brc_model.specs.declared.actor.Counters.{Counters}
+use Rattle.brc_model.specs.declared.actor.Context.{Context}
 use Rattle.brc_model.specs.declared.actor.Place.{Place}
 use Rattle.brc_model.specs.declared.actor.Place.TheVariants.{InCall}
 use Rattle.brc_model.specs.declared.duty.Duty.TheVariants.{KindLoad}
@@ -16,25 +16,26 @@ use Rattle.brc_table.specs.declared.view.View.{View}
 use Rattle.brc_table.specs.Views.{done, asking}
 use Rattle.brc_work.specs.Traces.{MakesTrace}
 use Rattle.brc_work.specs.Performs.{IsBefore, Performs}
-use Rattle.brc_work.proofs.Traces.Places.{begins_with}
+use Rattle.brc_work.proofs.Traces.Places.{begins_with, begins_one}
 use Rattle.brc_work.proofs.Traces.Starting.{asks_kind}
 
 module _ (from row word otherwise : ℕ) (kind seen : Kind) (rows : List (Option ℕ)) (v u : View) (none : v.agenda ≡ [])
     (names : row_of rows from ≡ Some row) (is : u ≡ done (asking v row) word) (sees : seen ≡ kind_of_word word) where
   -- The thread goes on where the word found says.
-  asked : (b : Bool) → same_kind seen kind ≡ b → (code : List Instr) (place : Place) (counters : Counters) (at : ℕ)
-      → IsBefore (instructions.As from kind otherwise) code place counters at rows
-      → MakesTrace [] code place v (InCall counters (cond b (at + 1) otherwise) rows) u
-  asked b answer code place counters at before =
+  asked : (b : Bool) → same_kind seen kind ≡ b → (code : List Instr) (place : Place) (context : Context) (at : ℕ)
+      → IsBefore (instructions.As from kind otherwise) code place context at rows
+      → MakesTrace 1 [] code place v (InCall context (cond b (at + 1) otherwise) rows) u
+  asked b answer code place context at before =
       let next = λ (found : ℕ).
-      InCall counters (cond (same_kind (kind_of_word found) kind) (at + 1) otherwise) rows in
-      subst (λ (q : Place). MakesTrace [] code place v q u)
-      (ap (λ (k : Kind). InCall counters (cond (same_kind k kind) (at + 1) otherwise) rows) (sym sees)
-      ∙ ap (λ (c : Bool). InCall counters (cond c (at + 1) otherwise) rows) answer)
-      (subst (MakesTrace [] code place v (next word)) (sym is)
-      (asks_kind code place next v none row word
-      (begins_with (instructions.As from kind otherwise) code place counters at rows before v.layout v.thread v.used from row
-      (λ x. Does (KindLoad x) [] next) refl names)))
+      InCall context (cond (same_kind (kind_of_word found) kind) (at + 1) otherwise) rows in
+      subst (λ (q : Place). MakesTrace 1 [] code place v q u)
+      (ap (λ (k : Kind). InCall context (cond (same_kind k kind) (at + 1) otherwise) rows) (sym sees)
+      ∙ ap (λ (c : Bool). InCall context (cond c (at + 1) otherwise) rows) answer)
+      (subst (MakesTrace 1 [] code place v (next word)) (sym is)
+      (begins_one before (asks_kind code place next v none row word
+      (begins_with (instructions.As from kind otherwise) code place context at rows before v.layout v.thread v.used
+      from row
+      (λ x. Does (KindLoad x) [] next) refl names))))
 
   -- The object is of the kind,
   pub is_of : kind_number seen ≡ kind_number kind

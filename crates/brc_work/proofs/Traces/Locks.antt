@@ -1,38 +1,39 @@
 -- `lock` and `unlock`.
-use Rattle.std.proofs.Common.{◌≡◌, ℕ, ◌+◌, Bool, true, false, cond, List, [], Option, Some, refl, sym, ap, subst}
+use Rattle.std.proofs.Common.{◌≡◌, ℕ, ◌+◌, Bool, true, false, cond, List, [], Option, Some, refl, sym, subst}
 use Rattle.std.specs.Prelude.{◌==◌}
 use Rattle.brc_lang.specs.declared.module.Instr.{Instr}
 use Rattle.brc_lang.specs.declared.module.Instr.TheVariants as instructions
 use Rattle.brc_word.specs.Words.{free_word}
 use Rattle.brc_model.specs.Actions.{Does, always}
 use Rattle.brc_model.specs.Threads.{row_of}
-use Rattle.brc_model.specs.declared.actor.Counters.{Counters}
+use Rattle.brc_model.specs.declared.actor.Context.{Context}
 use Rattle.brc_model.specs.declared.actor.Place.{Place}
 use Rattle.brc_model.specs.declared.actor.Place.TheVariants.{InCall}
 use Rattle.brc_model.specs.declared.duty.Duty.TheVariants.{LockGate, UnlockGate}
 use Rattle.brc_model.specs.declared.slot.Exit.TheVariants.{Success}
 use Rattle.brc_table.specs.declared.view.View.{View}
 use Rattle.brc_table.specs.Views.{done, locking, unlocking}
-use Rattle.brc_work.specs.Traces.{MakesTrace}
+use Rattle.brc_work.specs.Traces.{MakesTrace, begun_at, begun_by}
 use Rattle.brc_work.specs.Performs.{IsBefore, Performs, Waits}
-use Rattle.brc_work.proofs.Traces.Joining.{no_trace, traces_then}
-use Rattle.brc_work.proofs.Traces.Places.{begins_with}
+use Rattle.brc_work.proofs.Traces.Joining.{no_trace, traces_then, traces_before}
+use Rattle.brc_work.proofs.Traces.Places.{begins_with, begins_one}
 use Rattle.brc_work.proofs.Traces.Starting.{tries, unlocks}
 
 module _ (object row n found : ℕ) (rows : List (Option ℕ)) (v u : View) (none : v.agenda ≡ [])
     (names : row_of rows object ≡ Some row) (is : u ≡ done (locking v row n) found) where
-  -- The thread is where the word found says.
-  tried : (b : Bool) → (found == free_word) ≡ b → (code : List Instr) (place : Place) (counters : Counters) (at : ℕ)
-      → IsBefore (instructions.Lock object) code place counters at rows
-      → MakesTrace [] code place v (cond b (InCall counters (at + 1) rows) place) u
-  tried b answer code place counters at before =
-      let gets = InCall counters (at + 1) rows in
+  -- The thread is where the word found says, which also says whether the instruction has begun.
+  tried : (b : Bool) → (found == free_word) ≡ b → (code : List Instr) (place : Place) (context : Context) (at : ℕ)
+      → IsBefore (instructions.Lock object) code place context at rows
+      → MakesTrace (cond b 1 0) [] code place v (cond b (InCall context (at + 1) rows) place) u
+  tried b answer code place context at before =
+      let gets = InCall context (at + 1) rows in
       let next = λ (word : ℕ). cond (word == free_word) gets place in
-      subst (λ (q : Place). MakesTrace [] code place v q u) (ap (λ (c : Bool). cond c gets place) answer)
-      (subst (MakesTrace [] code place v (next found)) (sym is)
+      subst (λ (n : ℕ). MakesTrace (cond b n 0) [] code place v (cond b gets place) u) before.comes.begun
+      (subst (λ (c : Bool). MakesTrace (cond c (begun_at place) 0) [] code place v (cond c gets place) u) answer
+      (subst (MakesTrace (begun_by place (LockGate row) found) [] code place v (next found)) (sym is)
       (tries code place next v none row n found
-      (begins_with (instructions.Lock object) code place counters at rows before v.layout v.thread v.used object row
-      (λ x. Does (LockGate x) [] next) refl names)))
+      (begins_with (instructions.Lock object) code place context at rows before v.layout v.thread v.used object row
+      (λ x. Does (LockGate x) [] next) refl names))))
 
   -- The object is locked,
   pub makes_lock : (found == free_word) ≡ true → Performs [] (instructions.Lock object) Success rows v rows u
@@ -44,29 +45,29 @@ module _ (object row n found : ℕ) (rows : List (Option ℕ)) (v u : View) (non
 
 -- A thread that hasn't tried yet,
 pub not_waited : (object : ℕ) (rows : List (Option ℕ)) (v : View) → Waits (instructions.Lock object) rows v v
-not_waited object rows v = λ code place counters at before. no_trace code place [] v
+not_waited object rows v = λ code place context at before. no_trace code place [] v
 
 -- one that tries again,
 pub waits_then : (object : ℕ) (rows : List (Option ℕ)) (v u w : View) → Waits (instructions.Lock object) rows v u
     → Waits (instructions.Lock object) rows u w → Waits (instructions.Lock object) rows v w
-waits_then object rows v u w one other = λ code place counters at before.
-    traces_then code place place place [] [] [] v u w (one code place counters at before)
-    (other code place counters at before)
+waits_then object rows v u w one other = λ code place context at before.
+    traces_then code place place place [] [] [] v u w (one code place context at before)
+    (other code place context at before)
 
 -- and one that locks the object in the end.
 pub waits_first : (object : ℕ) (rows : List (Option ℕ)) (v u w : View) → Waits (instructions.Lock object) rows v u
     → Performs [] (instructions.Lock object) Success rows u rows w
     → Performs [] (instructions.Lock object) Success rows v rows w
-waits_first object rows v u w one other = λ code place counters at before.
-    traces_then code place place (InCall counters (at + 1) rows) [] [] [] v u w (one code place counters at before)
-    (other code place counters at before)
+waits_first object rows v u w one other = λ code place context at before.
+    traces_before code place place (InCall context (at + 1) rows) [] [] [] v u w (one code place context at before)
+    (other code place context at before)
 
 pub makes_unlock : (object row found : ℕ) (rows : List (Option ℕ)) (v u : View) → v.agenda ≡ []
     → row_of rows object ≡ Some row → u ≡ done (unlocking v row) found
     → Performs [] (instructions.Unlock object) Success rows v rows u
-makes_unlock object row found rows v u none names is = λ code place counters at before.
-    let next = always (InCall counters (at + 1) rows) in
-    subst (MakesTrace [] code place v (next found)) (sym is)
-    (unlocks code place next v none row found
-    (begins_with (instructions.Unlock object) code place counters at rows before v.layout v.thread v.used object row
-    (λ x. Does (UnlockGate x) [] next) refl names))
+makes_unlock object row found rows v u none names is = λ code place context at before.
+    let next = always (InCall context (at + 1) rows) in
+    subst (MakesTrace 1 [] code place v (next found)) (sym is)
+    (begins_one before (unlocks code place next v none row found
+    (begins_with (instructions.Unlock object) code place context at rows before v.layout v.thread v.used object row
+    (λ x. Does (UnlockGate x) [] next) refl names)))

@@ -12,7 +12,7 @@ use Rattle.brc_model.specs.declared.actor.Place.{Place}
 use Rattle.brc_model.specs.declared.duty.Duty.{Duty}
 use Rattle.brc_model.specs.declared.duty.Duty.TheVariants.{ReleaseLoad, ReleaseStore, SharedLoad, Settle}
 use Rattle.brc_model.specs.declared.duty.Holding.{Holding}
-use Rattle.brc_model.specs.declared.duty.Holding.TheVariants.{AsCaller, ByVariable}
+use Rattle.brc_model.specs.declared.duty.Holding.TheVariants.{AsCaller}
 use Rattle.brc_model.specs.declared.duty.Reason.TheVariants.{Own}
 use Rattle.brc_table.specs.declared.view.View.{View}
 use Rattle.brc_table.specs.Views.{done, releasing, slot_emptied, slot_emptied_by, without_reference}
@@ -20,7 +20,7 @@ use Rattle.brc_heap.specs.Calls.{released_locally, counts_here}
 use Rattle.brc_free.specs.Works.{Begun as Unchanged, Next, HasWorked, closes_by}
 use Rattle.brc_work.specs.Performs.{MakesRelease, GivesUp}
 use Rattle.brc_work.specs.Traces.{Traces}
-use Rattle.brc_work.proofs.Traces.Joining.{turns_to, traces_then}
+use Rattle.brc_work.proofs.Traces.Joining.{turns_to, traces_then, traces_before}
 use Rattle.brc_work.proofs.Traces.Duties.{no_duty, IsSame, next_duties, starts_with, continues_with}
 use Rattle.brc_work.proofs.Traces.Working.{WorksOn, goes_on, works_on, worked_off}
 
@@ -51,37 +51,38 @@ load_same : (x : ℕ) (holding : Holding) (v : View) (word : ℕ)
 load_same x holding v word =
     record { event = refl; status = refl; head = refl; used = refl; locked = refl; lent = refl }
 
-module _ (code : List Instr) (p : Place) (ds : List Duty) (q : Place) (holding : Holding) (x : ℕ) (v : View)
-    (first : (word : ℕ) → Traces [] code p ds v q (next_duties (releasing v x) (ReleaseLoad x holding) (Settle ∷ [])
+module _ {n : ℕ} (code : List Instr) (p : Place) (ds : List Duty) (q : Place) (holding : Holding) (x : ℕ) (v : View)
+    (first : (word : ℕ) → Traces n [] code p ds v q (next_duties (releasing v x) (ReleaseLoad x holding) (Settle ∷ [])
     word)
     (done (releasing v x) word)) where
   -- The hand has loaded the local word,
-  loads : (word : ℕ) → WorksOn [] code p ds v q (done (releasing v x) word)
+  loads : (word : ℕ) → WorksOn n [] code p ds v q (done (releasing v x) word)
   loads word =
       goes_on code p ds v q (releasing v x) (ReleaseLoad x holding) (ReleaseLoad x AsCaller) [] word true
       (load_same x holding v word) refl refl refl refl (first word)
 
   -- and stored it if it counts there.
-  stores : (word : ℕ) → WorksOn [] code p ds v q (released_locally v x word)
+  stores : (word : ℕ) → WorksOn n [] code p ds v q (released_locally v x word)
   stores word =
       let loaded = done (releasing v x) word in
       elim (cases_Bool (counts_here v word)) [
         | inl counts ↦
-            subst (WorksOn [] code p ds v q)
-            (ap (λ (w : View). done w word) (after_load (is_immortal_word word) (counts_here v word) v.head x word loaded refl)
+            subst (WorksOn n [] code p ds v q)
+            (ap (λ (w : View). done w word) (after_load (is_immortal_word word) (counts_here v word) v.head x word
+            loaded refl)
             ∙ ap (λ (b : Bool). cond b (done loaded word) loaded) (sym counts))
-            (subst (λ (cs : List HostCall). WorksOn cs code p ds v q (done (slot_emptied loaded) word))
+            (subst (λ (cs : List HostCall). WorksOn n cs code p ds v q (done (slot_emptied loaded) word))
             (no_close_after_load (is_immortal_word word) (counts_here v word) v.head x word loaded refl)
             (works_on code p ds v q [] loaded _ (done (slot_emptied loaded) word) (loads word)
             (Next [] loaded word false Unchanged)))
         | inr shares ↦
-            subst (WorksOn [] code p ds v q) (ap (λ (b : Bool). cond b (done loaded word) loaded) (sym shares)) (loads
+            subst (WorksOn n [] code p ds v q) (ap (λ (b : Bool). cond b (done loaded word) loaded) (sym shares)) (loads
             word)
       ]
 
   -- All that dies by it is closed.
   settles : (word : ℕ) (cs : List HostCall) (mid after : View) → HasWorked (released_locally v x word) [] [] mid
-      → HasWorked mid cs [] after → after.head ≡ 0 → Traces cs code p ds v q [] after
+      → HasWorked mid cs [] after → after.head ≡ 0 → Traces n cs code p ds v q [] after
   settles word cs mid after released settled empty =
       worked_off code p ds v q after (settled.agenda ∙ no_duty after.head) empty
       (works_on code p ds v q [] mid cs after
@@ -97,7 +98,7 @@ releases x word cs v mid after none released settled empty =
     record {
       first = λ code place next holding is.
           settles code place [] next holding x v (λ w.
-          traces_then code place place next [] [] _ v (releasing v x) _
+          traces_before code place place next [] [] _ v (releasing v x) _
           (turns_to code place [] (ReleaseLoad x AsCaller ∷ []) v references v.in_slot none)
           (starts_with code place (releasing v x) (ReleaseLoad x holding) (ReleaseLoad x AsCaller) rest [] w
           (load_same x holding v w) (always next) (is v.layout v.thread v.used) refl))
@@ -118,9 +119,9 @@ pub gives_up : {cs : List HostCall} (from x : ℕ) (rows after_rows : List (Opti
     → after_rows ≡ slice_set rows from None → MakesRelease cs x v u → GivesUp cs from rows v after_rows u
 gives_up from x rows after_rows v u row emptied releases = record {
   emptied = emptied;
-  makes = λ code place next is.
-      releases.first code place next (ByVariable from)
+  makes = λ code place next holding is.
+      releases.first code place next holding
       (λ layout t used. is layout t used
       ∙ ap (λ (o : Option ℕ).
-      with_row o (λ (y : ℕ). Does (ReleaseLoad y (ByVariable from)) (Settle ∷ []) (always next))) row);
+      with_row o (λ (y : ℕ). Does (ReleaseLoad y holding) (Settle ∷ []) (always next))) row);
 }

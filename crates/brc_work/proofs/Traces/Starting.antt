@@ -19,18 +19,18 @@ use Rattle.brc_table.specs.declared.view.Event.{Event}
 use Rattle.brc_table.specs.declared.view.View.{View}
 use Rattle.brc_table.specs.Views.{did, done, open_work, with_reference, retaining, asking, locking, unlocking, loading_cell}
 use Rattle.brc_heap.specs.Calls.{retained}
-use Rattle.brc_work.specs.Traces.{Makes, Begun, Starts, Silently, Asks, Requests, Traces, MakesTrace, thread_with, instruction_at, exit_of, is_birth, is_close, has_read}
-use Rattle.brc_work.proofs.Traces.Joining.{no_trace, turns_to, traces_then, with_duties}
+use Rattle.brc_work.specs.Traces.{Makes, Begun, Starts, Silently, Asks, Requests, Traces, MakesTrace, thread_with, instruction_at, exit_of, begun_at, begun_by, is_birth, is_close, has_read}
+use Rattle.brc_work.proofs.Traces.Joining.{only_these, no_trace, turns_to, traces_then, traces_before, with_duties}
 use Rattle.brc_work.proofs.Traces.Duties.{comes_next, no_duty, IsSame, next_duties, starts_with, continues_with, does_nothing, does_first}
 
 module _ (code : List Instr) (p : Place) (v : View) where
   -- A silent step,
   pub goes_silently : (q : Place) (moves : List Move) → dispatch v.layout v.thread v.used code p ≡ Silent moves q
-      → MakesTrace [] code p v q v
+      → MakesTrace (begun_at p) [] code p v q v
   goes_silently q moves is = record {
     events = [];
     trace = sym (append-nil v.trace);
-    makes = Silently [] [] p q (thread_with v []) moves Begun refl is;
+    makes = only_these (Silently 0 [] [] p q (thread_with v []) moves Begun refl is);
     layout = refl;
     thread = refl;
   }
@@ -39,11 +39,11 @@ module _ (code : List Instr) (p : Place) (v : View) where
   pub calls_host : (row : Option ℕ) (after : Exit → Place) (i : Instr) (call : HostCall)
       → dispatch v.layout v.thread v.used code p ≡ Calls row after → instruction_at code p ≡ Some i
       → Requests [] i call
-      → MakesTrace (call ∷ []) code p v (after (exit_of call)) v
+      → MakesTrace (begun_at p) (call ∷ []) code p v (after (exit_of call)) v
   calls_host row after i call is names asks = record {
     events = [];
     trace = sym (append-nil v.trace);
-    makes = Asks [] [] p (thread_with v []) row after i call Begun refl is names asks;
+    makes = only_these (Asks 0 [] [] p (thread_with v []) row after i call Begun refl is names asks);
     layout = refl;
     thread = refl;
   }
@@ -63,34 +63,34 @@ module _ (code : List Instr) (p : Place) (next : ℕ → Place) (v : View) (none
       → (is_birth d && has_read code p) ≡ false
       → IsSame (busy v (d ∷ []) references n) d d found
       → next_duties (busy v (d ∷ []) references n) d [] found ≡ []
-      → MakesTrace [] code p v (next found) (did (busy v (d ∷ []) references n) (d ∷ []) found)
+      → MakesTrace (begun_by p d found) [] code p v (next found) (did (busy v (d ∷ []) references n) (d ∷ []) found)
   one_step d references n found is new same last =
       let turned = busy v (d ∷ []) references n in
-      traces_then code p p (next found) [] [] [] v turned (did turned (d ∷ []) found)
+      traces_before code p p (next found) [] [] [] v turned (did turned (d ∷ []) found)
       (turns_to code p [] (d ∷ []) v references n none)
       (with_duties code p (next found) [] (next_duties turned d [] found) [] turned (did turned (d ∷ []) found) last
       (starts_with code p turned d d [] [] found same next is new))
 
   -- A look at a kind,
   pub asks_kind : (x word : ℕ) → dispatch v.layout v.thread v.used code p ≡ Does (KindLoad x) [] next
-      → MakesTrace [] code p v (next word) (done (asking v x) word)
+      → MakesTrace (begun_at p) [] code p v (next word) (done (asking v x) word)
   asks_kind x word is =
       one_step (KindLoad x) v.references v.in_slot word is refl
       (record { event = refl; status = refl; head = refl; used = refl; locked = refl; lent = refl }) (no_duty v.head)
 
   -- which makes one event: the word that it finds,
   pub asks_kind_once : (x word : ℕ) → dispatch v.layout v.thread v.used code p ≡ Does (KindLoad x) [] next
-      → (one : MakesTrace [] code p v (next word) (done (asking v x) word)) × (one.events ≡ [] ++ kind_event x word ∷
-      [])
+      → (one : MakesTrace (begun_at p) [] code p v (next word) (done (asking v x) word))
+      × (one.events ≡ [] ++ kind_event x word ∷ [])
   asks_kind_once x word is =
       let aside : v.aside ≡ open_work v = ap (λ (ds : List Duty). ds ++ v.aside) (sym none) in
-      let one : MakesTrace [] code p v (next word) (done (asking v x) word) = record {
+      let one : MakesTrace (begun_at p) [] code p v (next word) (done (asking v x) word) = record {
         events = kind_event x word ∷ [];
         trace = refl;
         makes = subst (λ (a : Actor).
-            Makes v.layout v.thread code p (thread_with v []) [] (kind_event x word ∷ []) (next word) a)
+            Makes v.layout v.thread code p (thread_with v []) (begun_at p) [] (kind_event x word ∷ []) (next word) a)
             (λ i. record (thread_with v []) { agenda = no_duty v.head i; aside = aside i })
-            (Starts [] [] p (thread_with v []) (KindLoad x) [] next word Begun refl is refl);
+            (only_these (Starts 0 [] [] p (thread_with v []) (KindLoad x) [] next word Begun refl is refl));
         layout = refl;
         thread = refl;
       } in
@@ -98,20 +98,20 @@ module _ (code : List Instr) (p : Place) (next : ℕ → Place) (v : View) (none
 
   -- a try to lock,
   pub tries : (x n found : ℕ) → dispatch v.layout v.thread v.used code p ≡ Does (LockGate x) [] next
-      → MakesTrace [] code p v (next found) (done (locking v x n) found)
+      → MakesTrace (begun_by p (LockGate x) found) [] code p v (next found) (done (locking v x n) found)
   tries x n found is =
       one_step (LockGate x) v.references n found is refl
       (record { event = refl; status = refl; head = refl; used = refl; locked = refl; lent = refl }) (no_duty v.head)
 
   pub unlocks : (x found : ℕ) → dispatch v.layout v.thread v.used code p ≡ Does (UnlockGate x) [] next
-      → MakesTrace [] code p v (next found) (done (unlocking v x) found)
+      → MakesTrace (begun_at p) [] code p v (next found) (done (unlocking v x) found)
   unlocks x found is =
       one_step (UnlockGate x) v.references v.in_slot found is refl
       (record { event = refl; status = refl; head = refl; used = refl; locked = refl; lent = refl }) (no_duty v.head)
 
   -- and a look into a cell.
   pub looks_in : (x i word : ℕ) → dispatch v.layout v.thread v.used code p ≡ Does (CellLoad x i) [] next
-      → MakesTrace [] code p v (next word) (done (loading_cell v x i) word)
+      → MakesTrace (begun_at p) [] code p v (next word) (done (loading_cell v x i) word)
   looks_in x i word is =
       one_step (CellLoad x i) v.references v.in_slot word is refl
       (record { event = refl; status = refl; head = refl; used = refl; locked = refl; lent = refl }) (no_duty v.head)
@@ -126,21 +126,21 @@ retain_next immortal counts x word holding =
 counted_by : (code : List Instr) (q : Place) (head x word found : ℕ) (d e : Duty) (u : View)
     → u.agenda ≡ e ∷ [] → IsSame u d e found
     → is_close d ≡ false → ready head (d ∷ []) ≡ d ∷ [] → next_duties u d [] found ≡ []
-    → Traces [] code q (ready head (d ∷ [])) u q [] (done u found)
+    → Traces 0 [] code q (ready head (d ∷ [])) u q [] (done u found)
 counted_by code q head x word found d e u is same off first last =
-    subst (λ (ds : List Duty). Traces [] code q ds u q [] (done u found)) (sym first)
-    (subst (Traces [] code q (d ∷ []) u q []) (sym (does_first u found e [] is))
+    subst (λ (ds : List Duty). Traces 0 [] code q ds u q [] (done u found)) (sym first)
+    (subst (Traces 0 [] code q (d ∷ []) u q []) (sym (does_first u found e [] is))
     (with_duties code q q (d ∷ []) (next_duties u d [] found) [] u (did u (e ∷ []) found) last
     (continues_with code q u d e [] [] found same off)))
 
 -- The reference is counted in the local word, in the shared word or nowhere.
 counts : (immortal own : Bool) (code : List Instr) (q : Place) (head x word found : ℕ) (holding : Holding) (u : View)
     → u.agenda ≡ ready head (retain_next immortal own x word AsCaller ++ [])
-    → Traces [] code q (ready head (retain_next immortal own x word holding ++ [])) u q [] (done u found)
+    → Traces 0 [] code q (ready head (retain_next immortal own x word holding ++ [])) u q [] (done u found)
 counts true own code q head x word found holding u is =
     let none = is ∙ no_duty head in
-    subst (λ (ds : List Duty). Traces [] code q ds u q [] (done u found)) (sym (no_duty head))
-    (subst (Traces [] code q [] u q []) (sym (does_nothing u found none)) (no_trace code q [] u))
+    subst (λ (ds : List Duty). Traces 0 [] code q ds u q [] (done u found)) (sym (no_duty head))
+    (subst (Traces 0 [] code q [] u q []) (sym (does_nothing u found none)) (no_trace code q [] u))
 counts false true code q head x word found holding u is =
     counted_by code q head x word found (RetainStore x holding word) (RetainStore x AsCaller word) u
     (is ∙ comes_next head (RetainStore x AsCaller word) [] refl)
@@ -155,14 +155,14 @@ counts false false code q head x word found holding u is =
 -- A hand retains an object.
 pub retains : (code : List Instr) (p : Place) (next : ℕ → Place) (v : View) (none : v.agenda ≡ []) (x word found : ℕ)
     (holding : Holding) → dispatch v.layout v.thread v.used code p ≡ Does (RetainLoad x holding) [] next
-    → MakesTrace [] code p v (next word) (retained v x word found)
+    → MakesTrace (begun_at p) [] code p v (next word) (retained v x word found)
 retains code p next v none x word found holding is =
     let turned = retaining v x in
     let loaded = done turned word in
     let immortal = is_immortal_word word in
     let own = counts_locally v.thread (is_running v.status) word && nat_lt (local_part word) most_local in
     let duties = ready v.head (retain_next immortal own x word holding ++ []) in
-    traces_then code p p (next word) [] [] [] v turned (done loaded found)
+    traces_before code p p (next word) [] [] [] v turned (done loaded found)
     (turns_to code p [] (RetainLoad x AsCaller ∷ []) v (with_reference v.layout x v.references) v.in_slot none)
     (traces_then code p (next word) (next word) [] duties [] turned loaded (done loaded found)
     (starts_with code p turned (RetainLoad x holding) (RetainLoad x AsCaller) [] [] word

@@ -17,9 +17,9 @@ use Rattle.brc_table.specs.declared.view.View.{View}
 use Rattle.brc_table.specs.Swaps.{swapped}
 use Rattle.brc_table.specs.Views.{open_work}
 use Rattle.brc_list.specs.Calls.{row_in}
-use Rattle.brc_work.specs.Traces.{Makes, Begun, Starts, Traces, MakesTrace, thread_with, events_of}
+use Rattle.brc_work.specs.Traces.{Makes, Begun, Starts, Traces, MakesTrace, thread_with, events_of, begun_at}
 use Rattle.brc_work.specs.Performs.{MakesSwap, MakesRelease}
-use Rattle.brc_work.proofs.Traces.Joining.{traces_then, with_duties}
+use Rattle.brc_work.proofs.Traces.Joining.{only_these, traces_then, with_duties}
 use Rattle.brc_work.proofs.Traces.Duties.{comes_next}
 
 -- The word of an empty cell,
@@ -40,7 +40,7 @@ swap_next head found = ready head (release_found found ++ Settle ∷ [])
 swaps : (code : List Instr) (place next : Place) (row cell item found : ℕ) (holding : Holding) (v : View)
     → v.agenda ≡ []
     → dispatch v.layout v.thread v.used code place ≡ Does (CellSwap row cell item holding) (Settle ∷ []) (always next)
-    → Traces [] code place [] v next (swap_next v.head found) (swapped v row cell (suc item) found)
+    → Traces (begun_at place) [] code place [] v next (swap_next v.head found) (swapped v row cell (suc item) found)
 swaps code place next row cell item found holding v none is =
     let d = CellSwap row cell item holding in
     let events = events_of v.layout v.thread (thread_with v []) d found in
@@ -49,9 +49,10 @@ swaps code place next row cell item found holding v none is =
     record {
       events = events;
       trace = ap (λ (left : ℕ). v.trace ++ stored left ∷ []) (sym (add-one item));
-      makes = subst (λ (a : Actor). Makes v.layout v.thread code place (thread_with v []) [] events next a)
+      makes = subst (λ (a : Actor).
+          Makes v.layout v.thread code place (thread_with v []) (begun_at place) [] events next a)
           (λ i. record (thread_with v (swap_next v.head found)) { aside = aside i })
-          (Starts [] [] place (thread_with v []) d (Settle ∷ []) (always next) found Begun refl is refl);
+          (only_these (Starts 0 [] [] place (thread_with v []) d (Settle ∷ []) (always next) found Begun refl is refl));
       layout = refl;
       thread = refl;
     }
@@ -60,7 +61,7 @@ swaps code place next row cell item found holding v none is =
 pub swaps_nothing : (row cell item found : ℕ) (v u : View) → v.agenda ≡ [] → v.head ≡ 0 → row_in found ≡ None
     → u ≡ swapped v row cell (suc item) found → MakesSwap [] row cell item v u
 swaps_nothing row cell item found v u none empty nothing is = λ code place next holding does.
-    subst (MakesTrace [] code place v next) (sym is)
+    subst (MakesTrace (begun_at place) [] code place v next) (sym is)
     (with_duties code place next [] (swap_next v.head found) [] v (swapped v row cell (suc item) found)
     (ap (swap_next v.head) (word_none found nothing) ∙ ap (λ (head : ℕ). ready head (Settle ∷ [])) empty)
     (swaps code place next row cell item found holding v none (does v.layout v.thread v.used)))
@@ -72,7 +73,7 @@ pub swaps_item : {cs : List HostCall} (row cell item found old : ℕ) (v mid u :
 swaps_item row cell item found old v mid u none some is releases = λ code place next holding does.
     let duties = ReleaseLoad old InFlight ∷ Settle ∷ [] in
     traces_then code place next next [] duties [] v mid u
-    (subst (Traces [] code place [] v next duties) (sym is)
+    (subst (Traces (begun_at place) [] code place [] v next duties) (sym is)
     (with_duties code place next [] (swap_next v.head found) duties v (swapped v row cell (suc item) found)
     (ap (swap_next v.head) (word_some found old some) ∙ comes_next v.head (ReleaseLoad old InFlight) (Settle ∷ []) refl)
     (swaps code place next row cell item found holding v none (does v.layout v.thread v.used))))

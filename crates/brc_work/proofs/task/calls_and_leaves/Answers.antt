@@ -40,10 +40,12 @@ returns g c =
         later = c.leave-failed.new.host;
         asked = asked_then (λ cs ds makes leaves. record {
           called = mid;
+          begun = makes.0;
           within = cs;
           closes = ds;
           calls_are = refl;
-          makes = subst (λ (v : View). MakesCalls code v c.args.times cs mid) c.requires.fresh.view_is makes;
+          makes = subst (λ (v : View). MakesCalls code v c.args.times makes.0 cs mid) c.requires.fresh.view_is
+              makes.1;
           leaves = leaves;
         }) run.asked
             (asked_closes {Made = λ ds. HasLeft ds mid after} left.work.0 c.leave-failed.result

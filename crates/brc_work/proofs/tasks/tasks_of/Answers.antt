@@ -34,7 +34,8 @@ loop-host-preserved g c =
           ≡ job heap c.args.checked.now.module c.args.function c.args.times (i + 1)) (vec_items c.loop-host.tasks)
           (vec_items c.push.new.self) count added.0
           (λ d. subst (λ s. job s.heap.now s.checked.now.module s.function s.times s.thread
-          ≡ job heap c.args.checked.now.module c.args.function c.args.times (count + 1)) (sym (added.1 d (search rules)))
+          ≡ job heap c.args.checked.now.module c.args.function c.args.times (count + 1))
+          (sym (added.1 d (search rules)))
           (ap (job heap c.args.checked.now.module c.args.function c.args.times) was.number))
           was.each k t (omega (arith, below, more));
     }

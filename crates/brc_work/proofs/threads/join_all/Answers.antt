@@ -23,8 +23,10 @@ loop-begun-preserved g c =
     sym (subst (λ xs. begun ≡ get_or xs left begun) began.0 here) in
     let facts =
     subst (λ b. IfOk b (λ s. let promise = s.promise in
-    job promise.heap.value promise.checked.value.module promise.function promise.times promise.thread ≡ job_of (left + 1))
-    × IfErr b (λ done. Ends g.H.Host.answers g.H.Host.counts (job_of (left + 1)) done.hand done.totals done.called)) same
+    job promise.heap.value promise.checked.value.module promise.function promise.times promise.thread
+    ≡ job_of (left + 1))
+    × IfErr b (λ done. Ends g.H.Host.answers g.H.Host.counts (job_of (left + 1)) done.hand done.totals done.called))
+    same
     (c.requires.begun left begun (omega (arith, was.passed, step.1, began.1))) in
     let done = c.left_by-done.result in
     let now = c.left_by-done.ensures (job_of (left + 1)) facts.0 facts.1 in

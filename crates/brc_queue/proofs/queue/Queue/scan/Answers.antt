@@ -1,4 +1,4 @@
-use Rattle.std.proofs.Common.{◌≡◌, ℕ, ◌+◌, ◌-◌, ◌<◌, [], ◌∷◌, refl, sym, ap, ◌∙◌, subst, arith, ◌++◌}
+use Rattle.std.proofs.Common.{◌≡◌, ℕ, ◌-◌, ◌<◌, [], ◌∷◌, refl, sym, ap, ◌∙◌, subst, arith, ◌++◌}
 use Rattle.brc_host.specs.HostCalls.{NoCall, close_faults}
 use Rattle.brc_host.proofs.Answering.{answered_then, close_faults_then}
 use Rattle.brc_host.specs.HostCounts.{raised}

@@ -10,7 +10,7 @@ pub store_giving-requires-clause-begins : goal.store_giving-requires-clause-begi
 store_giving-requires-clause-begins g c =
     unlocking_becomes c.work_is_put_aside.ensures c.unlocks_begin.ensures c.immortals_are_free.ensures
     c.args.self.now.layout c.args.hand.now.view c.args.row c.requires.running c.requires.idle c.requires.held
-    c.requires.locked c.requires.retains c.requires.returned
+    c.requires.locked c.requires.retains
 
 pub store_giving-requires-clause-there : goal.store_giving-requires-clause-there
 store_giving-requires-clause-there g c =

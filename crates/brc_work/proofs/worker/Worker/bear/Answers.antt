@@ -18,18 +18,21 @@ use Rattle.brc_work.proofs.Traces.Births.{bears}
 use Rattle.brc_work.proofs.worker.Worker.bear.Goals as goal
 
 pub returns-clause-goes : goal.returns-clause-goes
-returns-clause-goes g c = λ first s fits can.
+returns-clause-goes g c = λ base s fits can.
     let hand = c.args.hand.now in
     let after = c.birth-row.new.hand in
     let row = c.birth-row.result in
     let born = c.birth-row.ensures.born in
     let did =
-    born_acts hand after fits.rests born (c.birth-row.ensures.table.0 ∙ ap (λ (w : TableState). w.table) c.self.view_is ∙ sym c.requires.fits.of.0)
+    born_acts hand after fits.rests born (c.birth-row.ensures.table.0 ∙ ap (λ (w : TableState). w.table) c.self.view_is
+    ∙ sym c.requires.fits.of.0)
     c.birth-row.ensures.carried c.birth-row.ensures.slots in
-    let counted : IsCounted first.view.layout row =
+    let counted : IsCounted base.first.view.layout row =
     subst (λ (l : Layout). IsCounted l row) fits.follows.layout c.birth-row.ensures.counted in
-    subst (λ (rows : List (Option ℕ)). Fits first (put s c.args.to (Owned c.args.kind)) rows after) (sym c.name.ensures.named)
-    (refits first s c.args.rows.now hand after c.args.to (Owned c.args.kind) (Some row) fits c.name.ensures.low can.unlocked
+    subst (λ (rows : List (Option ℕ)). Fits base (put s c.args.to (Owned c.args.kind)) rows after)
+    (sym c.name.ensures.named)
+    (refits base s c.args.rows.now hand after c.args.to (Owned c.args.kind)
+    (Some row) fits c.name.ensures.low can.unlocked
     did (record {
       object = row;
       is = refl;
@@ -39,8 +42,9 @@ returns-clause-goes g c = λ first s fits can.
           (born_some c.args.kind c.args.arg c.requires.kind) c.birth-row.ensures.seen
           (ap kind_numbered c.birth-row.ensures.known ∙ numbered_kind c.args.kind);
     })
-    (gains first.view.layout (slot_of s c.args.to) (row_of c.args.rows.now c.args.to) c.args.kind row hand after can.free
-    (born_with first.view.layout row hand.view.references after.view.references counted
+    (gains base.first.view.layout (slot_of s c.args.to)
+    (row_of c.args.rows.now c.args.to) c.args.kind row hand after can.free
+    (born_with base.first.view.layout row hand.view.references after.view.references counted
     (born.references ∙ ap (λ (x : ℕ). x ∷ hand.view.references) (sym c.birth-row.ensures.row)))))
 
 pub returns-clause-made : goal.returns-clause-made

@@ -6,10 +6,10 @@ use Rattle.brc_model.specs.declared.slot.State.{State}
 use Rattle.brc_model.specs.Slots.{slot_of, is_empty, names, put, lowest}
 use Rattle.brc_model.specs.Threads.{row_of}
 use Rattle.brc_model.proofs.Dispatch.Passing.{are_met}
-use Rattle.brc_table.specs.Hands.{TableState, HandState}
+use Rattle.brc_table.specs.Hands.{TableState}
 use Rattle.brc_work.specs.Acts.{ActsElsewhere}
 use Rattle.brc_work.specs.Changes.{CanFill}
-use Rattle.brc_work.specs.Fits.{Unknown, Rests, Fits}
+use Rattle.brc_work.specs.Fits.{Base, Unknown, Rests, Fits}
 use Rattle.brc_work.proofs.Conditions.{kept, can_fill, not_false}
 use Rattle.brc_work.proofs.Passing.{none_broken}
 use Rattle.brc_work.proofs.Fitting.{refits, same_fits}
@@ -30,19 +30,19 @@ sized g c rests =
     c.size.ensures.carried c.size.ensures.slots c.size.ensures.locked c.size.ensures.events.1
 
 -- and the variables and the hand are still as the state says.
-later : (g : given.Over) (c : After-size g) (first : HandState) (s : State)
-    → Fits first s c.args.rows.now c.args.hand.now → Fits first s c.args.rows.now c.size.new.hand
-later g c first s fits =
-    same_fits first s c.args.rows.now c.args.hand.now c.size.new.hand fits (sized g c fits.rests)
+later : (g : given.Over) (c : After-size g) (base : Base) (s : State)
+    → Fits base s c.args.rows.now c.args.hand.now → Fits base s c.args.rows.now c.size.new.hand
+later g c base s fits =
+    same_fits base s c.args.rows.now c.args.hand.now c.size.new.hand fits (sized g c fits.rests)
     c.size.ensures.keeps.references
 
 -- The list is the one that the hand has locked.
-on : (g : given.Over) (c : After-size g) (first : HandState) (s : State) → Fits first s c.args.rows.now c.args.hand.now
+on : (g : given.Over) (c : After-size g) (base : Base) (s : State) → Fits base s c.args.rows.now c.args.hand.now
     → lowest (instructions.Borrow c.args.to c.args.list c.args.index c.args.otherwise) s ≡ None
     → OnList c.size.new.hand c.row_in-row.result
-on g c first s fits passes =
+on g c base s fits passes =
     let met = are_met (instructions.Borrow c.args.to c.args.list c.args.index c.args.otherwise) s passes in
-    on_list first s c.args.rows.now c.size.new.hand c.args.list c.row_in-row.result (later g c first s fits)
+    on_list base s c.args.rows.now c.size.new.hand c.args.list c.row_in-row.result (later g c base s fits)
     (not_false (names s.locked c.args.list) (kept _ met.has_lock)) c.row_in-row.ensures
 
 -- The variable may be filled.
@@ -81,55 +81,55 @@ row_in-row-requires g c =
 pub size-requires-clause-usable : goal.size-requires-clause-usable
 size-requires-clause-usable g c =
     let may = c.requires.may in
-    inl (inl (on_list may.first may.state c.args.rows.now c.args.hand.now c.args.list c.row_in-row.result may.fits
+    inl (inl (on_list may.base may.state c.args.rows.now c.args.hand.now c.args.list c.row_in-row.result may.fits
     (not_false (names may.state.locked c.args.list) (kept _ (none_broken may).has_lock)) c.row_in-row.ensures).one)
 
 pub returns-then-cell-size-clause-done : goal.returns-then-cell-size-clause-done
-returns-then-cell-size-clause-done g c = λ first s fits passes.
+returns-then-cell-size-clause-done g c = λ base s fits passes.
     let at = (goal.at.returns-then-cell-size-clause-done g c).After-size in
     let fills = can g at s passes in
-    subst (λ (rows : List (Option ℕ)). Fits first (put s c.args.to Empty) rows c.size.new.hand)
+    subst (λ (rows : List (Option ℕ)). Fits base (put s c.args.to Empty) rows c.size.new.hand)
     (sym c.name.ensures.named)
-    (refits first s c.args.rows.now c.args.hand.now c.size.new.hand c.args.to Empty None fits c.name.ensures.low
+    (refits base s c.args.rows.now c.args.hand.now c.size.new.hand c.args.to Empty None fits c.name.ensures.low
     fills.unlocked (sized g at fits.rests) tt
-    (nothing first.view.layout (slot_of s c.args.to) Empty (row_of c.args.rows.now c.args.to) None c.args.hand.now
+    (nothing base.first.view.layout (slot_of s c.args.to) Empty (row_of c.args.rows.now c.args.to) None c.args.hand.now
     c.size.new.hand fills.free refl c.size.ensures.keeps.references))
 
 pub item-found-requires-clause-loads : goal.item-found-requires-clause-loads
 item-found-requires-clause-loads g c =
-    let list = on g (goal.at.item-found-requires-clause-loads g c).After-size c.requires.may.first c.requires.may.state
+    let list = on g (goal.at.item-found-requires-clause-loads g c).After-size c.requires.may.base c.requires.may.state
     c.requires.may.fits c.requires.may.passes in
     inl (list.locked, list.one)
 
 pub returns-in-Some-clause-done : goal.returns-in-Some-clause-done
-returns-in-Some-clause-done g c = λ first s fits passes.
+returns-in-Some-clause-done g c = λ base s fits passes.
     let at = goal.at.returns-in-Some-clause-done g c in
     let after = c.item-found.new.hand in
     let fills = can g at.After-size s passes in
-    let before = later g at.After-size first s fits in
-    let list = on g at.After-size first s fits passes in
-    subst (λ (rows : List (Option ℕ)). Fits first (put s c.args.to (Locked kinds.Any)) rows after)
+    let before = later g at.After-size base s fits in
+    let list = on g at.After-size base s fits passes in
+    subst (λ (rows : List (Option ℕ)). Fits base (put s c.args.to (Locked kinds.Any)) rows after)
     (sym c.name-in-Some.ensures.named)
-    (refits first s c.args.rows.now c.size.new.hand after c.args.to (Locked kinds.Any) (Some c.in-Some.item) before
+    (refits base s c.args.rows.now c.size.new.hand after c.args.to (Locked kinds.Any) (Some c.in-Some.item) before
     c.name-in-Some.ensures.low fills.unlocked (looked g at.After-item-found before.rests list)
     (record {
       names = record { object = c.in-Some.item; is = refl; knows = Unknown refl };
       borrows = c.item-found.ensures.borrows c.in-Some.item c.in-Some.is list.locked;
     })
-    (nothing first.view.layout (slot_of s c.args.to) (Locked kinds.Any) (row_of c.args.rows.now c.args.to)
+    (nothing base.first.view.layout (slot_of s c.args.to) (Locked kinds.Any) (row_of c.args.rows.now c.args.to)
     (Some c.in-Some.item) c.size.new.hand after fills.free refl c.item-found.ensures.keeps.references))
 
 pub returns-in-None-clause-done : goal.returns-in-None-clause-done
-returns-in-None-clause-done g c = λ first s fits passes.
+returns-in-None-clause-done g c = λ base s fits passes.
     let at = goal.at.returns-in-None-clause-done g c in
     let fill = can g at.After-size s passes in
-    let asked = later g at.After-size first s fits in
-    let loads = looked g at.After-item-found asked.rests (on g at.After-size first s fits passes) in
-    subst (λ (rows : List (Option ℕ)). Fits first (put s c.args.to Empty) rows c.item-found.new.hand)
+    let asked = later g at.After-size base s fits in
+    let loads = looked g at.After-item-found asked.rests (on g at.After-size base s fits passes) in
+    subst (λ (rows : List (Option ℕ)). Fits base (put s c.args.to Empty) rows c.item-found.new.hand)
     (sym c.name-in-None.ensures.named)
-    (refits first s c.args.rows.now c.size.new.hand c.item-found.new.hand c.args.to Empty None asked
+    (refits base s c.args.rows.now c.size.new.hand c.item-found.new.hand c.args.to Empty None asked
     c.name-in-None.ensures.low fill.unlocked loads tt
-    (nothing first.view.layout (slot_of s c.args.to) Empty (row_of c.args.rows.now c.args.to) None c.size.new.hand
+    (nothing base.first.view.layout (slot_of s c.args.to) Empty (row_of c.args.rows.now c.args.to) None c.size.new.hand
     c.item-found.new.hand fill.free refl c.item-found.ensures.keeps.references))
 
 pub returns-then-cell-size-clause-made : goal.returns-then-cell-size-clause-made

@@ -20,13 +20,13 @@ returns-in-Ret-clause-ended g c =
     let hand = c.args.hand.now in
     let after = c.give_up.new.hand in
     let ended : HasEnded (instructions.Ret from) rows hand after =
-    λ first s fits passes.
+    λ base s fits passes.
     let met = are_met (instructions.Ret from) s passes in
     let given =
-    c.give_up.ensures.goes first s fits
+    c.give_up.ensures.goes base s fits
     (can_give s from (kept (is_empty (slot_of s from)) met.not_empty) (kept (is_borrowed (slot_of s from)) met.owned)
     (kept (names s.locked from) met.unlocked)) in
-    ends first (put s from Empty) c.give_up.new.rows after given (kept _ met.none_left)
+    ends base (put s from Empty) c.give_up.new.rows after given (kept _ met.none_left)
     (none_is s.locked (kept _ met.no_lock_left)) in
     subst (λ (i : Instr). HasEnded i rows hand after) (sym c.in-Ret.is) ended
 
@@ -47,8 +47,8 @@ returns-in_default g c =
     let hand = c.args.hand.now in
     record {
       of = c.requires.may.of;
-      ended = λ first s fits passes.
-          fails first s rows hand fits (subst (λ (i : Instr). lowest i s ≡ None) is passes);
+      ended = λ base s fits passes.
+          fails base s rows hand fits (subst (λ (i : Instr). lowest i s ≡ None) is passes);
       asked = asked_nothing
           (subst (λ (i : Instr). Performs [] i Success rows hand.view rows hand.view) (sym is)
           (makes_fail rows hand.view));

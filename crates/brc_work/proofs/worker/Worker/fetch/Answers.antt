@@ -8,10 +8,10 @@ use Rattle.brc_model.specs.Threads.{row_of}
 use Rattle.brc_model.proofs.Dispatch.Passing.{are_met}
 use Rattle.brc_model.specs.declared.layout.Layout.{Layout}
 use Rattle.brc_table.specs.Views.{with_reference}
-use Rattle.brc_table.specs.Hands.{TableState, HandState, most_references}
+use Rattle.brc_table.specs.Hands.{TableState, most_references}
 use Rattle.brc_work.specs.Acts.{ActsElsewhere}
 use Rattle.brc_work.specs.Changes.{CanFill}
-use Rattle.brc_work.specs.Fits.{Unknown, Rests, Fits}
+use Rattle.brc_work.specs.Fits.{Base, Unknown, Rests, Fits}
 use Rattle.brc_work.proofs.CallsBelow.{left_acts}
 use Rattle.brc_work.proofs.Conditions.{kept, can_fill, not_false}
 use Rattle.brc_work.proofs.Passing.{none_broken}
@@ -33,19 +33,19 @@ sized g c rests =
     c.size.ensures.carried c.size.ensures.slots c.size.ensures.locked c.size.ensures.events.1
 
 -- and the variables and the hand are still as the state says.
-later : (g : given.Over) (c : After-size g) (first : HandState) (s : State)
-    → Fits first s c.args.rows.now c.args.hand.now → Fits first s c.args.rows.now c.size.new.hand
-later g c first s fits =
-    same_fits first s c.args.rows.now c.args.hand.now c.size.new.hand fits (sized g c fits.rests)
+later : (g : given.Over) (c : After-size g) (base : Base) (s : State)
+    → Fits base s c.args.rows.now c.args.hand.now → Fits base s c.args.rows.now c.size.new.hand
+later g c base s fits =
+    same_fits base s c.args.rows.now c.args.hand.now c.size.new.hand fits (sized g c fits.rests)
     c.size.ensures.keeps.references
 
 -- The list is the one that the hand has locked.
-on : (g : given.Over) (c : After-size g) (first : HandState) (s : State) → Fits first s c.args.rows.now c.args.hand.now
+on : (g : given.Over) (c : After-size g) (base : Base) (s : State) → Fits base s c.args.rows.now c.args.hand.now
     → lowest (instructions.Fetch c.args.to c.args.list c.args.index c.args.otherwise) s ≡ None
     → OnList c.size.new.hand c.row_in-row.result
-on g c first s fits passes =
+on g c base s fits passes =
     let met = are_met (instructions.Fetch c.args.to c.args.list c.args.index c.args.otherwise) s passes in
-    on_list first s c.args.rows.now c.size.new.hand c.args.list c.row_in-row.result (later g c first s fits)
+    on_list base s c.args.rows.now c.size.new.hand c.args.list c.row_in-row.result (later g c base s fits)
     (not_false (names s.locked c.args.list) (kept _ met.has_lock)) c.row_in-row.ensures
 
 -- The variable may be filled.
@@ -84,30 +84,30 @@ row_in-row-requires g c =
 pub size-requires-clause-usable : goal.size-requires-clause-usable
 size-requires-clause-usable g c =
     let may = c.requires.may in
-    inl (inl (on_list may.first may.state c.args.rows.now c.args.hand.now c.args.list c.row_in-row.result may.fits
+    inl (inl (on_list may.base may.state c.args.rows.now c.args.hand.now c.args.list c.row_in-row.result may.fits
     (not_false (names may.state.locked c.args.list) (kept _ (none_broken may).has_lock)) c.row_in-row.ensures).one)
 
 pub returns-then-cell-size-clause-done : goal.returns-then-cell-size-clause-done
-returns-then-cell-size-clause-done g c = λ first s fits passes.
+returns-then-cell-size-clause-done g c = λ base s fits passes.
     let at = (goal.at.returns-then-cell-size-clause-done g c).After-size in
     let fills = can g at s passes in
-    subst (λ (rows : List (Option ℕ)). Fits first (put s c.args.to Empty) rows c.size.new.hand)
+    subst (λ (rows : List (Option ℕ)). Fits base (put s c.args.to Empty) rows c.size.new.hand)
     (sym c.name.ensures.named)
-    (refits first s c.args.rows.now c.args.hand.now c.size.new.hand c.args.to Empty None fits c.name.ensures.low
+    (refits base s c.args.rows.now c.args.hand.now c.size.new.hand c.args.to Empty None fits c.name.ensures.low
     fills.unlocked (sized g at fits.rests) tt
-    (nothing first.view.layout (slot_of s c.args.to) Empty (row_of c.args.rows.now c.args.to) None c.args.hand.now
+    (nothing base.first.view.layout (slot_of s c.args.to) Empty (row_of c.args.rows.now c.args.to) None c.args.hand.now
     c.size.new.hand fills.free refl c.size.ensures.keeps.references))
 
 pub item-found-requires-clause-loads : goal.item-found-requires-clause-loads
 item-found-requires-clause-loads g c =
-    let list = on g (goal.at.item-found-requires-clause-loads g c).After-size c.requires.may.first c.requires.may.state
+    let list = on g (goal.at.item-found-requires-clause-loads g c).After-size c.requires.may.base c.requires.may.state
     c.requires.may.fits c.requires.may.passes in
     inl (list.locked, list.one)
 
 pub retain-requires-clause-usable : goal.retain-requires-clause-usable
 retain-requires-clause-usable g c =
     let may = c.requires.may in
-    let list = on g (goal.at.retain-requires-clause-usable g c).After-size may.first may.state may.fits may.passes in
+    let list = on g (goal.at.retain-requires-clause-usable g c).After-size may.base may.state may.fits may.passes in
     inr (c.item-found.ensures.borrows c.in-Some.item c.in-Some.is list.locked)
 
 pub retain-requires-clause-few : goal.retain-requires-clause-few
@@ -117,14 +117,14 @@ retain-requires-clause-few g c =
     (few_held _ _ _ _ c.requires.may.fits)
 
 pub returns-in-Some-clause-done : goal.returns-in-Some-clause-done
-returns-in-Some-clause-done g c = λ first s fits passes.
+returns-in-Some-clause-done g c = λ base s fits passes.
     let at = goal.at.returns-in-Some-clause-done g c in
     let seen = c.item-found.new.hand in
     let after = c.retain.new.hand in
     let fills = can g at.After-size s passes in
-    let asked = later g at.After-size first s fits in
-    let found = same_fits first s c.args.rows.now c.size.new.hand seen asked
-    (looked g at.After-item-found asked.rests (on g at.After-size first s fits passes))
+    let asked = later g at.After-size base s fits in
+    let found = same_fits base s c.args.rows.now c.size.new.hand seen asked
+    (looked g at.After-item-found asked.rests (on g at.After-size base s fits passes))
     c.item-found.ensures.keeps.references in
     let of_lists = ap (λ (w : TableState). w.table) (c.new-lists.ensures ∙ c.self.view_is) in
     let retained =
@@ -132,26 +132,26 @@ returns-in-Some-clause-done g c = λ first s fits passes.
     (c.retain.ensures.table.0 ∙ (ap (λ (w : TableState). w.table) c.self.view_is
     ∙ (sym of_lists ∙ sym c.item-found.ensures.table.0)))
     c.retain.ensures.carried c.retain.ensures.slots c.retain.ensures.head in
-    subst (λ (rows : List (Option ℕ)). Fits first (put s c.args.to (Owned kinds.Any)) rows after)
+    subst (λ (rows : List (Option ℕ)). Fits base (put s c.args.to (Owned kinds.Any)) rows after)
     (sym c.name-in-Some.ensures.named)
-    (refits first s c.args.rows.now seen after c.args.to (Owned kinds.Any) (Some c.in-Some.item) found
+    (refits base s c.args.rows.now seen after c.args.to (Owned kinds.Any) (Some c.in-Some.item) found
     c.name-in-Some.ensures.low fills.unlocked retained
     (record { object = c.in-Some.item; is = refl; knows = Unknown refl })
-    (gains first.view.layout (slot_of s c.args.to) (row_of c.args.rows.now c.args.to) kinds.Any c.in-Some.item seen
+    (gains base.first.view.layout (slot_of s c.args.to) (row_of c.args.rows.now c.args.to) kinds.Any c.in-Some.item seen
     after fills.free (c.retain.ensures.references
     ∙ ap (λ (l : Layout). with_reference l c.in-Some.item seen.view.references) found.follows.layout)))
 
 pub returns-in-None-clause-done : goal.returns-in-None-clause-done
-returns-in-None-clause-done g c = λ first s fits passes.
+returns-in-None-clause-done g c = λ base s fits passes.
     let at = goal.at.returns-in-None-clause-done g c in
     let fill = can g at.After-size s passes in
-    let asked = later g at.After-size first s fits in
-    let loads = looked g at.After-item-found asked.rests (on g at.After-size first s fits passes) in
-    subst (λ (rows : List (Option ℕ)). Fits first (put s c.args.to Empty) rows c.item-found.new.hand)
+    let asked = later g at.After-size base s fits in
+    let loads = looked g at.After-item-found asked.rests (on g at.After-size base s fits passes) in
+    subst (λ (rows : List (Option ℕ)). Fits base (put s c.args.to Empty) rows c.item-found.new.hand)
     (sym c.name-in-None.ensures.named)
-    (refits first s c.args.rows.now c.size.new.hand c.item-found.new.hand c.args.to Empty None asked
+    (refits base s c.args.rows.now c.size.new.hand c.item-found.new.hand c.args.to Empty None asked
     c.name-in-None.ensures.low fill.unlocked loads tt
-    (nothing first.view.layout (slot_of s c.args.to) Empty (row_of c.args.rows.now c.args.to) None c.size.new.hand
+    (nothing base.first.view.layout (slot_of s c.args.to) Empty (row_of c.args.rows.now c.args.to) None c.size.new.hand
     c.item-found.new.hand fill.free refl c.item-found.ensures.keeps.references))
 
 pub returns-then-cell-size-clause-made : goal.returns-then-cell-size-clause-made

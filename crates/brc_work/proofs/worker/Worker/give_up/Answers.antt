@@ -15,30 +15,30 @@ use Rattle.brc_work.proofs.worker.Worker.give_up.Goals as goal
 pub row_in-row-requires : goal.row_in-row-requires
 row_in-row-requires g c =
     let is = c.requires.fits in
-    names_object is.first is.state c.args.rows.now c.args.hand.now is.fits c.args.from
+    names_object is.base is.state c.args.rows.now c.args.hand.now is.fits c.args.from
     (owned_used (slot_of is.state c.args.from) is.can_do.owned)
 
 pub release-requires-clause-held : goal.release-requires-clause-held
 release-requires-clause-held g c = λ κs lives.
     let is = c.requires.fits in
-    owned_one is.first is.state c.args.rows.now c.args.hand.now is.fits c.args.from c.row_in-row.result is.can_do.owned
+    owned_one is.base is.state c.args.rows.now c.args.hand.now is.fits c.args.from c.row_in-row.result is.can_do.owned
     c.row_in-row.ensures
 
 pub release-requires-clause-keeps : goal.release-requires-clause-keeps
 release-requires-clause-keeps g c = λ κs lives.
     let is = c.requires.fits in
-    keeps_lock is.first is.state c.args.rows.now c.args.hand.now is.fits c.args.from c.row_in-row.result is.can_do
+    keeps_lock is.base is.state c.args.rows.now c.args.hand.now is.fits c.args.from c.row_in-row.result is.can_do
     c.row_in-row.ensures
 
 pub returns-clause-goes : goal.returns-clause-goes
-returns-clause-goes g c = λ first s fits can.
+returns-clause-goes g c = λ base s fits can.
     let hand = c.args.hand.now in
     let after = c.release.new.hand in
     let row = c.row_in-row.result in
-    subst (λ (rows : List (Option ℕ)). Fits first (put s c.args.from Empty) rows after) (sym c.name.ensures.named)
-    (refits first s c.args.rows.now hand after c.args.from Empty None fits c.name.ensures.low can.unlocked
+    subst (λ (rows : List (Option ℕ)). Fits base (put s c.args.from Empty) rows after) (sym c.name.ensures.named)
+    (refits base s c.args.rows.now hand after c.args.from Empty None fits c.name.ensures.low can.unlocked
     c.release.ensures.acts tt
-    (given first s c.args.rows.now hand after c.args.from row fits can c.row_in-row.ensures
+    (given base s c.args.rows.now hand after c.args.from row fits can c.row_in-row.ensures
     (c.release.ensures.less
     ∙ ap (λ (l : Layout). without_reference l row hand.view.references) fits.follows.layout)))
 

@@ -14,15 +14,16 @@ pub row_in-row-requires : goal.row_in-row-requires
 row_in-row-requires g c =
     let may = c.requires.may in
     let met = are_met (instructions.Move c.args.to c.args.from) may.state may.passes in
-    names_object may.first may.state c.args.rows.now c.args.hand.now may.fits c.args.from
+    names_object may.base may.state c.args.rows.now c.args.hand.now may.fits c.args.from
     (kept (is_empty (slot_of may.state c.args.from)) met.not_empty)
 
 pub returns : goal.returns
 returns g c = record {
-  done = λ first s fits passes.
-      subst (λ (rows : List (Option ℕ)). Fits first (after_move s c.args.to c.args.from) rows c.args.hand.now)
-      (sym (c.name-2.ensures.named ∙ ap (λ (rows : List (Option ℕ)). slice_set rows c.args.to (Some c.row_in-row.result)) c.name.ensures.named))
-      (moved first s c.args.rows.now c.args.hand.now c.args.to c.args.from c.row_in-row.result fits passes
+  done = λ base s fits passes.
+      subst (λ (rows : List (Option ℕ)). Fits base (after_move s c.args.to c.args.from) rows c.args.hand.now)
+      (sym (c.name-2.ensures.named ∙ ap (λ (rows : List (Option ℕ)). slice_set rows c.args.to
+      (Some c.row_in-row.result)) c.name.ensures.named))
+      (moved base s c.args.rows.now c.args.hand.now c.args.to c.args.from c.row_in-row.result fits passes
       c.name.ensures.low c.name-2.ensures.low c.row_in-row.ensures);
   made = makes_move c.args.to c.args.from c.row_in-row.result c.args.rows.now c.name-2.new.rows c.args.hand.now.view
       c.row_in-row.ensures

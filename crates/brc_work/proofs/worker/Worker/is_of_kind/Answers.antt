@@ -17,40 +17,42 @@ pub row_in-row-requires : goal.row_in-row-requires
 row_in-row-requires g c =
     let may = c.requires.may in
     let met = are_met (instructions.As c.args.from c.args.kind c.args.otherwise) may.state may.passes in
-    names_object may.first may.state c.args.rows.now c.args.hand.now may.fits c.args.from
+    names_object may.base may.state c.args.rows.now c.args.hand.now may.fits c.args.from
     (kept (is_empty (slot_of may.state c.args.from)) met.not_empty)
 
 pub kind_of-requires-clause-usable : goal.kind_of-requires-clause-usable
 kind_of-requires-clause-usable g c =
     let may = c.requires.may in
     let met = are_met (instructions.As c.args.from c.args.kind c.args.otherwise) may.state may.passes in
-    inl (usable may.first may.state c.args.rows.now c.args.hand.now may.fits c.args.from c.row_in-row.result
+    inl (usable may.base may.state c.args.rows.now c.args.hand.now may.fits c.args.from c.row_in-row.result
     (kept (is_empty (slot_of may.state c.args.from)) met.not_empty) c.row_in-row.ensures)
 
 pub returns-then-kind_number-clause-done : goal.returns-then-kind_number-clause-done
-returns-then-kind_number-clause-done g c = λ first s fits passes.
+returns-then-kind_number-clause-done g c = λ base s fits passes.
     let hand = c.args.hand.now in
     let after = c.kind_of.new.hand in
     let row = c.row_in-row.result in
     let met = are_met (instructions.As c.args.from c.args.kind c.args.otherwise) s passes in
     let did =
-    left_acts hand after row fits.rests c.kind_of.ensures.left (c.kind_of.ensures.table.0 ∙ ap (λ (w : TableState). w.table) c.self.view_is ∙ sym c.requires.may.of.0)
+    left_acts hand after row fits.rests c.kind_of.ensures.left
+    (c.kind_of.ensures.table.0 ∙ ap (λ (w : TableState). w.table) c.self.view_is ∙ sym c.requires.may.of.0)
     c.kind_of.ensures.carried c.kind_of.ensures.slots c.kind_of.ensures.head in
     let sees = c.kind_of.ensures.sees in
     let same = sym c.kind_number.ensures ∙ (c.if-kind_number.true ∙ c.kind_number-2.ensures) in
-    kind_fits first s c.args.rows.now hand after c.args.from row sees.0 c.args.kind fits did c.kind_of.ensures.references
+    kind_fits base s c.args.rows.now hand after c.args.from row sees.0 c.args.kind fits did c.kind_of.ensures.references
     (kept (is_empty (slot_of s c.args.from)) met.not_empty) c.row_in-row.ensures sees.1
     (sym sees.2 ∙ (sym (numbered_kind c.kind_of.result) ∙ (ap kind_numbered same ∙ numbered_kind c.args.kind)))
 
 pub returns-else-kind_number-clause-done : goal.returns-else-kind_number-clause-done
-returns-else-kind_number-clause-done g c = λ first s fits passes.
+returns-else-kind_number-clause-done g c = λ base s fits passes.
     let hand = c.args.hand.now in
     let after = c.kind_of.new.hand in
     let did =
     left_acts hand after c.row_in-row.result fits.rests c.kind_of.ensures.left
-    (c.kind_of.ensures.table.0 ∙ ap (λ (w : TableState). w.table) c.self.view_is ∙ sym c.requires.may.of.0) c.kind_of.ensures.carried c.kind_of.ensures.slots
+    (c.kind_of.ensures.table.0 ∙ ap (λ (w : TableState). w.table) c.self.view_is ∙ sym c.requires.may.of.0)
+    c.kind_of.ensures.carried c.kind_of.ensures.slots
     c.kind_of.ensures.head in
-    same_fits first s c.args.rows.now hand after fits did c.kind_of.ensures.references
+    same_fits base s c.args.rows.now hand after fits did c.kind_of.ensures.references
 
 pub returns-then-kind_number-clause-made : goal.returns-then-kind_number-clause-made
 returns-then-kind_number-clause-made g c =

@@ -12,16 +12,16 @@ use Rattle.brc_work.proofs.Traces.Births.{makes_list, makes_no_list}
 use Rattle.brc_work.proofs.worker.Worker.list.Goals as goal
 
 pub returns-then-not-room-clause-done : goal.returns-then-not-room-clause-done
-returns-then-not-room-clause-done g c = λ first s fits passes.
+returns-then-not-room-clause-done g c = λ base s fits passes.
     let hand = c.args.hand.now in
     let met = are_met (instructions.List c.args.to c.args.cells c.args.otherwise) s passes in
-    subst (λ (rows : List (Option ℕ)). Fits first (put s c.args.to Empty) rows hand) (sym c.name.ensures.named)
-    (cleared first s c.args.rows.now hand c.args.to fits (can_fill s c.args.to met.free met.unlocked) c.name.ensures.low)
+    subst (λ (rows : List (Option ℕ)). Fits base (put s c.args.to Empty) rows hand) (sym c.name.ensures.named)
+    (cleared base s c.args.rows.now hand c.args.to fits (can_fill s c.args.to met.free met.unlocked) c.name.ensures.low)
 
 pub returns-clause-done : goal.returns-clause-done
-returns-clause-done g c = λ first s fits passes.
+returns-clause-done g c = λ base s fits passes.
     let met = are_met (instructions.List c.args.to c.args.cells c.args.otherwise) s passes in
-    c.bear.ensures.goes first s fits (can_fill s c.args.to met.free met.unlocked)
+    c.bear.ensures.goes base s fits (can_fill s c.args.to met.free met.unlocked)
 
 pub returns-then-not-room-clause-made : goal.returns-then-not-room-clause-made
 returns-then-not-room-clause-made g c =

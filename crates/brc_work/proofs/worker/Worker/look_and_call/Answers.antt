@@ -20,7 +20,7 @@ returns-clause-called g c =
 pub returns-clause-asked : goal.returns-clause-asked
 returns-clause-asked g c =
     let work = c.merge_pending-failed.ensures.work in
-    asked_then (λ cs ds looks makes. one_call _ _ _ _ cs ds looks makes)
+    asked_then (λ cs ds looks makes. (makes.0, one_call _ _ _ _ makes.0 cs ds looks makes.1))
     (asked_closes {Made = λ cs. LooksThrough c.args.hand.now.view c.args.hand.now.view.used cs
     c.merge_pending-failed.new.hand.view} work.0 c.merge_pending-failed.result (looks_close _ _ _ work.0 work.1) work.2
     c.count_close_faults.ensures work.3 work.1)

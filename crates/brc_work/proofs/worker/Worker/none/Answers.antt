@@ -15,13 +15,16 @@ use Rattle.brc_work.proofs.worker.Worker.none.Goals as goal
 
 pub returns : goal.returns
 returns g c = record {
-  done = λ first s fits passes.
+  done = λ base s fits passes.
       let hand = c.args.hand.now in
       let met = are_met (instructions.NoneObject c.args.to) s passes in
       let can = can_fill s c.args.to met.free met.unlocked in
-      subst (λ (rows : List (Option ℕ)). Fits first (put s c.args.to (Owned kinds.None)) rows hand) (sym c.name.ensures.named)
-      (refits first s c.args.rows.now hand hand c.args.to (Owned kinds.None) (Some 0) fits c.name.ensures.low can.unlocked
+      subst (λ (rows : List (Option ℕ)). Fits base (put s c.args.to (Owned kinds.None)) rows hand)
+      (sym c.name.ensures.named)
+      (refits base s c.args.rows.now hand hand c.args.to (Owned kinds.None)
+      (Some 0) fits c.name.ensures.low can.unlocked
       (itself_acts hand fits.rests) (record { object = 0; is = refl; knows = OfNone refl refl })
-      (gains first.view.layout (slot_of s c.args.to) (row_of c.args.rows.now c.args.to) kinds.None 0 hand hand can.free refl));
+      (gains base.first.view.layout (slot_of s c.args.to)
+      (row_of c.args.rows.now c.args.to) kinds.None 0 hand hand can.free refl));
   made = makes_none c.args.to c.args.rows.now c.name.new.rows c.args.hand.now.view c.name.ensures.named;
 }

@@ -24,17 +24,17 @@ can g c s passes =
     can_fill s c.args.to met.free met.unlocked
 
 pub returns-then-not-room-clause-done : goal.returns-then-not-room-clause-done
-returns-then-not-room-clause-done g c = λ first s fits passes.
-    left_empty first s c.args.rows.now c.name.new.rows c.args.hand.now c.args.to fits
+returns-then-not-room-clause-done g c = λ base s fits passes.
+    left_empty base s c.args.rows.now c.name.new.rows c.args.hand.now c.args.to fits
     (can g (goal.at.returns-then-not-room-clause-done g c).Start s passes) c.name.ensures.low c.name.ensures.named
 
 pub returns-in-Ok-clause-done : goal.returns-in-Ok-clause-done
-returns-in-Ok-clause-done g c = λ first s fits passes.
-    c.bear.ensures.goes first s fits (can g (goal.at.returns-in-Ok-clause-done g c).Start s passes)
+returns-in-Ok-clause-done g c = λ base s fits passes.
+    c.bear.ensures.goes base s fits (can g (goal.at.returns-in-Ok-clause-done g c).Start s passes)
 
 pub returns-in-Err-clause-done : goal.returns-in-Err-clause-done
-returns-in-Err-clause-done g c = λ first s fits passes.
-    left_empty first s c.args.rows.now c.name-in-Err.new.rows c.args.hand.now c.args.to fits
+returns-in-Err-clause-done g c = λ base s fits passes.
+    left_empty base s c.args.rows.now c.name-in-Err.new.rows c.args.hand.now c.args.to fits
     (can g (goal.at.returns-in-Err-clause-done g c).Start s passes) c.name-in-Err.ensures.low
     c.name-in-Err.ensures.named
 

@@ -18,9 +18,9 @@ returns-in-Drop-clause-done g c =
     let rows = c.args.rows.now in
     let hand = c.args.hand.now in
     let dropped : HasDone (instructions.Drop from) Success rows hand c.give_up.new.rows c.give_up.new.hand =
-    λ first s fits passes.
+    λ base s fits passes.
     let met = are_met (instructions.Drop from) s passes in
-    c.give_up.ensures.goes first s fits
+    c.give_up.ensures.goes base s fits
     (can_give s from (kept (is_empty (slot_of s from)) met.not_empty) (kept (is_borrowed (slot_of s from)) met.owned)
     (kept (names s.locked from) met.unlocked)) in
     subst (λ (i : Instr). HasDone i Success rows hand c.give_up.new.rows c.give_up.new.hand) (sym c.in-Drop.is) dropped

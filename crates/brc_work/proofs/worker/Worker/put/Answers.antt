@@ -5,9 +5,9 @@ use Rattle.brc_model.specs.Layout.{IsCounted}
 use Rattle.brc_model.specs.Slots.{slot_of, is_empty, names}
 use Rattle.brc_model.proofs.Basics.Lists.{first_false, second_false}
 use Rattle.brc_table.specs.Views.{without_reference}
-use Rattle.brc_table.specs.Hands.{TableState, HandState, most_references}
+use Rattle.brc_table.specs.Hands.{TableState, most_references}
 use Rattle.brc_work.specs.Acts.{ActsElsewhere}
-use Rattle.brc_work.specs.Fits.{Rests, Fits}
+use Rattle.brc_work.specs.Fits.{Base, Rests, Fits}
 use Rattle.brc_work.proofs.CallsBelow.{itself_acts, left_acts, acts_then}
 use Rattle.brc_work.proofs.Conditions.{kept, not_false}
 use Rattle.brc_work.proofs.Passing.{none_broken}
@@ -22,10 +22,10 @@ use Rattle.brc_work.proofs.worker.Worker.put.Goals.{After-size, After-retain}
 use Rattle.brc_work.proofs.worker.Worker.put.Goals as goal
 
 -- The hand has asked for the list's size, and the variables and the hand are still as the state says.
-later : (g : given.Over) (c : After-size g) (first : HandState) (s : State)
-    → Fits first s c.args.rows.now c.args.hand.now → Fits first s c.args.rows.now c.size.new.hand
-later g c first s fits =
-    sized_fits first s c.args.rows.now c.args.hand.now c.size.new.hand c.row_in-row.result c.size.ensures.events.0 fits
+later : (g : given.Over) (c : After-size g) (base : Base) (s : State)
+    → Fits base s c.args.rows.now c.args.hand.now → Fits base s c.args.rows.now c.size.new.hand
+later g c base s fits =
+    sized_fits base s c.args.rows.now c.args.hand.now c.size.new.hand c.row_in-row.result c.size.ensures.events.0 fits
     c.size.ensures.keeps
     (c.size.ensures.table.0
     ∙ (ap (λ (w : TableState). w.table) (c.new.ensures ∙ c.self.view_is) ∙ sym c.requires.may.of.0))
@@ -34,8 +34,8 @@ later g c first s fits =
 -- The list is the one that the hand has locked.
 on : (g : given.Over) (c : After-size g) → OnList c.size.new.hand c.row_in-row.result
 on g c =
-    on_list c.requires.may.first c.requires.may.state c.args.rows.now c.size.new.hand c.args.list c.row_in-row.result
-    (later g c c.requires.may.first c.requires.may.state c.requires.may.fits)
+    on_list c.requires.may.base c.requires.may.state c.args.rows.now c.size.new.hand c.args.list c.row_in-row.result
+    (later g c c.requires.may.base c.requires.may.state c.requires.may.fits)
     (not_false (names c.requires.may.state.locked c.args.list) (kept _ (none_broken c.requires.may).has_lock))
     c.row_in-row.ensures
 
@@ -66,21 +66,21 @@ has_sized g c = record {
 pub row_in-row-requires : goal.row_in-row-requires
 row_in-row-requires g c =
     let may = c.requires.may in
-    names_object may.first may.state c.args.rows.now c.args.hand.now may.fits c.args.list
+    names_object may.base may.state c.args.rows.now c.args.hand.now may.fits c.args.list
     (kept (is_empty (slot_of may.state c.args.list))
     (second_false (is_empty (slot_of may.state c.args.from)) _ (none_broken may).not_empty))
 
 pub size-requires-clause-usable : goal.size-requires-clause-usable
 size-requires-clause-usable g c =
     let before = c.requires.may in
-    inl (inl (on_list before.first before.state c.args.rows.now c.args.hand.now c.args.list c.row_in-row.result
+    inl (inl (on_list before.base before.state c.args.rows.now c.args.hand.now c.args.list c.row_in-row.result
     before.fits (not_false (names before.state.locked c.args.list) (kept _ (none_broken before).has_lock))
     c.row_in-row.ensures).one)
 
 pub returns-then-cell-size-clause-done : goal.returns-then-cell-size-clause-done
-returns-then-cell-size-clause-done g c = λ first s fits passes.
-    let at = later g (goal.at.returns-then-cell-size-clause-done g c).After-size first s fits in
-    bare_fits first s c.args.rows.now c.size.new.hand c.size.new.hand at
+returns-then-cell-size-clause-done g c = λ base s fits passes.
+    let at = later g (goal.at.returns-then-cell-size-clause-done g c).After-size base s fits in
+    bare_fits base s c.args.rows.now c.size.new.hand c.size.new.hand at
     (itself_acts c.size.new.hand at.rests).acts refl
 
 pub row_in-item-requires : goal.row_in-item-requires
@@ -135,15 +135,15 @@ pub exchange-requires-clause-few : goal.exchange-requires-clause-few
 exchange-requires-clause-few g c = λ κs lives.
     let fits = later g (goal.at.exchange-requires-clause-few g c).After-size _ _ c.requires.may.fits in
     let most = length_more c.size.new.hand.view.layout c.row_in-item.result c.size.new.hand.view.references in
-    let few = few_more c.requires.may.first c.requires.may.state c.args.rows.now c.size.new.hand fits in
+    let few = few_more c.requires.may.base c.requires.may.state c.args.rows.now c.size.new.hand fits in
     subst (λ (l : List ℕ). length l < most_references) (sym c.retain.ensures.references) (omega (arith, most, few))
 
 pub returns-clause-done : goal.returns-clause-done
-returns-clause-done g c = λ first s fits passes.
+returns-clause-done g c = λ base s fits passes.
     let at = goal.at.returns-clause-done g c in
-    let asked = later g at.After-size first s fits in
+    let asked = later g at.After-size base s fits in
     let did = retained g at.After-retain asked.rests in
-    bare_fits first s c.args.rows.now c.size.new.hand c.exchange.new.hand asked
+    bare_fits base s c.args.rows.now c.size.new.hand c.exchange.new.hand asked
     (acts_then c.size.new.hand c.retain.new.hand c.exchange.new.hand did.acts c.exchange.ensures.acts)
     (c.exchange.ensures.less
     ∙ (ap (λ (l : Layout). without_reference l c.row_in-item.result c.retain.new.hand.view.references)

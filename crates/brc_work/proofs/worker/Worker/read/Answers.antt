@@ -31,7 +31,7 @@ on : (g : given.Over) (c : After-row_in-row g) → OnFile c.args.hand.now c.row_
 on g c =
     let may = c.requires.may in
     let met = none_broken may in
-    on_file may.first may.state c.args.rows.now c.args.hand.now c.args.file c.row_in-row.result may.fits
+    on_file may.base may.state c.args.rows.now c.args.hand.now c.args.file c.row_in-row.result may.fits
     (not_false (names may.state.locked c.args.file) (kept _ met.has_lock))
     (not_false (is_one_of (kind_of (slot_of may.state c.args.file)) with_resource) (kept _ met.right_kind))
     c.row_in-row.ensures
@@ -47,11 +47,11 @@ back g c file =
     c.lend-resource.ensures.slots c.give_back.ensures.slots
 
 pub returns-then-not-room-clause-done : goal.returns-then-not-room-clause-done
-returns-then-not-room-clause-done g c = λ first s fits passes.
+returns-then-not-room-clause-done g c = λ base s fits passes.
     let met = are_met (instructions.Read c.args.to c.args.file c.args.most c.args.otherwise) s passes in
-    subst (λ (rows : List (Option ℕ)). Fits first (put s c.args.to Empty) rows c.args.hand.now)
+    subst (λ (rows : List (Option ℕ)). Fits base (put s c.args.to Empty) rows c.args.hand.now)
     (sym c.name.ensures.named)
-    (cleared first s c.args.rows.now c.args.hand.now c.args.to fits (can_fill s c.args.to met.free met.unlocked)
+    (cleared base s c.args.rows.now c.args.hand.now c.args.to fits (can_fill s c.args.to met.free met.unlocked)
     c.name.ensures.low)
 
 pub row_in-row-requires : goal.row_in-row-requires
@@ -83,32 +83,32 @@ bear-requires-clause-fits g c =
     let at = goal.at.bear-requires-clause-fits g c in
     let same = back g at.After-give_back (on g at.After-row_in-row) in
     record {
-      first = may.first;
+      base = may.base;
       state = may.state;
       of = subst (λ (w : TableState). IsOf w c.give_back.new.hand) (c.new-lists.ensures ∙ c.self.view_is)
           c.give_back.ensures.table;
-      fits = subst (λ (h : HandState). Fits may.first may.state c.args.rows.now h) (sym same) may.fits;
+      fits = subst (λ (h : HandState). Fits may.base may.state c.args.rows.now h) (sym same) may.fits;
       can_do = can_fill may.state c.args.to (none_broken may).free (none_broken may).unlocked;
     }
 
 pub returns-in-Ok-clause-done : goal.returns-in-Ok-clause-done
-returns-in-Ok-clause-done g c = λ first s fits passes.
+returns-in-Ok-clause-done g c = λ base s fits passes.
     let at = goal.at.returns-in-Ok-clause-done g c in
     let met = are_met (instructions.Read c.args.to c.args.file c.args.most c.args.otherwise) s passes in
-    c.bear.ensures.goes first s
-    (subst (λ (h : HandState). Fits first s c.args.rows.now h)
+    c.bear.ensures.goes base s
+    (subst (λ (h : HandState). Fits base s c.args.rows.now h)
     (sym (back g at.After-give_back (on g at.After-row_in-row))) fits)
     (can_fill s c.args.to met.free met.unlocked)
 
 pub returns-in-Err-clause-done : goal.returns-in-Err-clause-done
-returns-in-Err-clause-done g c = λ first s fits passes.
+returns-in-Err-clause-done g c = λ base s fits passes.
     let at = goal.at.returns-in-Err-clause-done g c in
     let met = are_met (instructions.Read c.args.to c.args.file c.args.most c.args.otherwise) s passes in
-    let later = subst (λ (h : HandState). Fits first s c.args.rows.now h)
+    let later = subst (λ (h : HandState). Fits base s c.args.rows.now h)
     (sym (back g at.After-give_back (on g at.After-row_in-row))) fits in
-    subst (λ (rows : List (Option ℕ)). Fits first (put s c.args.to Empty) rows c.give_back.new.hand)
+    subst (λ (rows : List (Option ℕ)). Fits base (put s c.args.to Empty) rows c.give_back.new.hand)
     (sym c.name-in-Err.ensures.named)
-    (cleared first s c.args.rows.now c.give_back.new.hand c.args.to later
+    (cleared base s c.args.rows.now c.give_back.new.hand c.args.to later
     (can_fill s c.args.to met.free met.unlocked) c.name-in-Err.ensures.low)
 
 pub returns-then-not-room-clause-asked : goal.returns-then-not-room-clause-asked
@@ -127,7 +127,7 @@ returns-in-Ok-clause-asked g c =
     (subst (λ o. g.H.Host.answers c.args.host.now (call o) c.read-got.new.self) got c.read-got.ensures.answers)
     (c.read-got.ensures.counted ∙ ap (λ o. after_call (call o) (g.H.Host.counts c.args.host.now)) got)
     (makes_read c.args.to c.args.file c.args.most c.args.otherwise c.row_in-row.result c.args.rows.now c.bear.new.rows v
-    c.row_in-row.ensures c.requires.may.fits.rests.lent (sym c.room.ensures ∙ c.if-not-room.false) word c.in-Ok.count
+    c.row_in-row.ensures (sym c.room.ensures ∙ c.if-not-room.false) word c.in-Ok.count
     c.bear.new.hand.view
     (subst (λ r. IfOk r (λ got. got ≤ c.args.most)) c.in-Ok.is c.read-got.ensures.at_most)
     (ap number_word c.from.ensures)
@@ -147,5 +147,5 @@ returns-in-Err-clause-asked g c =
     c.args.rows.now v c.name-in-Err.new.rows)
     (sym (c.give_back.ensures.view ∙ c.lend-resource.ensures.view))
     (fails_to_read c.args.to c.args.file c.args.most c.args.otherwise c.row_in-row.result c.args.rows.now
-    c.name-in-Err.new.rows v c.row_in-row.ensures c.requires.may.fits.rests.lent
-    (sym c.room.ensures ∙ c.if-not-room.false) c.name-in-Err.ensures.named))
+    c.name-in-Err.new.rows v c.row_in-row.ensures (sym c.room.ensures ∙ c.if-not-room.false)
+    c.name-in-Err.ensures.named))

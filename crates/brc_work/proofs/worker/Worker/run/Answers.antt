@@ -17,8 +17,8 @@ loop-call-init g c = (
   c.requires.of,
   not_called c.args.hand.now c.requires.ready,
   subst (λ (t : Totals). Asked g.H.Host.answers g.H.Host.counts c.args.host.now c.args.host.now no_totals t
-      (λ calls. MakesCalls c.code_of-code.result.now c.args.hand.now.view 0 calls c.args.hand.now.view))
-      (sym c.new-totals.ensures) (asked_nothing NoCall),
+      (λ calls. (begun : ℕ) × MakesCalls c.code_of-code.result.now c.args.hand.now.view 0 begun calls
+      c.args.hand.now.view)) (sym c.new-totals.ensures) (asked_nothing (0, NoCall)),
 )
 
 pub loop-call-preserved : goal.loop-call-preserved
@@ -26,7 +26,7 @@ loop-call-preserved g c = (
   c.look_and_call.ensures.of,
   called_then c.args.hand.now c.loop-call.hand c.look_and_call.new.hand c.loop-call.invariant.1
       c.look_and_call.ensures.called,
-  asked_then (λ cs ds one more. more_calls _ _ _ _ cs one _ ds _ more) c.loop-call.invariant.2
+  asked_then (λ cs ds one more. (_, more_calls _ _ _ _ one.0 cs one.1 _ more.0 ds _ more.1)) c.loop-call.invariant.2
       c.look_and_call.ensures.asked,
 )
 
@@ -40,6 +40,10 @@ returns-clause-asked g c =
       calls = one.calls;
       answered = one.answered;
       counted = record { others = one.counted.others; closes = one.counted.closes };
-      made = subst (λ (code : List Instr). MakesCalls code v c.args.times one.calls u) c.code_of-code.ensures.value
-          (subst (λ (n : ℕ). MakesCalls c.code_of-code.result.now v n one.calls u) all one.made);
+      made = (
+        one.made.0,
+        subst (λ (code : List Instr). MakesCalls code v c.args.times one.made.0 one.calls u)
+            c.code_of-code.ensures.value
+            (subst (λ (n : ℕ). MakesCalls c.code_of-code.result.now v n one.made.0 one.calls u) all one.made.1),
+      );
     }

@@ -1,3 +1,4 @@
+use Rattle.std.specs.Prelude.{ℕ}
 use Rattle.brc_table.specs.Hands.{IsOf}
 use Rattle.brc_work.specs.Calls.{HasCalled}
 use Rattle.brc_work.specs.Totals.{Asked, no_totals}
@@ -9,4 +10,4 @@ abbrev pub invariant-loop-call : goal.invariant-loop-call
 invariant-loop-call g l =
     IsOf l.fn.self l.hand × HasCalled l.fn.hand l.hand
     × Asked g.H.Host.answers g.H.Host.counts l.fn.host l.host no_totals l.totals
-    (λ calls. MakesCalls l.code l.fn.hand.view l.call calls l.hand.view)
+    (λ calls. (begun : ℕ) × MakesCalls l.code l.fn.hand.view l.call begun calls l.hand.view)

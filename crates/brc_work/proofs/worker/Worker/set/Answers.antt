@@ -9,9 +9,9 @@ use Rattle.brc_model.specs.Slots.{slot_of, is_empty, is_borrowed, names, put, lo
 use Rattle.brc_model.proofs.Basics.Lists.{first_false, second_false}
 use Rattle.brc_model.proofs.Dispatch.Passing.{are_met}
 use Rattle.brc_table.specs.Views.{without_reference}
-use Rattle.brc_table.specs.Hands.{TableState, HandState, IsOf}
+use Rattle.brc_table.specs.Hands.{TableState, IsOf}
 use Rattle.brc_work.specs.Changes.{CanGive}
-use Rattle.brc_work.specs.Fits.{Fits}
+use Rattle.brc_work.specs.Fits.{Base, Fits}
 use Rattle.brc_work.proofs.CallsBelow.{with_references, beside_acts, itself_acts}
 use Rattle.brc_work.proofs.Conditions.{kept, can_give, not_false}
 use Rattle.brc_work.proofs.Passing.{none_broken}
@@ -25,10 +25,10 @@ use Rattle.brc_work.proofs.worker.Worker.set.Goals.{After-size}
 use Rattle.brc_work.proofs.worker.Worker.set.Goals as goal
 
 -- The hand has asked for the list's size, and the variables and the hand are still as the state says.
-later : (g : facts.Over) (c : After-size g) (first : HandState) (s : State)
-    → Fits first s c.args.rows.now c.args.hand.now → Fits first s c.args.rows.now c.size.new.hand
-later g c first s fits =
-    sized_fits first s c.args.rows.now c.args.hand.now c.size.new.hand c.row_in-row.result c.size.ensures.events.0 fits
+later : (g : facts.Over) (c : After-size g) (base : Base) (s : State)
+    → Fits base s c.args.rows.now c.args.hand.now → Fits base s c.args.rows.now c.size.new.hand
+later g c base s fits =
+    sized_fits base s c.args.rows.now c.args.hand.now c.size.new.hand c.row_in-row.result c.size.ensures.events.0 fits
     c.size.ensures.keeps
     (c.size.ensures.table.0
     ∙ (ap (λ (w : TableState). w.table) (c.new.ensures ∙ c.self.view_is) ∙ sym c.requires.may.of.0))
@@ -57,14 +57,14 @@ has_sized g c = record {
 pub row_in-row-requires : goal.row_in-row-requires
 row_in-row-requires g c =
     let may = c.requires.may in
-    names_object may.first may.state c.args.rows.now c.args.hand.now may.fits c.args.list
+    names_object may.base may.state c.args.rows.now c.args.hand.now may.fits c.args.list
     (kept (is_empty (slot_of may.state c.args.list))
     (second_false (is_empty (slot_of may.state c.args.from)) _ (none_broken may).not_empty))
 
 pub size-requires-clause-usable : goal.size-requires-clause-usable
 size-requires-clause-usable g c =
     let before = c.requires.may in
-    inl (inl (on_list before.first before.state c.args.rows.now c.args.hand.now c.args.list c.row_in-row.result
+    inl (inl (on_list before.base before.state c.args.rows.now c.args.hand.now c.args.list c.row_in-row.result
     before.fits (not_false (names before.state.locked c.args.list) (kept _ (none_broken before).has_lock))
     c.row_in-row.ensures).one)
 
@@ -72,7 +72,7 @@ pub give_up-requires-clause-fits : goal.give_up-requires-clause-fits
 give_up-requires-clause-fits g c = λ κs lives.
     let at = (goal.at.give_up-requires-clause-fits g c).After-size in
     record {
-      first = c.requires.may.first;
+      base = c.requires.may.base;
       state = c.requires.may.state;
       of = subst (λ (w : TableState). IsOf w c.size.new.hand) (c.new.ensures ∙ c.self.view_is) c.size.ensures.table;
       fits = later g at _ _ c.requires.may.fits;
@@ -80,17 +80,17 @@ give_up-requires-clause-fits g c = λ κs lives.
     }
 
 pub returns-then-cell-size-clause-done : goal.returns-then-cell-size-clause-done
-returns-then-cell-size-clause-done g c = λ first s fits passes.
+returns-then-cell-size-clause-done g c = λ base s fits passes.
     let asked = (goal.at.returns-then-cell-size-clause-done g c).After-size in
-    let given_up = c.give_up.ensures.goes first s (later g asked first s fits) (can g asked s passes) in
-    bare_fits first (put s c.args.from Empty) c.give_up.new.rows c.give_up.new.hand c.give_up.new.hand given_up
+    let given_up = c.give_up.ensures.goes base s (later g asked base s fits) (can g asked s passes) in
+    bare_fits base (put s c.args.from Empty) c.give_up.new.rows c.give_up.new.hand c.give_up.new.hand given_up
     (itself_acts c.give_up.new.hand given_up.rests).acts refl
 
 pub exchange-requires-clause-held : goal.exchange-requires-clause-held
 exchange-requires-clause-held g c = λ κs lives.
     let may = c.requires.may in
-    let fits = later g (goal.at.exchange-requires-clause-held g c).After-size may.first may.state may.fits in
-    (on_list may.first may.state c.args.rows.now c.size.new.hand c.args.list c.row_in-row.result fits
+    let fits = later g (goal.at.exchange-requires-clause-held g c).After-size may.base may.state may.fits in
+    (on_list may.base may.state c.args.rows.now c.size.new.hand c.args.list c.row_in-row.result fits
     (not_false (names may.state.locked c.args.list) (kept _ (none_broken may).has_lock)) c.row_in-row.ensures).held
 
 pub exchange-requires-clause-puts : goal.exchange-requires-clause-puts
@@ -109,22 +109,22 @@ exchange-requires-clause-few g c = λ κs lives.
     few_held _ _ _ _ (later g (goal.at.exchange-requires-clause-few g c).After-size _ _ c.requires.may.fits)
 
 pub returns-clause-done : goal.returns-clause-done
-returns-clause-done g c = λ first s fits passes.
+returns-clause-done g c = λ base s fits passes.
     let at = (goal.at.returns-clause-done g c).After-size in
     let mid = c.size.new.hand in
     let after = c.exchange.new.hand in
     let row = c.row_in-item.result in
-    let sized = later g at first s fits in
+    let sized = later g at base s fits in
     let gives = can g at s passes in
-    let references = without_reference first.view.layout row mid.view.references in
+    let references = without_reference base.first.view.layout row mid.view.references in
     let between = with_references mid references in
     let one =
-    refits first s c.args.rows.now mid between c.args.from Empty None sized c.name.ensures.low gives.unlocked
+    refits base s c.args.rows.now mid between c.args.from Empty None sized c.name.ensures.low gives.unlocked
     (beside_acts mid references sized.rests) tt
-    (given first s c.args.rows.now mid between c.args.from row sized gives c.row_in-item.ensures refl) in
-    subst (λ (rows : List (Option ℕ)). Fits first (without_items (put s c.args.from Empty)) rows after)
+    (given base s c.args.rows.now mid between c.args.from row sized gives c.row_in-item.ensures refl) in
+    subst (λ (rows : List (Option ℕ)). Fits base (without_items (put s c.args.from Empty)) rows after)
     (sym c.name.ensures.named)
-    (bare_fits first (put s c.args.from Empty) (slice_set c.args.rows.now c.args.from None) between after one
+    (bare_fits base (put s c.args.from Empty) (slice_set c.args.rows.now c.args.from None) between after one
     (besides mid after references c.exchange.ensures.acts)
     (c.exchange.ensures.less
     ∙ ap (λ (l : Layout). without_reference l row mid.view.references) sized.follows.layout))

@@ -19,7 +19,7 @@ pub end-requires-clause-may : goal.end-requires-clause-may
 end-requires-clause-may g c = λ κs lives.
     let at = c.requires.at in
     record {
-      first = at.first;
+      base = at.base;
       state = at.state;
       of = at.of;
       fits = at.fits;
@@ -28,8 +28,8 @@ end-requires-clause-may g c = λ κs lives.
     }
 
 pub returns-then-ends_call-clause-goes : goal.returns-then-ends_call-clause-goes
-returns-then-ends_call-clause-goes g c = λ first s fits reaches.
-    c.end.ensures.ended first s fits
+returns-then-ends_call-clause-goes g c = λ base s fits reaches.
+    c.end.ensures.ended base s fits
     (passes_none c.args.code.now c.args.at s c.instruction_at-instr.result.now c.requires.code.accepted reaches
     c.instruction_at-instr.ensures)
 
@@ -49,7 +49,7 @@ pub perform-exit-requires-clause-may : goal.perform-exit-requires-clause-may
 perform-exit-requires-clause-may g c = λ κs lives.
     let at = c.requires.at in
     record {
-      first = at.first;
+      base = at.base;
       state = at.state;
       of = at.of;
       fits = at.fits;
@@ -72,12 +72,12 @@ target_of-requires g c =
     omega (arith, low, c.requires.code.few)
 
 pub returns-clause-goes : goal.returns-clause-goes
-returns-clause-goes g c = λ first s fits reaches.
+returns-clause-goes g c = λ base s fits reaches.
     let i = c.instruction_at-instr.result.now in
-    leads_by first c.args.code.now c.args.at s i c.perform-exit.result c.target_of.result c.perform-exit.new.rows
+    leads_by base c.args.code.now c.args.at s i c.perform-exit.result c.target_of.result c.perform-exit.new.rows
     c.perform-exit.new.hand c.requires.code.accepted reaches c.instruction_at-instr.ensures
     (sym c.ends_call.ensures ∙ c.if-ends_call.false) c.target_of.ensures
-    (c.perform-exit.ensures.done first s fits
+    (c.perform-exit.ensures.done base s fits
     (passes_none c.args.code.now c.args.at s i c.requires.code.accepted reaches c.instruction_at-instr.ensures))
 
 pub returns-clause-asked : goal.returns-clause-asked

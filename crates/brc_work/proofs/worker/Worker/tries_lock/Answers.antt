@@ -5,8 +5,8 @@ use Rattle.brc_model.specs.declared.slot.State.{State}
 use Rattle.brc_model.specs.Slots.{slot_of, kind_of, is_empty, is_one_of, lockable, lowest}
 use Rattle.brc_model.specs.Threads.{row_of}
 use Rattle.brc_model.proofs.Dispatch.Passing.{are_met}
-use Rattle.brc_table.specs.Hands.{TableState, HandState, IsOf}
-use Rattle.brc_work.specs.Fits.{Fits}
+use Rattle.brc_table.specs.Hands.{TableState, IsOf}
+use Rattle.brc_work.specs.Fits.{Base, Fits}
 use Rattle.brc_work.proofs.Conditions.{kept, none_is, not_false}
 use Rattle.brc_work.proofs.Passing.{none_broken}
 use Rattle.brc_work.proofs.Holding.{names_object, lasting_one, knows_slot, lockable_counted}
@@ -27,15 +27,15 @@ none g c =
     (kept (is_some c.requires.may.state.locked) (none_broken c.requires.may).first_lock)
 
 -- After a try that failed the variables and the hand are still as the state says.
-stays : (g : given.Over) (c : After-try_lock g) (first : HandState) (s : State)
-    → Fits first s c.args.rows.now c.args.hand.now → lowest (instructions.Lock c.args.object) s ≡ None
-    → c.try_lock.result ≡ false → Fits first s c.args.rows.now c.try_lock.new.hand
-stays g c first s fits passes fails =
+stays : (g : given.Over) (c : After-try_lock g) (base : Base) (s : State)
+    → Fits base s c.args.rows.now c.args.hand.now → lowest (instructions.Lock c.args.object) s ≡ None
+    → c.try_lock.result ≡ false → Fits base s c.args.rows.now c.try_lock.new.hand
+stays g c base s fits passes fails =
     let hand = c.args.hand.now in
     let after = c.try_lock.new.hand in
     let row = c.row_in-row.result in
     let met = are_met (instructions.Lock c.args.object) s passes in
-    still_fits first s c.args.rows.now hand after fits (none_is s.locked (kept (is_some s.locked) met.first_lock))
+    still_fits base s c.args.rows.now hand after fits (none_is s.locked (kept (is_some s.locked) met.first_lock))
     c.try_lock.ensures.keeps
     (c.try_lock.ensures.table.0
     ∙ ap (λ (w : TableState). w.table) (c.new.ensures ∙ c.self.view_is) ∙ sym c.requires.may.of.0)
@@ -50,7 +50,8 @@ pub try_lock-requires-clause-counted : goal.try_lock-requires-clause-counted
 try_lock-requires-clause-counted g c =
     let slot = slot_of c.requires.may.state c.args.object in
     lockable_counted c.args.hand.now.view (kind_of slot) c.row_in-row.result
-    (knows_slot c.args.hand.now.view slot (row_of c.args.rows.now c.args.object) c.row_in-row.result
+    (knows_slot c.requires.may.base.held c.args.hand.now.view slot
+    (row_of c.args.rows.now c.args.object) c.row_in-row.result
     (used g (goal.at.try_lock-requires-clause-counted g c).Start) (c.requires.may.fits.each c.args.object)
     c.row_in-row.ensures)
     (not_false (is_one_of (kind_of slot) lockable) (kept _ (none_broken c.requires.may).right_kind))
@@ -59,10 +60,11 @@ pub try_lock-requires-clause-held : goal.try_lock-requires-clause-held
 try_lock-requires-clause-held g c =
     let may = c.requires.may in
     let start = (goal.at.try_lock-requires-clause-held g c).Start in
-    lasting_one may.first may.state c.args.rows.now c.args.hand.now may.fits c.args.object c.row_in-row.result
+    lasting_one may.base may.state c.args.rows.now c.args.hand.now may.fits c.args.object c.row_in-row.result
     (used g start)
-    (borrows_none c.args.hand.now.view (slot_of may.state c.args.object) (row_of c.args.rows.now c.args.object)
-    (no_lock may.first may.state c.args.rows.now c.args.hand.now may.fits (none g start)).0
+    (borrows_none may.base.held c.args.hand.now.view (slot_of may.state c.args.object)
+    (row_of c.args.rows.now c.args.object)
+    (no_lock may.base may.state c.args.rows.now c.args.hand.now may.fits (none g start)).0
     (may.fits.each c.args.object)) c.row_in-row.ensures
 
 pub try_lock-requires-clause-unlocked : goal.try_lock-requires-clause-unlocked
@@ -70,13 +72,13 @@ try_lock-requires-clause-unlocked g c =
     (no_lock _ _ _ _ c.requires.may.fits (none g (goal.at.try_lock-requires-clause-unlocked g c).Start)).0
 
 pub returns-clause-done : goal.returns-clause-done
-returns-clause-done g c = λ wins first s fits passes.
+returns-clause-done g c = λ wins base s fits passes.
     let before = c.args.hand.now in
     let locked = c.try_lock.new.hand in
     let object = c.row_in-row.result in
     let slot = slot_of s c.args.object in
     let all = are_met (instructions.Lock c.args.object) s passes in
-    lock_is first s c.args.rows.now before locked fits (none_is s.locked (kept (is_some s.locked) all.first_lock))
+    lock_is base s c.args.rows.now before locked fits (none_is s.locked (kept (is_some s.locked) all.first_lock))
     c.try_lock.ensures.keeps
     (c.try_lock.ensures.table.0
     ∙ ap (λ (w : TableState). w.table) (c.new.ensures ∙ c.self.view_is) ∙ sym c.requires.may.of.0)
@@ -85,11 +87,11 @@ returns-clause-done g c = λ wins first s fits passes.
     (c.try_lock.ensures.locked ∙ ap (λ (b : Bool). cond b (Some object) None) wins)
     (c.try_lock.ensures.slots
     ∙ ap (λ (b : Bool). cond b ((object, locked.view.in_slot) ∷ before.slots) before.slots) wins)
-    (λ word some seen. c.try_lock.ensures.kind word wins fits.rests.lent some seen)
+    (λ word some seen. c.try_lock.ensures.kind word wins some seen)
 
 pub returns-clause-again : goal.returns-clause-again
 returns-clause-again g c = λ fails. record {
-  first = c.requires.may.first;
+  base = c.requires.may.base;
   state = c.requires.may.state;
   of = subst (λ (w : TableState). IsOf w c.try_lock.new.hand) (c.new.ensures ∙ c.self.view_is) c.try_lock.ensures.table;
   fits = stays g (goal.at.returns-clause-again g c).After-try_lock _ _ c.requires.may.fits c.requires.may.passes fails;
@@ -97,8 +99,8 @@ returns-clause-again g c = λ fails. record {
 }
 
 pub returns-clause-nothing : goal.returns-clause-nothing
-returns-clause-nothing g c = λ fails first s fits passes.
-    stays g (goal.at.returns-clause-nothing g c).After-try_lock first s fits passes fails
+returns-clause-nothing g c = λ fails base s fits passes.
+    stays g (goal.at.returns-clause-nothing g c).After-try_lock base s fits passes fails
 
 pub returns-clause-made : goal.returns-clause-made
 returns-clause-made g c = λ wins.

@@ -17,7 +17,7 @@ use Rattle.brc_work.proofs.worker.Worker.unlock.Goals as goal
 
 -- The variable is the one whose object the hand has locked.
 locks : (g : given.Over) (c : Start g) → let may = c.requires.may in
-    LockFits may.first.slots may.state c.args.rows.now c.args.hand.now c.args.object
+    LockFits may.base.first.slots may.state c.args.rows.now c.args.hand.now c.args.object
 locks g c =
     let may = c.requires.may in
     lock_of _ _ _ _ may.fits c.args.object (locked_is may.state.locked c.args.object
@@ -44,15 +44,15 @@ unlock-requires-clause-returned g c =
     let lock = locks g (goal.at.unlock-requires-clause-returned g c).Start in
     subst (λ (x : ℕ). FirstSlot c.args.hand.now.slots x c.args.hand.now.view.in_slot)
     (some_is lock.object c.row_in-row.result (sym lock.names ∙ c.row_in-row.ensures))
-    (record { rest = c.requires.may.first.slots; is = lock.slots })
+    (record { rest = c.requires.may.base.first.slots; is = lock.slots })
 
 pub returns-clause-done : goal.returns-clause-done
-returns-clause-done g c = λ first s fits passes.
+returns-clause-done g c = λ base s fits passes.
     let hand = c.args.hand.now in
     let met = are_met (instructions.Unlock c.args.object) s passes in
     let is = locked_is s.locked c.args.object (not_false (names s.locked c.args.object) (kept _ met.has_lock)) in
-    unlocks first s c.args.rows.now hand c.unlock.new.hand c.args.object fits
-    (lock_of first s c.args.rows.now hand fits c.args.object is) c.unlock.ensures.keeps
+    unlocks base s c.args.rows.now hand c.unlock.new.hand c.args.object fits
+    (lock_of base s c.args.rows.now hand fits c.args.object is) c.unlock.ensures.keeps
     (c.unlock.ensures.table.0
     ∙ ap (λ (w : TableState). w.table) (c.new.ensures ∙ c.self.view_is) ∙ sym c.requires.may.of.0)
     c.unlock.ensures.carried c.unlock.ensures.slots c.unlock.ensures.unlocked

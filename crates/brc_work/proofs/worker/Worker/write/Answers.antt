@@ -47,8 +47,8 @@ on : (g : given.Over) (c : After-row_in-row g) → ActsElsewhere c.args.hand.now
 on g c acts =
     let may = c.requires.may in
     let met = none_broken may in
-    on_file may.first may.state c.args.rows.now c.arg_of-value.new.hand c.args.file c.row_in-row.result
-    (same_fits may.first may.state c.args.rows.now c.args.hand.now c.arg_of-value.new.hand may.fits acts
+    on_file may.base may.state c.args.rows.now c.arg_of-value.new.hand c.args.file c.row_in-row.result
+    (same_fits may.base may.state c.args.rows.now c.args.hand.now c.arg_of-value.new.hand may.fits acts
     c.arg_of-value.ensures.references)
     (not_false (names may.state.locked c.args.file) (kept _ met.has_lock))
     (not_false (is_one_of (kind_of (slot_of may.state c.args.file)) with_resource)
@@ -110,21 +110,21 @@ give_back-requires-clause-slot g c =
     ∙ (on g at.After-row_in-row (asked g at.After-arg_of-value)).locked)
 
 pub returns-in-Ok-clause-done : goal.returns-in-Ok-clause-done
-returns-in-Ok-clause-done g c = λ first s fits passes.
+returns-in-Ok-clause-done g c = λ base s fits passes.
     let at = goal.at.returns-in-Ok-clause-done g c in
     let acts = asked g at.After-arg_of-value in
-    subst (λ (h : HandState). Fits first s c.args.rows.now h)
+    subst (λ (h : HandState). Fits base s c.args.rows.now h)
     (sym (back g at.After-give_back acts (on g at.After-row_in-row acts)))
-    (same_fits first s c.args.rows.now c.args.hand.now c.arg_of-value.new.hand fits acts
+    (same_fits base s c.args.rows.now c.args.hand.now c.arg_of-value.new.hand fits acts
     c.arg_of-value.ensures.references)
 
 pub returns-in-Err-clause-done : goal.returns-in-Err-clause-done
-returns-in-Err-clause-done g c = λ first s fits passes.
+returns-in-Err-clause-done g c = λ base s fits passes.
     let at = goal.at.returns-in-Err-clause-done g c in
     let did = asked g at.After-arg_of-value in
-    subst (λ (h : HandState). Fits first s c.args.rows.now h)
+    subst (λ (h : HandState). Fits base s c.args.rows.now h)
     (sym (back g at.After-give_back did (on g at.After-row_in-row did)))
-    (same_fits first s c.args.rows.now c.args.hand.now c.arg_of-value.new.hand fits did
+    (same_fits base s c.args.rows.now c.args.hand.now c.arg_of-value.new.hand fits did
     c.arg_of-value.ensures.references)
 
 pub returns-in-Ok-clause-asked : goal.returns-in-Ok-clause-asked
@@ -143,7 +143,7 @@ returns-in-Ok-clause-asked g c =
     c.args.rows.now v c.args.rows.now)
     (sym (c.give_back.ensures.view ∙ c.lend-resource.ensures.view))
     (makes_write c.args.file c.args.number c.args.otherwise c.row_in-object.result c.row_in-row.result sees.0
-    c.args.rows.now v c.arg_of-value.new.hand.view rests.agenda rests.lent c.row_in-object.ensures
+    c.args.rows.now v c.arg_of-value.new.hand.view rests.agenda c.row_in-object.ensures
     c.row_in-row.ensures sees.1.view_is))
 
 pub returns-in-Err-clause-asked : goal.returns-in-Err-clause-asked
@@ -163,5 +163,5 @@ returns-in-Err-clause-asked g c =
     c.args.rows.now v c.args.rows.now)
     (sym (c.give_back.ensures.view ∙ c.lend-resource.ensures.view))
     (fails_to_write c.args.file c.args.number c.args.otherwise c.row_in-object.result c.row_in-row.result sees.0
-    c.args.rows.now v c.arg_of-value.new.hand.view rests.agenda rests.lent c.row_in-object.ensures
+    c.args.rows.now v c.arg_of-value.new.hand.view rests.agenda c.row_in-object.ensures
     c.row_in-row.ensures sees.1.view_is))

@@ -30,7 +30,8 @@ loop-task-preserved g c =
       place = λ k t below. let h = was.place (k + 1) t in grind rules;
       begun = λ k b below.
           pushed (λ i b. IfOk b (λ s. let promise = s.promise in
-          job promise.heap.value promise.checked.value.module promise.function promise.times promise.thread ≡ job_of (i + 1))
+          job promise.heap.value promise.checked.value.module promise.function promise.times promise.thread
+          ≡ job_of (i + 1))
           × IfErr b (λ done. Ends g.H.Host.answers g.H.Host.counts (job_of (i + 1)) done.hand done.totals done.called))
           (vec_items c.loop-task.threads) (vec_items c.push.new.self) left c.match-spawn_with.begun added.0
           (λ d. added.1 d (search rules)) was.begun (elim c.match-spawn_with.branch [
@@ -38,7 +39,8 @@ loop-task-preserved g c =
                 subst (λ b. IfOk b (λ s. let promise = s.promise in
                 job promise.heap.value promise.checked.value.module promise.function promise.times promise.thread
                 ≡ job_of (left + 1))
-                × IfErr b (λ done. Ends g.H.Host.answers g.H.Host.counts (job_of (left + 1)) done.hand done.totals done.called))
+                × IfErr b (λ done. Ends g.H.Host.answers g.H.Host.counts (job_of (left + 1)) done.hand done.totals
+                done.called))
                 (sym w.begun-is) (
                   subst (λ p. job p.heap.value p.checked.value.module p.function p.times p.thread ≡ job_of (left + 1))
                       (sym w.in-Ok.ensures.ok) (search (rules, place)),

@@ -10,7 +10,8 @@ invariant-loop-task g l = record {
   room : into_iter_len l.initial.task-iterator ≤ vec_capacity l.threads;
   place : (k : ℕ) (t : _) → k < into_iter_len l.task-iterator → get_or (into_iter_items l.task-iterator) k t
       ≡ get_or (into_iter_items l.initial.task-iterator) (vec_len l.threads + k) t;
-  begun : (k : ℕ) (b : _) → k < vec_len l.threads → IfOk (get_or (vec_items l.threads) k b) (λ s. let promise = s.promise in
+  begun : (k : ℕ) (b : _) → k < vec_len l.threads → IfOk (get_or (vec_items l.threads) k b)
+      (λ s. let promise = s.promise in
       job promise.heap.value promise.checked.value.module promise.function promise.times promise.thread
       ≡ job l.heap l.checked.module l.function l.times (k + 1))
       × IfErr (get_or (vec_items l.threads) k b) (λ done. Ends g.H.Host.answers g.H.Host.counts

@@ -1,0 +1,167 @@
+-- A hand that has put all its work aside, and what it then has at hand: references, and items that it borrows.
+use Rattle.std.proofs.Common.{◌≡◌, ℕ, suc, ◌+◌, ◌≤◌, true, Option, List, [], length, inl, inr, refl, sym, ap, ◌∙◌, subst, arith}
+use Rattle.std.specs.Prelude.{◌==◌}
+use Rattle.std.proofs.lemmas.Bool.{cases_Bool, eq-eqb}
+use Rattle.std.proofs.lemmas.List.Sums.{length-filter}
+use mathlib.Core.Option.{some}
+use lib.ListN.{get_elem?}
+use Rattle.brc_model.specs.declared.duty.Holding.TheVariants.{ByVariable, AsCaller}
+use Rattle.brc_model.specs.declared.actor.Status.TheVariants.{Running}
+use Rattle.brc_model.specs.declared.layout.Layout.{Layout}
+use Rattle.brc_model.specs.Layout.{is_immortal_row, IsCounted}
+use Rattle.brc_model.specs.References.{one_if}
+use Rattle.brc_model.specs.Moves.{gain}
+use Rattle.brc_model.specs.Machine.{Machine, with_moves}
+use Rattle.brc_model.specs.Accounts.{Account, HoldsNone}
+use Rattle.brc_model.specs.OpenWork.{is_about}
+use Rattle.brc_model.specs.declared.address.Address.TheVariants.{Slot}
+use Rattle.brc_model.specs.Counting.{with_account, with_one_more, IsReady, HasNoneAbout, IsAtHand}
+use Rattle.brc_model.specs.CountingLaws.{ImmortalsAreFree}
+use Rattle.brc_table.specs.declared.view.View.{View}
+use Rattle.brc_table.specs.Views.{actor_of, open_work}
+use Rattle.brc_table.specs.Rule.{Stands}
+use Rattle.brc_table.specs.Hands.{HoldsOne, MayUse, HasNoWork}
+use Rattle.brc_table.specs.Begins.{Passes}
+use Rattle.brc_table.proofs.Accounts.{with_account_same, with_account_other, one_more_else, immortal_apart}
+use Rattle.brc_table.proofs.Passing.{passes_on}
+
+-- the hand with all its work put aside
+abbrev pub rested : View → View
+rested v = record v { agenda = []; aside = open_work v }
+
+-- What is known of a hand that runs and has put all its work aside, with none of it about the row.
+pub record Rests (layout : Layout) (words : List ℕ) (views : List View) (id : ℕ) (v : View) (x : ℕ) : Type 0 where
+  pub stands : Stands layout words views
+  pub here : get_elem? views id ≡ some (rested v)
+  pub running : v.status ≡ Running
+  pub free : HasNoWork v x
+
+-- The machine's thread is ready.
+pub is_ready : (layout : Layout) (words : List ℕ) (views : List View) (id : ℕ) (v : View)
+    → (stands : Stands layout words views) → get_elem? views id ≡ some (rested v) → v.status ≡ Running
+    → IsReady stands.machine v.thread (actor_of (rested v))
+is_ready layout words views id v stands here running =
+    record { found = stands.acts id (rested v) here; running = running; agenda = refl }
+
+-- None of the thread's work is about the row.
+pub alone : (v : View) (x : ℕ) → HasNoWork v x → HasNoneAbout (actor_of (rested v)) x
+alone v x free = omega (arith, ap length free, length-filter (is_about x) (open_work v))
+
+-- ---- free references
+
+-- The rule holds with accounts in which the thread has a reference to the object.
+pub record HasOne (layout : Layout) (words : List ℕ) (views : List View) (t x : ℕ) (before : Machine) : Type 0 where
+  pub stands : Stands layout words views
+  pub slots : (y : ℕ) → stands.machine.memory (Slot y) ≡ before.memory (Slot y)
+  pub more : 1 ≤ stands.accounts t AsCaller x
+
+-- The rule holds as well with one reference more to an immortal object: views don't list it, and no word changes.
+gains_one : ImmortalsAreFree → (layout : Layout) (words : List ℕ) (views : List View) (id : ℕ) (v : View) (x : ℕ)
+    → (rests : Rests layout words views id v x) → is_immortal_row v.layout x ≡ true
+    → HasOne layout words views v.thread x rests.stands.machine
+gains_one law layout words views id v x rests immortal =
+    let old = rests.stands in
+    let m = old.machine in
+    let p = old.accounts in
+    let t = v.thread in
+    let more = with_one_more (p t) AsCaller x in
+    let immortal' : is_immortal_row m.layout x ≡ true =
+    subst (λ (l : Layout). is_immortal_row l x ≡ true) (old.told id (rested v) rests.here) immortal in
+    record {
+      stands = record {
+        accounts = with_account p t more;
+        machine = with_moves m (gain t AsCaller x);
+        counts =
+            law p (1 + m.layout.workers) m t (actor_of (rested v)) x old.counts
+            (is_ready layout words views id v old rests.here rests.running) (alone v x rests.free) immortal';
+        layout_is = old.layout_is;
+        plain = old.plain;
+        length_is = old.length_is;
+        reads = old.reads;
+        acts = old.acts;
+        told = old.told;
+        named = old.named;
+        rooted = old.rooted;
+        kinds_seen = old.kinds_seen;
+        cells_seen = old.cells_seen;
+        holding = λ other w y is counted.
+            one_more_else p t x w.thread AsCaller y (immortal_apart m.layout x y immortal' counted)
+            ∙ old.holding other w y is counted;
+        no_variables = λ u depth i y. one_more_else p t x u (ByVariable depth i) y refl ∙ old.no_variables u depth i y;
+        apart = old.apart;
+        idle = λ u low none.
+            let rest = old.idle u low none in (
+              rest.0,
+              subst HoldsNone (sym (with_account_other p t more u (λ e. none id (rested v) rests.here (sym e)))) rest.1,
+            );
+        given = old.given;
+        joined = old.joined;
+        threads = old.threads;
+      };
+      slots = λ y. refl;
+      more =
+          subst (λ (a : Account). 1 ≤ a AsCaller x) (sym (with_account_same p t more))
+          (let one : one_if (x == x) ≡ 1 = ap one_if (eq-eqb x x refl) in omega (arith, one));
+    }
+
+-- If the hand holds the object, the rule holds with accounts in which its thread has a reference to it.
+pub has_one : ImmortalsAreFree → (layout : Layout) (words : List ℕ) (views : List View) (id : ℕ) (v : View) (x : ℕ)
+    → (rests : Rests layout words views id v x) → HoldsOne v x
+    → HasOne layout words views v.thread x rests.stands.machine
+has_one law layout words views id v x rests (inl immortal) = gains_one law layout words views id v x rests immortal
+has_one law layout words views id v x rests (inr one) =
+    elim (cases_Bool (is_immortal_row v.layout x)) [
+      | inl immortal ↦ gains_one law layout words views id v x rests immortal
+      | inr counted ↦
+          let old = rests.stands in
+          let counted' : IsCounted old.machine.layout x =
+          subst (λ (l : Layout). IsCounted l x) (old.told id (rested v) rests.here) counted in
+          record {
+            stands = old;
+            slots = λ y. refl;
+            more = omega (arith, one, old.holding id (rested v) x rests.here counted');
+          }
+    ]
+
+-- What is passed on from there is passed on.
+pub with_one : {layout : Layout} {words : List ℕ} {views after : List View} {t x : ℕ} {before : Machine}
+    {taken : List ℕ} {locked : Option ℕ} (one : HasOne layout words views t x before)
+    → Passes layout words after taken locked one.stands.machine → Passes layout words after taken locked before
+with_one {before = before} one next = passes_on before one.stands.machine (λ y which. one.slots y) next
+
+-- ---- borrowed items
+
+-- The rule holds with accounts in which the thread has a reference to the object, or the object is an item of the list
+-- that the thread has locked.
+pub record HasAtHand (layout : Layout) (words : List ℕ) (views : List View) (v : View) (x : ℕ) (before : Machine)
+    : Type 0 where
+  pub stands : Stands layout words views
+  pub slots : (y : ℕ) → stands.machine.memory (Slot y) ≡ before.memory (Slot y)
+  pub at_hand : IsAtHand (stands.accounts v.thread) stands.machine (actor_of (rested v)) x
+
+-- If the hand may use the object, the rule holds so. What the hand has seen in a cell of its locked list is still
+-- there.
+pub has_at_hand : ImmortalsAreFree → (layout : Layout) (words : List ℕ) (views : List View) (id : ℕ) (v : View) (x : ℕ)
+    → (rests : Rests layout words views id v x) → MayUse v x
+    → HasAtHand layout words views v x rests.stands.machine
+has_at_hand law layout words views id v x rests (inl holding) =
+    let one = has_one law layout words views id v x rests holding in
+    record { stands = one.stands; slots = one.slots; at_hand = inl one.more }
+has_at_hand law layout words views id v x rests (inr borrowed) =
+    let old = rests.stands in
+    let list = borrowed.list in
+    let cell = borrowed.cell in
+    let word = old.cells_seen id list cell (suc x) (rested v) rests.here (inl borrowed.locked) borrowed.seen in
+    record {
+      stands = old;
+      slots = λ y. refl;
+      at_hand =
+          inr (record { list = list; cell = cell; locked = borrowed.locked; word = omega (arith, word) });
+    }
+
+-- What is passed on from there is passed on.
+pub with_at_hand : {layout : Layout} {words : List ℕ} {views after : List View} {v : View} {x : ℕ} {before : Machine}
+    {taken : List ℕ} {locked : Option ℕ} (usable : HasAtHand layout words views v x before)
+    → Passes layout words after taken locked usable.stands.machine → Passes layout words after taken locked before
+with_at_hand {before = before} usable next =
+    passes_on before usable.stands.machine (λ y which. usable.slots y) next

@@ -1,0 +1,95 @@
+-- The rows that a hand speaks of are there.
+use Rattle.std.proofs.Common.{◌≤◌, ◌≡◌, ℕ, ◌+◌, ◌<◌, Bool, true, List, [], ◌∷◌, inl, inr, sym, ap, ◌∙◌, subst, arith}
+use Rattle.std.specs.Prelude.{◌==◌, ◌||◌, ◌&&◌, nat_le, nat_lt}
+use Rattle.std.specs.List.{list_any}
+use Rattle.std.proofs.lemmas.Bool.{cases_Bool, cases_lt, eqb-true, ltb-true}
+use Rattle.std.proofs.lemmas.Option.{slice_get_within}
+use mathlib.Core.Option.{some}
+use lib.ListN.{get_elem?}
+use Rattle.brc_model.specs.declared.duty.Duty.{Duty}
+use Rattle.brc_model.specs.declared.duty.Holding.TheVariants.{AsCaller}
+use Rattle.brc_model.specs.declared.layout.Layout.{Layout}
+use Rattle.brc_model.specs.Limits.{cell_limit}
+use Rattle.brc_model.specs.Layout.{row_count, block_size, none_row, first_immortal_list, is_immortal_row}
+use Rattle.brc_model.specs.Duties.{cells_of}
+use Rattle.brc_model.specs.OpenWork.{is_about}
+use Rattle.brc_model.specs.Ranges.{AreSmall}
+use Rattle.brc_model.specs.Counting.{IsPlainLayout}
+use Rattle.brc_model.specs.CountingLaws.{AccountsAreThere, ChainsAreThere}
+use Rattle.brc_table.specs.declared.view.View.{View}
+use Rattle.brc_table.specs.Views.{actor_of, NamesFewCells, RowsAreThere}
+use Rattle.brc_table.specs.Rule.{Stands}
+use Rattle.brc_table.proofs.Lists.{and_second}
+
+-- An immortal row is none's.
+pub immortal_there : (layout : Layout) (x : ℕ) → IsPlainLayout layout → is_immortal_row layout x ≡ true
+    → x < row_count layout
+immortal_there layout x plain immortal =
+    elim (cases_Bool (x == none_row)) [
+      | inl none ↦ let it = eqb-true x none_row none in omega (arith, it)
+      | inr other ↦
+          let behind = sym (ap (λ (b : Bool). b || (nat_le (first_immortal_list layout) x
+          && nat_lt x (first_immortal_list layout + layout.immortal_lists))) other) ∙ immortal in
+          let low = and_second (nat_le (first_immortal_list layout) x)
+          (nat_lt x (first_immortal_list layout + layout.immortal_lists)) behind in
+          ltb-true x (first_immortal_list layout + layout.immortal_lists) low
+    ]
+
+small_there : (k : ℕ) (ds : List Duty) (x : ℕ) → AreSmall k ds → list_any (is_about x) ds ≡ true → x < k
+small_there k [] x small is = absurd cc
+small_there k (d ∷ ds) x small is = elim (cases_Bool (is_about x d)) [
+  | inl this ↦ small.0.row x this
+  | inr other ↦ small_there k ds x small.1 (sym (ap (λ (b : Bool). b || list_any (is_about x) ds) other) ∙ is)
+]
+
+few_named : (k : ℕ) (ds : List Duty) → AreSmall k ds → NamesFewCells ds
+few_named k [] small = tt
+few_named k (d ∷ ds) small = small.0.cells
+
+pub rows_there : AccountsAreThere → ChainsAreThere → (layout : Layout) (words : List ℕ) (views : List View) (id : ℕ)
+    (v : View) → Stands layout words views → get_elem? views id ≡ some v → RowsAreThere v
+rows_there law chains layout words views id v stands here =
+    let m = stands.machine in
+    let told = stands.told id v here in
+    let found = stands.acts id v here in
+    let chain = chains stands.accounts (1 + m.layout.workers) m v.thread (actor_of v) stands.counts found in
+    let rows : (x : ℕ) → x < row_count m.layout → x < row_count v.layout =
+    λ x low. subst (λ (l : Layout). x < row_count l) (sym told) low in
+    record {
+      thread =
+          subst (λ (l : Layout). v.thread ≤ l.workers) (sym told)
+          (omega (arith, slice_get_within m.actors v.thread (actor_of v) found, stands.counts.kept.core.threads));
+      used =
+          subst (λ (l : Layout). v.used ≤ block_size l v.thread) (sym told)
+          (stands.counts.kept.core.uses v.thread (actor_of v) found).few;
+      main = λ first.
+          subst (λ (l : Layout). v.used ≡ block_size l v.thread) (sym told)
+          ((stands.counts.kept.core.uses v.thread (actor_of v) found).main first);
+      held = λ x held. rows x (elim (cases_Bool (is_immortal_row m.layout x)) [
+        | inl immortal ↦ immortal_there m.layout x stands.plain immortal
+        | inr counted ↦
+            law stands.accounts (1 + m.layout.workers) m v.thread (actor_of v) AsCaller x stands.counts found
+            (omega (arith, held, stands.holding id v x here counted))
+      ]);
+      agenda = λ x is.
+          rows x (small_there (row_count m.layout) v.agenda x
+          (stands.counts.ranges.each v.thread (actor_of v) found) is);
+      aside = λ x is.
+          rows x (small_there (row_count m.layout) v.aside x
+          (stands.counts.ranges.aside v.thread (actor_of v) found) is);
+      head = subst (λ (l : Layout). v.head ≤ row_count l) (sym told) chain.head;
+      cells = few_named (row_count m.layout) v.agenda (stands.counts.ranges.each v.thread (actor_of v) found);
+      locked = λ x e.
+          let lock = (stands.counts.kept.core.each v.thread (actor_of v) found).0.locks x e in
+          rows x (law stands.accounts (1 + m.layout.workers) m v.thread (actor_of v) lock.by x stands.counts found
+          (omega (arith, lock.held_so)));
+      unfinalised = chain.locked;
+      kinds = λ x word seen. elim (cases_lt 0 word) [
+        | inl more ↦
+            subst (λ (w : ℕ). cells_of w ≤ cell_limit) (stands.kinds_seen id x word v here more seen)
+            (stands.counts.ranges.kinds x)
+        | inr none ↦
+            let zero_word : word ≡ 0 = omega (arith, none) in
+            subst (λ (w : ℕ). cells_of w ≤ cell_limit) (sym zero_word) (omega arith)
+      ];
+    }
