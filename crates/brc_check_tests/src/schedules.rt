@@ -37,7 +37,7 @@ fn first_other<'a>(
     Ok(None)
 }
 
-// Sizes and calls. No claim is above the last call.
+// Sizes and calls. No claim and no stop is above the last call.
 const TOP: &str = "\
 line 1 L1: schedule 1
 line 1 L1: schedule 2|
@@ -48,6 +48,8 @@ line 2 L3: schedule 1|workers 01|
 line 2 L2: schedule 1|workers|
 line 2 L2: schedule 1|workers 1 2|
 line 2 L2: schedule 1|rows 4|
+line 2 L2: schedule 1|stop 0|
+line 3 L2: schedule 1|workers 1|stop 0|
 line 3 L3: schedule 1|workers 1|rows 0|
 line 3 L3: schedule 1|workers 1|rows 1025|
 line 4 L3: schedule 1|workers 1|rows 4|call 2 f 1|
@@ -57,6 +59,9 @@ line 4 L3: schedule 1|workers 1|rows 4|call 1 f 1000001|
 line 4 L7: schedule 1|workers 1|rows 4|
 line 5 L7: schedule 1|workers 2|rows 4|call 1 f 1|
 line 5 L2: schedule 1|workers 2|rows 4|call 1 f 1|claim 0 1|
+line 5 L2: schedule 1|workers 2|rows 4|call 1 f 1|stop 0|
+line 5 L3: schedule 1|workers 1|rows 4|call 1 f 1|stop 2|
+line 5 L2: schedule 1|workers 1|rows 4|call 1 f 1|stop 1 1|
 ";
 
 // Lines below the calls of two workers.
@@ -75,8 +80,8 @@ line 6 L2: step 1  1|
 line 7 L2: step 1 ok 1||step 3 ok 1|
 ";
 
-// Claims below them.
-const CLAIMS: &str = "\
+// Claims and stops below them.
+const CLAIMS_AND_STOPS: &str = "\
 line 6 L3: claim 0 32770|
 line 6 L3: claim 3 1|
 line 6 L3: claim x 1|
@@ -87,11 +92,26 @@ line 6 L2: claim 0 1 1|
 line 6 L2: claim 0 ok 1|
 line 6 L2: step 0 1|
 line 6 L7: claim 0 1
+line 6 L3: stop 3|
+line 6 L3: stop x|
+line 6 L3: stop 01|
+line 6 L3: stop |
+line 6 L2: stop|
+line 6 L2: stop 0 1|
+line 6 L2: stop 0 ok 1|
+line 6 L2: Stop 0|
+line 6 L2: step 0|
+line 6 L7: stop 0
+line 8 L3: stop 0|stop 2|stop 3|
 ";
 
 #[test]
 fn refuses_lines(rt: HostRuntime) -> Result<(), Fail> {
-    let tables: [(&[u8], &str); 3] = [(b"", TOP), (TWO_WORKERS, BELOW), (TWO_WORKERS, CLAIMS)];
+    let tables: [(&[u8], &str); 3] = [
+        (b"", TOP),
+        (TWO_WORKERS, BELOW),
+        (TWO_WORKERS, CLAIMS_AND_STOPS),
+    ];
     for (front, cases) in tables {
         assert_eq!(rt; first_other(rt.alloc(), front, cases)?, None);
     }
@@ -136,7 +156,7 @@ fn reads_each_line(rt: HostRuntime) {
     let call: [(&[u8], u32); 1] = [(b"a23456789_bcdefg", 1_000_000)];
     assert!(rt; reads_as(rt.alloc(), one, (1, 1024), &call, &[]));
     let two = b"schedule 1\nworkers 2\nrows 4\ncall 1 f 1\ncall 2 f 1\n\
-        step 0 fault 1000000\nstep 2 ok 1\nclaim 0 32769\nstep 1 ok 3\nclaim 2 0\n";
+        step 0 fault 1000000\nstep 2 ok 1\nclaim 0 32769\nstep 1 ok 3\nclaim 2 0\nstop 2\nstop 0\n";
     let calls: [(&[u8], u32); 2] = [(b"f", 1), (b"f", 1)];
     let steps = [
         (0, Choice::Fault, 1_000_000),
@@ -144,6 +164,8 @@ fn reads_each_line(rt: HostRuntime) {
         (0, Choice::Claim { row: 32_769 }, 1),
         (1, Choice::Ok, 3),
         (2, Choice::Claim { row: 0 }, 1),
+        (2, Choice::Stop, 1),
+        (0, Choice::Stop, 1),
     ];
     assert!(rt; reads_as(rt.alloc(), two, (2, 4), &calls, &steps));
 }

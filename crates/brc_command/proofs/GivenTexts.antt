@@ -2,6 +2,7 @@
 use Rattle.std.proofs.Common.{◌≡◌, ℕ, List, Option, Some, ◌⊎◌, subst, sym, inl, inr}
 use Rattle.brc_lang.specs.declared.module.Module.{Module}
 use Rattle.brc_schedule.specs.declared.schedule.Schedule.{Schedule}
+use Rattle.brc_check.specs.Accepted.{Accepted}
 use Rattle.brc_command.specs.declared.step_fault.StepFault.{StepFault}
 use Rattle.brc_command.specs.declared.step_fault.StepFault.TheVariants.{Text, Plan, Refused, NoFunction, NoMemory}
 use Rattle.brc_command.specs.declared.step_fault.StepFault.TheVariants.{Output}
@@ -71,11 +72,12 @@ later after gives path plan no_more read = record {
 
 module _ (gives : List ℕ → List ℕ → Type 0) (file schedule bytes plan : List ℕ)
     (read : ReadsAsModule gives file bytes) (planned : ReadsAsSchedule gives schedule plan) where
-  pub texts_ready : (m : Module) (s : Schedule) → IsReady bytes plan m s → IsReady read.text planned.text m s
+  pub texts_ready : (m : Accepted) (s : Schedule) → IsReady bytes plan m s → IsReady read.text planned.text m s
   texts_ready m s ready = record {
-    module_read = read.spelled m ready.module_read;
+    module_read = read.spelled m.module ready.module_read;
     schedule_read = planned.spelled s ready.schedule_read;
     accepted = ready.accepted;
+    states_true = ready.states_true;
     known = ready.known;
   }
 
@@ -121,7 +123,8 @@ module _ (gives : List ℕ → List ℕ → Type 0) (file schedule bytes plan : 
 
   pub step_reason : (lacks : List ℕ → Type 0) (e : StepFault) → (e ≡ Output) ⊎ IsFaultOfTexts bytes plan e
       → IsStepReason gives lacks file schedule (Fault e)
-  step_reason lacks e (inl same) = subst (λ (f : StepFault). IsStepReason gives lacks file schedule (Fault f)) (sym same) tt
+  step_reason lacks e (inl same) = subst (λ (f : StepFault). IsStepReason gives lacks file schedule (Fault f))
+      (sym same) tt
   step_reason lacks NoMemory (inr fault) = tt
   step_reason lacks Output (inr fault) = tt
   step_reason lacks (Text e) (inr fault) = at_fault (Text e) fault

@@ -1,6 +1,6 @@
 -- What the steps or the trace of two files leave, from what those of their texts leave.
 use Rattle.std.proofs.Common.{ℕ, List, Option, inl, inr, refl}
-use Rattle.brc_lang.specs.declared.module.Module.{Module}
+use Rattle.brc_check.specs.Accepted.{Accepted}
 use Rattle.brc_report.specs.declared.paint.Paint.{Paint}
 use Rattle.brc_schedule.specs.declared.schedule.Schedule.{Schedule}
 use Rattle.brc_command.specs.declared.step_fault.StepFault.{StepFault}
@@ -17,7 +17,7 @@ use Rattle.brc_command.proofs.GivenTexts.{texts_ready}
 module _ (gives : List ℕ → List ℕ → Type 0) (file schedule bytes plan : List ℕ)
     (old new : Option (List ℕ)) (read : ReadsAsModule gives file bytes) (planned : ReadsAsSchedule gives schedule plan)
     (apart : IsStandardInput file → IsStandardInput schedule → ⊥) where
-  ready_texts : (m : Module) (s : Schedule) → IsReady bytes plan m s → IsReady read.text planned.text m s
+  ready_texts : (m : Accepted) (s : Schedule) → IsReady bytes plan m s → IsReady read.text planned.text m s
   ready_texts m s ready = texts_ready gives file schedule bytes plan read planned m s ready
 
   pub step_reported : StepsTo bytes plan old new → Reports (HasStepReport gives file schedule) old new

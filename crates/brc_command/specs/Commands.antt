@@ -6,6 +6,7 @@ use Rattle.brc_lang.specs.Grammar.{Spells}
 use Rattle.brc_lang.specs.Fault.{HasFault}
 use Rattle.brc_lang.specs.Written.{AppendsBeginning}
 use Rattle.brc_check.specs.Refusal.{IsRefusedFor}
+use Rattle.brc_check.specs.Accepted.{Accepted}
 use Rattle.brc_report.specs.declared.paint.Paint.{Paint}
 use Rattle.brc_report.specs.declared.tally.Tally.{Tally}
 use Rattle.brc_report.specs.Report.{tally_text}
@@ -43,7 +44,7 @@ IsStandardInput path = path ≡ codes "-"
 pub record HasStepReport (gives : List ℕ → List ℕ → Type 0) (file schedule text : List ℕ) : Type 0 where
   pub module_text : List ℕ
   pub schedule_text : List ℕ
-  pub m : Module
+  pub m : Accepted
   pub s : Schedule
   pub module_given : gives file module_text
   pub schedule_given : gives schedule schedule_text
@@ -55,7 +56,7 @@ pub record HasTraceReport (gives : List ℕ → List ℕ → Type 0) (paint : Pa
     : Type 0 where
   pub module_text : List ℕ
   pub schedule_text : List ℕ
-  pub m : Module
+  pub m : Accepted
   pub s : Schedule
   pub module_given : gives file module_text
   pub schedule_given : gives schedule schedule_text

@@ -6,9 +6,12 @@ use Rattle.brc_lang.specs.Grammar as modules
 use Rattle.brc_lang.specs.Fault as module_faults
 use Rattle.brc_lang.specs.Written.{AppendsBeginning}
 use Rattle.brc_model.specs.Paths.{IsAcceptable}
+use Rattle.brc_model.specs.Tables.{AreTrueWhereReached}
 use Rattle.brc_model.specs.StepMachine.{StepMachine, first_machine, machine_after}
 use Rattle.brc_model.specs.World.{World, first_world}
+use Rattle.brc_check.specs.Accepted.{Accepted}
 use Rattle.brc_check.specs.Refusal.{IsRefusedFor}
+use Rattle.brc_check.specs.Tables.{states_of}
 use Rattle.brc_schedule.specs.declared.schedule.Schedule.{Schedule}
 use Rattle.brc_report.specs.declared.tally.Tally.{Tally}
 use Rattle.brc_schedule.specs.Text as schedules
@@ -24,34 +27,44 @@ use Rattle.brc_report.specs.Report.{tally_text}
 
 -- ---- the steps
 
--- the texts spell an accepted module, and a schedule whose calls are of its functions
-pub record IsReady (module_text schedule_text : List ℕ) (m : Module) (s : Schedule) : Type 0 where
-  pub module_read : modules.Spells module_text m
+-- The texts spell an accepted module, and a schedule whose calls are of its functions. The states that the module's
+-- table gives are true at each point that a path reaches.
+pub record IsReady (module_text schedule_text : List ℕ) (m : Accepted) (s : Schedule) : Type 0 where
+  pub module_read : modules.Spells module_text m.module
   pub schedule_read : schedules.Spells schedule_text s
-  pub accepted : IsAcceptable m
-  pub known : AreKnown m s.calls
+  pub accepted : IsAcceptable m.module
+  pub states_true : AreTrueWhereReached m.module (states_of m.module m.table)
+  pub known : AreKnown m.module s.calls
+
+-- the machine before the schedule's steps
+abbrev pub machine_before : Accepted → Schedule → StepMachine
+machine_before m s = first_machine m.module (states_of m.module m.table) s.rows (calls_of m.module s.calls)
+
+-- the world before the schedule's steps
+abbrev pub world_before : Accepted → Schedule → World
+world_before m s = first_world m.module (states_of m.module m.table) s.rows (calls_of m.module s.calls)
 
 -- the world after the schedule's steps
-abbrev pub last_world : Module → Schedule → World
-last_world m s = world_after (first_world m s.rows (calls_of m s.calls)) (events_of s.steps)
+abbrev pub last_world : Accepted → Schedule → World
+last_world m s = world_after (world_before m s) (events_of s.steps)
 
 -- the machine after the schedule's steps
-abbrev pub last_machine : Module → Schedule → StepMachine
-last_machine m s = machine_after (first_machine m s.rows (calls_of m s.calls)) (events_of s.steps)
+abbrev pub last_machine : Accepted → Schedule → StepMachine
+last_machine m s = machine_after (machine_before m s) (events_of s.steps)
 
-abbrev pub report : Module → Schedule → List ℕ
+abbrev pub report : Accepted → Schedule → List ℕ
 report m s = tally_text (tally_of (last_world m s))
 
 -- the tally after the steps
 pub record HasTally (module_text schedule_text : List ℕ) (tally : Tally) : Type 0 where
-  pub m : Module
+  pub m : Accepted
   pub s : Schedule
   pub ready : IsReady module_text schedule_text m s
   pub counted : tally ≡ tally_of (last_world m s)
 
 -- the whole report is written
 pub record StepsTo (module_text schedule_text : List ℕ) (old new : Option (List ℕ)) : Type 0 where
-  pub m : Module
+  pub m : Accepted
   pub s : Schedule
   pub ready : IsReady module_text schedule_text m s
   pub reported : Appends old new (report m s)
@@ -60,7 +73,7 @@ pub record StepsTo (module_text schedule_text : List ℕ) (old new : Option (Lis
 
 -- a prefix of the report is written
 pub record StepsTowards (module_text schedule_text : List ℕ) (old new : Option (List ℕ)) : Type 0 where
-  pub m : Module
+  pub m : Accepted
   pub s : Schedule
   pub ready : IsReady module_text schedule_text m s
   pub begun : AppendsBeginning old new (report m s)

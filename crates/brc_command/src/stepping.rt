@@ -80,6 +80,7 @@ fn tally_of_texts<T: Terminal>(
     let module = module_of(alloc, module)?;
     let schedule = schedule_of(alloc, schedule)?;
     let checked = accepted(alloc, module)?;
+    checked.states_are_true();
     let calls = calls_of(alloc, checked.module(), &schedule)?;
     Ok(last_tally(alloc, &checked, &schedule, calls.as_slice(), terminal)?)
 }
@@ -94,7 +95,7 @@ fn last_tally<T: Terminal>(
     requires fits { IsSchedule schedule.now }
     requires found { calls.now ≡ calls_of checked.now.module schedule.now.calls }
     requires calls_fit { AreCalls checked.now.module calls.now }
-    ensures { IfOk result (λ tally. tally ≡ tally_of (last_world checked.now.module schedule.now)) }
+    ensures { IfOk result (λ tally. tally ≡ tally_of (last_world checked.now schedule.now)) }
 {
     let workers = usize::from(schedule.workers);
     let mut world = World::new(alloc, checked, workers, schedule.rows, calls)?;

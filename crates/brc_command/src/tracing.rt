@@ -60,6 +60,7 @@ pub fn trace_text_in<W: Write>(
     let module = module_of(alloc, module)?;
     let schedule = schedule_of(alloc, schedule)?;
     let checked = accepted(alloc, module)?;
+    checked.states_are_true();
     let calls = calls_of(alloc, checked.module(), &schedule)?;
     write_traced(alloc, &checked, &schedule, calls.as_slice(), paint, out)
 }
@@ -76,10 +77,10 @@ fn write_traced<W: Write>(
     requires found { calls.now ≡ calls_of checked.now.module schedule.now.calls }
     requires calls_fit { AreCalls checked.now.module calls.now }
     ensures whole { OnOk result (Appends (W.contents out.old) (W.contents out.new)
-        (traced_report paint checked.now.module schedule.now)) }
+        (traced_report paint checked.now schedule.now)) }
     ensures fault { IfErr result (λ e. (e ≡ Output) ⊎ (e ≡ MemoryRefused)) }
     ensures begun { OnErr result (AppendsBeginning (W.contents out.old) (W.contents out.new)
-        (traced_report paint checked.now.module schedule.now)) }
+        (traced_report paint checked.now schedule.now)) }
 {
     let workers = usize::from(schedule.workers);
     let mut world = World::new(alloc, checked, workers, schedule.rows, calls)?;

@@ -25,15 +25,16 @@ const OWN_AND_OTHER: &[u8] =
       func other\nnone v1\nlock v0\nput v0 0 v1 else @3\nfetch v2 v0 1 else @5\nset v0 0 v2 else @5\nunlock v0\n\
       ret v1\nend\n";
 
-// The index is past the root's eight cells.
-const SET_PAST_THE_END: &[u8] =
+/// The index is past the root's eight cells.
+pub const SET_PAST_THE_END: &[u8] =
     b"module 1\nfunc f\nnum v1 7 else @6\nlock v0\nset v0 200 v1 else @5\nunlock v0\nfail\nunlock v0\nfail\nend\n";
 
 // A list that is its own item.
 const CYCLE: &[u8] =
     b"module 1\nfunc f\nlist v1 1 else @6\nnewref v2 v1\nlock v1\nset v1 0 v2 else @4\nunlock v1\ndrop v1\nfail\nend\n";
 
-const TWO_CLOSED: &[u8] =
+/// The report of two workers that are gone, with the root and one more object.
+pub const TWO_CLOSED: &[u8] =
     b"threads 2\nrunning 0\ncreated 2\nclosed 2\nalive 0\nhost faults 0\nclose faults 0\n";
 
 // `set` steals the number on both exits, `put` on neither. What is borrowed ends with the lock.

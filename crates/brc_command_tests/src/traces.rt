@@ -31,18 +31,78 @@ close faults 0
 left 1 list
 ";
 
+// A list and a number, and a lock of the list.
+const TWO_OWNED: &[u8] =
+    b"module 1\nfunc f\nlist v1 1 else @6\nnum v2 7 else @5\nlock v1\nunlock v1\ndrop v2\ndrop v1\nfail\nend\n";
+
+// Worker 1 stops with the list locked. The stops of main, inside the birth, and of a worker that has stopped change
+// nothing: they have no line, and are counted.
+const STOP_PLAN: &[u8] =
+    b"schedule 1\nworkers 1\nrows 4\ncall 1 f 1\nstop 0\nstep 1 ok 1\nstop 1\nstep 1 ok 4\nstop 1\nstop 1\n\
+      step 1 ok 25\nstop 1\n";
+
+// The worker unlocks first. It gives up `v1` and then `v2`, and closes both after that, the last one first.
+const STOP_TRACE: &[u8] =
+    b"2  thread 1  f @0 list v1 1 else @6  KindOfOther  row 2 kind: unborn -> list 1
+4  thread 1  f @0 list v1 1 else @6  Born  row 2 local: nobody -> owner 1, 1  row 2 born
+5  thread 1  f @1 num v2 7 else @5  KindOfOther  row 3 kind: unborn -> num 7
+6  thread 1  f @1 num v2 7 else @5  Born  row 3 local: nobody -> owner 1, 1  row 3 born
+7  thread 1  f @2 lock v1  Locks  row 2 gate: free -> locked by 1  row 2 locked
+8  thread 1  stop  Silent
+10  thread 1  stop  Unlocks  row 2 gate: locked by 1 -> free  row 2 unlocked
+11  thread 1  stop  OwnerReleases  row 2 local: owner 1, 1
+12  thread 1  stop  LocalReachesZero  row 2 local: owner 1, 1 -> 0  row 2 given up
+13  thread 1  stop  NothingShared  row 2 shared: 0 default  row 2 dies
+14  thread 1  stop  Chained  row 2 gate: free -> dying by 1, last
+15  thread 1  stop  OwnerReleases  row 3 local: owner 1, 1
+16  thread 1  stop  LocalReachesZero  row 3 local: owner 1, 1 -> 0  row 3 given up
+17  thread 1  stop  NothingShared  row 3 shared: 0 default  row 3 dies
+18  thread 1  stop  Chained  row 3 gate: free -> dying by 1, then row 2
+19  thread 1  stop  ChainRead  row 3 gate: dying by 1, then row 2
+20  thread 1  stop  DyingCells  row 3 kind: num 7
+21  thread 1  stop  Closes  row 3 gate: dying by 1, then row 2 -> closed  row 3 closed
+22  thread 1  stop  ChainRead  row 2 gate: dying by 1, last
+23  thread 1  stop  DyingCells  row 2 kind: list 1
+24  thread 1  stop  CellEmptied  row 2 cell 0: empty
+25  thread 1  stop  Closes  row 2 gate: dying by 1, last -> closed  row 2 closed
+26  thread 1  exit: root  OtherReleases  row 1 local: owner 0, 2
+27  thread 1  exit: root  SharedRead  row 1 shared: 0 default
+28  thread 1  exit: root  Queues  row 1 shared: 0 default -> 0 queued  row 1 given up, row 1 queued
+29  thread 1  exit: root  Marked  row 1 mark: clear -> set
+30  thread 1  exit: root  OwnerRuns  thread 0: running
+31  thread 1  exit: leave  SaysLeaving  thread 1: running -> leaving
+32  thread 1  exit: marks  ScanFindsNone  row 2 mark: clear
+33  thread 1  exit: marks  ScanFindsNone  row 3 mark: clear
+34  thread 1  exit: gone  SaysGone  thread 1: leaving -> gone
+threads 1
+running 1
+created 3
+closed 2
+alive 1
+host faults 0
+close faults 0
+left 1 list
+";
+
+const TRACES: &[(&[u8], &[u8], &[u8])] = &[
+    (SMALLEST, PLAN, TRACE),
+    (TWO_OWNED, STOP_PLAN, STOP_TRACE),
+];
+
 // By the command line, and by its texts. Nothing is traced of a text that can't be read.
 #[test]
-fn traces_the_smallest_module(rt: HostRuntime) {
+fn traces_two_modules(rt: HostRuntime) {
     let words = ["brc", "step", "m.brc", "s.txt", "--trace"];
-    let (out, err, status) = acts(&rt, words.as_slice(), Ok(SMALLEST), Ok(PLAN));
-    assert!(rt; out.as_slice() == TRACE);
-    assert!(rt; err.is_empty());
-    assert_eq!(rt; status, 0);
-    let mut traced: Vec<u8> = Vec::new(rt.alloc());
-    let result = trace_text(rt.alloc(), SMALLEST, PLAN, &mut traced);
-    assert!(rt; result.is_ok());
-    assert!(rt; traced.as_slice() == TRACE);
+    for (module, plan, trace) in TRACES {
+        let (out, err, status) = acts(&rt, words.as_slice(), Ok(*module), Ok(*plan));
+        assert!(rt; out.as_slice() == *trace);
+        assert!(rt; err.is_empty());
+        assert_eq!(rt; status, 0);
+        let mut traced: Vec<u8> = Vec::new(rt.alloc());
+        let result = trace_text(rt.alloc(), module, plan, &mut traced);
+        assert!(rt; result.is_ok());
+        assert!(rt; traced.as_slice() == *trace);
+    }
     let mut untraced: Vec<u8> = Vec::new(rt.alloc());
     let result = trace_text(rt.alloc(), b"module 1\nfunc f\n", PLAN, &mut untraced);
     assert!(rt; result.is_err());

@@ -13,11 +13,10 @@ use Rattle.brc_model.specs.declared.slot.State.{State}
 use Rattle.brc_model.specs.declared.slot.Exit.{Exit}
 use Rattle.brc_model.specs.declared.slot.Exit.TheVariants.{Success, Fault as FaultExit}
 use Rattle.brc_model.specs.Paths.{PathEnd, At, Ended, Reports, follow, path_end}
-use Rattle.brc_model.specs.Tables.{entry_at}
 use Rattle.brc_check.specs.declared.path.Path.{Path}
 use Rattle.brc_check.specs.declared.path.Path.TheVariants as paths
 use Rattle.brc_check.specs.declared.refused.Refused.{Refused}
-use Rattle.brc_check.specs.Filling.{AreReached}
+use Rattle.brc_check.specs.Filling.{entry_at, AreReached}
 use Rattle.brc_check.specs.PathTo.{IsPathTo}
 use Rattle.brc_explain.specs.declared.rows.Row.{Row}
 use Rattle.brc_explain.specs.declared.rows.StepRow.{StepRow}

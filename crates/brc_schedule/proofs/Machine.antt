@@ -85,6 +85,9 @@ step_operands thread choice times = decimal thread ∷ choice ∷ decimal times 
 abbrev claim_operands : ℕ → ℕ → List (List ℕ)
 claim_operands thread row = decimal thread ∷ decimal row ∷ []
 
+abbrev stop_operands : ℕ → List (List ℕ)
+stop_operands thread = decimal thread ∷ []
+
 abbrev plan : ℕ → ℕ → List PlannedCall → List Steps → Schedule
 plan workers rows calls steps = record { workers = workers; rows = rows; calls = calls; steps = steps }
 
@@ -152,6 +155,7 @@ module _ (laws : TextsRoundTrip) where
   one_of_steps thread times choices.Fault plain =
       one_line (codes "step") (step_operands thread (codes "fault") times) plain
   one_of_steps thread times (choices.Claim row) plain = one_line (codes "claim") (claim_operands thread row) plain
+  one_of_steps thread times choices.Stop plain = one_line (codes "stop") (stop_operands thread) plain
 
   steps_line_passes : (n : ℕ) (b c : Beginning) (thread times : ℕ) (choice : Choice) (rest : List ℕ)
       → AllByRecursion IsPlain (words_of thread times choice) → next_of b (words_of thread times choice) ≡ Ok c
@@ -162,6 +166,8 @@ module _ (laws : TextsRoundTrip) where
       line_passes n b c (codes "step") (step_operands thread (codes "fault") times) rest plain next
   steps_line_passes n b c thread times (choices.Claim row) rest plain next =
       line_passes n b c (codes "claim") (claim_operands thread row) rest plain next
+  steps_line_passes n b c thread times choices.Stop rest plain next =
+      line_passes n b c (codes "stop") (stop_operands thread) rest plain next
 
   calls_pass : (n workers rows : ℕ) (front calls : List PlannedCall) (rest : List ℕ) → workers ≤ worker_limit
       → AllByRecursion IsPlannedCall calls → length front + length calls ≤ workers

@@ -68,7 +68,9 @@ call_own worker (w ∷ turn ∷ name ∷ times ∷ x ∷ ws) = own_word
 steps_own : (workers : ℕ) (ws : List (List ℕ)) → IsOwn (steps_in workers ws)
 steps_own workers [] = own_word
 steps_own workers (w ∷ []) = own_word
-steps_own workers (w ∷ thread ∷ []) = own_word
+steps_own workers (w ∷ thread ∷ []) =
+    own_either (bytes_eq w (codes "stop")) _ (Err UnknownWord)
+    (own_then (number_between 0 workers thread) _ (between_own 0 workers thread) (λ t. tt)) own_word
 steps_own workers (w ∷ thread ∷ row ∷ []) =
     own_either (bytes_eq w (codes "claim")) _ (Err UnknownWord)
     (own_then (number_between 0 workers thread) _ (between_own 0 workers thread) (λ t.

@@ -37,6 +37,9 @@ four_same a b c d e f g h p q r s = cc
 three_same : (a b c d e f : List ℕ) → a ≡ d → b ≡ e → c ≡ f → (a ∷ b ∷ c ∷ []) ≡ (d ∷ e ∷ f ∷ [])
 three_same a b c d e f p q r = cc
 
+two_same : (a b c d : List ℕ) → a ≡ c → b ≡ d → (a ∷ b ∷ []) ≡ (c ∷ d ∷ [])
+two_same a b c d p q = cc
+
 abbrev pub SizeSpelled : List ℕ → ℕ → List (List ℕ) → ℕ → Type 0
 SizeSpelled name most ws n = (ws ≡ size_words name n) × (0 < n) × (n ≤ most)
 
@@ -128,7 +131,19 @@ module _ (laws : TextsRoundTrip) where
       → steps_in workers ws ≡ Ok steps → StepsSpelled workers ws steps
   steps_spelled workers [] steps small e = absurd cc
   steps_spelled workers (w ∷ []) steps small e = absurd cc
-  steps_spelled workers (w ∷ thread ∷ []) steps small e = absurd cc
+  steps_spelled workers (w ∷ thread ∷ []) steps small e =
+      elim (chosen (bytes_eq w (codes "stop")) _ (Err UnknownWord) (Ok steps) e) [
+        | inl h ↦
+            let t = bind_ok (number_between 0 workers thread) _ steps h.1 in
+            let numbered = between_spelled 0 workers thread t.0 small t.1 in
+            let made : Steps = record { thread = t.0; choice = choices.Stop; times = 1 } in
+            let fits : AreSteps workers made =
+            record { thread = numbered.2; some = omega arith; most = omega arith; choice = refl } in
+            let same : (w ∷ thread ∷ []) ≡ step_words made =
+            two_same w thread (codes "stop") (decimal t.0) (same_text w (codes "stop") h.0) numbered.0 in
+            subst (StepsSpelled workers (w ∷ thread ∷ [])) (steps_is made steps t.2) (same, fits)
+        | inr never ↦ let f = never.1 in absurd cc
+      ]
   steps_spelled workers (w ∷ thread ∷ row ∷ []) steps small e =
       elim (chosen (bytes_eq w (codes "claim")) _ (Err UnknownWord) (Ok steps) e) [
         | inl h ↦
@@ -199,6 +214,8 @@ module _ (laws : TextsRoundTrip) where
         between_again 0 last_row row (omega arith) fits.1 (omega arith),
         fits.0,
       ) refl
+  words_again workers thread times choices.Stop small who some most fits =
+      rw (between_again 0 workers thread (omega arith) who small, fits) refl
 
   pub steps_again : (workers : ℕ) (steps : Steps) → workers < 2 ^ 64 → AreSteps workers steps
       → steps_in workers (step_words steps) ≡ Ok steps
@@ -242,6 +259,7 @@ module _ (laws : TextsRoundTrip) where
   )
   words_plain thread times (choices.Claim row) small most fits =
       ((refl, refl), (laws.number_laws.plain thread small, (laws.number_laws.plain row (omega (arith, fits.1)), tt)))
+  words_plain thread times choices.Stop small most fits = ((refl, refl), (laws.number_laws.plain thread small, tt))
 
   pub steps_plain : (workers : ℕ) (steps : Steps) → workers < 2 ^ 64 → AreSteps workers steps
       → AllByRecursion IsPlain (step_words steps)

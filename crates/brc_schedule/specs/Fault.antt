@@ -53,6 +53,10 @@ steps_in workers (w ∷ thread ∷ row ∷ []) =
     then (number_between 0 workers thread >>= λ t. number_between 0 last_row row
     >>= λ r. Ok (record { thread = t; choice = choices.Claim r; times = 1 }))
     else Err UnknownWord
+steps_in workers (w ∷ thread ∷ []) =
+    if bytes_eq w (codes "stop")
+    then (number_between 0 workers thread >>= λ t. Ok (record { thread = t; choice = choices.Stop; times = 1 }))
+    else Err UnknownWord
 steps_in workers _ = Err UnknownWord
 
 -- ---- a line after those above it

@@ -28,6 +28,7 @@ abbrev pub words_of : ℕ → ℕ → Choice → List (List ℕ)
 words_of thread times choices.Ok = codes "step" ∷ decimal thread ∷ codes "ok" ∷ decimal times ∷ []
 words_of thread times choices.Fault = codes "step" ∷ decimal thread ∷ codes "fault" ∷ decimal times ∷ []
 words_of thread times (choices.Claim row) = codes "claim" ∷ decimal thread ∷ decimal row ∷ []
+words_of thread times choices.Stop = codes "stop" ∷ decimal thread ∷ []
 
 abbrev pub step_words : Steps → List (List ℕ)
 step_words steps = words_of steps.thread steps.times steps.choice
@@ -59,11 +60,12 @@ pub record IsPlannedCall (call : PlannedCall) : Type 0 where
   pub some : 0 < call.times
   pub most : call.times ≤ times_limit
 
--- a claim is one step, since its line gives no number of times, at a row of the largest world
+-- a claim or a stop is one step, since its line gives no number of times; a claim is at a row of the largest world
 abbrev pub IsChoiceOf : ℕ → Choice → Type 0
 IsChoiceOf times choices.Ok = Unit {0}
 IsChoiceOf times choices.Fault = Unit {0}
 IsChoiceOf times (choices.Claim row) = (times ≡ 1) × (row ≤ last_row)
+IsChoiceOf times choices.Stop = times ≡ 1
 
 -- steps of main or of a worker
 pub record AreSteps (workers : ℕ) (steps : Steps) : Type 0 where

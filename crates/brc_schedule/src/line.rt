@@ -50,10 +50,13 @@ pub fn planned_call(worker: u32, text: &[u8]) -> Result<PlannedCall, FaultCode>
     })
 }
 
-/// Reads the steps of a thread, or its claim. Returns `UnknownWord` or `Number`.
+/// Reads the steps of a thread, its claim or its stop. Returns `UnknownWord` or `Number`.
 pub fn steps(workers: u8, text: &[u8]) -> Result<Steps, FaultCode>
     ensures { result ≡ steps_in workers (words text.now) }
 {
+    if let Some((word, thread)) = two_words(text) {
+        return stop(workers, word, thread);
+    }
     if let Some((word, thread, row)) = three_words(text) {
         return claim(workers, word, thread, row);
     }
@@ -85,6 +88,21 @@ fn claim(workers: u8, word: &[u8], thread: &[u8], row: &[u8]) -> Result<Steps, F
     Ok(Steps {
         thread,
         choice: Choice::Claim { row },
+        times: 1,
+    })
+}
+
+/// Reads a stop: one step in which the thread stops, if it is between two instructions.
+fn stop(workers: u8, word: &[u8], thread: &[u8]) -> Result<Steps, FaultCode>
+    ensures { result ≡ steps_in workers (word.now ∷ thread.now ∷ []) }
+{
+    if !is_word(word, b"stop") {
+        return Err(FaultCode::UnknownWord);
+    }
+    let thread = thread_of(workers, thread)?;
+    Ok(Steps {
+        thread,
+        choice: Choice::Stop,
         times: 1,
     })
 }

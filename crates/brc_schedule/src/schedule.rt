@@ -10,7 +10,7 @@ pub struct Schedule {
     pub rows: u16,
     /// One call for each worker, in the order of the workers.
     pub calls: Sequence<PlannedCall>,
-    /// The steps and claims, in order.
+    /// The steps, claims and stops, in order.
     pub steps: Sequence<Steps>,
 }
 
@@ -29,6 +29,6 @@ pub struct Steps {
     pub thread: u8,
     /// The choice of each step; the row of a claim is 0 to 32769, the last row of the largest world.
     pub choice: Choice,
-    /// How many steps, 1 to 1,000,000; a claim is one step.
+    /// How many steps, 1 to 1,000,000; a claim or a stop is one step.
     pub times: u32,
 }

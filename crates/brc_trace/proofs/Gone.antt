@@ -6,7 +6,7 @@ use Rattle.brc_model.specs.declared.actor.Status.TheVariants.{Running, Leaving, 
 use Rattle.brc_model.specs.declared.layout.Layout.{Layout}
 use Rattle.brc_model.specs.declared.thread.Choice.{Choice}
 use Rattle.brc_model.specs.declared.thread.Choice.TheVariants as choices
-use Rattle.brc_model.specs.Actions.{StepActor, Action, Skip, is_idle, may_claim, action_of, exit_of}
+use Rattle.brc_model.specs.Actions.{StepActor, Action, Skip, is_idle, is_before_instruction, may_claim, may_stop, action_of, exit_of}
 use Rattle.brc_model.specs.Machine.{is_running}
 use Rattle.brc_model.specs.Safety.{has_gone}
 use Rattle.brc_model.specs.StepMachine.{of_thread, machine_by}
@@ -24,27 +24,32 @@ claims_none : (layout : Layout) (t : ℕ) (a : StepActor) (row : ℕ) → a.acto
 claims_none layout t a row gone =
     and_left _ _ (and_left _ _ (and_left _ _ (and_right (is_idle a.place) _ (ap is_running gone))))
 
+stops_none : (a : StepActor) → a.actor.status ≡ Gone → may_stop a ≡ false
+stops_none a gone = and_left _ _ (and_right (is_before_instruction a.place) _ (ap is_running gone))
+
 status_gone : (s : Status) → has_gone s ≡ true → s ≡ Gone
 status_gone Gone e = refl
 status_gone Running e = absurd cc
 status_gone Leaving e = absurd cc
 
 acts : (w : World) (t : ℕ) (choice : Choice) (a : StepActor) → a.actor.status ≡ Gone
-    → action_of w.functions w.layout t a choice ≡ Skip
+    → action_of w.functions w.states w.layout t a choice ≡ Skip
 acts w t choices.Ok a gone = rw gone refl
 acts w t choices.Fault a gone = rw gone refl
 acts w t (choices.Claim row) a gone = rw (claims_none w.layout t a row gone) refl
+acts w t choices.Stop a gone = rw (stops_none a gone) refl
 
 stays_among : (w : World) (t : ℕ) (choice : Choice) (o : Option StepActor) → is_gone o ≡ true
     → world_of (of_thread (machine_of w) (λ a. machine_by (machine_of w) t a (exit_of choice)
-    (action_of w.functions w.layout t a choice)) o) ≡ w
+    (action_of w.functions w.states w.layout t a choice)) o) ≡ w
 stays_among w t choice None e = refl
 stays_among w t choice (Some a) e =
     ap (λ (action : Action). world_of (machine_by (machine_of w) t a (exit_of choice) action))
     (acts w t choice a (status_gone a.actor.status e))
 
 unseen_among : (w : World) (t : ℕ) (choice : Choice) (o : Option StepActor) → is_gone o ≡ true
-    → of_thread None (λ a. sight_by w.layout t w.memory a choice (action_of w.functions w.layout t a choice)) o ≡ None
+    → of_thread None (λ a. sight_by w.layout t w.memory a choice (action_of w.functions w.states w.layout t a choice))
+    o ≡ None
 unseen_among w t choice None e = refl
 unseen_among w t choice (Some a) e =
     ap (λ (action : Action). sight_by w.layout t w.memory a choice action)

@@ -48,7 +48,8 @@ module _ (paint : Paint) (functions : List Function) (w : World) (past : Past) w
   one_more t choice done at now new last a b c first second =
       subst (λ (l : List (ℕ × Choice)). IsTraced paint functions w past l new last a c)
       (replicate_more done (t, choice))
-      (traced_then paint functions w past (repeated t choice done) ((t, choice) ∷ []) at now new last a b c first second)
+      (traced_then paint functions w past (repeated t choice done) ((t, choice) ∷ []) at now new last a b c first
+      second)
 
   pub one_stops : (t : ℕ) (choice : Choice) (done times : ℕ) (at : World) (now : Past) (new : World)
       (a b c : Option (List ℕ)) → done < times
@@ -77,7 +78,8 @@ module _ (paint : Paint) (functions : List Function) (w : World) (past : Past) w
   next_events : (lines : List Steps) (i : ℕ) (d : Steps) → i < length lines
       → events_of (take i lines) ++ events_of_line (get_or lines i d) ≡ events_of (take (i + 1) lines)
   next_events lines i d lt =
-      ap (λ (l : List (ℕ × Choice)). events_of (take i lines) ++ l) (sym (append-nil (events_of_line (get_or lines i d))))
+      ap (λ (l : List (ℕ × Choice)). events_of (take i lines) ++ l)
+      (sym (append-nil (events_of_line (get_or lines i d))))
       ∙ sym (flat_map-append events_of_line (take i lines) (get_or lines i d ∷ []))
       ∙ ap events_of (sym (take_more lines i d lt))
 

@@ -60,7 +60,8 @@ module _ (paint : Paint) (functions : List Function) (w : World) (past : Past) w
       ∙ flat_map-append (entry_text paint functions) (entries_on w past xs)
       (entries_on (world_after w xs) (past_after w past xs) ys)
 
-  lines_from : (xs ys : List (ℕ × Choice)) (at : World) (now : Past) → at ≡ world_after w xs → now ≡ past_after w past xs
+  lines_from : (xs ys : List (ℕ × Choice)) (at : World) (now : Past) → at ≡ world_after w xs → now
+      ≡ past_after w past xs
       → lines_text paint functions (entries_on w past (xs ++ ys))
       ≡ lines_text paint functions (entries_on w past xs) ++ lines_text paint functions (entries_on at now ys)
   lines_from xs ys at now world_is past_is =

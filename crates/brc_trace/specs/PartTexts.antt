@@ -6,7 +6,7 @@ use Rattle.brc_lang.specs.Grammar.{instruction}
 use Rattle.brc_world.specs.declared.event.ExitPart.{ExitPart}
 use Rattle.brc_world.specs.declared.event.ExitPart.TheVariants.{Root, Leave, Marks, Gone}
 use Rattle.brc_world.specs.declared.event.Part.{Part}
-use Rattle.brc_world.specs.declared.event.Part.TheVariants.{Instruction, Claim, Exit}
+use Rattle.brc_world.specs.declared.event.Part.TheVariants.{Instruction, Claim, Stop, Exit}
 
 -- the instruction as a module spells it
 abbrev pub instr_text : Option Instr → List ℕ
@@ -28,4 +28,5 @@ exit_text Gone = codes "exit: gone"
 abbrev pub part_text : List Function → ℕ → Part → List ℕ
 part_text functions number (Instruction at) = point_text (slice_get functions number) at
 part_text functions number (Claim row) = codes "claim of row " ++ decimal row
+part_text functions number Stop = codes "stop"
 part_text functions number (Exit part) = exit_text part

@@ -1,5 +1,5 @@
--- The trace of a list of events: the lines of its steps, in order. A thread that is gone, and one that may not claim a
--- row, takes no step and has no line, but its event is counted.
+-- The trace of a list of events: the lines of its steps, in order. A thread that is gone, one that may not claim a row,
+-- and one that may not stop, takes no step and has no line, but its event is counted.
 use Rattle.std.specs.Prelude.{◌≡◌, ℕ, ◌+◌, ◌^◌, ◌-◌, min, List, [], ◌∷◌, ◌++◌, length, Option, None, Some, slice_index_or, slice_set, replicate}
 use Rattle.std.specs.List.{flat_map}
 use Rattle.std.specs.Io.KnownBytes.{Appends}

@@ -1,4 +1,4 @@
-//! What a step belongs to: an instruction, a claim, or a part of a thread's exit.
+//! What a step belongs to: an instruction, a claim, a stop, or a part of a thread's exit.
 
 ghost use Rattle.std.specs.Prelude.{◌≡◌, ◌++◌, OnOk, Some, slice_get};
 ghost use Rattle.brc_trace.specs.PartTexts.{instr_text, point_text, exit_text, part_text};
@@ -29,6 +29,7 @@ pub fn show_part(
             line.text("claim of row ")?;
             line.number(u64::from(row))
         }
+        Part::Stop => line.text("stop"),
         Part::Exit(part) => line.text(exit_name(part)),
     }
 }

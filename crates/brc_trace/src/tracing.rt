@@ -22,7 +22,7 @@ use std::alloc::{AllocError, Global};
 use std::io::Write;
 
 /// Takes the steps of the schedule, and writes a line for each of them. A thread that is gone takes no step and has no
-/// line, nor has a claim that may not be made.
+/// line, nor has a claim that may not be made, or a stop of a thread that can't stop where it is.
 ///
 /// The schedule's calls are not read: the world, which is one of the module, has begun with them. Each line is written
 /// once its step is taken. Returns `NoMemory` if memory is refused, and `Output` if the writer returns an error. Then a
@@ -36,7 +36,7 @@ pub fn trace<W: Write>(
     out: &mut W,
 ) -> Result<(), TraceFault>
     requires threads { All (λ line. line.thread < length world.old.actors) schedule.now.steps }
-    requires functions { «module».now.functions ≡ world.old.functions }
+    requires functions { «module».now.functions ≡ (seen world.old).functions }
     ensures made { OnOk result (seen world.new ≡ world_after (seen world.old) (events_of schedule.now.steps)) }
     ensures whole { OnOk result (Appends (W.contents out.old) (W.contents out.new)
         (trace_text paint (seen world.old) (events_of schedule.now.steps))) }

@@ -21,7 +21,7 @@ use Rattle.brc_world.specs.declared.did.Did.TheVariants as answers
 use Rattle.brc_world.specs.declared.dispatch.Start.{Start}
 use Rattle.brc_world.specs.declared.dispatch.Start.TheVariants as starts
 use Rattle.brc_world.specs.declared.thread.Thread.{Thread}
-use Rattle.brc_world.specs.Actors.{actor_of, counters_in, found_by, memory_done, actor_done, memory_by, actor_by, faults_by, did_by, CanDo, CanAct, finds_mark, memory_claimed, actor_claimed, did_claim}
+use Rattle.brc_world.specs.Actors.{actor_of, context_in, found_by, memory_done, actor_done, memory_by, actor_by, faults_by, did_by, CanDo, CanAct, finds_mark, memory_claimed, actor_claimed, did_claim}
 use Rattle.brc_world.specs.declared.host_call.HostCall.{HostCall}
 use Rattle.brc_world.specs.declared.host_call.HostCall.TheVariants as calls
 use Rattle.brc_world.specs.declared.question.Question.{Question}
@@ -260,11 +260,11 @@ module _ (functions : List Function) (layout : Layout) (t : ℕ) (memory : Addre
   -- A host call is the model's, after which its exit decides the thread's place.
   pub called_step : (call : HostCall) → HasStarted functions layout t a b (starts.Calling call)
       → StepsTo answers.Moved memory
-      (at_place (actor_of b) (place_called call exit (counters_in b.left b) b.at b.variables)) (call_counted exit)
+      (at_place (actor_of b) (place_called call exit (context_in b.left b) b.at b.variables)) (call_counted exit)
   called_step call begun =
       let x = agenda_action functions layout t a a.actor.agenda in
       of_status answers.Moved memory
-      (at_place (actor_of b) (place_called call exit (counters_in b.left b) b.at b.variables)) (call_counted exit)
+      (at_place (actor_of b) (place_called call exit (context_in b.left b) b.at b.variables)) (call_counted exit)
       begun.alive
       (subst (λ (c : StepActor). IsStep layout t memory a a.actor.agenda exit x answers.Moved memory c
       (call_counted exit)) (sym (begun.actor exit 0))

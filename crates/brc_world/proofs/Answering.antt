@@ -8,15 +8,16 @@ use Rattle.brc_model.specs.declared.actor.Status.TheVariants.{Running, Leaving, 
 use Rattle.brc_model.specs.declared.address.Address.{Address}
 use Rattle.brc_model.specs.declared.duty.Duty.{Duty}
 use Rattle.brc_model.specs.declared.slot.Exit.{Exit}
-use Rattle.brc_model.specs.declared.thread.Choice.TheVariants.{Claim}
+use Rattle.brc_model.specs.declared.thread.Choice.TheVariants.{Claim, Stop}
 use Rattle.brc_model.specs.Safety.{has_gone}
-use Rattle.brc_model.specs.Actions.{StepActor, Action, Skip, Stuck, Silent, Calls, Does, status_action}
+use Rattle.brc_model.specs.declared.slot.State.{State}
+use Rattle.brc_model.specs.Actions.{StepActor, Action, Skip, Stuck, Silent, Calls, Does, status_action, may_stop, stop_action}
 use Rattle.brc_model.specs.World.{World, step}
 use Rattle.brc_world.specs.declared.did.Did.TheVariants as answers
-use Rattle.brc_world.specs.Actors.{memory_by, actor_by, faults_by, waits, did_by, finds_mark, did_claim}
+use Rattle.brc_world.specs.Actors.{memory_by, actor_by, faults_by, waits, did_by, finds_mark, did_claim, action_stopped, is_silent, silently, did_stop}
 use Rattle.brc_world.specs.Answers.{is_gone, is_gone_at, IsAnswer}
 use Rattle.brc_world.specs.Worlds.{choice_of}
-use Rattle.brc_world.proofs.Stepping.{faults_of, with_words, unchanged}
+use Rattle.brc_world.proofs.Stepping.{faults_of, with_words, unchanged, IsQuiet, stop_quiet, stop_is}
 
 gone_is : (w : World) (t : ℕ) (a : StepActor) (s : Status) → slice_get w.actors t ≡ Some a → a.actor.status ≡ s
     → is_gone_at w t ≡ has_gone s
@@ -103,3 +104,37 @@ claim_answers w t a row Running found is moves stays =
     mark_answers w t row (finds_mark w.layout t w.memory a row) (gone_is w t a Running found is) moves stays
 claim_answers w t a row Leaving found is moves stays =
     mark_answers w t row (finds_mark w.layout t w.memory a row) (gone_is w t a Leaving found is) moves stays
+
+-- ---- stops
+
+silent_answers : (w : World) (t : ℕ) (a : StepActor) (x : Action) → slice_get w.actors t ≡ Some a
+    → is_gone_at w t ≡ false → IsQuiet x → step w t Stop ≡ with_words w t w.memory (silently a x) (faults_of w)
+    → (is_silent x ≡ true → step w t Stop ≢ w)
+    → IsAnswer w t (step w t Stop) (if is_silent x then answers.Moved else answers.Same)
+silent_answers w t a Skip found here quiet is moves = (here, is ∙ unchanged w t a found)
+silent_answers w t a Stuck found here quiet is moves = (here, is ∙ unchanged w t a found)
+silent_answers w t a (Silent refs place) found here quiet is moves = (here, moves refl)
+silent_answers w t a (Calls row place) found here quiet is moves = absurd quiet
+silent_answers w t a (Does d rest place) found here quiet is moves = absurd quiet
+
+-- A stop that is silent is that of a thread that may stop.
+silent_may : (states : ℕ → ℕ → Option State) (a : StepActor) → is_silent (action_stopped states a) ≡ true
+    → may_stop a ≡ true
+silent_may states a silent =
+    elim (may_stop a) as (λ b. is_silent (if b then stop_action (states a.function) a.place else Skip) ≡ true
+    → b ≡ true) [
+      | true ↦ λ e. refl
+      | false ↦ λ e. absurd cc
+    ] silent
+
+-- The answer of a stop says whether the stop changed the world.
+pub stop_answers : (w : World) (t : ℕ) (a : StepActor) (s : Status) → slice_get w.actors t ≡ Some a
+    → a.actor.status ≡ s → (may_stop a ≡ true → step w t Stop ≢ w)
+    → IsAnswer w t (step w t Stop) (did_stop w.states a s)
+stop_answers w t a Gone found is moves = gone_is w t a Gone found is
+stop_answers w t a Running found is moves =
+    silent_answers w t a (action_stopped w.states a) found (gone_is w t a Running found is) (stop_quiet w.states a)
+    (stop_is w t a found) (λ silent. moves (silent_may w.states a silent))
+stop_answers w t a Leaving found is moves =
+    silent_answers w t a (action_stopped w.states a) found (gone_is w t a Leaving found is) (stop_quiet w.states a)
+    (stop_is w t a found) (λ silent. moves (silent_may w.states a silent))

@@ -1,3 +1,4 @@
+pub mod Stopping
 pub mod Calling
 pub mod Storing
 pub mod Indices

@@ -203,16 +203,19 @@ pub record Facts (m : StepMachine) : Type 0 where
 -- A law of each machine of a module holds of a reachable one.
 pub at_machine : (P : StepMachine → Type 0) (p : Module) (m : StepMachine) → IsMachineOf p m → Always P p → P m
 at_machine P p m of always =
-    subst P (sym of.reached) (always of.rows of.calls of.events of.some_rows of.most_rows of.calls_fit)
+    subst P (sym of.reached)
+    (always of.states of.rows of.calls of.events of.states_true of.some_rows of.most_rows of.calls_fit)
 
 -- The world of a reachable machine is reachable.
 pub is_reachable : (p : Module) (m : StepMachine) → IsMachineOf p m → IsReachable p (world_of m)
 is_reachable p m of = record {
   fits = of.fits;
   accepted = of.accepted;
+  states = of.states;
   rows = of.rows;
   calls = of.calls;
   events = of.events;
+  states_true = of.states_true;
   some_rows = of.some_rows;
   most_rows = of.most_rows;
   calls_fit = of.calls_fit;

@@ -5,8 +5,6 @@ use Rattle.std.specs.List.{slice_index_or}
 use Rattle.std.proofs.Math.Seq.{map-set_same}
 use Rattle.std.proofs.lemmas.List.{length-map, length-set, map-set}
 use Rattle.std.proofs.lemmas.Option.{slice_get-get_or, slice_get-map}
-use Rattle.brc_lang.specs.declared.module.Function.{Function}
-use Rattle.brc_lang.specs.declared.module.Module.{Module}
 use Rattle.brc_model.specs.declared.address.Address.{Address}
 use Rattle.brc_model.specs.declared.thread.Choice.{Choice}
 use Rattle.brc_model.specs.declared.thread.Call.{Call}
@@ -14,6 +12,8 @@ use Rattle.brc_model.specs.StepMachine.{first_layout}
 use Rattle.brc_model.specs.World.{World, first_world, step, IsReachable}
 use Rattle.brc_model.specs.Actions.{StepActor}
 use Rattle.brc_model.specs.StepMachine.{first_memory, main_actor, worker_actor}
+use Rattle.brc_check.specs.Accepted.{Accepted}
+use Rattle.brc_check.specs.Tables.{states_of}
 use Rattle.brc_world.specs.declared.did.Did.{Did}
 use Rattle.brc_world.specs.declared.faults.Faults.{Faults}
 use Rattle.brc_world.specs.declared.no_memory.NoMemory.{NoMemory}
@@ -26,9 +26,9 @@ use Rattle.brc_world.proofs.Stepping.{with_words}
 use Rattle.brc_model.specs.declared.layout.Layout.{Layout}
 use Rattle.brc_model.specs.Layout.{row_count}
 
-abbrev pub contents : List Function → Layout → Columns → List Thread → Faults → Contents
-contents functions layout words threads faults =
-    record { functions = functions; layout = layout; words = words; actors = map actor_of threads; faults = faults }
+abbrev pub contents : Accepted → Layout → Columns → List Thread → Faults → Contents
+contents accepted layout words threads faults =
+    record { accepted = accepted; layout = layout; words = words; actors = map actor_of threads; faults = faults }
 
 -- the contract of one step: the words, the thread and the counts of faults after it, or the same ones if memory was
 -- refused
@@ -46,49 +46,49 @@ pub record Turned (old new : Columns) (a b : StepActor) (f g : Faults) (r : Resu
 
 -- ---- the model's view
 
-seen_as : (functions : List Function) (layout : Layout) (old new : Columns) (threads : List Thread) (t : ℕ)
+seen_as : (accepted : Accepted) (layout : Layout) (old new : Columns) (threads : List Thread) (t : ℕ)
     (after : Thread) (f g : Faults)
     (memory : Address → ℕ) (next : StepActor) (faults : Faults)
     → word_in new ≡ memory → actor_of after ≡ next → g ≡ faults
-    → seen (contents functions layout new (slice_set threads t after) g)
-    ≡ with_words (seen (contents functions layout old threads f)) t memory next faults
-seen_as functions layout old new threads t after f g memory next faults words actor counts =
+    → seen (contents accepted layout new (slice_set threads t after) g)
+    ≡ with_words (seen (contents accepted layout old threads f)) t memory next faults
+seen_as accepted layout old new threads t after f g memory next faults words actor counts =
     rw (map-set actor_of threads t after, words, actor, counts) refl
 
-made : (functions : List Function) (layout : Layout) (old new : Columns) (threads : List Thread) (t : ℕ)
+made : (accepted : Accepted) (layout : Layout) (old new : Columns) (threads : List Thread) (t : ℕ)
     (choice : Choice)
     (a : StepActor) (after : Thread) (f g : Faults) (r : Result Did NoMemory) (memory : Address → ℕ) (next : StepActor)
     (faults : Faults)
     → Turned old new a (actor_of after) f g r memory next faults
-    → step (seen (contents functions layout old threads f)) t choice
-    ≡ with_words (seen (contents functions layout old threads f)) t memory next faults
-    → OnOk r (seen (contents functions layout new (slice_set threads t after) g)
-    ≡ step (seen (contents functions layout old threads f)) t choice)
-made functions layout old new threads t choice a after f g (Ok did) memory next faults turned is =
-    seen_as functions layout old new threads t after f g memory next faults turned.words turned.actor turned.faults_are
+    → step (seen (contents accepted layout old threads f)) t choice
+    ≡ with_words (seen (contents accepted layout old threads f)) t memory next faults
+    → OnOk r (seen (contents accepted layout new (slice_set threads t after) g)
+    ≡ step (seen (contents accepted layout old threads f)) t choice)
+made accepted layout old new threads t choice a after f g (Ok did) memory next faults turned is =
+    seen_as accepted layout old new threads t after f g memory next faults turned.words turned.actor turned.faults_are
     ∙ sym is
-made functions layout old new threads t choice a after f g (Err e) memory next faults turned is = tt
+made accepted layout old new threads t choice a after f g (Err e) memory next faults turned is = tt
 
-stays : (functions : List Function) (layout : Layout) (old new : Columns) (threads : List Thread) (t : ℕ)
+stays : (accepted : Accepted) (layout : Layout) (old new : Columns) (threads : List Thread) (t : ℕ)
     (before after : Thread) (f g : Faults) (r : Result Did NoMemory) (memory : Address → ℕ) (next : StepActor)
     (faults : Faults)
     → Turned old new (actor_of before) (actor_of after) f g r memory next faults
     → before ≡ slice_index_or threads t before
-    → OnErr r (contents functions layout new (slice_set threads t after) g ≡ contents functions layout old threads f)
-stays functions layout old new threads t before after f g (Ok did) memory next faults turned at = tt
-stays functions layout old new threads t before after f g (Err e) memory next faults turned at =
+    → OnErr r (contents accepted layout new (slice_set threads t after) g ≡ contents accepted layout old threads f)
+stays accepted layout old new threads t before after f g (Ok did) memory next faults turned at = tt
+stays accepted layout old new threads t before after f g (Err e) memory next faults turned at =
     let same : map actor_of (slice_set threads t after) ≡ map actor_of threads =
     map-set_same actor_of threads t after before (turned.same_actor ∙ ap actor_of at) in
     rw (turned.same_words, same, turned.same_faults) refl
 
 -- ---- the world's invariant
 
-sized : (p : Module) (layout : Layout) (old new : Columns) (threads : List Thread) (t : ℕ) (after : Thread)
+sized : (p : Accepted) (layout : Layout) (old new : Columns) (threads : List Thread) (t : ℕ) (after : Thread)
     (f g : Faults)
-    → IsWorld p (contents p.functions layout old threads f) → length new.local ≡ length old.local
+    → IsWorld p.module (contents p layout old threads f) → length new.local ≡ length old.local
     → length new.thread ≡ length old.thread
-    → IsReachable p (seen (contents p.functions layout new (slice_set threads t after) g))
-    → IsWorld p (contents p.functions layout new (slice_set threads t after) g)
+    → IsReachable p.module (seen (contents p layout new (slice_set threads t after) g))
+    → IsWorld p.module (contents p layout new (slice_set threads t after) g)
 sized p layout old new threads t after f g world same_rows same_threads reachable =
     let many : length (map actor_of (slice_set threads t after)) ≡ length (map actor_of threads) =
     length-map _ actor_of ∙ length-set threads t after ∙ sym (length-map threads actor_of) in
@@ -98,61 +98,61 @@ sized p layout old new threads t after f g world same_rows same_threads reachabl
       threads = same_threads ∙ world.threads ∙ sym many;
     }
 
-goes : (p : Module) (layout : Layout) (old new : Columns) (threads : List Thread) (t : ℕ) (choice : Choice)
+goes : (p : Accepted) (layout : Layout) (old new : Columns) (threads : List Thread) (t : ℕ) (choice : Choice)
     (before after : Thread) (f g : Faults) (r : Result Did NoMemory) (memory : Address → ℕ) (next : StepActor)
     (faults : Faults)
     → Turned old new (actor_of before) (actor_of after) f g r memory next faults
     → before ≡ slice_index_or threads t before
-    → step (seen (contents p.functions layout old threads f)) t choice
-    ≡ with_words (seen (contents p.functions layout old threads f)) t memory next faults
-    → IsWorld p (contents p.functions layout old threads f)
-    → IsReachable p (step (seen (contents p.functions layout old threads f)) t choice)
-    → IsWorld p (contents p.functions layout new (slice_set threads t after) g)
+    → step (seen (contents p layout old threads f)) t choice
+    ≡ with_words (seen (contents p layout old threads f)) t memory next faults
+    → IsWorld p.module (contents p layout old threads f)
+    → IsReachable p.module (step (seen (contents p layout old threads f)) t choice)
+    → IsWorld p.module (contents p layout new (slice_set threads t after) g)
 goes p layout old new threads t choice before after f g (Ok did) memory next faults turned at is world leads =
-    let now : seen (contents p.functions layout new (slice_set threads t after) g)
-    ≡ step (seen (contents p.functions layout old threads f)) t choice =
-    made p.functions layout old new threads t choice (actor_of before) after f g (Ok did) memory next faults turned is
+    let now : seen (contents p layout new (slice_set threads t after) g)
+    ≡ step (seen (contents p layout old threads f)) t choice =
+    made p layout old new threads t choice (actor_of before) after f g (Ok did) memory next faults turned is
     in
     sized p layout old new threads t after f g world turned.rows turned.threads
-    (subst (IsReachable p) (sym now) leads)
+    (subst (IsReachable p.module) (sym now) leads)
 goes p layout old new threads t choice before after f g (Err e) memory next faults turned at is world leads =
-    let same : contents p.functions layout new (slice_set threads t after) g
-    ≡ contents p.functions layout old threads f =
-    stays p.functions layout old new threads t before after f g (Err e) memory next faults turned at in
-    subst (IsWorld p) (sym same) world
+    let same : contents p layout new (slice_set threads t after) g
+    ≡ contents p layout old threads f =
+    stays p layout old new threads t before after f g (Err e) memory next faults turned at in
+    subst (IsWorld p.module) (sym same) world
 
 -- the world after the step: it keeps its invariant, and it is the model's next world, or the same if memory was refused
-pub record Outcome (p : Module) (layout : Layout) (old new : Columns) (threads : List Thread) (t : ℕ) (choice : Choice)
-    (after : Thread) (f g : Faults) (r : Result Did NoMemory) : Type 0 where
-  pub world : IsWorld p (contents p.functions layout new (slice_set threads t after) g)
-  pub made : OnOk r (seen (contents p.functions layout new (slice_set threads t after) g)
-      ≡ step (seen (contents p.functions layout old threads f)) t choice)
-  pub stays : OnErr r (contents p.functions layout new (slice_set threads t after) g
-      ≡ contents p.functions layout old threads f)
+pub record Outcome (p : Accepted) (layout : Layout) (old new : Columns) (threads : List Thread) (t : ℕ)
+    (choice : Choice) (after : Thread) (f g : Faults) (r : Result Did NoMemory) : Type 0 where
+  pub world : IsWorld p.module (contents p layout new (slice_set threads t after) g)
+  pub made : OnOk r (seen (contents p layout new (slice_set threads t after) g)
+      ≡ step (seen (contents p layout old threads f)) t choice)
+  pub stays : OnErr r (contents p layout new (slice_set threads t after) g
+      ≡ contents p layout old threads f)
 
-pub outcome : (p : Module) (layout : Layout) (old new : Columns) (threads : List Thread) (t : ℕ) (choice : Choice)
+pub outcome : (p : Accepted) (layout : Layout) (old new : Columns) (threads : List Thread) (t : ℕ) (choice : Choice)
     (before after : Thread) (f g : Faults) (r : Result Did NoMemory) (memory : Address → ℕ) (next : StepActor)
     (faults : Faults)
     → Turned old new (actor_of before) (actor_of after) f g r memory next faults
     → before ≡ slice_index_or threads t before
-    → step (seen (contents p.functions layout old threads f)) t choice
-    ≡ with_words (seen (contents p.functions layout old threads f)) t memory next faults
-    → IsWorld p (contents p.functions layout old threads f)
-    → IsReachable p (step (seen (contents p.functions layout old threads f)) t choice)
+    → step (seen (contents p layout old threads f)) t choice
+    ≡ with_words (seen (contents p layout old threads f)) t memory next faults
+    → IsWorld p.module (contents p layout old threads f)
+    → IsReachable p.module (step (seen (contents p layout old threads f)) t choice)
     → Outcome p layout old new threads t choice after f g r
 outcome p layout old new threads t choice before after f g r memory next faults turned at is world leads = record {
   world = goes p layout old new threads t choice before after f g r memory next faults turned at is world leads;
-  made = made p.functions layout old new threads t choice (actor_of before) after f g r memory next faults turned is;
-  stays = stays p.functions layout old new threads t before after f g r memory next faults turned at;
+  made = made p layout old new threads t choice (actor_of before) after f g r memory next faults turned is;
+  stays = stays p layout old new threads t before after f g r memory next faults turned at;
 }
 
 -- ---- the thread that steps
 
-pub thread_at : (functions : List Function) (layout : Layout) (words : Columns) (threads : List Thread) (t : ℕ)
+pub thread_at : (accepted : Accepted) (layout : Layout) (words : Columns) (threads : List Thread) (t : ℕ)
     (faults : Faults) (before : Thread)
     → before ≡ slice_index_or threads t before → t < length (map actor_of threads)
-    → slice_get (seen (contents functions layout words threads faults)).actors t ≡ Some (actor_of before)
-thread_at functions layout words threads t faults before at lt =
+    → slice_get (seen (contents accepted layout words threads faults)).actors t ≡ Some (actor_of before)
+thread_at accepted layout words threads t faults before at lt =
     let within : t < length threads = subst (λ (n : ℕ). t < n) (length-map threads actor_of) lt in
     let found : slice_get threads t ≡ Some before = slice_get-get_or threads t before within ∙ ap Some (sym at) in
     rw (slice_get-map actor_of threads t, found) refl
@@ -186,28 +186,30 @@ refusal (Err e) says given = says given
 abbrev pub no_faults : Faults
 no_faults = record { calls = 0; closes = 0 }
 
-pub first_seen : (p m : Module) (rows : ℕ) (layout : Layout) (calls : List Call) (words : Columns)
-    (threads : List Thread)
-    → p ≡ m → layout ≡ first_layout rows calls → word_in words ≡ first_memory layout.workers
-    → map actor_of threads ≡ main_actor ∷ map worker_actor calls
-    → seen (contents p.functions layout words threads no_faults) ≡ first_world m rows calls
-first_seen p m rows layout calls words threads same so word actors =
-    rw (same, word, actors, so) refl
+-- the first world of an accepted module, with the states that its table gives
+abbrev pub first_of : Accepted → ℕ → List Call → World
+first_of p rows calls = first_world p.module (states_of p.module p.table) rows calls
 
-pub first_is : (p m : Module) (rows : ℕ) (layout : Layout) (calls : List Call) (words : Columns) (threads : List Thread)
-    → p ≡ m → layout ≡ first_layout rows calls → word_in words ≡ first_memory layout.workers
+pub first_seen : (p : Accepted) (rows : ℕ) (layout : Layout) (calls : List Call) (words : Columns)
+    (threads : List Thread)
+    → layout ≡ first_layout rows calls → word_in words ≡ first_memory layout.workers
+    → map actor_of threads ≡ main_actor ∷ map worker_actor calls
+    → seen (contents p layout words threads no_faults) ≡ first_of p rows calls
+first_seen p rows layout calls words threads so word actors =
+    rw (word, actors, so) refl
+
+pub first_is : (p : Accepted) (rows : ℕ) (layout : Layout) (calls : List Call) (words : Columns) (threads : List Thread)
+    → layout ≡ first_layout rows calls → word_in words ≡ first_memory layout.workers
     → map actor_of threads ≡ main_actor ∷ map worker_actor calls
     → length words.local ≡ row_count layout → length words.thread ≡ 1 + layout.workers
-    → IsReachable m (first_world m rows calls) → IsWorld p (contents p.functions layout words threads no_faults)
-first_is p m rows layout calls words threads same so word actors same_rows same_threads reachable =
-    let now = first_seen p m rows layout calls words threads same so word actors in
+    → IsReachable p.module (first_of p rows calls) → IsWorld p.module (contents p layout words threads no_faults)
+first_is p rows layout calls words threads so word actors same_rows same_threads reachable =
+    let now = first_seen p rows layout calls words threads so word actors in
     let workers : layout.workers ≡ length calls = ap (λ (l : Layout). l.workers) so in
     let count : length (map actor_of threads) ≡ 1 + layout.workers =
     ap (λ (l : List StepActor). length l) actors ∙ omega (arith, length-map calls worker_actor, workers) in
     record {
-      reachable =
-          subst (λ (x : Module). IsReachable x (seen (contents p.functions layout words threads no_faults))) (sym same)
-          (subst (IsReachable m) (sym now) reachable);
+      reachable = subst (IsReachable p.module) (sym now) reachable;
       rows = same_rows;
       threads = same_threads ∙ sym count;
     }

@@ -22,6 +22,7 @@ use Rattle.brc_world.specs.Answers.{is_gone, is_gone_at, IsAnswer}
 use Rattle.brc_world.proofs.Stepping.{after}
 use Rattle.brc_world.specs.Runs.{world_after, events_of_line, events_of, StandsWithin}
 use Rattle.brc_model.specs.declared.layout.Layout.{Layout}
+use Rattle.brc_model.proofs.Dispatch.Claims.{gone_stops_not}
 
 -- The world after some events is the world of the machine after the same events.
 pub world_of_machine : ((m : StepMachine) (event : ℕ × Choice) → world_of (next_machine m event)
@@ -49,6 +50,7 @@ gone_acts : (w : World) (t : ℕ) (choice : Choice) (a : StepActor) → a.actor.
 gone_acts w t choices.Ok a gone = rw gone refl
 gone_acts w t choices.Fault a gone = rw gone refl
 gone_acts w t (choices.Claim row) a gone = rw (gone_claims_none w.layout t a row gone) refl
+gone_acts w t choices.Stop a gone = rw (gone_stops_not a gone) refl
 
 status_gone : (s : Status) → has_gone s ≡ true → s ≡ Gone
 status_gone Gone e = refl

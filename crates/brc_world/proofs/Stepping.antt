@@ -12,18 +12,21 @@ use Rattle.brc_model.specs.declared.address.Address.TheVariants.{Mark}
 use Rattle.brc_model.specs.declared.duty.Duty.{Duty}
 use Rattle.brc_model.specs.declared.duty.Duty.TheVariants.{ClaimMark}
 use Rattle.brc_model.specs.declared.thread.Choice.{Choice}
-use Rattle.brc_model.specs.declared.thread.Choice.TheVariants.{Ok, Claim, Fault}
+use Rattle.brc_model.specs.declared.thread.Choice.TheVariants.{Ok, Claim, Fault, Stop}
 use Rattle.brc_model.specs.World.{IsReachable, World, world_of, machine_of, step}
 use Rattle.brc_model.specs.declared.slot.Exit.{Exit}
 use Rattle.brc_model.specs.declared.slot.Exit.TheVariants as exits
-use Rattle.brc_model.specs.Actions.{StepActor, Action, Skip, Stuck, Silent, Calls, Does, always, may_claim, status_action, exit_of, action_of}
+use Rattle.brc_model.specs.Actions.{StepActor, Action, Skip, Stuck, Silent, Calls, Does, always, may_claim, may_stop, stop_action, status_action, exit_of, action_of}
 use Rattle.brc_model.specs.StepMachine.{of_thread, machine_by}
 use Rattle.brc_model.specs.Within.{IsWithin, StepsWithin}
 use Rattle.brc_world.specs.declared.faults.Faults.{Faults}
 use Rattle.brc_world.specs.Worlds.{choice_of}
-use Rattle.brc_world.specs.Actors.{memory_by, actor_by, faults_by, finds_mark, memory_claimed, actor_claimed, CanDo, CanAct, CanClaim}
+use Rattle.brc_world.specs.Actors.{memory_by, actor_by, faults_by, finds_mark, memory_claimed, actor_claimed, CanDo, CanAct, CanClaim, action_stopped, silently}
 use Rattle.brc_model.specs.declared.layout.Layout.{Layout}
 use Rattle.brc_model.specs.Layout.{row_count}
+use Rattle.brc_model.specs.declared.slot.State.{State}
+use Rattle.brc_model.proofs.Basics.Lists.{either}
+use Rattle.brc_model.proofs.Dispatch.Decided.{stop_decides}
 
 -- the counts of faults of the world
 abbrev pub faults_of : World → Faults
@@ -33,6 +36,7 @@ faults_of w = record { calls = w.host_faults; closes = w.close_faults }
 abbrev pub with_words : World → ℕ → (Address → ℕ) → StepActor → Faults → World
 with_words w t memory a faults = record {
   functions = w.functions;
+  states = w.states;
   layout = w.layout;
   memory = memory;
   actors = slice_set w.actors t a;
@@ -52,6 +56,7 @@ pub unchanged : (w : World) (t : ℕ) (a : StepActor) → slice_get w.actors t �
 unchanged w t a found =
     ap (λ (actors : List StepActor). let v : World = record {
       functions = w.functions;
+      states = w.states;
       layout = w.layout;
       memory = w.memory;
       actors = actors;
@@ -62,11 +67,19 @@ unchanged w t a found =
 
 -- ---- the next step of a thread
 
+-- the action makes no host call and does no duty
+abbrev pub IsQuiet : Action → Type 0
+IsQuiet Skip = Unit {0}
+IsQuiet Stuck = Unit {0}
+IsQuiet (Silent moves place) = Unit {0}
+IsQuiet (Calls row place) = ⊥
+IsQuiet (Does d rest place) = ⊥
+
 -- the world after an event of the thread, which is `o`
 abbrev pub after : World → ℕ → Choice → Option StepActor → World
 after w t choice o =
     world_of (of_thread (machine_of w)
-    (λ a. machine_by (machine_of w) t a (exit_of choice) (action_of w.functions w.layout t a choice)) o)
+    (λ a. machine_by (machine_of w) t a (exit_of choice) (action_of w.functions w.states w.layout t a choice)) o)
 
 -- The world after an action has the words, the thread and the counts of faults that `memory_by`, `actor_by` and
 -- `faults_by` give.
@@ -166,6 +179,32 @@ claim_is p w t a row reachable found unmarked unplaced =
           marked
       | inr missed ↦ misses_as w t a row found missed (claim_stays w t a row missed unmarked unplaced)
     ]
+
+-- ---- stops
+
+-- A stop's action leaves the words and the counts of faults, and changes the thread alone.
+stopped_as : (w : World) (t : ℕ) (a : StepActor) (x : Action) → IsQuiet x
+    → with_words w t (memory_by w.layout t w.memory a x) (actor_by w.layout t w.memory a exits.Success x)
+    (faults_by exits.Success x (faults_of w))
+    ≡ with_words w t w.memory (silently a x) (faults_of w)
+stopped_as w t a Skip quiet = refl
+stopped_as w t a Stuck quiet = refl
+stopped_as w t a (Silent moves place) quiet = refl
+stopped_as w t a (Calls row place) quiet = absurd quiet
+stopped_as w t a (Does d rest place) quiet = absurd quiet
+
+-- A stop makes no host call and does no duty.
+pub stop_quiet : (states : ℕ → ℕ → Option State) (a : StepActor) → IsQuiet (action_stopped states a)
+stop_quiet states a =
+    either IsQuiet (may_stop a) (stop_action (states a.function) a.place) Skip
+    (λ may. stop_decides IsQuiet (states a.function) a.place tt tt (λ lock calls. tt) tt) tt
+
+-- The world after a stop has its words, and the thread that `silently` gives.
+pub stop_is : (w : World) (t : ℕ) (a : StepActor) → slice_get w.actors t ≡ Some a
+    → step w t Stop ≡ with_words w t w.memory (silently a (action_stopped w.states a)) (faults_of w)
+stop_is w t a found =
+    ap (after w t Stop) found ∙ action_as w t a exits.Success (action_stopped w.states a) found
+    ∙ stopped_as w t a (action_stopped w.states a) (stop_quiet w.states a)
 
 -- ---- steps within bounds
 

@@ -32,16 +32,17 @@ module _ (t : ℕ) (m : StepMachine) where
 
   thread_shown : (choice : Choice) (o : Option StepActor)
       → words_shown (listed (of_thread None
-      (λ a. sight_by m.layout t m.memory a choice (action_of m.functions m.layout t a choice)) o))
-      ≡ of_thread [] (λ a. made_by m t a (action_of m.functions m.layout t a choice)) o
+      (λ a. sight_by m.layout t m.memory a choice (action_of m.functions m.states m.layout t a choice)) o))
+      ≡ of_thread [] (λ a. made_by m t a (action_of m.functions m.states m.layout t a choice)) o
   thread_shown choice None = refl
-  thread_shown choice (Some a) = action_shown a choice (action_of m.functions m.layout t a choice)
+  thread_shown choice (Some a) = action_shown a choice (action_of m.functions m.states m.layout t a choice)
 
   either_shown : (b : Bool) (choice : Choice)
       → words_shown (cond b (listed (of_thread None
-      (λ a. sight_by m.layout t m.memory a choice (action_of m.functions m.layout t a choice))
+      (λ a. sight_by m.layout t m.memory a choice (action_of m.functions m.states m.layout t a choice))
       (slice_get m.actors t))) [])
-      ≡ cond b (of_thread [] (λ a. made_by m t a (action_of m.functions m.layout t a choice)) (slice_get m.actors t))
+      ≡ cond b (of_thread [] (λ a. made_by m t a (action_of m.functions m.states m.layout t a choice))
+      (slice_get m.actors t))
       []
   either_shown true choice = thread_shown choice (slice_get m.actors t)
   either_shown false choice = refl

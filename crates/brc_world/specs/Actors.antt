@@ -6,14 +6,15 @@ use Rattle.brc_model.specs.declared.address.Address.{Address}
 use Rattle.brc_model.specs.declared.address.Address.TheVariants.{Mark}
 use Rattle.brc_model.specs.declared.duty.Duty.{Duty}
 use Rattle.brc_model.specs.declared.duty.Duty.TheVariants.{Settle, Scan, ClaimMark}
-use Rattle.brc_model.specs.declared.actor.Counters.{Counters}
+use Rattle.brc_model.specs.declared.actor.Context.{Context}
 use Rattle.brc_model.specs.declared.actor.Place.{Place}
-use Rattle.brc_model.specs.declared.actor.Place.TheVariants.{Idle, InCall, Inside, Exiting}
+use Rattle.brc_model.specs.declared.actor.Place.TheVariants.{Idle, InCall, Inside, Stopping, Exiting}
 use Rattle.brc_model.specs.Duties.{address_of, new_word}
 use Rattle.brc_model.specs.Within.{IsThere, Suits}
 use Rattle.brc_model.specs.Machine as model
 use Rattle.brc_model.specs.declared.slot.Exit.{Exit}
-use Rattle.brc_model.specs.Actions.{StepActor, Action, Skip, Stuck, Silent, Calls, Does, may_claim}
+use Rattle.brc_model.specs.declared.slot.State.{State}
+use Rattle.brc_model.specs.Actions.{StepActor, Action, Skip, Stuck, Silent, Calls, Does, may_claim, may_stop, stop_action}
 use Rattle.brc_model.specs.StepMachine.{at_place, step_actor, counted, closes}
 use Rattle.brc_model.specs.World.{finds_locked}
 use Rattle.brc_world.specs.declared.did.Did.{Did}
@@ -24,22 +25,24 @@ use Rattle.brc_world.specs.declared.thread.Mode.TheVariants as modes
 use Rattle.brc_world.specs.declared.thread.Thread.{Thread}
 use Rattle.brc_model.specs.declared.layout.Layout.{Layout}
 
--- the counters of a call of the thread after which `left` calls remain
-abbrev pub counters_in : ℕ → Thread → Counters
-counters_in left t = record { left = left; turns = t.turns }
+-- the context of a call of the thread after which `left` calls remain
+abbrev pub context_in : ℕ → Thread → Context
+context_in left t = record { left = left; turns = t.turns; outer = [] }
 
--- the model's place of a thread; only a call has an instruction, variables, and counts of its instructions `again`
-abbrev pub place_of : Mode → Counters → ℕ → List (Option ℕ) → Place
-place_of modes.Idle counters at variables = Idle counters.left
-place_of modes.InCall counters at variables = InCall counters at variables
-place_of (modes.Inside stage) counters at variables = Inside counters at variables stage
-place_of modes.Exiting counters at variables = Exiting
+-- The model's place of a thread. Only a call has an instruction, and counts of its instructions `again`; once the
+-- thread has stopped, its variables name what it has still to give up.
+abbrev pub place_of : Mode → Context → ℕ → List (Option ℕ) → Place
+place_of modes.Idle context at variables = Idle context.left
+place_of modes.InCall context at variables = InCall context at variables
+place_of (modes.Inside stage) context at variables = Inside context at variables stage
+place_of (modes.Stopping lock) context at variables = Stopping lock (variables ∷ [])
+place_of modes.Exiting context at variables = Exiting
 
 -- the model's thread; the first duty of its agenda is the last one of the code's vector
 abbrev pub actor_of : Thread → StepActor
 actor_of t = record {
   function = t.function;
-  place = place_of t.mode (counters_in t.left t) t.at t.variables;
+  place = place_of t.mode (context_in t.left t) t.at t.variables;
   actor = record {
     status = t.status;
     agenda = reverse t.agenda.items;
@@ -168,3 +171,25 @@ did_claim layout t memory a row Leaving = if finds_mark layout t memory a row th
 abbrev pub CanClaim : Layout → ℕ → ℕ → ℕ → (Address → ℕ) → StepActor → ℕ → Type 0
 CanClaim layout t n threads memory a row =
     may_claim layout t a row ≡ true → CanDo layout t n threads memory a (ClaimMark row)
+
+-- ---- a stop
+
+-- the thread's action at a stop
+abbrev pub action_stopped : (ℕ → ℕ → Option State) → StepActor → Action
+action_stopped states a = if may_stop a then stop_action (states a.function) a.place else Skip
+
+-- Says whether the action changes the thread: a stop that acts is silent.
+abbrev pub is_silent : Action → Bool
+is_silent (Silent moves place) = true
+is_silent _ = false
+
+-- the thread after the stop
+abbrev pub silently : StepActor → Action → StepActor
+silently a (Silent moves place) = at_place a place
+silently a _ = a
+
+-- the answer of the stop
+abbrev pub did_stop : (ℕ → ℕ → Option State) → StepActor → Status → Did
+did_stop states a Gone = answers.Gone
+did_stop states a Running = if is_silent (action_stopped states a) then answers.Moved else answers.Same
+did_stop states a Leaving = if is_silent (action_stopped states a) then answers.Moved else answers.Same

@@ -1,4 +1,5 @@
 pub mod Storage
+pub mod Modes
 pub mod Actors
 pub mod Questions
 pub mod Starts

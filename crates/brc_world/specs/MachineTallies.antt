@@ -1,11 +1,13 @@
 -- The tally of a machine, from its abstract state: what was born and closed there, and the kind of each object.
-use Rattle.std.specs.Prelude.{◌≡◌, ℕ, ◌-◌, ◌<◌, ◌≤◌, Bool, ◌&&◌, not, List, length, map, filter, count_by}
+use Rattle.std.specs.Prelude.{◌≡◌, ℕ, ◌-◌, ◌<◌, ◌≤◌, Bool, ◌&&◌, not, List, Option, length, map, filter, count_by}
 use Rattle.std.specs.List.{range_with_len}
 use Rattle.brc_lang.specs.declared.module.Module.{Module}
 use Rattle.brc_lang.specs.Grammar.{IsModule}
 use Rattle.brc_model.specs.declared.thread.Call.{Call}
 use Rattle.brc_model.specs.declared.thread.Choice.{Choice}
+use Rattle.brc_model.specs.declared.slot.State.{State}
 use Rattle.brc_model.specs.Paths.{IsAcceptable}
+use Rattle.brc_model.specs.Tables.{AreTrueWhereReached}
 use Rattle.brc_model.specs.AbstractState.{AbstractState, is_among}
 use Rattle.brc_model.specs.Limits.{row_limit}
 use Rattle.brc_model.specs.Safety.{AreCalls}
@@ -16,17 +18,20 @@ use Rattle.brc_report.specs.declared.tally.Left.{Left}
 use Rattle.brc_world.specs.Tallies.{still_runs}
 use Rattle.brc_model.specs.Layout.{row_count}
 
--- a reachable machine: some list of events leads to it from the first machine of an accepted module
+-- a reachable machine: some list of events leads to it from a first machine of an accepted module, whose states are
+-- true at each point that a path reaches
 pub record IsMachineOf (p : Module) (m : StepMachine) : Type 0 where
   pub fits : IsModule p
   pub accepted : IsAcceptable p
+  pub states : ℕ → ℕ → Option State
   pub rows : ℕ
   pub calls : List Call
   pub events : List (ℕ × Choice)
+  pub states_true : AreTrueWhereReached p states
   pub some_rows : 0 < rows
   pub most_rows : rows ≤ row_limit
   pub calls_fit : AreCalls p calls
-  pub reached : m ≡ machine_after (first_machine p rows calls) events
+  pub reached : m ≡ machine_after (first_machine p states rows calls) events
 
 -- the object is born, and not closed
 abbrev pub is_left : AbstractState → ℕ → Bool

@@ -1,7 +1,7 @@
 -- What a step asks of the word that its duty finds or of the host, and the place where the thread goes on by the
 -- answer.
 use Rattle.std.specs.Prelude.{ℕ, zero, suc, ◌≤◌, if◌then◌else◌, List, Option, None, Some, slice_set}
-use Rattle.brc_model.specs.declared.actor.Counters.{Counters}
+use Rattle.brc_model.specs.declared.actor.Context.{Context}
 use Rattle.brc_model.specs.declared.actor.Place.{Place}
 use Rattle.brc_model.specs.declared.actor.Place.TheVariants.{InCall, Inside}
 use Rattle.brc_model.specs.declared.actor.Stage.TheVariants.{InRange, OutOfRange, Found, Called, Granted}
@@ -48,26 +48,26 @@ IsAnswerable (questions.Borrow to otherwise) found = found ≤ total_limit
 IsAnswerable (questions.Fetch to otherwise) found = found ≤ total_limit
 
 -- the place of a thread whose list has no cell with the index
-abbrev pub outside_of : Outside → Counters → ℕ → List (Option ℕ) → Place
-outside_of (Empties to otherwise) counters at variables = InCall counters otherwise (slice_set variables to None)
-outside_of Releases counters at variables = Inside counters at variables OutOfRange
-outside_of (GoesOn otherwise) counters at variables = InCall counters otherwise variables
+abbrev pub outside_of : Outside → Context → ℕ → List (Option ℕ) → Place
+outside_of (Empties to otherwise) context at variables = InCall context otherwise (slice_set variables to None)
+outside_of Releases context at variables = Inside context at variables OutOfRange
+outside_of (GoesOn otherwise) context at variables = InCall context otherwise variables
 
--- Returns the place to which the word found leads a thread of a call with these counters.
-abbrev pub place_answered : Question → ℕ → Counters → ℕ → List (Option ℕ) → Place
-place_answered (questions.Kind kind otherwise) found counters at variables =
-    InCall counters (if same_kind (kind_of_word found) kind then at else otherwise) variables
-place_answered (questions.Range index outside) found counters at variables =
-    by_range index (Inside counters at variables InRange) (outside_of outside counters at variables) found
-place_answered (questions.Borrow to otherwise) found counters at variables =
-    by_item (InCall counters otherwise (slice_set variables to None))
-    (λ item. InCall counters at (slice_set variables to (Some item))) found
-place_answered (questions.Fetch to otherwise) found counters at variables =
-    by_item (InCall counters otherwise (slice_set variables to None))
-    (λ item. Inside counters at variables (Found item)) found
+-- Returns the place to which the word found leads a thread of a call in this context.
+abbrev pub place_answered : Question → ℕ → Context → ℕ → List (Option ℕ) → Place
+place_answered (questions.Kind kind otherwise) found context at variables =
+    InCall context (if same_kind (kind_of_word found) kind then at else otherwise) variables
+place_answered (questions.Range index outside) found context at variables =
+    by_range index (Inside context at variables InRange) (outside_of outside context at variables) found
+place_answered (questions.Borrow to otherwise) found context at variables =
+    by_item (InCall context otherwise (slice_set variables to None))
+    (λ item. InCall context at (slice_set variables to (Some item))) found
+place_answered (questions.Fetch to otherwise) found context at variables =
+    by_item (InCall context otherwise (slice_set variables to None))
+    (λ item. Inside context at variables (Found item)) found
 
--- Returns the place of a thread whose host call has ended by the exit, in a call of a function with these counters.
-abbrev pub place_called : HostCall → Exit → Counters → ℕ → List (Option ℕ) → Place
-place_called (calls.Asks to otherwise) exit counters at variables =
-    by_exit (Inside counters at variables Granted) (InCall counters otherwise (slice_set variables to None)) exit
-place_called calls.Uses exit counters at variables = Inside counters at variables (Called exit)
+-- Returns the place of a thread whose host call has ended by the exit, in a call in this context.
+abbrev pub place_called : HostCall → Exit → Context → ℕ → List (Option ℕ) → Place
+place_called (calls.Asks to otherwise) exit context at variables =
+    by_exit (Inside context at variables Granted) (InCall context otherwise (slice_set variables to None)) exit
+place_called calls.Uses exit context at variables = Inside context at variables (Called exit)

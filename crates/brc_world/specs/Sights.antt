@@ -5,12 +5,12 @@ use Rattle.brc_lang.specs.declared.kind.Kind.{Kind}
 use Rattle.brc_model.specs.declared.address.Address.{Address}
 use Rattle.brc_model.specs.declared.address.Address.TheVariants.{KindOf}
 use Rattle.brc_model.specs.declared.actor.Place.{Place}
-use Rattle.brc_model.specs.declared.actor.Place.TheVariants.{Idle, Exiting}
+use Rattle.brc_model.specs.declared.actor.Place.TheVariants.{Idle, Stopping, Exiting}
 use Rattle.brc_model.specs.declared.duty.Duty.{Duty}
 use Rattle.brc_model.specs.declared.duty.Duty.TheVariants.{BirthLocal, Leave, Scan}
 use Rattle.brc_model.specs.declared.layout.Layout.{Layout}
 use Rattle.brc_model.specs.declared.thread.Choice.{Choice}
-use Rattle.brc_model.specs.declared.thread.Choice.TheVariants.{Ok, Fault, Claim}
+use Rattle.brc_model.specs.declared.thread.Choice.TheVariants.{Ok, Fault, Claim, Stop}
 use Rattle.brc_model.specs.Actions.{StepActor, Action, Skip, Stuck, Silent, Calls, Does, exit_of, action_of}
 use Rattle.brc_model.specs.Duties.{address_of, new_word}
 use Rattle.brc_model.specs.Kinds.{kind_of_word}
@@ -55,9 +55,10 @@ exit_part agenda =
     else exit_parts.Gone
 
 -- Returns the part to which the next step of a thread with this place and this agenda belongs, if they say it. A thread
--- with an empty agenda begins an instruction, goes on inside one, or begins its exit.
+-- with an empty agenda begins an instruction, goes on inside one, goes on after a stop, or begins its exit.
 abbrev pub next_part : Place → List Duty → Option Part
 next_part Exiting agenda = Some (parts.Exit (exit_part agenda))
+next_part (Stopping lock calls) [] = Some parts.Stop
 next_part (Idle zero) [] = Some (parts.Exit exit_parts.Root)
 next_part place [] = Some (parts.Instruction (point_at place))
 next_part place (d ∷ rest) = None
@@ -67,6 +68,7 @@ abbrev pub begins_at : StepActor → Choice → Option Part
 begins_at a Ok = next_part a.place a.actor.agenda
 begins_at a Fault = next_part a.place a.actor.agenda
 begins_at a (Claim row) = Some (parts.Claim row)
+begins_at a Stop = Some parts.Stop
 
 -- ---- the event
 
@@ -109,7 +111,8 @@ sight_by layout t memory a choice (Does d rest place) =
 abbrev pub sight_at : World → ℕ → Choice → Option Sight
 sight_at w t choice =
     of_thread None
-    (λ a. sight_by w.layout t w.memory a choice (action_of w.functions w.layout t a choice)) (slice_get w.actors t)
+    (λ a. sight_by w.layout t w.memory a choice (action_of w.functions w.states w.layout t a choice))
+    (slice_get w.actors t)
 
 -- ---- a run
 

@@ -4,16 +4,16 @@ use Rattle.brc_lang.specs.declared.module.Function.{Function}
 use Rattle.brc_lang.specs.declared.module.Instr.{Instr}
 use Rattle.brc_lang.specs.declared.module.Instr.TheVariants.{Borrow, Fetch, Set, Put}
 use Rattle.brc_word.specs.Words.{free_word}
-use Rattle.brc_model.specs.declared.actor.Counters.{Counters}
+use Rattle.brc_model.specs.declared.actor.Context.{Context}
 use Rattle.brc_model.specs.declared.actor.Place.{Place}
 use Rattle.brc_model.specs.declared.actor.Stage.{Stage}
-use Rattle.brc_model.specs.declared.actor.Place.TheVariants.{Idle, InCall, Inside, Exiting}
+use Rattle.brc_model.specs.declared.actor.Place.TheVariants.{Idle, InCall, Inside, Stopping, Exiting}
 use Rattle.brc_model.specs.declared.duty.Duty.{Duty}
-use Rattle.brc_model.specs.declared.duty.Duty.TheVariants.{ReleaseLoad, Settle, Leave, LockGate}
+use Rattle.brc_model.specs.declared.duty.Duty.TheVariants.{ReleaseLoad, Settle, Leave, LockGate, UnlockGate}
 use Rattle.brc_model.specs.declared.duty.Holding.TheVariants.{AsCaller}
 use Rattle.brc_model.specs.declared.layout.Layout.{Layout}
 use Rattle.brc_model.specs.declared.slot.Exit.{Exit}
-use Rattle.brc_model.specs.Actions.{StepActor, Action, Skip, Stuck, Silent, Calls, Does, always, dispatch_instruction, dispatch_inside, dispatch}
+use Rattle.brc_model.specs.Actions.{StepActor, Action, Skip, Stuck, Silent, Calls, Does, always, stopping, give_up, dispatch_instruction, dispatch_inside, dispatch}
 use Rattle.brc_model.specs.Layout.{root_row}
 use Rattle.brc_model.specs.StepMachine.{at_place, counted}
 use Rattle.brc_model.specs.Threads.{code_of}
@@ -23,7 +23,7 @@ use Rattle.brc_world.specs.declared.dispatch.Start.{Start}
 use Rattle.brc_world.specs.declared.dispatch.Start.TheVariants as starts
 use Rattle.brc_world.specs.declared.faults.Faults.{Faults}
 use Rattle.brc_world.specs.declared.thread.Thread.{Thread}
-use Rattle.brc_world.specs.Actors.{counters_in, place_of, actor_of, with_agenda}
+use Rattle.brc_world.specs.Actors.{context_in, place_of, actor_of, with_agenda}
 use Rattle.brc_world.specs.declared.host_call.HostCall.TheVariants as calls
 use Rattle.brc_world.specs.Questions.{IsAbout, IsAnswerable, place_answered, place_called}
 
@@ -33,11 +33,16 @@ use Rattle.brc_world.specs.Questions.{IsAbout, IsAnswerable, place_answered, pla
 abbrev pub exit_action : ℕ → Action
 exit_action used = Does (ReleaseLoad root_row AsCaller) (Settle ∷ Leave 0 used ∷ []) (always Exiting)
 
+-- the action of a thread that has stopped, by the row that it has still to unlock and by its variables
+abbrev pub stopped_action : Option ℕ → List (Option ℕ) → Action
+stopped_action (Some row) variables = Does (UnlockGate row) [] (always (stopping None (variables ∷ [])))
+stopped_action None variables = give_up (variables ∷ [])
+
 -- the thread's action at the instruction `i`, which is the one with its number, in a call after which `left` calls
 -- remain
 abbrev pub action_at : Layout → ℕ → ℕ → Option Instr → Thread → Action
 action_at layout t left i a =
-    dispatch_instruction layout t a.used (place_of a.mode (counters_in a.left a) a.at a.variables) (counters_in left a)
+    dispatch_instruction layout t a.used (place_of a.mode (context_in a.left a) a.at a.variables) (context_in left a)
     a.at a.variables i
 
 -- Says whether the instruction uses a cell of the list that the thread has locked.
@@ -50,22 +55,24 @@ uses_cell _ = false
 
 -- the thread's action inside the instruction `i`, by how far the thread is in it
 abbrev pub action_inside : Layout → ℕ → Stage → Option Instr → Thread → Action
-action_inside layout t stage i a = dispatch_inside layout t a.used (counters_in a.left a) a.at a.variables stage i
+action_inside layout t stage i a = dispatch_inside layout t a.used (context_in a.left a) a.at a.variables stage i
 
 -- ---- starts
 
 -- the number of calls after the place's own
 abbrev pub left_at : Place → ℕ
 left_at (Idle left) = left
-left_at (InCall counters at variables) = counters.left
-left_at (Inside counters at variables stage) = counters.left
+left_at (InCall context at variables) = context.left
+left_at (Inside context at variables stage) = context.left
+left_at (Stopping lock calls) = 0
 left_at Exiting = 0
 
 -- the number of the place's instruction, if it is in a call
 abbrev pub point_at : Place → ℕ
 point_at (Idle left) = 0
-point_at (InCall counters at variables) = at
-point_at (Inside counters at variables stage) = at
+point_at (InCall context at variables) = at
+point_at (Inside context at variables stage) = at
+point_at (Stopping lock calls) = 0
 point_at Exiting = 0
 
 -- Returns the start of a step with the action, but for what it asks of the host or of the word found. A lock that is
@@ -127,18 +134,18 @@ calls_counted _ exit faults = faults
 
 -- ---- the thread afterwards
 
--- the instruction `next` of a call with these counters if the gate found was free, and else the place
-abbrev pub let_in : Counters → ℕ → List (Option ℕ) → ℕ → Place → Place
-let_in counters next variables found place = if found == free_word then InCall counters next variables else place
+-- the instruction `next` of a call in this context if the gate found was free, and else the place
+abbrev pub let_in : Context → ℕ → List (Option ℕ) → ℕ → Place → Place
+let_in context next variables found place = if found == free_word then InCall context next variables else place
 
 -- the place of the thread once the exit of its host call, or the word found, has answered what its step's start asks
 abbrev pub place_after : Start → Exit → ℕ → Thread → Place
 place_after (starts.Asking d question) exit found a =
-    place_answered question found (counters_in a.left a) a.at a.variables
+    place_answered question found (context_in a.left a) a.at a.variables
 place_after (starts.Locking row left next) exit found a =
-    let_in (counters_in left a) next a.variables found (place_of a.mode (counters_in a.left a) a.at a.variables)
-place_after (starts.Calling call) exit found a = place_called call exit (counters_in a.left a) a.at a.variables
-place_after _ exit found a = place_of a.mode (counters_in a.left a) a.at a.variables
+    let_in (context_in left a) next a.variables found (place_of a.mode (context_in a.left a) a.at a.variables)
+place_after (starts.Calling call) exit found a = place_called call exit (context_in a.left a) a.at a.variables
+place_after _ exit found a = place_of a.mode (context_in a.left a) a.at a.variables
 
 -- the thread once the exit of its host call, or the word found, has answered what its step's start asks
 abbrev pub answered : Start → Exit → ℕ → Thread → StepActor

@@ -1,6 +1,5 @@
 -- The contents of a world in the code, and the model's view of them: a word at each address.
 use Rattle.std.specs.Prelude.{◌≡◌, List, length}
-use Rattle.brc_lang.specs.declared.module.Function.{Function}
 use Rattle.brc_lang.specs.declared.module.Module.{Module}
 use Rattle.brc_model.specs.declared.layout.Layout.{Layout}
 use Rattle.brc_model.specs.declared.slot.Exit.{Exit}
@@ -9,22 +8,25 @@ use Rattle.brc_model.specs.declared.thread.Choice.{Choice}
 use Rattle.brc_model.specs.declared.thread.Choice.TheVariants as choices
 use Rattle.brc_model.specs.World.{World, IsReachable}
 use Rattle.brc_model.specs.Actions.{StepActor}
+use Rattle.brc_check.specs.Accepted.{Accepted}
+use Rattle.brc_check.specs.Tables.{states_of}
 use Rattle.brc_world.specs.declared.faults.Faults.{Faults}
 use Rattle.brc_world.specs.Storage.{Columns, word_in}
 use Rattle.brc_model.specs.Layout.{row_count}
 
 pub record Contents : Type 0 where
-  pub functions : List Function
+  pub accepted : Accepted
   pub layout : Layout
   pub words : Columns
   -- by the thread's number: main is 0, the workers 1, 2, ..
   pub actors : List StepActor
   pub faults : Faults
 
--- the model's world of these contents
+-- the model's world of these contents: its states are those that the accepted module's table gives
 abbrev pub seen : Contents → World
 seen c = record {
-  functions = c.functions;
+  functions = c.accepted.module.functions;
+  states = states_of c.accepted.module c.accepted.table;
   layout = c.layout;
   memory = word_in c.words;
   actors = c.actors;

@@ -15,6 +15,7 @@ use crate::dispatch::items::ask_for_cell;
 use crate::dispatch::kinds::ask_kind;
 use crate::dispatch::locks::{lock, unlock};
 use crate::dispatch::references::{give_up, hand_on, name_again, name_none, return_object};
+use crate::dispatch::stops::go_on_stopping;
 use crate::dispatch::ways::{again, go};
 use crate::host_call::HostCall;
 use crate::question::Question;
@@ -32,6 +33,7 @@ mod items;
 mod kinds;
 mod locks;
 mod references;
+mod stops;
 mod ways;
 
 /// The start of a thread's step.
@@ -96,6 +98,7 @@ fn dispatch(functions: &[Function], layout: Layout, number: u8, thread: &mut Thr
 {
     match thread.mode {
         Mode::Exiting => Start::Stuck,
+        Mode::Stopping { locked } => go_on_stopping(locked, thread),
         Mode::InCall => {
             let left = thread.left;
             next_instruction(functions, layout, number, thread, left)

@@ -11,7 +11,8 @@ ghost use Rattle.brc_model.specs.Limits.{worker_limit, total_limit};
 ghost use Rattle.brc_model.specs.StepMachine.{at_place};
 ghost use Rattle.brc_model.specs.Within.{IsThere, Suits};
 ghost use Rattle.brc_world.specs.Storage.{word_in, IsStored};
-ghost use Rattle.brc_world.specs.Actors.{actor_of, counters_in, found_by, actor_done, memory_by, actor_by, faults_by, waits, did_by, CanAct, finds_mark, memory_claimed, actor_claimed, did_claim, CanClaim};
+ghost use Rattle.brc_world.specs.Actors.{actor_of, context_in, found_by, actor_done, memory_by, actor_by, faults_by, waits, did_by, CanAct, finds_mark, memory_claimed, actor_claimed, did_claim, CanClaim, action_stopped, is_silent, silently, did_stop};
+ghost use Rattle.brc_check.specs.Tables.{states_of};
 ghost use Rattle.brc_world.specs.Starts.{let_in, answered, did_of, CanAnswer};
 
 use crate::address::address_of;
@@ -23,7 +24,8 @@ use crate::host_call::end_call;
 use crate::memory::Memory;
 use crate::no_memory::NoMemory;
 use crate::question::answer;
-use crate::thread::{Mode, ROOM, Thread};
+use crate::thread::{Mode, ROOM, Thread, owned_rows};
+use brc_check::Checked;
 use brc_effect::Doer;
 use brc_effect::rows::{block_of, index_of};
 use brc_effect::states::FREE;
@@ -100,7 +102,7 @@ fn finish(thread: &mut Thread, start: &Start, exit: Exit, found: u64) -> Did
 /// Otherwise the thread stays where it is, and its step has changed nothing. Returns what the step did.
 fn enter(thread: &mut Thread, left: u32, next: usize, found: u64) -> Did
     ensures actor { actor_of thread.new ≡ at_place (actor_of thread.old)
-        (let_in (counters_in left thread.old) next thread.old.variables found (actor_of thread.old).place) }
+        (let_in (context_in left thread.old) next thread.old.variables found (actor_of thread.old).place) }
     ensures did { result ≡ (if found == free_word then Did.Moved else Did.Same) }
 {
     if found != FREE {
@@ -252,6 +254,55 @@ pub fn may_claim(layout: Layout, number: u8, thread: &Thread, row: u32) -> bool
                 && block_of(layout, row) == u32::from(number)
                 && index_of(layout, number, row) < thread.used
         }
-        Mode::InCall | Mode::Inside(_) | Mode::Exiting => false,
+        Mode::InCall | Mode::Inside(_) | Mode::Stopping { .. } | Mode::Exiting => false,
     }
+}
+
+/// Returns whether a stop changes the thread: it runs, has nothing to do, and is before a call or before an instruction.
+/// At a point that no path of its function reaches it can't stop, because nobody knows what it holds there.
+pub fn stops(checked: &Checked, thread: &Thread) -> bool
+    ensures { result ≡ is_silent (action_stopped (states_of checked.now.module checked.now.table)
+        (actor_of thread.now)) }
+{
+    if !is_running(thread.status) || !thread.agenda.is_empty() {
+        return false;
+    }
+    match thread.mode {
+        Mode::Idle => thread.left != 0,
+        Mode::InCall => checked.entry(thread.function, thread.at).is_some(),
+        Mode::Inside(_) | Mode::Stopping { .. } | Mode::Exiting => false,
+    }
+}
+
+/// Stops the thread, if it is between two instructions, and returns what the step did. What the module's table says is
+/// locked at its point it has then to unlock, and what the table says its variables own it has to give up; what they
+/// borrow isn't its own (`stop_releases_borrowed`). It takes no memory.
+#[inline(never)]
+pub fn stop(checked: &Checked, thread: &mut Thread) -> Did
+    ensures did { result ≡ did_stop (states_of checked.now.module checked.now.table) (actor_of thread.old)
+        thread.old.status }
+    ensures actor { actor_of thread.new ≡ silently (actor_of thread.old)
+        (action_stopped (states_of checked.now.module checked.now.table) (actor_of thread.old)) }
+{
+    if let Status::Gone = thread.status {
+        return Did::Gone;
+    }
+    if !stops(checked, thread) {
+        return Did::Same;
+    }
+    match thread.mode {
+        Mode::InCall => {
+            let entry = checked.entry(thread.function, thread.at);
+            if let Some(state) = entry {
+                let locked = match state.locked {
+                    Some(variable) => thread.row_of(variable),
+                    None => None,
+                };
+                thread.variables = owned_rows(&state.slots, &thread.variables);
+                thread.stop(locked);
+            }
+        }
+        _ => thread.rest(0),
+    }
+    Did::Moved
 }

@@ -41,6 +41,8 @@ pub enum Part {
     Instruction { at: usize },
     /// The claim of the row, and the merge to which it leads.
     Claim { row: u32 },
+    /// The stop of the thread, and all that it unlocks and gives up by that.
+    Stop,
     /// The thread's exit.
     Exit(ExitPart),
 }

@@ -2,7 +2,7 @@
 
 ghost use Rattle.std.specs.Prelude.{◌≡◌};
 ghost use Rattle.brc_model.specs.StepMachine.{at_place};
-ghost use Rattle.brc_world.specs.Actors.{actor_of, counters_in};
+ghost use Rattle.brc_world.specs.Actors.{actor_of, context_in};
 ghost use Rattle.brc_world.specs.Questions.{place_called};
 
 use crate::thread::{Mode, Thread};
@@ -23,7 +23,7 @@ pub enum HostCall {
 #[inline(always)]
 pub fn end_call(thread: &mut Thread, call: HostCall, exit: Exit)
     ensures { actor_of thread.new ≡ at_place (actor_of thread.old)
-        (place_called call exit (counters_in thread.old.left thread.old) thread.old.at thread.old.variables) }
+        (place_called call exit (context_in thread.old.left thread.old) thread.old.at thread.old.variables) }
 {
     let left = thread.left;
     match call {

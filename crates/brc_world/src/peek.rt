@@ -9,10 +9,11 @@ ghost use Rattle.brc_model.specs.Within.{IsThere};
 ghost use Rattle.brc_world.specs.Actors.{actor_of, CanDo, CanAct};
 ghost use Rattle.brc_world.specs.Sights.{is_leave, is_scan, leaves_next, exit_part, next_part, begins_at, duty_event, kind_born, sight_of, sight_by};
 ghost use Rattle.brc_world.specs.Storage.{word_in};
+ghost use Rattle.brc_check.specs.Tables.{states_of};
 
 use crate::address::address_of;
 use crate::dispatch::{Start, first_duty};
-use crate::doing::{doer, may_claim};
+use crate::doing::{doer, may_claim, stops};
 use crate::event::{Event, ExitPart, Part, Sight};
 use crate::memory::Memory;
 use crate::no_memory::NoMemory;
@@ -20,14 +21,15 @@ use crate::scratch::copy_thread;
 use crate::tally::kind_numbered;
 use crate::thread::{Mode, Thread};
 use crate::world::exit_of;
+use brc_check::Checked;
 use brc_lang::{Function, Kind};
 use brc_model::{Address, Choice, Duty, Layout, Status};
 use brc_word::kind_number;
 
-/// Returns the sight of the thread's step by the choice, or `None` if it takes no step: it is gone, or may not claim the
-/// row. `copy` becomes a copy of the thread whose step has started. Returns `NoMemory` if memory is refused.
+/// Returns the sight of the thread's step by the choice, or `None` if it takes no step: it is gone, may not claim the
+/// row, or can't stop where it is. `copy` becomes a copy of the thread whose step has started. Returns `NoMemory` if memory is refused.
 pub fn peek(
-    functions: &[Function],
+    checked: &Checked,
     memory: &Memory,
     layout: Layout,
     number: u8,
@@ -39,12 +41,15 @@ pub fn peek(
     requires small { length memory.now.local ≤ total_limit }
     requires known { number ≤ worker_limit }
     requires can { CanAct layout number (length memory.now.local) (length memory.now.thread) (word_in memory.now)
-        (actor_of thread.now) (action_of functions.now layout number (actor_of thread.now) choice) }
+        (actor_of thread.now) (action_of checked.now.module.functions
+        (states_of checked.now.module checked.now.table) layout number (actor_of thread.now) choice) }
     ensures { IfOk result (λ sight. sight ≡ sight_by layout number (word_in memory.now) (actor_of thread.now) choice
-        (action_of functions.now layout number (actor_of thread.now) choice)) }
+        (action_of checked.now.module.functions (states_of checked.now.module checked.now.table) layout number
+        (actor_of thread.now) choice)) }
 {
     match choice {
         Choice::Ok | Choice::Fault => {
+            let functions = checked.module().functions.as_slice();
             peek_ahead(functions, memory, layout, number, thread, choice, copy)
         }
         Choice::Claim { row } => {
@@ -54,10 +59,16 @@ pub fn peek(
             let duty = Duty::ClaimMark { row };
             Ok(Some(see_duty(memory, layout, number, thread, choice, &duty)))
         }
+        Choice::Stop => {
+            if !stops(checked, thread) {
+                return Ok(None);
+            }
+            Ok(Some(sight_of(thread, choice, Event::Silent, None)))
+        }
     }
 }
 
-/// Returns the sight of the thread's step by a choice that is no claim, or `None` if the thread is gone. The copy's step
+/// Returns the sight of the thread's step by a choice that is no claim and no stop, or `None` if the thread is gone. The copy's step
 /// is started, by which the thread's action is known; the thread itself stays as it is.
 fn peek_ahead(
     functions: &[Function],
@@ -191,6 +202,7 @@ fn begins_at(thread: &Thread, choice: Choice) -> Option<Part>
     match choice {
         Choice::Ok | Choice::Fault => next_part(thread),
         Choice::Claim { row } => Some(Part::Claim { row }),
+        Choice::Stop => Some(Part::Stop),
     }
 }
 
@@ -203,6 +215,7 @@ fn next_part(thread: &Thread) -> Option<Part>
     let rests = thread.agenda.is_empty();
     match thread.mode {
         Mode::Exiting => Some(Part::Exit(exit_part(thread.agenda.as_slice()))),
+        Mode::Stopping { .. } if rests => Some(Part::Stop),
         Mode::Idle if rests && thread.left == 0 => Some(Part::Exit(ExitPart::Root)),
         Mode::Idle if rests => Some(Part::Instruction { at: 0 }),
         Mode::InCall | Mode::Inside(_) if rests => Some(Part::Instruction { at: thread.at }),

@@ -5,7 +5,7 @@ ghost use Rattle.brc_model.specs.Duties.{cells_of};
 ghost use Rattle.brc_model.specs.Kinds.{same_kind, kind_of_word};
 ghost use Rattle.brc_model.specs.Limits.{total_limit};
 ghost use Rattle.brc_model.specs.StepMachine.{at_place};
-ghost use Rattle.brc_world.specs.Actors.{actor_of, counters_in};
+ghost use Rattle.brc_world.specs.Actors.{actor_of, context_in};
 ghost use Rattle.brc_world.specs.Questions.{outside_of, place_answered, IsAnswerable, item_in};
 
 use crate::tally::kind_numbered;
@@ -46,7 +46,7 @@ pub enum Outside {
 pub fn answer(thread: &mut Thread, question: &Question, found: u64)
     requires { IsAnswerable question.now found }
     ensures { actor_of thread.new ≡ at_place (actor_of thread.old)
-        (place_answered question.now found (counters_in thread.old.left thread.old) thread.old.at thread.old.variables) }
+        (place_answered question.now found (context_in thread.old.left thread.old) thread.old.at thread.old.variables) }
 {
     let left = thread.left;
     let here = thread.at;
@@ -95,7 +95,7 @@ pub fn answer(thread: &mut Thread, question: &Question, found: u64)
 #[inline(always)]
 fn miss(thread: &mut Thread, outside: Outside)
     ensures { actor_of thread.new ≡ at_place (actor_of thread.old)
-        (outside_of outside (counters_in thread.old.left thread.old) thread.old.at thread.old.variables) }
+        (outside_of outside (context_in thread.old.left thread.old) thread.old.at thread.old.variables) }
 {
     let left = thread.left;
     match outside {

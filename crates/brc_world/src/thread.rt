@@ -1,13 +1,18 @@
 //! A thread of the step world.
 
-ghost use Rattle.std.specs.Prelude.{◌≡◌, ◌≤◌, slice_index_or, slice_set, vec_capacity};
+ghost use Rattle.std.specs.Prelude.{◌≡◌, ◌<◌, ◌≤◌, true, is_some, slice_index_or, slice_set, vec_capacity};
+ghost use Rattle.std.specs.List.{list_any};
 ghost use Rattle.brc_model.specs.Limits.{total_limit};
+ghost use Rattle.brc_lang.specs.Limits.{variable_count};
+ghost use Rattle.brc_model.specs.Slots.{is_owned};
 ghost use Rattle.brc_model.specs.Threads.{row_of};
+ghost use Rattle.brc_model.specs.Actions.{owned_rows, first_named};
+ghost use Rattle.brc_world.specs.Modes.{mode_stopped};
 ghost use Rattle.brc_effect.specs.Effects.{status_after, used_after, locked_after, lent_after};
 
 use brc_effect::Change;
 use brc_lang::Variable;
-use brc_model::{Duty, Stage, Status};
+use brc_model::{Duty, Slot, Stage, Status};
 use std::fmt;
 
 /// The row that each variable names, or `None` for an empty variable.
@@ -29,6 +34,8 @@ pub enum Mode {
     InCall,
     /// Inside an instruction that takes several steps, after its first step.
     Inside(Stage),
+    /// It has stopped, and has still to unlock the row, or to give up what its variables name.
+    Stopping { locked: Option<u32> },
     /// Its exit has begun.
     Exiting,
 }
@@ -132,6 +139,19 @@ impl Thread {
         }
     }
 
+    /// Puts a thread that has stopped where it is then: it has this row to unlock, if there is one, and the references
+    /// of all its variables to give up. With nothing to do it is done with its calls. It makes no further one.
+    pub fn stop(&mut self, locked: Option<u32>)
+        ensures { self.new ≡ record self.old { mode = mode_stopped locked self.old.variables; left = 0 } }
+    {
+        self.mode = if locked.is_some() || names_some(&self.variables) {
+            Mode::Stopping { locked }
+        } else {
+            Mode::Idle
+        };
+        self.left = 0;
+    }
+
     /// Ends the call, with `left` calls still to make.
     pub fn rest(&mut self, left: u32)
         ensures { self.new ≡ record self.old { mode = Mode.Idle; left = left } }
@@ -139,6 +159,45 @@ impl Thread {
         self.mode = Mode::Idle;
         self.left = left;
     }
+}
+
+/// Returns whether some variable names a row.
+pub fn names_some(variables: &Variables) -> bool
+    ensures { result ≡ list_any is_some variables.now }
+{
+    variables.iter().any(|row| row.is_some())
+}
+
+/// Returns the first variable that names a row, by its number, or the number of variables if none does.
+pub fn first_named(variables: &Variables) -> usize
+    ensures first { result ≡ first_named variables.now }
+    ensures low { list_any is_some variables.now ≡ true → result < variable_count }
+{
+    for variable in 0..Variable::COUNT {
+        if variables[variable].is_some() {
+            return variable;
+        }
+    }
+    Variable::COUNT
+}
+
+fn is_owned(slot: Slot) -> bool
+    ensures { result ≡ is_owned slot }
+{
+    matches!(slot, Slot::Owned(_))
+}
+
+/// Returns the variables without those whose slots own no reference.
+pub fn owned_rows(slots: &[Slot; Variable::COUNT], variables: &Variables) -> Variables
+    ensures { result ≡ owned_rows slots.now variables.now }
+{
+    let mut owned = *variables;
+    for variable in 0..Variable::COUNT {
+        if !is_owned(slots[variable]) {
+            owned[variable] = None;
+        }
+    }
+    owned
 }
 
 /// Writes the fields that are part of the world. An instruction, variables and counts of the instructions `again` are
@@ -162,6 +221,7 @@ impl fmt::Debug for Thread {
             "{function} {mode:?} {left} {status:?} {agenda:?} {head} {used} {locked:?} {lent:?}"
         )?;
         match mode {
+            Mode::Stopping { .. } => write!(f, " {:?}", self.variables),
             Mode::InCall | Mode::Inside(_) => {
                 write!(f, " {} {:?}", self.at, self.variables)?;
                 for (at, turns) in self.turns.iter().enumerate() {

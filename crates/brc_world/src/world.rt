@@ -1,10 +1,11 @@
 ghost use Rattle.std.specs.Prelude.{◌≡◌, ◌≢◌, ◌<◌, ◌≤◌, not, length, map, filter, slice_get, IfOk, IfErr, OnOk, OnErr};
 ghost use Rattle.std.specs.List.{All};
-ghost use Rattle.brc_model.specs.declared.thread.Choice.TheVariants.{Claim as claims};
+ghost use Rattle.brc_model.specs.declared.thread.Choice.TheVariants.{Claim as claims, Stop as stops};
 ghost use Rattle.brc_model.specs.Safety.{AreCalls};
 ghost use Rattle.brc_model.specs.Actions.{exit_of};
 ghost use Rattle.brc_model.specs.Limits.{row_limit};
 ghost use Rattle.brc_model.specs.World.{first_world, step};
+ghost use Rattle.brc_check.specs.Tables.{states_of};
 ghost use Rattle.brc_world.specs.Sights.{sight_at};
 ghost use Rattle.brc_world.specs.Worlds.{seen, choice_of};
 ghost use Rattle.brc_world.specs.Tallies.{used_of, is_born, is_closed_row, rows_born, left_in, tally_of};
@@ -13,7 +14,7 @@ ghost use Rattle.brc_world.specs.Answers.{is_gone_at, IsAnswer};
 ghost use Rattle.brc_model.specs.Layout.{row_count};
 
 use crate::did::Did;
-use crate::doing::{act, claim};
+use crate::doing::{act, claim, stop};
 use crate::event::Sight;
 use crate::faults::Faults;
 use crate::first::first_threads;
@@ -26,7 +27,7 @@ use crate::tally::{kind_numbered, running_in};
 use crate::thread::Thread;
 use brc_check::Checked;
 use brc_effect::rows::{block_of, index_of, is_immortal_row};
-use brc_lang::{Module, Sequence};
+use brc_lang::Sequence;
 use brc_model::{
     Address, Call, Choice, Exit, Layout, Status, steps_are_within, steps_move, worlds_are_small,
     worlds_lead_on,
@@ -39,7 +40,7 @@ use std::marker::Model;
 /// A reachable world: some list of steps leads to it from the first world.
 #[derive(Debug, Drop)]
 pub struct World<'a> {
-    accepted: &'a Module,
+    accepted: &'a Checked,
     layout: Layout,
     memory: Memory,
     /// By thread number: main is 0, the workers are 1, 2, ..
@@ -55,16 +56,16 @@ impl<'a> Model for World<'a> {
     ghost Value = { Contents };
 
     ghost view = { λ w. record {
-      functions = w.accepted.now.functions;
+      accepted = w.accepted.now;
       layout = w.layout;
       words = w.memory;
       actors = map actor_of w.threads.items;
       faults = w.faults;
     } };
 
-    ghost invariant = { λ w. IsWorld w.accepted.now
+    ghost invariant = { λ w. IsWorld w.accepted.now.module
         (record {
-          functions = w.accepted.now.functions;
+          accepted = w.accepted.now;
           layout = w.layout;
           words = w.memory;
           actors = map actor_of w.threads.items;
@@ -86,9 +87,11 @@ impl<'a> World<'a> {
         requires some_rows { 0 < rows }
         requires most_rows { rows ≤ row_limit }
         requires calls_fit { AreCalls checked.now.module calls.now }
-        ensures { IfOk result (λ w. seen w ≡ first_world checked.now.module rows calls.now) }
+        ensures { IfOk result (λ w. seen w ≡ first_world checked.now.module
+            (states_of checked.now.module checked.now.table) rows calls.now) }
     {
         worlds_lead_on();
+        checked.states_are_true();
         let layout = Layout {
             workers: workers as u8,
             rows,
@@ -96,7 +99,7 @@ impl<'a> World<'a> {
             immortal_lists: 0,
         };
         Ok(World {
-            accepted: checked.module(),
+            accepted: checked,
             layout,
             memory: first_memory(alloc, layout)?,
             threads: first_threads(alloc, calls)?,
@@ -214,8 +217,8 @@ impl<'a> World<'a> {
     }
 
     /// Returns what the thread's step by the choice does, without taking it, or `None` if the thread takes no step: it
-    /// is gone, or may not claim the row. A lock that another thread holds, and a claim that finds no mark, change
-    /// nothing, but are steps all the same: each finds a word. Returns `NoMemory` if memory is refused.
+    /// is gone, may not claim the row, or can't stop where it is. A lock that another thread holds, and a claim that
+    /// finds no mark, change nothing, but are steps all the same: each finds a word. Returns `NoMemory` if memory is refused.
     pub fn next_event(
         &self,
         scratch: &mut Scratch,
@@ -228,7 +231,7 @@ impl<'a> World<'a> {
         worlds_are_small();
         steps_are_within();
         peek(
-            self.accepted.functions.as_slice(),
+            self.accepted,
             &self.memory,
             self.layout,
             thread as u8,
@@ -253,6 +256,7 @@ impl<'a> World<'a> {
         match choice {
             Choice::Ok | Choice::Fault => self.go_on(thread, exit_of(choice)),
             Choice::Claim { row } => self.look_for(thread, row),
+            Choice::Stop => Ok(self.stop(thread)),
         }
     }
 
@@ -270,7 +274,7 @@ impl<'a> World<'a> {
         steps_are_within();
         steps_move();
         act(
-            self.accepted.functions.as_slice(),
+            self.accepted.module().functions.as_slice(),
             &mut self.memory,
             self.layout,
             thread as u8,
@@ -300,6 +304,18 @@ impl<'a> World<'a> {
             row,
         )
     }
+
+    fn stop(&mut self, thread: usize) -> Did
+        requires { thread < length self.old.actors }
+        ensures made { seen self.new ≡ step (seen self.old) thread stops }
+        ensures answer { IsAnswer (seen self.old) thread (seen self.new) result }
+        ensures as_many { length self.new.actors ≡ length self.old.actors }
+    {
+        worlds_are_small();
+        worlds_lead_on();
+        steps_move();
+        stop(self.accepted, &mut self.threads[thread])
+    }
 }
 
 /// Returns the exit by which the choice ends a host call or a close.
@@ -308,7 +324,7 @@ pub fn exit_of(choice: Choice) -> Exit
     ensures { result ≡ exit_of choice }
 {
     match choice {
-        Choice::Ok | Choice::Claim { .. } => Exit::Success,
+        Choice::Ok | Choice::Claim { .. } | Choice::Stop => Exit::Success,
         Choice::Fault => Exit::Fault,
     }
 }

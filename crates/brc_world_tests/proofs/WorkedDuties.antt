@@ -156,7 +156,7 @@ items-lead_to = refl
 -- Thread 3 stores the object of row 9, which its variable 2 names, in cell 0 of the list of row 7, and releases what it
 -- finds there: nothing, the object of row 8, or the list itself.
 swap : Duty
-swap = CellSwap 7 0 9 (ByVariable 2)
+swap = CellSwap 7 0 9 (ByVariable 0 2)
 
 swaps-are_at : address_of four 3 0 swap ≡ Cell 7 0
 unfolding swap

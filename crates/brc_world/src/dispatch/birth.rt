@@ -4,7 +4,7 @@ ghost use Rattle.std.specs.Prelude.{◌≡◌, if◌then◌else◌, None, Some};
 ghost use Rattle.brc_model.specs.Actions.{birth_action};
 ghost use Rattle.brc_model.specs.Layout.{row_at};
 ghost use Rattle.brc_model.specs.Machine.{has_room};
-ghost use Rattle.brc_world.specs.Actors.{counters_in};
+ghost use Rattle.brc_world.specs.Actors.{context_in};
 ghost use Rattle.brc_world.specs.Starts.{CanBegin, Begins};
 
 use crate::dispatch::Start;
@@ -26,7 +26,7 @@ pub(super) fn birth(
     left: u32,
 ) -> Start
     requires { CanBegin thread.old }
-    ensures { Begins thread.old (birth_action layout number thread.old.used (counters_in left thread.old)
+    ensures { Begins thread.old (birth_action layout number thread.old.used (context_in left thread.old)
         thread.old.at thread.old.variables to word otherwise) result thread.new }
 {
     let next = thread.at + 1;
@@ -36,7 +36,10 @@ pub(super) fn birth(
             thread.go_to(left, next);
             Start::Doing(Duty::BirthKind {
                 row,
-                holding: Holding::ByVariable(to),
+                holding: Holding::ByVariable {
+                    depth: 0,
+                    variable: to,
+                },
                 word,
             })
         }

@@ -7,7 +7,7 @@ ghost use Rattle.brc_model.specs.declared.actor.Stage.TheVariants as stages;
 ghost use Rattle.brc_model.specs.declared.layout.Layout.{Layout};
 ghost use Rattle.brc_model.specs.Actions.{Silent, grant_action, granted_birth, lend_action};
 ghost use Rattle.brc_model.specs.Machine.{has_room};
-ghost use Rattle.brc_world.specs.Actors.{counters_in};
+ghost use Rattle.brc_world.specs.Actors.{context_in};
 ghost use Rattle.brc_world.specs.Starts.{action_at, action_inside, CanBegin, Begins};
 
 use crate::dispatch::Start;
@@ -31,7 +31,7 @@ pub(super) fn ask_host(
     left: u32,
 ) -> Start
     requires { CanBegin thread.old }
-    ensures { Begins thread.old (grant_action layout number thread.old.used (counters_in left thread.old)
+    ensures { Begins thread.old (grant_action layout number thread.old.used (context_in left thread.old)
         thread.old.at thread.old.variables to otherwise) result thread.new }
 {
     if !has_room(layout, number, thread.used) {
@@ -67,7 +67,7 @@ pub(super) fn read(
 #[inline(always)]
 fn miss(to: Variable, otherwise: u8, thread: &mut Thread, left: u32) -> Start
     requires { CanBegin thread.old }
-    ensures { Begins thread.old (Silent [] (InCall (counters_in left thread.old) otherwise
+    ensures { Begins thread.old (Silent [] (InCall (context_in left thread.old) otherwise
         (slice_set thread.old.variables to None))) result thread.new }
 {
     thread.set(to, None);
@@ -96,7 +96,7 @@ pub(super) fn write(number: Variable, thread: &mut Thread, left: u32) -> Start
 #[inline(always)]
 fn lend(file: Variable, thread: &mut Thread, left: u32) -> Start
     requires { CanBegin thread.old }
-    ensures { Begins thread.old (lend_action (counters_in left thread.old) thread.old.at thread.old.variables file)
+    ensures { Begins thread.old (lend_action (context_in left thread.old) thread.old.at thread.old.variables file)
         result thread.new }
 {
     match thread.row_of(file) {
@@ -204,7 +204,7 @@ pub(super) fn make_granted(instr: Instr, layout: Layout, number: u8, thread: &mu
 fn give_birth(to: Variable, word: u64, layout: Layout, number: u8, thread: &mut Thread) -> Start
     requires { CanBegin thread.old }
     ensures { Begins thread.old (granted_birth layout number thread.old.used
-        (counters_in thread.old.left thread.old) thread.old.at thread.old.variables to word) result thread.new }
+        (context_in thread.old.left thread.old) thread.old.at thread.old.variables to word) result thread.new }
 {
     let next = thread.at + 1;
     let left = thread.left;
@@ -213,7 +213,10 @@ fn give_birth(to: Variable, word: u64, layout: Layout, number: u8, thread: &mut 
     thread.go_to(left, next);
     Start::Doing(Duty::BirthKind {
         row,
-        holding: Holding::ByVariable(to),
+        holding: Holding::ByVariable {
+            depth: 0,
+            variable: to,
+        },
         word,
     })
 }

@@ -10,7 +10,7 @@ ghost use Rattle.brc_model.specs.declared.layout.Layout.{Layout};
 ghost use Rattle.brc_model.specs.Actions.{Does, with_row};
 ghost use Rattle.brc_model.specs.Threads.{row_of};
 ghost use Rattle.brc_world.specs.declared.question.Question.TheVariants as questions;
-ghost use Rattle.brc_world.specs.Actors.{actor_of, counters_in, with_agenda};
+ghost use Rattle.brc_world.specs.Actors.{actor_of, context_in, with_agenda};
 ghost use Rattle.brc_world.specs.Questions.{place_answered};
 ghost use Rattle.brc_world.specs.Starts.{uses_cell, action_at, action_inside, CanBegin, Begins};
 
@@ -71,7 +71,7 @@ pub(super) fn ask_for_cell(instr: Instr, thread: &mut Thread, left: u32) -> Star
 fn ask_range(list: Variable, index: u8, outside: Outside, thread: &mut Thread, left: u32) -> Start
     requires { CanBegin thread.old }
     ensures { Begins thread.old (with_row (row_of thread.old.variables list) (λ row. Does (KindLoad row) []
-        (λ found. place_answered (questions.Range index outside) found (counters_in left thread.old) thread.old.at
+        (λ found. place_answered (questions.Range index outside) found (context_in left thread.old) thread.old.at
         thread.old.variables)))
         result thread.new }
 {
@@ -181,7 +181,10 @@ pub(super) fn retain_found(instr: Instr, item: u32, thread: &mut Thread) -> Star
             thread.go_to(left, next);
             Start::Doing(Duty::RetainLoad {
                 row: item,
-                holding: Holding::ByVariable(to),
+                holding: Holding::ByVariable {
+                    depth: 0,
+                    variable: to,
+                },
             })
         }
         _ => Start::Stuck,
@@ -201,7 +204,16 @@ fn set(list: Variable, index: u8, from: Variable, otherwise: u8, thread: &mut Th
         (Some(row), Some(item)) => {
             thread.set(from, None);
             thread.go_to(left, next);
-            swap(row, index, item, Holding::ByVariable(from), thread)
+            swap(
+                row,
+                index,
+                item,
+                Holding::ByVariable {
+                    depth: 0,
+                    variable: from,
+                },
+                thread,
+            )
         }
         _ => Start::Stuck,
     }

@@ -41,7 +41,10 @@ pub(super) fn name_again(to: Variable, from: Variable, thread: &mut Thread, left
             thread.go_to(left, next);
             Start::Doing(Duty::RetainLoad {
                 row,
-                holding: Holding::ByVariable(to),
+                holding: Holding::ByVariable {
+                    depth: 0,
+                    variable: to,
+                },
             })
         }
         None => Start::Stuck,
@@ -105,13 +108,16 @@ pub(super) fn return_object(from: Variable, thread: &mut Thread, left: u32) -> S
 pub(super) fn release(row: u32, from: Variable, thread: &mut Thread) -> Start
     requires empty { thread.old.agenda.items ≡ [] }
     requires room { 8 ≤ vec_capacity thread.old.agenda }
-    ensures starts { result ≡ Start.Doing (ReleaseLoad row (ByVariable from)) }
+    ensures starts { result ≡ Start.Doing (ReleaseLoad row (ByVariable 0 from)) }
     ensures actor { actor_of thread.new ≡ with_agenda (actor_of thread.old) (Settle ∷ []) }
     ensures room { vec_len thread.new.agenda + 4 ≤ vec_capacity thread.new.agenda }
 {
     thread.agenda.push_reserved(Duty::Settle);
     Start::Doing(Duty::ReleaseLoad {
         row,
-        holding: Holding::ByVariable(from),
+        holding: Holding::ByVariable {
+            depth: 0,
+            variable: from,
+        },
     })
 }

@@ -1,28 +1,26 @@
-use Rattle.std.proofs.Common.{ap, ◌∙◌}
-use Rattle.brc_model.specs.World.{first_world}
 use Rattle.brc_world.specs.Worlds.{seen}
-use Rattle.brc_command.proofs.Traced.{on_err, trace_begun, trace_written, tally_there, report_written, report_begun}
+use Rattle.brc_command.proofs.Traced.{on_err, begins_at, trace_begun, trace_written, tally_there, report_written, report_begun}
 use Rattle.brc_command.proofs.tracing.write_traced.Goals as goal
 
 pub returns-in_err-trace-clause-begun : goal.returns-in_err-trace-clause-begun
 returns-in_err-trace-clause-begun g c =
-    let m = c.args.checked.now.module in
+    let m = c.args.checked.now in
     let s = c.args.schedule.now in
     on_err c.from_residual-in_err-trace.result (trace_begun c.args.paint m s (seen c.in_ok-world.world) _ _
-    (c.in_ok-world.ensures ∙ ap (first_world m s.rows) c.requires.found) c.in_err-trace.ensures.begun)
+    (begins_at m s _ _ c.in_ok-world.ensures c.requires.found) c.in_err-trace.ensures.begun)
 
 pub returns-in_err-tally-clause-begun : goal.returns-in_err-tally-clause-begun
 returns-in_err-tally-clause-begun g c =
-    let m = c.args.checked.now.module in
+    let m = c.args.checked.now in
     let s = c.args.schedule.now in
     on_err c.from_residual-in_err-tally.result (trace_written c.args.paint m s (seen c.in_ok-world.world) _ _
-    (c.in_ok-world.ensures ∙ ap (first_world m s.rows) c.requires.found) c.in_ok-trace.ensures.whole)
+    (begins_at m s _ _ c.in_ok-world.ensures c.requires.found) c.in_ok-trace.ensures.whole)
 
 pub returns-in-Ok-clause-whole : goal.returns-in-Ok-clause-whole
 returns-in-Ok-clause-whole g c =
-    let m = c.args.checked.now.module in
+    let m = c.args.checked.now in
     let s = c.args.schedule.now in
-    let first = c.in_ok-world.ensures ∙ ap (first_world m s.rows) c.requires.found in
+    let first = begins_at m s _ _ c.in_ok-world.ensures c.requires.found in
     report_written c.args.paint m s (seen c.in_ok-world.world) _ _ _ c.in_ok-tally.tally first
     c.in_ok-trace.ensures.whole
     (tally_there m s (seen c.in_ok-world.world) (seen c.trace.new.world) c.in_ok-tally.tally first
@@ -31,9 +29,9 @@ returns-in-Ok-clause-whole g c =
 
 pub returns-clause-begun : goal.returns-clause-begun
 returns-clause-begun g c =
-    let m = c.args.checked.now.module in
+    let m = c.args.checked.now in
     let s = c.args.schedule.now in
-    let first = c.in_ok-world.ensures ∙ ap (first_world m s.rows) c.requires.found in
+    let first = begins_at m s _ _ c.in_ok-world.ensures c.requires.found in
     report_begun c.args.paint m s (seen c.in_ok-world.world) _ _ _ c.in_ok-tally.tally first
     c.in_ok-trace.ensures.whole
     (tally_there m s (seen c.in_ok-world.world) (seen c.trace.new.world) c.in_ok-tally.tally first

@@ -4,8 +4,8 @@ use Rattle.std.specs.Prelude.{slice_get}
 use Rattle.brc_model.specs.declared.actor.Place.TheVariants.{Idle}
 use Rattle.brc_model.specs.Threads.{code_of}
 use Rattle.brc_model.specs.Actions as model
-use Rattle.brc_model.specs.Actions.{StepActor, first_counters}
-use Rattle.brc_world.specs.Actors.{counters_in, place_of}
+use Rattle.brc_model.specs.Actions.{StepActor, first_context}
+use Rattle.brc_world.specs.Actors.{context_in, place_of}
 use Rattle.brc_world.specs.Starts.{start_by, started}
 use Rattle.brc_world.proofs.Calling.{idle_begins}
 use Rattle.brc_world.proofs.dispatch.dispatch.Goals as goal
@@ -14,11 +14,11 @@ use Rattle.brc_world.proofs.dispatch.dispatch.Goals.{After-next_instruction-in-I
 -- The model's thread dispatches that instruction too.
 begins : (c : After-next_instruction-in-Idle)
     → model.dispatch_instruction c.args.layout c.args.number c.args.thread.now.used (Idle c.args.thread.now.left)
-    (first_counters (c.args.thread.now.left - 1)) 0 c.entry_variables-thread.result
+    (first_context (c.args.thread.now.left - 1)) 0 c.entry_variables-thread.result
     (slice_get (code_of (slice_get c.args.functions.now c.args.thread.now.function)) 0)
     ≡ model.dispatch c.args.layout c.args.number c.args.thread.now.used
     (code_of (slice_get c.args.functions.now c.args.thread.now.function))
-    (place_of c.args.thread.now.mode (counters_in c.args.thread.now.left c.args.thread.now) c.args.thread.now.at
+    (place_of c.args.thread.now.mode (context_in c.args.thread.now.left c.args.thread.now) c.args.thread.now.at
     c.args.thread.now.variables)
 begins c =
     let code = code_of (slice_get c.args.functions.now c.args.thread.now.function) in

@@ -16,14 +16,14 @@ use Rattle.brc_world.proofs.world.World.go_on.Goals as goal
 -- The world that the model sees before the step.
 abbrev old_world : After-index_mut → World
 old_world c =
-    seen (contents c.self.inside.accepted.now.functions c.self.inside.layout c.self.inside.memory
+    seen (contents c.self.inside.accepted.now c.self.inside.layout c.self.inside.memory
     c.self.inside.threads.items c.self.inside.faults)
 
 -- The thread is there.
 here : (c : After-index_mut)
     → slice_get (old_world c).actors c.args.thread ≡ Some (actor_of c.index_mut.result.now)
 here c =
-    thread_at c.self.inside.accepted.now.functions c.self.inside.layout c.self.inside.memory
+    thread_at c.self.inside.accepted.now c.self.inside.layout c.self.inside.memory
     c.self.inside.threads.items c.args.thread c.self.inside.faults c.index_mut.result.now c.index_mut.ensures.value
     (rw (sym c.self.view_is) at c.requires)
 
@@ -36,7 +36,7 @@ moves c = λ alive quiet.
     let a = actor_of c.index_mut.result.now in
     moves_unless_waiting (old_world c) c.args.thread a c.args.exit (here c)
     (λ free. at_exit (λ choice. step (old_world c) c.args.thread choice ≢ old_world c) c.args.exit
-    (c.steps_move.ensures.goes_on c.self.inside.accepted.now (old_world c) c.args.thread a
+    (c.steps_move.ensures.goes_on c.self.inside.accepted.now.module (old_world c) c.args.thread a
     c.self.invariant.reachable (here c) alive free)) alive quiet
 
 pub overflow_cast-thread : goal.overflow_cast-thread
@@ -63,7 +63,8 @@ pub act-requires-clause-can : goal.act-requires-clause-can
 act-requires-clause-can c =
     let steps = c.steps_are_within.ensures _ _ c.args.thread _ c.self.invariant.reachable
     (here (goal.at.act-requires-clause-can c).After-index_mut) in
-    rw (c.as_slice.ensures, c.self.invariant.rows, c.self.invariant.threads) (can_go_on _ _ _ steps)
+    rw (c.as_slice.ensures, c.module.ensures.value, c.self.invariant.rows, c.self.invariant.threads)
+    (can_go_on _ _ (actor_of c.index_mut.result.now) steps)
 
 -- The world after the step is the model's next world or, if memory was refused, the same world.
 outcome_of : (c : goal.After-self-1)
@@ -79,16 +80,16 @@ outcome_of c =
     let before = c.index_mut.result.now in
     let after = c.act.new.thread in
     let f = c.self.inside.faults in
-    let w = seen (contents p.functions layout words threads f) in
-    let action = status_action p.functions layout t (actor_of before) before.status in
+    let w = seen (contents p layout words threads f) in
+    let action = status_action p.module.functions layout t (actor_of before) before.status in
     let memory = memory_by layout t (word_in words) (actor_of before) action in
     let next = actor_by layout t (word_in words) (actor_of before) c.args.exit action in
     let faults = faults_by c.args.exit action f in
     let turned : Turned words c.act.new.memory (actor_of before) (actor_of after) f c.act.new.faults c.act.result memory
     next faults = record {
-      words = rw c.as_slice.ensures at c.act.ensures.words;
-      actor = rw c.as_slice.ensures at c.act.ensures.actor;
-      faults_are = rw c.as_slice.ensures at c.act.ensures.faults;
+      words = rw (c.as_slice.ensures, c.module.ensures.value) at c.act.ensures.words;
+      actor = rw (c.as_slice.ensures, c.module.ensures.value) at c.act.ensures.actor;
+      faults_are = rw (c.as_slice.ensures, c.module.ensures.value) at c.act.ensures.faults;
       same_words = c.act.ensures.same_words;
       same_actor = c.act.ensures.same_actor;
       same_faults = c.act.ensures.same_faults;
@@ -96,11 +97,11 @@ outcome_of c =
       threads = c.act.ensures.as_many_threads;
     } in
     let within = rw (sym c.self.view_is) at c.requires in
-    let here = thread_at p.functions layout words threads t f before c.index_mut.ensures.value within in
+    let here = thread_at p layout words threads t f before c.index_mut.ensures.value within in
     let is = going_on w t (actor_of before) c.args.exit here in
     outcome p layout words c.act.new.memory threads t (choice_of c.args.exit) before after f c.act.new.faults
     c.act.result memory next faults turned c.index_mut.ensures.value is c.self.invariant
-    (c.worlds_lead_on.ensures.step p w t (choice_of c.args.exit) c.self.invariant.reachable)
+    (c.worlds_lead_on.ensures.step p.module w t (choice_of c.args.exit) c.self.invariant.reachable)
 
 pub invariant_of-self : goal.invariant_of-self
 invariant_of-self c = (outcome_of c).world
@@ -119,10 +120,10 @@ returns-clause-answer c =
     let a = actor_of c.index_mut.result.now in
     let w = old_world place in
     rw (sym c.self.view_is) (answered w _ _ t c.act.result _ (outcome_of c).made
-    (rw c.as_slice.ensures at c.act.ensures.did)
+    (rw (c.as_slice.ensures, c.module.ensures.value) at c.act.ensures.did)
     (going_answers w t c.args.exit a a.actor.status (here place) refl (moves place)
     (λ waiting. at_exit (λ choice. step w t choice ≡ w) c.args.exit
-    (c.steps_move.ensures.waits p w t a c.self.invariant.reachable (here place)
+    (c.steps_move.ensures.waits p.module w t a c.self.invariant.reachable (here place)
     (waits_locked w.memory a.actor.agenda (status_action w.functions w.layout t a a.actor.status) waiting)))
     (going_on w t a c.args.exit (here place))))
 
@@ -130,4 +131,4 @@ pub returns-clause-refused : goal.returns-clause-refused
 returns-clause-refused c =
     rw (sym c.self.view_is) (refusal c.act.result
     (λ refused. moves (goal.at.returns-clause-refused c).After-index_mut refused.0 refused.1)
-    (rw c.as_slice.ensures at c.act.ensures.refused))
+    (rw (c.as_slice.ensures, c.module.ensures.value) at c.act.ensures.refused))

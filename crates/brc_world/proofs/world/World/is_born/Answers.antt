@@ -10,7 +10,7 @@ block_of-block-requires c = c.worlds_are_small.ensures.some_rows _ _ c.self.inva
 pub overflow_cast-block : goal.overflow_cast-block
 overflow_cast-block c =
     let w =
-    seen (contents c.self.inside.accepted.now.functions c.self.inside.layout c.self.inside.memory
+    seen (contents c.self.inside.accepted.now c.self.inside.layout c.self.inside.memory
     c.self.inside.threads.items c.self.inside.faults) in
     let few = c.worlds_are_small.ensures.few_threads _ w c.self.invariant.reachable in
     let many = c.worlds_are_small.ensures.workers _ w c.self.invariant.reachable in

@@ -14,14 +14,14 @@ use Rattle.brc_world.proofs.world.World.look_for.Goals as goal
 -- The world that the model sees before the step.
 abbrev old_world : After-index_mut → World
 old_world c =
-    seen (contents c.self.inside.accepted.now.functions c.self.inside.layout c.self.inside.memory
+    seen (contents c.self.inside.accepted.now c.self.inside.layout c.self.inside.memory
     c.self.inside.threads.items c.self.inside.faults)
 
 -- The thread is there.
 here : (c : After-index_mut)
     → slice_get (old_world c).actors c.args.thread ≡ Some (actor_of c.index_mut.result.now)
 here c =
-    thread_at c.self.inside.accepted.now.functions c.self.inside.layout c.self.inside.memory
+    thread_at c.self.inside.accepted.now c.self.inside.layout c.self.inside.memory
     c.self.inside.threads.items c.args.thread c.self.inside.faults c.index_mut.result.now c.index_mut.ensures.value
     (rw (sym c.self.view_is) at c.requires)
 
@@ -75,7 +75,7 @@ outcome_of c =
     let before = c.index_mut.result.now in
     let after = c.claim.new.thread in
     let f = c.self.inside.faults in
-    let w = seen (contents p.functions layout words threads f) in
+    let w = seen (contents p layout words threads f) in
     let memory = memory_claimed layout t (word_in words) (actor_of before) c.args.row in
     let next = actor_claimed layout t (word_in words) (actor_of before) c.args.row in
     let turned : Turned words c.claim.new.memory (actor_of before) (actor_of after) f f c.claim.result memory next f =
@@ -90,15 +90,15 @@ outcome_of c =
       threads = c.claim.ensures.as_many_threads;
     } in
     let within = rw (sym c.self.view_is) at c.requires in
-    let here = thread_at p.functions layout words threads t f before c.index_mut.ensures.value within in
+    let here = thread_at p layout words threads t f before c.index_mut.ensures.value within in
     let is =
-    claim_is p w t (actor_of before) c.args.row c.self.invariant.reachable here
-    (c.steps_move.ensures.misses p w t (actor_of before) c.args.row c.self.invariant.reachable here)
+    claim_is p.module w t (actor_of before) c.args.row c.self.invariant.reachable here
+    (c.steps_move.ensures.misses p.module w t (actor_of before) c.args.row c.self.invariant.reachable here)
     (c.steps_move.ensures.stays w t (actor_of before) c.args.row here) in
     outcome p layout words c.claim.new.memory threads t
     (Claim c.args.row) before after f f c.claim.result memory next f turned
     c.index_mut.ensures.value is c.self.invariant
-    (c.worlds_lead_on.ensures.step p w t (Claim c.args.row) c.self.invariant.reachable)
+    (c.worlds_lead_on.ensures.step p.module w t (Claim c.args.row) c.self.invariant.reachable)
 
 pub invariant_of-self : goal.invariant_of-self
 invariant_of-self c = (outcome_of c).world
@@ -119,7 +119,7 @@ returns-clause-answer c =
     rw (sym c.self.view_is) (answered w _ _ t c.claim.result _ (outcome_of c).made c.claim.ensures.did
     (claim_answers w t a c.args.row a.actor.status (here place) refl (moves place)
     (λ missed. claim_stays w t a c.args.row missed
-    (c.steps_move.ensures.misses p w t a c.args.row c.self.invariant.reachable (here place))
+    (c.steps_move.ensures.misses p.module w t a c.args.row c.self.invariant.reachable (here place))
     (c.steps_move.ensures.stays w t a c.args.row (here place)))))
 
 pub returns-clause-refused : goal.returns-clause-refused

@@ -2,6 +2,7 @@
 use Rattle.std.proofs.Common.{ℕ, sym, ap, arith}
 use Rattle.brc_model.specs.declared.layout.Layout.{Layout}
 use Rattle.brc_model.specs.Limits.{cell_limit}
+use Rattle.brc_check.specs.Tables.{states_of}
 use Rattle.brc_world.proofs.Outcomes.{first_seen, first_is}
 use Rattle.brc_world.proofs.world.World.new.Goals as goal
 
@@ -16,14 +17,16 @@ layout_with rows workers = record { workers = workers; rows = rows; cells = cell
 
 pub invariant_of-result : goal.invariant_of-result
 invariant_of-result c =
-    first_is _ c.args.checked.now.module c.args.rows _ c.args.calls.now _ _ c.module.ensures.value
+    first_is c.args.checked.now c.args.rows _ c.args.calls.now _ _
     (ap (layout_with c.args.rows) (sym c.requires.one_each)) c.in_ok-first_memory.ensures.words
     c.in_ok-first_threads.ensures c.in_ok-first_memory.ensures.rows c.in_ok-first_memory.ensures.threads
-    (c.worlds_lead_on.ensures.first c.args.checked.now.module c.args.rows c.args.calls.now c.module.ensures.fits
-    c.module.ensures.accepted c.requires.some_rows c.requires.most_rows c.requires.calls_fit)
+    (c.worlds_lead_on.ensures.first c.args.checked.now.module
+    (states_of c.args.checked.now.module c.args.checked.now.table) c.args.rows c.args.calls.now
+    c.states_are_true.ensures.fits c.states_are_true.ensures.acceptable c.states_are_true.ensures.truth
+    c.requires.some_rows c.requires.most_rows c.requires.calls_fit)
 
 pub returns : goal.returns
 returns c =
-    first_seen _ c.args.checked.now.module c.args.rows _ c.args.calls.now _ _ c.module.ensures.value
+    first_seen c.args.checked.now c.args.rows _ c.args.calls.now _ _
     (ap (layout_with c.args.rows) (sym c.requires.one_each)) c.in_ok-first_memory.ensures.words
     c.in_ok-first_threads.ensures

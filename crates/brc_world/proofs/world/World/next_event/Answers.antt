@@ -36,10 +36,10 @@ pub peek-requires-clause-can : goal.peek-requires-clause-can
 peek-requires-clause-can c =
     let within = rw (sym c.self.view_is) at c.requires in
     let here =
-    thread_at c.self.inside.accepted.now.functions c.self.inside.layout c.self.inside.memory
+    thread_at c.self.inside.accepted.now c.self.inside.layout c.self.inside.memory
     c.self.inside.threads.items c.args.thread c.self.inside.faults c.index.result.now c.index.ensures within in
     let steps = c.steps_are_within.ensures _ _ c.args.thread _ c.self.invariant.reachable here in
-    rw (c.as_slice.ensures, c.self.invariant.rows, c.self.invariant.threads)
+    rw (c.self.invariant.rows, c.self.invariant.threads)
     (can_act _ c.args.thread (actor_of c.index.result.now) _ (steps c.args.choice))
 
 found_is : (r : Result (Option Sight) NoMemory) (one other : Option Sight) → one ≡ other → IfOk r (λ sight. sight ≡ one)
@@ -51,14 +51,14 @@ pub returns : goal.returns
 returns c =
     let p = c.self.inside.accepted.now in
     let threads = c.self.inside.threads.items in
-    let w = seen (contents p.functions c.self.inside.layout c.self.inside.memory threads c.self.inside.faults) in
+    let w = seen (contents p c.self.inside.layout c.self.inside.memory threads c.self.inside.faults) in
     let within = rw (sym c.self.view_is) at c.requires in
     let here =
-    thread_at p.functions c.self.inside.layout c.self.inside.memory threads c.args.thread c.self.inside.faults
+    thread_at p c.self.inside.layout c.self.inside.memory threads c.args.thread c.self.inside.faults
     c.index.result.now c.index.ensures within in
     let sight : Option StepActor → Option Sight =
     of_thread None (λ a. sight_by w.layout c.args.thread w.memory a c.args.choice
-    (action_of w.functions w.layout c.args.thread a c.args.choice)) in
+    (action_of w.functions w.states w.layout c.args.thread a c.args.choice)) in
     rw (sym c.self.view_is)
     (found_is c.peek.result _ (sight (slice_get w.actors c.args.thread)) (sym (ap sight here))
-    (rw c.as_slice.ensures at c.peek.ensures))
+    c.peek.ensures)

@@ -1,0 +1,55 @@
+//! A thread that stops or has stopped: what it still has to unlock and to give up, and what it does next.
+
+ghost use Rattle.std.specs.Prelude.{◌≡◌, ◌≤◌, true, [], is_some, vec_capacity};
+ghost use Rattle.std.specs.List.{list_any};
+ghost use Rattle.brc_model.specs.Actions.{give_up_first};
+ghost use Rattle.brc_world.specs.Starts.{stopped_action, Begins};
+
+use crate::dispatch::Start;
+use crate::thread::{Thread, first_named, names_some};
+use brc_lang::Variable;
+use brc_model::{Duty, Holding};
+
+/// Goes on after a stop: the thread unlocks the row, if there is one, and else gives up its next reference. It unlocks
+/// first, because another thread may wait for the lock.
+#[inline(never)]
+pub(super) fn go_on_stopping(locked: Option<u32>, thread: &mut Thread) -> Start
+    requires empty { thread.old.agenda.items ≡ [] }
+    requires room { 8 ≤ vec_capacity thread.old.agenda }
+    ensures { Begins thread.old (stopped_action locked thread.old.variables) result thread.new }
+{
+    match locked {
+        Some(row) => {
+            thread.stop(None);
+            Start::Doing(Duty::UnlockGate { row })
+        }
+        None if names_some(&thread.variables) => give_up_first(thread),
+        None => Start::Stuck,
+    }
+}
+
+/// Gives up the reference of the first variable that names a row. Behind its last release the thread settles, once for
+/// all of them.
+fn give_up_first(thread: &mut Thread) -> Start
+    requires empty { thread.old.agenda.items ≡ [] }
+    requires room { 8 ≤ vec_capacity thread.old.agenda }
+    requires some { list_any is_some thread.old.variables ≡ true }
+    ensures { Begins thread.old (give_up_first thread.old.variables []) result thread.new }
+{
+    let first = first_named(&thread.variables);
+    let variable = Variable::new(first as u8);
+    match thread.row_of(variable) {
+        Some(row) => {
+            thread.set(variable, None);
+            if !names_some(&thread.variables) {
+                thread.agenda.push_reserved(Duty::Settle);
+            }
+            thread.stop(None);
+            Start::Doing(Duty::ReleaseLoad {
+                row,
+                holding: Holding::ByVariable { depth: 0, variable },
+            })
+        }
+        None => Start::Stuck,
+    }
+}
