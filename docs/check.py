@@ -1,5 +1,5 @@
 #!/usr/bin/env python3
-"""Checks what the pages say of the repository: links, names, rules, quotes, and the map's lists of files.
+"""Checks what the pages say of the repository: links, names, rules, quotes, and the tables of docs/PROVED.md.
 
     python3 docs/check.py
 
@@ -8,6 +8,10 @@ It changes nothing, prints each fault on a line, and fails if there is one.
 import re
 import sys
 from pathlib import Path
+
+# Importing a script of this folder leaves no file there.
+sys.dont_write_bytecode = True
+import proved
 
 ROOT = Path(__file__).resolve().parents[1]
 PAGES = [ROOT / "README.md", ROOT / "examples" / "README.md", *sorted((ROOT / "docs").glob("*.md"))]
@@ -76,7 +80,7 @@ def rows_of(text, heading):
 
 
 def rule_faults():
-    """The tables of rules against the relation, the functions, the wrong bodies and the lemmas."""
+    """The table of rules against the relation and the functions."""
     page = (ROOT / "docs" / "DEFINITIONS.md").read_text()
     relation = (MODEL / "specs" / "Rules.antt").read_text()
     relation = relation[relation.index("pub data Goes"):relation.index("pub record IsComputed")]
@@ -84,45 +88,12 @@ def rule_faults():
     functions = set(re.findall(r"fn (\w+)\(", " ".join(path.read_text() for path in EFFECTS.glob("*.rt"))))
     named = set()
     done_by = set()
-    for rule, _, _, code, wrong in rows_of(page, "| Rule |"):
+    for rule, _, _, code in rows_of(page, "| Rule |"):
         named |= set(re.findall(r"`(\w+)`", rule))
         done_by |= set(re.findall(r"`(\w+)`", code))
-        for body in re.findall(r"`(\w+)`", wrong):
-            if not any((ROOT / "crates" / crate / "must-fail" / f"{body}.edit").exists()
-                       for crate in ("brc_effect", "brc_world", "brc_word")):
-                yield f"no wrong body `{body}`"
     yield from (f"rule `{name}` isn't in the table" for name in sorted(rules - named))
     yield from (f"`{name}` is no rule" for name in sorted(named - rules))
     yield from (f"no function `{name}`" for name in sorted(done_by - functions))
-    lemmas = rows_of(page, "| Code | File |")
-    yield from (f"`{name}` has no row of lemmas" for name in sorted(done_by - {row[0].strip("`") for row in lemmas}))
-    for row in lemmas:
-        for part in row[2:]:
-            for names, file in re.findall(r"((?:`\w+`(?:, )?)+) in \[[^\]]*\]\(\.\./([^)]*)\)", part):
-                text = (ROOT / file).read_text()
-                for name in re.findall(r"`(\w+)`", names):
-                    if not re.search(rf"^(pub )?{name} :", text, re.M):
-                        yield f"no lemma `{name}` in {file}"
-
-
-def variants(path, name):
-    text = path.read_text()
-    body = text[text.index(f"pub enum {name} {{"):]
-    return set(re.findall(r"^    ([A-Z]\w*)", body[:body.index("\n}")], re.M))
-
-
-def map_faults(found):
-    """Files that name an instruction or a duty, and that the map's section leaves out."""
-    page = (ROOT / "docs" / "MAP.md").read_text()
-    instructions = page[page.index("### An instruction"):page.index("### A duty")]
-    duties = page[page.index("### A duty"):page.index("### Anything else")]
-    # `Num`, `List`, `Drop`, `Ret`, `Fail` and `Move` have other meanings too.
-    for section, names in ((instructions, {"NoneObject", "ListObject", "Newref", "Goto", "MoveReference"}),
-                           (duties, variants(MODEL / "src" / "duty.rt", "Duty"))):
-        said = words_of([section])
-        for path, text in found.items():
-            if path.suffix != ".edit" and names & words_of([text]) and path.stem not in said:
-                yield f"{path.relative_to(ROOT)} names one, and isn't in the section of {min(names & words_of([text]))}"
 
 
 def quote_faults(found):
@@ -144,8 +115,8 @@ def main():
         for fault in [*link_faults(page), *name_faults(page, known)]:
             faults.append(f"{page.relative_to(ROOT)}: {fault}")
     faults += [f"docs/DEFINITIONS.md: {fault}" for fault in rule_faults()]
-    faults += [f"docs/MAP.md: {fault}" for fault in map_faults(found)]
     faults += [f"docs/EMBED.md: {fault}" for fault in quote_faults(found)]
+    faults += [f"docs/PROVED.md: {fault}" for fault in proved.faults()]
     print(*faults, f"{len(faults)} faults", sep="\n")
     return 1 if faults else 0
 

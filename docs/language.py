@@ -1,6 +1,6 @@
 #!/usr/bin/env python3
-"""Runs the examples of docs/LANGUAGE.md, FROM_C.md, READ_A_REFUSAL.md and READ_A_TRACE.md and the modules of
-examples/README.md, and compares what is printed.
+"""Runs the examples of docs/LANGUAGE.md and FROM_C.md and the modules of examples/README.md, and compares what
+is printed.
 
     python3 docs/language.py          takes the program at crates/brc/out/brc
     python3 docs/language.py --try    takes `rt try`, which needs no proof, but some minutes
@@ -24,7 +24,7 @@ from pathlib import Path
 ROOT = Path(__file__).resolve().parents[1]
 DOCS = ROOT / "docs"
 FROM_C_PAGE = DOCS / "FROM_C.md"
-PAGES = [DOCS / "LANGUAGE.md", FROM_C_PAGE, DOCS / "READ_A_REFUSAL.md", DOCS / "READ_A_TRACE.md"]
+PAGES = [DOCS / "LANGUAGE.md", FROM_C_PAGE]
 EXAMPLES = ROOT / "examples"
 FROM_C = EXAMPLES / "from_c"
 PROGRAM = ROOT / "crates" / "brc" / "out" / "brc"

@@ -1,0 +1,131 @@
+#!/usr/bin/env python3
+"""Writes the tables of docs/PROVED.md from the sources of the crates.
+
+    python3 docs/proved.py            writes what is between the two marks of the page
+    python3 docs/proved.py --check    changes nothing, and fails if the page isn't what it would write
+
+A crate's table has a row for each function that its lib.rt exports, by the function's own name or by that of its type
+or trait, and whose contract has an `ensures`: the function's name, linked to its file; the first sentence of its doc
+comment; and the names of its `ensures` clauses. The crates are in the order of crates.txt, without those of tests and
+measurements. docs/check.py makes the same check.
+"""
+import re
+import sys
+from pathlib import Path
+
+ROOT = Path(__file__).resolve().parents[1]
+PAGE = ROOT / "docs" / "PROVED.md"
+MARKS = "<!-- the tables of docs/proved.py -->\n", "<!-- their end -->\n"
+
+
+class Function:
+    def __init__(self, line, block, doc, contract):
+        # The type of an `impl` or the trait of a `trait`, and the trait that an `impl` is of; each may be None.
+        self.owner, self.of_trait = owner_of(block)
+        self.name = re.search(r"fn (\w+)", line)[1]
+        self.doc = doc
+        self.clauses = re.findall(r"^ *ensures ?(\w*) \{", contract, re.M)
+        self.is_public = bool(self.of_trait or block.startswith("pub trait") or re.match(r" *pub (const )?fn", line))
+
+    def row(self, path):
+        name = f"{self.owner}::{self.name}" if self.owner else self.name
+        does = first_sentence(self.doc) if self.doc or not self.of_trait else f"Is `{self.of_trait}::{self.name}`."
+        clauses = ", ".join(f"`{clause}`" for clause in self.clauses if clause)
+        return f"| [`{name}`](../{path.relative_to(ROOT).as_posix()}) | {does} | {clauses} |\n"
+
+
+def owner_of(block):
+    """Returns the type or the trait that a block is about, and the trait that it implements."""
+    while re.search(r"<[^<>]*>", block):
+        block = re.sub(r"<[^<>]*>", "", block)
+    found = re.match(r"(?:impl (?:([\w:]+) for )?|(?:pub )?trait )(\w+)", block)
+    return (found[2], found[1]) if found else (None, None)
+
+
+def first_sentence(doc):
+    # An empty line ends the first paragraph.
+    paragraph = " ".join(doc).split("  ")[0]
+    return re.split(r"(?<=\.)\s+", paragraph)[0].replace("|", "\\|")
+
+
+def functions(path):
+    """Yields the functions of a file."""
+    block, doc = "", []
+    lines = iter(path.read_text().splitlines())
+    for line in lines:
+        if re.match(r"}|impl\b|(pub )?trait\b", line):
+            block = line if line.endswith("{") else ""
+        if line.lstrip().startswith("///"):
+            doc.append(line.strip().removeprefix("///").strip())
+            continue
+        begun = re.match(r"( *)(pub(\(\w+\))? )?(const )?fn \w+", line)
+        if begun:
+            # A body begins at the function's own depth. A trait's function may end without one.
+            end = re.compile(rf"{begun[1]}(\{{|\S.*[{{}};]$)|.*\}};$")
+            contract = [line]
+            while not end.match(contract[-1]):
+                contract.append(next(lines))
+            yield Function(line, block, doc, "\n".join(contract))
+        if not line.lstrip().startswith("#["):
+            doc = []
+
+
+def crates():
+    named = re.findall(r"^(\w+):", (ROOT / "crates.txt").read_text(), re.M)
+    return [crate for crate in named if not crate.endswith("_tests") and crate != "brc_bench"]
+
+
+def rows(crate):
+    """Returns the rows of a crate's table, file by file. A program has no lib.rt, and so no row."""
+    source = ROOT / "crates" / crate / "src"
+    if not (source / "lib.rt").exists():
+        return []
+    # `pub use file::name;` or `pub use file::{name, ..};`
+    exports = " ".join(re.findall(r"^pub use \w+::([^;]*);", (source / "lib.rt").read_text(), re.M))
+    exported = set(re.findall(r"\w+", exports))
+    return [
+        function.row(path)
+        for path in sorted(source.rglob("*.rt"))
+        for function in functions(path)
+        if function.is_public and function.clauses and (function.owner or function.name) in exported
+    ]
+
+
+def tables():
+    head = "| Function | What it does | Clauses |\n|---|---|---|\n"
+    return "\n".join(f"### {crate}\n\n{head}{''.join(rows(crate))}" for crate in crates() if rows(crate))
+
+
+def written():
+    """Returns the page as this script writes it."""
+    parts = re.split("|".join(MARKS), PAGE.read_text())
+    if len(parts) != 3:
+        sys.exit("docs/PROVED.md hasn't each of the two marks once")
+    return f"{parts[0]}{MARKS[0]}\n{tables()}\n{MARKS[1]}{parts[2]}"
+
+
+def faults():
+    """Returns the rows that are missing on the page, and the lines there that this script doesn't write."""
+    page, wanted = PAGE.read_text(), written()
+    lines = page.splitlines(), wanted.splitlines()
+    found = [f"docs/proved.py would write: {line}" for line in lines[1] if line not in lines[0]]
+    found += [f"docs/proved.py wouldn't write: {line}" for line in lines[0] if line not in lines[1]]
+    if not found and page != wanted:
+        found = ["docs/proved.py would write the same lines in another order or number"]
+    return found
+
+
+def main():
+    if sys.argv[1:] == ["--check"]:
+        found = faults()
+        print(*(f"docs/PROVED.md: {fault}" for fault in found), f"{len(found)} faults", sep="\n")
+        return 1 if found else 0
+    if sys.argv[1:]:
+        print(__doc__)
+        return 2
+    PAGE.write_text(written())
+    return 0
+
+
+if __name__ == "__main__":
+    sys.exit(main())
