@@ -1,7 +1,7 @@
 //! Laws of worlds. A world is what the threads of a machine see: how it follows the machine, which steps change it,
 //! what a step can rely on, and how large it is.
 
-ghost use Rattle.std.specs.Prelude.{ℕ, ◌≡◌, ◌≢◌, ◌+◌, ◌<◌, ◌≤◌, true, false, List, length, Option, Some, slice_get};
+ghost use Rattle.std.specs.Prelude.{ℕ, suc, ◌≡◌, ◌≢◌, ◌+◌, ◌<◌, ◌≤◌, true, false, List, length, Option, Some, slice_get};
 ghost use Rattle.brc_lang.specs.declared.module.Module.{Module};
 ghost use Rattle.brc_lang.specs.Grammar.{IsModule};
 ghost use Rattle.brc_model.specs.Paths.{IsAcceptable};
@@ -15,12 +15,12 @@ ghost use Rattle.brc_model.specs.declared.thread.Choice.TheVariants.{Ok, Fault, 
 ghost use Rattle.brc_model.specs.declared.address.Address.TheVariants.{Mark};
 ghost use Rattle.brc_model.specs.declared.actor.Status.TheVariants.{Gone};
 ghost use Rattle.brc_model.specs.Actions.{StepActor, may_claim, may_stop};
-ghost use Rattle.brc_model.specs.StepMachine.{StepMachine, next_machine, machine_after};
+ghost use Rattle.brc_model.specs.StepMachine.{StepMachine, at_place, next_machine, machine_after};
 ghost use Rattle.brc_model.specs.World.{World, world_of, first_world, step, waits_for_lock, IsReachable};
 ghost use Rattle.brc_model.specs.Within.{StepsWithin};
 ghost use Rattle.brc_model.specs.StopLaws.{GivesUpOwned};
 ghost use Rattle.brc_model.specs.declared.actor.Context.{Context};
-ghost use Rattle.brc_model.specs.declared.actor.Place.TheVariants.{InCall};
+ghost use Rattle.brc_model.specs.declared.actor.Place.TheVariants.{Idle, InCall};
 ghost use Rattle.brc_model.specs.Trace.{CanMake, events_on};
 ghost use Rattle.brc_model.specs.Layout.{row_count};
 
@@ -60,12 +60,16 @@ pub fn steps_move()
         → (step w t Ok ≡ w) × (step w t Fault ≡ w) × (step w t (Claim row) ≡ w) × (step w t Stop ≡ w) }
 {}
 
-/// States what a thread has to do that stops before an instruction: to unlock what it has locked, and to give up just
-/// what its variables own at the point, by the module's table.
+/// States what a thread has to do that stops. In a call, before an instruction, it has to unlock what it has locked, and
+/// to give up just what its variables own at the point, by the module's table. Before its first call or between two
+/// calls it has nothing to give up. In either case it makes no further call.
 pub fn stops_give_up_what_is_owned()
-    ensures { (p : Module) (w : World) (t at : ℕ) (a : StepActor) (context : Context) (variables : List (Option ℕ))
-        → IsReachable p w → slice_get w.actors t ≡ Some a → may_stop a ≡ true → a.place ≡ InCall context at variables
-        → GivesUpOwned w t at a context variables }
+    ensures in_call { (p : Module) (w : World) (t at : ℕ) (a : StepActor) (context : Context)
+        (variables : List (Option ℕ)) → IsReachable p w → slice_get w.actors t ≡ Some a → may_stop a ≡ true
+        → a.place ≡ InCall context at variables → GivesUpOwned w t at a context variables }
+    ensures between { (p : Module) (w : World) (t left : ℕ) (a : StepActor) → IsReachable p w → slice_get w.actors t
+        ≡ Some a → may_stop a ≡ true → a.place ≡ Idle (suc left) → slice_get (step w t Stop).actors t
+        ≡ Some (at_place a (Idle 0)) }
 {}
 
 /// States what each step of a reachable world can rely on: its word is there, and the value that it finds suits what it

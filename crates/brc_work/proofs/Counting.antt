@@ -8,8 +8,10 @@ use Rattle.brc_host.proofs.Answering.{one_call, answered_then, host_faults_then,
 use Rattle.brc_table.specs.declared.view.View.{View}
 use Rattle.brc_free.proofs.Working.{works_close}
 use Rattle.brc_queue.specs.Scans.{LooksThrough, Begun, Next, HasLeft}
+use Rattle.brc_work.specs.declared.ran.Ran.{Ran}
+use Rattle.brc_work.specs.declared.ran.Ran.TheVariants.{Done, Stopped}
 use Rattle.brc_work.specs.declared.totals.Totals.{Totals}
-use Rattle.brc_work.specs.Totals.{HasCounted, Asked}
+use Rattle.brc_work.specs.Totals.{HasCounted, Asked, totals_of, with_totals, is_done}
 
 -- ---- counts
 
@@ -95,6 +97,18 @@ counted_then cs ds before mid after one other = record {
       ∙ (twice (close_faults cs) (close_faults ds) before.close_faults
       ∙ ap (λ (n : ℕ). raised n before.close_faults) (sym (close_faults_then cs ds))));
 }
+
+-- ---- how a run has ended
+
+-- A run's end with other totals has these,
+pub totals_with : (totals : Totals) (ran : Ran) → totals_of (with_totals totals ran) ≡ totals
+totals_with totals (Done before) = refl
+totals_with totals (Stopped before) = refl
+
+-- and is the same end.
+pub done_with : (totals : Totals) (ran : Ran) → is_done (with_totals totals ran) ≡ is_done ran
+done_with totals (Done before) = refl
+done_with totals (Stopped before) = refl
 
 -- ---- closes
 

@@ -3,6 +3,8 @@ mod Staying
 mod Fitting
 mod Conditions
 mod CallsBelow
+mod Stopping
+mod GivingUp
 mod Trading
 mod Holding
 mod Locking
@@ -18,6 +20,7 @@ mod Counting
 mod Places
 mod Mains
 mod Traces
+mod Bounds
 mod Automata
 mod Remembering
 mod FromOutside

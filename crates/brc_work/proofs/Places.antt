@@ -4,7 +4,7 @@ use Rattle.std.proofs.Common.{below_more, sym, subst}
 use Rattle.brc_host.specs.HostCalls.{HostCall}
 use Rattle.brc_host.specs.declared.counts.HostCounts.{HostCounts}
 use Rattle.brc_table.specs.Hands.{HandState}
-use Rattle.brc_work.specs.declared.totals.Totals.{Totals}
+use Rattle.brc_work.specs.declared.ran.Ran.{Ran}
 use Rattle.brc_work.specs.Workers.{Job, Ends}
 
 -- each of the first n elements is so for its place
@@ -28,13 +28,13 @@ grown P xs ys n same here were k d below =
 
 -- What a worker's thread leaves for one job it leaves for an equal one,
 pub ends_for : {S : Type 0} {answers : S → HostCall → S → Type 0} {counts : S → HostCounts} {there j : Job}
-    {hand : HandState} {totals : Totals} {called : Bool} → there ≡ j → Ends answers counts there hand totals called
-    → Ends answers counts j hand totals called
-ends_for {answers = answers} {counts = counts} {hand = hand} {totals = totals} {called = called} same ends =
-    subst (λ i. Ends answers counts i hand totals called) same ends
+    {hand : HandState} {ran : Ran} {called : Bool} → there ≡ j → Ends answers counts there hand ran called
+    → Ends answers counts j hand ran called
+ends_for {answers = answers} {counts = counts} {hand = hand} {ran = ran} {called = called} same ends =
+    subst (λ i. Ends answers counts i hand ran called) same ends
 
 -- and it is so of a worker among others that have all made their calls only if it has made its own.
 pub ends_among : {S : Type 0} {answers : S → HostCall → S → Type 0} {counts : S → HostCounts} {j : Job}
-    {hand : HandState} {totals : Totals} {called all : Bool} → (all ≡ true → called ≡ true)
-    → Ends answers counts j hand totals called → Ends answers counts j hand totals all
+    {hand : HandState} {ran : Ran} {called all : Bool} → (all ≡ true → called ≡ true)
+    → Ends answers counts j hand ran called → Ends answers counts j hand ran all
 ends_among so ends = (ends.0, λ each. ends.1 (so each))

@@ -1,8 +1,11 @@
 -- A call goes from point to point as the checker's paths do.
-use Rattle.std.proofs.Common.{◌≡◌, ℕ, zero, suc, ◌+◌, Bool, true, false, cond, List, [], ◌∷◌, ◌++◌, drop, Option, None, Some, refl, sym, ap, ◌∙◌, subst, arith}
+use Rattle.std.proofs.Common.{◌≡◌, ℕ, zero, suc, ◌+◌, ◌<◌, inl, inr, length, Bool, true, false, cond, List, [], ◌∷◌, ◌++◌, drop, Option, None, Some, refl, sym, ap, ◌∙◌, subst, arith}
 use Rattle.std.specs.Prelude.{find, slice_get}
 use Rattle.std.specs.List.{list_any}
+use Rattle.std.proofs.lemmas.Option.{slice_get_cases}
+use Rattle.brc_lang.specs.declared.module.Function.{Function}
 use Rattle.brc_lang.specs.declared.module.Instr.{Instr}
+use Rattle.brc_lang.specs.declared.module.Module.{Module}
 use Rattle.brc_lang.specs.declared.module.Instr.TheVariants.{Num, List as ListObject, NoneObject, Newref, Move, Drop, Lock, Unlock, Borrow, Fetch, Set, Put, Goto, Again, Ret, Fail, As, Open, Connect, Read, Write}
 use Rattle.brc_model.specs.declared.slot.Exit.TheVariants.{Success, Fault as FaultExit}
 use Rattle.brc_lang.specs.declared.check_code.CheckCode.TheVariants.{EmptyUsed, WrongKind, NotOwned, StillOwns, LeftOwned, LeftLocked, SecondLock, NotLocked, LockedChanged}
@@ -13,12 +16,12 @@ use Rattle.brc_model.specs.Paths.{At, IsAcceptableCode}
 use Rattle.brc_model.specs.declared.slot.Slot.{Slot}
 use Rattle.brc_model.specs.declared.slot.Slot.TheVariants.{Empty}
 use Rattle.brc_model.specs.Slots.{slot_of, is_owned, applies, rising, lowest, after, target, entry}
-use Rattle.brc_model.specs.Tables.{Reaches}
-use Rattle.brc_model.specs.Threads.{row_of, entry_variables}
+use Rattle.brc_model.specs.Tables.{Reaches, AreTrueWhereReached}
+use Rattle.brc_model.specs.Threads.{code_of, row_of, entry_variables}
 use Rattle.brc_model.proofs.Basics.Lists.{some_is, get_or-replicate_default}
 use Rattle.brc_model.proofs.Dispatch.Passing.{AreMet, are_met, PassesOn, passes_on}
 use Rattle.brc_table.specs.Hands.{HandState}
-use Rattle.brc_work.specs.Calls.{Leads, GoesTo, HasReturned, ends_call}
+use Rattle.brc_work.specs.Calls.{Leads, GoesTo, GoesOn, HasReturned, ends_call}
 use Rattle.brc_work.specs.Fits.{Base, outermost, owns, lists, SlotFits, OfRoot, IsReady, Fits}
 use Rattle.brc_work.proofs.CallsBelow.{follows_by}
 use Rattle.brc_work.proofs.Conditions.{kept, none_is}
@@ -186,3 +189,27 @@ pub fails : (base : Base) (s : State) (rows : List (Option ℕ)) (hand : HandSta
 fails base s rows hand fits passes =
     let met = are_met Fail s passes in
     ends base s rows hand fits (kept _ met.none_left) (none_is s.locked (kept _ met.no_lock_left))
+
+-- ---- the next point
+
+-- A step of the call leads on to the next point.
+pub goes_there : (base : Base) (code : List Instr) (at next : ℕ) (o : Option ℕ) (rows after_rows : List (Option ℕ))
+    (hand after_hand : HandState) → GoesTo base code at rows hand → GoesOn code at rows hand o after_rows after_hand
+    → o ≡ Some next → GoesTo base code next after_rows after_hand
+goes_there base code at next o rows after_rows hand after_hand goes steps is =
+    subst (λ (p : Option ℕ). Leads base code p after_rows after_hand) is
+    (steps base goes.state goes.fits goes.reaches)
+
+-- ---- a point's state
+
+-- A table that is true where paths reach gives a point that they reach their state.
+pub state_known : (m : Module) (states : ℕ → ℕ → Option State) (function at : ℕ) (s : State)
+    → AreTrueWhereReached m states → function < length m.functions
+    → Reaches (code_of (slice_get m.functions function)) at s → states function at ≡ Some s
+state_known m states function at s truth low reaches =
+    elim (slice_get_cases m.functions function).1 [
+      | inl found ↦
+          truth function at found.0 s found.2
+          (subst (λ (o : Option Function). Reaches (code_of o) at s) found.2 reaches)
+      | inr past ↦ absurd (omega (arith, past.0, low))
+    ]

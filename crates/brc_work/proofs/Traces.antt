@@ -6,11 +6,12 @@
 -- thread does at an instruction), `Starting` (the calls of one or two steps); then the instructions: `References`
 -- (references that are made, handed on and given up), `Births`, `Locks`, `Kinds`, `HostCalls`, `Swaps` and `Items`
 -- (those that use a cell of the locked list), `Turns` (the one that goes back); and `Calls` (a call from point to
--- point, and call after call).
+-- point).
 pub mod Joining
 pub mod Duties
 pub mod Working
 pub mod Releasing
+pub mod Stops
 pub mod Places
 pub mod Starting
 pub mod References

@@ -20,6 +20,10 @@ pub record IsCode (code : List Instr) : Type 0 where
   pub each : AllByRecursion IsInstruction code
   pub few : length code ≤ instruction_limit
 
+-- Some path reaches the point.
+abbrev pub IsReached : List Instr → ℕ → Type 0
+IsReached code at = (s : State) × Reaches code at s
+
 -- Variables and hand are in the state in which paths reach the point.
 pub record IsAt (heap : TableState) (code : List Instr) (at : ℕ) (rows : List (Option ℕ)) (hand : HandState) : Type 0
   where

@@ -3,8 +3,10 @@ pub mod Changes
 pub mod Acts
 pub mod Totals
 pub mod Calls
+pub mod Stopping
 pub mod Workers
 pub mod Mains
 pub mod Traces
 pub mod Performs
+pub mod Runs
 pub mod Automata

@@ -1,9 +1,11 @@
 -- What a worker counts of its calls' faults.
-use Rattle.std.specs.Prelude.{◌≡◌, List}
+use Rattle.std.specs.Prelude.{◌≡◌, Bool, true, false, List}
 use Rattle.brc_host.specs.HostCounts.{raised}
 use Rattle.brc_host.specs.HostCalls.{HostCall, HasAnswered, host_faults, close_faults}
 use Rattle.brc_host.specs.declared.counts.HostCounts.{HostCounts}
 use Rattle.brc_work.specs.declared.totals.Totals.{Totals}
+use Rattle.brc_work.specs.declared.ran.Ran.{Ran}
+use Rattle.brc_work.specs.declared.ran.Ran.TheVariants.{Done, Stopped}
 
 -- Of these calls of the host, those that failed have been counted: closes apart from all others. Each count stops at
 -- the greatest number.
@@ -23,3 +25,20 @@ pub record Asked {S : Type 0} (answers : S → HostCall → S → Type 0) (count
 -- the totals of a worker that has made no call yet
 abbrev pub no_totals : Totals
 no_totals = record { created = 0; host_faults = 0; close_faults = 0 }
+
+-- ---- how a run has ended
+
+-- what the worker has counted
+abbrev pub totals_of : Ran → Totals
+totals_of (Done totals) = totals
+totals_of (Stopped totals) = totals
+
+-- Says whether the worker has made all its calls.
+abbrev pub is_done : Ran → Bool
+is_done (Done totals) = true
+is_done (Stopped totals) = false
+
+-- the same end with these totals
+abbrev pub with_totals : Totals → Ran → Ran
+with_totals totals (Done before) = Done totals
+with_totals totals (Stopped before) = Stopped totals

@@ -11,9 +11,9 @@ use Rattle.brc_table.specs.Hands.{TableState, HandState, IsOf}
 use Rattle.brc_table.specs.Views.{worker_view}
 use Rattle.brc_table.specs.declared.view.View.{View}
 use Rattle.brc_queue.specs.Scans.{HasLeft}
-use Rattle.brc_work.specs.Traces.{MakesCalls}
-use Rattle.brc_work.specs.Totals.{Asked, no_totals}
-use Rattle.brc_work.specs.declared.totals.Totals.{Totals}
+use Rattle.brc_work.specs.Runs.{RanBy, greatest_bound}
+use Rattle.brc_work.specs.Totals.{Asked, no_totals, totals_of, is_done}
+use Rattle.brc_work.specs.declared.ran.Ran.{Ran}
 
 -- ---- what a worker has to do
 
@@ -22,12 +22,19 @@ pub record Job : Type 0 where
   pub heap : TableState
   pub code : List Instr
   pub times : ℕ
+  -- how many instructions it may begin in all its calls
+  pub steps : ℕ
   pub thread : ℕ
 
 -- the job with the code of the module's function of this number
-abbrev pub job : TableState → Module → ℕ → ℕ → ℕ → Job
-job heap m function times thread =
-    record { heap = heap; code = code_of (slice_get m.functions function); times = times; thread = thread }
+abbrev pub job : TableState → Module → ℕ → ℕ → ℕ → ℕ → Job
+job heap m function times steps thread = record {
+  heap = heap;
+  code = code_of (slice_get m.functions function);
+  times = times;
+  steps = steps;
+  thread = thread;
+}
 
 -- ---- hands
 
@@ -37,15 +44,15 @@ pub record IsFresh (heap : TableState) (thread : ℕ) (hand : HandState) : Type 
   pub view_is : hand.view ≡ worker_view heap.layout thread
   pub no_slot : hand.slots ≡ []
 
--- The hand has made this many calls of the code, has left after them, and has done nothing else. Its host was asked for
--- these calls. `begun` is how many instructions its calls have begun.
-pub record CallsAndLeaves (code : List Instr) (times : ℕ) (calls : List HostCall) (v u : View) : Type 0 where
+-- The hand has made its calls of the code, or has stopped; then it has left, and has done nothing else. Its host was
+-- asked for these calls.
+pub record CallsAndLeaves (code : List Instr) (times steps : ℕ) (done : Bool) (calls : List HostCall) (v u : View)
+    : Type 0 where
   pub called : View
-  pub begun : ℕ
   pub within : List HostCall
   pub closes : List HostCall
   pub calls_are : calls ≡ within ++ closes
-  pub makes : MakesCalls code v times begun within called
+  pub ran : RanBy code times steps done within v called
   pub leaves : HasLeft closes called u
 
 -- The hand is the worker's, its thread is gone, and it has taken no slot.
@@ -55,25 +62,26 @@ pub record IsGone (j : Job) (hand : HandState) : Type 0 where
   pub gone : hand.view.status ≡ Gone
   pub no_slot : hand.slots ≡ []
 
--- The worker's hand has done its job: it has made the calls, is gone, and holds nothing. The worker has counted the
--- objects that it has given birth to, and the faults of its host.
+-- The worker's hand has done its job: it has made the calls, or was stopped by its bound, is gone, and holds nothing. The
+-- worker has counted the objects that it has given birth to, and the faults of its host.
 pub record HasGone {S : Type 0} (answers : S → HostCall → S → Type 0) (counts : S → HostCounts) (j : Job)
-    (hand : HandState) (totals : Totals) : Type 0 where
+    (hand : HandState) (ran : Ran) : Type 0 where
   pub hand_is : IsGone j hand
   pub idle : (hand.view.agenda ≡ []) × (hand.view.aside ≡ []) × (hand.view.head ≡ 0)
   pub holds_none : hand.view.references ≡ []
-  pub created : totals.created ≡ hand.view.used
+  pub created : (totals_of ran).created ≡ hand.view.used
   -- the host before, and once the worker is gone
   pub first : S
   pub later : S
-  pub asked : Asked answers counts first later no_totals totals
-      (λ calls. CallsAndLeaves j.code j.times calls (worker_view j.heap.layout j.thread) hand.view)
+  pub asked : Asked answers counts first later no_totals (totals_of ran)
+      (λ calls. CallsAndLeaves j.code j.times j.steps (is_done ran) calls (worker_view j.heap.layout j.thread) hand.view)
+  -- the greatest bound stops no worker
+  pub unbounded : j.steps ≡ greatest_bound → is_done ran ≡ true
 
--- A worker's thread leaves a hand that is gone. If it wasn't stopped, the hand has done its job.
-abbrev pub Ends : {S : Type 0} → (S → HostCall → S → Type 0) → (S → HostCounts) → Job → HandState → Totals → Bool
-    → Type 0
-Ends answers counts j hand totals called =
-    IsGone j hand × (called ≡ true → HasGone answers counts j hand totals)
+-- A worker's thread leaves a hand that is gone. If the worker began, the hand has done its job.
+abbrev pub Ends : {S : Type 0} → (S → HostCall → S → Type 0) → (S → HostCounts) → Job → HandState → Ran → Bool → Type 0
+Ends answers counts j hand ran called =
+    IsGone j hand × (called ≡ true → HasGone answers counts j hand ran)
 
 -- ---- a fact that a struct can keep
 

@@ -1,26 +1,39 @@
 //! A worker's call of a function, instruction after instruction.
 
-ghost use Rattle.std.specs.Prelude.{◌≡◌, ℕ, ◌<◌, true, false, Some, length, slice_get};
+ghost use Rattle.std.specs.Prelude.{◌≡◌, ℕ, ◌<◌, ◌≤◌, true, false, Some, length, slice_get};
 ghost use Rattle.brc_lang.specs.Grammar.{IsInstruction};
-ghost use Rattle.brc_model.specs.declared.actor.Place.TheVariants.{Idle};
 ghost use Rattle.brc_model.specs.declared.slot.Exit.TheVariants.{Success};
+ghost use Rattle.brc_model.specs.Threads.{code_of};
 ghost use Rattle.brc_table.specs.Hands.{IsOf};
-ghost use Rattle.brc_work.specs.Calls.{IsCode, IsAt, GoesOn, HasCalled, HasEnded, ends_call};
+ghost use Rattle.brc_model.specs.Tables.{Reaches};
+ghost use Rattle.brc_model.specs.declared.slot.State.{State};
+ghost use Rattle.brc_work.specs.Calls.{IsCode, IsAt, IsReached, GoesOn, HasCalled, HasEnded, ends_call};
 ghost use Rattle.brc_work.specs.Fits.{MayDo, HasDone, IsReady};
 ghost use Rattle.brc_work.specs.Performs.{Performs, PerformsAt, StepsTo};
+ghost use Rattle.brc_work.specs.Runs.{CallsOnce};
 ghost use Rattle.brc_work.specs.Totals.{Asked};
-ghost use Rattle.brc_work.specs.Traces.{MakesTrace};
 
 use crate::totals::Totals;
 use crate::turns::{NO_TURNS, Turns, again};
 use crate::variables::{Variables, name};
 use crate::worker::Worker;
-use brc_check::target_of;
+use brc_check::{Checked, target_of};
 use brc_heap::{Hand, ROOT};
 use brc_host::Host;
 use brc_lang::{Instr, Variable};
-use brc_model::Exit;
+use brc_model::{Exit, State};
 use std::sync::Wait;
+
+/// Returns the code of the accepted module's function with this number.
+fn code_of(checked: &Checked, function: usize) -> &[Instr]
+    requires { function < length checked.now.module.functions }
+    ensures accepted { IsCode result.now }
+    ensures value { result.now ≡ code_of (slice_get checked.now.module.functions function) }
+{
+    checked.module().functions.as_slice()[function]
+        .code
+        .as_slice()
+}
 
 /// Returns the instruction at the point.
 fn instruction_at(code: &[Instr], at: usize) -> &Instr
@@ -28,6 +41,19 @@ fn instruction_at(code: &[Instr], at: usize) -> &Instr
     ensures { slice_get code.now at ≡ Some result.now }
 {
     &code[at]
+}
+
+/// Returns the state in which paths reach the point of the function, by the module's table.
+fn state_at(checked: &Checked, function: usize, at: usize) -> State
+    requires function { function < length checked.now.module.functions }
+    requires reached { IsReached (code_of (slice_get checked.now.module.functions function)) at }
+    ensures { (s : State) → Reaches (code_of (slice_get checked.now.module.functions function)) at s → result ≡ s }
+{
+    checked.states_are_true();
+    let Some(state) = checked.entry(function, at) else {
+        unreachable!()
+    };
+    state
 }
 
 /// Returns whether the instruction ends the call.
@@ -38,32 +64,44 @@ fn ends_call(instr: Instr) -> bool
 }
 
 impl<'h, T: Drop> Worker<'h, T> {
-    /// Makes a call of the function with this code. The hand holds afterwards what it held before.
+    /// Makes a call of the function. Returns whether it has ended; else the worker has stopped in it. `left` is how many
+    /// instructions the worker may begin, at least one. The hand holds afterwards what it held before.
     pub(crate) fn call<R: Wait, H: Host<Res = T>>(
         &self,
         rt: &R,
-        code: &[Instr],
+        checked: &Checked,
+        function: usize,
+        left: &mut u64,
         hand: &mut Hand<T>,
         host: &mut H,
         totals: &mut Totals,
-    )
-        requires code { IsCode code.now }
+    ) -> bool
+        requires function { function < length checked.now.module.functions }
+        requires some { 0 < left.old }
         requires of { IsOf self.now hand.old }
         requires ready { IsReady hand.old }
         ensures of { IsOf self.now hand.new }
         ensures called { HasCalled hand.old hand.new }
         ensures asked { Asked H.answers H.counts host.old host.new totals.old totals.new
-            (λ calls. (begun : ℕ) × MakesTrace begun calls code.now (Idle 1) hand.old.view (Idle 0) hand.new.view) }
+            (λ calls. CallsOnce (code_of (slice_get checked.now.module.functions function)) left.old left.new result
+            calls hand.old.view hand.new.view) }
     {
         self.heap.words().layout_is_plain();
+        let code = code_of(checked, function);
         let mut rows: Variables = [None; Variable::COUNT];
         name(&mut rows, Variable::new(0), Some(ROOT));
         let mut turns = NO_TURNS;
         let mut at = 0;
         for _ in rt.forever() {
+            *left -= 1;
             match self.step(rt, code, at, &mut turns, &mut rows, hand, host, totals) {
                 Some(next) => at = next,
-                None => return,
+                None => return true,
+            }
+            if *left == 0 {
+                let state = state_at(checked, function, at);
+                self.stop(rt, &state, &mut rows, hand, host, totals);
+                return false;
             }
         }
         unreachable!()

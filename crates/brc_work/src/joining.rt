@@ -6,11 +6,11 @@ ghost use Rattle.brc_table.specs.Hands.{IsOf};
 ghost use Rattle.brc_table.specs.Views.{HasJoined};
 ghost use Rattle.brc_work.specs.Mains.{JoinsMore};
 
-use crate::totals::Totals;
+use crate::ran::Ran;
 use brc_heap::{Hand, Heap};
 
 /// Joins the hands of workers that are gone: main keeps of each that its thread is gone, and how many rows it has used.
-pub fn join_hands<T: Drop>(heap: &Heap<T>, main: &mut Hand<T>, gone: Vec<(Hand<T>, Totals)>)
+pub fn join_hands<T: Drop>(heap: &Heap<T>, main: &mut Hand<T>, gone: Vec<(Hand<T>, Ran)>)
     requires of { IsOf heap.now main.old }
     requires gone { (k : ℕ) (w : _) → k < vec_len gone → let hand = (slice_index_or gone.items k w).0 in
         IsOf heap.now hand × (hand.view.status ≡ Gone) × (hand.slots ≡ []) }

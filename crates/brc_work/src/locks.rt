@@ -5,6 +5,7 @@ ghost use Rattle.brc_lang.specs.declared.module.Instr.TheVariants as instruction
 ghost use Rattle.brc_model.specs.declared.slot.Exit.TheVariants.{Success};
 ghost use Rattle.brc_table.specs.Hands.{IsOf};
 ghost use Rattle.brc_work.specs.Fits.{MayDo, HasDone, IsStill};
+ghost use Rattle.brc_work.specs.Stopping.{Unlocks};
 ghost use Rattle.brc_work.specs.Performs.{Performs, Waits};
 
 use crate::variables::{Variables, row_in};
@@ -61,6 +62,7 @@ impl<'h, T: Drop> Worker<'h, T> {
         ensures of { IsOf self.now hand.new }
         ensures done { HasDone (instructions.Unlock object) Success rows.now hand.old rows.now hand.new }
         ensures made { Performs [] (instructions.Unlock object) Success rows.now hand.old.view rows.now hand.new.view }
+        ensures unlocks { Unlocks object rows.now hand.old.view hand.new.view }
     {
         let row = row_in(rows, object);
         Lists::new(self.heap).unlock(hand, row);

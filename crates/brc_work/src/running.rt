@@ -1,92 +1,140 @@
 //! A worker's calls, one after the other.
 
-ghost use Rattle.std.specs.Prelude.{◌≡◌, ℕ, ◌<◌, ◌≤◌, ◌+◌, length, slice_get};
+ghost use Rattle.std.specs.Prelude.{◌≡◌, ℕ, ◌<◌, ◌+◌, true, length, slice_get};
 ghost use Rattle.brc_model.specs.Threads.{code_of};
 ghost use Rattle.brc_table.specs.Hands.{IsOf};
-ghost use Rattle.brc_work.specs.Calls.{IsCode, HasCalled};
+ghost use Rattle.brc_work.specs.Calls.{HasCalled};
 ghost use Rattle.brc_work.specs.Fits.{IsReady};
-ghost use Rattle.brc_work.specs.Totals.{Asked, no_totals};
-ghost use Rattle.brc_work.specs.Traces.{MakesCalls};
+ghost use Rattle.brc_work.specs.Runs.{RanBy, LooksAndCalls, greatest_bound};
+ghost use Rattle.brc_work.specs.Totals.{Asked, no_totals, totals_of, is_done};
 
 use crate::gate::Gate;
+use crate::ran::Ran;
 use crate::totals::Totals;
 use crate::worker::Worker;
 use brc_check::Checked;
 use brc_heap::Hand;
 use brc_host::Host;
-use brc_lang::Instr;
 use std::sync::Wait;
 
-/// Returns the code of the accepted module's function with this number.
-fn code_of(checked: &Checked, function: usize) -> &[Instr]
-    requires { function < length checked.now.module.functions }
-    ensures accepted { IsCode result.now }
-    ensures value { result.now ≡ code_of (slice_get checked.now.module.functions function) }
-{
-    checked.module().functions.as_slice()[function]
-        .code
-        .as_slice()
-}
-
 impl<'h, T: Drop> Worker<'h, T> {
-    /// Makes the calls of the accepted module's function with this number, `times` of them. Before each call it looks
-    /// through the hand's queue. Returns what it has counted.
+    /// Makes the calls of the accepted module's function with this number, `times` of them, and begins at most `steps`
+    /// instructions in all of them together. Before each call it looks through the hand's queue. Returns whether it has
+    /// made all calls, and what it has counted.
+    ///
+    /// The run stops where `steps` instructions have begun, and an instruction or a call is left to begin: it unlocks
+    /// what is locked, gives up the references of the variables that own one, by rising number, and finalises what dies.
+    /// `gate` hears of each call that begins, and of its end unless the run stops in it. With `u64::MAX` steps no run
+    /// stops.
     ///
     /// The host is asked for what the instructions say, and for the closes of what dies, and for nothing else.
     ///
     /// The hand runs, has nothing to do and nothing locked, and holds the root and fewer than 2^31 references in all.
-    /// Afterwards it holds what it held before.
+    /// Afterwards it holds what it held before, and the caller lets it leave.
     pub fn run<R: Wait, H: Host<Res = T>, G: Gate>(
         &self,
         rt: &R,
         checked: &Checked,
         function: usize,
         times: u32,
+        steps: u64,
         hand: &mut Hand<T>,
         host: &mut H,
         gate: &G,
-    ) -> Totals
+    ) -> Ran
         requires of { IsOf self.now hand.old }
         requires ready { IsReady hand.old }
         requires function { function < length checked.now.module.functions }
         ensures of { IsOf self.now hand.new }
         ensures called { HasCalled hand.old hand.new }
-        ensures created { result.created + hand.old.view.used ≡ hand.new.view.used }
-        ensures asked { Asked H.answers H.counts host.old host.new no_totals result
-            (λ calls. (begun : ℕ) × MakesCalls (code_of (slice_get checked.now.module.functions function)) hand.old.view
-            times begun calls hand.new.view) }
+        ensures created { (totals_of result).created + hand.old.view.used ≡ hand.new.view.used }
+        ensures asked { Asked H.answers H.counts host.old host.new no_totals (totals_of result)
+            (λ calls. RanBy (code_of (slice_get checked.now.module.functions function)) times steps (is_done result)
+            calls hand.old.view hand.new.view) }
+        ensures unbounded { steps ≡ greatest_bound → is_done result ≡ true }
     {
-        let code = code_of(checked, function);
+        checked.states_are_true();
         let used = hand.used();
         let mut totals = Totals::new();
-        for call in 0..times {
-            gate.before(hand.thread(), call);
-            self.look_and_call(rt, code, hand, host, &mut totals);
-            gate.after(hand.thread(), call);
-        }
+        let done = self.make_calls(
+            rt,
+            checked,
+            function,
+            times,
+            steps,
+            hand,
+            host,
+            gate,
+            &mut totals,
+        );
         totals.created = hand.used() - used;
-        totals
+        if done {
+            Ran::Done(totals)
+        } else {
+            Ran::Stopped(totals)
+        }
     }
 
-    /// Looks through the hand's queue, and makes a call of the function with this code.
+    /// Makes the calls, or stops. Returns whether it has made all of them.
+    fn make_calls<R: Wait, H: Host<Res = T>, G: Gate>(
+        &self,
+        rt: &R,
+        checked: &Checked,
+        function: usize,
+        times: u32,
+        steps: u64,
+        hand: &mut Hand<T>,
+        host: &mut H,
+        gate: &G,
+        totals: &mut Totals,
+    ) -> bool
+        requires of { IsOf self.now hand.old }
+        requires ready { IsReady hand.old }
+        requires function { function < length checked.now.module.functions }
+        ensures of { IsOf self.now hand.new }
+        ensures called { HasCalled hand.old hand.new }
+        ensures asked { Asked H.answers H.counts host.old host.new totals.old totals.new
+            (λ calls. RanBy (code_of (slice_get checked.now.module.functions function)) times steps result calls
+            hand.old.view hand.new.view) }
+    {
+        let mut left = steps;
+        for call in 0..times {
+            if left == 0 {
+                return false;
+            }
+            gate.before(hand.thread(), call);
+            if !self.look_and_call(rt, checked, function, &mut left, hand, host, totals) {
+                return false;
+            }
+            gate.after(hand.thread(), call);
+        }
+        true
+    }
+
+    /// Looks through the hand's queue, and makes a call of the function. Returns whether the call has ended; else the
+    /// worker has stopped in it. `left` is how many instructions the worker may begin, at least one.
     fn look_and_call<R: Wait, H: Host<Res = T>>(
         &self,
         rt: &R,
-        code: &[Instr],
+        checked: &Checked,
+        function: usize,
+        left: &mut u64,
         hand: &mut Hand<T>,
         host: &mut H,
         totals: &mut Totals,
-    )
-        requires code { IsCode code.now }
+    ) -> bool
+        requires function { function < length checked.now.module.functions }
+        requires some { 0 < left.old }
         requires of { IsOf self.now hand.old }
         requires ready { IsReady hand.old }
         ensures of { IsOf self.now hand.new }
         ensures called { HasCalled hand.old hand.new }
         ensures asked { Asked H.answers H.counts host.old host.new totals.old totals.new
-            (λ calls. (begun : ℕ) × MakesCalls code.now hand.old.view 1 begun calls hand.new.view) }
+            (λ calls. LooksAndCalls (code_of (slice_get checked.now.module.functions function)) left.old left.new
+            result calls hand.old.view hand.new.view) }
     {
         let failed = self.queue.merge_pending(rt, hand, host);
         totals.count_close_faults(failed);
-        self.call(rt, code, hand, host, totals);
+        self.call(rt, checked, function, left, hand, host, totals)
     }
 }

@@ -8,6 +8,7 @@ ghost use Rattle.brc_table.specs.Hands.{IsOf};
 ghost use Rattle.brc_work.specs.Workers.{IsFresh, HasGone, Ends, job, fresh-prop};
 
 use crate::gate::Gate;
+use crate::ran::Ran;
 use crate::totals::Totals;
 use crate::worker::Worker;
 use brc_check::Checked;
@@ -27,6 +28,7 @@ pub(crate) struct Task<'a, T: Drop, H, G> {
     pub(crate) checked: &'a Checked,
     pub(crate) function: usize,
     pub(crate) times: u32,
+    pub(crate) steps: u64,
     pub(crate) thread: u8,
     pub(crate) hand: Hand<T>,
     pub(crate) host: &'a mut H,
@@ -35,87 +37,94 @@ pub(crate) struct Task<'a, T: Drop, H, G> {
     ghost fresh: { IsFresh heap.now thread hand } by { fresh-prop heap.now thread hand },
 }
 
-/// What a worker leaves: its hand, and what it has counted.
+/// What a worker leaves: its hand, how its run has ended, and what it has counted.
 #[derive(Drop)]
-pub(crate) struct Done<T: Drop> {
+pub(crate) struct Remains<T: Drop> {
     pub(crate) hand: Hand<T>,
-    pub(crate) totals: Totals,
-    /// Whether it has made its calls.
+    pub(crate) ran: Ran,
+    /// Whether it has begun at all.
     pub(crate) called: bool,
 }
 
-/// A worker's promise: when its thread ends, its hand is gone, and unless the workers were stopped before it began, it
-/// has made its calls of the host and left.
+/// A worker's promise: when its thread ends, its hand is gone, and unless the workers were called off before it began, it
+/// has made its calls, or was stopped by its bound, and has left.
 #[derive(Drop)]
 pub(crate) struct Leaves<T: Drop, H> {
     pub(crate) heap: Snapshot<Heap<T>>,
     pub(crate) checked: Snapshot<Checked>,
     pub(crate) function: usize,
     pub(crate) times: u32,
+    pub(crate) steps: u64,
     pub(crate) thread: u8,
     pub(crate) host: PhantomData<H>,
 }
 
-impl<T: Drop, H: Host<Res = T>> Promise<Done<T>> for Leaves<T, H> {
+impl<T: Drop, H: Host<Res = T>> Promise<Remains<T>> for Leaves<T, H> {
     ghost kept_by = { λ p done. Ends H.answers H.counts
-        (job p.heap.value p.checked.value.«module» p.function p.times p.thread) done.hand done.totals done.called };
+        (job p.heap.value p.checked.value.«module» p.function p.times p.steps p.thread) done.hand done.ran done.called };
 }
 
 impl<'a, T: Drop, H: Host<Res = T>, G: Gate> Task<'a, T, H, G> {
-    /// Makes the calls, unless the workers are stopped, and lets the hand leave.
-    pub(crate) fn work<R: Wait>(self, rt: &R, stopped: &AtomicBool) -> Done<T>
+    /// Makes the calls, unless the workers are called off, and lets the hand leave.
+    pub(crate) fn work<R: Wait>(self, rt: &R, called_off: &AtomicBool) -> Remains<T>
         ensures { Ends H.answers H.counts (job self.entry.heap.now self.entry.checked.now.module
-            self.entry.function self.entry.times self.entry.thread) result.hand result.totals result.called }
+            self.entry.function self.entry.times self.entry.steps self.entry.thread) result.hand result.ran result.called }
     {
         let Task {
             heap,
             checked,
             function,
             times,
+            steps,
             thread: _,
             mut hand,
             host,
             gate,
         } = self;
-        if stopped.load(Ordering::SeqCst) {
+        if called_off.load(Ordering::SeqCst) {
             let totals = leaves_at_once(rt, heap, &mut hand, host);
-            return Done {
+            return Remains {
                 hand,
-                totals,
+                ran: Ran::Stopped(totals),
                 called: false,
             };
         }
-        let totals = calls_and_leaves(rt, heap, checked, function, times, &mut hand, host, gate);
-        Done {
+        let ran = calls_and_leaves(
+            rt, heap, checked, function, times, steps, &mut hand, host, gate,
+        );
+        Remains {
             hand,
-            totals,
+            ran,
             called: true,
         }
     }
 }
 
-/// Makes the calls with a hand that was just given out, and lets it leave. Returns what was counted of both.
+/// Makes the calls with a hand that was just given out, and lets it leave. Returns how the run has ended, with what was
+/// counted of both.
 fn calls_and_leaves<R: Wait, T: Drop, H: Host<Res = T>, G: Gate>(
     rt: &R,
     heap: &Heap<T>,
     checked: &Checked,
     function: usize,
     times: u32,
+    steps: u64,
     hand: &mut Hand<T>,
     host: &mut H,
     gate: &G,
-) -> Totals
+) -> Ran
     requires fresh { IsFresh heap.now hand.old.view.thread hand.old }
     requires function { function < length checked.now.module.functions }
     ensures gone { HasGone H.answers H.counts
-        (job heap.now checked.now.module function times hand.old.view.thread) hand.new result }
+        (job heap.now checked.now.module function times steps hand.old.view.thread) hand.new result }
 {
     let queue = Queue::new(heap);
     let worker = Worker::new(heap, &queue);
-    let mut totals = worker.run(rt, checked, function, times, hand, host, gate);
+    let ran = worker.run(rt, checked, function, times, steps, hand, host, gate);
     let failed = queue.leave(rt, hand, host);
+    let mut totals = ran.totals();
     totals.count_close_faults(failed);
-    totals
+    ran.with_totals(totals)
 }
 
 /// Lets a hand that was just given out leave without a call. Returns what was counted.

@@ -20,6 +20,7 @@ pub(crate) fn tasks_of<'w, T: Drop, H: Host<Res = T>, G: Gate>(
     checked: &'w Checked,
     function: usize,
     times: u32,
+    steps: u64,
     hosts: &'w mut [H],
     gate: &'w G,
     mut tasks: Vec<Task<'w, T, H, G>>,
@@ -37,8 +38,8 @@ pub(crate) fn tasks_of<'w, T: Drop, H: Host<Res = T>, G: Gate>(
     ensures given { (t : ℕ) → is_given t main.new.view ≡ true → (k : ℕ) × (k < vec_len result) × (k + 1 ≡ t) }
     ensures one_each { vec_len result ≡ length hosts.old }
     ensures tasks { (k : ℕ) (t : _) → k < vec_len result → let task = slice_index_or result.items k t in
-        job task.heap.now task.checked.now.module task.function task.times task.thread
-        ≡ job heap.now checked.now.module function times (k + 1) }
+        job task.heap.now task.checked.now.module task.function task.times task.steps task.thread
+        ≡ job heap.now checked.now.module function times steps (k + 1) }
 {
     heap.words().layout_is_plain();
     let mut thread: u8 = 1;
@@ -52,6 +53,7 @@ pub(crate) fn tasks_of<'w, T: Drop, H: Host<Res = T>, G: Gate>(
             checked,
             function,
             times,
+            steps,
             thread,
             hand,
             host,

@@ -8,9 +8,9 @@ ghost use Rattle.brc_work.specs.Workers.{HasGone, Ends, Job, job};
 use crate::error::NoThread;
 use crate::gate::Gate;
 use crate::joining::join_hands;
-use crate::task::{Done, Leaves, Task};
+use crate::ran::Ran;
+use crate::task::{Leaves, Remains, Task};
 use crate::tasks::tasks_of;
-use crate::totals::Totals;
 use brc_check::Checked;
 use brc_heap::{Hand, Heap};
 use brc_host::Host;
@@ -24,10 +24,11 @@ use std::thread::{PromisedHandle, Threads};
 
 /// The thread of a worker, whose hand will be gone when the thread ends; or what the worker has left, if its thread
 /// couldn't be started.
-type Begun<T, H> = Result<PromisedHandle<Done<T>, Leaves<T, H>>, Done<T>>;
+type Begun<T, H> = Result<PromisedHandle<Remains<T>, Leaves<T, H>>, Remains<T>>;
 
 /// Lets a worker for each host call the accepted module's function with this number, `times` times, each in a thread of
-/// its own. Returns what the workers leave, in their order: each one's hand, which is gone, and what it has counted.
+/// its own; each begins at most `steps` instructions, and stops where it has begun as many, as `Worker::run` does.
+/// Returns what the workers leave, in their order: each one's hand, which is gone, and how its run has ended.
 ///
 /// Main gives out the hands of workers 1, 2, .., and holds afterwards what it held before. When the call returns, all
 /// workers have left.
@@ -51,9 +52,10 @@ pub fn fan_out<
     checked: &'w Checked,
     function: usize,
     times: u32,
+    steps: u64,
     hosts: &'w mut [H],
     gate: &'w G,
-) -> Result<Vec<(Hand<T>, Totals)>, NoThread>
+) -> Result<Vec<(Hand<T>, Ran)>, NoThread>
     requires of { IsOf heap.now main.old }
     requires may { MayFanOut main.old.view }
     requires enough { length hosts.old ≤ heap.now.layout.workers }
@@ -64,7 +66,7 @@ pub fn fan_out<
     ensures slots { main.new.slots ≡ main.old.slots }
     ensures one_each { IfOk result (λ gone. vec_len gone ≡ length hosts.old) }
     ensures gone { IfOk result (λ gone. (k : ℕ) (w : _) → k < vec_len gone
-        → HasGone H.answers H.counts (job heap.now checked.now.module function times (k + 1))
+        → HasGone H.answers H.counts (job heap.now checked.now.module function times steps (k + 1))
         (slice_index_or gone.items k w).0 (slice_index_or gone.items k w).1) }
     ensures joined { OnErr result (HasJoinedAll main.new.view) }
 {
@@ -72,8 +74,12 @@ pub fn fan_out<
     let tasks = Vec::with_capacity(alloc, count)?;
     let threads = Vec::with_capacity(alloc, count)?;
     let answer = Vec::with_capacity(alloc, count)?;
-    let tasks = tasks_of(heap, main, checked, function, times, hosts, gate, tasks);
-    let (gone, called) = run_all(rt, heap, checked, function, times, tasks, threads, answer);
+    let tasks = tasks_of(
+        heap, main, checked, function, times, steps, hosts, gate, tasks,
+    );
+    let (gone, called) = run_all(
+        rt, heap, checked, function, times, steps, tasks, threads, answer,
+    );
     if called {
         Ok(gone)
     } else {
@@ -83,42 +89,43 @@ pub fn fan_out<
 }
 
 /// Lets each worker do its task in a thread of its own. Returns what the workers leave, and whether each has made its
-/// calls. If a thread can't be started, the workers are stopped: those that haven't begun leave without a call.
+/// calls. If a thread can't be started, the workers are called off: those that haven't begun leave without a call.
 fn run_all<'w, R: Threads + Wait + Sync, T: Send + Drop, H: Host<Res = T> + Send, G: Gate + Sync>(
     rt: &R,
     heap: &'w Heap<T>,
     checked: &'w Checked,
     function: usize,
     times: u32,
+    steps: u64,
     tasks: Vec<Task<'w, T, H, G>>,
     mut threads: Vec<Begun<T, H>>,
-    answer: Vec<(Hand<T>, Totals)>,
-) -> (Vec<(Hand<T>, Totals)>, bool)
+    answer: Vec<(Hand<T>, Ran)>,
+) -> (Vec<(Hand<T>, Ran)>, bool)
     requires tasks { (k : ℕ) (t : _) → k < vec_len tasks → let task = slice_index_or tasks.items k t in
-        job task.heap.now task.checked.now.module task.function task.times task.thread
-        ≡ job heap.now checked.now.module function times (k + 1) }
+        job task.heap.now task.checked.now.module task.function task.times task.steps task.thread
+        ≡ job heap.now checked.now.module function times steps (k + 1) }
     requires no_threads { threads.items ≡ [] }
     requires room { vec_len tasks ≤ vec_capacity threads }
     requires empty { answer.items ≡ [] }
     requires answer_room { vec_len tasks ≤ vec_capacity answer }
     ensures one_each { vec_len result.0 ≡ vec_len tasks.entry }
     ensures ends { (k : ℕ) (w : _) → k < vec_len result.0
-        → Ends H.answers H.counts (job heap.now checked.now.module function times (k + 1))
+        → Ends H.answers H.counts (job heap.now checked.now.module function times steps (k + 1))
         (slice_index_or result.0.items k w).0 (slice_index_or result.0.items k w).1 result.1 }
 {
-    let stopped = AtomicBool::new(false);
-    let shared = &stopped;
+    let called_off = AtomicBool::new(false);
+    let shared = &called_off;
     thread::scope(
         thread::scope_env(),
         rt,
-        move |scope| -> (Vec<(Hand<T>, Totals)>, bool)
+        move |scope| -> (Vec<(Hand<T>, Ran)>, bool)
             requires { ((k : ℕ) (t : _) → k < vec_len tasks → let task = slice_index_or tasks.items k t in
-                job task.heap.now task.checked.now.module task.function task.times task.thread
-                ≡ job heap.now checked.now.module function times (k + 1)) × (threads.items ≡ []) × (vec_len tasks ≤
+                job task.heap.now task.checked.now.module task.function task.times task.steps task.thread
+                ≡ job heap.now checked.now.module function times steps (k + 1)) × (threads.items ≡ []) × (vec_len tasks ≤
                 vec_capacity threads)
                 × (answer.items ≡ []) × (vec_len tasks ≤ vec_capacity answer) }
             ensures { (vec_len result.0 ≡ vec_len tasks.entry) × ((k : ℕ) (w : _) → k < vec_len result.0
-                → Ends H.answers H.counts (job heap.entry.now checked.entry.now.module function times (k + 1))
+                → Ends H.answers H.counts (job heap.entry.now checked.entry.now.module function times steps (k + 1))
                 (slice_index_or result.0.items k w).0 (slice_index_or result.0.items k w).1 result.1) }
         {
             for task in tasks {
@@ -127,6 +134,7 @@ fn run_all<'w, R: Threads + Wait + Sync, T: Send + Drop, H: Host<Res = T> + Send
                     checked: Snapshot::of(task.checked),
                     function: task.function,
                     times: task.times,
+                    steps: task.steps,
                     thread: task.thread,
                     host: PhantomData,
                 };
@@ -141,7 +149,7 @@ fn run_all<'w, R: Threads + Wait + Sync, T: Send + Drop, H: Host<Res = T> + Send
                     unreachable!()
                 };
             }
-            join_all(rt, heap, checked, function, times, threads, answer)
+            join_all(rt, heap, checked, function, times, steps, threads, answer)
         },
     )
 }
@@ -153,27 +161,28 @@ fn join_all<'w, R: Threads, T: Send + Drop, H: Host<Res = T>>(
     checked: &'w Checked,
     function: usize,
     times: u32,
+    steps: u64,
     threads: Vec<Begun<T, H>>,
-    mut answer: Vec<(Hand<T>, Totals)>,
-) -> (Vec<(Hand<T>, Totals)>, bool)
+    mut answer: Vec<(Hand<T>, Ran)>,
+) -> (Vec<(Hand<T>, Ran)>, bool)
     requires empty { answer.items ≡ [] }
     requires room { vec_len threads ≤ vec_capacity answer }
     requires begun { (k : ℕ) (b : _) → k < vec_len threads
         → IfOk (slice_index_or threads.items k b) (λ s. let promise = s.promise in
-        job promise.heap.value promise.checked.value.«module» promise.function promise.times promise.thread
-        ≡ job heap.now checked.now.module function times (k + 1))
+        job promise.heap.value promise.checked.value.«module» promise.function promise.times promise.steps promise.thread
+        ≡ job heap.now checked.now.module function times steps (k + 1))
         × IfErr (slice_index_or threads.items k b) (λ done. Ends H.answers H.counts
-        (job heap.now checked.now.module function times (k + 1)) done.hand done.totals done.called) }
+        (job heap.now checked.now.module function times steps (k + 1)) done.hand done.ran done.called) }
     ensures one_each { vec_len result.0 ≡ vec_len threads }
     ensures ends { (k : ℕ) (w : _) → k < vec_len result.0
-        → Ends H.answers H.counts (job heap.now checked.now.module function times (k + 1))
+        → Ends H.answers H.counts (job heap.now checked.now.module function times steps (k + 1))
         (slice_index_or result.0.items k w).0 (slice_index_or result.0.items k w).1 result.1 }
 {
     let mut called = true;
     for begun in threads {
         let done = left_by(rt, begun);
         called = called && done.called;
-        let Ok(()) = answer.push((done.hand, done.totals)) else {
+        let Ok(()) = answer.push((done.hand, done.ran)) else {
             unreachable!()
         };
     }
@@ -181,11 +190,11 @@ fn join_all<'w, R: Threads, T: Send + Drop, H: Host<Res = T>>(
 }
 
 /// Returns what the worker leaves: if it has a thread, once that has ended.
-fn left_by<R: Threads, T: Send + Drop, H: Host<Res = T>>(rt: &R, begun: Begun<T, H>) -> Done<T>
+fn left_by<R: Threads, T: Send + Drop, H: Host<Res = T>>(rt: &R, begun: Begun<T, H>) -> Remains<T>
     ensures { (j : Job) → IfOk begun (λ s. let promise = s.promise in
-        job promise.heap.value promise.checked.value.«module» promise.function promise.times promise.thread ≡ j)
-        → IfErr begun (λ done. Ends H.answers H.counts j done.hand done.totals done.called)
-        → Ends H.answers H.counts j result.hand result.totals result.called }
+        job promise.heap.value promise.checked.value.«module» promise.function promise.times promise.steps promise.thread ≡ j)
+        → IfErr begun (λ done. Ends H.answers H.counts j done.hand done.ran done.called)
+        → Ends H.answers H.counts j result.hand result.ran result.called }
 {
     match begun {
         Ok(started) => started.join(rt),

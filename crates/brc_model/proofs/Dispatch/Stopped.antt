@@ -118,7 +118,8 @@ owned_exactly slots rows v x =
     × (row_of rows v ≡ Some x)))
     (sym (owned_at slots rows v)) (owned_either (is_owned (slice_index_or slots v Empty)) (row_of rows v) x)
 
-owned_long : (slots : List Slot) (rows : List (Option ℕ)) → length (owned_rows slots rows) ≤ length rows
+-- No more rows are given up than there are variables.
+pub owned_long : (slots : List Slot) (rows : List (Option ℕ)) → length (owned_rows slots rows) ≤ length rows
 owned_long [] rows = omega arith
 owned_long (slot ∷ slots) [] = omega arith
 owned_long (slot ∷ slots) (row ∷ rows) = let rest = owned_long slots rows in omega (arith, rest)

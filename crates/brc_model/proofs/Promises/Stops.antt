@@ -1,12 +1,13 @@
--- Where a thread stops in a call, it has to unlock what it has locked, and to give up just what its variables own.
-use Rattle.std.proofs.Common.{◌≡◌, ℕ, true, List, ◌∷◌, length, Option, Some, refl, sym, ap, ◌∙◌, subst, ◌+◌}
+-- Where a thread stops in a call, it has to unlock what it has locked, and to give up just what its variables own. Where
+-- it stops between two calls, it has nothing to give up.
+use Rattle.std.proofs.Common.{◌≡◌, ℕ, suc, true, List, ◌∷◌, length, Option, Some, refl, sym, ap, ◌∙◌, subst, ◌+◌}
 use Rattle.std.specs.Prelude.{map, slice_get}
 use Rattle.std.proofs.lemmas.Option.{slice_get_within}
 use Rattle.brc_lang.specs.declared.module.Module.{Module}
 use Rattle.brc_model.specs.declared.slot.State.{State}
 use Rattle.brc_model.specs.declared.actor.Context.{Context}
 use Rattle.brc_model.specs.declared.actor.Place.{Place}
-use Rattle.brc_model.specs.declared.actor.Place.TheVariants.{InCall}
+use Rattle.brc_model.specs.declared.actor.Place.TheVariants.{Idle, InCall}
 use Rattle.brc_model.specs.declared.slot.Exit.TheVariants.{Success}
 use Rattle.brc_model.specs.declared.thread.Choice.TheVariants.{Stop}
 use Rattle.brc_model.specs.Threads.{code_of}
@@ -67,3 +68,22 @@ stops_give_up p w t at a context variables here found may is =
     (gives_up p (1 + length here.calls)
     (machine_after (first_machine p here.states here.rows here.calls) here.events) t at a context variables
     (reached_code p w here) (reached_found p w t a here found) may is)
+
+-- ---- between two calls
+
+idle_leads : (m : StepMachine) (t left : ℕ) (a : StepActor) → slice_get m.actors t ≡ Some a → may_stop a ≡ true
+    → a.place ≡ Idle (suc left) → slice_get (step (world_of m) t Stop).actors t ≡ Some (at_place a (Idle 0))
+idle_leads m t left a found may is =
+    let there : Place → List StepActor = λ place.
+    (machine_by m t a Success (stop_action (m.states a.function) place)).actors in
+    ap (λ (w : World). slice_get w.actors t) (world_stops m t a found may)
+    ∙ ap (λ (place : Place). slice_get (there place) t) is
+    ∙ slice_get-set_same m.actors t (at_place a (Idle 0)) (slice_get_within m.actors t a found)
+
+pub stops_between_calls : (p : Module) (w : World) (t left : ℕ) (a : StepActor) → IsReachable p w
+    → slice_get w.actors t ≡ Some a → may_stop a ≡ true → a.place ≡ Idle (suc left)
+    → slice_get (step w t Stop).actors t ≡ Some (at_place a (Idle 0))
+stops_between_calls p w t left a here found may is =
+    subst (λ (v : World). slice_get (step v t Stop).actors t ≡ Some (at_place a (Idle 0))) (sym here.reached)
+    (idle_leads (machine_after (first_machine p here.states here.rows here.calls) here.events) t left a
+    (reached_found p w t a here found) may is)

@@ -1,5 +1,5 @@
--- A call goes from point to point, and a worker from call to call.
-use Rattle.std.proofs.Common.{◌≡◌, ℕ, ◌+◌, ◌<◌, List, [], ◌++◌, Option, None, Some, append_assoc, append-nil, refl, sym, subst}
+-- A call goes from point to point.
+use Rattle.std.proofs.Common.{◌≡◌, ℕ, ◌+◌, ◌<◌, List, [], ◌++◌, Option, None, Some, refl, sym, subst}
 use Rattle.std.specs.Prelude.{slice_get, replicate}
 use Rattle.brc_host.specs.HostCalls.{HostCall}
 use Rattle.brc_lang.specs.Limits.{instruction_limit}
@@ -10,10 +10,9 @@ use Rattle.brc_model.specs.declared.actor.Place.{Place}
 use Rattle.brc_model.specs.declared.actor.Place.TheVariants.{Idle, InCall}
 use Rattle.brc_model.specs.declared.slot.Exit.{Exit}
 use Rattle.brc_table.specs.declared.view.View.{View}
-use Rattle.brc_queue.specs.Scans.{LooksThrough}
-use Rattle.brc_work.specs.Traces.{MakesTrace, MakesCalls, NoCall, OneMore}
+use Rattle.brc_work.specs.Traces.{MakesTrace}
 use Rattle.brc_work.specs.Performs.{ComesTo, PerformsAt, StepsTo, place_after}
-use Rattle.brc_work.proofs.Traces.Joining.{none_before, none_after, added, no_trace, calls_then}
+use Rattle.brc_work.proofs.Traces.Joining.{no_trace, calls_then}
 
 -- ---- steps
 
@@ -64,6 +63,11 @@ module _ (n : ℕ) (cs ds : List HostCall) (code : List Instr) (v : View) (at : 
         (steps come.place 0 come.comes))
 
     -- and comes to a further point,
+    pub comes_into : (to : ℕ) → next ≡ Some to
+        → MakesTrace (n + 1) (cs ++ ds) code (Idle 1) v
+        (InCall (record { left = 0; turns = after_turns; outer = [] }) to after_rows) w
+    comes_into to is = goes_by (Some to) is
+
     pub comes_on : (to : ℕ) → next ≡ Some to → HasCome (n + 1) (cs ++ ds) code v to after_turns after_rows w
     comes_on to is = record {
       place = InCall (record { left = 0; turns = after_turns; outer = [] }) to after_rows;
@@ -74,29 +78,3 @@ module _ (n : ℕ) (cs ds : List HostCall) (code : List Instr) (v : View) (at : 
     -- or to its end.
     pub comes_to_end : next ≡ None → MakesTrace (n + 1) (cs ++ ds) code (Idle 1) v (Idle 0) w
     comes_to_end is = goes_by None is
-
--- ---- calls
-
--- A worker looks through its queue and makes a call.
-pub one_call : (code : List Instr) (v w x : View) (begun : ℕ) (closes calls : List HostCall)
-    → LooksThrough v v.used closes w → MakesTrace begun calls code (Idle 1) w (Idle 0) x
-    → MakesCalls code v 1 begun (closes ++ calls) x
-one_call code v w x begun closes calls looks makes =
-    subst (λ (i : ℕ). MakesCalls code v 1 i (closes ++ calls) x) (none_before begun)
-    (OneMore 0 0 begun [] closes calls v w x NoCall looks makes)
-
--- It makes more calls.
-pub more_calls : (code : List Instr) (v u : View) (n i : ℕ) (cs : List HostCall) → MakesCalls code v n i cs u
-    → (m j : ℕ) (ds : List HostCall) (w : View) → MakesCalls code u m j ds w
-    → MakesCalls code v (n + m) (i + j) (cs ++ ds) w
-more_calls code v u n i cs one m j ds w NoCall =
-    subst (λ (ks : List HostCall). MakesCalls code v (n + 0) (i + 0) ks u) (sym (append-nil cs))
-    (subst (λ (k : ℕ). MakesCalls code v k (i + 0) cs u) (none_after n)
-    (subst (λ (k : ℕ). MakesCalls code v n k cs u) (none_after i) one))
-more_calls code v u n i cs one m j ds w (OneMore k l within ks closes more x y z other looks makes) =
-    subst (λ (hs : List HostCall). MakesCalls code v (n + (k + 1)) (i + (l + within)) hs w)
-    (append_assoc cs ks (closes ++ more))
-    (subst (λ (p : ℕ). MakesCalls code v p (i + (l + within)) ((cs ++ ks) ++ (closes ++ more)) w) (added n k 1)
-    (subst (λ (p : ℕ). MakesCalls code v ((n + k) + 1) p ((cs ++ ks) ++ (closes ++ more)) w) (added i l within)
-    (OneMore (n + k) (i + l) within (cs ++ ks) closes more x y w (more_calls code v u n i cs one k l ks x other) looks
-    makes)))

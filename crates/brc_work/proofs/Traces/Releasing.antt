@@ -22,7 +22,7 @@ use Rattle.brc_work.specs.Performs.{MakesRelease, GivesUp}
 use Rattle.brc_work.specs.Traces.{Traces}
 use Rattle.brc_work.proofs.Traces.Joining.{turns_to, traces_then, traces_before}
 use Rattle.brc_work.proofs.Traces.Duties.{no_duty, IsSame, next_duties, starts_with, continues_with}
-use Rattle.brc_work.proofs.Traces.Working.{WorksOn, goes_on, works_on, worked_off}
+use Rattle.brc_work.proofs.Traces.Working.{settle_if, WorksOn, goes_on, works_on, worked_off}
 
 -- The duty that follows the load of the local word is none on a slot.
 after_load : (immortal counts : Bool) (head x word : ℕ) (u : View)
@@ -46,47 +46,48 @@ no_close_after_load false true (suc head) x word u is = ap (λ (ds : List Duty).
 no_close_after_load false false zero x word u is = ap (λ (ds : List Duty). closes_by ds false) is
 no_close_after_load false false (suc head) x word u is = ap (λ (ds : List Duty). closes_by ds false) is
 
-load_same : (x : ℕ) (holding : Holding) (v : View) (word : ℕ)
+pub load_same : (x : ℕ) (holding : Holding) (v : View) (word : ℕ)
     → IsSame (releasing v x) (ReleaseLoad x holding) (ReleaseLoad x AsCaller) word
 load_same x holding v word =
     record { event = refl; status = refl; head = refl; used = refl; locked = refl; lent = refl }
 
-module _ {n : ℕ} (code : List Instr) (p : Place) (ds : List Duty) (q : Place) (holding : Holding) (x : ℕ) (v : View)
-    (first : (word : ℕ) → Traces n [] code p ds v q (next_duties (releasing v x) (ReleaseLoad x holding) (Settle ∷ [])
-    word)
+module _ {n : ℕ} (code : List Instr) (p : Place) (ds : List Duty) (w : View) (q : Place) (holding : Holding) (x : ℕ)
+    (v : View) (later : Bool) (first : (word : ℕ)
+    → Traces n [] code p ds w q (next_duties (releasing v x) (ReleaseLoad x holding) (settle_if later) word)
     (done (releasing v x) word)) where
   -- The hand has loaded the local word,
-  loads : (word : ℕ) → WorksOn n [] code p ds v q (done (releasing v x) word)
+  loads : (word : ℕ) → WorksOn later n [] code p ds w q (done (releasing v x) word)
   loads word =
-      goes_on code p ds v q (releasing v x) (ReleaseLoad x holding) (ReleaseLoad x AsCaller) [] word true
+      goes_on code p ds w q (releasing v x) (ReleaseLoad x holding) (ReleaseLoad x AsCaller) [] word later (λ is. is)
       (load_same x holding v word) refl refl refl refl (first word)
 
   -- and stored it if it counts there.
-  stores : (word : ℕ) → WorksOn n [] code p ds v q (released_locally v x word)
+  pub stores : (word : ℕ) → WorksOn later n [] code p ds w q (released_locally v x word)
   stores word =
       let loaded = done (releasing v x) word in
       elim (cases_Bool (counts_here v word)) [
         | inl counts ↦
-            subst (WorksOn n [] code p ds v q)
-            (ap (λ (w : View). done w word) (after_load (is_immortal_word word) (counts_here v word) v.head x word
+            subst (WorksOn later n [] code p ds w q)
+            (ap (λ (y : View). done y word) (after_load (is_immortal_word word) (counts_here v word) v.head x word
             loaded refl)
             ∙ ap (λ (b : Bool). cond b (done loaded word) loaded) (sym counts))
-            (subst (λ (cs : List HostCall). WorksOn n cs code p ds v q (done (slot_emptied loaded) word))
+            (subst (λ (cs : List HostCall). WorksOn later n cs code p ds w q (done (slot_emptied loaded) word))
             (no_close_after_load (is_immortal_word word) (counts_here v word) v.head x word loaded refl)
-            (works_on code p ds v q [] loaded _ (done (slot_emptied loaded) word) (loads word)
+            (works_on code p ds w q [] loaded _ (done (slot_emptied loaded) word) (loads word)
             (Next [] loaded word false Unchanged)))
         | inr shares ↦
-            subst (WorksOn n [] code p ds v q) (ap (λ (b : Bool). cond b (done loaded word) loaded) (sym shares)) (loads
+            subst (WorksOn later n [] code p ds w q) (ap (λ (b : Bool). cond b (done loaded word) loaded) (sym shares))
+            (loads
             word)
       ]
 
   -- All that dies by it is closed.
   settles : (word : ℕ) (cs : List HostCall) (mid after : View) → HasWorked (released_locally v x word) [] [] mid
-      → HasWorked mid cs [] after → after.head ≡ 0 → Traces n cs code p ds v q [] after
+      → HasWorked mid cs [] after → after.head ≡ 0 → Traces n cs code p ds w q [] after
   settles word cs mid after released settled empty =
-      worked_off code p ds v q after (settled.agenda ∙ no_duty after.head) empty
-      (works_on code p ds v q [] mid cs after
-      (works_on code p ds v q [] (released_locally v x word) [] mid (stores word) released.works) settled.works)
+      worked_off code p ds w q after (settled.agenda ∙ no_duty after.head) empty
+      (works_on code p ds w q [] mid cs after
+      (works_on code p ds w q [] (released_locally v x word) [] mid (stores word) released.works) settled.works)
 
 -- A reference is given up: by the first duty of an instruction, or by the next one of the thread's agenda.
 pub releases : (x word : ℕ) (cs : List HostCall) (v mid after : View) → v.agenda ≡ []
@@ -97,7 +98,7 @@ releases x word cs v mid after none released settled empty =
     let rest = Settle ∷ [] in
     record {
       first = λ code place next holding is.
-          settles code place [] next holding x v (λ w.
+          settles code place [] v next holding x v true (λ w.
           traces_before code place place next [] [] _ v (releasing v x) _
           (turns_to code place [] (ReleaseLoad x AsCaller ∷ []) v references v.in_slot none)
           (starts_with code place (releasing v x) (ReleaseLoad x holding) (ReleaseLoad x AsCaller) rest [] w
@@ -105,7 +106,7 @@ releases x word cs v mid after none released settled empty =
           word cs mid after released settled empty;
       next = λ code place holding.
           let ds = ReleaseLoad x holding ∷ rest in
-          settles code place ds place holding x v (λ w.
+          settles code place ds v place holding x v true (λ w.
           traces_then code place place place ds ds _ v (releasing v x) _
           (turns_to code place ds (ReleaseLoad x AsCaller ∷ []) v references v.in_slot none)
           (continues_with code place (releasing v x) (ReleaseLoad x holding) (ReleaseLoad x AsCaller) rest [] w

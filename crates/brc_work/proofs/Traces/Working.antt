@@ -180,10 +180,11 @@ nothing_behind false = refl
 -- ---- duty after duty
 
 -- From view v and place p with duties ds, the hand has come to view u, with these calls of the host, and has begun this
--- many instructions. Its thread has the hand's duties there, and perhaps to settle behind them.
-pub record WorksOn (begun : ℕ) (cs : List HostCall) (code : List Instr) (p : Place) (ds : List Duty) (v : View)
-    (q : Place) (u : View) : Type 0 where
+-- many instructions. Its thread has the hand's duties there, and if `most` says so perhaps to settle behind them.
+pub record WorksOn (most : Bool) (begun : ℕ) (cs : List HostCall) (code : List Instr) (p : Place) (ds : List Duty)
+    (v : View) (q : Place) (u : View) : Type 0 where
   pub later : Bool
+  pub low : later ≡ true → most ≡ true
   pub traces : Traces begun cs code p ds v q (behind_of u.head u.agenda (settle_if later)) u
   pub off : are_off_slots u.agenda ≡ true
 
@@ -218,82 +219,7 @@ unslotted u (TakeSlot x) tail other = absurd (let wrong : true ≡ false = other
 unslotted u _ tail other = refl
 
 module _ {n : ℕ} (code : List Instr) (p : Place) (ds : List Duty) (v : View) (q : Place) where
-  -- After one duty more the thread still has the hand's duties.
-  pub goes_on : {cs : List HostCall} (u : View) (d e : Duty) (tail : List Duty) (found : ℕ) (later : Bool)
-      → IsSame u d e found
-      → (continuation u.layout u.thread (is_running u.status) u.head e found
-      ≡ continuation u.layout u.thread (is_running u.status) u.head d found)
-      → is_off_slots e ≡ true → takes_out e ≡ false → are_off_slots tail ≡ true
-      → Traces n cs code p ds v q (next_duties u d (tail ++ settle_if later) found) (did u (e ∷ tail) found)
-      → WorksOn n cs code p ds v q (did u (e ∷ tail) found)
-  goes_on u d e tail found later same next off other behind one =
-      let after = did u (e ∷ tail) found in
-      let more = continuation u.layout u.thread (is_running u.status) u.head e found in
-      let rest = settle_if later in
-      let head = new_head u.head e found in
-      let duties : next_duties u d (tail ++ rest) found ≡ behind_of head (ready head (more ++ tail)) rest =
-      ap (λ (h : ℕ). ready h (continuation u.layout u.thread (is_running u.status) u.head d found ++ (tail ++ rest)))
-      same.head
-      ∙ (ap (λ (es : List Duty). ready head (es ++ (tail ++ rest))) (sym next)
-      ∙ (ap (ready head) (sym (append_assoc more tail rest)) ∙ ready_behind head (more ++ tail) rest)) in
-      record {
-        later = later;
-        traces = with_duties code p q ds (next_duties u d (tail ++ rest) found) _ v after duties one;
-        off = ready_off head (more ++ tail)
-            (off_then more tail (next_off u.layout u.thread (is_running u.status) u.head e found off other) behind);
-      }
-
-  -- It is the first of its agenda.
-  continues_on : {cs : List HostCall} (u : View) (d : Duty) (tail : List Duty) (found : ℕ) (later : Bool)
-      → is_off_slots d ≡ true
-      → takes_out d ≡ false → are_off_slots tail ≡ true → Traces n cs code p ds v q (d ∷ (tail ++ settle_if later)) u
-      → WorksOn n cs code p ds v q (did u (d ∷ tail) found)
-  continues_on u d tail found later off other behind one =
-      let rest = tail ++ settle_if later in
-      let same = on_word u d found off other in
-      goes_on u d d tail found later same refl off other behind
-      (traces_behind code p q q ds (d ∷ rest) (next_duties u d rest found) v u (did u (d ∷ tail) found) one
-      (continues_with code q u d d rest tail found same (no_close d off)))
-
-  -- the thread's duties, where the hand's are these
-  with_agenda : {cs : List HostCall} (u : View) (es : List Duty) → u.agenda ≡ es → (on : WorksOn n cs code p ds v q u)
-      → Traces n cs code p ds v q (behind_of u.head es (settle_if on.later)) u
-  with_agenda u es is on =
-      with_duties code p q ds _ (behind_of u.head es (settle_if on.later)) v u
-      (ap (λ (fs : List Duty). behind_of u.head fs (settle_if on.later)) is) on.traces
-
-  plain_next : {cs : List HostCall} (u : View) (found : ℕ) (d : Duty) (tail : List Duty) → u.agenda ≡ d ∷ tail
-      → takes_out d ≡ false → WorksOn n cs code p ds v q u → WorksOn n cs code p ds v q (done (slot_emptied u) found)
-  plain_next {cs} u found d tail is other on =
-      let off : are_off_slots (d ∷ tail) ≡ true = ap are_off_slots (sym is) ∙ on.off in
-      let same : slot_emptied u ≡ u = ap (λ (es : List Duty). slot_emptied_by es u) is ∙ unslotted u d tail other in
-      subst (WorksOn n cs code p ds v q)
-      (sym (ap (λ (w : View). done w found) same ∙ does_first u found d tail is))
-      (continues_on u d tail found on.later (first_off d tail off) other (behind_off d tail off)
-      (with_agenda u (d ∷ tail) is on))
-
-  with_no_call : (cs : List HostCall) (u : View) → WorksOn n cs code p ds v q u → WorksOn n (cs ++ []) code p ds v q u
-  with_no_call cs u on = subst (λ (ks : List HostCall). WorksOn n ks code p ds v q u) (sym (append-nil cs)) on
-
-  next_by : (cs : List HostCall) (u : View) (found : ℕ) (failed : Bool) (es : List Duty) → u.agenda ≡ es
-      → WorksOn n cs code p ds v q u → WorksOn n (cs ++ closes_by es failed) code p ds v q (done (slot_emptied u) found)
-  next_by cs u found failed [] is on =
-      with_no_call cs (done (slot_emptied u) found)
-      (subst (WorksOn n cs code p ds v q)
-      (sym (ap (λ (w : View). done w found) (ap (λ (es : List Duty). slot_emptied_by es u) is)
-      ∙ does_nothing u found is))
-      on)
-  next_by cs u found failed (TakeSlot x ∷ tail) is on =
-      let off : are_off_slots (TakeSlot x ∷ tail) ≡ true = ap are_off_slots (sym is) ∙ on.off in
-      let rest = tail ++ settle_if on.later in
-      subst (WorksOn n (cs ++ Close failed ∷ []) code p ds v q)
-      (sym (ap (λ (es : List Duty). done (slot_emptied_by es u) found) is))
-      (continues_on u (SettleEnd x) tail found on.later refl refl (behind_off (TakeSlot x) tail off)
-      (calls_on cs (Close failed ∷ []) code p q q ds (TakeSlot x ∷ rest) (SettleEnd x ∷ rest) v u u
-      (with_agenda u (TakeSlot x ∷ tail) is on) (takes_slot code q u x failed rest)))
-  next_by cs u found failed (d ∷ tail) is on =
-      with_no_call cs (done (slot_emptied u) found) (plain_next u found d tail is refl on)
-
+  -- A thread with nothing to do, or to settle, settles next.
   settles_now : {cs : List HostCall} (u : View) (es : List Duty) → (es ≡ []) ⊎ (es ≡ Settle ∷ [])
       → Traces n cs code p ds v q es u → Traces n cs code p ds v q (Settle ∷ []) u
   settles_now u es (inl none) one =
@@ -307,37 +233,122 @@ module _ {n : ℕ} (code : List Instr) (p : Place) (ds : List Duty) (v : View) (
       traces_behind code p q q ds [] (Settle ∷ []) v u u (with_duties code p q ds es [] v u none one) begins
   settles_now u es (inr is) one = with_duties code p q ds es (Settle ∷ []) v u is one
 
-  comes_by : (cs : List HostCall) (u : View) (es : List Duty) → u.agenda ≡ es → WorksOn n cs code p ds v q u
-      → WorksOn n cs code p ds v q (settling u)
+module _ {most : Bool} {n : ℕ} (code : List Instr) (p : Place) (ds : List Duty) (v : View) (q : Place) where
+  -- After one duty more the thread still has the hand's duties.
+  pub goes_on : {cs : List HostCall} (u : View) (d e : Duty) (tail : List Duty) (found : ℕ) (later : Bool)
+      → (later ≡ true → most ≡ true)
+      → IsSame u d e found
+      → (continuation u.layout u.thread (is_running u.status) u.head e found
+      ≡ continuation u.layout u.thread (is_running u.status) u.head d found)
+      → is_off_slots e ≡ true → takes_out e ≡ false → are_off_slots tail ≡ true
+      → Traces n cs code p ds v q (next_duties u d (tail ++ settle_if later) found) (did u (e ∷ tail) found)
+      → WorksOn most n cs code p ds v q (did u (e ∷ tail) found)
+  goes_on u d e tail found later low same next off other behind one =
+      let after = did u (e ∷ tail) found in
+      let more = continuation u.layout u.thread (is_running u.status) u.head e found in
+      let rest = settle_if later in
+      let head = new_head u.head e found in
+      let duties : next_duties u d (tail ++ rest) found ≡ behind_of head (ready head (more ++ tail)) rest =
+      ap (λ (h : ℕ). ready h (continuation u.layout u.thread (is_running u.status) u.head d found ++ (tail ++ rest)))
+      same.head
+      ∙ (ap (λ (es : List Duty). ready head (es ++ (tail ++ rest))) (sym next)
+      ∙ (ap (ready head) (sym (append_assoc more tail rest)) ∙ ready_behind head (more ++ tail) rest)) in
+      record {
+        later = later;
+        low = low;
+        traces = with_duties code p q ds (next_duties u d (tail ++ rest) found) _ v after duties one;
+        off = ready_off head (more ++ tail)
+            (off_then more tail (next_off u.layout u.thread (is_running u.status) u.head e found off other) behind);
+      }
+
+  -- It is the first of its agenda.
+  continues_on : {cs : List HostCall} (u : View) (d : Duty) (tail : List Duty) (found : ℕ) (later : Bool)
+      → (later ≡ true → most ≡ true)
+      → is_off_slots d ≡ true
+      → takes_out d ≡ false → are_off_slots tail ≡ true → Traces n cs code p ds v q (d ∷ (tail ++ settle_if later)) u
+      → WorksOn most n cs code p ds v q (did u (d ∷ tail) found)
+  continues_on u d tail found later low off other behind one =
+      let rest = tail ++ settle_if later in
+      let same = on_word u d found off other in
+      goes_on u d d tail found later low same refl off other behind
+      (traces_behind code p q q ds (d ∷ rest) (next_duties u d rest found) v u (did u (d ∷ tail) found) one
+      (continues_with code q u d d rest tail found same (no_close d off)))
+
+  -- the thread's duties, where the hand's are these
+  pub with_agenda : {cs : List HostCall} (u : View) (es : List Duty) → u.agenda ≡ es
+      → (on : WorksOn most n cs code p ds v q u)
+      → Traces n cs code p ds v q (behind_of u.head es (settle_if on.later)) u
+  with_agenda u es is on =
+      with_duties code p q ds _ (behind_of u.head es (settle_if on.later)) v u
+      (ap (λ (fs : List Duty). behind_of u.head fs (settle_if on.later)) is) on.traces
+
+  plain_next : {cs : List HostCall} (u : View) (found : ℕ) (d : Duty) (tail : List Duty) → u.agenda ≡ d ∷ tail
+      → takes_out d ≡ false → WorksOn most n cs code p ds v q u → WorksOn most n cs code p ds v q
+      (done (slot_emptied u) found)
+  plain_next {cs} u found d tail is other on =
+      let off : are_off_slots (d ∷ tail) ≡ true = ap are_off_slots (sym is) ∙ on.off in
+      let same : slot_emptied u ≡ u = ap (λ (es : List Duty). slot_emptied_by es u) is ∙ unslotted u d tail other in
+      subst (WorksOn most n cs code p ds v q)
+      (sym (ap (λ (w : View). done w found) same ∙ does_first u found d tail is))
+      (continues_on u d tail found on.later on.low (first_off d tail off) other (behind_off d tail off)
+      (with_agenda u (d ∷ tail) is on))
+
+  with_no_call : (cs : List HostCall) (u : View) → WorksOn most n cs code p ds v q u
+      → WorksOn most n (cs ++ []) code p ds v q u
+  with_no_call cs u on = subst (λ (ks : List HostCall). WorksOn most n ks code p ds v q u) (sym (append-nil cs)) on
+
+  next_by : (cs : List HostCall) (u : View) (found : ℕ) (failed : Bool) (es : List Duty) → u.agenda ≡ es
+      → WorksOn most n cs code p ds v q u → WorksOn most n (cs ++ closes_by es failed) code p ds v q
+      (done (slot_emptied u) found)
+  next_by cs u found failed [] is on =
+      with_no_call cs (done (slot_emptied u) found)
+      (subst (WorksOn most n cs code p ds v q)
+      (sym (ap (λ (w : View). done w found) (ap (λ (es : List Duty). slot_emptied_by es u) is)
+      ∙ does_nothing u found is))
+      on)
+  next_by cs u found failed (TakeSlot x ∷ tail) is on =
+      let off : are_off_slots (TakeSlot x ∷ tail) ≡ true = ap are_off_slots (sym is) ∙ on.off in
+      let rest = tail ++ settle_if on.later in
+      subst (WorksOn most n (cs ++ Close failed ∷ []) code p ds v q)
+      (sym (ap (λ (es : List Duty). done (slot_emptied_by es u) found) is))
+      (continues_on u (SettleEnd x) tail found on.later on.low refl refl (behind_off (TakeSlot x) tail off)
+      (calls_on cs (Close failed ∷ []) code p q q ds (TakeSlot x ∷ rest) (SettleEnd x ∷ rest) v u u
+      (with_agenda u (TakeSlot x ∷ tail) is on) (takes_slot code q u x failed rest)))
+  next_by cs u found failed (d ∷ tail) is on =
+      with_no_call cs (done (slot_emptied u) found) (plain_next u found d tail is refl on)
+
+  comes_by : (cs : List HostCall) (u : View) (es : List Duty) → u.agenda ≡ es → WorksOn most n cs code p ds v q u
+      → WorksOn most n cs code p ds v q (settling u)
   comes_by cs u [] is on =
       let after = record u { agenda = Settle ∷ [] } in
-      subst (WorksOn n cs code p ds v q) (sym (ap (λ (es : List Duty). record u { agenda = settle_first es }) is))
+      subst (WorksOn most n cs code p ds v q) (sym (ap (λ (es : List Duty). record u { agenda = settle_first es }) is))
       (record {
         later = false;
+        low = λ wrong. absurd (let is : false ≡ true = wrong in cc);
         traces = traces_behind code p q q ds (Settle ∷ []) (Settle ∷ []) v u after
-            (settles_now u (ready u.head (settle_if on.later)) (settle_or_none u.head on.later)
+            (settles_now code p ds v q u (ready u.head (settle_if on.later)) (settle_or_none u.head on.later)
             (with_agenda u [] is on))
             (quietly code q (Settle ∷ []) u after refl refl refl refl);
         off = refl;
       })
   comes_by cs u (d ∷ tail) is on =
-      subst (WorksOn n cs code p ds v q)
+      subst (WorksOn most n cs code p ds v q)
       (sym (ap (λ (es : List Duty). record u { agenda = settle_first es }) is
       ∙ ap (λ (es : List Duty). record u { agenda = es }) (sym is))) on
 
   -- A hand that does duty after duty,
-  pub works_on : (cs : List HostCall) (u : View) (fs : List HostCall) (w : View) → WorksOn n cs code p ds v q u
+  pub works_on : (cs : List HostCall) (u : View) (fs : List HostCall) (w : View) → WorksOn most n cs code p ds v q u
       → Works u fs w
-      → WorksOn n (cs ++ fs) code p ds v q w
+      → WorksOn most n (cs ++ fs) code p ds v q w
   works_on cs u fs w on Unchanged = with_no_call cs u on
   works_on cs u fs w on (Next ks x found failed other) =
-      subst (λ (hs : List HostCall). WorksOn n hs code p ds v q (done (slot_emptied x) found))
+      subst (λ (hs : List HostCall). WorksOn most n hs code p ds v q (done (slot_emptied x) found))
       (append_assoc cs ks (closes_by x.agenda failed))
       (next_by (cs ++ ks) x found failed x.agenda refl (works_on cs u ks x on other))
   works_on cs u fs w on (Comes ks x other) = comes_by (cs ++ fs) x x.agenda refl (works_on cs u fs x on other)
 
   -- until nothing is left to do.
-  pub worked_off : {cs : List HostCall} (u : View) → u.agenda ≡ [] → u.head ≡ 0 → WorksOn n cs code p ds v q u
+  pub worked_off : {cs : List HostCall} (u : View) → u.agenda ≡ [] → u.head ≡ 0 → WorksOn most n cs code p ds v q u
       → Traces n cs code p ds v q [] u
   worked_off u none empty on =
       with_duties code p q ds (ready u.head (settle_if on.later)) [] v u

@@ -30,12 +30,12 @@ loop-host-preserved g c =
       rest = omega (arith, more, was.rest, ap length step);
       room = search (rules, was.room);
       each = λ k t below.
-          grown (λ i s. job s.heap.now s.checked.now.module s.function s.times s.thread
-          ≡ job heap c.args.checked.now.module c.args.function c.args.times (i + 1)) (vec_items c.loop-host.tasks)
+          grown (λ i s. job s.heap.now s.checked.now.module s.function s.times s.steps s.thread
+          ≡ job heap c.args.checked.now.module c.args.function c.args.times c.args.steps (i + 1)) (vec_items c.loop-host.tasks)
           (vec_items c.push.new.self) count added.0
-          (λ d. subst (λ s. job s.heap.now s.checked.now.module s.function s.times s.thread
-          ≡ job heap c.args.checked.now.module c.args.function c.args.times (count + 1))
+          (λ d. subst (λ s. job s.heap.now s.checked.now.module s.function s.times s.steps s.thread
+          ≡ job heap c.args.checked.now.module c.args.function c.args.times c.args.steps (count + 1))
           (sym (added.1 d (search rules)))
-          (ap (job heap c.args.checked.now.module c.args.function c.args.times) was.number))
+          (ap (job heap c.args.checked.now.module c.args.function c.args.times c.args.steps) was.number))
           was.each k t (omega (arith, below, more));
     }

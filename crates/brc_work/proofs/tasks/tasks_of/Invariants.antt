@@ -19,6 +19,6 @@ invariant-loop-host g l = record {
   rest : vec_len l.tasks + length (iter_mut_rest l.host-iterator) ≡ length (iter_mut_rest l.initial.host-iterator);
   room : length (iter_mut_rest l.initial.host-iterator) ≤ vec_capacity l.tasks;
   each : (k : ℕ) (t : _) → k < vec_len l.tasks → let task = get_or (vec_items l.tasks) k t in
-      job task.heap.now task.checked.now.module task.function task.times task.thread
-      ≡ job l.heap l.checked.module l.function l.times (k + 1);
+      job task.heap.now task.checked.now.module task.function task.times task.steps task.thread
+      ≡ job l.heap l.checked.module l.function l.times l.steps (k + 1);
 }

@@ -13,7 +13,7 @@ loop-begun-preserved g c =
     let step = c.in-Some.ensures.steps in
     let left = vec_len c.loop-begun.answer in
     let added = c.push.ensures.by_index in
-    let job_of = job c.args.heap.now c.args.checked.now.module c.args.function c.args.times in
+    let job_of = job c.args.heap.now c.args.checked.now.module c.args.function c.args.times c.args.steps in
     let begun = c.in-Some.begun in
     let first = into_iter_items c.into_iter-begun-iterator.result in
     let began = c.into_iter-begun-iterator.ensures.into_iter_gives in
@@ -23,9 +23,9 @@ loop-begun-preserved g c =
     sym (subst (λ xs. begun ≡ get_or xs left begun) began.0 here) in
     let facts =
     subst (λ b. IfOk b (λ s. let promise = s.promise in
-    job promise.heap.value promise.checked.value.module promise.function promise.times promise.thread
+    job promise.heap.value promise.checked.value.module promise.function promise.times promise.steps promise.thread
     ≡ job_of (left + 1))
-    × IfErr b (λ done. Ends g.H.Host.answers g.H.Host.counts (job_of (left + 1)) done.hand done.totals done.called))
+    × IfErr b (λ done. Ends g.H.Host.answers g.H.Host.counts (job_of (left + 1)) done.hand done.ran done.called))
     same
     (c.requires.begun left begun (omega (arith, was.passed, step.1, began.1))) in
     let done = c.left_by-done.result in
@@ -46,7 +46,7 @@ loop-begun-preserved g c =
       ends = λ k w below.
           pushed (λ i v. Ends g.H.Host.answers g.H.Host.counts (job_of (i + 1)) v.0 v.1 all) (vec_items
           c.loop-begun.answer)
-          (vec_items c.push.new.self) left (done.hand, done.totals)
+          (vec_items c.push.new.self) left (done.hand, done.ran)
           added.0 (λ d. added.1 d (search rules))
           (λ i d low. ends_among before (was.ends i d low)) (ends_among this now) k w (omega (arith, below, grown));
     }

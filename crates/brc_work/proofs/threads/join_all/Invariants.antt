@@ -11,6 +11,6 @@ invariant-loop-begun g l = record {
   place : (k : ℕ) (b : _) → k < into_iter_len l.begun-iterator → get_or (into_iter_items l.begun-iterator) k b
       ≡ get_or (into_iter_items l.initial.begun-iterator) (vec_len l.answer + k) b;
   ends : (k : ℕ) (w : _) → k < vec_len l.answer → Ends g.H.Host.answers g.H.Host.counts
-      (job l.fn.heap l.fn.checked.module l.fn.function l.fn.times (k + 1))
+      (job l.fn.heap l.fn.checked.module l.fn.function l.fn.times l.fn.steps (k + 1))
       (get_or (vec_items l.answer) k w).0 (get_or (vec_items l.answer) k w).1 l.called;
 }

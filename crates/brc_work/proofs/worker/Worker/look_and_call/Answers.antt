@@ -1,9 +1,8 @@
-use Rattle.std.proofs.Common.{sym, ap, ◌∙◌}
+use Rattle.std.proofs.Common.{refl, sym, ap, ◌∙◌}
 use Rattle.brc_queue.specs.Scans.{LooksThrough}
 use Rattle.brc_table.specs.Hands.{TableState}
 use Rattle.brc_work.proofs.Calling.{looked_called, called_then}
 use Rattle.brc_work.proofs.Counting.{looks_close, asked_closes, asked_then}
-use Rattle.brc_work.proofs.Traces.Calls.{one_call}
 use Rattle.brc_work.proofs.worker.Worker.look_and_call.Goals as goal
 
 pub returns-clause-called : goal.returns-clause-called
@@ -20,7 +19,14 @@ returns-clause-called g c =
 pub returns-clause-asked : goal.returns-clause-asked
 returns-clause-asked g c =
     let work = c.merge_pending-failed.ensures.work in
-    asked_then (λ cs ds looks makes. (makes.0, one_call _ _ _ _ makes.0 cs ds looks makes.1))
+    asked_then (λ cs ds looks makes. record {
+      looked = c.merge_pending-failed.new.hand.view;
+      closes = cs;
+      within = ds;
+      calls_are = refl;
+      looks = looks;
+      called = makes;
+    })
     (asked_closes {Made = λ cs. LooksThrough c.args.hand.now.view c.args.hand.now.view.used cs
     c.merge_pending-failed.new.hand.view} work.0 c.merge_pending-failed.result (looks_close _ _ _ work.0 work.1) work.2
     c.count_close_faults.ensures work.3 work.1)

@@ -61,3 +61,7 @@ pub returns-clause-made : goal.returns-clause-made
 returns-clause-made g c =
     makes_unlock c.args.object c.row_in-row.result _ c.args.rows.now c.args.hand.now.view c.unlock.new.hand.view
     c.requires.may.fits.rests.agenda c.row_in-row.ensures c.unlock.ensures.events
+
+pub returns-clause-unlocks : goal.returns-clause-unlocks
+returns-clause-unlocks g c =
+    record { row = c.row_in-row.result; found = _; names = c.row_in-row.ensures; is = c.unlock.ensures.events }

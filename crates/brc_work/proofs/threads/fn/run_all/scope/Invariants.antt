@@ -12,8 +12,8 @@ invariant-loop-task g l = record {
       ≡ get_or (into_iter_items l.initial.task-iterator) (vec_len l.threads + k) t;
   begun : (k : ℕ) (b : _) → k < vec_len l.threads → IfOk (get_or (vec_items l.threads) k b)
       (λ s. let promise = s.promise in
-      job promise.heap.value promise.checked.value.module promise.function promise.times promise.thread
-      ≡ job l.heap l.checked.module l.function l.times (k + 1))
+      job promise.heap.value promise.checked.value.module promise.function promise.times promise.steps promise.thread
+      ≡ job l.heap l.checked.module l.function l.times l.steps (k + 1))
       × IfErr (get_or (vec_items l.threads) k b) (λ done. Ends g.H.Host.answers g.H.Host.counts
-      (job l.heap l.checked.module l.function l.times (k + 1)) done.hand done.totals done.called);
+      (job l.heap l.checked.module l.function l.times l.steps (k + 1)) done.hand done.ran done.called);
 }
