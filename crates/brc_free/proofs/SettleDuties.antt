@@ -12,8 +12,8 @@ use Rattle.brc_model.specs.Duties.{ready, has_resource, cells_of, cells_from, re
 use Rattle.brc_table.specs.declared.view.View.{View}
 use Rattle.brc_table.specs.Views.{RowsAreThere, did, done, settling, settle_first, slot_emptied, slot_emptied_by}
 use Rattle.brc_table.specs.Calls.{MaySettle, SettlesFrom}
-use Rattle.brc_free.specs.Works.{Works, Begun, Next, Comes, Keeps, HasWorked, ComesToSettle, AtOnce, InWork, closes_by}
-use Rattle.brc_free.proofs.Working.{head_unlocked, gate_apart, keeps_beside, keeps_then, did_keeps, worked_on, worked_then}
+use Rattle.brc_free.specs.Works.{Works, Next, Keeps, HasWorked, ComesToSettle, AtOnce, InWork, to_settle, closes_by}
+use Rattle.brc_free.proofs.Working.{head_unlocked, gate_apart, keeps_beside, keeps_then, did_keeps, worked_first, worked_on, worked_then}
 use Rattle.brc_free.proofs.FirstDuties.{settle_kind_first, settle_cell_first, take_slot_first, settle_end_first}
 
 -- ---- taking the first object off the chain
@@ -44,20 +44,22 @@ settles_first v rest some (AtOnce running aside idle) = ap settle_first idle
 settles_first v rest some (InWork duties alive next) =
     ap settle_first (next ∙ settle_ready v.head duties some)
 
-comes : (v : View) (rest : List Duty) → 0 < v.head → ComesToSettle v rest → HasWorked v [] (Settle ∷ rest) (settling v)
-comes v rest some at = record {
-  agenda = settles_first v rest some at ∙ sym (settle_ready v.head rest some);
-  works = Comes [] v Begun;
-  keeps = keeps_beside v (settle_first v.agenda);
-}
+-- With an object in the chain, the hand that begins to settle is the hand that settles next.
+to_settle_begins : (v : View) (rest : List Duty) → 0 < v.head → ComesToSettle v rest → settling v ≡ to_settle rest v
+to_settle_begins v rest some at =
+    ap (λ (ds : List Duty). record v { agenda = ds })
+    (settles_first v rest some at ∙ sym (settle_ready v.head rest some))
 
 -- The first object is off the chain.
 pub taken_off : (v w : View) (x found : ℕ) (rest : List Duty) → 0 < v.head → x ≡ v.head - 1 → ComesToSettle v rest
-    → w ≡ done (settling v) found → RowsAreThere v → HasWorked v [] (SettleKind x ∷ Settle ∷ rest) w
+    → w ≡ done (settling v) found → RowsAreThere v
+    → HasWorked (to_settle rest v) [] (SettleKind x ∷ Settle ∷ rest) w
 taken_off v w x found rest some row at is there =
     let apart = head_unlocked v (v.head - 1) there some refl in
-    worked_on v (settling v) w [] Settle rest (SettleKind x ∷ Settle ∷ rest) found (comes v rest some at)
-    (settle_ready v.head rest some) refl refl is
+    let begun = to_settle rest v in
+    worked_on begun begun w [] Settle rest (SettleKind x ∷ Settle ∷ rest) found
+    (worked_first begun (Settle ∷ rest) refl) (settle_ready v.head rest some) refl refl
+    (is ∙ ap (λ (z : View). done z found) (to_settle_begins v rest some at))
     (record {
       status = refl;
       used = refl;
@@ -221,3 +223,13 @@ pub settled : (u : View) (rest : List Duty) → u.head ≡ 0 → ComesToSettle u
 settled u rest none (AtOnce running aside idle) = idle
 settled u rest none (InWork duties alive next) =
     next ∙ (ap (λ (head : ℕ). ready head (Settle ∷ duties)) none ∙ sym (ap (λ (head : ℕ). ready head duties) none))
+
+-- If to settle is what the hand does next, `to_settle` leaves it as it is,
+pub to_settle_next : (u : View) (rest : List Duty) → u.agenda ≡ ready u.head (Settle ∷ rest) → to_settle rest u ≡ u
+to_settle_next u rest next = ap (λ (ds : List Duty). record u { agenda = ds }) (sym next)
+
+-- and so it does if the chain is empty.
+pub to_settle_none : (u : View) (rest : List Duty) → u.head ≡ 0 → ComesToSettle u rest → to_settle rest u ≡ u
+to_settle_none u rest none (AtOnce running aside idle) =
+    to_settle_next u [] (idle ∙ sym (ap (λ (head : ℕ). ready head (Settle ∷ [])) none))
+to_settle_none u rest none (InWork duties alive next) = to_settle_next u duties next

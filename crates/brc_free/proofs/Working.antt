@@ -13,7 +13,7 @@ use Rattle.brc_table.specs.declared.view.View.{View}
 use Rattle.brc_table.specs.Views.{RowsAreThere, did, done, slot_emptied, slot_emptied_by}
 use Rattle.brc_heap.proofs.Sight.{StaysOff, away_off, did_sight}
 use Rattle.brc_heap.proofs.Leaving.{is_plain, plain_keeps}
-use Rattle.brc_free.specs.Works.{Works, Begun, Next, Comes, Keeps, HasWorked, closes_by}
+use Rattle.brc_free.specs.Works.{Works, Begun, Next, Keeps, HasWorked, closes_by}
 
 -- ---- what is kept
 
@@ -162,7 +162,6 @@ works_then v u w cs ds one (Next es z found failed other) =
     subst (λ (fs : List HostCall). Works v fs (done (slot_emptied z) found))
     (append_assoc cs es (closes_by z.agenda failed))
     (Next (cs ++ es) z found failed (works_then v u z cs es one other))
-works_then v u w cs ds one (Comes es z other) = Comes (cs ++ ds) z (works_then v u z cs ds one other)
 
 -- The same of what comes next.
 pub worked_then : (v u w : View) (cs fs : List HostCall) (ds es : List Duty) → HasWorked v cs ds u → HasWorked u fs es w
@@ -192,4 +191,3 @@ works_close v u cs (Next closes z found failed other) =
       by_closes [] failed = refl
       by_closes (TakeSlot x ∷ rest) failed = refl
       by_closes (d ∷ rest) failed = refl
-works_close v u cs (Comes closes z other) = works_close v z closes other

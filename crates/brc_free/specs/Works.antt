@@ -12,7 +12,7 @@ use Rattle.brc_model.specs.Duties.{ready, once_merged, cells_from}
 use Rattle.brc_table.specs.declared.view.View.{View}
 use Rattle.brc_model.specs.OpenWork.{is_about}
 use Rattle.brc_table.specs.Seen.{has_seen_kind, cell_seen}
-use Rattle.brc_table.specs.Views.{done, settling, slot_emptied, without_reference, open_work}
+use Rattle.brc_table.specs.Views.{done, slot_emptied, without_reference, open_work}
 use Rattle.brc_free.specs.declared.giving_up.Tried.{Tried}
 use Rattle.brc_free.specs.declared.giving_up.Tried.TheVariants as tried
 
@@ -29,8 +29,6 @@ pub data Works (v : View) : List HostCall → View → Type 0 where
   Begun : Works v [] v
   Next : (closes : List HostCall) (u : View) (found : ℕ) (failed : Bool) → Works v closes u
       → Works v (closes ++ closes_by u.agenda failed) (done (slot_emptied u) found)
-  -- with nothing to do, it begins to settle its chain
-  Comes : (closes : List HostCall) (u : View) → Works v closes u → Works v closes (settling u)
 
 -- What no such work changes. The hand has seen the kinds that it had seen, and of the cells of the list that it has
 -- locked what it had seen.
@@ -109,6 +107,10 @@ pub record ReleasesNext (x : ℕ) (ds : List Duty) : Type 0 where
 pub data ComesToSettle (v : View) : List Duty → Type 0 where
   AtOnce : v.status ≡ Running → v.aside ≡ [] → v.agenda ≡ [] → ComesToSettle v []
   InWork : (rest : List Duty) → v.status ≢ Gone → v.agenda ≡ ready v.head (Settle ∷ rest) → ComesToSettle v rest
+
+-- the hand where to settle is what it does next, and the duties `rest` come then; an empty chain needs no settling
+abbrev pub to_settle : List Duty → View → View
+to_settle rest v = record v { agenda = ready v.head (Settle ∷ rest) }
 
 -- The next duties are to empty the n cells of the list of row x and to close it.
 pub record EmptiesNext (x n : ℕ) (ds : List Duty) : Type 0 where

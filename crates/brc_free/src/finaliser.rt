@@ -9,7 +9,7 @@ ghost use Rattle.brc_model.specs.declared.duty.Duty.TheVariants.{Settle, SettleE
 ghost use Rattle.brc_model.specs.Duties.{has_resource, cells_of, cells_from};
 ghost use Rattle.brc_table.specs.Hands.{IsOf};
 ghost use Rattle.brc_table.specs.Uses.{FirstSlot, behind_slot};
-ghost use Rattle.brc_free.specs.Works.{HasWorked, ComesToSettle, EmptiesNext, CellNext, TakesNext, ClaimedNext, behind, cells_left, claimed_left};
+ghost use Rattle.brc_free.specs.Works.{HasWorked, ComesToSettle, to_settle, EmptiesNext, CellNext, TakesNext, ClaimedNext, behind, cells_left, claimed_left};
 
 use crate::merging::merge;
 use brc_heap::{Hand, Heap, Marker};
@@ -94,7 +94,8 @@ impl<'h, T: Drop, Q: Marker<T>> Finaliser<'h, T, Q> {
         ensures slots { hand.new.slots ≡ hand.old.slots }
         ensures chain { hand.new.view.head ≡ 0 }
         ensures work { (rest : List Duty) → ComesToSettle hand.old.view rest → (closes : List HostCall)
-            × HasWorked hand.old.view closes rest hand.new.view × (result ≡ raised (close_faults closes) 0)
+            × HasWorked (to_settle rest hand.old.view) closes rest hand.new.view
+            × (result ≡ raised (close_faults closes) 0)
             × HasAnswered H.answers H.counts host.old closes host.new }
     {
         let mut failed: u64 = 0;
@@ -147,7 +148,8 @@ impl<'h, T: Drop, Q: Marker<T>> Finaliser<'h, T, Q> {
         ensures carried { hand.new.carried ≡ hand.old.carried }
         ensures slots { hand.new.slots ≡ hand.old.slots }
         ensures work { (rest : List Duty) → ComesToSettle hand.old.view rest → (closes : List HostCall)
-            × HasWorked hand.old.view closes (Settle ∷ rest) hand.new.view × (result ≡ close_faults closes)
+            × HasWorked (to_settle rest hand.old.view) closes (Settle ∷ rest) hand.new.view
+            × (result ≡ close_faults closes)
             × HasAnswered H.answers H.counts host.old closes host.new }
     {
         hand.rows_are_there();

@@ -12,7 +12,7 @@ use Rattle.brc_table.specs.declared.view.View.{View}
 use Rattle.brc_table.specs.Views.{did, done, open_work, without_one, without_reference}
 use Rattle.brc_table.specs.Calls.{IsFree, MayLeave}
 use Rattle.brc_heap.proofs.Handing.{root_counted}
-use Rattle.brc_free.specs.Works.{HasWorked, ComesToSettle, AtOnce}
+use Rattle.brc_free.specs.Works.{HasWorked, ComesToSettle, AtOnce, to_settle}
 
 -- With no other work, nothing is aside after the release of the root.
 pub nothing_aside : (v : View) (x : ℕ) → v.agenda ≡ [] → v.aside ≡ []
@@ -38,7 +38,8 @@ holds_none v u root is =
 -- Once it has settled it may leave.
 pub may_leave : (v u w : View) (cs : List HostCall) → IsFree v → v.references ≡ root_row ∷ [] → u.status ≡ v.status
     → u.aside ≡ filter (λ d. not (is_about root_row d)) (open_work v)
-    → u.references ≡ without_reference v.layout root_row v.references → HasWorked u cs [] w → w.head ≡ 0 → MayLeave w
+    → u.references ≡ without_reference v.layout root_row v.references → HasWorked (to_settle [] u) cs [] w → w.head ≡ 0
+    → MayLeave w
 may_leave v u w cs free root same aside references at empty = record {
   free = record {
     running = at.keeps.status ∙ (same ∙ free.running);

@@ -8,7 +8,7 @@ use Rattle.brc_model.specs.Duties.{ready}
 use Rattle.brc_table.specs.declared.view.View.{View}
 use Rattle.brc_table.specs.Views.{done, claiming, leaving}
 use Rattle.brc_heap.specs.Calls.{released_locally}
-use Rattle.brc_free.specs.Works.{HasWorked}
+use Rattle.brc_free.specs.Works.{HasWorked, to_settle}
 
 -- The hand has taken the mark of the row at index i of its block. Where the mark was set, it has merged the object, given
 -- up the reference that was handed over with it, and settled, with these closes of the host.
@@ -38,9 +38,9 @@ abbrev pub scan_left : List Duty → List Duty
 scan_left (Scan i n ∷ rest) = Scan (i + 1) (n - 1) ∷ rest
 scan_left _ = []
 
--- The hand has left: it has given up the reference to the root, settled, said that it leaves, scanned the marks of its
--- rows, each mark that was set followed by the merge, the release and the settling, and said that it is gone. By this it
--- has made these closes of the host.
+-- The hand has left: it has given up the reference to the root; then settled, in no step if its chain was empty; said
+-- that it leaves; scanned the marks of its rows, each mark that was set followed by the merge, the release and the
+-- settling; and said that it is gone. By this it has made these closes of the host.
 pub record HasLeft (closes : List HostCall) (v w : View) : Type 0 where
   pub word : ℕ
   pub released : View
@@ -50,7 +50,7 @@ pub record HasLeft (closes : List HostCall) (v w : View) : Type 0 where
   pub later : List HostCall
   pub closes_are : closes ≡ first ++ later
   pub releases : HasWorked (released_locally v root_row word) [] [] released
-  pub settles : HasWorked released first [] settled
+  pub settles : HasWorked (to_settle [] released) first [] settled
   pub empty : settled.head ≡ 0
   pub scans : HasWorked (done (leaving settled) 1) later (Finish ∷ []) scanned
   pub gone : w ≡ done scanned 2

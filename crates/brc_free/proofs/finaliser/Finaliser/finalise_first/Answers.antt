@@ -5,7 +5,7 @@ use Rattle.brc_model.specs.Duties.{has_resource, cells_from}
 use Rattle.brc_table.specs.declared.view.View.{View}
 use Rattle.brc_table.specs.Hands.{TableState}
 use Rattle.brc_table.specs.Calls.{LoadsDyingKind, ClosesRow}
-use Rattle.brc_free.specs.Works.{HasWorked, ComesToSettle, behind}
+use Rattle.brc_free.specs.Works.{HasWorked, ComesToSettle, to_settle, behind}
 use Rattle.brc_free.proofs.FirstDuties.{settle_kind_first, take_slot_first, settle_end_first}
 use Rattle.brc_free.proofs.Working.{head_unlocked, worked_call}
 use Rattle.brc_free.proofs.SettleDuties.{comes_alive, taken_off, kind_has_resource, cells_next, cells_first, all_emptied, ended}
@@ -16,7 +16,8 @@ use Rattle.brc_free.proofs.finaliser.Finaliser.finalise_first.Goals as goal
 
 -- The object is off the chain, and its kind is loaded next.
 off : (g : given.Over) (c : After-dying_kind_load-kind g) (rest : List Duty) → ComesToSettle c.args.hand.now.view rest
-    → HasWorked c.args.hand.now.view [] (SettleKind (c.head-row.result - 1) ∷ Settle ∷ rest) c.gate_load.new.hand.view
+    → HasWorked (to_settle rest c.args.hand.now.view) [] (SettleKind (c.head-row.result - 1) ∷ Settle ∷ rest)
+    c.gate_load.new.hand.view
 off g c rest comes =
     taken_off _ _ _ c.gate_load.result rest c.requires.chain (ap (λ (n : ℕ). n - 1) c.head-row.ensures) comes
     c.gate_load.ensures.view c.rows_are_there.ensures
@@ -24,7 +25,7 @@ off g c rest comes =
 -- An object that has a resource: it is taken out of its slot next.
 resource : (g : given.Over) (c : After-dying_kind_load-kind g) (rest : List Duty)
     → ComesToSettle c.args.hand.now.view rest → has_resource c.dying_kind_load-kind.result ≡ true
-    → HasWorked c.args.hand.now.view [] (TakeSlot (c.head-row.result - 1) ∷ Settle ∷ rest)
+    → HasWorked (to_settle rest c.args.hand.now.view) [] (TakeSlot (c.head-row.result - 1) ∷ Settle ∷ rest)
     c.dying_kind_load-kind.new.hand.view
 resource g c rest comes has =
     kind_has_resource _ _ _ [] _ c.dying_kind_load-kind.result (Settle ∷ rest) (off g c rest comes)
@@ -32,7 +33,8 @@ resource g c rest comes has =
 
 -- Any other object: its cells are emptied next.
 cells : (g : given.Over) (c : After-cells_of g) (rest : List Duty) → ComesToSettle c.args.hand.now.view rest
-    → HasWorked c.args.hand.now.view [] (cells_from (c.head-row.result - 1) 0 c.cells_of.result ++ Settle ∷ rest)
+    → HasWorked (to_settle rest c.args.hand.now.view) []
+    (cells_from (c.head-row.result - 1) 0 c.cells_of.result ++ Settle ∷ rest)
     c.dying_kind_load-kind.new.hand.view
 cells g c rest comes =
     cells_next _ _ _ _ c.dying_kind_load-kind.result _ rest
@@ -45,7 +47,7 @@ empty : (g : given.Over) (c : After-cells_of g) (w : View) (rest : List Duty)
     ≡ cells_from (c.head-row.result - 1) 0 c.cells_of.result ++ later
     → HasWorked c.dying_kind_load-kind.new.hand.view [] (SettleEnd (c.head-row.result - 1) ∷ later) w)
     → ComesToSettle c.args.hand.now.view rest
-    → HasWorked c.args.hand.now.view [] (SettleEnd (c.head-row.result - 1) ∷ Settle ∷ rest) w
+    → HasWorked (to_settle rest c.args.hand.now.view) [] (SettleEnd (c.head-row.result - 1) ∷ Settle ∷ rest) w
 empty g c w rest emptied comes = all_emptied _ _ w _ c.cells_of.result rest (cells g c rest comes) emptied
 
 pub dying_kind_load-kind-requires-clause-duty : goal.dying_kind_load-kind-requires-clause-duty

@@ -7,6 +7,7 @@ use Rattle.brc_table.specs.declared.view.View.{View}
 use Rattle.brc_free.specs.Works.{HasWorked, ComesToSettle, InWork, ClaimedNext, behind, merge_left, claimed_left}
 use Rattle.brc_free.proofs.FirstDuties.{shared_load_first}
 use Rattle.brc_free.proofs.Working.{worked_then, worked_call}
+use Rattle.brc_free.proofs.SettleDuties.{to_settle_next}
 use Rattle.brc_free.proofs.finaliser.Finaliser.merge_claimed.Goals as goal
 
 -- The object is merged and its handed reference given up, so that the hand settles next.
@@ -31,13 +32,15 @@ settle-requires-clause-duty g c = λ κs lives. (
 pub returns-clause-work : goal.returns-clause-work
 returns-clause-work g c =
     let v = c.args.hand.now.view in
+    let w = c.give_up.new.hand.view in
     let z = c.settle.new.hand.view in
     let rest = c.requires.duty.rest in
     let at = given_up _ _ _ c.args.row c.requires.duty c.merge.ensures.work c.give_up.ensures.work in
-    let ends = c.settle.ensures.work rest (comes _ _ rest c.requires.alive at) in (
+    let ends = c.settle.ensures.work rest (comes _ _ rest c.requires.alive at) in
+    let settles = subst (λ (u : View). HasWorked u ends.0 rest z) (to_settle_next w rest at.agenda) ends.1 in (
       ends.0,
       subst (λ (ds : List Duty). HasWorked v ends.0 ds z) (sym (ap claimed_left c.requires.duty.next))
-          (worked_then v _ z [] ends.0 (Settle ∷ rest) rest at ends.1),
+          (worked_then v w z [] ends.0 (Settle ∷ rest) rest at settles),
       ends.2,
       ends.3,
     )

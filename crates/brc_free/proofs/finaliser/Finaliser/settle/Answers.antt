@@ -1,10 +1,11 @@
-use Rattle.std.proofs.Common.{ℕ, ◌+◌, [], ◌++◌, refl, sym, ap, ◌∙◌}
+use Rattle.std.proofs.Common.{ℕ, ◌+◌, [], ◌∷◌, ◌++◌, refl, sym, ap, ◌∙◌, subst}
 use Rattle.brc_host.specs.HostCounts.{count_limit, raised}
 use Rattle.brc_host.specs.HostCalls.{NoCall, close_faults}
 use Rattle.brc_host.proofs.Answering.{answered_then, close_faults_then}
-use Rattle.brc_free.specs.Works.{Begun, InWork}
-use Rattle.brc_free.proofs.Working.{keeps_first, keeps_then, works_then}
-use Rattle.brc_free.proofs.SettleDuties.{comes_alive, settled}
+use Rattle.brc_model.specs.declared.duty.Duty.TheVariants.{Settle}
+use Rattle.brc_free.specs.Works.{HasWorked, InWork, to_settle}
+use Rattle.brc_free.proofs.Working.{worked_first, worked_then}
+use Rattle.brc_free.proofs.SettleDuties.{comes_alive, settled, to_settle_next, to_settle_none}
 use Rattle.brc_free.proofs.Closes.{sums}
 use Rattle.brc_free.proofs.finaliser.Finaliser.settle.Goals as goal
 
@@ -18,8 +19,7 @@ loop-init g c =
         comes,
         (
           [],
-          Begun,
-          keeps_first v,
+          worked_first (to_settle rest v) (Settle ∷ rest) refl,
           refl,
           NoCall,
         ),
@@ -30,17 +30,19 @@ pub returns-then-head-eq0-clause-table : goal.returns-then-head-eq0-clause-table
 returns-then-head-eq0-clause-table g c =
     let (rest, comes) = c.requires.duty in
     let kept = c.loop.invariant in
-    (kept.0 ∙ c.requires.table.0, (kept.3 rest comes).1.2.layout ∙ c.requires.table.1)
+    (kept.0 ∙ c.requires.table.0, (kept.3 rest comes).1.1.keeps.layout ∙ c.requires.table.1)
 
 pub returns-then-head-eq0-clause-work : goal.returns-then-head-eq0-clause-work
 returns-then-head-eq0-clause-work g c = λ rest comes.
     let u = c.loop.hand.view in
     let kept = c.loop.invariant.3 rest comes in
-    let empty = sym c.head.ensures ∙ c.if-head-eq0.true in (
+    let empty = sym c.head.ensures ∙ c.if-head-eq0.true in
+    let stands = subst (HasWorked (to_settle rest c.args.hand.now.view) kept.1.0 (Settle ∷ rest))
+    (to_settle_none u rest empty kept.0) kept.1.1 in (
       kept.1.0,
-      record { agenda = settled u rest empty kept.0; works = kept.1.1; keeps = kept.1.2 },
+      record { agenda = settled u rest empty kept.0; works = stands.works; keeps = stands.keeps },
+      kept.1.2,
       kept.1.3,
-      kept.1.4,
     )
 
 pub loop-preserved : goal.loop-preserved
@@ -60,13 +62,15 @@ loop-preserved g c =
             InWork rest (λ gone. comes_alive u rest before.0 (sym after.1.keeps.status ∙ gone)) after.1.agenda,
             (
               before.1.0 ++ after.0,
-              works_then v u w before.1.0 after.0 before.1.1 after.1.works,
-              keeps_then v u w before.1.2 after.1.keeps,
+              subst (HasWorked (to_settle rest v) (before.1.0 ++ after.0) (Settle ∷ rest))
+                  (sym (to_settle_next w rest after.1.agenda))
+                  (worked_then (to_settle rest v) (to_settle rest u) w before.1.0 after.0 (Settle ∷ rest)
+                  (Settle ∷ rest) before.1.1 after.1),
               c.saturating_add-failed.ensures
-                  ∙ (sums count_limit c.loop.failed more (close_faults before.1.0) before.1.3
+                  ∙ (sums count_limit c.loop.failed more (close_faults before.1.0) before.1.2
                   ∙ ap (λ (n : ℕ). raised n 0)
                   (ap (λ (n : ℕ). close_faults before.1.0 + n) after.2 ∙ sym (close_faults_then before.1.0 after.0))),
-              answered_then before.1.4 after.3,
+              answered_then before.1.3 after.3,
             ),
           ),
     )

@@ -8,7 +8,7 @@ use Rattle.brc_table.specs.declared.view.View.{View}
 use Rattle.brc_table.specs.Views.{did}
 use Rattle.brc_table.specs.Hands.{TableState}
 use Rattle.brc_table.specs.Calls.{MayLeave}
-use Rattle.brc_free.specs.Works.{HasWorked, ComesToSettle}
+use Rattle.brc_free.specs.Works.{HasWorked, ComesToSettle, to_settle}
 use Rattle.brc_free.proofs.Closes.{sums_both}
 use Rattle.brc_queue.proofs.Exits.{comes_at_once, may_leave, finished}
 use Rattle.brc_queue.proofs.queue.Queue.leave.Given as given
@@ -23,7 +23,8 @@ comes g c =
 
 -- It has settled: nothing comes next.
 settled : (g : given.Over) (c : After-settle-failed g)
-    → (closes : List HostCall) × HasWorked c.release.new.hand.view closes [] c.settle-failed.new.hand.view
+    → (closes : List HostCall)
+    × HasWorked (to_settle [] c.release.new.hand.view) closes [] c.settle-failed.new.hand.view
 settled g c = let work = c.settle-failed.ensures.work [] (comes g c) in (work.0, work.1)
 
 -- So it may leave.
@@ -31,8 +32,8 @@ may : (g : given.Over) (c : After-settle-failed g) → MayLeave c.settle-failed.
 may g c =
     let released = c.release.ensures.released in
     let work = settled g c in
-    may_leave c.args.hand.now.view _ _ work.0 c.requires.free c.requires.root released.status released.aside
-    released.references work.1 c.settle-failed.ensures.chain
+    may_leave c.args.hand.now.view c.release.new.hand.view _ work.0 c.requires.free c.requires.root released.status
+    released.aside released.references work.1 c.settle-failed.ensures.chain
 
 -- The word that it is gone is its last step.
 ends : (g : given.Over) (c : After-thread_gone g)
