@@ -26,7 +26,7 @@ use Rattle.brc_model.specs.Threads.{code_of}
 use Rattle.brc_model.specs.Trace.{WordEvent, is_word, MakesStep, GoesSilently, CallsHost, DoesDuty, CanMake, Nothing, Then}
 use Rattle.brc_model.specs.Trace as model
 use Rattle.brc_table.specs.declared.view.Event.{Event}
-use Rattle.brc_work.specs.Traces.{Makes, Begun, Silently, Asks, Starts, Reads, Continues, Closes, Settles, word_events, events_of, read_birth, exit_of, is_birth, has_read}
+use Rattle.brc_work.specs.Traces.{Makes, Begun, Silently, Asks, Starts, Reads, Continues, Closes, word_events, events_of, read_birth, exit_of, is_birth, has_read}
 use Rattle.brc_work.specs.Automata.{IsPlain, MakesPlainly, IsNoClaim, ClaimsNothing, HasNoClaim, CanMakeUnclaimed, AsksNothing, GoesAlone, word_event, thread_at, HandsMakeAsThreads, ThreadsAloneMakeAsHands}
 
 -- ---- events
@@ -164,7 +164,6 @@ module _ (functions : List Function) (states : ℕ → ℕ → Option State) (la
         (DoesDuty Ok (CloseResource x) rest (always r) 0
         (alive_action functions layout t (thread_at function r c) c.status plain.0
         ∙ ap (agenda_action functions layout t (thread_at function r c)) is)) tt)
-    plain_can n cs es q b (Settles k ds fs r c before none) plain = absurd plain
 
 -- ---- and back
 

@@ -30,7 +30,7 @@ use Rattle.brc_model.proofs.Promises.Turns.{CountsTurns, EachPlace, FitsCode, co
 use Rattle.brc_table.specs.declared.view.Event.{Event}
 use Rattle.brc_table.specs.declared.view.View.{View}
 use Rattle.brc_work.specs.Runs.{StopsBy, Between, Within, greatest_bound}
-use Rattle.brc_work.specs.Traces.{Makes, Begun, Silently, Asks, Starts, Reads, Continues, Closes, Settles, begun_at, begun_by, exit_of, MakesTrace, MakesCalls, NoCall, OneMore}
+use Rattle.brc_work.specs.Traces.{Makes, Begun, Silently, Asks, Starts, Reads, Continues, Closes, begun_at, begun_by, exit_of, MakesTrace, MakesCalls, NoCall, OneMore}
 
 -- ---- what a step begins
 
@@ -94,7 +94,6 @@ module _ (layout : Layout) (t : ℕ) (code : List Instr) (fits : FitsCode code) 
       makes_lower k _ fs (Inside context at variables _) c before
   makes_lower n cs es q b (Continues k ds fs r c d rest found before is other) = makes_lower k ds fs r c before
   makes_lower n cs es q b (Closes k ds fs r c x rest failed before is) = makes_lower k ds fs r c before
-  makes_lower n cs es q b (Settles k ds fs r c before none) = makes_lower k ds fs r c before
 
 -- ---- calls
 

@@ -12,7 +12,7 @@ use Rattle.brc_table.specs.Seen.{cell_known, cell_seen}
 use Rattle.brc_table.specs.Hands.{HandState}
 use Rattle.brc_heap.specs.Calls.{Leaves, HasBorn}
 use Rattle.brc_list.specs.Calls.{Keeps}
-use Rattle.brc_free.specs.Works.{HasReleased, HasWorked}
+use Rattle.brc_free.specs.Works.{HasReleased, HasWorked, to_settle}
 use Rattle.brc_work.specs.Acts.{KeepsCells, Acts, ActsElsewhere}
 use Rattle.brc_work.specs.Fits.{Rests, Follows}
 
@@ -171,7 +171,7 @@ released_rests hand mid x rests released =
 
 pub released_acts : (hand mid after : HandState) (x : ℕ) (closes : List HostCall) → Rests hand
     → HasReleased x hand.view mid.view
-    → HasWorked mid.view closes [] after.view → after.view.head ≡ 0 → after.table ≡ hand.table
+    → HasWorked (to_settle [] mid.view) closes [] after.view → after.view.head ≡ 0 → after.table ≡ hand.table
     → after.carried ≡ hand.carried → after.slots ≡ hand.slots → ActsElsewhere hand after
 released_acts hand mid after x closes rests released worked settled table carried slots =
     let keeps = worked.keeps in

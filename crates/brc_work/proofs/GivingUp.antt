@@ -19,7 +19,7 @@ use Rattle.brc_model.specs.Threads.{row_of}
 use Rattle.brc_model.proofs.Dispatch.Stopped.{owned_exactly}
 use Rattle.brc_table.specs.Hands.{TableState, HandState, IsOf}
 use Rattle.brc_table.specs.Views.{holds}
-use Rattle.brc_free.specs.Works.{HasWorked}
+use Rattle.brc_free.specs.Works.{HasWorked, to_settle}
 use Rattle.brc_work.specs.Calls.{HasReturned}
 use Rattle.brc_work.specs.Changes.{CanGive, IsIn}
 use Rattle.brc_work.specs.Fits.{Base, Fits, HasDone}
@@ -53,7 +53,7 @@ module _ (heap : TableState) (state : State) (first : List (Option ℕ)) (hand :
     is.of,
     λ base s fits alike. subst (Fits base s first) (as_unchained hand fits.rests.settled) fits,
     λ i low. absurd (omega (arith, low)),
-    λ code. stops_first code hand.view state.slots first is.fits.rests.agenda,
+    λ code. stops_first code hand.view state.slots first is.fits.rests.agenda is.fits.rests.settled,
   )
 
   pub can_loosen : (s : State) (k : ℕ) → OwnsAsMuch state s → is_owned (slot_of state k) ≡ true
@@ -100,42 +100,44 @@ module _ (heap : TableState) (state : State) (first : List (Option ℕ)) (hand :
 
   -- All have given up what they owned, and the hand has settled.
   module _ (rows : List (Option ℕ)) (now after : HandState) (given : HaveGiven heap state first hand 16 rows now)
-      (cs : List HostCall) (worked : HasWorked now.view cs [] after.view) (empty : after.view.head ≡ 0) where
-    pub all_returned : after.table ≡ now.table → after.carried ≡ now.carried → after.slots ≡ now.slots → (base : Base)
-        (s : State) → Fits base s first hand → OwnsAsMuch state s → HasReturned base after
-    all_returned table carried slots base s fits alike =
-        let at_end = given.1 base s fits alike in
-        let ended = ends base (emptied 16 s) rows (unchained now) at_end (all_emptied s fits.some_slots)
-        (emptied_locked 16 s ∙ alike.unlocked) in
-        let keeps = worked.keeps in
-        record {
-          follows = record {
-            table = table ∙ ended.follows.table;
-            layout = keeps.layout ∙ ended.follows.layout;
-            thread = keeps.thread ∙ ended.follows.thread;
-            given = keeps.given ∙ ended.follows.given;
-            carried = carried ∙ ended.follows.carried;
-            used = let more = ended.follows.used in let same = keeps.used in omega (arith, more, same);
-          };
-          rests = record {
-            running = keeps.status ∙ ended.rests.running;
-            agenda = worked.agenda;
-            aside = keeps.aside ∙ ended.rests.aside;
-            settled = empty;
-          };
-          unlocked = keeps.locked ∙ ended.unlocked;
-          slots = slots ∙ ended.slots;
-          held = λ y counted.
-              ap (λ (references : List ℕ). holds (record now.view { references = references }) y) keeps.references
-              ∙ ended.held y counted;
-          few = let less = ended.few in
-              let same = ap {B = ℕ} length keeps.references in omega (arith, less, same);
-        }
+      (cs : List HostCall) (worked : HasWorked (to_settle [] now.view) cs [] after.view) (empty : after.view.head ≡ 0)
+    where
+      pub all_returned : after.table ≡ now.table → after.carried ≡ now.carried → after.slots ≡ now.slots → (base : Base)
+          (s : State) → Fits base s first hand → OwnsAsMuch state s → HasReturned base after
+      all_returned table carried slots base s fits alike =
+          let at_end = given.1 base s fits alike in
+          let ended = ends base (emptied 16 s) rows (unchained now) at_end (all_emptied s fits.some_slots)
+          (emptied_locked 16 s ∙ alike.unlocked) in
+          let keeps = worked.keeps in
+          record {
+            follows = record {
+              table = table ∙ ended.follows.table;
+              layout = keeps.layout ∙ ended.follows.layout;
+              thread = keeps.thread ∙ ended.follows.thread;
+              given = keeps.given ∙ ended.follows.given;
+              carried = carried ∙ ended.follows.carried;
+              used = let more = ended.follows.used in let same = keeps.used in omega (arith, more, same);
+            };
+            rests = record {
+              running = keeps.status ∙ ended.rests.running;
+              agenda = worked.agenda;
+              aside = keeps.aside ∙ ended.rests.aside;
+              settled = empty;
+            };
+            unlocked = keeps.locked ∙ ended.unlocked;
+            slots = slots ∙ ended.slots;
+            held = λ y counted.
+                ap (λ (references : List ℕ). holds (record now.view { references = references }) y) keeps.references
+                ∙ ended.held y counted;
+            few = let less = ended.few in
+                let same = ap {B = ℕ} length keeps.references in omega (arith, less, same);
+          }
 
-    pub all_made : MakesReleases cs state first hand.view after.view
-    all_made = λ code.
-        stops_last code (place_of state.slots first) hand.view state.slots rows cs now.view after.view (given.3 code)
-        (nothing_left state.slots rows (given.1 is.base is.state is.fits is.can_do).some_rows given.2) worked empty
+      pub all_made : MakesReleases cs state first hand.view after.view
+      all_made = λ code.
+          let at_end = given.1 is.base is.state is.fits is.can_do in
+          stops_last code (place_of state.slots first) hand.view state.slots rows cs now.view after.view (given.3 code)
+          (nothing_left state.slots rows at_end.some_rows given.2) at_end.rests.agenda worked empty
 
 -- ---- the lock
 

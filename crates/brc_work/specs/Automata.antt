@@ -1,9 +1,8 @@
--- What a hand's thread makes (`Makes`), and what a thread of the step world can make (`CanMake` of the model). Three
--- things set them apart. A hand's thread makes a number of how many bytes `read` has read, where a thread of the step
--- world makes 0; it may begin to settle an empty chain; and a thread of the step world may claim marks between two
--- calls, or be stopped. Apart from that, a thread of the step world can make what a hand's thread makes, and a hand's
--- thread what a thread of the step world can make: from inside an instruction, only without other calls of the host
--- than closes.
+-- What a hand's thread makes (`Makes`), and what a thread of the step world can make (`CanMake` of the model). Two things
+-- set them apart. A hand's thread makes a number of how many bytes `read` has read, where a thread of the step world
+-- makes 0; and a thread of the step world may claim marks between two calls, or be stopped. Apart from that, a thread of
+-- the step world can make what a hand's thread makes, and a hand's thread what a thread of the step world can make: from
+-- inside an instruction, only without other calls of the host than closes.
 use Rattle.std.specs.Prelude.{◌≡◌, ◌≢◌, ◌&&◌, ℕ, Bool, true, false, List, Option, map, slice_get}
 use Rattle.brc_host.specs.HostCalls.{HostCall}
 use Rattle.brc_lang.specs.declared.module.Function.{Function}
@@ -20,12 +19,11 @@ use Rattle.brc_model.specs.Machine.{Actor}
 use Rattle.brc_model.specs.Threads.{code_of}
 use Rattle.brc_model.specs.Trace.{WordEvent, MakesStep, GoesSilently, CallsHost, DoesDuty, CanMake, Nothing, Then}
 use Rattle.brc_table.specs.declared.view.Event.{Event}
-use Rattle.brc_work.specs.Traces.{Makes, Begun, Silently, Asks, Starts, Reads, Continues, Closes, Settles, is_birth, has_read}
+use Rattle.brc_work.specs.Traces.{Makes, Begun, Silently, Asks, Starts, Reads, Continues, Closes, is_birth, has_read}
 
 -- ---- a hand's thread
 
--- No step makes another number than 0 of what `read` has read, or begins to settle an empty chain; and the thread isn't
--- gone before any.
+-- No step makes another number than 0 of what `read` has read, and the thread isn't gone before any.
 abbrev pub IsPlain : {layout : Layout} {t : ℕ} {code : List Instr} {p : Place} {a : Actor} {cs : List HostCall}
     {n : ℕ} {es : List Event} {q : Place} {b : Actor} → Makes layout t code p a n cs es q b → Type 0
 IsPlain Begun = Unit {0}
@@ -36,7 +34,6 @@ IsPlain (Reads n cs es context at variables b to file most otherwise count found
     (count ≡ 0) × (b.status ≢ Gone) × IsPlain before
 IsPlain (Continues n cs es q b d rest found before is other) = (b.status ≢ Gone) × IsPlain before
 IsPlain (Closes n cs es q b x rest failed before is) = (b.status ≢ Gone) × IsPlain before
-IsPlain (Settles n cs es q b before none) = ⊥
 
 abbrev pub MakesPlainly : Layout → ℕ → List Instr → Place → Actor → List Event → Place → Actor → Type 0
 MakesPlainly layout t code p a es q b =

@@ -19,7 +19,7 @@ use Rattle.brc_model.specs.declared.actor.Stage.TheVariants.{Granted}
 use Rattle.brc_model.specs.declared.address.Address.{Address}
 use Rattle.brc_model.specs.declared.address.Address.TheVariants.{Slot, Resource}
 use Rattle.brc_model.specs.declared.duty.Duty.{Duty}
-use Rattle.brc_model.specs.declared.duty.Duty.TheVariants.{LockGate, BirthKind, CloseResource, Settle}
+use Rattle.brc_model.specs.declared.duty.Duty.TheVariants.{LockGate, BirthKind, CloseResource}
 use Rattle.brc_model.specs.declared.layout.Layout.{Layout}
 use Rattle.brc_model.specs.declared.slot.Exit.{Exit}
 use Rattle.brc_model.specs.declared.slot.Exit.TheVariants.{Success, Fault}
@@ -153,11 +153,6 @@ pub data Makes (layout : Layout) (t : ℕ) (code : List Instr) (p : Place) (a : 
   Closes : (n : ℕ) (cs : List HostCall) (es : List Event) (q : Place) (b : Actor) (x : ℕ) (rest : List Duty)
       (failed : Bool) → Makes layout t code p a n cs es q b → b.agenda ≡ CloseResource x ∷ rest
       → Makes layout t code p a n (cs ++ Close failed ∷ []) es q (actor_by layout t b (CloseResource x) rest 0)
-  -- With nothing to do, it begins to settle its chain. A thread that has something in its chain has that to do already,
-  -- so this is for an empty chain alone: that a hand doesn't settle one isn't promised by the calls below.
-  Settles : (n : ℕ) (cs : List HostCall) (es : List Event) (q : Place) (b : Actor)
-      → Makes layout t code p a n cs es q b → b.agenda ≡ []
-      → Makes layout t code p a n cs es q (record b { agenda = Settle ∷ [] })
 
 -- ---- hands
 

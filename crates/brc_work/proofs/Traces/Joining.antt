@@ -11,7 +11,7 @@ use Rattle.brc_model.specs.Machine.{Actor}
 use Rattle.brc_table.specs.declared.view.Event.{Event}
 use Rattle.brc_table.specs.declared.view.View.{View}
 use Rattle.brc_table.specs.Views.{open_work}
-use Rattle.brc_work.specs.Traces.{Makes, Begun, Silently, Asks, Starts, Reads, Continues, Closes, Settles, Requests, ForFile, ForPeer, ForBytes, ForLine, Traces, thread_with, events_of, read_birth, begun_at, begun_by}
+use Rattle.brc_work.specs.Traces.{Makes, Begun, Silently, Asks, Starts, Reads, Continues, Closes, Requests, ForFile, ForPeer, ForBytes, ForLine, Traces, thread_with, events_of, read_birth, begun_at, begun_by}
 
 -- ---- numbers
 
@@ -93,8 +93,6 @@ module _ (layout : Layout) (t : ℕ) (code : List Instr) (p : Place) (a : Actor)
   makes_then m ds fs r c (Closes k ks gs s d x rest failed other is) =
       with_calls (n + k) ks (Close failed) (es ++ gs) r c
       (Closes (n + k) (cs ++ ks) (es ++ gs) s d x rest failed (makes_then k ks gs s d other) is)
-  makes_then m ds fs r c (Settles k ks gs s d other none) =
-      Settles (n + k) (cs ++ ks) (es ++ gs) s d (makes_then k ks gs s d other) none
 
 -- As many have begun as the one event begins.
 pub only_these : {layout : Layout} {t : ℕ} {code : List Instr} {p q : Place} {a b : Actor} {n : ℕ} {cs : List HostCall}

@@ -17,12 +17,12 @@ use Rattle.brc_model.specs.declared.duty.Reason.TheVariants.{Own}
 use Rattle.brc_table.specs.declared.view.View.{View}
 use Rattle.brc_table.specs.Views.{done, releasing, slot_emptied, slot_emptied_by, without_reference}
 use Rattle.brc_heap.specs.Calls.{released_locally, counts_here}
-use Rattle.brc_free.specs.Works.{Begun as Unchanged, Next, HasWorked, closes_by}
+use Rattle.brc_free.specs.Works.{Begun as Unchanged, Next, HasWorked, closes_by, to_settle}
 use Rattle.brc_work.specs.Performs.{MakesRelease, GivesUp}
 use Rattle.brc_work.specs.Traces.{Traces}
 use Rattle.brc_work.proofs.Traces.Joining.{turns_to, traces_then, traces_before}
 use Rattle.brc_work.proofs.Traces.Duties.{no_duty, IsSame, next_duties, starts_with, continues_with}
-use Rattle.brc_work.proofs.Traces.Working.{settle_if, WorksOn, goes_on, works_on, worked_off}
+use Rattle.brc_work.proofs.Traces.Working.{settle_if, WorksOn, goes_on, works_on, worked_off, comes_to_settle}
 
 -- The duty that follows the load of the local word is none on a slot.
 after_load : (immortal counts : Bool) (head x word : ℕ) (u : View)
@@ -58,7 +58,7 @@ module _ {n : ℕ} (code : List Instr) (p : Place) (ds : List Duty) (w : View) (
   -- The hand has loaded the local word,
   loads : (word : ℕ) → WorksOn later n [] code p ds w q (done (releasing v x) word)
   loads word =
-      goes_on code p ds w q (releasing v x) (ReleaseLoad x holding) (ReleaseLoad x AsCaller) [] word later (λ is. is)
+      goes_on code p ds w q (releasing v x) (ReleaseLoad x holding) (ReleaseLoad x AsCaller) [] word
       (load_same x holding v word) refl refl refl refl (first word)
 
   -- and stored it if it counts there.
@@ -81,24 +81,29 @@ module _ {n : ℕ} (code : List Instr) (p : Place) (ds : List Duty) (w : View) (
             word)
       ]
 
-  -- All that dies by it is closed.
-  settles : (word : ℕ) (cs : List HostCall) (mid after : View) → HasWorked (released_locally v x word) [] [] mid
-      → HasWorked mid cs [] after → after.head ≡ 0 → Traces n cs code p ds w q [] after
-  settles word cs mid after released settled empty =
-      worked_off code p ds w q after (settled.agenda ∙ no_duty after.head) empty
-      (works_on code p ds w q [] mid cs after
-      (works_on code p ds w q [] (released_locally v x word) [] mid (stores word) released.works) settled.works)
+-- Where the thread settles behind it, all that dies by it is closed.
+settles : {n : ℕ} (code : List Instr) (p : Place) (ds : List Duty) (w : View) (q : Place) (holding : Holding) (x : ℕ)
+    (v : View) → ((word : ℕ) → Traces n [] code p ds w q
+    (next_duties (releasing v x) (ReleaseLoad x holding) (settle_if true) word) (done (releasing v x) word))
+    → (word : ℕ) (cs : List HostCall) (mid after : View) → HasWorked (released_locally v x word) [] [] mid
+    → HasWorked (to_settle [] mid) cs [] after → after.head ≡ 0 → Traces n cs code p ds w q [] after
+settles code p ds w q holding x v first word cs mid after released settled empty =
+    let off = works_on code p ds w q [] (released_locally v x word) [] mid
+    (stores code p ds w q holding x v true first word) released.works in
+    worked_off code p ds w q after (settled.agenda ∙ no_duty after.head) empty
+    (works_on code p ds w q [] (to_settle [] mid) cs after
+    (comes_to_settle code p ds w q mid (released.agenda ∙ no_duty mid.head) off) settled.works)
 
 -- A reference is given up: by the first duty of an instruction, or by the next one of the thread's agenda.
 pub releases : (x word : ℕ) (cs : List HostCall) (v mid after : View) → v.agenda ≡ []
-    → HasWorked (released_locally v x word) [] [] mid → HasWorked mid cs [] after → after.head ≡ 0
+    → HasWorked (released_locally v x word) [] [] mid → HasWorked (to_settle [] mid) cs [] after → after.head ≡ 0
     → MakesRelease cs x v after
 releases x word cs v mid after none released settled empty =
     let references = without_reference v.layout x v.references in
     let rest = Settle ∷ [] in
     record {
       first = λ code place next holding is.
-          settles code place [] v next holding x v true (λ w.
+          settles code place [] v next holding x v (λ w.
           traces_before code place place next [] [] _ v (releasing v x) _
           (turns_to code place [] (ReleaseLoad x AsCaller ∷ []) v references v.in_slot none)
           (starts_with code place (releasing v x) (ReleaseLoad x holding) (ReleaseLoad x AsCaller) rest [] w
@@ -106,7 +111,7 @@ releases x word cs v mid after none released settled empty =
           word cs mid after released settled empty;
       next = λ code place holding.
           let ds = ReleaseLoad x holding ∷ rest in
-          settles code place ds v place holding x v true (λ w.
+          settles code place ds v place holding x v (λ w.
           traces_then code place place place ds ds _ v (releasing v x) _
           (turns_to code place ds (ReleaseLoad x AsCaller ∷ []) v references v.in_slot none)
           (continues_with code place (releasing v x) (ReleaseLoad x holding) (ReleaseLoad x AsCaller) rest [] w

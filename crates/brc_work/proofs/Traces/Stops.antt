@@ -20,17 +20,17 @@ use Rattle.brc_model.specs.Slots.{is_owned}
 use Rattle.brc_model.specs.Stops.{owned_rows, holds_some, stopping, first_named, give_up_first, give_up}
 use Rattle.brc_model.specs.Threads.{row_of}
 use Rattle.brc_model.proofs.Dispatch.Grounded.{row_of-set_other}
-use Rattle.brc_model.proofs.Dispatch.Stopped.{owned_exactly}
+use Rattle.brc_model.proofs.Dispatch.Stopped.{owned_exactly, owned_long}
 use Rattle.brc_table.specs.declared.view.View.{View}
 use Rattle.brc_table.specs.Views.{done, releasing, without_reference}
 use Rattle.brc_heap.specs.Calls.{released_locally}
-use Rattle.brc_free.specs.Works.{HasWorked}
+use Rattle.brc_free.specs.Works.{HasWorked, to_settle}
 use Rattle.brc_work.specs.Stopping.{Loosens}
 use Rattle.brc_work.specs.Traces.{Traces, begun_at}
 use Rattle.brc_work.proofs.Traces.Joining.{no_trace, turns_to, traces_then, traces_behind, with_duties}
 use Rattle.brc_work.proofs.Traces.Duties.{no_duty, next_duties, starts_with}
 use Rattle.brc_work.proofs.Traces.Releasing.{load_same, stores}
-use Rattle.brc_work.proofs.Traces.Working.{settle_if, WorksOn, are_off_slots, behind_of, works_on, worked_off, with_agenda}
+use Rattle.brc_work.proofs.Traces.Working.{settle_if, WorksOn, are_off_slots, behind_of, works_on, worked_off, with_agenda, comes_to_settle, nothing_behind}
 
 -- ---- rows
 
@@ -75,11 +75,6 @@ none_named (row ∷ rows) (suc n) long each =
     ap (λ (o : Option ℕ). is_some o || list_any is_some rows) (each zero (omega arith))
     ∙ none_named rows n (omega (arith, long)) (λ i low. each (suc i) (omega (arith, low)))
 
-owned_long : (slots : List Slot) (rows : List (Option ℕ)) → length (owned_rows slots rows) ≤ length rows
-owned_long [] rows = omega arith
-owned_long (slot ∷ slots) [] = omega arith
-owned_long (slot ∷ slots) (row ∷ rows) = let rest = owned_long slots rows in omega (arith, rest)
-
 -- Where all variables are empty that own something, nothing is left to give up.
 pub nothing_left : (slots : List Slot) (rows : List (Option ℕ)) → length rows ≡ 16
     → ((i : ℕ) → i < 16 → row_of (owned_rows slots rows) i ≡ None) → list_any is_some (owned_rows slots rows) ≡ false
@@ -122,9 +117,6 @@ settles_behind : (b : Bool) → cond b [] (Settle ∷ []) ≡ settle_if (not b)
 settles_behind true = refl
 settles_behind false = refl
 
-not_true : (b : Bool) → b ≡ true → not b ≡ true → ⊥
-not_true b is wrong = let no : false ≡ true = sym (ap not is) ∙ wrong in absurd cc
-
 -- ---- what a stopped thread does
 
 -- the place of a thread that has these rows still to give up
@@ -162,18 +154,13 @@ module _ (code : List Instr) (p : Place) (v : View) (slots : List Slot) where
       (settles_behind (holds_some (owned_rows slots (slice_set rows k None) ∷ [])))))))
 
   -- A thread with something to give up has nothing to settle yet.
-  nothing_later : (rows : List (Option ℕ)) (u : View) (on : Stops rows u) → u.agenda ≡ []
+  nothing_later : (rows : List (Option ℕ)) (u : View) → Stops rows u → u.agenda ≡ []
       → list_any is_some (owned_rows slots rows) ≡ true → Traces 0 [] code p [] v (place_of slots rows) [] u
-  nothing_later rows u on none some = elim (cases_Bool on.later) [
-    | inl is ↦
-        let wrong : true ≡ false =
-        sym (on.low is) ∙ ap (λ (b : Bool). not (b || false)) some in
-        absurd cc
-    | inr is ↦
-        with_duties code p (place_of slots rows) [] (ready u.head (settle_if on.later)) [] v u
-        (ap (λ (b : Bool). ready u.head (settle_if b)) is ∙ no_duty u.head)
-        (with_agenda code p [] v (place_of slots rows) u [] none on)
-  ]
+  nothing_later rows u on none some =
+      let q = place_of slots rows in
+      with_duties code p q [] (ready u.head []) [] v u (no_duty u.head)
+      (with_agenda code p [] v q u [] none
+      (subst (λ (b : Bool). WorksOn (not (b || false)) 0 [] code p [] v q u) some on))
 
   -- Another one is given up.
   pub stops_on : (rows after_rows : List (Option ℕ)) (k : ℕ) (u w : View) → Stops rows u → u.agenda ≡ []
@@ -206,24 +193,28 @@ module _ (code : List Instr) (p : Place) (v : View) (slots : List Slot) where
 
   -- With nothing left to give up, the hand settles, and its thread is done with its calls.
   pub stops_last : (rows : List (Option ℕ)) (cs : List HostCall) (u w : View) → Stops rows u
-      → list_any is_some (owned_rows slots rows) ≡ false → HasWorked u cs [] w → w.head ≡ 0
-      → Traces 0 cs code p [] v (Idle 0) [] w
-  stops_last rows cs u w on none settled empty =
-      let ends : place_of slots rows ≡ Idle 0 =
-      ap (λ (b : Bool). cond (b || false) (Stopping None (owned_rows slots rows ∷ [])) (Idle 0)) none in
-      subst (λ (q : Place). Traces 0 cs code p [] v q [] w) ends
-      (worked_off code p [] v (place_of slots rows) w (settled.agenda ∙ no_duty w.head) empty
-      (works_on code p [] v (place_of slots rows) [] u cs w on settled.works))
+      → list_any is_some (owned_rows slots rows) ≡ false → u.agenda ≡ [] → HasWorked (to_settle [] u) cs [] w
+      → w.head ≡ 0 → Traces 0 cs code p [] v (Idle 0) [] w
+  stops_last rows cs u w on bare none settled empty =
+      let q = place_of slots rows in
+      let ends : q ≡ Idle 0 =
+      ap (λ (b : Bool). cond (b || false) (Stopping None (owned_rows slots rows ∷ [])) (Idle 0)) bare in
+      subst (λ (r : Place). Traces 0 cs code p [] v r [] w) ends
+      (worked_off code p [] v q w (settled.agenda ∙ no_duty w.head) empty
+      (works_on code p [] v q [] (to_settle [] u) cs w
+      (comes_to_settle code p [] v q u none
+      (subst (λ (b : Bool). WorksOn (not (b || false)) 0 [] code p [] v q u) bare on)) settled.works))
 
 -- A thread that has just stopped.
 pub stops_first : (code : List Instr) (v : View) (slots : List Slot) (rows : List (Option ℕ)) → v.agenda ≡ []
-    → Stops code (place_of slots rows) v slots rows v
-stops_first code v slots rows none =
+    → v.head ≡ 0 → Stops code (place_of slots rows) v slots rows v
+stops_first code v slots rows none empty =
     let q = place_of slots rows in
+    let later = not (holds_some (owned_rows slots rows ∷ [])) in
+    let nothing : [] ≡ behind_of v.head v.agenda (settle_if later) =
+    sym (ap (λ (ds : List Duty). behind_of v.head ds (settle_if later)) none
+    ∙ ap (λ (head : ℕ). ready head (settle_if later)) empty ∙ nothing_behind later) in
     record {
-      later = false;
-      low = λ wrong. absurd (let is : false ≡ true = wrong in cc);
-      traces = with_duties code q q [] [] _ v v
-          (sym (no_duty v.head) ∙ ap (λ (ds : List Duty). behind_of v.head ds []) (sym none)) (no_trace code q [] v);
+      traces = with_duties code q q [] [] _ v v nothing (no_trace code q [] v);
       off = ap are_off_slots none;
     }

@@ -1,5 +1,5 @@
 -- A hand that does duty after duty makes the events of a thread that has the same duties, and then to settle.
-use Rattle.std.proofs.Common.{◌≡◌, ℕ, zero, suc, ◌+◌, Bool, true, false, cond, List, [], ◌∷◌, ◌++◌, append_assoc, append-nil, inl, inr, ◌⊎◌, refl, sym, ap, ◌∙◌, subst}
+use Rattle.std.proofs.Common.{◌≡◌, ℕ, zero, suc, ◌+◌, Bool, true, false, cond, List, [], ◌∷◌, ◌++◌, append_assoc, append-nil, inl, inr, refl, sym, ap, ◌∙◌, subst}
 use Rattle.std.specs.Prelude.{◌==◌, ◌&&◌, nat_lt}
 use Rattle.std.proofs.lemmas.Bool.{cases_Bool}
 use Rattle.brc_word.specs.Words.{is_immortal_word, local_part, fresh_word, dead_word, released_word, merged_word, most_local}
@@ -14,9 +14,9 @@ use Rattle.brc_model.specs.declared.duty.Duty.TheVariants.{RetainLoad, RetainSto
 use Rattle.brc_model.specs.declared.duty.Reason.TheVariants.{Own, Handed}
 use Rattle.brc_model.specs.declared.layout.Layout.{Layout}
 use Rattle.brc_table.specs.declared.view.View.{View}
-use Rattle.brc_table.specs.Views.{did, done, settling, settle_first, slot_emptied, slot_emptied_by}
-use Rattle.brc_free.specs.Works.{Works, Begun as Unchanged, Next, Comes, closes_by}
-use Rattle.brc_work.specs.Traces.{Begun, Continues, Closes, Settles, Traces, thread_with, is_close}
+use Rattle.brc_table.specs.Views.{did, done, slot_emptied, slot_emptied_by}
+use Rattle.brc_free.specs.Works.{Works, Begun as Unchanged, Next, closes_by, to_settle}
+use Rattle.brc_work.specs.Traces.{Begun, Continues, Closes, Traces, thread_with, is_close}
 use Rattle.brc_work.proofs.Traces.Joining.{quietly, calls_on, traces_then, traces_behind, with_duties}
 use Rattle.brc_work.proofs.Traces.Duties.{comes_next, IsSame, next_duties, continues_with, does_nothing, does_first}
 
@@ -166,25 +166,21 @@ abbrev pub settle_if : Bool → List Duty
 settle_if true = Settle ∷ []
 settle_if false = []
 
-settle_or_none : (head : ℕ) (later : Bool)
-    → (ready head (settle_if later) ≡ []) ⊎ (ready head (settle_if later) ≡ Settle ∷ [])
-settle_or_none zero true = inl refl
-settle_or_none zero false = inl refl
-settle_or_none (suc head) true = inr refl
-settle_or_none (suc head) false = inl refl
+-- A hand that settles next has nothing behind that.
+settles_alone : (head : ℕ) → behind_of head (ready head (Settle ∷ [])) [] ≡ ready head (Settle ∷ [])
+settles_alone zero = refl
+settles_alone (suc head) = refl
 
-nothing_behind : (later : Bool) → ready 0 (settle_if later) ≡ []
+pub nothing_behind : (later : Bool) → ready 0 (settle_if later) ≡ []
 nothing_behind true = refl
 nothing_behind false = refl
 
 -- ---- duty after duty
 
 -- From view v and place p with duties ds, the hand has come to view u, with these calls of the host, and has begun this
--- many instructions. Its thread has the hand's duties there, and if `most` says so perhaps to settle behind them.
-pub record WorksOn (most : Bool) (begun : ℕ) (cs : List HostCall) (code : List Instr) (p : Place) (ds : List Duty)
+-- many instructions. Its thread has the hand's duties there, and, if `later` says so, to settle behind them.
+pub record WorksOn (later : Bool) (begun : ℕ) (cs : List HostCall) (code : List Instr) (p : Place) (ds : List Duty)
     (v : View) (q : Place) (u : View) : Type 0 where
-  pub later : Bool
-  pub low : later ≡ true → most ≡ true
   pub traces : Traces begun cs code p ds v q (behind_of u.head u.agenda (settle_if later)) u
   pub off : are_off_slots u.agenda ≡ true
 
@@ -218,32 +214,16 @@ unslotted : (u : View) (d : Duty) (tail : List Duty) → takes_out d ≡ false �
 unslotted u (TakeSlot x) tail other = absurd (let wrong : true ≡ false = other in cc)
 unslotted u _ tail other = refl
 
-module _ {n : ℕ} (code : List Instr) (p : Place) (ds : List Duty) (v : View) (q : Place) where
-  -- A thread with nothing to do, or to settle, settles next.
-  settles_now : {cs : List HostCall} (u : View) (es : List Duty) → (es ≡ []) ⊎ (es ≡ Settle ∷ [])
-      → Traces n cs code p ds v q es u → Traces n cs code p ds v q (Settle ∷ []) u
-  settles_now u es (inl none) one =
-      let begins : Traces 0 [] code q [] u q (Settle ∷ []) u = record {
-        events = [];
-        trace = sym (append-nil u.trace);
-        makes = Settles 0 [] [] q (thread_with u []) Begun refl;
-        layout = refl;
-        thread = refl;
-      } in
-      traces_behind code p q q ds [] (Settle ∷ []) v u u (with_duties code p q ds es [] v u none one) begins
-  settles_now u es (inr is) one = with_duties code p q ds es (Settle ∷ []) v u is one
-
-module _ {most : Bool} {n : ℕ} (code : List Instr) (p : Place) (ds : List Duty) (v : View) (q : Place) where
+module _ {later : Bool} {n : ℕ} (code : List Instr) (p : Place) (ds : List Duty) (v : View) (q : Place) where
   -- After one duty more the thread still has the hand's duties.
-  pub goes_on : {cs : List HostCall} (u : View) (d e : Duty) (tail : List Duty) (found : ℕ) (later : Bool)
-      → (later ≡ true → most ≡ true)
+  pub goes_on : {cs : List HostCall} (u : View) (d e : Duty) (tail : List Duty) (found : ℕ)
       → IsSame u d e found
       → (continuation u.layout u.thread (is_running u.status) u.head e found
       ≡ continuation u.layout u.thread (is_running u.status) u.head d found)
       → is_off_slots e ≡ true → takes_out e ≡ false → are_off_slots tail ≡ true
       → Traces n cs code p ds v q (next_duties u d (tail ++ settle_if later) found) (did u (e ∷ tail) found)
-      → WorksOn most n cs code p ds v q (did u (e ∷ tail) found)
-  goes_on u d e tail found later low same next off other behind one =
+      → WorksOn later n cs code p ds v q (did u (e ∷ tail) found)
+  goes_on u d e tail found same next off other behind one =
       let after = did u (e ∷ tail) found in
       let more = continuation u.layout u.thread (is_running u.status) u.head e found in
       let rest = settle_if later in
@@ -254,102 +234,93 @@ module _ {most : Bool} {n : ℕ} (code : List Instr) (p : Place) (ds : List Duty
       ∙ (ap (λ (es : List Duty). ready head (es ++ (tail ++ rest))) (sym next)
       ∙ (ap (ready head) (sym (append_assoc more tail rest)) ∙ ready_behind head (more ++ tail) rest)) in
       record {
-        later = later;
-        low = low;
         traces = with_duties code p q ds (next_duties u d (tail ++ rest) found) _ v after duties one;
         off = ready_off head (more ++ tail)
             (off_then more tail (next_off u.layout u.thread (is_running u.status) u.head e found off other) behind);
       }
 
   -- It is the first of its agenda.
-  continues_on : {cs : List HostCall} (u : View) (d : Duty) (tail : List Duty) (found : ℕ) (later : Bool)
-      → (later ≡ true → most ≡ true)
+  continues_on : {cs : List HostCall} (u : View) (d : Duty) (tail : List Duty) (found : ℕ)
       → is_off_slots d ≡ true
       → takes_out d ≡ false → are_off_slots tail ≡ true → Traces n cs code p ds v q (d ∷ (tail ++ settle_if later)) u
-      → WorksOn most n cs code p ds v q (did u (d ∷ tail) found)
-  continues_on u d tail found later low off other behind one =
+      → WorksOn later n cs code p ds v q (did u (d ∷ tail) found)
+  continues_on u d tail found off other behind one =
       let rest = tail ++ settle_if later in
       let same = on_word u d found off other in
-      goes_on u d d tail found later low same refl off other behind
+      goes_on u d d tail found same refl off other behind
       (traces_behind code p q q ds (d ∷ rest) (next_duties u d rest found) v u (did u (d ∷ tail) found) one
       (continues_with code q u d d rest tail found same (no_close d off)))
 
   -- the thread's duties, where the hand's are these
   pub with_agenda : {cs : List HostCall} (u : View) (es : List Duty) → u.agenda ≡ es
-      → (on : WorksOn most n cs code p ds v q u)
-      → Traces n cs code p ds v q (behind_of u.head es (settle_if on.later)) u
+      → (on : WorksOn later n cs code p ds v q u)
+      → Traces n cs code p ds v q (behind_of u.head es (settle_if later)) u
   with_agenda u es is on =
-      with_duties code p q ds _ (behind_of u.head es (settle_if on.later)) v u
-      (ap (λ (fs : List Duty). behind_of u.head fs (settle_if on.later)) is) on.traces
+      with_duties code p q ds _ (behind_of u.head es (settle_if later)) v u
+      (ap (λ (fs : List Duty). behind_of u.head fs (settle_if later)) is) on.traces
 
   plain_next : {cs : List HostCall} (u : View) (found : ℕ) (d : Duty) (tail : List Duty) → u.agenda ≡ d ∷ tail
-      → takes_out d ≡ false → WorksOn most n cs code p ds v q u → WorksOn most n cs code p ds v q
+      → takes_out d ≡ false → WorksOn later n cs code p ds v q u → WorksOn later n cs code p ds v q
       (done (slot_emptied u) found)
   plain_next {cs} u found d tail is other on =
       let off : are_off_slots (d ∷ tail) ≡ true = ap are_off_slots (sym is) ∙ on.off in
       let same : slot_emptied u ≡ u = ap (λ (es : List Duty). slot_emptied_by es u) is ∙ unslotted u d tail other in
-      subst (WorksOn most n cs code p ds v q)
+      subst (WorksOn later n cs code p ds v q)
       (sym (ap (λ (w : View). done w found) same ∙ does_first u found d tail is))
-      (continues_on u d tail found on.later on.low (first_off d tail off) other (behind_off d tail off)
+      (continues_on u d tail found (first_off d tail off) other (behind_off d tail off)
       (with_agenda u (d ∷ tail) is on))
 
-  with_no_call : (cs : List HostCall) (u : View) → WorksOn most n cs code p ds v q u
-      → WorksOn most n (cs ++ []) code p ds v q u
-  with_no_call cs u on = subst (λ (ks : List HostCall). WorksOn most n ks code p ds v q u) (sym (append-nil cs)) on
+  with_no_call : (cs : List HostCall) (u : View) → WorksOn later n cs code p ds v q u
+      → WorksOn later n (cs ++ []) code p ds v q u
+  with_no_call cs u on = subst (λ (ks : List HostCall). WorksOn later n ks code p ds v q u) (sym (append-nil cs)) on
 
   next_by : (cs : List HostCall) (u : View) (found : ℕ) (failed : Bool) (es : List Duty) → u.agenda ≡ es
-      → WorksOn most n cs code p ds v q u → WorksOn most n (cs ++ closes_by es failed) code p ds v q
+      → WorksOn later n cs code p ds v q u → WorksOn later n (cs ++ closes_by es failed) code p ds v q
       (done (slot_emptied u) found)
   next_by cs u found failed [] is on =
       with_no_call cs (done (slot_emptied u) found)
-      (subst (WorksOn most n cs code p ds v q)
+      (subst (WorksOn later n cs code p ds v q)
       (sym (ap (λ (w : View). done w found) (ap (λ (es : List Duty). slot_emptied_by es u) is)
       ∙ does_nothing u found is))
       on)
   next_by cs u found failed (TakeSlot x ∷ tail) is on =
       let off : are_off_slots (TakeSlot x ∷ tail) ≡ true = ap are_off_slots (sym is) ∙ on.off in
-      let rest = tail ++ settle_if on.later in
-      subst (WorksOn most n (cs ++ Close failed ∷ []) code p ds v q)
+      let rest = tail ++ settle_if later in
+      subst (WorksOn later n (cs ++ Close failed ∷ []) code p ds v q)
       (sym (ap (λ (es : List Duty). done (slot_emptied_by es u) found) is))
-      (continues_on u (SettleEnd x) tail found on.later on.low refl refl (behind_off (TakeSlot x) tail off)
+      (continues_on u (SettleEnd x) tail found refl refl (behind_off (TakeSlot x) tail off)
       (calls_on cs (Close failed ∷ []) code p q q ds (TakeSlot x ∷ rest) (SettleEnd x ∷ rest) v u u
       (with_agenda u (TakeSlot x ∷ tail) is on) (takes_slot code q u x failed rest)))
   next_by cs u found failed (d ∷ tail) is on =
       with_no_call cs (done (slot_emptied u) found) (plain_next u found d tail is refl on)
 
-  comes_by : (cs : List HostCall) (u : View) (es : List Duty) → u.agenda ≡ es → WorksOn most n cs code p ds v q u
-      → WorksOn most n cs code p ds v q (settling u)
-  comes_by cs u [] is on =
-      let after = record u { agenda = Settle ∷ [] } in
-      subst (WorksOn most n cs code p ds v q) (sym (ap (λ (es : List Duty). record u { agenda = settle_first es }) is))
-      (record {
-        later = false;
-        low = λ wrong. absurd (let is : false ≡ true = wrong in cc);
-        traces = traces_behind code p q q ds (Settle ∷ []) (Settle ∷ []) v u after
-            (settles_now code p ds v q u (ready u.head (settle_if on.later)) (settle_or_none u.head on.later)
-            (with_agenda u [] is on))
-            (quietly code q (Settle ∷ []) u after refl refl refl refl);
-        off = refl;
-      })
-  comes_by cs u (d ∷ tail) is on =
-      subst (WorksOn most n cs code p ds v q)
-      (sym (ap (λ (es : List Duty). record u { agenda = settle_first es }) is
-      ∙ ap (λ (es : List Duty). record u { agenda = es }) (sym is))) on
-
   -- A hand that does duty after duty,
-  pub works_on : (cs : List HostCall) (u : View) (fs : List HostCall) (w : View) → WorksOn most n cs code p ds v q u
+  pub works_on : (cs : List HostCall) (u : View) (fs : List HostCall) (w : View) → WorksOn later n cs code p ds v q u
       → Works u fs w
-      → WorksOn most n (cs ++ fs) code p ds v q w
+      → WorksOn later n (cs ++ fs) code p ds v q w
   works_on cs u fs w on Unchanged = with_no_call cs u on
   works_on cs u fs w on (Next ks x found failed other) =
-      subst (λ (hs : List HostCall). WorksOn most n hs code p ds v q (done (slot_emptied x) found))
+      subst (λ (hs : List HostCall). WorksOn later n hs code p ds v q (done (slot_emptied x) found))
       (append_assoc cs ks (closes_by x.agenda failed))
       (next_by (cs ++ ks) x found failed x.agenda refl (works_on cs u ks x on other))
-  works_on cs u fs w on (Comes ks x other) = comes_by (cs ++ fs) x x.agenda refl (works_on cs u fs x on other)
 
   -- until nothing is left to do.
-  pub worked_off : {cs : List HostCall} (u : View) → u.agenda ≡ [] → u.head ≡ 0 → WorksOn most n cs code p ds v q u
+  pub worked_off : {cs : List HostCall} (u : View) → u.agenda ≡ [] → u.head ≡ 0 → WorksOn later n cs code p ds v q u
       → Traces n cs code p ds v q [] u
   worked_off u none empty on =
-      with_duties code p q ds (ready u.head (settle_if on.later)) [] v u
-      (ap (λ (head : ℕ). ready head (settle_if on.later)) empty ∙ nothing_behind on.later) (with_agenda u [] none on)
+      with_duties code p q ds (ready u.head (settle_if later)) [] v u
+      (ap (λ (head : ℕ). ready head (settle_if later)) empty ∙ nothing_behind later) (with_agenda u [] none on)
+
+-- A hand with nothing else to do comes to settle, as its thread does behind its agenda.
+pub comes_to_settle : {n : ℕ} {cs : List HostCall} (code : List Instr) (p : Place) (ds : List Duty) (v : View)
+    (q : Place) (u : View) → u.agenda ≡ [] → WorksOn true n cs code p ds v q u
+    → WorksOn false n cs code p ds v q (to_settle [] u)
+comes_to_settle code p ds v q u none on =
+    let settles = ready u.head (Settle ∷ []) in
+    record {
+      traces = with_duties code p q ds settles _ v (to_settle [] u) (sym (settles_alone u.head))
+          (traces_behind code p q q ds settles settles v u (to_settle [] u)
+          (with_agenda code p ds v q u [] none on)
+          (quietly code q settles u (to_settle [] u) refl refl refl refl));
+      off = ready_off u.head (Settle ∷ []) refl;
+    }
