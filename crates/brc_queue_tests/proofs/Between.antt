@@ -14,7 +14,7 @@ use Rattle.brc_table.specs.Hands.{TableState, HandState, IsOf, IsRunning, MayWai
 use Rattle.brc_table.specs.Calls.{IsFree}
 use Rattle.brc_heap.specs.Calls.{HasBorn, HasGiven, Leaves}
 use Rattle.brc_list.specs.Calls.{Keeps, KeepsButSlot, KeepsBesides, SwapsItem, row_in, word_of}
-use Rattle.brc_free.specs.Works.{HasReleased, HasWorked, ComesToSettle, AtOnce}
+use Rattle.brc_free.specs.Works.{HasReleased, HasWorked, ComesToSettle, AtOnce, to_settle}
 use Rattle.brc_free.specs.Works as works
 use Rattle.brc_queue_tests.specs.Resting.{HasBack}
 use Rattle.brc_queue_tests.specs.Embedded.{IsResting, Holds}
@@ -208,7 +208,7 @@ comes_to_settle {heap} {before} {after} x rest released =
 -- and rests.
 pub after_release : {heap : TableState} {before after : HandState} {between : View} {closes : List HostCall} (x : ℕ)
     → Holds heap before (Some x) → HasReleased x before.view between → IsOf heap after → after.view.head ≡ 0
-    → HasWorked between closes [] after.view → Holds heap after None
+    → HasWorked (to_settle [] between) closes [] after.view → Holds heap after None
 after_release {heap} {before} {after} {between} x rest released table head worked =
     let layout = before.view.layout in
     let none : after.view.agenda ≡ [] = worked.agenda in

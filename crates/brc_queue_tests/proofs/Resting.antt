@@ -15,7 +15,7 @@ use Rattle.brc_table.specs.Views.{holds, without_one, with_reference, without_re
 use Rattle.brc_table.specs.Hands.{TableState, HandState, IsOf, KeepsLock, MayWait}
 use Rattle.brc_table.specs.Calls.{IsFree}
 use Rattle.brc_heap.specs.Calls.{HasGiven, HasBorn, Leaves}
-use Rattle.brc_free.specs.Works.{HasReleased, HasWorked, ComesToSettle, AtOnce}
+use Rattle.brc_free.specs.Works.{HasReleased, HasWorked, ComesToSettle, AtOnce, to_settle}
 use Rattle.brc_queue_tests.specs.Resting.{IsAtRest}
 
 no_first : (ds es : List Duty) → ds ++ es ≡ [] → ds ≡ []
@@ -89,7 +89,8 @@ settles_at_rest rest = let free = free_at_rest rest in AtOnce free.running free.
 -- and has no work then.
 pub rests_after_settling : {heap : TableState} {before after : HandState} {closes : List HostCall}
     → IsAtRest heap before None
-    → IsOf heap after → after.view.head ≡ 0 → HasWorked before.view closes [] after.view → IsAtRest heap after None
+    → IsOf heap after → after.view.head ≡ 0 → HasWorked (to_settle [] before.view) closes [] after.view
+    → IsAtRest heap after None
 rests_after_settling {heap} {before} {after} rest table empty stands =
     let none : after.view.agenda ≡ [] = stands.agenda in
     record {

@@ -10,7 +10,7 @@ use Rattle.brc_model.specs.declared.duty.Reason.TheVariants.{Handed}
 use Rattle.brc_model.specs.Limits.{row_limit}
 use Rattle.brc_heap.specs.declared.merge.MergeStep.{MergeStep}
 use Rattle.brc_heap.specs.declared.merge.MergeStep.TheVariants as merge
-use Rattle.brc_free.specs.Works.{HasWorked, ComesToSettle, AtOnce}
+use Rattle.brc_free.specs.Works.{HasWorked, ComesToSettle, AtOnce, to_settle}
 use Rattle.brc_model.specs.OpenWork.{is_about}
 use Rattle.brc_table.specs.Hands.{TableState, HandState, IsOf, carried_of}
 use Rattle.brc_table.specs.Views.{open_work}
@@ -54,7 +54,7 @@ comes has = AtOnce has.status has.aside has.agenda
 -- and then has nothing to do again.
 pub settled : {heap : TableState} {before after : HandState} {rows : List ℕ} {closes : List HostCall}
     → HasWork heap before rows []
-    → IsOf heap after → HasWorked before.view closes [] after.view → after.carried ≡ before.carried
+    → IsOf heap after → HasWorked (to_settle [] before.view) closes [] after.view → after.carried ≡ before.carried
     → HasWork heap after rows []
 settled {heap} {before} {after} has table stands same = record {
   table = table;

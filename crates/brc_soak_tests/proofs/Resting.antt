@@ -15,7 +15,7 @@ use Rattle.brc_table.specs.Views.{worker_view, holds, without_one, with_referenc
 use Rattle.brc_table.specs.Hands.{TableState, HandState, IsOf, KeepsLock, MayWait}
 use Rattle.brc_table.specs.Calls.{IsFree}
 use Rattle.brc_heap.specs.Calls.{HasGiven, HasBorn, Leaves}
-use Rattle.brc_free.specs.Works.{HasReleased, HasWorked, ComesToSettle, AtOnce}
+use Rattle.brc_free.specs.Works.{HasReleased, HasWorked, ComesToSettle, AtOnce, to_settle}
 use Rattle.brc_soak_tests.specs.Ready.{IsResting, IsFresh}
 
 no_first : (ds es : List Duty) → ds ++ es ≡ [] → ds ≡ []
@@ -111,7 +111,8 @@ settles_at_rest rest = let free = free_at_rest rest in AtOnce free.running free.
 -- and has no work then.
 pub rests_after_settling : {heap : TableState} {before after : HandState} {closes : List HostCall}
     → IsResting heap before None
-    → IsOf heap after → after.view.head ≡ 0 → HasWorked before.view closes [] after.view → IsResting heap after None
+    → IsOf heap after → after.view.head ≡ 0 → HasWorked (to_settle [] before.view) closes [] after.view
+    → IsResting heap after None
 rests_after_settling {heap} {before} {after} rest table empty stands =
     let none : after.view.agenda ≡ [] = stands.agenda in
     record {
