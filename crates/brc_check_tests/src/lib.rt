@@ -3,6 +3,8 @@
 #![tactic(auto)]
 
 #[cfg(test)]
+mod extremes;
+#[cfg(test)]
 mod functions;
 #[cfg(test)]
 mod host;

@@ -116,7 +116,8 @@ fn writes_each_instruction(rt: HostRuntime) -> Result<(), Fail> {
     Ok(())
 }
 
-/// A critical section with each of its instructions, and the modules `returns_a_borrowed_reference` and `leaks_at_fail`.
+/// A critical section with each of its instructions, and the modules `returns_a_borrowed_reference` and
+/// `leaks_at_fail`.
 #[test]
 fn writes_modules_of_one_function(rt: HostRuntime) -> Result<(), Fail> {
     let (low, high) = (Variable::new(0), Variable::new(15));

@@ -54,7 +54,8 @@ fn faults_of(closed: &Result<(), Fault>) -> u64
     if closed.is_err() { 1 } else { 0 }
 }
 
-/// What finalises the dying objects of a heap. It puts objects that other threads own into the queues that it was given.
+/// What finalises the dying objects of a heap. It puts objects that other threads own into the queues that it was
+/// given.
 #[derive(Drop)]
 pub struct Finaliser<'h, T: Drop, Q: Marker<T>> {
     pub(crate) heap: &'h Heap<T>,
@@ -108,8 +109,8 @@ impl<'h, T: Drop, Q: Marker<T>> Finaliser<'h, T, Q> {
         unreachable!()
     }
 
-    /// Does the next duties: merges an object whose mark the hand has taken, gives up the reference that was handed over
-    /// with it, and settles. Returns how many closes have failed, up to the greatest number.
+    /// Does the next duties: merges an object whose mark the hand has taken, gives up the reference that was handed
+    /// over with it, and settles. Returns how many closes have failed, up to the greatest number.
     pub fn merge_claimed<R: Wait, H: Host<Res = T>>(
         &self,
         rt: &R,
@@ -187,8 +188,8 @@ impl<'h, T: Drop, Q: Marker<T>> Finaliser<'h, T, Q> {
         faults_of(&closed)
     }
 
-    /// Does the next duties, behind which others may come: empties the cells of a dying list, and gives up the references
-    /// that were there.
+    /// Does the next duties, behind which others may come: empties the cells of a dying list, and gives up the
+    /// references that were there.
     fn empty_cells<R: Wait>(&self, rt: &R, hand: &mut Hand<T>, row: u32, cells: u32)
         requires table { IsOf self.now hand.old }
         requires alive { hand.old.view.status ≢ Gone }
@@ -204,8 +205,8 @@ impl<'h, T: Drop, Q: Marker<T>> Finaliser<'h, T, Q> {
         }
     }
 
-    /// Does the next duties, behind which others may come: empties a cell of a dying list, and gives up the reference that
-    /// was there.
+    /// Does the next duties, behind which others may come: empties a cell of a dying list, and gives up the reference
+    /// that was there.
     fn empty_cell<R: Wait>(&self, rt: &R, hand: &mut Hand<T>, row: u32, cell: u32)
         requires table { IsOf self.now hand.old }
         requires alive { hand.old.view.status ≢ Gone }

@@ -70,9 +70,9 @@ impl<'h, T: Drop, Q: Marker<T>> Finaliser<'h, T, Q> {
         }
     }
 
-    /// Does the next duties, behind which others may come: gives up a reference in the row's shared word, and tries again
-    /// until no other thread has changed the word in between. If the reference goes into the queue of an owner that no
-    /// longer looks there, the hand merges the object, and then gives the reference up.
+    /// Does the next duties, behind which others may come: gives up a reference in the row's shared word, and tries
+    /// again until no other thread has changed the word in between. If the reference goes into the queue of an owner
+    /// that no longer looks there, the hand merges the object, and then gives the reference up.
     pub fn give_up<R: Wait>(&self, rt: &R, hand: &mut Hand<T>, row: u32)
         requires table { IsOf self.now hand.old }
         requires alive { hand.old.view.status ≢ Gone }

@@ -1,6 +1,6 @@
 //! The deallocation of objects whose last reference is gone (PEP 703, Biased Reference Counting; `tp_dealloc` of the
-//! Python/C API manual). A hand keeps such objects in a chain, and finalises them one by one, without recursion: a list of
-//! lists, however deep, takes no more stack than a number.
+//! Python/C API manual). A hand keeps such objects in a chain, and finalises them one by one, without recursion: a list
+//! of lists, however deep, takes no more stack than a number.
 //!
 //! Each call waits where another thread's exchange has won, and then tries again. None takes memory.
 #![tactic(auto)]

@@ -10,9 +10,9 @@ use brc_word::{is_dead, local_count, merged};
 use crossbeam_utils::Backoff;
 use std::sync::Wait;
 
-/// Does the next duties, behind which others may come: swaps the row's local word for nobody's, and adds its count to the
-/// shared one. An object without a reference goes to the head of the hand's dying chain. A merge for a handed reference
-/// leaves the duty to give that up.
+/// Does the next duties, behind which others may come: swaps the row's local word for nobody's, and adds its count to
+/// the shared one. An object without a reference goes to the head of the hand's dying chain. A merge for a handed
+/// reference leaves the duty to give that up.
 pub fn merge<T: Drop, R: Wait>(rt: &R, words: &Words<T>, hand: &mut Hand<T>, row: u32)
     requires table { IsOf words.now hand.old }
     requires alive { hand.old.view.status ≢ Gone }
@@ -28,8 +28,8 @@ pub fn merge<T: Drop, R: Wait>(rt: &R, words: &Words<T>, hand: &mut Hand<T>, row
     }
 }
 
-/// Does the next duties, behind which others may come: adds the carried local count to the row's shared word and makes its
-/// state merged, and tries again until no other thread has changed the word in between.
+/// Does the next duties, behind which others may come: adds the carried local count to the row's shared word and makes
+/// its state merged, and tries again until no other thread has changed the word in between.
 fn merge_carried<T: Drop, R: Wait>(
     rt: &R,
     words: &Words<T>,

@@ -10,8 +10,8 @@ use brc_heap::{Hand, LocalRelease, Marker};
 use std::sync::Wait;
 
 impl<'h, T: Drop, Q: Marker<T>> Finaliser<'h, T, Q> {
-    /// Gives up a reference to an object (`Py_DECREF`). An object without a reference goes to the head of the hand's dying
-    /// chain: `settle` finalises it.
+    /// Gives up a reference to an object (`Py_DECREF`). An object without a reference goes to the head of the hand's
+    /// dying chain: `settle` finalises it.
     ///
     /// The hand keeps a reference to the object that it has locked.
     pub fn release<R: Wait>(&self, rt: &R, hand: &mut Hand<T>, row: u32)

@@ -33,9 +33,9 @@ fn kind_number(kind: Kind) -> u32
 }
 
 impl<T: Drop> Heap<T> {
-    /// Gives birth to an object: a number of value `arg`, a list of `arg` empty cells (8 at most), or a file or a socket
-    /// with its resource (`arg` is 0). Returns its row, the next of the hand's block. The hand holds its only reference,
-    /// which is local.
+    /// Gives birth to an object: a number of value `arg`, a list of `arg` empty cells (8 at most), or a file or a
+    /// socket with its resource (`arg` is 0). Returns its row, the next of the hand's block. The hand holds its only
+    /// reference, which is local.
     pub fn birth(&self, hand: &mut Hand<T>, kind: Kind, arg: u32, resource: Option<T>) -> u32
         requires table { IsOf self.now hand.old }
         requires running { IsRunning hand.old.view }

@@ -51,8 +51,8 @@ impl<T: Drop> Model for Final<T> {
 }
 
 impl<T: Drop> Heap<T> {
-    /// Ends the heap, with main's hand: asks each thread's word in turn, by rising number. No worker's hand is needed. Of
-    /// the rows of a worker whose hand was joined, exactly those that the worker has used are born.
+    /// Ends the heap, with main's hand: asks each thread's word in turn, by rising number. No worker's hand is needed.
+    /// Of the rows of a worker whose hand was joined, exactly those that the worker has used are born.
     ///
     /// # Errors
     ///

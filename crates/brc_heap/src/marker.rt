@@ -26,8 +26,8 @@ pub trait Marker<T> {
 
     /// Does the next duties, behind which others may come: sets the row's mark, which puts the object into its owner's
     /// queue, and looks after it. An owner that runs will find the mark. If the owner is leaving or gone, its exit may
-    /// have scanned the mark before it was set: the hand then takes the mark back, and merges the object if the mark was
-    /// still set.
+    /// have scanned the mark before it was set: the hand then takes the mark back, and merges the object if the mark
+    /// was still set.
     fn post(&self, hand: &mut Hand<T>, row: u32) -> Looked
         requires table { IsOf (heap self.now) hand.old }
         requires alive { hand.old.view.status ≢ Gone }

@@ -12,8 +12,8 @@ use brc_table::Hand;
 use brc_word::{LocalChoice, retain_choice};
 
 impl<T: Drop> Heap<T> {
-    /// Makes a new reference to an object to which the hand holds one already, or which it borrows from the list that it
-    /// has locked (`Py_INCREF`). From then on the hand has a reference of its own, which outlasts the lock.
+    /// Makes a new reference to an object to which the hand holds one already, or which it borrows from the list that
+    /// it has locked (`Py_INCREF`). From then on the hand has a reference of its own, which outlasts the lock.
     ///
     /// The owner counts in the local word, and any other thread in the shared word. An immortal object isn't counted.
     pub fn retain(&self, hand: &mut Hand<T>, row: u32)

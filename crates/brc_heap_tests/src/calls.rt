@@ -70,7 +70,8 @@ pub fn release_shared(heap: &Heap<u32>, hand: &mut Hand<u32>) -> SharedRelease
     ended
 }
 
-/// Releases the root. Returns how its local release ended, or `None` if no reference is left, or something is left to do.
+/// Releases the root. Returns how its local release ended, or `None` if no reference is left, or something is left to
+/// do.
 #[tactic(auto, using(crate::proofs::Readiness::both_leave, crate::proofs::Readiness::still_acts))]
 fn release(heap: &Heap<u32>, hand: &mut Hand<u32>) -> Option<LocalRelease>
     requires table { IsOf heap.now hand.old }

@@ -41,8 +41,8 @@ fn running_threads_keep_the_heap(rt: HostRuntime) -> Result<(), Fail> {
     Ok(())
 }
 
-// Under `rt try --test --fail-alloc N` the Nth allocation fails. A heap of 32 workers makes 37: for its first words, the
-// list of spares, what each of 33 hands carries, and the words and slots of its table.
+// Under `rt try --test --fail-alloc N` the Nth allocation fails. A heap of 32 workers makes 37: for its first words,
+// the list of spares, what each of 33 hands carries, and the words and slots of its table.
 #[test]
 fn no_memory(rt: HostRuntime) -> Result<(), Fail> {
     match Heap::<u32>::new(rt.alloc(), 32, 1024) {

@@ -101,8 +101,8 @@ fn between_mark_and_look(
 }
 
 /// Takes the root out of main's queue, merges it, and gives the handed reference up. Returns the local count that was
-/// merged, and the shared words that the merge and the release found; or `None` if the root isn't in the queue, or another
-/// thread came between.
+/// merged, and the shared words that the merge and the release found; or `None` if the root isn't in the queue, or
+/// another thread came between.
 fn merges_own(heap: &Heap<u32>, main: &mut Hand<u32>) -> Option<(u32, u64, u64)>
     requires alone { IsAlone heap.now main.old }
     requires main { main.old.view.thread ≡ 0 }

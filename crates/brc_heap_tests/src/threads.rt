@@ -1,4 +1,5 @@
-//! Threads that count at the same time. In one round another hand holds a lock meanwhile: no lock stands behind the calls.
+//! Threads that count at the same time. In one round another hand holds a lock meanwhile: no lock stands behind the
+//! calls.
 
 ghost use Rattle.std.specs.Prelude.{◌≡◌, true, OnOk};
 ghost use Rattle.brc_heap_tests.specs.Ready.{IsAlone, IsReadyAt, alone-prop};
@@ -23,8 +24,8 @@ const MOST_TURNS: u32 = 100_000_000;
 /// The value of the numbers.
 const VALUE: u32 = 7;
 
-/// For each hand, by its thread's number, how often it has retained and released the root, and how often a number of its
-/// own, with a reference left each time. Main has no number.
+/// For each hand, by its thread's number, how often it has retained and released the root, and how often a number of
+/// its own, with a reference left each time. Main has no number.
 type Counts = [[u32; 2]; 5];
 
 /// What the hands of a round have done so far.
@@ -148,8 +149,8 @@ fn crew<'a>(
     Ok(workers)
 }
 
-/// Lets the workers count in threads of a scope, and main beside them; and the locker hold the root meanwhile, if there is
-/// one. Returns what they have counted, or `None` if the locker couldn't lock the root, or has missed the others.
+/// Lets the workers count in threads of a scope, and main beside them; and the locker hold the root meanwhile, if there
+/// is one. Returns what they have counted, or `None` if the locker couldn't lock the root, or has missed the others.
 fn all_count<R: Threads + Wait + Sync>(
     rt: &R,
     alloc: Global,

@@ -107,15 +107,15 @@ pub enum Instr {
         mode: Mode,
         otherwise: u8,
     },
-    /// `connect vD P else @L`: connects to the peer of the number P, 0 to 15, and owns the socket in vD; goes on at L if
-    /// the worker has no row left or the host refuses.
+    /// `connect vD P else @L`: connects to the peer of the number P, 0 to 15, and owns the socket in vD; goes on at L
+    /// if the worker has no row left or the host refuses.
     Connect {
         to: Variable,
         peer: u8,
         otherwise: u8,
     },
-    /// `read vD vF N else @L`: reads at most N bytes, 1 to 4096, from the file or socket that vF names, and owns in vD a
-    /// new number, their count; goes on at L if the worker has no row left or the host fails.
+    /// `read vD vF N else @L`: reads at most N bytes, 1 to 4096, from the file or socket that vF names, and owns in vD
+    /// a new number, their count; goes on at L if the worker has no row left or the host fails.
     Read {
         to: Variable,
         file: Variable,

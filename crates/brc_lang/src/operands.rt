@@ -30,8 +30,8 @@ pub(crate) fn birth(low: u32, high: u32, operands: &[u8]) -> Result<(Variable, u
     Ok((to, number, otherwise))
 }
 
-/// Reads the operands of `borrow`, `fetch` or `read`: a variable, an object, a number from `low` to `high`, `else` and a
-/// target.
+/// Reads the operands of `borrow`, `fetch` or `read`: a variable, an object, a number from `low` to `high`, `else` and
+/// a target.
 pub(crate) fn taking(
     low: u32,
     high: u32,

@@ -5,8 +5,8 @@ ghost use Rattle.brc_lang.specs.Fault.{targets_fit};
 
 use crate::module::Instr;
 
-/// Returns whether each target behind `else` or `goto` is the number of a later instruction of the code, and each target
-/// of `again` that of the instruction itself or of an earlier one.
+/// Returns whether each target behind `else` or `goto` is the number of a later instruction of the code, and each
+/// target of `again` that of the instruction itself or of an earlier one.
 pub(crate) fn targets_fit(code: &[Instr]) -> bool
     ensures { result ≡ targets_fit code.now }
 {

@@ -7,7 +7,7 @@
 -- duties, `AloneBegins` those of what it does in one go, `LocksBegin` those of locks and of a look at a cell;
 -- `FirstOfChain` says what holds of the first object of a thread's dying chain, and `Locks` that the thread still holds
 -- the list that it has locked. `Moved`, `OneReference` and
--- `HandedOver` hand a reference over to another thread. None of these knows code. `Callers` and `FirstCounts` show the
+-- `HandedOver` hand a reference over to another thread. None of these knows code. `Callers`, `FirstCounts` and `FirstRanges` show the
 -- invariant of a machine in which some threads hold the root, `FirstHands` and `FirstMachine` that the first machines
 -- are such. `CodeInvariant` adds the second layer, about accepted code, `StepCases` splits an event by its action,
 -- `KindsHold` shows over it that variables keep their kinds `ItemsHold` that borrowed items stay in the locked list and
@@ -38,6 +38,7 @@ pub mod CellChanges
 pub mod CellsSwapped
 pub mod Callers
 pub mod FirstCounts
+pub mod FirstRanges
 pub mod FirstHands
 pub mod FirstMachine
 pub mod CodeInvariant

@@ -1,6 +1,6 @@
--- Which thread uses a row's slot alone. A running thread takes the slot out of the table that threads share, uses it with
--- plain reads and writes, and gives it back: it does so while it has locked the row, while it gives birth to the row's
--- object, and while it deallocates the object.
+-- Which thread uses a row's slot alone. A running thread takes the slot out of the table that threads share, uses it
+-- with plain reads and writes, and gives it back: it does so while it has locked the row, while it gives birth to the
+-- row's object, and while it deallocates the object.
 use Rattle.std.specs.Prelude.{◌≡◌, ◌≢◌, ◌⊎◌, ℕ, Bool, true, false, ◌==◌, if◌then◌else◌, List, None, Some, slice_get}
 use Rattle.std.specs.List.{list_any}
 use Rattle.brc_word.specs.Words.{free_word, closed_word}
@@ -57,8 +57,8 @@ SlotsAreFree =
     → Counts p n m → ComesNext m t a d rest → use_of d (m.memory (address_of m.layout t a.head d)) ≡ Takes x
     → slice_get m.actors u ≡ Some b → UsesSlot b x → ⊥
 
--- What becomes of a thread's lock when it gives the row's slot back: it has locked no row but one that it had locked, and
--- not this one.
+-- What becomes of a thread's lock when it gives the row's slot back: it has locked no row but one that it had locked,
+-- and not this one.
 pub record Unlocks (a : Actor) (d : Duty) (found x : ℕ) : Type 0 where
   pub left : (y : ℕ) → locked_by a.locked d found ≡ Some y → (y ≢ x) × (a.locked ≡ Some y)
   pub kept : (y : ℕ) → y ≢ x → a.locked ≡ Some y → locked_by a.locked d found ≡ Some y

@@ -26,8 +26,8 @@ pub fn cells_hold()
     ensures { CellsHold }
 {}
 
-/// States that at the end, when each thread is gone or was never started, exactly the counted objects that no cell of an
-/// open list names are closed.
+/// States that at the end, when each thread is gone or was never started, exactly the counted objects that no cell of
+/// an open list names are closed.
 pub fn rows_end()
     ensures { RowsEnd }
 {}

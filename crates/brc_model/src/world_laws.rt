@@ -60,8 +60,8 @@ pub fn steps_move()
         → (step w t Ok ≡ w) × (step w t Fault ≡ w) × (step w t (Claim row) ≡ w) × (step w t Stop ≡ w) }
 {}
 
-/// States what a thread has to do that stops. In a call, before an instruction, it has to unlock what it has locked, and
-/// to give up just what its variables own at the point, by the module's table. Before its first call or between two
+/// States what a thread has to do that stops. In a call, before an instruction, it has to unlock what it has locked,
+/// and to give up just what its variables own at the point, by the module's table. Before its first call or between two
 /// calls it has nothing to give up. In either case it makes no further call.
 pub fn stops_give_up_what_is_owned()
     ensures in_call { (p : Module) (w : World) (t at : ℕ) (a : StepActor) (context : Context)

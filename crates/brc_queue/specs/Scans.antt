@@ -10,8 +10,8 @@ use Rattle.brc_table.specs.Views.{done, claiming, leaving}
 use Rattle.brc_heap.specs.Calls.{released_locally}
 use Rattle.brc_free.specs.Works.{HasWorked, to_settle}
 
--- The hand has taken the mark of the row at index i of its block. Where the mark was set, it has merged the object, given
--- up the reference that was handed over with it, and settled, with these closes of the host.
+-- The hand has taken the mark of the row at index i of its block. Where the mark was set, it has merged the object,
+-- given up the reference that was handed over with it, and settled, with these closes of the host.
 pub record Claims (i : ℕ) (closes : List HostCall) (v w : View) : Type 0 where
   pub found : ℕ
   pub follows : HasWorked (done (claiming v (row_at v.layout v.thread i)) found) closes [] w

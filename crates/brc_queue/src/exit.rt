@@ -18,11 +18,11 @@ use brc_host::Host;
 use std::sync::Wait;
 
 impl<'h, T: Drop> Queue<'h, T> {
-    /// Leaves (PEP 703, Biased Reference Counting: an exiting thread merges the objects in its queue). The hand's thread
-    /// gives up its reference to the root and finalises what dies; says that it is leaving, so that whoever queues an
-    /// object for it from then on looks after it; by rising number, takes the mark of each used row of its block, merges
-    /// each object whose mark was set, gives up the reference that was handed over with it, and finalises what dies; and
-    /// says that it is gone. Returns how many closes have failed, up to the greatest number.
+    /// Leaves (PEP 703, Biased Reference Counting: an exiting thread merges the objects in its queue). The hand's
+    /// thread gives up its reference to the root and finalises what dies; says that it is leaving, so that whoever
+    /// queues an object for it from then on looks after it; by rising number, takes the mark of each used row of its
+    /// block, merges each object whose mark was set, gives up the reference that was handed over with it, and finalises
+    /// what dies; and says that it is gone. Returns how many closes have failed, up to the greatest number.
     ///
     /// The hand has nothing to do, its dying chain is empty, and it holds a reference to the root and no other.
     pub fn leave<R: Wait, H: Host<Res = T>>(&self, rt: &R, hand: &mut Hand<T>, host: &mut H) -> u64
@@ -52,8 +52,8 @@ impl<'h, T: Drop> Queue<'h, T> {
         failed.saturating_add(more)
     }
 
-    /// Does the next duties: scans the marks of all used rows of the hand's block. Returns how many closes have failed, up
-    /// to the greatest number.
+    /// Does the next duties: scans the marks of all used rows of the hand's block. Returns how many closes have failed,
+    /// up to the greatest number.
     fn scan<R: Wait, H: Host<Res = T>>(&self, rt: &R, hand: &mut Hand<T>, host: &mut H) -> u64
         requires table { IsOf self.now hand.old }
         requires alive { hand.old.view.status ≢ Gone }
@@ -74,8 +74,8 @@ impl<'h, T: Drop> Queue<'h, T> {
         failed
     }
 
-    /// Does the next duties: takes the mark of the row with the index in the hand's block, and does what follows. Returns
-    /// how many closes have failed, up to the greatest number.
+    /// Does the next duties: takes the mark of the row with the index in the hand's block, and does what follows.
+    /// Returns how many closes have failed, up to the greatest number.
     fn scan_row<R: Wait, H: Host<Res = T>>(
         &self,
         rt: &R,

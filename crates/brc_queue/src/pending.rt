@@ -17,8 +17,8 @@ use std::sync::Wait;
 impl<'h, T: Drop> Queue<'h, T> {
     /// Looks through the hand's own queue (PEP 703, Biased Reference Counting: a thread merges the objects that others
     /// have queued for it). By rising number, takes the mark of each used row of the hand's block; merges each object
-    /// whose mark was set, gives up the reference that was handed over with it, and finalises what dies. Returns how many
-    /// closes have failed, up to the greatest number.
+    /// whose mark was set, gives up the reference that was handed over with it, and finalises what dies. Returns how
+    /// many closes have failed, up to the greatest number.
     ///
     /// The hand has nothing to do, and its dying chain is empty.
     pub fn merge_pending<R: Wait, H: Host<Res = T>>(
@@ -48,8 +48,8 @@ impl<'h, T: Drop> Queue<'h, T> {
         failed
     }
 
-    /// Takes the mark of the row with the index in the hand's block, and does what follows. Returns how many closes have
-    /// failed, up to the greatest number.
+    /// Takes the mark of the row with the index in the hand's block, and does what follows. Returns how many closes
+    /// have failed, up to the greatest number.
     fn claim<R: Wait, H: Host<Res = T>>(
         &self,
         rt: &R,

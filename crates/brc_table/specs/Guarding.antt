@@ -1,6 +1,6 @@
 -- What holds of a table between any two steps of its hands, beside the counts: marks that are set are watched, cells
--- change under their list's lock alone, a running thread alone changes the local words of its block, a hand whose thread
--- is gone holds nothing, and one hand at a time has taken a slot that is out of the table.
+-- change under their list's lock alone, a running thread alone changes the local words of its block, a hand whose
+-- thread is gone holds nothing, and one hand at a time has taken a slot that is out of the table.
 use Rattle.std.specs.Prelude.{◌≡◌, ◌≢◌, ◌⊎◌, ℕ, ◌<◌, ◌≤◌, true, Option, List, [], ◌∷◌, None, Some, slice_index}
 use Rattle.std.specs.List.{list_any}
 use mathlib.Core.Option as home

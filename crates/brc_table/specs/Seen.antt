@@ -1,5 +1,5 @@
--- What a hand has seen of kind words, of the cells of its locked list and of threads. Its trace has each step that it made with the
--- value that the step left.
+-- What a hand has seen of kind words, of the cells of its locked list and of threads. Its trace has each step that it
+-- made with the value that the step left.
 use Rattle.std.specs.Prelude.{◌≡◌, ℕ, ◌<◌, Bool, true, ◌==◌, ◌&&◌, if◌then◌else◌, Option, None, Some, fold}
 use Rattle.std.specs.List.{list_any}
 use Rattle.brc_model.specs.declared.address.Address.TheVariants.{Gate, KindOf, Cell, ThreadWord}

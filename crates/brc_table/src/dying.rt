@@ -36,8 +36,8 @@ impl<T: Drop> Words<T> {
         self.load_chain::<Brand>(hand)
     }
 
-    /// Does the next duty: loads the kind word of the dying object, and takes its slot, which holds a resource if the kind
-    /// has one.
+    /// Does the next duty: loads the kind word of the dying object, and takes its slot, which holds a resource if the
+    /// kind has one.
     pub fn dying_kind_load(&self, hand: &mut Hand<T>, row: u32) -> u64
         requires table { IsOf self.now hand.old }
         requires alive { hand.old.view.status ≢ Gone }
@@ -66,8 +66,8 @@ impl<T: Drop> Words<T> {
         self.swap_cell::<Brand>(hand, row, cell, EMPTY)
     }
 
-    /// Does the next duty: closes the dying object, and gives its slot back, which has to be empty. Returns the gate found,
-    /// which says who deallocates the object.
+    /// Does the next duty: closes the dying object, and gives its slot back, which has to be empty. Returns the gate
+    /// found, which says who deallocates the object.
     ///
     /// The step is a swap, since no duty knows what the gate said of the rest of the chain.
     pub fn gate_close(&self, hand: &mut Hand<T>, row: u32) -> u64

@@ -85,8 +85,8 @@ impl<T: Drop> Words<T> {
         self.store::<Brand>(hand, MARK, row, QUEUED, head, used);
     }
 
-    /// Does the next duty, behind which others may come: looks whether the thread of the row's block still runs. Returns
-    /// what the thread word says, as `thread_load`.
+    /// Does the next duty, behind which others may come: looks whether the thread of the row's block still runs.
+    /// Returns what the thread word says, as `thread_load`.
     pub fn thread_load_next(&self, hand: &mut Hand<T>, row: u32) -> u64
         requires table { IsOf self.now hand.old }
         requires alive { hand.old.view.status ≢ Gone }

@@ -34,8 +34,8 @@ pub fn set_marks_are_watched()
     queued_marks_are_watched();
 }
 
-/// States that a step changes a cell only if its hand has locked the list, or deallocates it. The first clause speaks of
-/// duties, and the second of swaps, which are steps of no duty.
+/// States that a step changes a cell only if its hand has locked the list, or deallocates it. The first clause speaks
+/// of duties, and the second of swaps, which are steps of no duty.
 pub fn only_holders_change_cells()
     ensures duties { OnlyHoldersChangeCells }
     ensures swaps { OnlyHoldersSwapCells }

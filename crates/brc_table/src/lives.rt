@@ -25,8 +25,8 @@ use std::marker::Brand;
 const FRONT_ROWS: u32 = 2;
 
 impl<T: Drop> Words<T> {
-    /// Begins the birth of an object: stores its kind word, and takes its slot, which is empty. Returns the object's row,
-    /// the next of the hand's block.
+    /// Begins the birth of an object: stores its kind word, and takes its slot, which is empty. Returns the object's
+    /// row, the next of the hand's block.
     pub fn kind_store(&self, hand: &mut Hand<T>, word: u64) -> u32
         requires table { IsOf self.now hand.old }
         requires running { IsRunning hand.old.view }

@@ -1,5 +1,5 @@
-//! What a hand does with the slot that it took last: it puts a resource in, or takes it out. No other hand reaches the slot
-//! meanwhile, so these are plain reads and writes, and no step of the hand.
+//! What a hand does with the slot that it took last: it puts a resource in, or takes it out. No other hand reaches the
+//! slot meanwhile, so these are plain reads and writes, and no step of the hand.
 
 ghost use Rattle.std.specs.Prelude.{◌≡◌, ◌∷◌};
 ghost use Rattle.brc_table.specs.Hands.{IsOf};

@@ -228,8 +228,8 @@ impl<T: Drop> Words<T> {
             .swap::<Continued<B>>(&mut hand.seat, index, new)
     }
 
-    /// Swaps a cell of the list that the hand has locked. A reference of the hand goes in, and what the cell held is the
-    /// hand's from then on.
+    /// Swaps a cell of the list that the hand has locked. A reference of the hand goes in, and what the cell held is
+    /// the hand's from then on.
     pub(crate) fn swap_item<B: Swap>(
         &self,
         hand: &mut Hand<T>,

@@ -1,8 +1,8 @@
--- What a hand's thread makes (`Makes`), and what a thread of the step world can make (`CanMake` of the model). Two things
--- set them apart. A hand's thread makes a number of how many bytes `read` has read, where a thread of the step world
--- makes 0; and a thread of the step world may claim marks between two calls, or be stopped. Apart from that, a thread of
--- the step world can make what a hand's thread makes, and a hand's thread what a thread of the step world can make: from
--- inside an instruction, only without other calls of the host than closes.
+-- What a hand's thread makes (`Makes`), and what a thread of the step world can make (`CanMake` of the model). Two
+-- things set them apart. A hand's thread makes a number of how many bytes `read` has read, where a thread of the step
+-- world makes 0; and a thread of the step world may claim marks between two calls, or be stopped. Apart from that, a
+-- thread of the step world can make what a hand's thread makes, and a hand's thread what a thread of the step world can
+-- make: from inside an instruction, only without other calls of the host than closes.
 use Rattle.std.specs.Prelude.{◌≡◌, ◌≢◌, ◌&&◌, ℕ, Bool, true, false, List, Option, map, slice_get}
 use Rattle.brc_host.specs.HostCalls.{HostCall}
 use Rattle.brc_lang.specs.declared.module.Function.{Function}

@@ -62,8 +62,8 @@ pub data StopsBy (code : List Instr) (times steps : ℕ) (v : View) : List HostC
       → MakesCalls code v made begun calls u → LooksThrough u u.used closes w → begun + more ≡ steps
       → StopsInCall code more within w x → StopsBy code times steps v (calls ++ (closes ++ within)) x
 
--- What the hand has made in a run, with these calls of the host. It was to make `times` calls of the code, and may begin
--- `steps` instructions in all of them together. It has made all, or has stopped.
+-- What the hand has made in a run, with these calls of the host. It was to make `times` calls of the code, and may
+-- begin `steps` instructions in all of them together. It has made all, or has stopped.
 abbrev pub RanBy : List Instr → ℕ → ℕ → Bool → List HostCall → View → View → Type 0
 RanBy code times steps true calls v u = (begun : ℕ) × (begun ≤ steps) × MakesCalls code v times begun calls u
 RanBy code times steps false calls v u = StopsBy code times steps v calls u

@@ -62,8 +62,8 @@ pub record IsGone (j : Job) (hand : HandState) : Type 0 where
   pub gone : hand.view.status ≡ Gone
   pub no_slot : hand.slots ≡ []
 
--- The worker's hand has done its job: it has made the calls, or was stopped by its bound, is gone, and holds nothing. The
--- worker has counted the objects that it has given birth to, and the faults of its host.
+-- The worker's hand has done its job: it has made the calls, or was stopped by its bound, is gone, and holds nothing.
+-- The worker has counted the objects that it has given birth to, and the faults of its host.
 pub record HasGone {S : Type 0} (answers : S → HostCall → S → Type 0) (counts : S → HostCounts) (j : Job)
     (hand : HandState) (ran : Ran) : Type 0 where
   pub hand_is : IsGone j hand

@@ -64,8 +64,8 @@ fn ends_call(instr: Instr) -> bool
 }
 
 impl<'h, T: Drop> Worker<'h, T> {
-    /// Makes a call of the function. Returns whether it has ended; else the worker has stopped in it. `left` is how many
-    /// instructions the worker may begin, at least one. The hand holds afterwards what it held before.
+    /// Makes a call of the function. Returns whether it has ended; else the worker has stopped in it. `left` is how
+    /// many instructions the worker may begin, at least one. The hand holds afterwards what it held before.
     pub(crate) fn call<R: Wait, H: Host<Res = T>>(
         &self,
         rt: &R,

@@ -92,8 +92,8 @@ impl<'h, T: Drop> Worker<'h, T> {
         }
     }
 
-    /// `read`: reads from a file or a peer, and makes a number of how many bytes that were. Room for the number's row is
-    /// asked before the host is called.
+    /// `read`: reads from a file or a peer, and makes a number of how many bytes that were. Room for the number's row
+    /// is asked before the host is called.
     pub(crate) fn read<H: Host<Res = T>>(
         &self,
         rows: &mut Variables,

@@ -10,8 +10,8 @@ use crate::totals::Totals;
 pub enum Ran {
     /// The worker has made all its calls.
     Done(Totals),
-    /// The worker has begun as many instructions as it may, with an instruction or a call left to begin. It has given up
-    /// what it held.
+    /// The worker has begun as many instructions as it may, with an instruction or a call left to begin. It has given
+    /// up what it held.
     Stopped(Totals),
 }
 

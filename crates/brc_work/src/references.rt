@@ -63,8 +63,8 @@ impl<'h, T: Drop> Worker<'h, T> {
         name(rows, to, Some(row));
     }
 
-    /// Gives up the reference of a variable, and finalises what dies. So do `drop` and `ret`, and `set` where the list has
-    /// no such cell.
+    /// Gives up the reference of a variable, and finalises what dies. So do `drop` and `ret`, and `set` where the list
+    /// has no such cell.
     pub(crate) fn give_up<R: Wait, H: Host<Res = T>>(
         &self,
         rt: &R,

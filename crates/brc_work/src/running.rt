@@ -23,9 +23,9 @@ impl<'h, T: Drop> Worker<'h, T> {
     /// made all calls, and what it has counted.
     ///
     /// The run stops where `steps` instructions have begun, and an instruction or a call is left to begin: it unlocks
-    /// what is locked, gives up the references of the variables that own one, by rising number, and finalises what dies.
-    /// `gate` hears of each call that begins, and of its end unless the run stops in it. With `u64::MAX` steps no run
-    /// stops.
+    /// what is locked, gives up the references of the variables that own one, by rising number, and finalises what
+    /// dies. `gate` hears of each call that begins, and of its end unless the run stops in it. With `u64::MAX` steps no
+    /// run stops.
     ///
     /// The host is asked for what the instructions say, and for the closes of what dies, and for nothing else.
     ///

@@ -28,9 +28,9 @@ fn is_owned(slot: Slot) -> bool
 }
 
 impl<'h, T: Drop> Worker<'h, T> {
-    /// Gives up what a call holds that is stopped at a point with this state. It unlocks first, because another worker may
-    /// wait for the lock; then it gives up the references of the variables that own one, by rising number; and at last it
-    /// finalises what dies by that. What variables borrow isn't the call's own.
+    /// Gives up what a call holds that is stopped at a point with this state. It unlocks first, because another worker
+    /// may wait for the lock; then it gives up the references of the variables that own one, by rising number; and at
+    /// last it finalises what dies by that. What variables borrow isn't the call's own.
     pub(crate) fn stop<R: Wait, H: Host<Res = T>>(
         &self,
         rt: &R,

@@ -46,8 +46,8 @@ pub(crate) struct Remains<T: Drop> {
     pub(crate) called: bool,
 }
 
-/// A worker's promise: when its thread ends, its hand is gone, and unless the workers were called off before it began, it
-/// has made its calls, or was stopped by its bound, and has left.
+/// A worker's promise: when its thread ends, its hand is gone, and unless the workers were called off before it began,
+/// it has made its calls, or was stopped by its bound, and has left.
 #[derive(Drop)]
 pub(crate) struct Leaves<T: Drop, H> {
     pub(crate) heap: Snapshot<Heap<T>>,

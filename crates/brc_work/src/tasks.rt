@@ -12,8 +12,8 @@ use brc_check::Checked;
 use brc_heap::{Hand, Heap};
 use brc_host::Host;
 
-/// Gives out a hand for each host, to workers 1, 2, .. in order. Returns their tasks. There are no tasks yet, and there is
-/// room for one for each host.
+/// Gives out a hand for each host, to workers 1, 2, .. in order. Returns their tasks. There are no tasks yet, and there
+/// is room for one for each host.
 pub(crate) fn tasks_of<'w, T: Drop, H: Host<Res = T>, G: Gate>(
     heap: &'w Heap<T>,
     main: &mut Hand<T>,

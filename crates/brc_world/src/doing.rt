@@ -258,8 +258,9 @@ pub fn may_claim(layout: Layout, number: u8, thread: &Thread, row: u32) -> bool
     }
 }
 
-/// Returns whether a stop changes the thread: it runs, has nothing to do, and is before a call or before an instruction.
-/// At a point that no path of its function reaches it can't stop, because nobody knows what it holds there.
+/// Returns whether a stop changes the thread: it runs, has nothing to do, and is before a call or before an
+/// instruction. At a point that no path of its function reaches it can't stop, because nobody knows what it holds
+/// there.
 pub fn stops(checked: &Checked, thread: &Thread) -> bool
     ensures { result ≡ is_silent (action_stopped (states_of checked.now.module checked.now.table)
         (actor_of thread.now)) }

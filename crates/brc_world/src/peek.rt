@@ -27,7 +27,8 @@ use brc_model::{Address, Choice, Duty, Layout, Status};
 use brc_word::kind_number;
 
 /// Returns the sight of the thread's step by the choice, or `None` if it takes no step: it is gone, may not claim the
-/// row, or can't stop where it is. `copy` becomes a copy of the thread whose step has started. Returns `NoMemory` if memory is refused.
+/// row, or can't stop where it is. `copy` becomes a copy of the thread whose step has started. Returns `NoMemory` if
+/// memory is refused.
 pub fn peek(
     checked: &Checked,
     memory: &Memory,
@@ -68,8 +69,8 @@ pub fn peek(
     }
 }
 
-/// Returns the sight of the thread's step by a choice that is no claim and no stop, or `None` if the thread is gone. The copy's step
-/// is started, by which the thread's action is known; the thread itself stays as it is.
+/// Returns the sight of the thread's step by a choice that is no claim and no stop, or `None` if the thread is gone.
+/// The copy's step is started, by which the thread's action is known; the thread itself stays as it is.
 fn peek_ahead(
     functions: &[Function],
     memory: &Memory,
@@ -136,8 +137,8 @@ fn see_duty(
 }
 
 /// Returns the event of the thread's duty: what it finds in its word, and what it would leave there
-/// (`word_after_for_before`). A compare-exchange that fails is an event too: the thread found a word by which it retries
-/// (`lost_exchange_unseen`).
+/// (`word_after_for_before`). A compare-exchange that fails is an event too: the thread found a word by which it
+/// retries (`lost_exchange_unseen`).
 fn duty_event(memory: &Memory, layout: Layout, number: u8, thread: &Thread, duty: &Duty) -> Event
     requires some_rows { 0 < layout.rows }
     requires small { length memory.now.local ≤ total_limit }

@@ -18,15 +18,16 @@ use brc_word::{kind_argument, kind_number};
 /// What a step asks of the word that its duty finds. The answer decides where the thread goes on.
 #[derive(Clone, Copy, Debug)]
 pub enum Question {
-    /// Is the object of the kind, by its kind word? If so, the thread goes on where it is, and otherwise at `otherwise`.
+    /// Is the object of the kind, by its kind word? If so, the thread goes on where it is, and otherwise at
+    /// `otherwise`.
     Kind { kind: Kind, otherwise: u8 },
     /// Has the list a cell with the index, by its kind word? If so, the thread is then inside its instruction.
     Range { index: u8, outside: Outside },
-    /// Which item does the cell hold? The variable borrows it, and the thread goes on where it is. If the cell is empty,
-    /// so is the variable, and the thread goes on at `otherwise`.
+    /// Which item does the cell hold? The variable borrows it, and the thread goes on where it is. If the cell is
+    /// empty, so is the variable, and the thread goes on at `otherwise`.
     Borrow { to: Variable, otherwise: u8 },
-    /// Which item does the cell hold? The thread makes a reference to it next. If the cell is empty, so is the variable,
-    /// and the thread goes on at `otherwise`.
+    /// Which item does the cell hold? The thread makes a reference to it next. If the cell is empty, so is the
+    /// variable, and the thread goes on at `otherwise`.
     Fetch { to: Variable, otherwise: u8 },
 }
 

@@ -26,9 +26,9 @@ impl World<'_> {
         Ok(())
     }
 
-    /// Takes the steps of one line of a schedule. Returns `NoMemory` at the first step that is refused memory: the steps
-    /// before it have been taken, and it would have changed the world. Once the thread is gone, the rest of its steps
-    /// change nothing, and are not tried.
+    /// Takes the steps of one line of a schedule. Returns `NoMemory` at the first step that is refused memory: the
+    /// steps before it have been taken, and it would have changed the world. Once the thread is gone, the rest of its
+    /// steps change nothing, and are not tried.
     pub fn take_steps(&mut self, line: Steps) -> Result<(), NoMemory>
         requires { line.thread < length self.old.actors }
         ensures done { OnOk result (seen self.new ≡ world_after (seen self.old) (events_of_line line)) }

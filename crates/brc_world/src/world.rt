@@ -218,7 +218,8 @@ impl<'a> World<'a> {
 
     /// Returns what the thread's step by the choice does, without taking it, or `None` if the thread takes no step: it
     /// is gone, may not claim the row, or can't stop where it is. A lock that another thread holds, and a claim that
-    /// finds no mark, change nothing, but are steps all the same: each finds a word. Returns `NoMemory` if memory is refused.
+    /// finds no mark, change nothing, but are steps all the same: each finds a word. Returns `NoMemory` if memory is
+    /// refused.
     pub fn next_event(
         &self,
         scratch: &mut Scratch,

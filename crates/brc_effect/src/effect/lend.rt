@@ -8,9 +8,9 @@ use super::{Change, Doer, Effect, Next};
 use crate::states::FULL;
 
 impl Doer {
-    /// Takes the resource out of its slot for a call of the host: the thread has it lent until the call has ended. While
-    /// the slot is empty, no other thread finds the resource there. The thread has locked the object, and remembers
-    /// what it has lent (`lent_resource_forgotten`), because it has to put it back. Rule `ResourceLent`.
+    /// Takes the resource out of its slot for a call of the host: the thread has it lent until the call has ended.
+    /// While the slot is empty, no other thread finds the resource there. The thread has locked the object, and
+    /// remembers what it has lent (`lent_resource_forgotten`), because it has to put it back. Rule `ResourceLent`.
     #[inline(always)]
     pub(super) fn lend_slot(self, row: u32, found: u64) -> Effect
         ensures { IsEffect self (duties.LendSlot row) found result }

@@ -29,9 +29,9 @@ impl Doer {
         }
     }
 
-    /// Stores that the gate is free (`unlock_leaves_locked`). A plain store is enough, because no other thread stores in
-    /// the gate of a locked list. The thread holds a reference to the list until then, so that no thread deallocates a
-    /// list that is locked. Rule `Unlocks`.
+    /// Stores that the gate is free (`unlock_leaves_locked`). A plain store is enough, because no other thread stores
+    /// in the gate of a locked list. The thread holds a reference to the list until then, so that no thread deallocates
+    /// a list that is locked. Rule `Unlocks`.
     #[inline(always)]
     pub(super) fn unlock_gate(self) -> Effect
         ensures { (row : ℕ) (found : ℕ) → IsEffect self (duties.UnlockGate row) found result }

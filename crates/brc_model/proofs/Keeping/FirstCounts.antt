@@ -28,8 +28,6 @@ use Rattle.brc_model.specs.Kinds.{kind_number}
 use Rattle.brc_model.specs.AbstractState.{is_among}
 use Rattle.brc_model.specs.Limits.{row_limit, worker_limit, cell_limit}
 use Rattle.brc_model.proofs.Basics.Bag.{one_if_low}
-use Rattle.brc_model.specs.Ranges.{AreSmall, Ranges}
-use Rattle.brc_model.specs.Duties.{cells_of}
 use Rattle.brc_model.specs.declared.layout.Layout.{Layout}
 use Rattle.brc_model.specs.Layout.{row_count, root_row, front_rows, block_of, block_size, index_of, IsCounted}
 
@@ -390,18 +388,4 @@ pub rooted_kept : (p : Accounts) (layout : Layout) (callers : ℕ) → IsRooted 
 rooted_kept p layout callers is hold = record {
   core = rooted_core p layout callers is hold;
   settled = each_idle (λ t a. IsSettled a.head a.agenda) layout.workers tt (λ t low. tt);
-}
-
--- No kind word names more than eight cells.
-rooted_cells : (workers callers x : ℕ) → cells_of (rooted_memory workers callers (KindOf x)) ≤ cell_limit
-rooted_cells workers callers zero = omega arith
-rooted_cells workers callers (suc zero) = omega arith
-rooted_cells workers callers (suc (suc x)) = omega arith
-
--- Its kind words are in range, and it has no duties.
-pub rooted_ranges : (layout : Layout) (callers : ℕ) → Ranges (1 + layout.workers) (rooted_machine layout callers)
-rooted_ranges layout callers = record {
-  kinds = rooted_cells layout.workers callers;
-  each = each_idle (λ t a. AreSmall (row_count layout) a.agenda) layout.workers tt (λ t low. tt);
-  aside = each_idle (λ t a. AreSmall (row_count layout) a.aside) layout.workers tt (λ t low. tt);
 }

@@ -1,5 +1,5 @@
--- Moves of references change no word. So every thread fits afterwards, if the moves are of one thread's references to one
--- object, and none of that thread's open work is about the object.
+-- Moves of references change no word. So every thread fits afterwards, if the moves are of one thread's references to
+-- one object, and none of that thread's open work is about the object.
 use Rattle.std.proofs.Common.{◌≡◌, ◌≢◌, ℕ, Bool, true, false, List, [], ◌∷◌, inl, inr, Some, refl, sym, ap, ◌∙◌, subst, arith, eq-eqb}
 use Rattle.std.specs.Prelude.{count_by, slice_get}
 use Rattle.std.proofs.lemmas.Bool.{false≢true}

@@ -11,7 +11,7 @@ use Rattle.brc_model.proofs.Basics.Lists.{written_actor}
 use Rattle.brc_model.specs.declared.slot.Exit.{Exit}
 use Rattle.brc_model.specs.Actions.{StepActor, Action, Skip, Stuck, Silent, Calls, Does, exit_of, action_of}
 use Rattle.brc_model.specs.StepMachine.{StepMachine, counting, of_thread, machine_by, next_machine, machine_after, first_layout, first_machine}
-use Rattle.brc_model.proofs.Keeping.FirstCounts.{rooted_ranges}
+use Rattle.brc_model.proofs.Keeping.FirstRanges.{rooted_ranges}
 use Rattle.brc_model.proofs.Keeping.FirstMachine.{first_rooted}
 use Rattle.brc_model.proofs.Dispatch.Counting.{its_found, counting_silent, counting_called, counting_done}
 use Rattle.brc_model.proofs.Keeping.CodeInvariant.{CodeInvariant}

@@ -1,5 +1,5 @@
--- After each step too, the gate of an unborn row is free, that of a live row is free or names the thread that has locked
--- it, and the gate of a closed row says that it is closed.
+-- After each step too, the gate of an unborn row is free, that of a live row is free or names the thread that has
+-- locked it, and the gate of a closed row says that it is closed.
 use Rattle.std.proofs.Common.{◌≡◌, ℕ, ◌-◌, Bool, true, false, cond, List, inl, inr, None, Some, refl, sym, ap, ◌∙◌, subst}
 use Rattle.std.specs.Prelude.{◌==◌}
 use Rattle.std.proofs.lemmas.Bool.Decides.{eqb_tells}

@@ -1,5 +1,5 @@
--- Once no thread has anything to do, each object to which no reference is left is closed, and a cell of a list that isn't
--- closed holds each reference that is left.
+-- Once no thread has anything to do, each object to which no reference is left is closed, and a cell of a list that
+-- isn't closed holds each reference that is left.
 use Rattle.std.proofs.Common.{◌≡◌, ℕ, ◌<◌, true, false, List, [], ◌∷◌, inl, inr, Some, refl, sym, ap, ◌∙◌, subst, arith, ◌≢◌}
 use Rattle.std.specs.Prelude.{◌==◌, ◌⊎◌, slice_get, count_by, sum_by}
 use Rattle.std.specs.List.{All}

@@ -1,5 +1,5 @@
--- Where a thread stops in a call, it has to unlock what it has locked, and to give up just what its variables own. Where
--- it stops between two calls, it has nothing to give up.
+-- Where a thread stops in a call, it has to unlock what it has locked, and to give up just what its variables own.
+-- Where it stops between two calls, it has nothing to give up.
 use Rattle.std.proofs.Common.{◌≡◌, ℕ, suc, true, List, ◌∷◌, length, Option, Some, refl, sym, ap, ◌∙◌, subst, ◌+◌}
 use Rattle.std.specs.Prelude.{map, slice_get}
 use Rattle.std.proofs.lemmas.Option.{slice_get_within}

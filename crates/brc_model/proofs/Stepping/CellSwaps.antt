@@ -50,8 +50,8 @@ held_then : (bag middle new : List Reference) (t : ℕ) (agenda inner later : Li
 held_then bag middle new t agenda inner later first second =
     record { each = λ k object. omega (arith, first.each k object, second.each k object) }
 
--- The thread fits after `ItemStored`: the reference that the account no longer has is the cell's, and what the cell held
--- is in flight.
+-- The thread fits after `ItemStored`: the reference that the account no longer has is the cell's, and what the cell
+-- held is in flight.
 pub thread_after_cell_swap : (p : Accounts) (n : ℕ) (m : Machine) (t : ℕ) (a : Actor) (x i y : ℕ) (h : Holding)
     (rest : List Duty)
     → AtDuty p n m t a (CellSwap x i y h) rest → (a.status ≡ Gone → ⊥)

@@ -163,8 +163,8 @@ backed_so p n m t a x rest here backed none =
       none,
     )
 
--- Of a thread that locks, the account has the reference that backs the lock: none of the thread's work makes or gives up
--- a reference to the list.
+-- Of a thread that locks, the account has the reference that backs the lock: none of the thread's work makes or gives
+-- up a reference to the list.
 backed_account : (p : Accounts) (n : ℕ) (m : Machine) (t : ℕ) (a : Actor) (x : ℕ) (rest : List Duty)
     → AtDuty p n m t a (LockGate x) rest → (backed : IsHeld m t x) → making a backed.by x < p t backed.by x
 backed_account p n m t a x rest here backed =

@@ -1,6 +1,6 @@
 //! The dispatch of `borrow`, `fetch`, `set` and `put`, which use a cell of the list that the thread has locked. Each
-//! begins with a load of the list's kind word, which says whether the list has the cell. After that the thread is inside
-//! the instruction.
+//! begins with a load of the list's kind word, which says whether the list has the cell. After that the thread is
+//! inside the instruction.
 
 ghost use Rattle.std.specs.Prelude.{◌≡◌, true, ℕ, ◌+◌, ◌≤◌, [], ◌∷◌, Some, vec_len, vec_capacity};
 ghost use Rattle.brc_lang.specs.declared.module.Instr.TheVariants as instructions;
