@@ -1,12 +1,13 @@
 -- A hand's thread and a thread of the step world make the same, but for what `Automata` of specs/ names.
-use Rattle.std.proofs.Common.{◌≡◌, ◌≢◌, ℕ, ◌+◌, false, Option, Some, cond, List, [], ◌∷◌, ◌++◌, append_assoc, append-nil, refl, sym, ap, ◌∙◌, subst}
-use Rattle.std.specs.Prelude.{◌&&◌, map, slice_get, slice_set}
+use Rattle.std.proofs.Common.{◌≡◌, ◌≢◌, ℕ, suc, ◌+◌, Bool, true, false, Option, Some, cond, length, List, [], ◌∷◌, ◌++◌, append_assoc, append-nil, refl, sym, ap, ◌∙◌, subst}
+use Rattle.std.specs.Prelude.{◌==◌, ◌&&◌, map, slice_get, slice_set}
 use Rattle.std.proofs.lemmas.List.{map-append}
 use Rattle.brc_host.specs.HostCalls.{HostCall, Read, Close}
 use Rattle.brc_lang.specs.declared.module.Function.{Function}
 use Rattle.brc_lang.specs.declared.module.Instr.{Instr}
+use Rattle.brc_model.specs.declared.actor.Context.{Context}
 use Rattle.brc_model.specs.declared.actor.Place.{Place}
-use Rattle.brc_model.specs.declared.actor.Place.TheVariants.{InCall, Inside}
+use Rattle.brc_model.specs.declared.actor.Place.TheVariants.{Idle, InCall, Inside}
 use Rattle.brc_model.specs.declared.actor.Stage.TheVariants.{Granted}
 use Rattle.brc_model.specs.declared.actor.Status.{Status}
 use Rattle.brc_model.specs.declared.actor.Status.TheVariants.{Running, Leaving, Gone}
@@ -18,16 +19,17 @@ use Rattle.brc_model.specs.declared.layout.Layout.{Layout}
 use Rattle.brc_model.specs.declared.slot.State.{State}
 use Rattle.brc_model.specs.declared.thread.Choice.{Choice}
 use Rattle.brc_model.specs.declared.thread.Choice.TheVariants.{Ok, Fault, Claim, Stop}
-use Rattle.brc_model.specs.Actions.{StepActor, Action, Skip, Stuck, Silent, Calls, Does, always, dispatch_inside, dispatch, agenda_action, status_action, action_of}
+use Rattle.brc_model.specs.Actions.{StepActor, Action, Skip, Stuck, Silent, Calls, Does, always, dispatch_inside, dispatch, agenda_action, status_action, action_of, is_before_instruction, stop_action, stop_in_call}
 use Rattle.brc_model.specs.Duties.{address_of, new_word}
 use Rattle.brc_model.specs.Layout.{row_at}
-use Rattle.brc_model.specs.Machine.{Actor, actor_by}
+use Rattle.brc_model.specs.Machine.{Actor, actor_by, is_running}
+use Rattle.brc_model.specs.Stops.{row_locked, owned_rows, stopping}
 use Rattle.brc_model.specs.Threads.{code_of}
 use Rattle.brc_model.specs.Trace.{WordEvent, is_word, MakesStep, GoesSilently, CallsHost, DoesDuty, CanMake, Nothing, Then}
 use Rattle.brc_model.specs.Trace as model
 use Rattle.brc_table.specs.declared.view.Event.{Event}
 use Rattle.brc_work.specs.Traces.{Makes, Begun, Silently, Asks, Starts, Reads, Continues, Closes, word_events, events_of, read_birth, exit_of, is_birth, has_read}
-use Rattle.brc_work.specs.Automata.{IsPlain, MakesPlainly, IsNoClaim, ClaimsNothing, HasNoClaim, CanMakeUnclaimed, AsksNothing, GoesAlone, word_event, thread_at, HandsMakeAsThreads, ThreadsAloneMakeAsHands}
+use Rattle.brc_work.specs.Automata.{IsPlain, MakesPlainly, IsNoClaim, ClaimsNothing, HasNoClaim, CanMakeUnclaimed, AsksNothing, GoesAlone, word_event, thread_at, HandsMakeAsThreads, ThreadsAloneMakeAsHands, HandsStopAsThreads}
 
 -- ---- events
 
@@ -275,3 +277,26 @@ threads_alone_as_hands functions states layout t function p q a b es can =
     (can_plain functions states layout t p a (thread_at function p a) (thread_at function q b) [] (map word_event es)
     can.0
     can.1 (0, [], Begun, tt))
+
+-- ---- stops
+
+stop_running : (functions : List Function) (states : ℕ → ℕ → Option State) (layout : Layout) (t function : ℕ)
+    (place : Place) (a : Actor) → is_before_instruction place ≡ true → a.status ≡ Running → a.agenda ≡ []
+    → action_of functions states layout t (thread_at function place a) Stop ≡ stop_action (states function) place
+stop_running functions states layout t function place a before running none =
+    let does = λ (b : Bool). cond b (stop_action (states function) place) Skip in
+    ap (λ (b : Bool). does (b && is_running a.status && (length a.agenda == 0))) before
+    ∙ (ap (λ (s : Status). does (is_running s && (length a.agenda == 0))) running
+    ∙ ap (λ (ds : List Duty). does (length ds == 0)) none)
+
+pub hands_stop_as_threads : HandsStopAsThreads
+hands_stop_as_threads functions states layout t function a running none = record {
+  in_call = λ turns left at variables s known.
+      let context : Context = record { left = left; turns = turns; outer = [] } in
+      GoesSilently Stop [] (stopping (row_locked s.locked variables) (owned_rows s.slots variables ∷ []))
+      (stop_running functions states layout t function (InCall context at variables) a refl running none
+      ∙ ap (stop_in_call context variables) known);
+  between = λ left.
+      GoesSilently Stop [] (Idle 0)
+      (stop_running functions states layout t function (Idle (suc left)) a refl running none);
+}

@@ -3,19 +3,20 @@
 -- world makes 0; and a thread of the step world may claim marks between two calls, or be stopped. Apart from that, a
 -- thread of the step world can make what a hand's thread makes, and a hand's thread what a thread of the step world can
 -- make: from inside an instruction, only without other calls of the host than closes.
-use Rattle.std.specs.Prelude.{◌≡◌, ◌≢◌, ◌&&◌, ℕ, Bool, true, false, List, Option, map, slice_get}
+use Rattle.std.specs.Prelude.{◌≡◌, ◌≢◌, ◌&&◌, ℕ, suc, Bool, true, false, List, [], ◌∷◌, Option, Some, map, slice_get}
 use Rattle.brc_host.specs.HostCalls.{HostCall}
 use Rattle.brc_lang.specs.declared.module.Function.{Function}
 use Rattle.brc_lang.specs.declared.module.Instr.{Instr}
 use Rattle.brc_model.specs.declared.actor.Place.{Place}
-use Rattle.brc_model.specs.declared.actor.Place.TheVariants.{Inside}
-use Rattle.brc_model.specs.declared.actor.Status.TheVariants.{Gone}
+use Rattle.brc_model.specs.declared.actor.Place.TheVariants.{Idle, InCall, Inside}
+use Rattle.brc_model.specs.declared.actor.Status.TheVariants.{Running, Gone}
 use Rattle.brc_model.specs.declared.layout.Layout.{Layout}
 use Rattle.brc_model.specs.declared.slot.State.{State}
 use Rattle.brc_model.specs.declared.thread.Choice.{Choice}
 use Rattle.brc_model.specs.declared.thread.Choice.TheVariants.{Ok, Fault, Claim, Stop}
 use Rattle.brc_model.specs.Actions.{StepActor}
 use Rattle.brc_model.specs.Machine.{Actor}
+use Rattle.brc_model.specs.Stops.{row_locked, owned_rows, stopping}
 use Rattle.brc_model.specs.Threads.{code_of}
 use Rattle.brc_model.specs.Trace.{WordEvent, MakesStep, GoesSilently, CallsHost, DoesDuty, CanMake, Nothing, Then}
 use Rattle.brc_table.specs.declared.view.Event.{Event}
@@ -131,3 +132,21 @@ ThreadsAloneMakeAsHands =
     (a b : Actor) (es : List Event)
     → CanMakeAlone functions states layout t (thread_at function p a) (map word_event es) (thread_at function q b)
     → MakesPlainly layout t (code_of (slice_get functions function)) p a es q b
+
+-- ---- stops
+
+-- A thread of the step world that is stopped before an instruction of its call does what a hand's thread has to do that
+-- stops there, if the module's table gives the point this state; between two calls, it makes no further one.
+pub record StopsMakeAsHands (functions : List Function) (states : ℕ → ℕ → Option State) (layout : Layout)
+    (t function : ℕ) (a : Actor) : Type 0 where
+  pub in_call : (turns : List ℕ) (left at : ℕ) (variables : List (Option ℕ)) (s : State)
+      → states function at ≡ Some s → MakesStep functions states layout t
+      (thread_at function (InCall (record { left = left; turns = turns; outer = [] }) at variables) a) []
+      (thread_at function (stopping (row_locked s.locked variables) (owned_rows s.slots variables ∷ [])) a)
+  pub between : (left : ℕ) → MakesStep functions states layout t (thread_at function (Idle (suc left)) a) []
+      (thread_at function (Idle 0) a)
+
+abbrev pub HandsStopAsThreads : Type 0
+HandsStopAsThreads =
+    (functions : List Function) (states : ℕ → ℕ → Option State) (layout : Layout) (t function : ℕ) (a : Actor)
+    → a.status ≡ Running → a.agenda ≡ [] → StopsMakeAsHands functions states layout t function a

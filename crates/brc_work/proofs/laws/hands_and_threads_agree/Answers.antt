@@ -10,3 +10,6 @@ returns-clause-threads c = outside.threads_as_hands
 
 pub returns-clause-alone : goal.returns-clause-alone
 returns-clause-alone c = automata.threads_alone_as_hands
+
+pub returns-clause-stops : goal.returns-clause-stops
+returns-clause-stops c = automata.hands_stop_as_threads
