@@ -11,11 +11,10 @@ measurements. docs/check.py makes the same check.
 """
 import re
 import sys
-from pathlib import Path
 
-ROOT = Path(__file__).resolve().parents[1]
-PAGE = ROOT / "docs" / "PROVED.md"
-MARKS = "<!-- the tables of docs/proved.py -->\n", "<!-- their end -->\n"
+# Importing a script of this folder leaves no file there.
+sys.dont_write_bytecode = True
+from tables import ROOT, Part, mark_lines
 
 
 class Function:
@@ -96,34 +95,18 @@ def tables():
     return "\n".join(f"### {crate}\n\n{head}{''.join(rows(crate))}" for crate in crates() if rows(crate))
 
 
-def written():
-    """Returns the page as this script writes it."""
-    parts = re.split("|".join(MARKS), PAGE.read_text())
-    if len(parts) != 3:
-        sys.exit("docs/PROVED.md hasn't each of the two marks once")
-    return f"{parts[0]}{MARKS[0]}\n{tables()}\n{MARKS[1]}{parts[2]}"
-
-
-def faults():
-    """Returns the rows that are missing on the page, and the lines there that this script doesn't write."""
-    page, wanted = PAGE.read_text(), written()
-    lines = page.splitlines(), wanted.splitlines()
-    found = [f"docs/proved.py would write: {line}" for line in lines[1] if line not in lines[0]]
-    found += [f"docs/proved.py wouldn't write: {line}" for line in lines[0] if line not in lines[1]]
-    if not found and page != wanted:
-        found = ["docs/proved.py would write the same lines in another order or number"]
-    return found
+PART = Part(ROOT / "docs" / "PROVED.md", mark_lines("proved.py", several=True), tables)
 
 
 def main():
     if sys.argv[1:] == ["--check"]:
-        found = faults()
+        found = PART.faults()
         print(*(f"docs/PROVED.md: {fault}" for fault in found), f"{len(found)} faults", sep="\n")
         return 1 if found else 0
     if sys.argv[1:]:
         print(__doc__)
         return 2
-    PAGE.write_text(written())
+    PART.write()
     return 0
 
 

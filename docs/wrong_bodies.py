@@ -1,12 +1,17 @@
 #!/usr/bin/env python3
-"""Checks docs/WRONG_BODIES.md, or tries all wrong bodies.
+"""Writes the tables of docs/WRONG_BODIES.md from the wrong bodies, compares them, or tries all wrong bodies.
 
-    python3 docs/wrong_bodies.py
-    python3 docs/wrong_bodies.py --all [CRATE..]
+    python3 docs/wrong_bodies.py                    changes nothing, and fails if the page or a wrong body is at fault
+    python3 docs/wrong_bodies.py --write            writes what is between the two marks of the page
+    python3 docs/wrong_bodies.py --all [CRATE..]    tries the wrong bodies of both folders
 
-Without arguments it changes nothing: each wrong body, of must-fail/ and of also-must-fail/, has one line on the page,
-which says in which of the two it is; each rule of the step relation is named; each named mistake is tried by the gate
-of just the crates that the page says.
+A wrong body is a file of must-fail/ (tried by the gate) or of also-must-fail/ (tried by --all). Its first line is
+
+    wrong: WHAT IS WRONG (WHICH CONTRACT REFUSES IT)
+
+of at most 200 characters, and says behind `; rule` or `; rules` which rules of the step relation it breaks. The page
+has a row for each. Without an option the script fails if a line has another form, if the page differs, if a rule has
+neither a wrong body nor a reason in docs/rules.py, or if a mistake that the page names isn't tried by the gate.
 
 With --all it clones the last commit into a folder of its own, moves the wrong bodies of also-must-fail/ beside those of
 must-fail/, and has `rt must-fail` try them: those of the crates named, or all. What was tried before on this machine,
@@ -19,68 +24,75 @@ import sys
 import tempfile
 from pathlib import Path
 
-ROOT = Path(__file__).resolve().parents[1]
+# Importing a script of this folder leaves no file there.
+sys.dont_write_bytecode = True
+import rules
+from tables import ROOT, Part, mark_lines
+
 PAGE = ROOT / "docs" / "WRONG_BODIES.md"
-RULES = ROOT / "crates" / "brc_model" / "specs" / "Rules.antt"
-RULES_HEADING = "## By rule of the step relation"
+NAMES_HEADING = "## The mistakes that have a name"
 FOLDERS = {"must-fail": "gate", "also-must-fail": "script"}
+LONGEST = 200
 
 
-def wrong_bodies():
-    """Returns the crate, the folder and the name of each wrong body."""
-    return [
-        (path.parts[-3], folder, path.stem)
-        for folder in FOLDERS
-        for path in sorted(ROOT.glob(f"crates/*/{folder}/*.edit"))
-    ]
+class Edit:
+    def __init__(self, path):
+        self.path, self.name = path, path.stem
+        self.crate, self.folder = path.parts[-3:-1]
+        self.line = path.read_text().split("\n")[0]
+        found = re.fullmatch(r"wrong: (.+[^.]) \(((?:(?! \().)+)\)", self.line)
+        self.wrong, self.refused_by = found.groups() if found else ("", "")
+
+    def row(self):
+        link = f"[`{self.name}`](../{self.path.relative_to(ROOT).as_posix()})"
+        return f"| {link} | {FOLDERS[self.folder]} | {self.wrong}. | {self.refused_by} |\n"
 
 
-def faults_of_lines(page, there):
-    lines = re.findall(
-        r"^\|[^|]+\| \[`(\w+)`\]\(\.\./crates/(\w+)/((?:also-)?must-fail)/(\w+)\.edit\) \| (\w+) \| .+ \|$", page, re.M
-    )
-    named = [(crate, folder, file) for _, crate, folder, file, _ in lines]
-    faults = [f"{name} links to {file}" for name, _, _, file, _ in lines if name != file]
-    faults += [f"{name} is tried by the {FOLDERS[folder]}" for name, _, folder, _, by in lines if FOLDERS[folder] != by]
-    faults += ["/".join(it) + ".edit has no line" for it in there if it not in named]
-    faults += ["/".join(it) + ".edit isn't there" for it in named if it not in there]
-    faults += ["/".join(it) + ".edit has several lines" for it in sorted({it for it in named if named.count(it) > 1})]
-    both = {(crate, file) for crate, folder, file in there if folder == "must-fail"}
-    faults += [f"{crate} has {file} twice" for crate, folder, file in there if folder != "must-fail" and (crate, file) in both]
-    return faults
+def edits(crate="*"):
+    found = [Edit(path) for folder in FOLDERS for path in ROOT.glob(f"crates/{crate}/{folder}/*.edit")]
+    return sorted(found, key=lambda edit: (edit.refused_by.split(";")[0], edit.name))
 
 
-def faults_of_names(page, there):
-    """Returns the named mistakes whose line doesn't say which crates' gate tries them."""
-    faults = []
-    for name, crates in re.findall(r"^\| `(\w+)` \| ((?:`brc_\w+`(?:, )?)+) \| .+ \|$", page, re.M):
-        tried = [f"`{crate}`" for crate, folder, file in there if folder == "must-fail" and file == name]
-        if sorted(tried) != sorted(crates.split(", ")):
-            faults.append(f"{name} is tried by the gate of {', '.join(tried) or 'no crate'}")
-    return faults
+def tables():
+    crates = re.findall(r"^(\w+)(?: [^:\n]*)?:", (ROOT / "crates.txt").read_text(), re.M)
+    head = "| Wrong body | Tried by | What is wrong | Refused by |\n|---|---|---|---|\n"
+    having = [(crate, edits(crate)) for crate in crates]
+    rows = {crate: "".join(edit.row() for edit in found) for crate, found in having if found}
+    return "\n".join(f"### {crate}\n\n{head}{its}" for crate, its in rows.items())
 
 
-def rules():
-    text = RULES.read_text()
-    text = re.sub(r"--.*", "", text[text.index("pub data Goes") : text.index("pub record IsComputed")])
-    return re.findall(r"^    ([A-Z]\w*) :", text, re.M)
+PART = Part(PAGE, mark_lines("wrong_bodies.py", several=True), tables)
 
 
-def faults_of_rules(page):
-    section = page[page.index(RULES_HEADING) + len(RULES_HEADING) :].split("\n## ")[0]
-    faults = [f"the rule {rule} isn't named" for rule in rules() if f"`{rule}`" not in section]
-    cells = re.findall(r"^\| ([^|]+) \| \[", section, re.M)
-    return faults + [f"{name} is no rule" for cell in cells for name in re.findall(r"`(\w+)`", cell) if name not in rules()]
+def faults_of_edits(there):
+    for edit in there:
+        if not edit.wrong or len(edit.line) > LONGEST:
+            yield f"{edit.crate}/{edit.folder}/{edit.name}.edit begins with another line: {edit.line}"
+    twice = {(edit.crate, edit.name) for edit in there if edit.folder == "also-must-fail"}
+    yield from (f"{edit.crate} has {edit.name} twice" for edit in there
+                if edit.folder == "must-fail" and (edit.crate, edit.name) in twice)
 
 
-def check_page():
-    page, there = PAGE.read_text(), wrong_bodies()
-    faults = faults_of_lines(page, there) + faults_of_names(page, there) + faults_of_rules(page)
-    for fault in faults:
-        print(f"WRONG_BODIES.md: {fault}")
-    in_gate = sum(folder == "must-fail" for _, folder, _ in there)
-    print(f"{len(there)} wrong bodies, {in_gate} of them in the gate, {len(rules())} rules, {len(faults)} faults")
-    return 1 if faults else 0
+def faults_of_names(there):
+    """Yields the named mistakes that no gate tries."""
+    page = PAGE.read_text()
+    section = page[page.index(NAMES_HEADING) :].split("\n## ")[0]
+    tried = {edit.name for edit in there if edit.folder == "must-fail"}
+    rows = " ".join(re.findall(r"^\|(.*)\|$", section, re.M))
+    yield from (f"no gate tries {name}" for name in re.findall(r"`(\w+)`", rows) if name not in tried)
+
+
+def faults():
+    there = edits()
+    return [*faults_of_edits(there), *faults_of_names(there), *PART.faults(), *rules.faults_of_wrong_bodies()]
+
+
+def check():
+    there, found = edits(), faults()
+    in_gate = sum(edit.folder == "must-fail" for edit in there)
+    print(*(f"docs/WRONG_BODIES.md: {fault}" for fault in found), sep="\n", end="\n" if found else "")
+    print(f"{len(there)} wrong bodies, {in_gate} of them in the gate, {len(rules.names())} rules, {len(found)} faults")
+    return 1 if found else 0
 
 
 def try_all(crates):
@@ -97,7 +109,8 @@ def try_all(crates):
             return 1
         named = crates or having
         wanted = sum(len(list(clone.glob(f"crates/{crate}/must-fail/*.edit"))) for crate in named)
-        ran = subprocess.Popen(["rt", "must-fail", *named], cwd=clone, stdout=subprocess.PIPE, stderr=subprocess.STDOUT, text=True)
+        into = {"stdout": subprocess.PIPE, "stderr": subprocess.STDOUT, "text": True}
+        ran = subprocess.Popen(["rt", "must-fail", *named], cwd=clone, **into)
         refused = 0
         for line in ran.stdout:
             print(line, end="", flush=True)
@@ -109,11 +122,15 @@ def try_all(crates):
 
 def main():
     if len(sys.argv) == 1:
-        return check_page()
+        return check()
+    if sys.argv[1:] == ["--write"]:
+        PART.write()
+        return 0
     if sys.argv[1] == "--all":
         return try_all(sys.argv[2:])
     print(__doc__)
     return 2
 
 
-sys.exit(main())
+if __name__ == "__main__":
+    sys.exit(main())

@@ -1,0 +1,189 @@
+#!/usr/bin/env python3
+"""Writes the table of rules of docs/DEFINITIONS.md, or compares it with the sources.
+
+    python3 docs/rules.py            changes nothing, and fails if the page isn't what this script would write
+    python3 docs/rules.py --write    writes what is between the two marks of the page
+
+A row is a rule of crates/brc_model/specs/Rules.antt: its name; the function of brc_effect whose doc comment names it;
+the premises, what the step leaves and which duties follow, as the rule has them; in words the comment above the rule,
+or that of IN_WORDS, or else the first sentence of the function's doc comment; and the wrong bodies whose first line
+names the rule, or why there is none. It also fails if no function names a rule. docs/check.py makes the same check, and
+docs/wrong_bodies.py asks for a wrong body of each rule that isn't in WITHOUT.
+"""
+import re
+import sys
+
+# Importing a script of this folder leaves no file there.
+sys.dont_write_bytecode = True
+import proved
+from tables import ROOT, Part, mark_lines
+
+SOURCE = ROOT / "crates" / "brc_model" / "specs" / "Rules.antt"
+EFFECTS = ROOT / "crates" / "brc_effect" / "src" / "effect"
+# Why a rule has no wrong body of its own: its function has one in the other branch, or the step only reads a word.
+OTHER_BRANCH = "none (other branch)"
+ONLY_READS = "none (only reads)"
+WITHOUT = {
+    "KindOfResource": OTHER_BRANCH,
+    "OwnerReleases": OTHER_BRANCH,
+    "SharedRead": ONLY_READS,
+    "MarkGone": OTHER_BRANCH,
+    "NothingToClaim": OTHER_BRANCH,
+    "NobodysCount": OTHER_BRANCH,
+    "MergeRead": ONLY_READS,
+    "DyingResource": OTHER_BRANCH,
+}
+# Rules without a comment in Rules.antt whose function has other rules too.
+IN_WORDS = {
+    "ReleasesImmortal": "an immortal object isn't counted",
+    "OwnerReleases": "the running owner counts in the local word next",
+    "OtherReleases": "any other thread, or an owner that no longer runs, counts in the shared word next",
+    "Decrements": "the shared count loses one reference",
+    "NothingToClaim": "the mark was clear",
+    "MergesToZero": "no reference is left: the owner deallocates the object",
+    "MergeLost": "the compare-exchange fails, because another thread has changed the word: the thread retries",
+    "ScanFindsNone": "the mark was clear: the thread goes on to its next row",
+}
+
+
+class Rule:
+    def __init__(self, name, comment, statement):
+        self.name, self.comment = name, comment
+        *self.premises, conclusion = split(statement, "→")
+        # Goes duty found left next moves
+        _, _, found, self.left, following, _ = split(conclusion, " ")
+        self.next = [bare(duty) for duty in split(bare(following), "∷") if duty != "[]"]
+        self.left = "" if self.left == found else bare(self.left)
+        if found != "found":
+            self.premises.insert(0, f"found ≡ {found}")
+
+
+def bare(term):
+    """Returns the term without parentheses round all of it."""
+    return term[1:-1] if term.startswith("(") and split(term, " ") == [term] else term
+
+
+def split(term, by):
+    """Splits a term where it isn't within parentheses."""
+    parts, depth = [""], 0
+    for char in term:
+        depth += (char == "(") - (char == ")")
+        if char == by and not depth:
+            parts.append("")
+        else:
+            parts[-1] += char
+    return [part.strip() for part in parts if part.strip()]
+
+
+def groups():
+    """Returns the headings of Rules.antt, each with its rules."""
+    text = SOURCE.read_text()
+    text = text[text.index("pub data Goes") : text.index("pub record IsComputed")]
+    found, comment = [], []
+    # A line of a rule or a comment begins at the fourth column; what goes on is deeper.
+    for part in re.findall(r"^    \S.*(?:\n     .*)*", text, re.M):
+        part = " ".join(part.split())
+        if part.startswith("-- ----"):
+            found.append((part.removeprefix("-- ----").strip(), []))
+        elif part.startswith("--"):
+            comment.append(part.removeprefix("--").strip())
+        else:
+            # The variables of a rule are in parentheses behind its name.
+            name, rest = part.split(" : ", 1)
+            while rest.startswith("("):
+                rest = rest[rest.index(")") + 1 :].lstrip()
+            found[-1][1].append(Rule(name, " ".join(comment), rest.removeprefix("→").strip()))
+            comment = []
+    return found
+
+
+def names():
+    return [rule.name for _, rules in groups() for rule in rules]
+
+
+def functions():
+    """Returns for each rule the function of brc_effect that names it, with its file."""
+    found = {}
+    for path in sorted(EFFECTS.glob("*.rt")):
+        for function in proved.functions(path):
+            for name in re.findall(r"Rules? ((?:`\w+`(?:, | and )?)+)", " ".join(function.doc)):
+                found |= {rule: (function, path) for rule in re.findall(r"\w+", name) if rule[0].isupper()}
+    return found
+
+
+def wrong_bodies():
+    """Returns for each rule the files of the wrong bodies that name it."""
+    found = {}
+    for path in sorted(ROOT.glob("crates/*/*must-fail/*.edit"), key=lambda path: (path.stem, path)):
+        for rule in re.findall(r"; rules? (.*)\)$", path.read_text().split("\n")[0]):
+            for name in re.findall(r"\w+", rule):
+                found.setdefault(name, []).append(path)
+    return found
+
+
+def sentence(text):
+    text = re.sub(r" \(`\w+`\)", "", text)
+    return f"{text[0].upper()}{text[1:]}{'' if text.endswith('.') else '.'}"
+
+
+def codes(terms):
+    return ", ".join(f"`{term}`" for term in terms)
+
+
+def table():
+    lines = ["| Rule | Step | If | Leaves | Then | In words | Wrong bodies |", "|---|---|---|---|---|---|---|"]
+    does, wrong = functions(), wrong_bodies()
+    for heading, rules in groups():
+        lines.append(f"| **{heading[0].upper()}{heading[1:]}** |")
+        for rule in rules:
+            function, path = does.get(rule.name, (None, None))
+            step = f"[`{function.name}`](../{path.relative_to(ROOT).as_posix()})" if function else ""
+            first = proved.first_sentence(function.doc) if function else ""
+            words = rule.comment or IN_WORDS.get(rule.name) or first
+            bodies = [f"[`{it.stem}`](../{it.relative_to(ROOT).as_posix()})" for it in wrong.get(rule.name, [])]
+            cells = [
+                f"`{rule.name}`",
+                step,
+                codes(rule.premises),
+                codes([rule.left] if rule.left else []),
+                codes(rule.next),
+                sentence(words) if words else "",
+                ", ".join(bodies) or WITHOUT.get(rule.name, ""),
+            ]
+            lines.append(f"| {' | '.join(cells)} |")
+    return "\n".join(lines) + "\n"
+
+
+PART = Part(ROOT / "docs" / "DEFINITIONS.md", mark_lines("rules.py"), table)
+
+
+def faults_of_wrong_bodies():
+    known, wrong = names(), wrong_bodies()
+    found = [f"no wrong body names the rule {name}" for name in known if name not in wrong and name not in WITHOUT]
+    found += [f"{name} has a wrong body by now" for name in WITHOUT if name in wrong]
+    return found + [f"{name} is no rule" for name in sorted({*wrong, *WITHOUT}) if name not in known]
+
+
+def faults():
+    known, does = names(), functions()
+    commented = {rule.name for _, its in groups() for rule in its if rule.comment}
+    found = [f"no function names the rule {name}" for name in known if name not in does]
+    found += [f"{name} is no rule" for name in sorted({*does, *IN_WORDS}) if name not in known]
+    found += [f"{name} has a comment by now" for name in IN_WORDS if name in commented]
+    return found + PART.faults()
+
+
+def main():
+    if sys.argv[1:] == ["--write"]:
+        PART.write()
+        return 0
+    if sys.argv[1:]:
+        print(__doc__)
+        return 2
+    found = faults()
+    print(*(f"docs/DEFINITIONS.md: {fault}" for fault in found), f"{len(names())} rules, {len(found)} faults", sep="\n")
+    return 1 if found else 0
+
+
+if __name__ == "__main__":
+    sys.exit(main())
