@@ -1,5 +1,6 @@
 #!/usr/bin/env python3
-"""Checks what the pages say of the repository: links, names, rules, quotes, and the tables of docs/PROVED.md.
+"""Checks what the pages say of the repository: links, names, files, quotes, words that grow stale, and the tables that
+scripts of this folder write.
 
     python3 docs/check.py
 
@@ -12,13 +13,26 @@ from pathlib import Path
 # Importing a script of this folder leaves no file there.
 sys.dont_write_bytecode = True
 import proved
+import rules
+import wrong_bodies
 
 ROOT = Path(__file__).resolve().parents[1]
 PAGES = [ROOT / "README.md", ROOT / "examples" / "README.md", *sorted((ROOT / "docs").glob("*.md"))]
-MODEL = ROOT / "crates" / "brc_model"
-EFFECTS = ROOT / "crates" / "brc_effect" / "src" / "effect"
 # Names of other projects.
 FOREIGN = re.compile(r"Py|_Py|ob_|tp_|write_all$|keep_two$")
+# Words that are often about the repository at the time of writing, and then grow stale.
+STALE = re.compile(r"\b(yet|today|so far|coming)\b", re.I)
+# Lines that have such a word and are right: each is about a moment of a run.
+RIGHT = {
+    # The rows in which a thread has made objects, at the moment of a claim.
+    "docs/LANGUAGE.md": ["a worker's are those of its births so far"],
+    # A row whose birth is under way.
+    "docs/PICTURES.md": ["the row holds no object yet"],
+    # The first sentence of a doc comment, of a row whose birth is under way.
+    "docs/PROVED.md": ["in whose block it isn't born yet"],
+}
+# What is made when something is built or run.
+MADE = re.compile(r"(^|/)out/")
 
 
 def sources():
@@ -67,33 +81,44 @@ def name_faults(page, known):
                 yield f"`{name}` is in no source"
 
 
-def rows_of(text, heading):
-    """The cells of each row of the first table behind the heading."""
-    lines = text[text.index(heading):].splitlines()
-    first = next(i for i, line in enumerate(lines) if line.startswith("|---"))
-    rows = []
-    for line in lines[first + 1:]:
-        if not line.startswith("|"):
-            break
-        rows.append([cell.strip() for cell in line.strip("|").split("|")])
-    return rows
+def all_files():
+    """The paths of all files and folders of the repository, below its top."""
+    found = set()
+    for path in ROOT.rglob("*"):
+        parts = path.relative_to(ROOT).parts
+        if "out" not in parts and parts[0] != ".git":
+            found.add("/".join(parts))
+    return found
 
 
-def rule_faults():
-    """The table of rules against the relation and the functions."""
-    page = (ROOT / "docs" / "DEFINITIONS.md").read_text()
-    relation = (MODEL / "specs" / "Rules.antt").read_text()
-    relation = relation[relation.index("pub data Goes"):relation.index("pub record IsComputed")]
-    rules = set(re.findall(r"^    ([A-Z]\w*) :", relation, re.M))
-    functions = set(re.findall(r"fn (\w+)\(", " ".join(path.read_text() for path in EFFECTS.glob("*.rt"))))
-    named = set()
-    done_by = set()
-    for rule, _, _, code in rows_of(page, "| Rule |"):
-        named |= set(re.findall(r"`(\w+)`", rule))
-        done_by |= set(re.findall(r"`(\w+)`", code))
-    yield from (f"rule `{name}` isn't in the table" for name in sorted(rules - named))
-    yield from (f"`{name}` is no rule" for name in sorted(named - rules))
-    yield from (f"no function `{name}`" for name in sorted(done_by - functions))
+def file_faults(page, there):
+    """Crates and files that the page names and that aren't there. A word in capitals stands for any name."""
+    text = page.read_text()
+    for crate in sorted(set(re.findall(r"\bbrc_\w+", text))):
+        if f"crates/{crate}" not in there:
+            yield f"no crate {crate}"
+    prose = re.sub(r"```.*?```|\]\([^)]*\)", "", text, flags=re.S)
+    for token in sorted(set(re.findall(r"`([^`\n]+)`", prose))):
+        for word in token.split():
+            is_file = re.fullmatch(r"[\w*./-]+\.(rt|antt|edit|py|md|txt)", word)
+            is_folder = re.fullmatch(r"(\.\./)*(brc_\w+|crates|docs|examples|bench|src|specs|proofs|also-must-fail|must-fail)/[\w*./-]*", word)
+            if not (is_file or is_folder) or MADE.search(word):
+                continue
+            word = re.sub(r"^(\.\./)+|/$", "", word)
+            pattern = "".join("[^/]*" if it == "*" else r"\w+" if it.isupper() and len(it) > 1 else re.escape(it)
+                              for it in re.split(r"(\*|\b[A-Z]+\b)", word))
+            if not any(re.search(rf"(^|/){pattern}$", path) for path in there):
+                yield f"no file `{word}`"
+
+
+def stale_faults(page):
+    """Lines with a word of STALE that aren't RIGHT."""
+    name = page.relative_to(ROOT).as_posix()
+    for number, line in enumerate(page.read_text().splitlines(), 1):
+        for right in RIGHT.get(name, []):
+            line = line.replace(right, "")
+        for word in STALE.findall(line):
+            yield f"line {number} says \"{word}\""
 
 
 def quote_faults(found):
@@ -110,13 +135,17 @@ def main():
     known = words_of(found.values()) | {path.stem for path in found}
     known |= {part for path in found for part in path.relative_to(ROOT).parts}
     known |= {path.stem for folder in ("docs", "examples") for path in (ROOT / folder).rglob("*")}
+    there = all_files()
     faults = []
     for page in PAGES:
-        for fault in [*link_faults(page), *name_faults(page, known)]:
-            faults.append(f"{page.relative_to(ROOT)}: {fault}")
-    faults += [f"docs/DEFINITIONS.md: {fault}" for fault in rule_faults()]
+        in_page = [*link_faults(page), *name_faults(page, known), *file_faults(page, there)]
+        # The examples tell runs, moment by moment.
+        in_page += stale_faults(page) if page.parent.name != "examples" else []
+        faults += [f"{page.relative_to(ROOT)}: {fault}" for fault in in_page]
     faults += [f"docs/EMBED.md: {fault}" for fault in quote_faults(found)]
-    faults += [f"docs/PROVED.md: {fault}" for fault in proved.faults()]
+    faults += [f"docs/PROVED.md: {fault}" for fault in proved.PART.faults()]
+    faults += [f"docs/DEFINITIONS.md: {fault}" for fault in rules.faults()]
+    faults += [f"docs/WRONG_BODIES.md: {fault}" for fault in wrong_bodies.faults()]
     print(*faults, f"{len(faults)} faults", sep="\n")
     return 1 if faults else 0
 
