@@ -6,6 +6,7 @@ scripts of this folder write.
 
 It changes nothing, prints each fault on a line, and fails if there is one.
 """
+import os
 import re
 import sys
 from pathlib import Path
@@ -31,6 +32,9 @@ RIGHT = {
     # The first sentence of a doc comment, of a row whose birth is under way.
     "docs/PROVED.md": ["in whose block it isn't born yet"],
 }
+# What names a file or a folder of the repository.
+FILE = re.compile(r"[\w*./-]+\.(rt|antt|edit|py|md|txt)")
+FOLDER = re.compile(r"(\.\./)*(brc_\w+|crates|docs|examples|bench|src|specs|proofs|(also-)?must-fail)/[\w*./-]*")
 # What is made when something is built or run.
 MADE = re.compile(r"(^|/)out/")
 
@@ -84,10 +88,9 @@ def name_faults(page, known):
 def all_files():
     """The paths of all files and folders of the repository, below its top."""
     found = set()
-    for path in ROOT.rglob("*"):
-        parts = path.relative_to(ROOT).parts
-        if "out" not in parts and parts[0] != ".git":
-            found.add("/".join(parts))
+    for folder, folders, files in os.walk(ROOT):
+        folders[:] = [name for name in folders if name not in ("out", ".git")]
+        found |= {(Path(folder) / name).relative_to(ROOT).as_posix() for name in folders + files}
     return found
 
 
@@ -100,9 +103,7 @@ def file_faults(page, there):
     prose = re.sub(r"```.*?```|\]\([^)]*\)", "", text, flags=re.S)
     for token in sorted(set(re.findall(r"`([^`\n]+)`", prose))):
         for word in token.split():
-            is_file = re.fullmatch(r"[\w*./-]+\.(rt|antt|edit|py|md|txt)", word)
-            is_folder = re.fullmatch(r"(\.\./)*(brc_\w+|crates|docs|examples|bench|src|specs|proofs|also-must-fail|must-fail)/[\w*./-]*", word)
-            if not (is_file or is_folder) or MADE.search(word):
+            if not (FILE.fullmatch(word) or FOLDER.fullmatch(word)) or MADE.search(word):
                 continue
             word = re.sub(r"^(\.\./)+|/$", "", word)
             pattern = "".join("[^/]*" if it == "*" else r"\w+" if it.isupper() and len(it) > 1 else re.escape(it)

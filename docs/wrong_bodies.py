@@ -9,15 +9,18 @@ A wrong body is a file of must-fail/ (tried by the gate) or of also-must-fail/ (
 
     wrong: WHAT IS WRONG (WHICH CONTRACT REFUSES IT)
 
-of at most 200 characters, and says behind `; rule` or `; rules` which rules of the step relation it breaks. The page
-has a row for each. Without an option the script fails if a line has another form, if the page differs, if a rule has
-neither a wrong body nor a reason in docs/rules.py, or if a mistake that the page names isn't tried by the gate.
+of at most 200 characters. The contract is a function of the changed file, with a clause of its own or one `of` another
+function; behind `; rule` or `; rules` are the rules of the step relation that the mistake breaks. The page has a row
+for each. Without an option the script fails if a line has another form, or names a function or a clause that isn't
+there; if the page differs; if a rule has neither a wrong body nor a reason in docs/rules.py; or if a mistake that the
+page names isn't tried by the gate.
 
 With --all it clones the last commit into a folder of its own, moves the wrong bodies of also-must-fail/ beside those of
 must-fail/, and has `rt must-fail` try them: those of the crates named, or all. What was tried before on this machine,
 and stands on the same files, isn't tried again. It ends with the number of the refused ones, and with status 1 if one
 isn't refused.
 """
+import functools
 import re
 import subprocess
 import sys
@@ -26,6 +29,7 @@ from pathlib import Path
 
 # Importing a script of this folder leaves no file there.
 sys.dont_write_bytecode = True
+import proved
 import rules
 from tables import ROOT, Part, mark_lines
 
@@ -42,10 +46,26 @@ class Edit:
         self.line = path.read_text().split("\n")[0]
         found = re.fullmatch(r"wrong: (.+[^.]) \(((?:(?! \().)+)\)", self.line)
         self.wrong, self.refused_by = found.groups() if found else ("", "")
+        self.source = path.parents[1] / re.search(r"^file: (.*)$", path.read_text(), re.M)[1].strip()
+
+    def names_a_contract(self):
+        """Whether the function that it names first is in the changed file, and has the clauses that it names."""
+        named = re.match(r"`(?:(\w+)::)?(\w+)`(?:: ((?:`\w+`(?:, )?)+)(?! of))?", self.refused_by)
+        if not named:
+            return self.refused_by.startswith("the invariant ")
+        owner, name, clauses = named.groups()
+        wanted = set(re.findall(r"\w+", clauses or ""))
+        return any(it.name == name and owner in (None, it.owner, it.of_trait) and wanted <= set(it.clauses)
+                   for it in functions(self.source))
 
     def row(self):
         link = f"[`{self.name}`](../{self.path.relative_to(ROOT).as_posix()})"
         return f"| {link} | {FOLDERS[self.folder]} | {self.wrong}. | {self.refused_by} |\n"
+
+
+@functools.cache
+def functions(source):
+    return [*proved.functions(source)]
 
 
 def edits(crate="*"):
@@ -68,6 +88,8 @@ def faults_of_edits(there):
     for edit in there:
         if not edit.wrong or len(edit.line) > LONGEST:
             yield f"{edit.crate}/{edit.folder}/{edit.name}.edit begins with another line: {edit.line}"
+        elif not edit.names_a_contract():
+            yield f"{edit.crate}/{edit.folder}/{edit.name}.edit names no contract of its file: {edit.refused_by}"
     twice = {(edit.crate, edit.name) for edit in there if edit.folder == "also-must-fail"}
     yield from (f"{edit.crate} has {edit.name} twice" for edit in there
                 if edit.folder == "must-fail" and (edit.crate, edit.name) in twice)
