@@ -10,10 +10,12 @@ A wrong body is a file of must-fail/ (tried by the gate) or of also-must-fail/ (
     wrong: WHAT IS WRONG (WHICH CONTRACT REFUSES IT)
 
 of at most 200 characters. The contract is a function of the changed file, with a clause of its own or one `of` another
-function; behind `; rule` or `; rules` are the rules of the step relation that the mistake breaks. The page has a row
-for each. Without an option the script fails if a line has another form, or names a function or a clause that isn't
-there; if the page differs; if a rule has neither a wrong body nor a reason in docs/rules.py; or if a mistake that the
-page names isn't tried by the gate.
+function. Behind `; rule` or `; rules` are the rules of the step relation that the mistake breaks, and behind `; code`
+the checker's code that isn't reported. The page has a row for each wrong body.
+
+Without an option the script fails if a line has another form, or names a function or a clause that isn't there; if the
+page differs; if a rule has neither a wrong body nor a reason in docs/rules.py; or if a mistake that the page names
+isn't tried by the gate.
 
 With --all it clones the last commit into a folder of its own, moves the wrong bodies of also-must-fail/ beside those of
 must-fail/, and has `rt must-fail` try them: those of the crates named, or all. What was tried before on this machine,
