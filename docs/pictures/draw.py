@@ -478,6 +478,7 @@ WAY = {
     "brc_arguments": ("knows from the command line what is asked for", "crates/brc_arguments/src/command.rt"),
     "brc_command": ("has the text read, checked, run and reported", "crates/brc_command/src/carrying.rt"),
     "brc_explain": ("for `brc explain`: shows the states before and after it", "crates/brc_explain/src/accepted.rt"),
+    "brc_pages": ("for `brc explain --code`: what it means if v1 owns none", "crates/brc_pages/src/check_pages.rt"),
     "brc_trace": ("for `brc step --trace`: a line for each of its steps", "crates/brc_trace/src/tracing.rt"),
     "brc_world": ("for `brc step`: dispatches it, and does it step by step", "crates/brc_world/src/dispatch.rt"),
     "brc_effect": ("says of each such step what it stores and what follows", "crates/brc_effect/src/effect/release.rt"),
