@@ -6,6 +6,7 @@ use Rattle.clap.specs.Words.{found_of, first_value, matched_of, one_text, raw_va
 use Rattle.brc_command.specs.declared.asked.Asked.{Asked}
 use Rattle.brc_command.specs.declared.asked.Asked.TheVariants.{Run as ToRun, Step as ToStep}
 use Rattle.brc_command.specs.declared.asked.Run.{Run}
+use Rattle.brc_command.specs.declared.asked.TheConstants.{NO_BOUND}
 
 abbrev pub word_of : ArgMatches → List ℕ → Option (List ℕ)
 word_of m name = first_value (found_of m) name
@@ -14,6 +15,10 @@ word_of m name = first_value (found_of m) name
 abbrev pub IsNumberOf : ArgMatches → List ℕ → ℕ → Type 0
 IsNumberOf m name n =
     (t : List ℕ) → one_text (found_of m) name ≡ Some t → n ≡ digits_value 10 (without_leading_plus t)
+
+-- the same, or this other number if the option has no text
+abbrev pub IsNumberOr : ℕ → ArgMatches → List ℕ → ℕ → Type 0
+IsNumberOr other m name n = IsNumberOf m name n × (one_text (found_of m) name ≡ None → n ≡ other)
 
 abbrev pub all_words : Option (List (List ℕ)) → List (List ℕ)
 all_words None = []
@@ -29,6 +34,7 @@ pub record IsRunOf (m : ArgMatches) (run : Run) : Type 0 where
   pub threads : IsNumberOf m (codes "threads") run.threads
   pub rows : IsNumberOf m (codes "rows") run.rows
   pub times : IsNumberOf m (codes "times") run.times
+  pub steps : IsNumberOr NO_BOUND m (codes "steps") run.steps
   pub paths : map (λ p. p.now) run.paths.now ≡ words_of m (codes "path")
   pub peers : map (λ p. p.now) run.peers.now ≡ words_of m (codes "peer")
 

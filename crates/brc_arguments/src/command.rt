@@ -2,7 +2,9 @@ ghost use Rattle.std.specs.Prelude.{◌≡◌, IfSome, map};
 ghost use Rattle.brc_arguments.specs.Options.{AsksToRun, AsksToStep, words_of};
 
 use crate::not_asked::NotAsked;
-use brc_command::{Asked, MOST_NAMES, MOST_ROWS, MOST_THREADS, MOST_TIMES, Run, VERSION};
+use brc_command::{
+    Asked, MOST_NAMES, MOST_ROWS, MOST_STEPS, MOST_THREADS, MOST_TIMES, NO_BOUND, Run, VERSION,
+};
 use brc_lang::number;
 use brc_pages::topic_named;
 use clap::error::ErrorKind;
@@ -112,6 +114,13 @@ fn run_command<'a>(alloc: Global) -> Result<Command<'a>, AllocError> {
                 .value_parser(value_parser!(u32).range(1..=i64::from(MOST_TIMES)))
                 .default_value("1")
                 .help("How often each thread calls it, 1 to 1000000"),
+        )?
+        .arg(
+            Arg::new(alloc, "steps")
+                .long("steps")
+                .value_name("N")
+                .value_parser(value_parser!(u64).range(0..=i64::from(MOST_STEPS)))
+                .help("How many instructions each worker begins at most, 0 to 1000000000"),
         )?
         .arg(
             Arg::new(alloc, "path")
@@ -228,7 +237,12 @@ fn has_known_code(matches: &ArgMatches) -> bool {
 // Numbers have the same form as in texts; clap also takes signs and leading zeros.
 fn has_plain_numbers(matches: &ArgMatches) -> bool {
     match matches.subcommand_matches("run") {
-        Some(run) => is_plain(run, "threads") && is_plain(run, "rows") && is_plain(run, "times"),
+        Some(run) => {
+            is_plain(run, "threads")
+                && is_plain(run, "rows")
+                && is_plain(run, "times")
+                && is_plain(run, "steps")
+        }
         None => true,
     }
 }
@@ -262,6 +276,7 @@ fn run_of<'m>(run: &'m ArgMatches<'_>) -> Option<Asked<'m>>
     let threads = run.get_one("threads")?;
     let rows = run.get_one("rows")?;
     let times = run.get_one("times")?;
+    let steps = run.try_get_one("steps").ok()?.unwrap_or(NO_BOUND);
     // The parser checks the ranges, but its contract doesn't promise them for the values of a subcommand.
     if threads == 0 || threads > MOST_THREADS || times == 0 || times > MOST_TIMES {
         return None;
@@ -280,6 +295,7 @@ fn run_of<'m>(run: &'m ArgMatches<'_>) -> Option<Asked<'m>>
         threads,
         rows,
         times,
+        steps,
         paths,
         peers,
     }))

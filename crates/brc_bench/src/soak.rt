@@ -11,7 +11,7 @@ use brc_heap::{Final, Hand, Heap, ROOT};
 use brc_host::{FakeHost, FakeResource, Host};
 use brc_lang::read;
 use brc_queue::Queue;
-use brc_work::{Gate, Totals, fan_out};
+use brc_work::{Gate, Ran, fan_out};
 use std::alloc::{AllocError, Global};
 use std::sync::Wait;
 use std::thread::Threads;
@@ -144,6 +144,7 @@ fn run_heap<R: Threads + Wait + Sync>(
         checked,
         0,
         times,
+        u64::MAX,
         hosts.as_mut_slice(),
         &Deaf,
     );
@@ -172,7 +173,7 @@ fn hosts_of(alloc: Global) -> std::result::Result<Vec<FakeHost<'static>>, AllocE
 /// failed, and from what all hosts have counted.
 fn counts_of(
     end: &Final<FakeResource>,
-    gone: &[(Hand<FakeResource>, Totals)],
+    gone: &[(Hand<FakeResource>, Ran)],
     failed: u64,
     hosts: &[FakeHost<'_>],
 ) -> HeapCounts {
@@ -188,7 +189,8 @@ fn counts_of(
         counts.created = counts.created.saturating_add(u64::from(end.born(row)));
         counts.closed = counts.closed.saturating_add(u64::from(end.closed(row)));
     }
-    for (_, totals) in gone {
+    for (_, ran) in gone {
+        let totals = ran.totals();
         counts.births = counts.births.saturating_add(u64::from(totals.created));
         counts.faults = counts
             .faults

@@ -68,7 +68,7 @@ pub record HasTraceReport (gives : List ℕ → List ℕ → Type 0) (paint : Pa
 pub record RunsTo (m : Module) (asked : Run) (tally : Tally) : Type 0 where
   pub known : has_function m asked.function.now ≡ true
   pub ran : IsTallyOfRun (map (λ path. path.now) asked.paths.now) (map (λ peer. peer.now) asked.peers.now) m
-      asked.threads asked.rows (calls_named m asked.function.now asked.times) tally
+      asked.threads asked.rows (calls_named m asked.function.now asked.times) asked.steps tally
 
 pub record HasRunReport (gives : List ℕ → List ℕ → Type 0) (asked : Run) (text : List ℕ) : Type 0 where
   pub module_text : List ℕ

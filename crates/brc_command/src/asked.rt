@@ -13,6 +13,12 @@ pub const MOST_ROWS: u16 = 1024;
 /// The greatest number of calls of a worker.
 pub const MOST_TIMES: u32 = 1_000_000;
 
+/// The greatest bound of a worker's instructions.
+pub const MOST_STEPS: u32 = 1_000_000_000;
+
+/// The steps of a run whose workers have no bound.
+pub const NO_BOUND: u64 = u64::MAX;
+
 /// The most paths of a run, and the most peers.
 pub const MOST_NAMES: usize = 16;
 
@@ -57,6 +63,8 @@ pub struct Run<'a> {
     pub rows: u16,
     /// The number of calls of each worker, 1 to 1,000,000.
     pub times: u32,
+    /// The number of instructions that each worker begins at most: up to 1,000,000,000, or `NO_BOUND`.
+    pub steps: u64,
     /// The paths that `open` opens, by their numbers from 0: 16 at most.
     pub paths: &'a [&'a str],
     /// The peers to which `connect` connects, by their numbers from 0: 16 at most.

@@ -153,6 +153,7 @@ fn run_file<'a, R: System, L: Load, T: Terminal, W: Write>(
     };
     let plan = Plan {
         call,
+        steps: asked.steps,
         threads: asked.threads as u8,
         rows: asked.rows,
     };

@@ -18,7 +18,9 @@ mod texts;
 mod tracing;
 
 pub use accepted::write_accepted;
-pub use asked::{Asked, MOST_NAMES, MOST_ROWS, MOST_THREADS, MOST_TIMES, Run};
+pub use asked::{
+    Asked, MOST_NAMES, MOST_ROWS, MOST_STEPS, MOST_THREADS, MOST_TIMES, NO_BOUND, Run,
+};
 pub use carrying::{carry_out, execute, execute_on};
 pub use explainer::{Explain, Explainer};
 pub use lines::{VERSION, write_stop, write_version};

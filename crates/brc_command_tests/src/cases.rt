@@ -2,7 +2,7 @@
 
 ghost use Rattle.std.specs.Prelude.{◌<◌, ◌≤◌, ⊤};
 
-use brc_command::{Asked, Load, LoadError, Run, execute};
+use brc_command::{Asked, Load, LoadError, NO_BOUND, Run, execute};
 use brc_run::System;
 use std::process::Abort;
 
@@ -39,6 +39,7 @@ pub fn to_run<'a>(function: &'a str, threads: u32, rows: u16, times: u32) -> Ask
         threads,
         rows,
         times,
+        steps: NO_BOUND,
         paths: &[],
         peers: &[],
     })

@@ -1,9 +1,9 @@
 //! Command lines, from their words.
 
 use crate::cases::{Bytes, LEAKING, ONE_REPORT, SMALLEST, Shelf, contains};
-use crate::items::{SWAP, SWAPS_REPORT};
+use crate::items::{CYCLE, SET_PAST_THE_END, SWAP, SWAPS_REPORT};
 use crate::loops::{EIGHT_NUMBERS_REPORT, NUMBERS, THREE_NUMBERS_REPORT};
-use crate::worked::{NUMBER_REPORT, TWO_NUMBERS};
+use crate::worked::{NUMBER_REPORT, TWO_NUMBERS, TWO_NUMBERS_REPORT};
 use brc_arguments::act;
 use brc_run::System;
 use std::process::Abort;
@@ -15,6 +15,9 @@ const ACCEPTED: &[u8] = b"accepted 1 functions 1 instructions\n";
 
 const MOST: &[u8] =
     b"threads 32\nrunning 0\ncreated 1\nclosed 1\nalive 0\nhost faults 0\nclose faults 0\n";
+
+const CYCLE_REPORT: &[u8] =
+    b"threads 1\nrunning 0\ncreated 2\nclosed 1\nalive 1\nhost faults 0\nclose faults 0\nleft 2 list\n";
 
 const STEPPED: &[u8] =
     b"threads 1\nrunning 2\ncreated 1\nclosed 0\nalive 1\nhost faults 0\nclose faults 0\nleft 1 list\n";
@@ -130,6 +133,49 @@ const CARRIED_OUT: &[(&[u8], &[&str], (&[u8], &[u8], u8))] = &[
         ],
         (SWAPS_REPORT, b"", 0),
     ),
+    // How many instructions a worker begins.
+    (
+        SET_PAST_THE_END,
+        &["brc", "run", "m.brc", "--call", "f", "--steps", "2"],
+        (NUMBER_REPORT, b"", 0),
+    ),
+    (
+        SWAP,
+        &[
+            "brc", "run", "m.brc", "--call", "swap", "--times", "1000", "--steps", "7",
+        ],
+        (TWO_NUMBERS_REPORT, b"", 0),
+    ),
+    (
+        SWAP,
+        &[
+            "brc", "run", "m.brc", "--call", "swap", "--times", "1000", "--steps", "0",
+        ],
+        (ONE_REPORT, b"", 0),
+    ),
+    (
+        SWAP,
+        &[
+            "brc",
+            "run",
+            "m.brc",
+            "--call",
+            "swap",
+            "--steps",
+            "1000000000",
+        ],
+        (NUMBER_REPORT, b"", 0),
+    ),
+    (
+        CYCLE,
+        &["brc", "run", "m.brc", "--call", "f", "--steps", "3"],
+        (NUMBER_REPORT, b"", 0),
+    ),
+    (
+        CYCLE,
+        &["brc", "run", "m.brc", "--call", "f", "--steps", "4"],
+        (CYCLE_REPORT, b"", 0),
+    ),
 ];
 
 // Each asks for an explanation that has this part.
@@ -222,6 +268,11 @@ const NUMBERS_REFUSED: &[(&str, &str)] = &[
     ("--times", "1000001"),
     ("--times", "often"),
     ("--times", "18446744073709551617"),
+    ("--steps", "1000000001"),
+    ("--steps", "x"),
+    ("--steps", "+7"),
+    ("--steps", "07"),
+    ("--steps", "18446744073709551615"),
     ("--seed", "1"),
 ];
 

@@ -29,8 +29,8 @@ const OWN_AND_OTHER: &[u8] =
 pub const SET_PAST_THE_END: &[u8] =
     b"module 1\nfunc f\nnum v1 7 else @6\nlock v0\nset v0 200 v1 else @5\nunlock v0\nfail\nunlock v0\nfail\nend\n";
 
-// A list that is its own item.
-const CYCLE: &[u8] =
+/// A list that is its own item.
+pub const CYCLE: &[u8] =
     b"module 1\nfunc f\nlist v1 1 else @6\nnewref v2 v1\nlock v1\nset v1 0 v2 else @4\nunlock v1\ndrop v1\nfail\nend\n";
 
 /// The report of two workers that are gone, with the root and one more object.

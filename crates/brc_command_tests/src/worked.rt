@@ -69,6 +69,10 @@ pub const TWO_NUMBERS: &[u8] =
 pub const NUMBER_REPORT: &[u8] =
     b"threads 1\nrunning 0\ncreated 2\nclosed 2\nalive 0\nhost faults 0\nclose faults 0\n";
 
+/// The report of a run that makes two numbers.
+pub const TWO_NUMBERS_REPORT: &[u8] =
+    b"threads 1\nrunning 0\ncreated 3\nclosed 3\nalive 0\nhost faults 0\nclose faults 0\n";
+
 const RUN: &[Case<'static>] = &[
     (
         "smallest_module",
@@ -80,11 +84,7 @@ const RUN: &[Case<'static>] = &[
         "no_row_left, rows enough",
         Ok(TWO_NUMBERS),
         UNREAD,
-        (
-            b"threads 1\nrunning 0\ncreated 3\nclosed 3\nalive 0\nhost faults 0\nclose faults 0\n",
-            b"",
-            0,
-        ),
+        (TWO_NUMBERS_REPORT, b"", 0),
     ),
 ];
 

@@ -96,7 +96,19 @@ fn outcome_of<R: Threads + Wait + Sync>(
     let Ok((heap, mut main)) = Heap::new(alloc, THREADS, ROWS) else {
         return Outcome::Opening;
     };
-    let ran = fan_out(rt, alloc, &heap, &mut main, checked, 0, TIMES, hosts, &Open).is_ok();
+    let ran = fan_out(
+        rt,
+        alloc,
+        &heap,
+        &mut main,
+        checked,
+        0,
+        TIMES,
+        u64::MAX,
+        hosts,
+        &Open,
+    )
+    .is_ok();
     let mut host = FakeHost::new(&[]);
     Queue::new(&heap).leave(rt, &mut main, &mut host);
     match ended(heap, main) {

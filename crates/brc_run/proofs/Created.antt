@@ -18,6 +18,8 @@ use Rattle.brc_table.specs.Ending.{EndState, kind_at}
 use Rattle.brc_table.specs.Joining.{RowsAreUsed}
 use Rattle.brc_table.specs.Opening.{plain_layout}
 use Rattle.brc_heap.specs.Ends.{was_born}
+use Rattle.brc_work.specs.Totals.{totals_of}
+use Rattle.brc_work.specs.declared.ran.Ran.{Ran}
 use Rattle.brc_work.specs.declared.totals.Totals.{Totals}
 use Rattle.brc_run.specs.Runs.{totals_in}
 use Rattle.brc_run.specs.Tallies.{created_at_end}
@@ -118,12 +120,12 @@ module _ (end : EndState) (workers rows : ℕ) (same : end.layout ≡ plain_layo
 
 -- What is known of each worker's rows, if main has joined its hand.
 module _ (end : EndState) (joined : List Joined) (all : All (RowsAreUsed end.layout end.words) joined)
-    (gone : List (HandState × Totals))
-    (each : (k : ℕ) (w : HandState × Totals) → k < length gone → let hand = (get_or gone k w).0 in
+    (gone : List (HandState × Ran))
+    (each : (k : ℕ) (w : HandState × Ran) → k < length gone → let hand = (get_or gone k w).0 in
     Contains joined (record { thread = hand.view.thread; used = hand.view.used }))
-    (numbered : (k : ℕ) (w : HandState × Totals) → k < length gone → (get_or gone k w).0.view.thread ≡ k + 1)
-    (counted : (k : ℕ) (w : HandState × Totals) → k < length gone
-    → (get_or gone k w).1.created ≡ (get_or gone k w).0.view.used) where
+    (numbered : (k : ℕ) (w : HandState × Ran) → k < length gone → (get_or gone k w).0.view.thread ≡ k + 1)
+    (counted : (k : ℕ) (w : HandState × Ran) → k < length gone
+    → (totals_of (get_or gone k w).1).created ≡ (get_or gone k w).0.view.used) where
   pub used_by_all : (k : ℕ) (d : Totals) → k < length gone
       → RowsAreUsed end.layout end.words (record { thread = suc k; used = (get_or (totals_in gone) k d).created })
   used_by_all k d low = elim (slice_get_cases gone k).1 [
@@ -134,7 +136,8 @@ module _ (end : EndState) (joined : List Joined) (all : All (RowsAreUsed end.lay
         let is = All-contains (RowsAreUsed end.layout end.words) joined joined_hand all (each k w low) in
         let thread : hand.view.thread ≡ suc k = omega (arith, numbered k w low) in
         let used : hand.view.used ≡ (get_or (totals_in gone) k d).created =
-        sym (counted k w low) ∙ ap (λ (t : Totals). t.created) (sym (get_or-map (λ (v : HandState × Totals). v.1) gone k w d low)) in
+        sym (counted k w low)
+        ∙ ap (λ (t : Totals). t.created) (sym (get_or-map (λ (v : HandState × Ran). totals_of v.1) gone k w d low)) in
         subst (λ (n : ℕ). RowsAreUsed end.layout end.words (record { thread = suc k; used = n })) used
         (subst (λ (t : ℕ). RowsAreUsed end.layout end.words (record { thread = t; used = hand.view.used })) thread is)
     | inr past ↦ absurd (omega (arith, past.0, low))

@@ -15,7 +15,9 @@ use Rattle.brc_heap.specs.Ends.{HasEnded}
 use Rattle.brc_os.specs.HostStates.{HostState, AnswersForSystem, new_host}
 use Rattle.brc_queue.specs.Scans.{HasLeft}
 use Rattle.brc_report.specs.declared.tally.Tally.{Tally}
+use Rattle.brc_work.specs.Totals.{totals_of}
 use Rattle.brc_work.specs.Workers.{HasGone, job}
+use Rattle.brc_work.specs.declared.ran.Ran.{Ran}
 use Rattle.brc_work.specs.declared.totals.Totals.{Totals}
 use Rattle.brc_run.specs.Tallies.{tally_at_end}
 
@@ -28,22 +30,23 @@ pub record MayEnd (v : View) : Type 0 where
   pub root : v.references ≡ root_row ∷ []
 
 -- what each worker has counted
-abbrev pub totals_in : List (HandState × Totals) → List Totals
-totals_in gone = map (λ w. w.1) gone
+abbrev pub totals_in : List (HandState × Ran) → List Totals
+totals_in gone = map (λ w. totals_of w.1) gone
 
--- The tally of a run with this number of workers, and of rows for each. Each worker makes the call `call.times` times:
--- its thread is gone, and has made the events of the calls and then those of its exit, and its host was asked for just
--- what they ask. The tally is of the end of the heap that they share, at which each thread is gone, of what each worker
--- has counted of its host's answers, and of the closes of main that failed.
+-- The tally of a run with this number of workers, and of rows for each. Each worker makes the call `call.times` times,
+-- or is stopped where it has begun `steps` instructions: its thread is gone, and has made the events of the calls, those
+-- of its stop, if it was stopped, and then those of its exit, and its host was asked for just what they ask. The tally
+-- is of the end of the heap that they share, at which each thread is gone, of what each worker has counted of its host's
+-- answers, and of the closes of main that failed.
 pub record IsTallyOf {S : Type 0} (answers : S → HostCall → S → Type 0) (counts : S → HostCounts) (m : Module)
-    (workers rows : ℕ) (call : Call) (close_faults : ℕ) (tally : Tally) : Type 0 where
+    (workers rows : ℕ) (call : Call) (steps close_faults : ℕ) (tally : Tally) : Type 0 where
   pub heap : TableState
   pub same : heap.layout ≡ plain_layout workers rows
-  pub gone : List (HandState × Totals)
+  pub gone : List (HandState × Ran)
   pub end : EndState
   pub one_each : length gone ≡ workers
-  pub each : (k : ℕ) (w : HandState × Totals) → k < workers
-      → HasGone answers counts (job heap m call.function call.times (k + 1)) (slice_index_or gone k w).0
+  pub each : (k : ℕ) (w : HandState × Ran) → k < workers
+      → HasGone answers counts (job heap m call.function call.times steps (k + 1)) (slice_index_or gone k w).0
       (slice_index_or gone k w).1
   pub of : end.table ≡ heap.table
   pub layout : end.layout ≡ plain_layout workers rows
@@ -54,20 +57,20 @@ pub record IsTallyOf {S : Type 0} (answers : S → HostCall → S → Type 0) (c
 
 -- Main has left with these closes of its host, and no other call. The tally has counted those that failed.
 pub record CountsMain {S : Type 0} (answers : S → HostCall → S → Type 0) (counts : S → HostCounts) (m : Module)
-    (workers rows : ℕ) (call : Call) (before after : S) (tally : Tally) : Type 0 where
+    (workers rows : ℕ) (call : Call) (steps : ℕ) (before after : S) (tally : Tally) : Type 0 where
   pub closes : List HostCall
   pub first : View
   pub last : View
   pub leaves : HasLeft closes first last
   pub host : HasAnswered answers counts before closes after
-  pub counted : IsTallyOf answers counts m workers rows call (raised (close_faults closes) 0) tally
+  pub counted : IsTallyOf answers counts m workers rows call steps (raised (close_faults closes) 0) tally
 
 -- The same over hosts of the system. Main's host reached just these paths and these peers, and hadn't been called; what
 -- becomes of it isn't seen any more.
-abbrev pub IsTallyOfRun : List (List ℕ) → List (List ℕ) → Module → ℕ → ℕ → Call → Tally → Type 0
-IsTallyOfRun paths peers m workers rows call tally = (after : HostState)
-    × CountsMain AnswersForSystem (λ (host : HostState). host.counts) m workers rows call (new_host paths peers) after
-    tally
+abbrev pub IsTallyOfRun : List (List ℕ) → List (List ℕ) → Module → ℕ → ℕ → Call → ℕ → Tally → Type 0
+IsTallyOfRun paths peers m workers rows call steps tally = (after : HostState)
+    × CountsMain AnswersForSystem (λ (host : HostState). host.counts) m workers rows call steps (new_host paths peers)
+    after tally
 
 -- Main has left, and the heap of a run with this number of workers, and of rows for each, has ended: each thread is
 -- gone. Main has left with these closes of its host, and no other call.

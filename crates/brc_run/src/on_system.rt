@@ -34,7 +34,7 @@ pub fn run_on_system<R: System, G: Gate + Sync>(
 ) -> Result<Tally, RunFault>
     requires function { plan.call.function < length checked.now.module.functions }
     ensures { IfOk result (IsTallyOfRun (map (λ path. path.now) paths.now) (map (λ peer. peer.now) peers.now)
-        checked.now.module plan.threads plan.rows plan.call) }
+        checked.now.module plan.threads plan.rows plan.call plan.steps) }
 {
     let paths = strings_of(alloc, paths)?;
     let peers = strings_of(alloc, peers)?;
@@ -65,7 +65,7 @@ fn run_alike<'r, R: System, G: Gate + Sync>(
     requires one_each { length hosts.old ≡ plan.threads }
     requires alike { All (λ host. host ≡ main_host.old) hosts.old }
     ensures { IfOk result (CountsMain AnswersForSystem (λ host. host.counts) checked.now.module plan.threads plan.rows
-        plan.call main_host.old main_host.new) }
+        plan.call plan.steps main_host.old main_host.new) }
 {
     run(rt, alloc, checked, plan, hosts, main_host, gate)
 }

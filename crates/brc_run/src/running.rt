@@ -14,15 +14,16 @@ use brc_check::Checked;
 use brc_heap::{Hand, Heap};
 use brc_host::Host;
 use brc_report::Tally;
-use brc_work::{Gate, Totals, fan_out, join_hands};
+use brc_work::{Gate, Ran, Totals, fan_out, join_hands};
 use std::alloc::{AllocError, Global};
 use std::sync::Wait;
 use std::thread::Threads;
 
 /// Runs a function of the accepted module: as many workers as the plan says call it, each in a thread of its own and
-/// over a host of its own, and main leaves once they are gone. Returns the tally.
+/// over a host of its own, and main leaves once they are gone. Returns the tally, which counts alike whether a worker
+/// has made its calls or was stopped by the plan's bound.
 ///
-/// The gate hears of each call.
+/// The gate hears of each call that begins, and of its end unless the worker stops in it.
 ///
 /// # Errors
 ///
@@ -40,7 +41,7 @@ pub fn run<R: Threads + Wait + Sync, T: Send + Drop, H: Host<Res = T> + Send, G:
     requires function { plan.call.function < length checked.now.module.functions }
     requires one_each { length hosts.old ≡ plan.threads }
     ensures tally { IfOk result (CountsMain H.answers H.counts checked.now.module plan.threads plan.rows plan.call
-        main_host.old main_host.new) }
+        plan.steps main_host.old main_host.new) }
     ensures no_thread { IfErr result (λ fault. fault ≡ RunFault.NoThread
         → MainHasLeft H.answers H.counts plan.threads plan.rows main_host.old main_host.new) }
 {
@@ -53,6 +54,7 @@ pub fn run<R: Threads + Wait + Sync, T: Send + Drop, H: Host<Res = T> + Send, G:
         checked,
         plan.call.function,
         plan.call.times,
+        plan.steps,
         hosts,
         gate,
     );
@@ -73,7 +75,7 @@ fn joined<T: Drop>(
     alloc: Global,
     heap: &Heap<T>,
     main: &mut Hand<T>,
-    gone: Vec<(Hand<T>, Totals)>,
+    gone: Vec<(Hand<T>, Ran)>,
 ) -> Result<Vec<Totals>, RunFault>
     requires of { IsOf heap.now main.old }
     requires gone { (k : ℕ) (w : _) → k < vec_len gone → let hand = (slice_index_or gone.items k w).0 in
@@ -91,12 +93,12 @@ fn joined<T: Drop>(
 }
 
 /// Returns what each worker has counted.
-fn totals_of<T: Drop>(alloc: Global, gone: &[(Hand<T>, Totals)]) -> Result<Vec<Totals>, AllocError>
+fn totals_of<T: Drop>(alloc: Global, gone: &[(Hand<T>, Ran)]) -> Result<Vec<Totals>, AllocError>
     ensures { IfOk result (λ totals. totals.items ≡ totals_in gone.now) }
 {
     let mut totals = Vec::new(alloc);
-    for (_, counted) in gone {
-        totals.push(*counted)?;
+    for (_, ran) in gone {
+        totals.push(ran.totals())?;
     }
     Ok(totals)
 }

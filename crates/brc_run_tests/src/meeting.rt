@@ -54,7 +54,8 @@ fn meet<R: AllocGlobal + Threads + Wait + Sync>(
     threads: u8,
 ) -> Result<(Counts, bool), Fail> {
     let gate = Meeting::of(u64::from(threads));
-    let counts = report_of(rt, rt.alloc(), NOTHING, (threads, MOST_ROWS, 1), &gate)?;
+    let run = (threads, MOST_ROWS, 1);
+    let counts = report_of(rt, rt.alloc(), NOTHING, run, u64::MAX, &gate)?;
     Ok((counts, gate.missed.load(Ordering::SeqCst)))
 }
 

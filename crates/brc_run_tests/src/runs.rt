@@ -66,13 +66,14 @@ fn hosts_of(alloc: Global, count: u8) -> Result<Vec<FakeHost<'static>>, AllocErr
     Ok(hosts)
 }
 
-/// Lets `threads` workers, with `rows` rows each, call the first function of the text's module `times` times, over
-/// hosts that never fail. Returns the report's numbers.
+/// Lets `threads` workers, with `rows` rows each, call the first function of the text's module `times` times, with at
+/// most `steps` instructions each and over hosts that never fail. Returns the report's numbers.
 pub fn report_of<R: Threads + Wait + Sync, G: Gate + Sync>(
     rt: &R,
     alloc: Global,
     text: &[u8],
     (threads, rows, times): (u8, u16, u32),
+    steps: u64,
     gate: &G,
 ) -> Result<Counts, Fail> {
     let mut hosts = hosts_of(alloc, threads)?;
@@ -84,6 +85,7 @@ pub fn report_of<R: Threads + Wait + Sync, G: Gate + Sync>(
         threads,
         rows,
         times,
+        steps,
         hosts.as_mut_slice(),
         &mut main_host,
         gate,
@@ -98,6 +100,7 @@ pub fn report_over<'p, R: Threads + Wait + Sync, G: Gate + Sync>(
     threads: u8,
     rows: u16,
     times: u32,
+    steps: u64,
     hosts: &mut [FakeHost<'p>],
     main_host: &mut FakeHost<'p>,
     gate: &G,
@@ -112,6 +115,7 @@ pub fn report_over<'p, R: Threads + Wait + Sync, G: Gate + Sync>(
     let _module = checked.module();
     let plan = Plan {
         call: Call { function: 0, times },
+        steps,
         threads,
         rows,
     };

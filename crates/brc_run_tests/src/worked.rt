@@ -110,7 +110,7 @@ const CASES: &[Case] = &[
 #[test]
 fn worked_runs_on_threads(rt: HostRuntime) -> Result<(), Fail> {
     for (name, text, run, want) in CASES {
-        let counts = report_of(&rt, rt.alloc(), text, *run, &Open)?;
+        let counts = report_of(&rt, rt.alloc(), text, *run, u64::MAX, &Open)?;
         assert_eq!(rt; counts, *want, "{name}");
     }
     Ok(())

@@ -116,7 +116,16 @@ fn noted<R: Wait>(rt: &R, alloc: Global, text: &[u8], asked: Asked<'_>) -> Resul
     };
     let (heap, mut main) = opened(alloc, MOST_ROWS)?;
     let mut hand = worker_hand(&heap, &mut main)?;
-    makes_calls(rt, &heap, &checked, 2, &mut hand, &mut host, &gate);
+    makes_calls(
+        rt,
+        &heap,
+        &checked,
+        2,
+        u64::MAX,
+        &mut hand,
+        &mut host,
+        &gate,
+    );
     Ok(host.notes)
 }
 

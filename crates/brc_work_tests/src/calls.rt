@@ -11,7 +11,7 @@ use brc_heap::{Final, Hand, Heap};
 use brc_host::{FakeResource, Host};
 use brc_lang::read;
 use brc_queue::Queue;
-use brc_work::{Totals, Worker};
+use brc_work::{Ran, Worker};
 use std::alloc::Global;
 use std::sync::Wait;
 use std::test::*;
@@ -50,23 +50,25 @@ pub fn worker_hand(
     Ok(heap.hand_out(main, WORKER)?)
 }
 
-/// Calls the module's first function `times` times. Returns what the worker has counted.
+/// Calls the module's first function `times` times, and begins at most `steps` instructions. Returns how the run has
+/// ended.
 pub fn makes_calls<R: Wait, H: Host<Res = FakeResource>>(
     rt: &R,
     heap: &Heap<FakeResource>,
     checked: &Checked,
     times: u32,
+    steps: u64,
     hand: &mut Hand<FakeResource>,
     host: &mut H,
     gate: &Hearing,
-) -> Totals
+) -> Ran
     requires holds { HoldsRoot heap.now hand.old }
     ensures holds { HoldsRoot heap.now hand.new }
 {
     // The accepted module has a first function.
     let _module = checked.module();
     let queue = Queue::new(heap);
-    Worker::new(heap, &queue).run(rt, checked, 0, times, hand, host, gate)
+    Worker::new(heap, &queue).run(rt, checked, 0, times, steps, hand, host, gate)
 }
 
 /// Lets the hand's thread leave. Returns how many closes have failed.

@@ -17,7 +17,7 @@ const CONNECT: &[u8] = b"module 1\nfunc f\nconnect v1 0 else @2\ndrop v1\nfail\n
 
 /// Writes to a peer how many bytes it has read from a file. The host's calls are 0 open, 1 connect, 2 read, 3 write,
 /// and if those of opening succeed, at the end the closes of the connection and of the file: 4 and 5 in a whole copy.
-const COPY: &[u8] =
+pub const COPY: &[u8] =
     b"module 1\nfunc f\nopen v1 0 r else @13\nconnect v2 0 else @12\nlock v1\nread v3 v1 4 else @10\n\
     unlock v1\nlock v2\nwrite v2 v3 else @7\nunlock v2\ndrop v3\ngoto @11\nunlock v1\ndrop v2\ndrop v1\nfail\nend\n";
 
@@ -67,8 +67,8 @@ fn everything_is_closed_whichever_two_calls_fail(rt: HostRuntime) -> Result<(), 
     for second in 1..7u64 {
         for first in 0..second {
             let plan = [first, second];
-            let ran = run_over(&rt, rt.alloc(), COPY, MOST_ROWS, 1, &plan)?;
-            let apart = run_in_thread(&rt, rt.alloc(), COPY, MOST_ROWS, 1, &plan)?;
+            let ran = run_over(&rt, rt.alloc(), COPY, MOST_ROWS, 1, u64::MAX, &plan)?;
+            let apart = run_in_thread(&rt, rt.alloc(), COPY, MOST_ROWS, 1, u64::MAX, &plan)?;
             assert_eq!(rt; apart, ran, "calls {first} and {second} in a thread");
             let [created, closed, alive, _, _] = ran.counts;
             assert_eq!(rt; (closed, alive), (created, 0), "calls {first} and {second}");
@@ -103,19 +103,22 @@ fn each_worker_counts_its_own_hosts_faults(rt: HostRuntime) -> Result<(), Fail> 
     let checked = accepted(rt.alloc(), COPY)?;
     let mut hosts = [FakeHost::new(&[0]), FakeHost::new(&[4, 5])];
     let gate = Hearing::new();
-    let (counted, objects, last) = run_apart(
+    let (ends, objects, last) = run_apart(
         &rt,
         rt.alloc(),
         &checked,
+        0,
         2,
         MOST_ROWS,
         1,
+        u64::MAX,
         &mut hosts,
         &gate,
     )?;
-    let [one, other] = counted.as_slice() else {
+    let [one, other] = ends.as_slice() else {
         return Err("there are two workers")?;
     };
+    let (one, other) = (one.totals(), other.totals());
     assert_eq!(rt; (one.created, one.host_faults, one.close_faults), (0, 1, 0));
     assert_eq!(rt;
         (other.created, other.host_faults, other.close_faults),

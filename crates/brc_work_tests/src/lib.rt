@@ -5,6 +5,8 @@
 #[cfg(test)]
 mod asked;
 #[cfg(test)]
+mod bounds;
+#[cfg(test)]
 mod calls;
 #[cfg(test)]
 mod faults;
@@ -12,6 +14,8 @@ mod faults;
 mod hearing;
 #[cfg(test)]
 mod instructions;
+#[cfg(test)]
+mod rounds;
 #[cfg(test)]
 mod runs;
 #[cfg(test)]

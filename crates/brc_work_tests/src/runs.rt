@@ -9,7 +9,7 @@ use brc_check::Checked;
 use brc_heap::{Final, Heap, ROOT};
 use brc_host::{FakeHost, FakeResource, Host};
 use brc_queue::Queue;
-use brc_work::{Gate, Totals, fan_out};
+use brc_work::{Gate, Ran, fan_out};
 use std::alloc::Global;
 use std::process::Abort;
 use std::sync::Wait;
@@ -25,7 +25,7 @@ pub type Counts = [u64; 5];
 
 /// What a run has left.
 #[derive(Clone, Copy, Debug, PartialEq, Eq)]
-pub struct Ran {
+pub struct Outcome {
     /// The report's counts. The faults of closes are those that the worker has counted, and those of both exits.
     pub counts: Counts,
     /// The files and connections that the host has opened.
@@ -36,10 +36,12 @@ pub struct Ran {
     pub births: u32,
     /// The beginnings and ends of calls that the gate has heard, or `None` if they didn't come in order.
     pub heard: Option<u64>,
+    /// Whether the worker has made all its calls.
+    pub done: bool,
 }
 
 /// Returns how many objects were created, how many are closed, and how many are alive.
-fn objects(end: &Final<FakeResource>) -> [u64; 3] {
+pub fn objects(end: &Final<FakeResource>) -> [u64; 3] {
     let mut created: u64 = 0;
     let mut closed: u64 = 0;
     let mut alive: u64 = 0;
@@ -58,15 +60,17 @@ fn objects(end: &Final<FakeResource>) -> [u64; 3] {
 }
 
 /// Lets a worker with `rows` rows call the first function of the text's module `times` times, over a host that fails
-/// in the calls of the plan. Then the worker leaves, main leaves, and the heap ends.
+/// in the calls of the plan. The worker begins at most `steps` instructions. Then it leaves, main leaves, and the heap
+/// ends.
 pub fn run_over<R: Wait>(
     rt: &R,
     alloc: Global,
     text: &[u8],
     rows: u16,
     times: u32,
+    steps: u64,
     plan: &[u64],
-) -> Result<Ran, Fail> {
+) -> Result<Outcome, Fail> {
     if rows == 0 || rows > MOST_ROWS {
         return Err("a worker has 1 to 1024 rows")?;
     }
@@ -75,7 +79,10 @@ pub fn run_over<R: Wait>(
     let gate = Hearing::new();
     let (heap, mut main) = opened(alloc, rows)?;
     let mut hand = worker_hand(&heap, &mut main)?;
-    let totals = makes_calls(rt, &heap, &checked, times, &mut hand, &mut host, &gate);
+    let ran = makes_calls(
+        rt, &heap, &checked, times, steps, &mut hand, &mut host, &gate,
+    );
+    let totals = ran.totals();
     let first = leaves(rt, &heap, &mut hand, &mut host);
     let last = leaves(rt, &heap, &mut main, &mut host);
     let Some(end) = ended(heap, main) else {
@@ -86,39 +93,46 @@ pub fn run_over<R: Wait>(
         .close_faults
         .saturating_add(first)
         .saturating_add(last);
-    Ok(Ran {
+    Ok(Outcome {
         counts: [created, closed, alive, totals.host_faults, close_faults],
         opened: host.opened(),
         closed: host.closed(),
         births: totals.created,
         heard: gate.heard(),
+        done: ran.is_done(),
     })
 }
 
-/// Lets a worker for each host, with `rows` rows, call the module's first function `times` times, each in a thread of
-/// its own. Then main leaves, over the first host, and the heap ends. Returns what each worker has counted, the objects
-/// that were created, closed and are alive, and how many closes of main's have failed.
+/// Lets a worker for each host, with `rows` rows, call the module's function with this number `times` times, each in a
+/// thread of its own and with at most `steps` instructions. Then main leaves, over the first host, and the heap ends.
+/// Returns how each worker's run has ended, the objects that were created, closed and are alive, and how many closes of
+/// main's have failed.
 pub fn run_apart<R: Threads + Wait + Sync, G: Gate + Sync>(
     rt: &R,
     alloc: Global,
     checked: &Checked,
+    function: usize,
     threads: u8,
     rows: u16,
     times: u32,
+    steps: u64,
     hosts: &mut [FakeHost<'_>],
     gate: &G,
-) -> Result<(Vec<Totals>, [u64; 3], u64), Fail>
+) -> Result<(Vec<Ran>, [u64; 3], u64), Fail>
     requires threads { (0 < threads) × (threads ≤ worker_limit) }
     requires rows { (0 < rows) × (rows ≤ row_limit) }
     requires one_each { length hosts.old ≡ threads }
 {
-    // The accepted module has a first function.
-    let _module = checked.module();
+    if function >= checked.module().functions.as_slice().len() {
+        return Err("the module has the function")?;
+    }
     let (heap, mut main) = Heap::new(alloc, threads, rows)?;
-    let gone = fan_out(rt, alloc, &heap, &mut main, checked, 0, times, hosts, gate)?;
-    let mut counted = Vec::new(alloc);
-    for (_, totals) in gone.as_slice() {
-        counted.push(*totals)?;
+    let gone = fan_out(
+        rt, alloc, &heap, &mut main, checked, function, times, steps, hosts, gate,
+    )?;
+    let mut ends = Vec::new(alloc);
+    for (_, ran) in gone.as_slice() {
+        ends.push(*ran)?;
     }
     let Some(host) = hosts.first_mut() else {
         return Err("there is a host for main")?;
@@ -127,7 +141,7 @@ pub fn run_apart<R: Threads + Wait + Sync, G: Gate + Sync>(
     let Some(end) = ended(heap, main) else {
         return Err("a thread isn't gone")?;
     };
-    Ok((counted, objects(&end), last))
+    Ok((ends, objects(&end), last))
 }
 
 /// Makes the run of `run_over` with the worker in a thread of its own. Its exit's faults are among those that it has
@@ -138,32 +152,35 @@ pub fn run_in_thread<R: Threads + Wait + Sync>(
     text: &[u8],
     rows: u16,
     times: u32,
+    steps: u64,
     plan: &[u64],
-) -> Result<Ran, Fail> {
+) -> Result<Outcome, Fail> {
     if rows == 0 || rows > MOST_ROWS {
         return Err("a worker has 1 to 1024 rows")?;
     }
     let checked = accepted(alloc, text)?;
     let gate = Hearing::new();
     let mut hosts = [FakeHost::new(plan)];
-    let (counted, [created, closed, alive], last) = run_apart(
-        rt, alloc, &checked, 1, rows, times, &mut hosts, &gate,
+    let (ends, [created, closed, alive], last) = run_apart(
+        rt, alloc, &checked, 0, 1, rows, times, steps, &mut hosts, &gate,
     )?;
-    let [totals] = counted.as_slice() else {
+    let [ran] = ends.as_slice() else {
         return Err("there is one worker")?;
     };
+    let totals = ran.totals();
     let close_faults = totals.close_faults.saturating_add(last);
-    Ok(Ran {
+    Ok(Outcome {
         counts: [created, closed, alive, totals.host_faults, close_faults],
         opened: hosts[0].opened(),
         closed: hosts[0].closed(),
         births: totals.created,
         heard: gate.heard(),
+        done: ran.is_done(),
     })
 }
 
-/// Asserts what a run leads to, in a thread of its own too. In every run the worker counts a birth for each object but
-/// the root, the gate hears each call begin and end, and the host has closed what it has opened.
+/// Asserts what a run without a bound leads to, in a thread of its own too. In every run the worker counts a birth for
+/// each object but the root, the gate hears each call begin and end, and the host has closed what it has opened.
 pub fn expect<R: Threads + Wait + Sync + Abort>(
     rt: &R,
     alloc: Global,
@@ -173,8 +190,8 @@ pub fn expect<R: Threads + Wait + Sync + Abort>(
     want: Counts,
 ) -> Result<(), Fail> {
     let (rows, times, plan) = run;
-    let ran = run_over(rt, alloc, text, rows, times, plan)?;
-    let apart = run_in_thread(rt, alloc, text, rows, times, plan)?;
+    let ran = run_over(rt, alloc, text, rows, times, u64::MAX, plan)?;
+    let apart = run_in_thread(rt, alloc, text, rows, times, u64::MAX, plan)?;
     assert_eq!(rt; apart, ran, "{name} in a thread of its own");
     assert_eq!(rt; ran.counts, want, "{name}");
     assert_eq!(rt;
@@ -184,5 +201,6 @@ pub fn expect<R: Threads + Wait + Sync + Abort>(
     );
     assert_eq!(rt; ran.heard, Some(2 * u64::from(times)), "calls of {name}");
     assert_eq!(rt; ran.opened, ran.closed, "closes of {name}");
+    assert!(rt; ran.done, "end of {name}");
     Ok(())
 }

@@ -13,10 +13,10 @@ use std::test::*;
 type Case<'a> = (&'a str, &'a [u8], u16, u32, Counts);
 
 /// It does nothing.
-const NOTHING: &[u8] = b"module 1\nfunc f\nfail\nend\n";
+pub const NOTHING: &[u8] = b"module 1\nfunc f\nfail\nend\n";
 
 /// The root has eight cells: `set` gives the number up.
-const SET_OUT_OF_RANGE: &[u8] =
+pub const SET_OUT_OF_RANGE: &[u8] =
     b"module 1\nfunc f\nnum v1 7 else @6\nlock v0\nset v0 200 v1 else @5\nunlock v0\nfail\n\
     unlock v0\nfail\nend\n";
 
@@ -26,7 +26,7 @@ const SWAP: &[u8] =
     unlock v0\nfail\nend\n";
 
 /// A list is put into itself.
-const IN_ITSELF: &[u8] =
+pub const IN_ITSELF: &[u8] =
     b"module 1\nfunc f\nlist v1 1 else @6\nnewref v2 v1\nlock v1\nset v1 0 v2 else @4\nunlock v1\n\
     drop v1\nfail\nend\n";
 
@@ -35,7 +35,8 @@ const TWO_NUMBERS: &[u8] =
     b"module 1\nfunc f\nnum v1 1 else @4\nnum v2 2 else @3\ndrop v2\ndrop v1\nfail\nend\n";
 
 /// Four numbers, one in each pass.
-const FOUR_PASSES: &[u8] = b"module 1\nfunc f\nnum v1 1 else @3\ndrop v1\nagain @0 3\nfail\nend\n";
+pub const FOUR_PASSES: &[u8] =
+    b"module 1\nfunc f\nnum v1 1 else @3\ndrop v1\nagain @0 3\nfail\nend\n";
 
 /// A thousand lists, each in the one after it. Where a row is missing, those that are there are given up.
 const DEEP: &[u8] =
@@ -95,36 +96,60 @@ const CALLS: &[(u32, u64)] = &[(0, 0), (1, 2), (3, 6), (100, 200)];
 #[test]
 fn the_gate_hears_each_call_of_thread_1_begin_and_end(rt: HostRuntime) -> Result<(), Fail> {
     for (times, heard) in CALLS {
-        let ran = run_over(&rt, rt.alloc(), FOUR_PASSES, MOST_ROWS, *times, &[])?;
+        let ran = run_over(
+            &rt,
+            rt.alloc(),
+            FOUR_PASSES,
+            MOST_ROWS,
+            *times,
+            u64::MAX,
+            &[],
+        )?;
         assert_eq!(rt; ran.heard, Some(*heard), "{times} calls");
     }
     Ok(())
 }
 
-/// Lets a worker call the first function of the text's module `times` times, and then once more. Returns of each of
-/// the two runs the births that the worker has counted, and what a gate of its own has heard.
+/// Lets a worker call the first function of the text's module `times` times, with at most `steps` instructions, and
+/// then once more without a bound. Returns of each of the two runs the births that the worker has counted, and what a
+/// gate of its own has heard.
 fn two_runs<R: Wait>(
     rt: &R,
     alloc: Global,
     text: &[u8],
     times: u32,
+    steps: u64,
 ) -> Result<[(u32, Option<u64>); 2], Fail> {
     let checked = accepted(alloc, text)?;
     let mut host = FakeHost::new(&[]);
     let (heap, mut main) = opened(alloc, MOST_ROWS)?;
     let mut hand = worker_hand(&heap, &mut main)?;
     let (gate, other) = (Hearing::new(), Hearing::new());
-    let first = makes_calls(rt, &heap, &checked, times, &mut hand, &mut host, &gate);
-    let second = makes_calls(rt, &heap, &checked, 1, &mut hand, &mut host, &other);
+    let first = makes_calls(
+        rt, &heap, &checked, times, steps, &mut hand, &mut host, &gate,
+    );
+    let second = makes_calls(
+        rt,
+        &heap,
+        &checked,
+        1,
+        u64::MAX,
+        &mut hand,
+        &mut host,
+        &other,
+    );
     Ok([
-        (first.created, gate.heard()),
-        (second.created, other.heard()),
+        (first.totals().created, gate.heard()),
+        (second.totals().created, other.heard()),
     ])
 }
 
 #[test]
 fn each_run_counts_its_own_births_and_calls(rt: HostRuntime) -> Result<(), Fail> {
-    let runs = two_runs(&rt, rt.alloc(), FOUR_PASSES, 3)?;
+    let runs = two_runs(&rt, rt.alloc(), FOUR_PASSES, 3, u64::MAX)?;
     assert_eq!(rt; runs, [(12, Some(6)), (4, Some(2))]);
+    // The first run stops in its first call, behind its second number. The hand can go on all the same.
+    let runs = two_runs(&rt, rt.alloc(), FOUR_PASSES, 3, 5)?;
+    assert_eq!(rt; runs, [(2, Some(1)), (4, Some(2))]);
     Ok(())
 }

@@ -21,7 +21,7 @@ returns-in-Ok-write_tally-clause-reported g c =
           known = search rules;
           ran = subst (λ (call : Call). IsTallyOfRun (map (λ path. path.now) c.args.asked.now.paths.now)
               (map (λ peer. peer.now) c.args.asked.now.peers.now) c.in-Ok.checked.module c.args.asked.now.threads c.args.asked.now.rows call
-              c.in_ok-tally.tally) (c.in-Some.ensures.found ∙ ap (λ (m : Module). calls_named m c.args.asked.now.function.now c.args.asked.now.times) c.module.ensures.value) c.in_ok-tally.ensures;
+              c.args.asked.now.steps c.in_ok-tally.tally) (c.in-Some.ensures.found ∙ ap (λ (m : Module). calls_named m c.args.asked.now.function.now c.args.asked.now.times) c.module.ensures.value) c.in_ok-tally.ensures;
         };
         reported = search rules;
       },
@@ -42,7 +42,7 @@ returns-clause-begun g c = λ is.
           known = search rules;
           ran = subst (λ (call : Call). IsTallyOfRun (map (λ path. path.now) c.args.asked.now.paths.now)
               (map (λ peer. peer.now) c.args.asked.now.peers.now) c.in-Ok.checked.module c.args.asked.now.threads c.args.asked.now.rows call
-              c.in_ok-tally.tally) (c.in-Some.ensures.found ∙ ap (λ (m : Module). calls_named m c.args.asked.now.function.now c.args.asked.now.times) c.module.ensures.value) c.in_ok-tally.ensures;
+              c.args.asked.now.steps c.in_ok-tally.tally) (c.in-Some.ensures.found ∙ ap (λ (m : Module). calls_named m c.args.asked.now.function.now c.args.asked.now.times) c.module.ensures.value) c.in_ok-tally.ensures;
         };
         reported = search rules;
       },

@@ -19,5 +19,5 @@ returns g c =
     IfOk-weaker c.run_alike.result _ _ (λ tally counts. (
       c.run_alike.new.main_host,
       subst (λ (host : HostState). CountsMain AnswersForSystem (λ (h : HostState). h.counts) m plan.threads plan.rows
-          plan.call host c.run_alike.new.main_host tally) asked counts,
+          plan.call plan.steps host c.run_alike.new.main_host tally) asked counts,
     )) c.run_alike.ensures

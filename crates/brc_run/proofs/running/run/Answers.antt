@@ -6,8 +6,8 @@ use Rattle.brc_host.specs.HostCounts.{raised}
 use Rattle.brc_report.specs.declared.tally.Tally.{Tally}
 use Rattle.brc_table.specs.Hands.{HandState}
 use Rattle.brc_table.specs.Views.{HasJoined}
-use Rattle.brc_work.specs.declared.totals.Totals.{Totals}
-use Rattle.brc_work.specs.Totals.{no_totals}
+use Rattle.brc_work.specs.declared.ran.Ran.{Ran}
+use Rattle.brc_work.specs.Totals.{no_totals, totals_of}
 use Rattle.brc_run.specs.Runs.{totals_in}
 use Rattle.brc_run.specs.Tallies.{tally_at_end}
 use Rattle.brc_run.proofs.Created.{created_by_all, used_by_all}
@@ -60,7 +60,7 @@ returns-clause-tally g c = elim c.match-ran.branch [
           created =
               ap (λ (t : Tally). t.created) tally
               ∙ created_by_all end c.args.plan.threads c.args.plan.rows layout (totals_in (vec_items gone))
-              (length-map (vec_items gone) (λ (v : HandState × Totals). v.1) ∙ (len ∙ as_many))
+              (length-map (vec_items gone) (λ (v : HandState × Ran). totals_of v.1) ∙ (len ∙ as_many))
               c.finished-end.ensures.root (λ k d low. used_by_all end c.match-ran.main.view.joined
               c.finished-end.ensures.joined (vec_items gone)
               (λ i v below. subst (λ (u : HandState). let hand = (get_or (vec_items gone) i v).0 in

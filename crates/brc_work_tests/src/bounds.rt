@@ -1,0 +1,152 @@
+//! Workers that are stopped by a bound: they have given up what they held, and everything that isn't in a cycle is
+//! closed.
+
+use crate::calls::accepted;
+use crate::faults::COPY;
+use crate::hearing::Hearing;
+use crate::runs::{MOST_ROWS, run_apart, run_in_thread, run_over};
+use crate::worked::{IN_ITSELF, NOTHING, SET_OUT_OF_RANGE};
+use brc_host::FakeHost;
+use std::test::*;
+
+/// Each bound from 0 to this one is tried.
+const MOST_STEPS: u64 = 20;
+
+/// At bound 6 a variable borrows the item of a list that is locked.
+const BORROWING: &[u8] =
+    b"module 1\nfunc f\nlist v1 1 else @11\nnum v2 3 else @10\nnewref v3 v0\nlock v1\nput v1 0 v2 else @7\n\
+    borrow v4 v1 0 else @7\nput v1 0 v3 else @7\nunlock v1\ndrop v3\ndrop v2\ndrop v1\nfail\nend\n";
+
+/// A call that is stopped at each bound: its name, the module, how many instructions the whole call begins, and how
+/// many objects are created, closed and alive at the end, at the bounds from 0 on. The last ones are those of all
+/// further bounds.
+type Case<'a> = (&'a str, &'a [u8], u64, &'a [[u64; 3]]);
+
+const CASES: &[Case] = &[
+    (
+        "borrowing",
+        BORROWING,
+        12,
+        &[[1, 1, 0], [2, 2, 0], [3, 3, 0]],
+    ),
+    // From the fourth instruction on the list is in itself.
+    (
+        "list in itself",
+        IN_ITSELF,
+        7,
+        &[[1, 1, 0], [2, 2, 0], [2, 2, 0], [2, 2, 0], [2, 1, 1]],
+    ),
+    (
+        "copy",
+        COPY,
+        13,
+        &[[1, 1, 0], [2, 2, 0], [3, 3, 0], [3, 3, 0], [4, 4, 0]],
+    ),
+];
+
+#[test]
+fn a_stopped_worker_has_given_up_what_it_owned(rt: HostRuntime) -> Result<(), Fail> {
+    for (name, text, instructions, wants) in CASES {
+        for steps in 0..=MOST_STEPS {
+            let ran = run_over(&rt, rt.alloc(), text, MOST_ROWS, 1, steps, &[])?;
+            let apart = run_in_thread(&rt, rt.alloc(), text, MOST_ROWS, 1, steps, &[])?;
+            assert_eq!(rt; apart, ran, "{name}, {steps} steps, in a thread of its own");
+            let want = wants.get(steps as usize).or(wants.last());
+            let [created, closed, alive, host_faults, close_faults] = ran.counts;
+            assert_eq!(rt;
+                Some(&[created, closed, alive]),
+                want,
+                "{name}, {steps} steps"
+            );
+            assert_eq!(rt;
+                (host_faults, close_faults),
+                (0, 0),
+                "{name}, {steps} steps"
+            );
+            assert_eq!(rt; ran.opened, ran.closed, "closes of {name}, {steps} steps");
+            assert_eq!(rt; ran.done, steps >= *instructions, "{name}, {steps} steps");
+        }
+    }
+    Ok(())
+}
+
+/// A run with a bound: its name, the module, the calls, the bound, whether the worker makes all calls, and how many
+/// beginnings and ends of calls the gate hears.
+type Bounded<'a> = (&'a str, &'a [u8], u32, u64, bool, u64);
+
+const BOUNDED: &[Bounded] = &[
+    ("no call", NOTHING, 0, 0, true, 0),
+    ("no step", NOTHING, 2, 0, false, 0),
+    ("the second call isn't begun", NOTHING, 2, 1, false, 2),
+    ("a step for each call", NOTHING, 2, 2, true, 4),
+    ("no step for set", SET_OUT_OF_RANGE, 1, 0, false, 0),
+    (
+        "the first call isn't ended",
+        SET_OUT_OF_RANGE,
+        1,
+        4,
+        false,
+        1,
+    ),
+    ("the first call is ended", SET_OUT_OF_RANGE, 1, 5, true, 2),
+    (
+        "the second call isn't ended",
+        SET_OUT_OF_RANGE,
+        2,
+        6,
+        false,
+        3,
+    ),
+];
+
+#[test]
+fn a_run_is_done_unless_its_bound_is_met(rt: HostRuntime) -> Result<(), Fail> {
+    for (name, text, times, steps, done, heard) in BOUNDED {
+        let ran = run_over(&rt, rt.alloc(), text, MOST_ROWS, *times, *steps, &[])?;
+        assert_eq!(rt; (ran.done, ran.heard), (*done, Some(*heard)), "{name}");
+    }
+    Ok(())
+}
+
+/// Two functions that store objects in the root. `own` puts a number into two cells, and then none; `other` takes what
+/// is in the second cell, and stores it in the first.
+const TWO_FUNCTIONS: &[u8] =
+    b"module 1\nfunc own\nnum v1 7 else @12\nlock v0\nput v0 0 v1 else @3\nput v0 1 v1 else @4\nunlock v0\n\
+    drop v1\nnone v1\nlock v0\nput v0 0 v1 else @9\nput v0 1 v1 else @10\nunlock v0\nret v1\nfail\nend\n\
+    func other\nnone v1\nlock v0\nput v0 0 v1 else @3\nfetch v2 v0 1 else @5\nset v0 0 v2 else @5\n\
+    unlock v0\nret v1\nend\n";
+
+/// How many instructions a call of `own` begins, of which the first makes a number.
+const OWN_STEPS: u64 = 12;
+
+/// Four calls begin more instructions than any of the bounds, so both workers stop.
+#[test]
+fn two_workers_stop_at_each_bound(rt: HostRuntime) -> Result<(), Fail> {
+    let checked = accepted(rt.alloc(), TWO_FUNCTIONS)?;
+    for steps in 0..=MOST_STEPS {
+        let numbers = 2 * steps.div_ceil(OWN_STEPS);
+        for (function, created) in [(0, 1 + numbers), (1, 1)] {
+            let mut hosts = [FakeHost::new(&[]), FakeHost::new(&[])];
+            let (ends, objects, _) = run_apart(
+                &rt,
+                rt.alloc(),
+                &checked,
+                function,
+                2,
+                MOST_ROWS,
+                4,
+                steps,
+                &mut hosts,
+                &Hearing::new(),
+            )?;
+            let done = ends.as_slice().iter().any(|ran| ran.is_done());
+            assert!(rt; !done, "function {function}, {steps} steps");
+            assert_eq!(rt;
+                objects,
+                [created, created, 0],
+                "function {function}, {steps} steps"
+            );
+        }
+    }
+    Ok(())
+}

@@ -1,0 +1,103 @@
+//! A worker that somebody may stop: it makes its calls in rounds. docs/EMBED.md quotes this file.
+
+ghost use Rattle.brc_table.specs.Hands.{IsOf};
+ghost use Rattle.brc_work_tests.specs.Ready.{HoldsRoot};
+
+use crate::calls::{accepted, ended, leaves, opened, worker_hand};
+use crate::runs::{MOST_ROWS, objects};
+use crate::worked::FOUR_PASSES;
+use brc_check::Checked;
+use brc_heap::{Hand, Heap};
+use brc_host::{FakeHost, FakeResource};
+use brc_queue::Queue;
+use brc_work::{Gate, Worker};
+use std::alloc::Global;
+use std::sync::Wait;
+use std::sync::atomic::{AtomicBool, AtomicU32, Ordering};
+use std::test::*;
+
+/// How many calls a round has, and how many instructions it begins at most.
+const CALLS: u32 = 10;
+
+const STEPS: u64 = 100;
+
+/// Calls the module's first function in rounds, until the worker is to stop. Then the worker leaves. Returns how many
+/// rounds were stopped by their bound.
+fn works<R: Wait, G: Gate>(
+    rt: &R,
+    heap: &Heap<FakeResource>,
+    checked: &Checked,
+    hand: &mut Hand<FakeResource>,
+    host: &mut FakeHost<'_>,
+    gate: &G,
+    stop: &AtomicBool,
+) -> u32
+    requires holds { HoldsRoot heap.now hand.old }
+    ensures table { IsOf heap.now hand.new }
+{
+    // The accepted module has a first function.
+    let _module = checked.module();
+    let queue = Queue::new(heap);
+    let worker = Worker::new(heap, &queue);
+    let mut stopped: u32 = 0;
+    for _ in rt.forever() {
+        if stop.load(Ordering::SeqCst) {
+            break;
+        }
+        let ran = worker.run(rt, checked, 0, CALLS, STEPS, hand, host, gate);
+        if !ran.is_done() {
+            stopped = stopped.saturating_add(1);
+        }
+    }
+    queue.leave(rt, hand, host);
+    stopped
+}
+
+/// After how many calls the worker is to stop.
+const ENOUGH: u32 = 20;
+
+/// Wants the worker to stop once it begins a call more than is enough.
+#[derive(Drop)]
+struct Enough {
+    begun: AtomicU32,
+    stop: AtomicBool,
+}
+
+impl Gate for Enough {
+    fn before(&self, _thread: u8, _call: u32) {
+        if self.begun.fetch_add(1, Ordering::SeqCst) >= ENOUGH {
+            self.stop.store(true, Ordering::SeqCst);
+        }
+    }
+
+    fn after(&self, _thread: u8, _call: u32) {}
+}
+
+/// Lets a worker make calls of the text's module until there are enough. Returns how many rounds were stopped by their
+/// bound, and the objects that were created, closed and are alive.
+fn in_rounds<R: Wait>(rt: &R, alloc: Global, text: &[u8]) -> Result<(u32, [u64; 3]), Fail> {
+    let checked = accepted(alloc, text)?;
+    let mut host = FakeHost::new(&[]);
+    let gate = Enough {
+        begun: AtomicU32::new(0),
+        stop: AtomicBool::new(false),
+    };
+    let (heap, mut main) = opened(alloc, MOST_ROWS)?;
+    let mut hand = worker_hand(&heap, &mut main)?;
+    let stopped = works(rt, &heap, &checked, &mut hand, &mut host, &gate, &gate.stop);
+    leaves(rt, &heap, &mut main, &mut host);
+    let Some(end) = ended(heap, main) else {
+        return Err("a thread isn't gone")?;
+    };
+    Ok((stopped, objects(&end)))
+}
+
+/// A call begins 13 instructions, and makes four numbers. So a round of 100 instructions makes seven calls, and stops
+/// in the eighth one behind its third number. The third round has the call that is more than enough.
+#[test]
+fn a_worker_stops_between_two_rounds(rt: HostRuntime) -> Result<(), Fail> {
+    let numbers = 3 * (7 * 4 + 3);
+    let want = (3, [1 + numbers, 1 + numbers, 0]);
+    assert_eq!(rt; in_rounds(&rt, rt.alloc(), FOUR_PASSES)?, want);
+    Ok(())
+}
