@@ -44,7 +44,8 @@ fn gives_up_shared(heap: &Heap<FakeResource>, hand: &mut Hand<FakeResource>) -> 
     }
 }
 
-/// Gives up the owner's reference. Returns whether it was the last one, so that the object is in the hand's dying chain.
+/// Gives up the owner's reference. Returns whether it was the last one, so that the object is in the hand's dying
+/// chain.
 #[tactic(auto, using(crate::proofs::Rows::without_row))]
 fn gives_up_last(heap: &Heap<FakeResource>, hand: &mut Hand<FakeResource>) -> bool
     requires holds { HoldsBoth heap.now hand.old }

@@ -25,8 +25,8 @@ enum Scenario {
     EmptiesADyingList,
 }
 
-/// What the ended heap tells: the number of rows; of the objects of the root and of rows 2 and 3, whether they were born,
-/// and whether they are closed; what the first cells of rows 2 and 3 have; and how many objects are closed.
+/// What the ended heap tells: the number of rows; of the objects of the root and of rows 2 and 3, whether they were
+/// born, and whether they are closed; what the first cells of rows 2 and 3 have; and how many objects are closed.
 #[derive(Clone, Copy, Debug, PartialEq, Eq)]
 struct Answers {
     rows: u32,
@@ -108,8 +108,8 @@ fn ends<R: Wait>(
     read(&ended(rt, back.heap, back.main, host)?)
 }
 
-/// Lets a worker play the scenario and leave, and ends the heap. Returns what the worker has seen of a dying list, and what the
-/// ended heap tells.
+/// Lets a worker play the scenario and leave, and ends the heap. Returns what the worker has seen of a dying list, and
+/// what the ended heap tells.
 fn ended_after<R: Wait>(
     rt: &R,
     alloc: Global,

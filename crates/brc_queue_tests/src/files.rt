@@ -90,8 +90,8 @@ fn use_file<R: Wait>(
     Some(gives_up(rt, heap, hand, host, row))
 }
 
-/// Lets a worker use a file of a host that fails by the plan, which names the calls by number: 0 opens the file, 1 reads, 2
-/// writes and 3 closes.
+/// Lets a worker use a file of a host that fails by the plan, which names the calls by number: 0 opens the file, 1
+/// reads, 2 writes and 3 closes.
 fn over_plan<R: Wait>(rt: &R, alloc: Global, plan: &[u64]) -> Result<Option<Counts>, Fail> {
     let mut host = FakeHost::new(plan);
     let (heap, mut main) = opened(alloc, 1)?;

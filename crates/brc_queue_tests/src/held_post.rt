@@ -1,5 +1,5 @@
-//! An object in its owner's queue. The owner leaves between the mark and the look, leaves before the mark, or runs on. The
-//! two workers are in threads of their own, and a signal holds each of them where the other one is to go on.
+//! An object in its owner's queue. The owner leaves between the mark and the look, leaves before the mark, or runs on.
+//! The two workers are in threads of their own, and a signal holds each of them where the other one is to go on.
 
 ghost use Rattle.std.specs.Prelude.{◌≡◌, true, [], ◌∷◌, IfSome};
 ghost use Rattle.brc_model.specs.declared.duty.Duty.TheVariants.{SetMark};

@@ -1,5 +1,5 @@
-//! Tests of queues, of deallocation and of heaps that end; and an example, a runtime of its own threads and its own host,
-//! as `docs/EMBED.md` explains it.
+//! Tests of queues, of deallocation and of heaps that end; and an example, a runtime of its own threads and its own
+//! host, as `docs/EMBED.md` explains it.
 #![tactic(auto)]
 
 #[cfg(test)]

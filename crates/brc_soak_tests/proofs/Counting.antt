@@ -199,8 +199,8 @@ tells_root ledger rows tells one some =
     only_one rows root_row (sym tells.total ∙ one)
     (omega (arith, more, tells.counts root_row (counts_within ledger.counts root_row more)))
 
--- A hand that has locked the list still holds it when it has put another item, or one of several references to the list,
--- into a cell.
+-- A hand that has locked the list still holds it when it has put another item, or one of several references to the
+-- list, into a cell.
 pub held_after : (x y : ℕ) (rows : List ℕ) → 1 ≤ times x rows → (y ≡ x → 2 ≤ times y rows)
     → 1 ≤ times x (without_one y rows)
 held_after x y rows some several = elim (cases_Bool (y == x)) [

@@ -15,8 +15,8 @@ pub struct Log {
     pub born: [u32; ROWS],
     /// Whether the object that was born in the row is a file.
     pub is_file: [bool; ROWS],
-    /// For each cell of each row, how much the swaps have added to its word, which is 0 if the cell is empty, or the row
-    /// of its item plus 1. Over all workers this is the cell's last word.
+    /// For each cell of each row, how much the swaps have added to its word, which is 0 if the cell is empty, or the
+    /// row of its item plus 1. Over all workers this is the cell's last word.
     pub words: [i64; ALL_CELLS],
     /// How many threads have left.
     pub left: u64,
