@@ -3,8 +3,8 @@
 
     python3 docs/gate_cost.py LOG [--anew]
 
-Clones the last commit, runs `rt ci` there (with --anew from nothing, else over what earlier runs kept), and puts what
-it prints into the file LOG. Each second it reads how much processor time the compiler's processes have taken, by the
+Clones the last commit, runs `rt ci` there (where the kit keeps what earlier runs passed, from nothing only with
+--anew), and puts what it prints into the file LOG. Each second it reads how much processor time the compiler's processes have taken, by the
 crate that they work on and by what they do for it: its code, its tests, the second check that its wrong bodies begin
 with, and the wrong bodies. Last it writes the table between the two marks of docs/MAP.md, and prints the closing line
 of the gate and the times. The machine has to be idle, or the times say little.
