@@ -25,6 +25,10 @@ mod KindLoads
 mod Locking
 mod LockedSlots
 mod SlotSteps
+mod Bare
+mod NextDuty
+mod StoredSteps
+mod Permitted
 mod Swapping
 mod Starting
 mod Peeking

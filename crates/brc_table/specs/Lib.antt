@@ -10,6 +10,8 @@ pub mod Swaps
 pub mod Begins
 pub mod Uses
 pub mod Calls
+pub mod Accesses
+pub mod DutySteps
 pub mod Opening
 pub mod Agreeing
 pub mod Giving

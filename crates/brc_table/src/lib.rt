@@ -2,9 +2,11 @@
 //! which threads change them, one atomic step at a time.
 #![tactic(auto)]
 
+mod access;
 mod carried;
 mod cells;
 mod closed;
+mod duty_step;
 mod dying;
 mod exits;
 mod first_words;

@@ -113,6 +113,28 @@ impl<T, B: Begins> Play<Option<T>, View> for UsedStored<B> {
     ghost then = { λ s me stored after. UsesStored B.begins me after };
 }
 
+/// A step of any duty.
+pub(crate) struct Stepped<B> {
+    marker: PhantomData<B>,
+}
+
+impl<T, B: Begins> Play<Option<T>, View> for Stepped<B> {
+    ghost use Rattle.brc_table.specs.DutySteps.{Steps};
+
+    ghost then = { λ s me found after. Steps B.begins me found after };
+}
+
+/// A step of any duty that is a store.
+pub(crate) struct SteppedStored<B> {
+    marker: PhantomData<B>,
+}
+
+impl<T, B: Begins> Play<Option<T>, View> for SteppedStored<B> {
+    ghost use Rattle.brc_table.specs.DutySteps.{StepsStored};
+
+    ghost then = { λ s me stored after. StepsStored B.begins me after };
+}
+
 /// Which row a hand tries to lock, or asks about.
 pub(crate) trait OfRow {
     ghost target: { ℕ };

@@ -7,6 +7,7 @@ ghost use Rattle.brc_model.specs.Counting.{IsPlainLayout};
 ghost use Rattle.brc_table.specs.Views.{main_view};
 ghost use Rattle.brc_table.specs.Hands.{IsOf, CarriesNothing};
 ghost use Rattle.brc_table.specs.Opening.{plain_layout};
+ghost use Rattle.brc_table.specs.Places.{word_count};
 
 use crate::carried::{nothing_carried, spares_of};
 use crate::first_words::first_words;
@@ -99,6 +100,13 @@ impl<T: Drop> Words<T> {
     /// States that the table has 1 to 32 workers with 1 to 1024 rows each.
     pub fn layout_is_plain(&self)
         ensures { IsPlainLayout self.now.layout }
+    {
+        let _opened = self.layout;
+    }
+
+    /// States that the table has as many words as its size asks for.
+    pub(crate) fn words_are_there(&self)
+        ensures { self.now.table.words ≡ word_count self.now.layout }
     {
         let _opened = self.layout;
     }

@@ -1,0 +1,103 @@
+-- The one operation on a word by which each duty is done, for the duties whose word's place depends on the duty alone.
+use Rattle.std.specs.Prelude.{◌≡◌, ℕ, ◌+◌, ◌<◌, ◌%◌, ◌^◌, ◌==◌, List, [], ◌∷◌}
+use prog.Atomic.{either}
+use Rattle.brc_model.specs.declared.duty.Duty.{Duty}
+use Rattle.brc_model.specs.declared.duty.Duty.TheVariants.{RetainLoad, RetainStore, RetainAdd, ReleaseLoad, ReleaseStore, DecideAtZero, SharedLoad, SharedExchange, SetMark, Look, TakeMark, MergeSwap, MergeLoad, MergeExchange, Die, Settle, SettleKind, SettleCell, TakeSlot, CloseResource, SettleEnd, Leave, Scan, Finish, ClaimMark, BirthKind, BirthSlot, BirthLocal, KindLoad, LockGate, UnlockGate, CellLoad, CellSwap, LendSlot, ReturnSlot}
+use Rattle.brc_model.specs.declared.duty.Holding.TheVariants.{AsCaller}
+use Rattle.brc_model.specs.declared.duty.Reason.TheVariants.{Own}
+use Rattle.brc_model.specs.Limits.{cell_limit}
+use Rattle.brc_table.specs.declared.access.Access.{Access}
+use Rattle.brc_table.specs.declared.access.Access.TheVariants.{Load, Store, Add, Swap, Exchange}
+
+-- ---- operations
+
+-- the value that the operation leaves of the one that it finds
+abbrev pub left_by : Access → ℕ → ℕ
+left_by Load found = found
+left_by (Store word before) found = word
+left_by (Add more) found = (found + more) % 2 ^ 64
+left_by (Swap word) found = word
+left_by (Exchange old new) found = either (found == old) new found
+
+-- If the operation is a store, this holds of the value that it overwrites.
+abbrev pub IfStored : Access → (ℕ → Type 0) → Type 0
+IfStored (Store word before) P = P before
+IfStored _ P = Unit {0}
+
+-- ---- duties
+
+-- The duty is done by one such operation.
+abbrev pub HasAccess : Duty → Type 0
+HasAccess (Look x) = ⊥
+HasAccess Settle = ⊥
+HasAccess (TakeSlot x) = ⊥
+HasAccess (CloseResource x) = ⊥
+HasAccess (Leave i n) = ⊥
+HasAccess (Scan i n) = ⊥
+HasAccess Finish = ⊥
+HasAccess (BirthSlot x h) = ⊥
+HasAccess (LockGate x) = ⊥
+HasAccess (CellSwap x i y h) = ⊥
+HasAccess (LendSlot x) = ⊥
+HasAccess (ReturnSlot x) = ⊥
+HasAccess _ = Unit {0}
+
+-- If the duty is about a cell, a list may have the cell.
+abbrev pub HasCell : Duty → Type 0
+HasCell (SettleCell x i n) = i < cell_limit
+HasCell (CellLoad x i) = i < cell_limit
+HasCell _ = Unit {0}
+
+-- If the duty chains an object, the object's row plus 1 is a number of 32 bits.
+abbrev pub HasNextRow : Duty → Type 0
+HasNextRow (Die x) = x + 1 < 2 ^ 32
+HasNextRow _ = Unit {0}
+
+-- the row that the duty is about
+abbrev pub row_of : Duty → ℕ
+row_of (RetainLoad x h) = x
+row_of (RetainStore x h w) = x
+row_of (RetainAdd x h) = x
+row_of (ReleaseLoad x h) = x
+row_of (ReleaseStore x w) = x
+row_of (DecideAtZero x) = x
+row_of (SharedLoad x r) = x
+row_of (SharedExchange x r w) = x
+row_of (SetMark x) = x
+row_of (TakeMark x) = x
+row_of (MergeSwap x r) = x
+row_of (MergeLoad x c r) = x
+row_of (MergeExchange x c w r) = x
+row_of (Die x) = x
+row_of (SettleKind x) = x
+row_of (SettleCell x i n) = x
+row_of (SettleEnd x) = x
+row_of (ClaimMark x) = x
+row_of (BirthKind x h w) = x
+row_of (BirthLocal x h) = x
+row_of (KindLoad x) = x
+row_of (UnlockGate x) = x
+row_of (CellLoad x i) = x
+row_of _ = 0
+
+-- ---- what comes next
+
+-- The duty without what its step doesn't need: by what its reference is held, and whose it is.
+abbrev pub bare : Duty → Duty
+bare (RetainLoad x h) = RetainLoad x AsCaller
+bare (RetainStore x h w) = RetainStore x AsCaller w
+bare (RetainAdd x h) = RetainAdd x AsCaller
+bare (ReleaseLoad x h) = ReleaseLoad x AsCaller
+bare (SharedLoad x r) = SharedLoad x Own
+bare (SharedExchange x r w) = SharedExchange x Own w
+bare (MergeSwap x r) = MergeSwap x Own
+bare (MergeLoad x c r) = MergeLoad x c Own
+bare (MergeExchange x c w r) = MergeExchange x c w Own
+bare (BirthKind x h w) = BirthKind x AsCaller w
+bare (BirthLocal x h) = BirthLocal x AsCaller
+bare d = d
+
+-- The duty comes next, up to what its step doesn't need.
+abbrev pub IsNext : Duty → List Duty → Type 0
+IsNext d [] = ⊥
+IsNext d (e ∷ rest) = bare e ≡ bare d

@@ -1,0 +1,32 @@
+-- What a step makes of its hand, and what the hand learns by it, whichever duty the step is of.
+use Rattle.std.specs.Prelude.{ℕ, List, [], ◌∷◌, Option}
+use Rattle.atomic_table.specs.Table.{Me}
+use Rattle.brc_model.specs.declared.duty.Duty.{Duty}
+use Rattle.brc_model.specs.SlotLaws.{SlotUse, Gives}
+use Rattle.brc_model.specs.Stores.{Overwrites}
+use Rattle.brc_table.specs.declared.view.View.{View}
+use Rattle.brc_table.specs.Plays.{SuitsFirst, FirstFindsOwner, FindsKnown, overwritten}
+use Rattle.brc_table.specs.Uses.{FirstSlot, IsDue, Uses}
+
+-- The slot that a step gives back is the one that the hand took last, and holds what is due.
+abbrev pub DueSlot : SlotUse → List (ℕ × ℕ) → View → Type 0
+DueSlot (Gives x) slots v = (n : ℕ) × FirstSlot slots x n × IsDue v v.agenda n
+DueSlot _ slots v = Unit {0}
+
+-- If the first duty is a store, the value found is the one that the thread knows.
+abbrev pub OverwritesFirst : ℕ → List Duty → ℕ → Type 0
+OverwritesFirst t [] found = Unit {0}
+OverwritesFirst t (d ∷ rest) found = Overwrites t d found
+
+-- The hand first becomes `begins` of what it was, and then does its first duty.
+abbrev pub Steps : {T : Type 0} → (View → View) → Me (Option T) View → ℕ → Me (Option T) View → Type 0
+Steps begins me found after =
+    Uses begins me found after
+    × SuitsFirst (begins me.0) (begins me.0).agenda found
+    × FirstFindsOwner (begins me.0) (begins me.0).agenda found
+    × FindsKnown (begins me.0) (begins me.0).agenda found
+    × OverwritesFirst (begins me.0).thread (begins me.0).agenda found
+
+-- The same of a store, which knows the value that it overwrites.
+abbrev pub StepsStored : {T : Type 0} → (View → View) → Me (Option T) View → Me (Option T) View → Type 0
+StepsStored begins me after = Steps begins me (overwritten (begins me.0)) after

@@ -1,0 +1,167 @@
+//! One step of a hand, of any duty that has an operation (`access`). The duty has to come next in the hand's view.
+
+ghost use Rattle.std.specs.Prelude.{◌≡◌, ◌≢◌, ◌<◌, ℕ, Option, [], ◌∷◌};
+ghost use Rattle.atomic_table.specs.Table.{State, Allows};
+ghost use Rattle.brc_model.specs.declared.actor.Status.TheVariants.{Gone};
+ghost use Rattle.brc_model.specs.Layout.{row_count};
+ghost use Rattle.brc_model.specs.SlotLaws.{use_of};
+ghost use Rattle.brc_model.specs.Stores.{Overwrites};
+ghost use Rattle.brc_table.specs.declared.view.View.{View};
+ghost use Rattle.brc_table.specs.Views.{done, turned};
+ghost use Rattle.brc_table.specs.Homes.{TableStands};
+ghost use Rattle.brc_table.specs.Plays.{SuitsFirst, FirstFindsOwner, FindsKnown, overwritten};
+ghost use Rattle.brc_table.specs.Uses.{first_due, held_after};
+ghost use Rattle.brc_table.specs.DutySteps.{DueSlot, OverwritesFirst, Steps};
+ghost use Rattle.brc_table.specs.Accesses.{HasAccess, HasCell, IfStored, IsNext, left_by, row_of};
+ghost use Rattle.brc_table.specs.Begins.{Becomes, KeepsThread};
+ghost use Rattle.brc_table.specs.Hands.{IsOf};
+ghost use Rattle.brc_table.specs.Calls.{CanAct};
+
+use crate::access::{Access, access_of, head_after, place_of, row_of, used_after};
+use crate::hand::Hand;
+use crate::rule::{Begins, Stepped, SteppedStored};
+use crate::view::View;
+use crate::words::Words;
+use atomic_table::Seat;
+use brc_model::{
+    Duty, accounts_are_there, chains_are_there, duties_are_kept, duties_are_within,
+    given_slots_are_unlocked, guarded_cells_stay, handed_merges_live, slots_are_free,
+    slots_are_known, work_is_put_aside, work_is_taken_back,
+};
+use std::marker::Brand;
+
+impl<T: Drop> Words<T> {
+    /// Does the next duty, and returns the word found. A store returns the word that it overwrites, which the hand
+    /// knows.
+    #[inline(always)]
+    pub fn step(&self, hand: &mut Hand<T>, duty: Duty) -> u64
+        requires table { IsOf self.now hand.old }
+        requires alive { hand.old.view.status ≢ Gone }
+        requires known { HasAccess duty }
+        requires cell { HasCell duty }
+        requires next { IsNext duty hand.old.view.agenda }
+        requires due { DueSlot (use_of duty 0) hand.old.slots hand.old.view }
+        ensures table { hand.new.table ≡ hand.old.table }
+        ensures carried { hand.new.carried ≡ hand.old.carried }
+        ensures slots { hand.new.slots
+            ≡ held_after hand.old.slots (use_of duty 0) (first_due (duty ∷ []) result) }
+        ensures view { hand.new.view ≡ done hand.old.view result }
+        ensures overwrites { Overwrites hand.old.view.thread duty result }
+        ensures suits { SuitsFirst hand.old.view hand.old.view.agenda result }
+        ensures owner { FirstFindsOwner hand.old.view hand.old.view.agenda result }
+        ensures finds { FindsKnown hand.old.view hand.old.view.agenda result }
+    {
+        hand.rows_are_there();
+        self.step_from::<Brand>(hand, &duty)
+    }
+
+    /// Turns to the work about the duty's row, and does the duty, which is that work. Returns what `step` does.
+    #[inline(always)]
+    pub fn resume(&self, hand: &mut Hand<T>, duty: Duty) -> u64
+        requires table { IsOf self.now hand.old }
+        requires acts { CanAct hand.old.view }
+        requires known { HasAccess duty }
+        requires cell { HasCell duty }
+        requires next { IsNext duty (turned hand.old.view (row_of duty)).agenda }
+        requires due { DueSlot (use_of duty 0) hand.old.slots (turned hand.old.view (row_of duty)) }
+        ensures table { hand.new.table ≡ hand.old.table }
+        ensures carried { hand.new.carried ≡ hand.old.carried }
+        ensures slots { hand.new.slots
+            ≡ held_after hand.old.slots (use_of duty 0) (first_due (duty ∷ []) result) }
+        ensures view { hand.new.view ≡ done (turned hand.old.view (row_of duty)) result }
+        ensures overwrites { Overwrites hand.old.view.thread duty result }
+        ensures suits { SuitsFirst (turned hand.old.view (row_of duty))
+            (turned hand.old.view (row_of duty)).agenda result }
+        ensures owner { FirstFindsOwner (turned hand.old.view (row_of duty))
+            (turned hand.old.view (row_of duty)).agenda result }
+        ensures finds { FindsKnown (turned hand.old.view (row_of duty))
+            (turned hand.old.view (row_of duty)).agenda result }
+    {
+        work_is_put_aside();
+        work_is_taken_back();
+        hand.rows_are_there();
+        self.step_from::<Brand>(hand, &duty)
+    }
+
+    /// Becomes what `B` begins with, and does the duty, which then comes next.
+    #[inline(always)]
+    pub(crate) fn step_from<B: Begins>(&self, hand: &mut Hand<T>, duty: &Duty) -> u64
+        requires table { IsOf self.now hand.old }
+        requires begins { Becomes self.now.layout hand.old.view (B.begins hand.old.view) }
+        requires thread { KeepsThread hand.old.view (B.begins hand.old.view) }
+        requires alive { (B.begins hand.old.view).status ≢ Gone }
+        requires known { HasAccess duty.now }
+        requires there { row_of duty.now < row_count self.now.layout }
+        requires cell { HasCell duty.now }
+        requires next { IsNext duty.now (B.begins hand.old.view).agenda }
+        requires due { DueSlot (use_of duty.now 0) hand.old.slots (B.begins hand.old.view) }
+        ensures table { hand.new.table ≡ hand.old.table }
+        ensures carried { hand.new.carried ≡ hand.old.carried }
+        ensures slots { hand.new.slots
+            ≡ held_after hand.old.slots (use_of duty.now 0) (first_due (duty.now ∷ []) result) }
+        ensures view { hand.new.view ≡ done (B.begins hand.old.view) result }
+        ensures overwrites { Overwrites hand.old.view.thread duty.now result }
+        ensures suits { SuitsFirst (B.begins hand.old.view) (B.begins hand.old.view).agenda result }
+        ensures owner { FirstFindsOwner (B.begins hand.old.view) (B.begins hand.old.view).agenda result }
+        ensures finds { FindsKnown (B.begins hand.old.view) (B.begins hand.old.view).agenda result }
+    {
+        duties_are_kept();
+        duties_are_within();
+        accounts_are_there();
+        chains_are_there();
+        guarded_cells_stay();
+        handed_merges_live();
+        slots_are_free();
+        slots_are_known();
+        given_slots_are_unlocked();
+        self.layout_is_plain();
+        self.words_are_there();
+        hand.rows_are_there();
+        let index = place_of(*duty);
+        let access = access_of(*duty, hand.thread, hand.head);
+        let found = self.operate::<B>(&mut hand.seat, index, access);
+        // Computed behind the operation: a value from before it would be written back at each step.
+        let head = head_after(*duty, hand.head);
+        let used = used_after(*duty, hand.used);
+        hand.head = head;
+        hand.used = used;
+        found
+    }
+
+    /// Makes the operation on the word at the place.
+    #[inline(always)]
+    fn operate<B: Begins>(
+        &self,
+        seat: &mut Seat<Option<T>, View>,
+        index: usize,
+        access: Access,
+    ) -> u64
+        requires table { seat.old.table_id ≡ self.now.table }
+        requires there { index < self.now.table.words }
+        requires allowed { Allows
+            (λ (s : State (Option T) View). TableStands self.now.layout s.words s.homes s.views)
+            self.now.table.slots seat.old.id seat.old.me index (left_by access) (Steps B.begins seat.old.me) }
+        requires before { IfStored access (λ before. before ≡ overwritten (B.begins seat.old.me.0)) }
+        requires knows { IfStored access (λ before. (found : ℕ)
+            → OverwritesFirst (B.begins seat.old.me.0).thread (B.begins seat.old.me.0).agenda found
+            → found ≡ before) }
+        ensures table { seat.new.table_id ≡ seat.old.table_id }
+        ensures step { Steps B.begins seat.old.me result seat.new.me }
+    {
+        match access {
+            Access::Load => self.table.shared.load::<Stepped<B>>(seat, index),
+            Access::Store { word, before } => {
+                self.table
+                    .shared
+                    .store::<SteppedStored<B>>(seat, index, word);
+                before
+            }
+            Access::Add { more } => self.table.shared.fetch_add::<Stepped<B>>(seat, index, more),
+            Access::Swap { word } => self.table.shared.swap::<Stepped<B>>(seat, index, word),
+            Access::Exchange { old, new } => self
+                .table
+                .shared
+                .compare_exchange::<Stepped<B>>(seat, index, old, new),
+        }
+    }
+}
