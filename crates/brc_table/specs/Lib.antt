@@ -12,6 +12,7 @@ pub mod Uses
 pub mod Calls
 pub mod Accesses
 pub mod DutySteps
+pub mod Turns
 pub mod Opening
 pub mod Agreeing
 pub mod Giving

@@ -11,6 +11,7 @@ ghost use Rattle.brc_table.specs.Views.{done, turned};
 ghost use Rattle.brc_table.specs.Homes.{TableStands};
 ghost use Rattle.brc_table.specs.Plays.{SuitsFirst, FirstFindsOwner, FindsKnown, overwritten};
 ghost use Rattle.brc_table.specs.Uses.{first_due, held_after};
+ghost use Rattle.brc_table.specs.Turns.{MayGoOn, turned_to};
 ghost use Rattle.brc_table.specs.DutySteps.{DueSlot, OverwritesFirst, Steps};
 ghost use Rattle.brc_table.specs.Accesses.{HasAccess, HasCell, IfStored, IsNext, left_by, row_of};
 ghost use Rattle.brc_table.specs.Begins.{Becomes, KeepsThread};
@@ -22,6 +23,7 @@ use crate::hand::Hand;
 use crate::rule::{Begins, Stepped, SteppedStored};
 use crate::view::View;
 use crate::words::Words;
+use crate::work::Work;
 use atomic_table::Seat;
 use brc_model::{
     Duty, accounts_are_there, chains_are_there, duties_are_kept, duties_are_within,
@@ -55,9 +57,38 @@ impl<T: Drop> Words<T> {
         self.step_from::<Brand>(hand, &duty)
     }
 
+    /// Goes on with the hand's work about the duty's row: turns to it, if it is aside, and does the duty, with which it
+    /// goes on. Returns what `step` does.
+    #[inline(always)]
+    pub fn go_on(&self, hand: &mut Hand<T>, work: Work, duty: Duty) -> u64
+        requires table { IsOf self.now hand.old }
+        requires may { MayGoOn work hand.old.view }
+        requires known { HasAccess duty }
+        requires cell { HasCell duty }
+        requires next { IsNext duty (turned_to work hand.old.view (row_of duty)).agenda }
+        requires due { DueSlot (use_of duty 0) hand.old.slots (turned_to work hand.old.view (row_of duty)) }
+        ensures table { hand.new.table ≡ hand.old.table }
+        ensures carried { hand.new.carried ≡ hand.old.carried }
+        ensures slots { hand.new.slots
+            ≡ held_after hand.old.slots (use_of duty 0) (first_due (duty ∷ []) result) }
+        ensures view { hand.new.view ≡ done (turned_to work hand.old.view (row_of duty)) result }
+        ensures overwrites { Overwrites hand.old.view.thread duty result }
+        ensures suits { SuitsFirst (turned_to work hand.old.view (row_of duty))
+            (turned_to work hand.old.view (row_of duty)).agenda result }
+        ensures owner { FirstFindsOwner (turned_to work hand.old.view (row_of duty))
+            (turned_to work hand.old.view (row_of duty)).agenda result }
+        ensures finds { FindsKnown (turned_to work hand.old.view (row_of duty))
+            (turned_to work hand.old.view (row_of duty)).agenda result }
+    {
+        match work {
+            Work::Next => self.step(hand, duty),
+            Work::Aside => self.resume(hand, duty),
+        }
+    }
+
     /// Turns to the work about the duty's row, and does the duty, which is that work. Returns what `step` does.
     #[inline(always)]
-    pub fn resume(&self, hand: &mut Hand<T>, duty: Duty) -> u64
+    pub(crate) fn resume(&self, hand: &mut Hand<T>, duty: Duty) -> u64
         requires table { IsOf self.now hand.old }
         requires acts { CanAct hand.old.view }
         requires known { HasAccess duty }

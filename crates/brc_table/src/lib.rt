@@ -29,6 +29,7 @@ mod step;
 mod steps;
 mod view;
 mod words;
+mod work;
 
 pub use closed::Closed;
 pub use hand::Hand;
@@ -41,3 +42,4 @@ pub use laws::{
 pub use rule::Counting;
 pub use view::{Event, Joined, View};
 pub use words::Words;
+pub use work::Work;
