@@ -4,7 +4,7 @@ ghost use Rattle.std.specs.Prelude.{◌≡◌, ◌<◌};
 ghost use Rattle.brc_model.specs.Duties.{address_of};
 ghost use Rattle.brc_effect.specs.Effects.{IsIndexed};
 
-use brc_effect::rows::{block_of, row_at};
+use crate::rows::{block_of, row_at};
 use brc_model::{Address, Duty, Layout};
 
 /// Returns the address of the word that the thread's duty accesses. `head` is the head of the thread's dying chain: 0
