@@ -37,13 +37,7 @@ impl Access {
             Access::Load => found,
             Access::Store { word, .. } | Access::Swap { word } => word,
             Access::Add { more } => found.wrapping_add(more),
-            Access::Exchange { old, new } => {
-                if found == old {
-                    new
-                } else {
-                    found
-                }
-            }
+            Access::Exchange { old, new } => { if found == old { new } else { found } }
         }
     }
 }
