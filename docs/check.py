@@ -131,6 +131,16 @@ def quote_faults(found):
             yield f"in no source: {quote.splitlines()[0]}"
 
 
+def line_faults(found):
+    """Lines of code on the page for a new instruction that no source has; one with `..` is shortened."""
+    page = (ROOT / "docs" / "ADD_AN_INSTRUCTION.md").read_text()
+    lines = {" ".join(line.split()) for text in found.values() for line in text.splitlines()}
+    for mark, block in re.findall(r"^```(\w*)\n(.*?)^```$", page, re.M | re.S):
+        for line in block.splitlines() if not mark else []:
+            if line.strip() and " .. " not in line and " ".join(line.split()) not in lines:
+                yield f"in no source: {line.strip()}"
+
+
 def main():
     found = sources()
     known = words_of(found.values()) | {path.stem for path in found}
@@ -144,6 +154,7 @@ def main():
         in_page += stale_faults(page) if page.parent.name != "examples" else []
         faults += [f"{page.relative_to(ROOT)}: {fault}" for fault in in_page]
     faults += [f"docs/EMBED.md: {fault}" for fault in quote_faults(found)]
+    faults += [f"docs/ADD_AN_INSTRUCTION.md: {fault}" for fault in line_faults(found)]
     faults += [f"docs/lists/PROVED.md: {fault}" for fault in proved.PART.faults()]
     faults += [f"docs/lists/RULES.md: {fault}" for fault in rules.faults()]
     faults += [f"docs/lists/WRONG_BODIES.md: {fault}" for fault in wrong_bodies.faults()]
