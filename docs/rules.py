@@ -1,5 +1,5 @@
 #!/usr/bin/env python3
-"""Writes the table of rules of docs/DEFINITIONS.md, or compares it with the sources.
+"""Writes the table of rules of docs/lists/RULES.md, or compares it with the sources.
 
     python3 docs/rules.py            changes nothing, and fails if the page isn't what this script would write
     python3 docs/rules.py --write    writes what is between the two marks of the page
@@ -16,7 +16,7 @@ import sys
 # Importing a script of this folder leaves no file there.
 sys.dont_write_bytecode = True
 import proved
-from tables import ROOT, Part, mark_lines
+from tables import LISTS, ROOT, Part, link, mark_lines
 
 SOURCE = ROOT / "crates" / "brc_model" / "specs" / "Rules.antt"
 EFFECT = ROOT / "crates" / "brc_effect" / "src"
@@ -144,10 +144,6 @@ def codes(terms):
     return ", ".join(f"`{term}`" for term in terms)
 
 
-def link(text, path):
-    return f"[{text}](../{path.relative_to(ROOT).as_posix()})"
-
-
 def table():
     lines = ["| Rule | If | Leaves | Then | In words | Step | Real threads | Wrong bodies |", "|" + "---|" * 8]
     does, real, wrong = functions(), real_threads(), wrong_bodies()
@@ -155,14 +151,14 @@ def table():
         lines.append(f"| **{heading[0].upper()}{heading[1:]}** |")
         for rule in rules:
             function, path = does.get(rule.name, (None, None))
-            bodies = [link(f"`{it.stem}`", it) for it in wrong.get(rule.name, [])]
+            bodies = [link(it.stem, it) for it in wrong.get(rule.name, [])]
             cells = [
                 f"`{rule.name}`",
                 codes(rule.premises),
                 codes([rule.left] if rule.left else []),
                 codes(rule.next),
                 sentence(rule.comment) if rule.comment else "",
-                link(f"`{function}`", path) if function else "",
+                link(function, path) if function else "",
                 ", ".join(link(it.stem, it) for it in real.get(rule.name, [])),
                 ", ".join(bodies) or WITHOUT.get(rule.name, ""),
             ]
@@ -170,7 +166,7 @@ def table():
     return "\n".join(lines) + "\n"
 
 
-PART = Part(ROOT / "docs" / "DEFINITIONS.md", mark_lines("rules.py"), table)
+PART = Part(LISTS / "RULES.md", mark_lines("rules.py"), table)
 
 
 def faults_of_wrong_bodies():
@@ -197,7 +193,7 @@ def main():
         print(__doc__)
         return 2
     found = faults()
-    print(*(f"docs/DEFINITIONS.md: {fault}" for fault in found), f"{len(names())} rules, {len(found)} faults", sep="\n")
+    print(*(f"docs/lists/RULES.md: {fault}" for fault in found), f"{len(names())} rules, {len(found)} faults", sep="\n")
     return 1 if found else 0
 
 
