@@ -42,17 +42,6 @@ claiming_becomes law layout v x free own there = record {
   slots = waiting_keeps v (claiming v x) (subst MayWait (sym free.agenda) tt) (refl, (λ y locks. refl), refl);
 }
 
-pub claim_makes : (v : View) (x : ℕ) → IsFree v → MakesQuietly (claiming v x) (in_tile 4 x) (λ found. 0)
-claim_makes v x free = record {
-  makes = record {
-    duty = ClaimMark x;
-    rest = [];
-    at = record { agenda = refl; alive = runs_on v free.running; object = tt; index_is = refl };
-    leaves = λ found suits. refl;
-  };
-  quiet = record { status = λ s. refl; head = λ head found. refl; used = λ used. refl; slots = λ found. refl };
-}
-
 -- ---- the beginning of an exit
 
 module _ (kept : DutiesAreKept) (release : ReleasesBegin) (layout : Layout) (words : List ℕ) (views : List View)

@@ -80,9 +80,15 @@ row_of (UnlockGate x) = x
 row_of (CellLoad x i) = x
 row_of _ = 0
 
+-- the number of the cell that the duty is about
+abbrev pub cell_of : Duty → ℕ
+cell_of (SettleCell x i n) = i
+cell_of (CellLoad x i) = i
+cell_of _ = 0
+
 -- ---- what comes next
 
--- The duty without what its step doesn't need: by what its reference is held, and whose it is.
+-- The duty without what its step doesn't need: by what its reference is held, whose it is, and how many cells there are.
 abbrev pub bare : Duty → Duty
 bare (RetainLoad x h) = RetainLoad x AsCaller
 bare (RetainStore x h w) = RetainStore x AsCaller w
@@ -93,6 +99,7 @@ bare (SharedExchange x r w) = SharedExchange x Own w
 bare (MergeSwap x r) = MergeSwap x Own
 bare (MergeLoad x c r) = MergeLoad x c Own
 bare (MergeExchange x c w r) = MergeExchange x c w Own
+bare (SettleCell x i n) = SettleCell x i 0
 bare (BirthKind x h w) = BirthKind x AsCaller w
 bare (BirthLocal x h) = BirthLocal x AsCaller
 bare d = d

@@ -11,7 +11,7 @@ use Rattle.brc_model.specs.declared.layout.Layout.{Layout}
 use Rattle.brc_model.specs.Duties.{address_of, new_word, new_head}
 use Rattle.brc_model.specs.Layout.{row_count}
 use Rattle.brc_model.specs.Machine.{Machine, status_by, used_by, is_running}
-use Rattle.brc_model.specs.SlotLaws.{SlotUse, Stays, use_of, UsesSlot}
+use Rattle.brc_model.specs.SlotLaws.{Stays, use_of, UsesSlot}
 use Rattle.brc_model.specs.Within.{Suits}
 use Rattle.brc_model.specs.Stores.{Overwrites}
 use Rattle.brc_table.specs.declared.view.View.{View}
@@ -75,25 +75,11 @@ pub record MakesQuietly (v : View) (index : ℕ) (f : ℕ → ℕ) : Type 0 wher
   pub makes : Makes v index f
   pub quiet : IsQuiet makes.duty
 
--- The same of a duty that leaves status, chain and used rows as they are, and takes a slot or gives one back.
-pub record MakesWithSlot (v : View) (index : ℕ) (f : ℕ → ℕ) (slot_use : ℕ → SlotUse) : Type 0 where
-  pub makes : Makes v index f
-  pub status : (s : Status) → status_by s makes.duty ≡ s
-  pub head : (head found : ℕ) → new_head head makes.duty found ≡ head
-  pub used : (used : ℕ) → used_by used makes.duty ≡ used
-  pub uses : (found : ℕ) → use_of makes.duty found ≡ slot_use found
-
 -- The same of a store, which knows the value that it overwrites, and leaves slots as they are.
 pub record StoresWord (v : View) (index word : ℕ) : Type 0 where
   pub makes : Makes v index (λ found. word)
   pub knows : (found : ℕ) → Overwrites v.thread makes.duty found → found ≡ overwritten v
   pub slots : (found : ℕ) → use_of makes.duty found ≡ Stays
-
--- The same of a store that takes a slot or gives one back.
-pub record StoresWithSlot (v : View) (index word : ℕ) (slot_use : SlotUse) : Type 0 where
-  pub makes : Makes v index (λ found. word)
-  pub knows : (found : ℕ) → Overwrites v.thread makes.duty found → found ≡ overwritten v
-  pub uses : (found : ℕ) → use_of makes.duty found ≡ slot_use
 
 -- The hand's first duty is about this thread's word, and makes f of what it finds there.
 pub record MakesAtThread (v : View) (thread : ℕ) (f : ℕ → ℕ) : Type 0 where

@@ -15,7 +15,7 @@ ghost use Rattle.brc_model.specs.Stores.{Overwrites};
 ghost use Rattle.brc_model.specs.Within.{Suits};
 ghost use Rattle.brc_table.specs.Places.{place};
 ghost use Rattle.brc_table.specs.Plays.{overwritten_by};
-ghost use Rattle.brc_table.specs.Accesses.{HasAccess, HasCell, HasNextRow, IfStored, left_by, row_of};
+ghost use Rattle.brc_table.specs.Accesses.{HasAccess, HasCell, HasNextRow, IfStored, left_by};
 
 use crate::place::{GATE, KIND, LOCAL, MARK, SHARED, in_cell, in_line};
 use brc_model::Duty;
@@ -58,51 +58,6 @@ pub(crate) enum Access {
     Swap { word: u64 },
     /// Exchanges the word for `new` if it is still `old`.
     Exchange { old: u64, new: u64 },
-}
-
-/// Returns the row that the duty is about.
-#[inline(always)]
-pub(crate) fn row_of(duty: Duty) -> u32
-    requires known { HasAccess duty }
-    ensures { result ≡ row_of duty }
-{
-    match duty {
-        Duty::RetainLoad { row, .. }
-        | Duty::RetainStore { row, .. }
-        | Duty::RetainAdd { row, .. }
-        | Duty::ReleaseLoad { row, .. }
-        | Duty::ReleaseStore { row, .. }
-        | Duty::DecideAtZero { row }
-        | Duty::SharedLoad { row, .. }
-        | Duty::SharedExchange { row, .. }
-        | Duty::SetMark { row }
-        | Duty::TakeMark { row }
-        | Duty::MergeSwap { row, .. }
-        | Duty::MergeLoad { row, .. }
-        | Duty::MergeExchange { row, .. }
-        | Duty::Die { row }
-        | Duty::SettleKind { row }
-        | Duty::SettleCell { row, .. }
-        | Duty::SettleEnd { row }
-        | Duty::ClaimMark { row }
-        | Duty::BirthKind { row, .. }
-        | Duty::BirthLocal { row, .. }
-        | Duty::KindLoad { row }
-        | Duty::UnlockGate { row }
-        | Duty::CellLoad { row, .. } => row,
-        Duty::Look { .. }
-        | Duty::Settle
-        | Duty::TakeSlot { .. }
-        | Duty::CloseResource { .. }
-        | Duty::Leave { .. }
-        | Duty::Scan { .. }
-        | Duty::Finish
-        | Duty::BirthSlot { .. }
-        | Duty::LockGate { .. }
-        | Duty::CellSwap { .. }
-        | Duty::LendSlot { .. }
-        | Duty::ReturnSlot { .. } => unreachable!(),
-    }
 }
 
 /// Returns the place of the duty's word in the table.

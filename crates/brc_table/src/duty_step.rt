@@ -18,7 +18,7 @@ ghost use Rattle.brc_table.specs.Begins.{Becomes, KeepsThread};
 ghost use Rattle.brc_table.specs.Hands.{IsOf};
 ghost use Rattle.brc_table.specs.Calls.{CanAct};
 
-use crate::access::{Access, access_of, head_after, place_of, row_of, used_after};
+use crate::access::{Access, access_of, head_after, place_of, used_after};
 use crate::hand::Hand;
 use crate::rule::{Begins, Stepped, SteppedStored};
 use crate::view::View;

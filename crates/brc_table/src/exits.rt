@@ -14,7 +14,7 @@ ghost use Rattle.brc_table.specs.Calls.{IsFree, MayLeave, ScansRow, Finishes};
 use crate::hand::Hand;
 use crate::place::MARK;
 use crate::words::Words;
-use brc_model::{claims_begin, duties_are_kept, exits_begin, releases_begin};
+use brc_model::{Duty, claims_begin, duties_are_kept, exits_begin, releases_begin};
 use std::marker::Brand;
 
 /// Main's number.
@@ -48,6 +48,7 @@ impl<T: Drop> Words<T> {
     }
 
     /// Begins to look through the hand's queue: takes the mark of a row of its own block. Returns the mark found.
+    #[inline(always)]
     pub fn mark_claim(&self, hand: &mut Hand<T>, row: u32) -> u64
         requires table { IsOf self.now hand.old }
         requires free { IsFree hand.old.view }
@@ -59,7 +60,7 @@ impl<T: Drop> Words<T> {
         ensures view { hand.new.view ≡ done (claiming hand.old.view row) result }
     {
         claims_begin();
-        self.swap::<Brand>(hand, MARK, row, NOT_QUEUED)
+        self.step_from::<Brand>(hand, &Duty::ClaimMark { row })
     }
 
     /// Begins to leave: says so in the thread's word. The hand's thread no longer runs.

@@ -15,10 +15,12 @@ ghost use Rattle.brc_table.specs.Uses.{HoldsItsOwn, behind_slot};
 ghost use Rattle.brc_table.specs.Calls.{ChainsRow, OwnsFirst};
 
 use crate::hand::Hand;
-use crate::place::{GATE, KIND, LOCAL};
+use crate::place::GATE;
 use crate::words::Words;
-use brc_model::{births_begin, duties_are_kept, needed_slots_are_unlocked, work_is_put_aside};
-use brc_word::{dying, local_word};
+use brc_model::{
+    Duty, Holding, births_begin, duties_are_kept, needed_slots_are_unlocked, work_is_put_aside,
+};
+use brc_word::dying;
 use std::marker::Brand;
 
 /// The rows in front of the workers' blocks: none's and the root's.
@@ -27,6 +29,7 @@ const FRONT_ROWS: u32 = 2;
 impl<T: Drop> Words<T> {
     /// Begins the birth of an object: stores its kind word, and takes its slot, which is empty. Returns the object's
     /// row, the next of the hand's block.
+    #[inline(always)]
     pub fn kind_store(&self, hand: &mut Hand<T>, word: u64) -> u32
         requires table { IsOf self.now hand.old }
         requires running { IsRunning hand.old.view }
@@ -45,7 +48,14 @@ impl<T: Drop> Words<T> {
         self.layout_is_plain();
         hand.rows_are_there();
         let row = self.row_at(hand.thread, hand.used);
-        self.store_taking::<Brand>(hand, KIND, row, word);
+        self.step_from::<Brand>(
+            hand,
+            &Duty::BirthKind {
+                row,
+                holding: Holding::AsCaller,
+                word,
+            },
+        );
         row
     }
 
@@ -63,6 +73,7 @@ impl<T: Drop> Words<T> {
 
     /// Does the next duty: stores the new object's owner and its first reference, and gives its slot back, which has to
     /// hold a resource if the object's kind has one. The object is born.
+    #[inline(always)]
     pub fn first_local_store(&self, hand: &mut Hand<T>, row: u32)
         requires table { IsOf self.now hand.old }
         requires alive { hand.old.view.status ≢ Gone }
@@ -78,9 +89,13 @@ impl<T: Drop> Words<T> {
         hand.slots_are_taken();
         self.layout_is_plain();
         hand.rows_are_there();
-        let used = hand.used + 1;
-        let word = local_word(Some(hand.thread), 1);
-        self.store_giving::<Brand>(hand, LOCAL, row, word, used);
+        self.step_from::<Brand>(
+            hand,
+            &Duty::BirthLocal {
+                row,
+                holding: Holding::AsCaller,
+            },
+        );
     }
 
     /// Does the next duty: puts the object, which has no reference left, at the head of the hand's dying chain.

@@ -91,28 +91,6 @@ impl<S, B: Swap> Play<S, View> for Swapped<B> {
     ghost then = { λ s me found after. Swaps B.list B.cell B.item me found after };
 }
 
-/// A step that takes a slot out of the table or gives one back.
-pub(crate) struct Used<B> {
-    marker: PhantomData<B>,
-}
-
-impl<T, B: Begins> Play<Option<T>, View> for Used<B> {
-    ghost use Rattle.brc_table.specs.Uses.{Uses};
-
-    ghost then = { λ s me found after. Uses B.begins me found after };
-}
-
-/// A store that does so.
-pub(crate) struct UsedStored<B> {
-    marker: PhantomData<B>,
-}
-
-impl<T, B: Begins> Play<Option<T>, View> for UsedStored<B> {
-    ghost use Rattle.brc_table.specs.Uses.{UsesStored};
-
-    ghost then = { λ s me stored after. UsesStored B.begins me after };
-}
-
 /// A step of any duty.
 pub(crate) struct Stepped<B> {
     marker: PhantomData<B>,

@@ -59,33 +59,6 @@ impl<T: Drop> Words<T> {
             .load::<Continued<B>>(&mut hand.seat, index)
     }
 
-    /// Loads a list's cell.
-    pub(crate) fn load_cell<B: Begins>(&self, hand: &mut Hand<T>, row: u32, cell: u32) -> u64
-        requires table { IsOf self.now hand.old }
-        requires begins { Becomes self.now.layout hand.old.view (B.begins hand.old.view) }
-        requires thread { KeepsThread hand.old.view (B.begins hand.old.view) }
-        requires cell { cell < cell_limit }
-        requires there { row < row_count self.now.layout }
-        requires makes { MakesQuietly (B.begins hand.old.view) (cell_place row cell) (λ found. found) }
-        ensures table { hand.new.table ≡ hand.old.table }
-        ensures carried { hand.new.carried ≡ hand.old.carried }
-        ensures slots { hand.new.slots ≡ hand.old.slots }
-        ensures view { hand.new.view ≡ done (B.begins hand.old.view) result }
-        ensures suits { SuitsFirst (B.begins hand.old.view) (B.begins hand.old.view).agenda result }
-        ensures finds { FindsKnown (B.begins hand.old.view) (B.begins hand.old.view).agenda result }
-    {
-        duties_are_kept();
-        duties_are_within();
-        accounts_are_there();
-        chains_are_there();
-        guarded_cells_stay();
-        handed_merges_live();
-        let index = in_cell(row, cell);
-        self.table
-            .shared
-            .load::<Continued<B>>(&mut hand.seat, index)
-    }
-
     /// Loads the word of the thread whose block has the row. Returns what it says of the thread: 1 if it runs or isn't
     /// started yet, 2 if it is leaving, 3 if it is gone.
     pub(crate) fn load_thread<B: Begins>(&self, hand: &mut Hand<T>, row: u32) -> u64
@@ -191,38 +164,6 @@ impl<T: Drop> Words<T> {
         guarded_cells_stay();
         handed_merges_live();
         let index = in_line(line, row);
-        self.table
-            .shared
-            .swap::<Continued<B>>(&mut hand.seat, index, new)
-    }
-
-    /// Swaps a list's cell with another value.
-    pub(crate) fn swap_cell<B: Begins>(
-        &self,
-        hand: &mut Hand<T>,
-        row: u32,
-        cell: u32,
-        new: u64,
-    ) -> u64
-        requires table { IsOf self.now hand.old }
-        requires begins { Becomes self.now.layout hand.old.view (B.begins hand.old.view) }
-        requires thread { KeepsThread hand.old.view (B.begins hand.old.view) }
-        requires cell { cell < cell_limit }
-        requires there { row < row_count self.now.layout }
-        requires makes { MakesQuietly (B.begins hand.old.view) (cell_place row cell) (λ found. new) }
-        ensures table { hand.new.table ≡ hand.old.table }
-        ensures carried { hand.new.carried ≡ hand.old.carried }
-        ensures slots { hand.new.slots ≡ hand.old.slots }
-        ensures view { hand.new.view ≡ done (B.begins hand.old.view) result }
-        ensures suits { SuitsFirst (B.begins hand.old.view) (B.begins hand.old.view).agenda result }
-    {
-        duties_are_kept();
-        duties_are_within();
-        accounts_are_there();
-        chains_are_there();
-        guarded_cells_stay();
-        handed_merges_live();
-        let index = in_cell(row, cell);
         self.table
             .shared
             .swap::<Continued<B>>(&mut hand.seat, index, new)
