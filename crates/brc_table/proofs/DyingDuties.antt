@@ -1,18 +1,18 @@
 -- The duties of a hand that finalises the objects of its chain: where their words are, and how the hand begins.
-use Rattle.std.proofs.Common.{◌≡◌, ℕ, ◌+◌, ◌-◌, ◌<◌, ◌≤◌, List, [], ◌∷◌, refl, sym, ap, ◌∙◌, subst, arith}
+use Rattle.std.proofs.Common.{◌≡◌, ◌≢◌, ℕ, ◌+◌, ◌<◌, ◌≤◌, List, [], ◌∷◌, refl, sym, ap, ◌∙◌, subst, arith}
 use Rattle.std.proofs.lemmas.Bool.{eq-eqb}
 use Rattle.brc_model.specs.declared.duty.Duty.{Duty}
 use Rattle.brc_model.specs.declared.duty.Duty.TheVariants.{TakeSlot, Settle, SettleKind, SettleCell, SettleEnd}
+use Rattle.brc_model.specs.declared.actor.Status.TheVariants.{Gone}
 use Rattle.brc_model.specs.declared.layout.Layout.{Layout}
 use Rattle.brc_model.specs.Layout.{row_count}
 use Rattle.brc_model.specs.Limits.{cell_limit}
 use Rattle.brc_model.specs.CountingLaws.{SettlesBegin}
 use Rattle.brc_table.specs.declared.view.View.{View}
-use Rattle.brc_table.specs.Places.{in_tile}
 use Rattle.brc_table.specs.Views.{slot_emptied_by, actor_of, settle_first, settling, NamesFewCells, RowsAreThere}
 use Rattle.brc_table.specs.Hands.{MayWait}
 use Rattle.brc_table.specs.Accesses.{IsNext}
-use Rattle.brc_table.specs.Begins.{Becomes, MakesWithoutSlot, SettlesNext}
+use Rattle.brc_table.specs.Begins.{Becomes}
 use Rattle.brc_table.specs.Uses.{IsDue}
 use Rattle.brc_table.specs.Calls.{SettlesFrom, LoadsDyingKind, EmptiesCell, ClosesRow}
 use Rattle.brc_table.proofs.Passing.{becomes_same, waiting_keeps}
@@ -42,28 +42,16 @@ pub settling_becomes : SettlesBegin → (layout : Layout) (v : View) → Settles
     → Becomes layout v (settling v)
 settling_becomes law layout v may some = settling_from law layout v v.agenda refl may some
 
-pub settles_next : (v : View) (ds : List Duty) → SettlesFrom v ds → SettlesNext (record v { agenda = settle_first ds })
-settles_next v [] may = record { rest = []; agenda = refl; alive = runs_on v may.0 }
-settles_next v (Settle ∷ rest) may = record { rest = rest; agenda = refl; alive = may }
+-- To settle comes next, of a thread that isn't gone.
+pub settles_next : (v : View) (ds : List Duty) → SettlesFrom v ds → IsNext Settle (settle_first ds)
+settles_next v [] may = refl
+settles_next v (Settle ∷ rest) may = refl
 settles_next v _ may = absurd may
 
--- To settle loads the gate of the chain's first row.
-pub settle_makes : (v u : View) → u.head ≡ v.head → SettlesNext u
-    → MakesWithoutSlot u (in_tile 2 (v.head - 1)) (λ found. found)
-settle_makes v u same next = record {
-  makes = record {
-    duty = Settle;
-    rest = next.rest;
-    at = record {
-      agenda = next.agenda;
-      alive = next.alive;
-      object = tt;
-      index_is = ap (λ (k : ℕ). in_tile 2 (k - 1)) (sym same);
-    };
-    leaves = λ found suits. refl;
-  };
-  slots = λ found. refl;
-}
+pub settles_alive : (v : View) (ds : List Duty) → SettlesFrom v ds → v.status ≢ Gone
+settles_alive v [] may = runs_on v may.0
+settles_alive v (Settle ∷ rest) may = may
+settles_alive v _ may = absurd may
 
 -- ---- the rows of these duties
 

@@ -15,7 +15,6 @@ use Rattle.brc_table.specs.declared.view.View.{View}
 use Rattle.brc_table.specs.Views.{done, asking, RowsAreThere}
 use Rattle.brc_table.specs.Seen.{has_seen_kind, cell_seen}
 use Rattle.brc_table.specs.Hands.{MayChange}
-use Rattle.brc_table.specs.Rule.{thread_reading}
 
 -- The value found suits the view's first duty.
 abbrev pub SuitsFirst : View → List Duty → ℕ → Type 0
@@ -68,10 +67,4 @@ Asks x me found after =
 abbrev pub Stores : {S : Type 0} → (View → View) → Me S View → Me S View → Type 0
 Stores begins me after =
     (after.0 ≡ done (begins me.0) (overwritten (begins me.0))) × (after.1 ≡ me.1) × RowsAreThere after.0
-    × (after.0.taken ≡ me.0.taken)
-
--- The same of a step on a thread word, which goes on with what the word says of the thread.
-abbrev pub Looks : {S : Type 0} → (View → View) → Me S View → ℕ → Me S View → Type 0
-Looks begins me found after =
-    (after.0 ≡ done (begins me.0) (thread_reading found)) × (after.1 ≡ me.1) × RowsAreThere after.0
     × (after.0.taken ≡ me.0.taken)

@@ -21,6 +21,7 @@ const MOST_CELLS: u32 = 8;
 
 impl<T: Drop> Words<T> {
     /// Takes the first object off the hand's dying chain: loads its gate, which names the next one.
+    #[inline(always)]
     pub fn gate_load(&self, hand: &mut Hand<T>) -> u64
         requires table { IsOf self.now hand.old }
         requires chain { 0 < hand.old.view.head }
@@ -31,7 +32,8 @@ impl<T: Drop> Words<T> {
         ensures view { hand.new.view ≡ done (settling hand.old.view) result }
     {
         settles_begin();
-        self.load_chain::<Brand>(hand)
+        hand.rows_are_there();
+        self.step_from::<Brand>(hand, &Duty::Settle)
     }
 
     /// Does the next duty: loads the kind word of the dying object, and takes its slot, which holds a resource if the

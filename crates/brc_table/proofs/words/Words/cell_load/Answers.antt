@@ -12,15 +12,13 @@ step_from-requires-clause-begins g c =
     c.args.self.now.layout c.args.hand.now.view c.args.row c.args.cell c.requires.running c.requires.idle
     c.requires.loads c.requires.knows
 
-pub step_from-requires-clause-cell : goal.step_from-requires-clause-cell
-step_from-requires-clause-cell g c =
-    known_low c.args.hand.now.view c.args.row c.args.cell c.rows_are_there.ensures c.requires.knows
-
 pub step_from-requires-clause-there : goal.step_from-requires-clause-there
-step_from-requires-clause-there g c =
-    subst (λ (l : Layout). c.args.row < row_count l) c.requires.table.1
-    (change_there c.args.hand.now.view c.args.row c.rows_are_there.ensures
-    (load_changes c.args.hand.now.view c.args.row c.requires.loads))
+step_from-requires-clause-there g c = (
+  subst (λ (l : Layout). c.args.row < row_count l) c.requires.table.1
+      (change_there c.args.hand.now.view c.args.row c.rows_are_there.ensures
+      (load_changes c.args.hand.now.view c.args.row c.requires.loads)),
+  known_low c.args.hand.now.view c.args.row c.args.cell c.rows_are_there.ensures c.requires.knows,
+)
 
 pub step_from-requires-clause-alive : goal.step_from-requires-clause-alive
 step_from-requires-clause-alive g c = runs_on c.args.hand.now.view c.requires.running.0

@@ -1,7 +1,7 @@
 use Rattle.std.proofs.Common.{◌≡◌, ℕ, ◌∙◌, sym, ap}
 use Rattle.brc_model.specs.declared.layout.Layout.{Layout}
 use Rattle.brc_model.specs.Layout.{row_at}
-use Rattle.brc_table.specs.Hands.{HandState}
+use Rattle.brc_table.specs.Hands.{HandState, TableState}
 use Rattle.brc_table.specs.Views.{next_row}
 use Rattle.brc_model.specs.declared.duty.Duty.TheVariants.{BirthKind}
 use Rattle.brc_model.specs.declared.duty.Holding.TheVariants.{AsCaller}
@@ -24,7 +24,8 @@ step_from-requires-clause-next g c =
     c.hand.invariant.1 ∙ ap (λ (h : HandState). h.view.thread) c.hand.view_is in
     let used : c.hand.inside.used ≡ v.used = c.hand.invariant.4 ∙ ap (λ (h : HandState). h.view.used) c.hand.view_is in
     let row_is : c.row_at-row.result ≡ next_row v =
-    c.row_at-row.ensures ∙ (ap (λ (t : ℕ). row_at c.args.self.now.layout t c.hand.inside.used) thread
-    ∙ (ap (row_at c.args.self.now.layout v.thread) used
-    ∙ ap (λ (l : Layout). row_at l v.thread v.used) (sym c.requires.table.1))) in
+    c.row_at-row.ensures ∙ (ap (λ (t : ℕ). row_at c.self.inside.layout t c.hand.inside.used) thread
+    ∙ (ap (row_at c.self.inside.layout v.thread) used
+    ∙ ap (λ (l : Layout). row_at l v.thread v.used)
+    (c.self.invariant.0 ∙ (ap (λ (w : TableState). w.layout) c.self.view_is ∙ sym c.requires.table.1)))) in
     ap (λ (x : ℕ). BirthKind x AsCaller c.args.word) (sym row_is)
