@@ -5,14 +5,14 @@ use Rattle.std.specs.List.{filter, list_any}
 use Rattle.std.proofs.lemmas.Bool.{cases_Bool, eq-eqb}
 use prog.Atomic.{either}
 use Rattle.brc_model.specs.declared.duty.Duty.{Duty}
-use Rattle.brc_model.specs.declared.duty.Duty.TheVariants.{RetainLoad, RetainStore, RetainAdd, ReleaseLoad, ReleaseStore, DecideAtZero, SharedLoad, SharedExchange, MergeSwap, MergeLoad, MergeExchange, Die, BirthKind, BirthSlot, BirthLocal}
+use Rattle.brc_model.specs.declared.duty.Duty.TheVariants.{RetainStore, RetainAdd, ReleaseLoad, ReleaseStore, DecideAtZero, SharedLoad, SharedExchange, MergeSwap, MergeLoad, MergeExchange, Die, BirthSlot, BirthLocal}
 use Rattle.brc_model.specs.declared.duty.Holding.TheVariants.{AsCaller, InFlight}
 use Rattle.brc_model.specs.declared.actor.Status.TheVariants.{Running, Gone}
 use Rattle.brc_model.specs.declared.layout.Layout.{Layout}
 use Rattle.brc_model.specs.Layout.{front_rows, row_count}
 use Rattle.brc_model.specs.Limits.{worker_limit, row_limit}
 use Rattle.std.proofs.Math.Nat.{div-add-mod, mod-lt, mod-eq_of_lt}
-use Rattle.brc_word.specs.Words.{biased_part, bias, local_word, released_word, merged_word, dying_word}
+use Rattle.brc_word.specs.Words.{biased_part, bias, released_word, merged_word, dying_word}
 use Rattle.brc_model.specs.Duties.{address_of, new_word, resources_of}
 use Rattle.brc_model.specs.Machine.{is_running}
 use Rattle.brc_model.specs.Within.{Suits}
@@ -22,14 +22,13 @@ use Rattle.std.proofs.Math.Nat.{mul-le-mul}
 use Rattle.brc_table.specs.declared.view.View.{View}
 use Rattle.brc_table.specs.Places.{in_tile, place, IsObjectWord}
 use Rattle.brc_table.specs.Seen.{has_seen_kind}
+use Rattle.brc_table.specs.Accesses.{IsNext}
 use Rattle.brc_table.specs.Uses.{IsDue}
-use Rattle.brc_model.specs.declared.duty.Holding.{Holding}
-use Rattle.brc_table.specs.Views.{RowsAreThere, slot_filled_by, done, did, work_about, retaining, releasing, bearing, next_row}
+use Rattle.brc_table.specs.Views.{RowsAreThere, slot_filled_by, did, work_about}
 use Rattle.brc_table.specs.Hands.{HoldsOne, MayUse, MayLook}
-use Rattle.brc_table.specs.Begins.{IsQuiet, Makes, MakesQuietly, StoresWord, StoresWithSlot, KeepsThread}
+use Rattle.brc_table.specs.Begins.{IsQuiet, Makes, MakesQuietly, StoresWord, KeepsThread}
 use Rattle.brc_table.specs.Plays.{overwritten_by}
 use Rattle.brc_table.specs.Calls.{ReleasesItem, LoadsShared, SwapsLocal, StoresLocal, AddsShared, ExchangesShared, ChainsRow, OwnsFirst}
-use Rattle.brc_model.specs.SlotLaws.{Takes, Gives}
 use Rattle.brc_table.proofs.RowsThere.{immortal_there}
 
 pub runs_on : (v : View) → v.status ≡ Running → v.status ≢ Gone
@@ -63,32 +62,6 @@ either_is found old new w word same leaves = elim (cases_Bool (found == w)) [
   | inl this ↦ rw (same, this) leaves
   | inr other ↦ rw (same, other) refl
 ]
-
--- ---- beginnings
-
-pub retain_makes : (v : View) (x : ℕ) → v.status ≡ Running
-    → MakesQuietly (retaining v x) (in_tile 0 x) (λ found. found)
-retain_makes v x runs = record {
-  makes = record {
-    duty = RetainLoad x AsCaller;
-    rest = [];
-    at = record { agenda = refl; alive = runs_on v runs; object = tt; index_is = refl };
-    leaves = λ found suits. refl;
-  };
-  quiet = record { status = λ s. refl; head = λ head found. refl; used = λ used. refl; slots = λ found. refl };
-}
-
-pub release_makes : (v : View) (x : ℕ) → v.status ≡ Running
-    → MakesQuietly (releasing v x) (in_tile 0 x) (λ found. found)
-release_makes v x runs = record {
-  makes = record {
-    duty = ReleaseLoad x AsCaller;
-    rest = [];
-    at = record { agenda = refl; alive = runs_on v runs; object = tt; index_is = refl };
-    leaves = λ found suits. refl;
-  };
-  quiet = record { status = λ s. refl; head = λ head found. refl; used = λ used. refl; slots = λ found. refl };
-}
 
 -- The hand's next duty is to give up a reference that came out of a cell.
 pub item_release_makes : (u : View) (x : ℕ) → u.status ≢ Gone → (ds : List Duty) → u.agenda ≡ ds → ReleasesItem x ds
@@ -311,57 +284,12 @@ rows_few layout plain =
     let most = mul-le-mul plain.few_workers plain.few_rows in
     omega (arith, most, plain.immortals)
 
-pub birth_stores : (v : View) (word : ℕ) → v.status ≡ Running
-    → StoresWithSlot (bearing v word) (in_tile 3 (next_row v)) word (Takes (next_row v))
-birth_stores v word runs = record {
-  makes = record {
-    duty = BirthKind (next_row v) AsCaller word;
-    rest = [];
-    at = record { agenda = refl; alive = runs_on v runs; object = tt; index_is = refl };
-    leaves = λ found suits. refl;
-  };
-  knows = λ found over. over;
-  uses = λ found. refl;
-}
-
-pub own_stores : (u : View) (x word : ℕ) → u.status ≢ Gone → (ds : List Duty) → u.agenda ≡ ds → OwnsFirst x ds
-    → word ≡ local_word u.thread 1 → StoresWithSlot (slot_filled_by ds u) (in_tile 0 x) word (Gives x)
-own_stores u x word alive (BirthSlot y h ∷ []) is same first =
-    let v : View = record u { agenda = BirthLocal y h ∷ [] } in
-    record {
-      makes =
-          line_makes v x alive 0 (λ found. word) (BirthLocal y h) [] refl tt (ap (in_tile 0) (sym same))
-          (λ found suits. first);
-      knows = λ found over. over;
-      uses = λ found. ap Gives same;
-    }
-own_stores u x word alive (BirthLocal y h ∷ []) is same first = record {
-  makes = line_makes u x alive 0 (λ found. word) (BirthLocal y h) [] is tt (ap (in_tile 0) (sym same)) (λ found suits.
-      first);
-  knows = λ found over. over ∙ sym (ap (overwritten_by u.thread) is);
-  uses = λ found. ap Gives same;
-}
-own_stores u x word alive _ is same first = absurd same
-
--- What the store of a first local word leaves of its thread.
-pub record Owned (u : View) (found : ℕ) : Type 0 where
-  pub status : (done u found).status ≡ u.status
-  pub head : (done u found).head ≡ u.head
-  pub used : (done u found).used ≡ u.used + 1
-
-owned_by : (u : View) (y : ℕ) (h : Holding) (found : ℕ) → u.agenda ≡ BirthLocal y h ∷ [] → Owned u found
-owned_by u y h found is = record {
-  status = subst (λ (ds : List Duty). (did u ds found).status ≡ u.status) (sym is) refl;
-  head = subst (λ (ds : List Duty). (did u ds found).head ≡ u.head) (sym is) refl;
-  used = subst (λ (ds : List Duty). (did u ds found).used ≡ u.used + 1) (sym is) refl;
-}
-
-pub own_leaves : (v : View) (x found : ℕ) (ds : List Duty) → v.agenda ≡ ds → OwnsFirst x ds
-    → Owned (slot_filled_by ds v) found
-own_leaves v x found (BirthSlot y h ∷ []) is same =
-    owned_by (record v { agenda = BirthLocal y h ∷ [] }) y h found refl
-own_leaves v x found (BirthLocal y h ∷ []) is same = owned_by v y h found is
-own_leaves v x found _ is same = absurd same
+pub own_next : (v : View) (x : ℕ) (ds : List Duty) → v.agenda ≡ ds → OwnsFirst x ds
+    → IsNext (BirthLocal x AsCaller) (slot_filled_by ds v).agenda
+own_next v x (BirthSlot y h ∷ []) is same = ap (λ (z : ℕ). BirthLocal z AsCaller) same
+own_next v x (BirthLocal y h ∷ []) is same =
+    subst (IsNext (BirthLocal x AsCaller)) (sym is) (ap (λ (z : ℕ). BirthLocal z AsCaller) same)
+own_next v x _ is same = absurd same
 
 -- What is due in the slot.
 pub own_due : (v : View) (x word : ℕ) (ds : List Duty) → v.agenda ≡ ds → OwnsFirst x ds → 0 < word

@@ -3,13 +3,13 @@ use Rattle.std.proofs.Common.{◌≡◌, ◌≢◌, ℕ, ◌<◌, List, [], ◌�
 use Rattle.std.proofs.lemmas.Bool.{eq-eqb}
 use Rattle.brc_model.specs.declared.duty.Duty.{Duty}
 use Rattle.brc_model.specs.declared.duty.Duty.TheVariants.{SetMark, Look, TakeMark}
-use Rattle.brc_model.specs.declared.address.Address.TheVariants.{ThreadWord}
 use Rattle.brc_model.specs.declared.actor.Status.TheVariants.{Gone}
-use Rattle.brc_model.specs.Layout.{row_count, block_of}
+use Rattle.brc_model.specs.Layout.{row_count}
 use Rattle.brc_table.specs.declared.view.View.{View}
 use Rattle.brc_table.specs.Places.{in_tile}
 use Rattle.brc_table.specs.Views.{RowsAreThere, did, work_about}
-use Rattle.brc_table.specs.Begins.{MakesQuietly, MakesAtThreadQuietly, StoresWord, KeepsThread}
+use Rattle.brc_table.specs.Begins.{MakesQuietly, StoresWord, KeepsThread}
+use Rattle.brc_table.specs.Accesses.{IsNext}
 use Rattle.brc_table.specs.Plays.{overwritten_by}
 use Rattle.brc_table.specs.Calls.{SetsMark, LooksAtOwner, TakesMark}
 use Rattle.brc_table.proofs.Duties.{line_makes, at_line, first_there, work_there}
@@ -32,21 +32,6 @@ module _ (u : View) (x : ℕ) (alive : u.status ≢ Gone) where
       (λ found suits. refl)
   mark_take_makes _ is same = absurd same
 
-  pub look_makes : (ds : List Duty) → u.agenda ≡ ds → LooksAtOwner x ds
-      → MakesAtThreadQuietly u (block_of u.layout x) (λ found. found)
-  look_makes (Look y ∷ rest) is same = record {
-    makes = record {
-      duty = Look y;
-      rest = rest;
-      agenda = is;
-      alive = alive;
-      address = ap (λ (z : ℕ). ThreadWord (block_of u.layout z)) same;
-      leaves = λ found. refl;
-    };
-    quiet = record { status = λ s. refl; head = λ head found. refl; used = λ used. refl; slots = λ found. refl };
-  }
-  look_makes _ is same = absurd same
-
 -- The mark that is set was not set before.
 pub mark_store_overwrites : (t x : ℕ) (ds : List Duty) → SetsMark x ds → overwritten_by t ds ≡ 0
 mark_store_overwrites t x (SetMark y ∷ rest) same = refl
@@ -57,6 +42,10 @@ pub mark_store_keeps : (v : View) (x : ℕ) (ds : List Duty) (found : ℕ) → S
 mark_store_keeps v x (SetMark y ∷ rest) found same =
     record { layout = refl; thread = refl; status = refl; head = refl; used = refl; given = refl }
 mark_store_keeps v x _ found same = absurd same
+
+pub look_next : (x : ℕ) (ds : List Duty) → LooksAtOwner x ds → IsNext (Look x) ds
+look_next x (Look y ∷ rest) same = ap Look same
+look_next x _ same = absurd same
 
 -- ---- the rows of these duties
 

@@ -15,7 +15,6 @@ use Rattle.brc_table.specs.declared.view.View.{View}
 use Rattle.brc_table.specs.Views.{done, asking, RowsAreThere}
 use Rattle.brc_table.specs.Seen.{has_seen_kind, cell_seen}
 use Rattle.brc_table.specs.Hands.{MayChange}
-use Rattle.brc_table.specs.Rule.{thread_reading}
 
 -- The value found suits the view's first duty.
 abbrev pub SuitsFirst : View → List Duty → ℕ → Type 0
@@ -56,22 +55,17 @@ Continues begins me found after =
     × FirstFindsOwner (begins me.0) (begins me.0).agenda found × RowsAreThere after.0
     × FindsKnown (begins me.0) (begins me.0).agenda found × (after.0.taken ≡ me.0.taken)
 
--- The same of a hand that asks for the kind of the row's object. If it has locked the object, the object's slot had as
--- many resources as the kind word says, when the hand took it. None's kind word says that it is none.
-abbrev pub Asks : {S : Type 0} → ℕ → Me S View → ℕ → Me S View → Type 0
-Asks x me found after =
-    Continues (λ v. asking v x) me found after
-    × (me.0.locked ≡ Some x → me.0.in_slot ≡ resources_of found)
-    × (x ≡ none_row → found ≡ half)
-
 -- The same of a store, which knows the value that it overwrites.
 abbrev pub Stores : {S : Type 0} → (View → View) → Me S View → Me S View → Type 0
 Stores begins me after =
     (after.0 ≡ done (begins me.0) (overwritten (begins me.0))) × (after.1 ≡ me.1) × RowsAreThere after.0
     × (after.0.taken ≡ me.0.taken)
 
--- The same of a step on a thread word, which goes on with what the word says of the thread.
-abbrev pub Looks : {S : Type 0} → (View → View) → Me S View → ℕ → Me S View → Type 0
-Looks begins me found after =
-    (after.0 ≡ done (begins me.0) (thread_reading found)) × (after.1 ≡ me.1) × RowsAreThere after.0
-    × (after.0.taken ≡ me.0.taken)
+-- A hand asks for the kind of the row's object. If it has locked the object, the object's slot had as many resources as
+-- the kind word says, when the hand took it. None's kind word says that it is none.
+abbrev pub Asks : {S : Type 0} → ℕ → Me S View → ℕ → Me S View → Type 0
+Asks x me found after =
+    (after.0 ≡ done (asking me.0 x) found) × (after.1 ≡ me.1) × RowsAreThere after.0 × (after.0.taken ≡ me.0.taken)
+    × FindsKnown (asking me.0 x) (KindLoad x ∷ []) found
+    × (me.0.locked ≡ Some x → me.0.in_slot ≡ resources_of found)
+    × (x ≡ none_row → found ≡ half)

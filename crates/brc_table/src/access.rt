@@ -1,25 +1,28 @@
 //! The one operation on the one word by which a hand does a duty, and what the hand keeps afterwards. Each duty has an
-//! arm in these four functions, and its step is made by `step` and `resume` alone.
+//! arm in these functions, and its step is made by `step` and `resume` alone.
 //!
-//! Some duties aren't here, and have calls of their own: those on a thread's word, whose 0 counts as running; those
-//! whose word depends on the hand's chain or on an index (`Settle`, `Scan`); those whose call tells more than the word
-//! found (`LockGate`, `CellSwap`); and those on slots and resources, which have no word in the table.
+//! Some duties aren't here, and have calls of their own: those whose call tells more than the word found (`LockGate`,
+//! `CellSwap`), and those on slots and resources, which have no word in the table.
 
 ghost use Rattle.std.specs.Prelude.{◌≡◌, ◌+◌, ◌-◌, ◌*◌, ◌<◌, ◌≤◌, ◌^◌, ℕ, Bool, [], ◌∷◌};
 ghost use Rattle.brc_word.specs.Words.{bias, biased_part, released_word, merged_word};
 ghost use Rattle.brc_model.specs.declared.layout.Layout.{Layout};
 ghost use Rattle.brc_model.specs.Limits.{worker_limit};
 ghost use Rattle.brc_model.specs.Duties.{address_of, new_word, new_head};
-ghost use Rattle.brc_model.specs.Machine.{used_by};
+ghost use Rattle.brc_model.specs.Counting.{IsPlainLayout};
+ghost use Rattle.brc_model.specs.declared.actor.Status.{Status};
+ghost use Rattle.brc_model.specs.Machine.{is_running, status_by, used_by};
 ghost use Rattle.brc_model.specs.Stores.{Overwrites};
 ghost use Rattle.brc_model.specs.Within.{Suits};
-ghost use Rattle.brc_table.specs.Places.{place};
+ghost use Rattle.brc_table.specs.Rule.{reading};
+ghost use Rattle.brc_table.specs.Places.{HasWord, place};
 ghost use Rattle.brc_table.specs.Plays.{overwritten_by};
-ghost use Rattle.brc_table.specs.Accesses.{HasAccess, HasCell, HasNextRow, IfStored, left_by, row_of};
+ghost use Rattle.brc_table.specs.Accesses.{HasAccess, HasChain, HasNextRow, IfStored, left_by};
 
 use crate::place::{GATE, KIND, LOCAL, MARK, SHARED, in_cell, in_line};
-use brc_model::Duty;
-use brc_word::{closed, dying, is_fresh, local_word, locked};
+use crate::size::{block_of, row_at};
+use brc_model::{Duty, Layout};
+use brc_word::{closed, dying, is_fresh, local_word, locked, next_of_dying};
 
 /// The local word of an object that nobody owns.
 const NOBODY: u64 = 0;
@@ -45,6 +48,18 @@ const QUEUED: u64 = 1;
 /// The mark of an object that is in no queue.
 const NOT_QUEUED: u64 = 0;
 
+/// The word of a thread that isn't started yet, which counts as running.
+const NOT_STARTED: u64 = 0;
+
+/// The word of a running thread.
+const RUNNING: u64 = 1;
+
+/// The word of a thread that is leaving.
+const LEAVING: u64 = 2;
+
+/// The word of a thread that is gone.
+const GONE: u64 = 3;
+
 /// One atomic operation on one word.
 #[derive(Clone, Copy, Debug)]
 pub(crate) enum Access {
@@ -60,57 +75,14 @@ pub(crate) enum Access {
     Exchange { old: u64, new: u64 },
 }
 
-/// Returns the row that the duty is about.
+/// Returns the place of the duty's word in the table. `head` is the head of the thread's dying chain.
 #[inline(always)]
-pub(crate) fn row_of(duty: Duty) -> u32
+pub(crate) fn place_of(duty: Duty, thread: u8, head: u32, layout: Layout) -> usize
     requires known { HasAccess duty }
-    ensures { result ≡ row_of duty }
-{
-    match duty {
-        Duty::RetainLoad { row, .. }
-        | Duty::RetainStore { row, .. }
-        | Duty::RetainAdd { row, .. }
-        | Duty::ReleaseLoad { row, .. }
-        | Duty::ReleaseStore { row, .. }
-        | Duty::DecideAtZero { row }
-        | Duty::SharedLoad { row, .. }
-        | Duty::SharedExchange { row, .. }
-        | Duty::SetMark { row }
-        | Duty::TakeMark { row }
-        | Duty::MergeSwap { row, .. }
-        | Duty::MergeLoad { row, .. }
-        | Duty::MergeExchange { row, .. }
-        | Duty::Die { row }
-        | Duty::SettleKind { row }
-        | Duty::SettleCell { row, .. }
-        | Duty::SettleEnd { row }
-        | Duty::ClaimMark { row }
-        | Duty::BirthKind { row, .. }
-        | Duty::BirthLocal { row, .. }
-        | Duty::KindLoad { row }
-        | Duty::UnlockGate { row }
-        | Duty::CellLoad { row, .. } => row,
-        Duty::Look { .. }
-        | Duty::Settle
-        | Duty::TakeSlot { .. }
-        | Duty::CloseResource { .. }
-        | Duty::Leave { .. }
-        | Duty::Scan { .. }
-        | Duty::Finish
-        | Duty::BirthSlot { .. }
-        | Duty::LockGate { .. }
-        | Duty::CellSwap { .. }
-        | Duty::LendSlot { .. }
-        | Duty::ReturnSlot { .. } => unreachable!(),
-    }
-}
-
-/// Returns the place of the duty's word in the table.
-#[inline(always)]
-pub(crate) fn place_of(duty: Duty) -> usize
-    requires known { HasAccess duty }
-    requires cell { HasCell duty }
-    ensures { (layout : Layout) (thread head : ℕ) → result ≡ place (address_of layout thread head duty) }
+    requires plain { IsPlainLayout layout }
+    requires there { HasWord layout (address_of layout thread head duty) }
+    requires chain { HasChain duty head }
+    ensures { result ≡ place (address_of layout thread head duty) }
 {
     match duty {
         Duty::RetainLoad { row, .. }
@@ -128,20 +100,20 @@ pub(crate) fn place_of(duty: Duty) -> usize
         Duty::Die { row } | Duty::SettleEnd { row } | Duty::UnlockGate { row } => in_line(
             GATE, row,
         ),
+        // The head is a row plus 1.
+        Duty::Settle => in_line(GATE, head - 1),
         Duty::SettleKind { row } | Duty::BirthKind { row, .. } | Duty::KindLoad { row } => {
             in_line(KIND, row)
         }
         Duty::SetMark { row } | Duty::TakeMark { row } | Duty::ClaimMark { row } => {
             in_line(MARK, row)
         }
+        Duty::Scan { index, .. } => in_line(MARK, row_at(layout, thread, index)),
         Duty::SettleCell { row, cell, .. } | Duty::CellLoad { row, cell } => in_cell(row, cell),
-        Duty::Look { .. }
-        | Duty::Settle
-        | Duty::TakeSlot { .. }
+        Duty::Look { row } => block_of(layout, row) as usize,
+        Duty::Leave { .. } | Duty::Finish => thread as usize,
+        Duty::TakeSlot { .. }
         | Duty::CloseResource { .. }
-        | Duty::Leave { .. }
-        | Duty::Scan { .. }
-        | Duty::Finish
         | Duty::BirthSlot { .. }
         | Duty::LockGate { .. }
         | Duty::CellSwap { .. }
@@ -162,6 +134,8 @@ pub(crate) fn access_of(duty: Duty, thread: u8, head: u32) -> Access
         → left_by result found ≡ new_word thread head duty found }
     ensures before { IfStored result (λ before. before ≡ overwritten_by thread (duty ∷ [])) }
     ensures knows { IfStored result (λ before. (found : ℕ) → Overwrites thread duty found → found ≡ before) }
+    ensures says { (layout : Layout)
+        → IfStored result (λ before. reading (address_of layout thread head duty) before ≡ before) }
 {
     match duty {
         // The local word says who owns the object. (PEP 703, Biased Reference Counting: `Py_INCREF` and `Py_DECREF`.)
@@ -197,6 +171,9 @@ pub(crate) fn access_of(duty: Duty, thread: u8, head: u32) -> Access
             word: QUEUED,
             before: NOT_QUEUED,
         },
+        // The thread has queued the object first, and looks then whether the owner still looks through its queue. Rules
+        // `OwnerRuns`, `OwnerExits`.
+        Duty::Look { .. } => Access::Load,
         // Another thread may take the mark at the same time, and only the one that finds it set may merge. Rules
         // `MarkTakenBack`, `MarkGone`; `MarkClaimed`, `NothingToClaim`.
         Duty::TakeMark { .. } | Duty::ClaimMark { .. } => Access::Swap { word: NOT_QUEUED },
@@ -215,12 +192,27 @@ pub(crate) fn access_of(duty: Duty, thread: u8, head: u32) -> Access
             word: dying(thread, head),
             before: FREE,
         },
+        // The gate names the next object of the chain. Rule `ChainRead`.
+        Duty::Settle => Access::Load,
         // Rules `DyingResource` and `DyingCells`; `KindRead`; `CellRead`.
         Duty::SettleKind { .. } | Duty::KindLoad { .. } | Duty::CellLoad { .. } => Access::Load,
         // The hand learns which reference was there, and none is left in the cell. Rule `CellEmptied`.
         Duty::SettleCell { .. } => Access::Swap { word: EMPTY },
         // A swap, since no duty knows what the gate said of the rest of the chain. Rule `Closes`.
         Duty::SettleEnd { .. } => Access::Swap { word: closed() },
+        // The thread says so before it scans its marks, so that whoever queues an object from then on looks after it. Rule
+        // `SaysLeaving`.
+        Duty::Leave { .. } => Access::Store {
+            word: LEAVING,
+            before: RUNNING,
+        },
+        // Rules `ScanFindsMark` and `ScanFindsNone`.
+        Duty::Scan { .. } => Access::Swap { word: NOT_QUEUED },
+        // Rule `SaysGone`.
+        Duty::Finish => Access::Store {
+            word: GONE,
+            before: LEAVING,
+        },
         // The kind is stored before the object is born, and no word of a row is set before its birth. Rules
         // `KindOfResource` and `KindOfOther`.
         Duty::BirthKind { word, .. } => Access::Store { word, before: 0 },
@@ -234,13 +226,8 @@ pub(crate) fn access_of(duty: Duty, thread: u8, head: u32) -> Access
             word: FREE,
             before: locked(thread),
         },
-        Duty::Look { .. }
-        | Duty::Settle
-        | Duty::TakeSlot { .. }
+        Duty::TakeSlot { .. }
         | Duty::CloseResource { .. }
-        | Duty::Leave { .. }
-        | Duty::Scan { .. }
-        | Duty::Finish
         | Duty::BirthSlot { .. }
         | Duty::LockGate { .. }
         | Duty::CellSwap { .. }
@@ -272,15 +259,28 @@ fn merged_from(word: u64, carried: u32) -> u64
         .wrapping_add(MERGED)
 }
 
-/// Returns the head of the thread's dying chain after the duty: 0, or a row plus 1.
+/// Returns what the duty's word says. A thread that isn't started yet counts as running.
 #[inline(always)]
-pub(crate) fn head_after(duty: Duty, head: u32) -> u32
-    requires known { HasAccess duty }
+pub(crate) fn said_by(duty: Duty, word: u64) -> u64
+    ensures { (layout : Layout) (thread head : ℕ) → result ≡ reading (address_of layout thread head duty) word }
+{
+    match duty {
+        Duty::Look { .. } | Duty::Leave { .. } | Duty::Finish => {
+            if word == NOT_STARTED { RUNNING } else { word }
+        }
+        _ => word,
+    }
+}
+
+/// Returns the head of the thread's dying chain after the duty has found this word: 0, or a row plus 1.
+#[inline(always)]
+pub(crate) fn head_after(duty: Duty, head: u32, found: u64) -> u32
     requires row { HasNextRow duty }
-    ensures { (found : ℕ) → result ≡ new_head head duty found }
+    ensures { result ≡ new_head head duty found }
 {
     match duty {
         Duty::Die { row } => row + 1,
+        Duty::Settle => next_of_dying(found),
         _ => head,
     }
 }
@@ -294,5 +294,16 @@ pub(crate) fn used_after(duty: Duty, used: u32) -> u32
     match duty {
         Duty::BirthLocal { .. } => used + 1,
         _ => used,
+    }
+}
+
+/// Returns whether the thread runs after the duty.
+#[inline(always)]
+pub(crate) fn runs_after(duty: Duty, running: bool) -> bool
+    ensures { (status : Status) → running ≡ is_running status → result ≡ is_running (status_by status duty) }
+{
+    match duty {
+        Duty::Leave { .. } | Duty::Finish => false,
+        _ => running,
     }
 }

@@ -10,13 +10,14 @@ ghost use Rattle.brc_table.specs.Hands.{most_references, IsOf, IsRunning, MayLoa
 
 use crate::hand::Hand;
 use crate::words::Words;
-use brc_model::{cell_loads_begin, immortals_are_free, work_is_put_aside};
+use brc_model::{Duty, cell_loads_begin, immortals_are_free, work_is_put_aside};
 use std::marker::Brand;
 
 impl<T: Drop> Words<T> {
     /// Loads a cell of the list that the hand has locked, or is to finalise as the first of its dying chain. Returns
     /// what is there: a row plus 1, or 0 if the cell is empty. Since the hand locked or chained the list, no other
     /// thread has changed the cell.
+    #[inline(always)]
     pub fn cell_load(&self, hand: &mut Hand<T>, row: u32, cell: u32) -> u64
         requires table { IsOf self.now hand.old }
         requires running { IsRunning hand.old.view }
@@ -34,7 +35,7 @@ impl<T: Drop> Words<T> {
         cell_loads_begin();
         immortals_are_free();
         hand.rows_are_there();
-        self.load_cell::<Brand>(hand, row, cell)
+        self.step_from::<Brand>(hand, &Duty::CellLoad { row, cell })
     }
 
     /// Swaps a cell of the list that the hand has locked, or is to finalise as the first of its dying chain, for

@@ -3,7 +3,8 @@
 ghost use Rattle.std.specs.Prelude.{◌≡◌, ◌≢◌, ◌<◌, ℕ, Option, [], ◌∷◌};
 ghost use Rattle.atomic_table.specs.Table.{State, Allows};
 ghost use Rattle.brc_model.specs.declared.actor.Status.TheVariants.{Gone};
-ghost use Rattle.brc_model.specs.Layout.{row_count};
+ghost use Rattle.brc_model.specs.Duties.{address_of};
+ghost use Rattle.brc_table.specs.Places.{HasWord};
 ghost use Rattle.brc_model.specs.SlotLaws.{use_of};
 ghost use Rattle.brc_model.specs.Stores.{Overwrites};
 ghost use Rattle.brc_table.specs.declared.view.View.{View};
@@ -12,13 +13,13 @@ ghost use Rattle.brc_table.specs.Homes.{TableStands};
 ghost use Rattle.brc_table.specs.Plays.{SuitsFirst, FirstFindsOwner, FindsKnown, overwritten};
 ghost use Rattle.brc_table.specs.Uses.{first_due, held_after};
 ghost use Rattle.brc_table.specs.Turns.{MayGoOn, turned_to};
-ghost use Rattle.brc_table.specs.DutySteps.{DueSlot, OverwritesFirst, Steps};
-ghost use Rattle.brc_table.specs.Accesses.{HasAccess, HasCell, IfStored, IsNext, left_by, row_of};
+ghost use Rattle.brc_table.specs.DutySteps.{DueSlot, OverwritesFirst, StepsBy, said};
+ghost use Rattle.brc_table.specs.Accesses.{HasAccess, HasCell, HasChain, HasUsedRow, IfStored, IsNext, left_by, row_of};
 ghost use Rattle.brc_table.specs.Begins.{Becomes, KeepsThread};
 ghost use Rattle.brc_table.specs.Hands.{IsOf};
 ghost use Rattle.brc_table.specs.Calls.{CanAct};
 
-use crate::access::{Access, access_of, head_after, place_of, row_of, used_after};
+use crate::access::{Access, access_of, head_after, place_of, runs_after, said_by, used_after};
 use crate::hand::Hand;
 use crate::rule::{Begins, Stepped, SteppedStored};
 use crate::view::View;
@@ -34,13 +35,15 @@ use std::marker::Brand;
 
 impl<T: Drop> Words<T> {
     /// Does the next duty, and returns the word found. A store returns the word that it overwrites, which the hand
-    /// knows.
+    /// knows. Of a thread that isn't started yet the word found is 1, as of one that runs.
     #[inline(always)]
     pub fn step(&self, hand: &mut Hand<T>, duty: Duty) -> u64
         requires table { IsOf self.now hand.old }
         requires alive { hand.old.view.status ≢ Gone }
         requires known { HasAccess duty }
         requires cell { HasCell duty }
+        requires chain { HasChain duty hand.old.view.head }
+        requires row { HasUsedRow duty hand.old.view.used }
         requires next { IsNext duty hand.old.view.agenda }
         requires due { DueSlot (use_of duty 0) hand.old.slots hand.old.view }
         ensures table { hand.new.table ≡ hand.old.table }
@@ -53,6 +56,7 @@ impl<T: Drop> Words<T> {
         ensures owner { FirstFindsOwner hand.old.view hand.old.view.agenda result }
         ensures finds { FindsKnown hand.old.view hand.old.view.agenda result }
     {
+        self.layout_is_plain();
         hand.rows_are_there();
         self.step_from::<Brand>(hand, &duty)
     }
@@ -65,6 +69,8 @@ impl<T: Drop> Words<T> {
         requires may { MayGoOn work hand.old.view }
         requires known { HasAccess duty }
         requires cell { HasCell duty }
+        requires chain { HasChain duty hand.old.view.head }
+        requires row { HasUsedRow duty hand.old.view.used }
         requires next { IsNext duty (turned_to work hand.old.view (row_of duty)).agenda }
         requires due { DueSlot (use_of duty 0) hand.old.slots (turned_to work hand.old.view (row_of duty)) }
         ensures table { hand.new.table ≡ hand.old.table }
@@ -93,6 +99,8 @@ impl<T: Drop> Words<T> {
         requires acts { CanAct hand.old.view }
         requires known { HasAccess duty }
         requires cell { HasCell duty }
+        requires chain { HasChain duty hand.old.view.head }
+        requires row { HasUsedRow duty hand.old.view.used }
         requires next { IsNext duty (turned hand.old.view (row_of duty)).agenda }
         requires due { DueSlot (use_of duty 0) hand.old.slots (turned hand.old.view (row_of duty)) }
         ensures table { hand.new.table ≡ hand.old.table }
@@ -110,6 +118,7 @@ impl<T: Drop> Words<T> {
     {
         work_is_put_aside();
         work_is_taken_back();
+        self.layout_is_plain();
         hand.rows_are_there();
         self.step_from::<Brand>(hand, &duty)
     }
@@ -122,8 +131,9 @@ impl<T: Drop> Words<T> {
         requires thread { KeepsThread hand.old.view (B.begins hand.old.view) }
         requires alive { (B.begins hand.old.view).status ≢ Gone }
         requires known { HasAccess duty.now }
-        requires there { row_of duty.now < row_count self.now.layout }
-        requires cell { HasCell duty.now }
+        requires there { HasWord self.now.layout
+            (address_of self.now.layout hand.old.view.thread hand.old.view.head duty.now) }
+        requires chain { HasChain duty.now hand.old.view.head }
         requires next { IsNext duty.now (B.begins hand.old.view).agenda }
         requires due { DueSlot (use_of duty.now 0) hand.old.slots (B.begins hand.old.view) }
         ensures table { hand.new.table ≡ hand.old.table }
@@ -148,14 +158,17 @@ impl<T: Drop> Words<T> {
         self.layout_is_plain();
         self.words_are_there();
         hand.rows_are_there();
-        let index = place_of(*duty);
+        let index = place_of(*duty, hand.thread, hand.head, self.layout);
         let access = access_of(*duty, hand.thread, hand.head);
-        let found = self.operate::<B>(&mut hand.seat, index, access);
+        let word = self.operate::<B>(&mut hand.seat, index, access);
+        let found = said_by(*duty, word);
         // Computed behind the operation: a value from before it would be written back at each step.
-        let head = head_after(*duty, hand.head);
+        let head = head_after(*duty, hand.head, found);
         let used = used_after(*duty, hand.used);
+        let running = runs_after(*duty, hand.running);
         hand.head = head;
         hand.used = used;
+        hand.running = running;
         found
     }
 
@@ -171,13 +184,15 @@ impl<T: Drop> Words<T> {
         requires there { index < self.now.table.words }
         requires allowed { Allows
             (λ (s : State (Option T) View). TableStands self.now.layout s.words s.homes s.views)
-            self.now.table.slots seat.old.id seat.old.me index (left_by access) (Steps B.begins seat.old.me) }
+            self.now.table.slots seat.old.id seat.old.me index (left_by access) (StepsBy B.begins seat.old.me) }
         requires before { IfStored access (λ before. before ≡ overwritten (B.begins seat.old.me.0)) }
+        requires says { IfStored access (λ before. said (B.begins seat.old.me.0) (B.begins seat.old.me.0).agenda before
+            ≡ before) }
         requires knows { IfStored access (λ before. (found : ℕ)
             → OverwritesFirst (B.begins seat.old.me.0).thread (B.begins seat.old.me.0).agenda found
             → found ≡ before) }
         ensures table { seat.new.table_id ≡ seat.old.table_id }
-        ensures step { Steps B.begins seat.old.me result seat.new.me }
+        ensures step { StepsBy B.begins seat.old.me result seat.new.me }
     {
         match access {
             Access::Load => self.table.shared.load::<Stepped<B>>(seat, index),

@@ -12,6 +12,7 @@ ghost use Rattle.brc_table.specs.Calls.{LoadsShared, SwapsLocal, ReleasesItem, S
 use crate::hand::Hand;
 use crate::place::{LOCAL, MARK, SHARED};
 use crate::words::Words;
+use brc_model::Duty;
 use std::marker::Brand;
 
 /// The local word of an object that nobody owns.
@@ -96,7 +97,7 @@ impl<T: Drop> Words<T> {
         ensures slots { hand.new.slots ≡ hand.old.slots }
         ensures view { hand.new.view ≡ done hand.old.view result }
     {
-        self.load_thread::<Brand>(hand, row)
+        self.step(hand, Duty::Look { row })
     }
 
     /// Does the next duty, behind which others may come: takes the row's mark back. Returns the mark found.

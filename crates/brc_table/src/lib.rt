@@ -22,7 +22,6 @@ mod peeks;
 mod place;
 mod rule;
 mod size;
-mod slot_steps;
 mod slots;
 mod split;
 mod step;

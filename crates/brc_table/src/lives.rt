@@ -6,7 +6,6 @@ ghost use Rattle.brc_model.specs.declared.actor.Status.TheVariants.{Gone};
 ghost use Rattle.brc_model.specs.Duties.{cells_of};
 ghost use Rattle.brc_model.specs.Kinds.{kind_of_word, is_counted_kind};
 ghost use Rattle.brc_model.specs.Limits.{cell_limit};
-ghost use Rattle.brc_model.specs.Layout.{row_at};
 ghost use Rattle.brc_model.specs.Machine.{has_room};
 ghost use Rattle.brc_table.specs.Views.{done, bearing, next_row, slot_filled};
 ghost use Rattle.brc_table.specs.Plays.{overwritten};
@@ -15,18 +14,19 @@ ghost use Rattle.brc_table.specs.Uses.{HoldsItsOwn, behind_slot};
 ghost use Rattle.brc_table.specs.Calls.{ChainsRow, OwnsFirst};
 
 use crate::hand::Hand;
-use crate::place::{GATE, KIND, LOCAL};
+use crate::place::GATE;
+use crate::size::row_at;
 use crate::words::Words;
-use brc_model::{births_begin, duties_are_kept, needed_slots_are_unlocked, work_is_put_aside};
-use brc_word::{dying, local_word};
+use brc_model::{
+    Duty, Holding, births_begin, duties_are_kept, needed_slots_are_unlocked, work_is_put_aside,
+};
+use brc_word::dying;
 use std::marker::Brand;
-
-/// The rows in front of the workers' blocks: none's and the root's.
-const FRONT_ROWS: u32 = 2;
 
 impl<T: Drop> Words<T> {
     /// Begins the birth of an object: stores its kind word, and takes its slot, which is empty. Returns the object's
     /// row, the next of the hand's block.
+    #[inline(always)]
     pub fn kind_store(&self, hand: &mut Hand<T>, word: u64) -> u32
         requires table { IsOf self.now hand.old }
         requires running { IsRunning hand.old.view }
@@ -44,25 +44,21 @@ impl<T: Drop> Words<T> {
         births_begin();
         self.layout_is_plain();
         hand.rows_are_there();
-        let row = self.row_at(hand.thread, hand.used);
-        self.store_taking::<Brand>(hand, KIND, row, word);
+        let row = row_at(self.layout, hand.thread, hand.used);
+        self.step_from::<Brand>(
+            hand,
+            &Duty::BirthKind {
+                row,
+                holding: Holding::AsCaller,
+                word,
+            },
+        );
         row
-    }
-
-    /// Returns the row with the index in the worker's block.
-    pub(crate) fn row_at(&self, thread: u8, index: u32) -> u32
-        requires worker { 0 < thread }
-        requires there { thread ≤ self.now.layout.workers }
-        requires index { index < self.now.layout.rows }
-        ensures { result ≡ row_at self.now.layout thread index }
-    {
-        self.layout_is_plain();
-        let rows = u32::from(self.layout.rows);
-        FRONT_ROWS + u32::from(thread - 1) * rows + index
     }
 
     /// Does the next duty: stores the new object's owner and its first reference, and gives its slot back, which has to
     /// hold a resource if the object's kind has one. The object is born.
+    #[inline(always)]
     pub fn first_local_store(&self, hand: &mut Hand<T>, row: u32)
         requires table { IsOf self.now hand.old }
         requires alive { hand.old.view.status ≢ Gone }
@@ -78,9 +74,13 @@ impl<T: Drop> Words<T> {
         hand.slots_are_taken();
         self.layout_is_plain();
         hand.rows_are_there();
-        let used = hand.used + 1;
-        let word = local_word(Some(hand.thread), 1);
-        self.store_giving::<Brand>(hand, LOCAL, row, word, used);
+        self.step_from::<Brand>(
+            hand,
+            &Duty::BirthLocal {
+                row,
+                holding: Holding::AsCaller,
+            },
+        );
     }
 
     /// Does the next duty: puts the object, which has no reference left, at the head of the hand's dying chain.

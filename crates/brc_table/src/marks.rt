@@ -9,7 +9,7 @@ ghost use Rattle.brc_table.specs.Calls.{CanAct, SetsMark, LooksAtOwner, TakesMar
 use crate::hand::Hand;
 use crate::place::MARK;
 use crate::words::Words;
-use brc_model::{work_is_put_aside, work_is_taken_back};
+use brc_model::{Duty, work_is_put_aside, work_is_taken_back};
 use std::marker::Brand;
 
 /// The mark of an object that is in its owner's queue.
@@ -47,9 +47,7 @@ impl<T: Drop> Words<T> {
         ensures slots { hand.new.slots ≡ hand.old.slots }
         ensures view { hand.new.view ≡ done (turned hand.old.view row) result }
     {
-        work_is_put_aside();
-        work_is_taken_back();
-        self.load_thread::<Brand>(hand, row)
+        self.resume(hand, Duty::Look { row })
     }
 
     /// Goes on with the work about the row: takes its mark back, because the owner no longer runs. Returns the mark

@@ -2,7 +2,7 @@
 
 ghost use Rattle.std.specs.Prelude.{◌≡◌, ◌+◌, ◌%◌, ◌^◌, ◌<◌, ◌≤◌, ◌==◌, ℕ, Some, false};
 ghost use prog.Atomic.{either};
-ghost use Rattle.brc_model.specs.Layout.{row_count, block_of};
+ghost use Rattle.brc_model.specs.Layout.{row_count};
 ghost use Rattle.brc_model.specs.Limits.{cell_limit};
 ghost use Rattle.brc_model.specs.Machine.{is_running};
 ghost use Rattle.brc_table.specs.Places.{in_tile, cell_place};
@@ -11,24 +11,16 @@ ghost use Rattle.brc_table.specs.Plays.{SuitsFirst, FirstFindsOwner, FindsKnown,
 ghost use Rattle.brc_table.specs.Seen.{cell_seen};
 ghost use Rattle.brc_table.specs.Swaps.{MaySwap, swapped};
 ghost use Rattle.brc_table.specs.Hands.{IsOf};
-ghost use Rattle.brc_table.specs.Begins.{Becomes, KeepsThread, SettlesNext, MakesQuietly, MakesAtThreadQuietly, StoresThreadWord, StoresWord};
+ghost use Rattle.brc_table.specs.Begins.{Becomes, KeepsThread, MakesQuietly, StoresWord};
 
 use crate::hand::Hand;
-use crate::place::{GATE, in_cell, in_line};
-use crate::rule::{Begins, Continued, Looked, Stored, Swap, Swapped};
-use crate::size::block_of;
+use crate::place::{in_cell, in_line};
+use crate::rule::{Begins, Continued, Stored, Swap, Swapped};
 use crate::words::Words;
 use brc_model::{
     accounts_are_there, cells_are_swapped, chains_are_there, duties_are_kept, duties_are_within,
     guarded_cells_stay, handed_merges_live, immortals_are_free, items_are_there, work_is_put_aside,
 };
-use brc_word::next_of_dying;
-
-/// The word of a thread that isn't started yet, which counts as running.
-const NOT_STARTED: u64 = 0;
-
-/// The word of a running thread.
-const RUNNING: u64 = 1;
 
 impl<T: Drop> Words<T> {
     /// Loads a word.
@@ -59,117 +51,6 @@ impl<T: Drop> Words<T> {
             .load::<Continued<B>>(&mut hand.seat, index)
     }
 
-    /// Loads a list's cell.
-    pub(crate) fn load_cell<B: Begins>(&self, hand: &mut Hand<T>, row: u32, cell: u32) -> u64
-        requires table { IsOf self.now hand.old }
-        requires begins { Becomes self.now.layout hand.old.view (B.begins hand.old.view) }
-        requires thread { KeepsThread hand.old.view (B.begins hand.old.view) }
-        requires cell { cell < cell_limit }
-        requires there { row < row_count self.now.layout }
-        requires makes { MakesQuietly (B.begins hand.old.view) (cell_place row cell) (λ found. found) }
-        ensures table { hand.new.table ≡ hand.old.table }
-        ensures carried { hand.new.carried ≡ hand.old.carried }
-        ensures slots { hand.new.slots ≡ hand.old.slots }
-        ensures view { hand.new.view ≡ done (B.begins hand.old.view) result }
-        ensures suits { SuitsFirst (B.begins hand.old.view) (B.begins hand.old.view).agenda result }
-        ensures finds { FindsKnown (B.begins hand.old.view) (B.begins hand.old.view).agenda result }
-    {
-        duties_are_kept();
-        duties_are_within();
-        accounts_are_there();
-        chains_are_there();
-        guarded_cells_stay();
-        handed_merges_live();
-        let index = in_cell(row, cell);
-        self.table
-            .shared
-            .load::<Continued<B>>(&mut hand.seat, index)
-    }
-
-    /// Loads the word of the thread whose block has the row. Returns what it says of the thread: 1 if it runs or isn't
-    /// started yet, 2 if it is leaving, 3 if it is gone.
-    pub(crate) fn load_thread<B: Begins>(&self, hand: &mut Hand<T>, row: u32) -> u64
-        requires table { IsOf self.now hand.old }
-        requires begins { Becomes self.now.layout hand.old.view (B.begins hand.old.view) }
-        requires thread { KeepsThread hand.old.view (B.begins hand.old.view) }
-        requires makes { MakesAtThreadQuietly (B.begins hand.old.view) (block_of self.now.layout row) (λ found. found) }
-        ensures table { hand.new.table ≡ hand.old.table }
-        ensures carried { hand.new.carried ≡ hand.old.carried }
-        ensures slots { hand.new.slots ≡ hand.old.slots }
-        ensures view { hand.new.view ≡ done (B.begins hand.old.view) result }
-    {
-        duties_are_kept();
-        duties_are_within();
-        accounts_are_there();
-        chains_are_there();
-        guarded_cells_stay();
-        handed_merges_live();
-        self.layout_is_plain();
-        let thread = block_of(self.layout, row) as usize;
-        let word = self.table.shared.load::<Looked<B>>(&mut hand.seat, thread);
-        if word == NOT_STARTED { RUNNING } else { word }
-    }
-
-    /// Loads the gate of the first object of the hand's chain. The rest of the chain is the hand's chain from then on.
-    pub(crate) fn load_chain<B: Begins>(&self, hand: &mut Hand<T>) -> u64
-        requires table { IsOf self.now hand.old }
-        requires begins { Becomes self.now.layout hand.old.view (B.begins hand.old.view) }
-        requires thread { KeepsThread hand.old.view (B.begins hand.old.view) }
-        requires chain { 0 < hand.old.view.head }
-        requires settles { SettlesNext (B.begins hand.old.view) }
-        ensures table { hand.new.table ≡ hand.old.table }
-        ensures carried { hand.new.carried ≡ hand.old.carried }
-        ensures slots { hand.new.slots ≡ hand.old.slots }
-        ensures view { hand.new.view ≡ done (B.begins hand.old.view) result }
-    {
-        duties_are_kept();
-        duties_are_within();
-        accounts_are_there();
-        chains_are_there();
-        guarded_cells_stay();
-        handed_merges_live();
-        hand.rows_are_there();
-        let index = in_line(GATE, hand.head - 1);
-        let word = self
-            .table
-            .shared
-            .load::<Continued<B>>(&mut hand.seat, index);
-        hand.head = next_of_dying(word);
-        word
-    }
-
-    /// Stores the word of the hand's own thread, which no longer runs after the step.
-    pub(crate) fn store_thread<B: Begins>(&self, hand: &mut Hand<T>, word: u64)
-        requires table { IsOf self.now hand.old }
-        requires begins { Becomes self.now.layout hand.old.view (B.begins hand.old.view) }
-        requires thread { KeepsThread hand.old.view (B.begins hand.old.view) }
-        requires stores { StoresThreadWord (B.begins hand.old.view) hand.old.view.thread word }
-        requires status { is_running (done (B.begins hand.old.view) (overwritten (B.begins hand.old.view))).status
-            ≡ false }
-        requires head { (done (B.begins hand.old.view) (overwritten (B.begins hand.old.view))).head
-            ≡ hand.old.view.head }
-        requires used { (done (B.begins hand.old.view) (overwritten (B.begins hand.old.view))).used
-            ≡ hand.old.view.used }
-        ensures table { hand.new.table ≡ hand.old.table }
-        ensures carried { hand.new.carried ≡ hand.old.carried }
-        ensures slots { hand.new.slots ≡ hand.old.slots }
-        ensures view { hand.new.view ≡ done (B.begins hand.old.view) (overwritten (B.begins hand.old.view)) }
-    {
-        duties_are_kept();
-        duties_are_within();
-        accounts_are_there();
-        chains_are_there();
-        guarded_cells_stay();
-        handed_merges_live();
-        self.layout_is_plain();
-        hand.rows_are_there();
-        let thread = hand.thread as usize;
-        self.table
-            .shared
-            .store::<Stored<B>>(&mut hand.seat, thread, word);
-        hand.running = false;
-    }
-
     /// Swaps a word with another value.
     pub(crate) fn swap<B: Begins>(&self, hand: &mut Hand<T>, line: usize, row: u32, new: u64) -> u64
         requires table { IsOf self.now hand.old }
@@ -191,38 +72,6 @@ impl<T: Drop> Words<T> {
         guarded_cells_stay();
         handed_merges_live();
         let index = in_line(line, row);
-        self.table
-            .shared
-            .swap::<Continued<B>>(&mut hand.seat, index, new)
-    }
-
-    /// Swaps a list's cell with another value.
-    pub(crate) fn swap_cell<B: Begins>(
-        &self,
-        hand: &mut Hand<T>,
-        row: u32,
-        cell: u32,
-        new: u64,
-    ) -> u64
-        requires table { IsOf self.now hand.old }
-        requires begins { Becomes self.now.layout hand.old.view (B.begins hand.old.view) }
-        requires thread { KeepsThread hand.old.view (B.begins hand.old.view) }
-        requires cell { cell < cell_limit }
-        requires there { row < row_count self.now.layout }
-        requires makes { MakesQuietly (B.begins hand.old.view) (cell_place row cell) (λ found. new) }
-        ensures table { hand.new.table ≡ hand.old.table }
-        ensures carried { hand.new.carried ≡ hand.old.carried }
-        ensures slots { hand.new.slots ≡ hand.old.slots }
-        ensures view { hand.new.view ≡ done (B.begins hand.old.view) result }
-        ensures suits { SuitsFirst (B.begins hand.old.view) (B.begins hand.old.view).agenda result }
-    {
-        duties_are_kept();
-        duties_are_within();
-        accounts_are_there();
-        chains_are_there();
-        guarded_cells_stay();
-        handed_merges_live();
-        let index = in_cell(row, cell);
         self.table
             .shared
             .swap::<Continued<B>>(&mut hand.seat, index, new)

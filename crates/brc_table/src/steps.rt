@@ -16,7 +16,8 @@ use crate::hand::Hand;
 use crate::place::{LOCAL, SHARED};
 use crate::words::Words;
 use brc_model::{
-    immortals_are_free, releases_begin, retains_begin, work_is_put_aside, work_is_taken_back,
+    Duty, Holding, immortals_are_free, releases_begin, retains_begin, work_is_put_aside,
+    work_is_taken_back,
 };
 use std::marker::Brand;
 
@@ -29,6 +30,7 @@ const ONE_REFERENCE: u64 = 4;
 impl<T: Drop> Words<T> {
     /// Begins to retain an object that the hand holds, or borrows from the list that it has locked: loads its local
     /// word.
+    #[inline(always)]
     pub fn retain_load(&self, hand: &mut Hand<T>, row: u32) -> u64
         requires table { IsOf self.now hand.old }
         requires running { IsRunning hand.old.view }
@@ -46,10 +48,17 @@ impl<T: Drop> Words<T> {
         immortals_are_free();
         self.layout_is_plain();
         hand.rows_are_there();
-        self.load::<Brand>(hand, LOCAL, row)
+        self.step_from::<Brand>(
+            hand,
+            &Duty::RetainLoad {
+                row,
+                holding: Holding::AsCaller,
+            },
+        )
     }
 
     /// Begins to release an object: loads its local word. The hand keeps a reference to the object that it has locked.
+    #[inline(always)]
     pub fn release_load(&self, hand: &mut Hand<T>, row: u32) -> u64
         requires table { IsOf self.now hand.old }
         requires running { IsRunning hand.old.view }
@@ -68,7 +77,13 @@ impl<T: Drop> Words<T> {
         immortals_are_free();
         self.layout_is_plain();
         hand.rows_are_there();
-        self.load::<Brand>(hand, LOCAL, row)
+        self.step_from::<Brand>(
+            hand,
+            &Duty::ReleaseLoad {
+                row,
+                holding: Holding::AsCaller,
+            },
+        )
     }
 
     /// Goes on with the work about the row: loads its shared word.
