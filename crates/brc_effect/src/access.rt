@@ -1,9 +1,11 @@
 //! The atomic operation by which a thread does a duty: what the step leaves in the duty's word. The step world and real
 //! threads make the same one.
 
-ghost use Rattle.std.specs.Prelude.{◌≡◌, ◌≤◌, ℕ, Bool};
+ghost use Rattle.std.specs.Prelude.{◌≡◌, ◌≤◌, ◌<◌, ℕ, Bool};
+ghost use Rattle.brc_model.specs.declared.address.Address.TheVariants.{ThreadWord};
+ghost use Rattle.brc_model.specs.declared.layout.Layout.{Layout};
 ghost use Rattle.brc_model.specs.Limits.{worker_limit};
-ghost use Rattle.brc_model.specs.Duties.{new_word};
+ghost use Rattle.brc_model.specs.Duties.{address_of, new_word};
 ghost use Rattle.brc_model.specs.Stores.{Overwrites};
 ghost use Rattle.brc_model.specs.Within.{Suits};
 ghost use Rattle.brc_effect.specs.Accesses.{IfStored, known_before, left_by};
@@ -54,6 +56,8 @@ pub fn access_of(duty: Duty, thread: u8, head: u32) -> Access
         → left_by result found ≡ new_word thread head duty found }
     ensures before { IfStored result (λ before. before ≡ known_before thread duty) }
     ensures knows { IfStored result (λ before. (found : ℕ) → Overwrites thread duty found → found ≡ before) }
+    ensures started { (layout : Layout) (t : ℕ)
+        → IfStored result (λ before. address_of layout thread head duty ≡ ThreadWord t → 0 < before) }
 {
     match duty {
         // The local word says who owns the object. (PEP 703, Biased Reference Counting: `Py_INCREF` and `Py_DECREF`.)
