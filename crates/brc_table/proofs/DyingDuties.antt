@@ -55,17 +55,6 @@ settles_alive v _ may = absurd may
 
 -- ---- the rows of these duties
 
-pub dying_kind_there : (v : View) (x : ℕ) (ds : List Duty) → RowsAreThere v → v.agenda ≡ ds → LoadsDyingKind x ds
-    → x < row_count v.layout
-dying_kind_there v x (SettleKind y ∷ rest) rows is same = first_there v x (SettleKind y) rest rows is (eq-eqb y x same)
-dying_kind_there v x _ rows is same = absurd same
-
-pub dying_cell_there : (v : View) (x i : ℕ) (ds : List Duty) → RowsAreThere v → v.agenda ≡ ds → EmptiesCell x i ds
-    → x < row_count v.layout
-dying_cell_there v x i (SettleCell y j n ∷ rest) rows is same =
-    first_there v x (SettleCell y j n) rest rows is (eq-eqb y x same.0)
-dying_cell_there v x i _ rows is same = absurd same
-
 -- A dying list has at most as many cells as a list may have.
 pub dying_cell_low : (v : View) (x i : ℕ) (ds : List Duty) → RowsAreThere v → v.agenda ≡ ds → EmptiesCell x i ds
     → i < cell_limit

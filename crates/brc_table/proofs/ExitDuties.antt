@@ -17,7 +17,6 @@ use Rattle.brc_table.specs.Begins.{Passes, Becomes}
 use Rattle.brc_table.specs.Hands.{MayWait}
 use Rattle.brc_model.specs.Machine.{Machine}
 use Rattle.brc_table.specs.Calls.{IsFree, MayLeave, ScansRow, Finishes}
-use Rattle.brc_table.specs.Plays.{overwritten_by}
 use Rattle.brc_table.proofs.Passing.{passes_on, waiting_keeps}
 use Rattle.brc_table.proofs.Becoming.{rearranged}
 use Rattle.brc_table.proofs.FreeDropped.{HasJust, drops_all, plain_immortal}
@@ -85,10 +84,6 @@ leaving_becomes kept release law layout v may = record {
 pub finish_next : (ds : List Duty) → Finishes ds → IsNext Finish ds
 finish_next (Finish ∷ []) same = refl
 finish_next _ same = absurd same
-
-pub gone_overwrites : (t : ℕ) (ds : List Duty) → Finishes ds → overwritten_by t ds ≡ 2
-gone_overwrites t (Finish ∷ []) same = refl
-gone_overwrites t _ same = absurd same
 
 -- ---- the scan
 

@@ -3,22 +3,17 @@ use Rattle.std.specs.Prelude.{◌≡◌, ◌≢◌, ◌⊎◌, ℕ, Option, List
 use mathlib.Core.Option.{some}
 use lib.ListN.{get_elem?}
 use Rattle.brc_model.specs.declared.duty.Duty.{Duty}
-use Rattle.brc_model.specs.declared.actor.Status.{Status}
 use Rattle.brc_model.specs.declared.actor.Status.TheVariants.{Gone}
 use Rattle.brc_model.specs.declared.address.Address.TheVariants.{Slot}
 use Rattle.brc_model.specs.declared.layout.Layout.{Layout}
-use Rattle.brc_model.specs.Duties.{address_of, new_word, new_head}
-use Rattle.brc_model.specs.Layout.{row_count}
-use Rattle.brc_model.specs.Machine.{Machine, status_by, used_by, is_running}
-use Rattle.brc_model.specs.SlotLaws.{Stays, use_of, UsesSlot}
-use Rattle.brc_model.specs.Within.{Suits}
-use Rattle.brc_model.specs.Stores.{Overwrites}
+use Rattle.brc_model.specs.Duties.{address_of}
+use Rattle.brc_model.specs.Machine.{Machine}
+use Rattle.brc_model.specs.SlotLaws.{UsesSlot}
 use Rattle.brc_table.specs.declared.view.View.{View}
 use Rattle.brc_table.specs.Places.{place, IsObjectWord}
 use Rattle.brc_table.specs.Views.{actor_of}
 use Rattle.brc_table.specs.Rule.{Stands}
 use Rattle.brc_table.specs.Homes.{times_in}
-use Rattle.brc_table.specs.Plays.{overwritten}
 
 -- The rule holds with these words and views, and no slot changes but those that the hand has taken for a birth or a
 -- deallocation.
@@ -48,37 +43,6 @@ pub record IsAt (v : View) (d : Duty) (rest : List Duty) (index : ℕ) : Type 0 
   pub alive : v.status ≢ Gone
   pub object : IsObjectWord (address_of v.layout v.thread v.head d)
   pub index_is : index ≡ place (address_of v.layout v.thread v.head d)
-
--- The duty leaves the thread's status, the head of its chain, its used rows and its slots as they are.
-pub record IsQuiet (d : Duty) : Type 0 where
-  pub status : (s : Status) → status_by s d ≡ s
-  pub head : (head found : ℕ) → new_head head d found ≡ head
-  pub used : (used : ℕ) → used_by used d ≡ used
-  pub slots : (found : ℕ) → use_of d found ≡ Stays
-
--- The hand's first duty is about the object's word at this place, and makes f of each value that it may find there.
-pub record Makes (v : View) (index : ℕ) (f : ℕ → ℕ) : Type 0 where
-  pub duty : Duty
-  pub rest : List Duty
-  pub at : IsAt v duty rest index
-  pub leaves : (found : ℕ) → Suits v.thread (is_running v.status) (row_count v.layout) duty found
-      → f found ≡ new_word v.thread v.head duty found
-
--- The same of a duty that takes no slot and gives none back.
-pub record MakesWithoutSlot (v : View) (index : ℕ) (f : ℕ → ℕ) : Type 0 where
-  pub makes : Makes v index f
-  pub slots : (found : ℕ) → use_of makes.duty found ≡ Stays
-
--- The same of a duty that leaves status, chain, used rows and slots as they are.
-pub record MakesQuietly (v : View) (index : ℕ) (f : ℕ → ℕ) : Type 0 where
-  pub makes : Makes v index f
-  pub quiet : IsQuiet makes.duty
-
--- The same of a store, which knows the value that it overwrites, and leaves slots as they are.
-pub record StoresWord (v : View) (index word : ℕ) : Type 0 where
-  pub makes : Makes v index (λ found. word)
-  pub knows : (found : ℕ) → Overwrites v.thread makes.duty found → found ≡ overwritten v
-  pub slots : (found : ℕ) → use_of makes.duty found ≡ Stays
 
 -- The layout, the thread, its status, its chain, its used rows and the hands that it has given out are as before.
 pub record KeepsThread (v u : View) : Type 0 where

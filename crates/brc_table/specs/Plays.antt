@@ -44,19 +44,6 @@ overwritten_by t (d ∷ rest) = known_before t d
 abbrev pub overwritten : View → ℕ
 overwritten v = overwritten_by v.thread v.agenda
 
--- The hand first becomes `begins` of what it was, and then does its first duty.
-abbrev pub Continues : {S : Type 0} → (View → View) → Me S View → ℕ → Me S View → Type 0
-Continues begins me found after =
-    (after.0 ≡ done (begins me.0) found) × (after.1 ≡ me.1) × SuitsFirst (begins me.0) (begins me.0).agenda found
-    × FirstFindsOwner (begins me.0) (begins me.0).agenda found × RowsAreThere after.0
-    × FindsKnown (begins me.0) (begins me.0).agenda found × (after.0.taken ≡ me.0.taken)
-
--- The same of a store, which knows the value that it overwrites.
-abbrev pub Stores : {S : Type 0} → (View → View) → Me S View → Me S View → Type 0
-Stores begins me after =
-    (after.0 ≡ done (begins me.0) (overwritten (begins me.0))) × (after.1 ≡ me.1) × RowsAreThere after.0
-    × (after.0.taken ≡ me.0.taken)
-
 -- A hand asks for the kind of the row's object. If it has locked the object, the object's slot had as many resources as
 -- the kind word says, when the hand took it. None's kind word says that it is none.
 abbrev pub Asks : {S : Type 0} → ℕ → Me S View → ℕ → Me S View → Type 0

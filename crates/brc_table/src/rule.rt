@@ -30,28 +30,6 @@ impl Begins for Brand {
     ghost begins = { λ v. v };
 }
 
-/// A step that goes on with the value that it finds.
-pub(crate) struct Continued<B> {
-    marker: PhantomData<B>,
-}
-
-impl<S, B: Begins> Play<S, View> for Continued<B> {
-    ghost use Rattle.brc_table.specs.Plays.{Continues};
-
-    ghost then = { λ s me found after. Continues B.begins me found after };
-}
-
-/// A store.
-pub(crate) struct Stored<B> {
-    marker: PhantomData<B>,
-}
-
-impl<S, B: Begins> Play<S, View> for Stored<B> {
-    ghost use Rattle.brc_table.specs.Plays.{Stores};
-
-    ghost then = { λ s me stored after. Stores B.begins me after };
-}
-
 /// Which cell a swap is of, and which word it stores.
 pub(crate) trait Swap {
     ghost list: { ℕ };

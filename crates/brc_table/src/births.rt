@@ -1,5 +1,5 @@
-//! The steps by which a hand gives birth to an object and chains a dying one (PEP 703, Biased Reference Counting: a new
-//! object has one local reference and the default state).
+//! The steps by which a hand gives birth to an object (PEP 703, Biased Reference Counting: a new object has one local
+//! reference and the default state).
 
 ghost use Rattle.std.specs.Prelude.{◌≡◌, ◌≢◌, ◌<◌, ◌≤◌, true, ◌∷◌};
 ghost use Rattle.brc_model.specs.declared.actor.Status.TheVariants.{Gone};
@@ -11,16 +11,14 @@ ghost use Rattle.brc_table.specs.Views.{done, bearing, next_row, slot_filled};
 ghost use Rattle.brc_table.specs.Plays.{overwritten};
 ghost use Rattle.brc_table.specs.Hands.{IsOf, IsRunning};
 ghost use Rattle.brc_table.specs.Uses.{HoldsItsOwn, behind_slot};
-ghost use Rattle.brc_table.specs.Calls.{ChainsRow, OwnsFirst};
+ghost use Rattle.brc_table.specs.Calls.{OwnsFirst};
 
 use crate::hand::Hand;
-use crate::place::GATE;
 use crate::size::row_at;
 use crate::words::Words;
 use brc_model::{
     Duty, Holding, births_begin, duties_are_kept, needed_slots_are_unlocked, work_is_put_aside,
 };
-use brc_word::dying;
 use std::marker::Brand;
 
 impl<T: Drop> Words<T> {
@@ -81,22 +79,5 @@ impl<T: Drop> Words<T> {
                 holding: Holding::AsCaller,
             },
         );
-    }
-
-    /// Does the next duty: puts the object, which has no reference left, at the head of the hand's dying chain.
-    pub fn gate_store(&self, hand: &mut Hand<T>, row: u32)
-        requires table { IsOf self.now hand.old }
-        requires alive { hand.old.view.status ≢ Gone }
-        requires duty { ChainsRow row hand.old.view.agenda }
-        ensures table { hand.new.table ≡ hand.old.table }
-        ensures carried { hand.new.carried ≡ hand.old.carried }
-        ensures slots { hand.new.slots ≡ hand.old.slots }
-        ensures view { hand.new.view ≡ done hand.old.view (overwritten hand.old.view) }
-    {
-        self.layout_is_plain();
-        hand.rows_are_there();
-        let (head, used) = (row + 1, hand.used);
-        let word = dying(hand.thread, hand.head);
-        self.store::<Brand>(hand, GATE, row, word, head, used);
     }
 }
