@@ -142,7 +142,8 @@ module _ (p : Accounts) (n : ℕ) (m : Machine) (t : ℕ) (a : Actor) (x i y : �
             };
         bounded = bounded_less m.layout (p t) y old.0.bounded;
         locks =
-            less_locks (p t) m t a a y old.0.locks refl (λ k z. omega arith) (making_none a AsCaller y old.1 may.0) may.2;
+            less_locks (p t) m t a a y old.0.locks refl (λ k z. omega arith) (making_none a AsCaller y old.1 may.0)
+            may.2;
         keeps = λ z k some.
             let r = reference_of t k z in
             let none : one_if (same r out) ≡ 0 = refl in
@@ -169,7 +170,8 @@ twice_written : (memory : Address → ℕ) (b : Address) (v w : ℕ)
 twice_written memory b v w = fun_ext (λ c. elim (cases_Bool (same_address b c)) [
   | inl same ↦
       ap (λ (e : Bool). cond e w (written memory b v c)) same ∙ sym (ap (λ (e : Bool). cond e w (memory c)) same)
-  | inr apart ↦ ap (λ (e : Bool). cond e w (cond e v (memory c))) apart ∙ sym (ap (λ (e : Bool). cond e w (memory c)) apart)
+  | inr apart ↦ ap (λ (e : Bool). cond e w (cond e v (memory c))) apart ∙ sym
+      (ap (λ (e : Bool). cond e w (memory c)) apart)
 ])
 
 twice_accounted : (p : Accounts) (t : ℕ) (one other : Account)

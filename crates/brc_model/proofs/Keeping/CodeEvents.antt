@@ -128,15 +128,13 @@ action_keeps p n m t a exit (Does d rest place) whole found fits kinds items roo
         items = items;
         rooms = rooms;
         coded =
-            coded_set p c m.actors t a (step_actor m.layout t a d rest (place word) word) fits.account found
-            (record {
+            coded_set p c m.actors t a (step_actor m.layout t a d rest (place word) word) fits.account found (record {
               alone = own.alone;
               plain = plain_after m.layout t a.actor d rest word fits.plain;
               accepted = own.accepted;
               instructions = own.instructions;
               says = fits.says;
-              departs =
-                  exits_still new n (with_actor (counting m) t now) t now d rest word at ∙ fits.departs;
+              departs = exits_still word at ∙ fits.departs;
               lent = fits.lent;
             }) whole.coded;
       },

@@ -79,7 +79,6 @@ keeps_by p n m t a d rest here alive own marks =
       once = closed_once_after p n m t a d rest here;
       kinds = λ x born. kinds_after p n m t a d rest here x born;
       kind_words = λ x born. kind_words_after p n m t a d rest here x born;
-      immortal_words =
-          λ x immortal. immortal_word_left p n m t a d rest x here immortal ∙ here.core.immortal_words x immortal;
+      immortal_words = λ x immortal. immortal_word_left d x here immortal ∙ here.core.immortal_words x immortal;
       resources = λ x. resources_after p n m t a d rest x here;
     }

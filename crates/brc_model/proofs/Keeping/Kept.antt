@@ -41,69 +41,51 @@ thread_after_duty : (p : Accounts) (n : ℕ) (m : Machine) (t : ℕ) (a : Actor)
     → ThreadFits p (done_by m t a d rest) t (actor_by m.layout t a d rest (found_by m t a d))
 thread_after_duty p n m t a (RetainLoad x h) rest here alive settled =
     elim (cases_Bool (is_immortal_row m.layout x)) [
-      | inl immortal ↦ thread_after_retain_immortal p n m t a x h rest here immortal alive
-      | inr counted ↦ thread_after_retain_counted p n m t a x h rest counted here alive
+      | inl immortal ↦ thread_after_retain_immortal x h here immortal alive
+      | inr counted ↦ thread_after_retain_counted x h counted here alive
     ]
-thread_after_duty p n m t a (RetainStore x h w) rest here alive settled =
-    thread_after_retain_store p n m t a x h w rest here alive
-thread_after_duty p n m t a (RetainAdd x h) rest here alive settled =
-    thread_after_retain_add p n m t a x h rest here alive
+thread_after_duty p n m t a (RetainStore x h w) rest here alive settled = thread_after_retain_store x h w here alive
+thread_after_duty p n m t a (RetainAdd x h) rest here alive settled = thread_after_retain_add x h here alive
 thread_after_duty p n m t a (ReleaseLoad x h) rest here alive settled =
     elim (cases_Bool (is_immortal_row m.layout x)) [
-      | inl immortal ↦
-          thread_after_release_immortal p n m t a x h rest here immortal alive (release_held p n m t a x h rest here)
-      | inr counted ↦ thread_after_release_counted p n m t a x h rest counted here alive
+      | inl immortal ↦ thread_after_release_immortal x h here immortal alive (release_held x h here)
+      | inr counted ↦ thread_after_release_counted x h counted here alive
     ]
-thread_after_duty p n m t a (ReleaseStore x w) rest here alive settled =
-    thread_after_release_store p n m t a x w rest here alive
-thread_after_duty p n m t a (DecideAtZero x) rest here alive settled =
-    thread_after_decide_at_zero p n m t a x rest here alive
-thread_after_duty p n m t a (SharedLoad x r) rest here alive settled =
-    thread_after_shared_load p n m t a x r rest here alive
+thread_after_duty p n m t a (ReleaseStore x w) rest here alive settled = thread_after_release_store x w here alive
+thread_after_duty p n m t a (DecideAtZero x) rest here alive settled = thread_after_decide_at_zero x here alive
+thread_after_duty p n m t a (SharedLoad x r) rest here alive settled = thread_after_shared_load x r here alive
 thread_after_duty p n m t a (SharedExchange x r w) rest here alive settled =
-    thread_after_shared_exchange p n m t a x r w rest here alive
-thread_after_duty p n m t a (SetMark x) rest here alive settled = thread_after_set_mark p n m t a x rest here alive
-thread_after_duty p n m t a (Look x) rest here alive settled = thread_after_look p n m t a x rest here alive
-thread_after_duty p n m t a (TakeMark x) rest here alive settled = thread_after_take_mark p n m t a x rest here alive
-thread_after_duty p n m t a (MergeSwap x Own) rest here alive settled =
-    thread_after_merge_swap_own p n m t a x rest here alive
-thread_after_duty p n m t a (MergeSwap x Handed) rest here alive settled =
-    thread_after_merge_swap_handed p n m t a x rest here alive
-thread_after_duty p n m t a (MergeLoad x c r) rest here alive settled =
-    thread_after_merge_load p n m t a x c r rest here alive
+    thread_after_shared_exchange x r w here alive
+thread_after_duty p n m t a (SetMark x) rest here alive settled = thread_after_set_mark x here alive
+thread_after_duty p n m t a (Look x) rest here alive settled = thread_after_look x here alive
+thread_after_duty p n m t a (TakeMark x) rest here alive settled = thread_after_take_mark x here alive
+thread_after_duty p n m t a (MergeSwap x Own) rest here alive settled = thread_after_merge_swap_own x here alive
+thread_after_duty p n m t a (MergeSwap x Handed) rest here alive settled = thread_after_merge_swap_handed x here alive
+thread_after_duty p n m t a (MergeLoad x c r) rest here alive settled = thread_after_merge_load x c r here alive
 thread_after_duty p n m t a (MergeExchange x c w r) rest here alive settled =
-    thread_after_merge_exchange p n m t a x c w r rest here alive
-thread_after_duty p n m t a (Die x) rest here alive settled = thread_after_die p n m t a x rest here alive
-thread_after_duty p n m t a Settle rest here alive settled = thread_after_settle p n m t a rest here alive
-thread_after_duty p n m t a (SettleKind x) rest here alive settled =
-    thread_after_settle_kind p n m t a x rest here alive
-thread_after_duty p n m t a (SettleCell x i k) rest here alive settled =
-    thread_after_settle_cell p n m t a x i k rest here alive
-thread_after_duty p n m t a (TakeSlot x) rest here alive settled = thread_after_take_slot p n m t a x rest here alive
-thread_after_duty p n m t a (CloseResource x) rest here alive settled =
-    thread_after_close_resource p n m t a x rest here alive
-thread_after_duty p n m t a (SettleEnd x) rest here alive settled = thread_after_settle_end p n m t a x rest here alive
+    thread_after_merge_exchange x c w r here alive
+thread_after_duty p n m t a (Die x) rest here alive settled = thread_after_die x here alive
+thread_after_duty p n m t a Settle rest here alive settled = thread_after_settle here alive
+thread_after_duty p n m t a (SettleKind x) rest here alive settled = thread_after_settle_kind x here alive
+thread_after_duty p n m t a (SettleCell x i k) rest here alive settled = thread_after_settle_cell x i k here alive
+thread_after_duty p n m t a (TakeSlot x) rest here alive settled = thread_after_take_slot x here alive
+thread_after_duty p n m t a (CloseResource x) rest here alive settled = thread_after_close_resource x here alive
+thread_after_duty p n m t a (SettleEnd x) rest here alive settled = thread_after_settle_end x here alive
 thread_after_duty p n m t a (Leave x k) rest here alive settled = thread_after_leave p n m t a x k rest here alive
-thread_after_duty p n m t a (Scan x k) rest here alive settled = thread_after_scan p n m t a x k rest here alive
+thread_after_duty p n m t a (Scan x k) rest here alive settled = thread_after_scan x k here alive
 thread_after_duty p n m t a Finish rest here alive settled = thread_after_finish p n m t a rest here alive settled.0
-thread_after_duty p n m t a (ClaimMark x) rest here alive settled = thread_after_claim_mark p n m t a x rest here alive
-thread_after_duty p n m t a (BirthKind x h w) rest here alive settled =
-    thread_after_birth_kind p n m t a x h w rest here alive
-thread_after_duty p n m t a (BirthSlot x h) rest here alive settled =
-    thread_after_birth_slot p n m t a x h rest here alive
+thread_after_duty p n m t a (ClaimMark x) rest here alive settled = thread_after_claim_mark x here alive
+thread_after_duty p n m t a (BirthKind x h w) rest here alive settled = thread_after_birth_kind x h w here alive
+thread_after_duty p n m t a (BirthSlot x h) rest here alive settled = thread_after_birth_slot x h here alive
 thread_after_duty p n m t a (BirthLocal x h) rest here alive settled =
     thread_after_birth_local p n m t a x h rest here alive
-thread_after_duty p n m t a (KindLoad x) rest here alive settled = thread_after_kind_load p n m t a x rest here alive
-thread_after_duty p n m t a (LockGate x) rest here alive settled = thread_after_lock_gate p n m t a x rest here alive
-thread_after_duty p n m t a (UnlockGate x) rest here alive settled =
-    thread_after_unlock_gate p n m t a x rest here alive
-thread_after_duty p n m t a (CellLoad x i) rest here alive settled =
-    thread_after_cell_load p n m t a x i rest here alive
-thread_after_duty p n m t a (CellSwap x i y h) rest here alive settled =
-    thread_after_cell_swap p n m t a x i y h rest here alive
-thread_after_duty p n m t a (LendSlot x) rest here alive settled = thread_after_lend_slot p n m t a x rest here alive
-thread_after_duty p n m t a (ReturnSlot x) rest here alive settled =
-    thread_after_return_slot p n m t a x rest here alive
+thread_after_duty p n m t a (KindLoad x) rest here alive settled = thread_after_kind_load x here alive
+thread_after_duty p n m t a (LockGate x) rest here alive settled = thread_after_lock_gate x here alive
+thread_after_duty p n m t a (UnlockGate x) rest here alive settled = thread_after_unlock_gate x here alive
+thread_after_duty p n m t a (CellLoad x i) rest here alive settled = thread_after_cell_load x i here alive
+thread_after_duty p n m t a (CellSwap x i y h) rest here alive settled = thread_after_cell_swap x i y h here alive
+thread_after_duty p n m t a (LendSlot x) rest here alive settled = thread_after_lend_slot x here alive
+thread_after_duty p n m t a (ReturnSlot x) rest here alive settled = thread_after_return_slot x here alive
 
 -- What `duty_kept` needs: the invariant holds, and the thread isn't gone and has the duty next.
 pub record Doing (p : Accounts) (n : ℕ) (m : Machine) (t : ℕ) (a : Actor) (d : Duty) (rest : List Duty) : Type 0 where

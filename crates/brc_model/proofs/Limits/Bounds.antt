@@ -98,12 +98,12 @@ release_suits : (p : Accounts) (n : ℕ) (m : Machine) (t : ℕ) (a : Actor) (x 
 release_suits p n m t a x h rest here alive runs owner = elim (cases_Bool (is_immortal_row m.layout x)) [
   | inl immortal ↦ omega (arith, here.core.immortal_words x immortal)
   | inr counted ↦
-      let living = release_alive p n m t a x h rest counted here in
+      let living = release_alive x h counted here in
       let counts : counts_locally t (is_running a.status) (m.memory (Local x)) ≡ true =
       ap (λ (b : Bool). b && (owner_part (m.memory (Local x)) == t + 1)) runs
       ∙ eq-eqb (owner_part (m.memory (Local x))) (t + 1) owner in
       count_above p n m t x a here.core here.found (counts_owner m t a x counts living)
-      (weight_here p n m t x a (ReleaseLoad x h) rest here (eq-eqb x x refl) refl) living
+      (weight_here x here (eq-eqb x x refl) refl) living
 ]
 
 -- A cell's word is at most the number of all rows.

@@ -60,7 +60,7 @@ duty_there p n m t a (CellSwap x i y h) rest here alive small =
     (small.row x (eq-eqb x x refl), omega (arith, small.cells))
 duty_there p n m t a (Leave x c) rest here alive small = slice_get_within m.actors t a here.found
 duty_there p n m t a (Scan x c) rest here alive small =
-    let fits = agenda_here p n m t a (Scan x c) rest here alive in
+    let fits = agenda_here here alive in
     let some = head_of p n m t a (Scan x c) rest here in
     used_low p n m t a x here.core here.found (omega (arith, fits.1, some))
 duty_there p n m t a Finish rest here alive small = slice_get_within m.actors t a here.found
@@ -111,7 +111,7 @@ finds_owner p n m t a (RetainLoad x h) rest here =
 finds_owner p n m t a (ReleaseLoad x h) rest here =
     live_owner p n m x here.core (elim (cases_Bool (is_immortal_row m.layout x)) [
       | inl immortal ↦ here.core.immortals_live x immortal
-      | inr counted ↦ (release_alive p n m t a x h rest counted here).life
+      | inr counted ↦ (release_alive x h counted here).life
     ])
 finds_owner p n m t a _ rest here = tt
 
@@ -128,7 +128,7 @@ duty_within p n m t a d rest doing small few =
       head = head_small p n m t a core doing.found;
       used = duty_used p n m t a d rest here;
       suits = duty_suits p n m t a d rest here doing.alive few;
-      overwrites = overwritten p n m t a d rest here;
+      overwrites = overwritten d here;
       owner = finds_owner p n m t a d rest here;
     }
 

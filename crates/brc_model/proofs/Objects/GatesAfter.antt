@@ -69,7 +69,8 @@ lock_tried p n m t a rest x here live =
     let found = m.memory (Gate x) in
     let after = actor_by m.layout t a (LockGate x) rest found in
     let new = (done_by m t a (LockGate x) rest).actors in
-    elim (found == free_word) as (λ b. (found == free_word) ≡ b → LiveGate new x (memory_by m t a (LockGate x) (Gate x))) [
+    elim (found == free_word)
+    as (λ b. (found == free_word) ≡ b → LiveGate new x (memory_by m t a (LockGate x) (Gate x))) [
       | true ↦ λ free.
           let word : memory_by m t a (LockGate x) (Gate x) ≡ locked_word t =
           written_here m.memory (Gate x) _ ∙ ap (λ (b : Bool). cond b (locked_word t) found) free in

@@ -46,7 +46,8 @@ pub record IsAtEnd (account : Account) (m : Machine) (t : ℕ) (a : Actor) : Typ
 abbrev pub AreAtEnd : Accounts → Machine → Type 0
 AreAtEnd p m = (t : ℕ) (a : Actor) → slice_get m.actors t ≡ Some a → IsAtEnd (p t) m t a
 
-pub held_by_none : (p : Accounts) (n : ℕ) (m : Machine) (t : ℕ) (k : Holding) (object : ℕ) → CoreInvariant p n m → AreAtEnd p m
+pub held_by_none : (p : Accounts) (n : ℕ) (m : Machine) (t : ℕ) (k : Holding) (object : ℕ) → CoreInvariant p n m
+    → AreAtEnd p m
     → held (reference_of t k object) m.abstract.references ≡ 0
 held_by_none p n m t k object core done =
     elim (slice_get_cases m.actors t).1 [
@@ -144,7 +145,8 @@ live_referenced p n m x core done live =
     ]
 
 -- No row is dying, since every chain is empty.
-pub none_dying : (p : Accounts) (n : ℕ) (m : Machine) (x t : ℕ) → CoreInvariant p n m → AreAtEnd p m → m.life x ≡ Dying t → ⊥
+pub none_dying : (p : Accounts) (n : ℕ) (m : Machine) (x t : ℕ) → CoreInvariant p n m → AreAtEnd p m
+    → m.life x ≡ Dying t → ⊥
 none_dying p n m x t core done dying =
     let dies : dies_by (m.life x) t ≡ true = ap (λ (l : Life). dies_by l t) dying ∙ eq-eqb t t refl in
     elim (slice_get_cases m.actors t).1 [

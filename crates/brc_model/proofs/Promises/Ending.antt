@@ -159,7 +159,8 @@ module _ (p : Accounts) (n : ℕ) (m : Machine) (counts : Counts p n m) (ended :
       → m.memory (Gate x) ≢ closed_word → IsNamed m x
   left_by x Unborn is counted some open_still = absurd (omega (arith, some, (blank_row x is).0))
   left_by x Live is counted some open_still =
-      live_named x (subst (λ (l : Life). RowInvariant (block_of m.layout x) l (numbers_of m x)) is (core.rows x counted))
+      live_named x (subst (λ (l : Life). RowInvariant (block_of m.layout x) l (numbers_of m x)) is
+      (core.rows x counted))
   left_by x (Dying t) is counted some open_still = absurd (none_dying p n m x t core at_end is)
   left_by x Closed is counted some open_still =
       absurd (open_still (subst (λ (l : Life). GateFits m.actors x l (m.memory (Gate x))) is (core.gates x)))

@@ -194,7 +194,7 @@ immortals_shown n = record {
       };
   does = λ p t m a d rest doing x immortal. record {
     layout = refl;
-    local = immortal_word_left p n m t a d rest x (at_duty doing) immortal;
+    local = immortal_word_left d x (at_duty doing) immortal;
     shared = immortal_shared p n m t a d rest x (at_duty doing) immortal;
     gate = immortal_gate p n m t a d rest x (at_duty doing) immortal;
     kind = immortal_kind p n m t a d rest x (at_duty doing) immortal;

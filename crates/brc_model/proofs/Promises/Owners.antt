@@ -50,7 +50,7 @@ local_left : (p : Accounts) (n : ℕ) (m : Machine) (t : ℕ) (a : Actor) (d : D
     → owner_part (m.memory (Local x)) ≡ owner + 1 → Runs m owner → memory_by m t a d (Local x) ≡ m.memory (Local x)
 local_left p n m t a d rest x owner here ne owns runs =
     elim (cases_Bool (is_immortal_row m.layout x)) [
-      | inl immortal ↦ immortal_word_left p n m t a d rest x here immortal
+      | inl immortal ↦ immortal_word_left d x here immortal
       | inr counted ↦
           locals_left p n m t a d rest here owner x runs.0 ne runs.1
           (record { running = runs.2; owner = owns; low = counted_low p n m x here.core counted })

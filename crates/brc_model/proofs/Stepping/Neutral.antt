@@ -36,6 +36,14 @@ bag_by m t a d = (moved m.abstract (reference_effects m.memory t d (found_by m t
 abbrev pub memory_by : Machine → ℕ → Actor → Duty → Address → ℕ
 memory_by m t a d = written m.memory (address_of m.layout t a.head d) (new_word t a.head d (found_by m t a d))
 
+-- What the lemmas `thread_after_*` conclude: the thread fits after its step.
+abbrev pub FitsAfter : Accounts → Machine → ℕ → Actor → Duty → List Duty → Type 0
+FitsAfter p m t a d rest = ThreadFits p (done_by m t a d rest) t (actor_by m.layout t a d rest (found_by m t a d))
+
+-- The thread runs or is leaving.
+abbrev pub NotGone : Actor → Type 0
+NotGone a = a.status ≡ Gone → ⊥
+
 -- ---- agendas and statuses
 
 pub agenda_in : (a : Actor) (status : Status) → (status ≡ Gone → ⊥)
@@ -51,12 +59,12 @@ agenda_out a Gone alive fits = absurd (alive refl)
 agenda_out a Running alive fits = fits
 agenda_out a Leaving alive fits = fits
 
--- An agenda that begins with the duty has the form that the invariant gives it.
-pub agenda_here : (p : Accounts) (n : ℕ) (m : Machine) (t : ℕ) (a : Actor) (d : Duty) (rest : List Duty)
-    → AtDuty p n m t a d rest → (a.status ≡ Gone → ⊥) → Agenda a.used a.status (d ∷ rest)
-agenda_here p n m t a d rest here alive =
-    subst (λ (l : List Duty). Agenda a.used a.status l) here.agenda
-    (agenda_in a a.status alive (here.core.each t a here.found).1)
+module _ {p : Accounts} {n : ℕ} {m : Machine} {t : ℕ} {a : Actor} {d : Duty} {rest : List Duty} where
+  -- An agenda that begins with the duty has the form that the invariant gives it.
+  pub agenda_here : AtDuty p n m t a d rest → NotGone a → Agenda a.used a.status (d ∷ rest)
+  agenda_here here alive =
+      subst (λ (l : List Duty). Agenda a.used a.status l) here.agenda
+      (agenda_in a a.status alive (here.core.each t a here.found).1)
 
 -- ---- the step
 
@@ -91,49 +99,49 @@ life_same m t a d next x is dies ends born =
     ends
     ∙ ap (λ (o : Option ℕ). with_life m.life o Live x) born
 
--- The thread fits after a neutral step.
-pub own_neutral : (p : Accounts) (n : ℕ) (m : Machine) (t : ℕ) (a : Actor) (d : Duty) (rest next agenda : List Duty)
-    → AtDuty p n m t a d rest → (a.status ≡ Gone → ⊥) → NeutralStep m t a d rest next agenda
-    → ThreadFits p (done_by m t a d rest) t (actor_by m.layout t a d rest (found_by m t a d))
-own_neutral p n m t a d rest next agenda here alive step =
-    let old = (here.core.each t a here.found).0 in
-    let new = done_by m t a d rest in
-    let after = actor_by m.layout t a d rest (found_by m t a d) in
-    let whole : after.agenda ≡ agenda =
-    ap (λ (h : ℕ). ready h (next_of m t a d ++ rest)) step.same_head
-    ∙ ap (λ (l : List Duty). ready a.head (l ++ rest)) step.next_is ∙ step.agenda_is in
-    let holds : HoldsAt new.abstract.references t (p t) agenda a.aside =
-    holds_step m.abstract.references new.abstract.references t (p t) (d ∷ rest) agenda a.aside step.held
-    (subst (λ (l : List Duty). HoldsAt m.abstract.references t (p t) l a.aside) here.agenda old.holds) in
-    let same : ChainSame m new t a.agenda agenda = record {
-      gates = step.gates;
-      hands = λ x.
-          let hands : finalised agenda x ≡ finalised a.agenda x =
-          step.hands x ∙ ap (λ (l : List Duty). finalised l x) (sym here.agenda) in
-          let life : one_if (dies_by (new.life x) t) ≡ one_if (dies_by (m.life x) t) =
-          ap (λ (l : Life). one_if (dies_by l t))
-          (life_same m t a d next x step.next_is step.none_dies step.none_ends step.none_born) in
-          omega (arith, hands, life);
-    } in
-    let chain : ChainFits new t a.head agenda = chain_same m new t a.head a.agenda agenda same old.chain in
-    record {
-      actor = record {
-        word = step.word ∙ old.word ∙ ap status_word (sym step.same_status);
-        holds = subst (λ (l : List Duty). HoldsAt new.abstract.references t (p t) l a.aside) (sym whole) holds;
-        bounded = old.bounded;
-        exited = λ e. old.exited (sym (exits_still p n m t a d rest (found_by m t a d) here) ∙ e);
-        head_fits =
-            subst (λ (l : List Duty). HeadOf new t after l) (sym whole)
-            (step.knows after step.same_status step.same_head (uses_same a.used d step.none_born) refl);
-        behind = behind_after p n m t a d rest here;
-        chain =
-            subst (λ (l : List Duty). ChainFits new t after.head l) (sym whole)
-            (subst (λ (h : ℕ). ChainFits new t h agenda) (sym step.same_head) chain);
-        locks = locks_after p n m t a d rest here;
-        lent = lent_after p n m t a d rest here;
-      };
-      agenda = agenda_out after after.status (λ e. alive (sym step.same_status ∙ e))
-          (subst (λ (l : List Duty). Agenda after.used after.status l) (sym whole)
-          (subst (λ (u : ℕ). Agenda u after.status agenda) (sym (uses_same a.used d step.none_born))
-          (subst (λ (s : Status). Agenda a.used s agenda) (sym step.same_status) step.fits)));
-    }
+module _ {p : Accounts} {n : ℕ} {m : Machine} {t : ℕ} {a : Actor} {d : Duty} {rest : List Duty} where
+  -- The thread fits after a neutral step.
+  pub own_neutral : (next agenda : List Duty) → AtDuty p n m t a d rest → NotGone a
+      → NeutralStep m t a d rest next agenda → FitsAfter p m t a d rest
+  own_neutral next agenda here alive step =
+      let old = (here.core.each t a here.found).0 in
+      let new = done_by m t a d rest in
+      let after = actor_by m.layout t a d rest (found_by m t a d) in
+      let whole : after.agenda ≡ agenda =
+      ap (λ (h : ℕ). ready h (next_of m t a d ++ rest)) step.same_head
+      ∙ ap (λ (l : List Duty). ready a.head (l ++ rest)) step.next_is ∙ step.agenda_is in
+      let holds : HoldsAt new.abstract.references t (p t) agenda a.aside =
+      holds_step m.abstract.references new.abstract.references t (p t) (d ∷ rest) agenda a.aside step.held
+      (subst (λ (l : List Duty). HoldsAt m.abstract.references t (p t) l a.aside) here.agenda old.holds) in
+      let same : ChainSame m new t a.agenda agenda = record {
+        gates = step.gates;
+        hands = λ x.
+            let hands : finalised agenda x ≡ finalised a.agenda x =
+            step.hands x ∙ ap (λ (l : List Duty). finalised l x) (sym here.agenda) in
+            let life : one_if (dies_by (new.life x) t) ≡ one_if (dies_by (m.life x) t) =
+            ap (λ (l : Life). one_if (dies_by l t))
+            (life_same m t a d next x step.next_is step.none_dies step.none_ends step.none_born) in
+            omega (arith, hands, life);
+      } in
+      let chain : ChainFits new t a.head agenda = chain_same m new t a.head a.agenda agenda same old.chain in
+      record {
+        actor = record {
+          word = step.word ∙ old.word ∙ ap status_word (sym step.same_status);
+          holds = subst (λ (l : List Duty). HoldsAt new.abstract.references t (p t) l a.aside) (sym whole) holds;
+          bounded = old.bounded;
+          exited = λ e. old.exited (sym (exits_still (found_by m t a d) here) ∙ e);
+          head_fits =
+              subst (λ (l : List Duty). HeadOf new t after l) (sym whole)
+              (step.knows after step.same_status step.same_head (uses_same a.used d step.none_born) refl);
+          behind = behind_after here;
+          chain =
+              subst (λ (l : List Duty). ChainFits new t after.head l) (sym whole)
+              (subst (λ (h : ℕ). ChainFits new t h agenda) (sym step.same_head) chain);
+          locks = locks_after d here;
+          lent = lent_after d here;
+        };
+        agenda = agenda_out after after.status (λ e. alive (sym step.same_status ∙ e))
+            (subst (λ (l : List Duty). Agenda after.used after.status l) (sym whole)
+            (subst (λ (u : ℕ). Agenda u after.status agenda) (sym (uses_same a.used d step.none_born))
+            (subst (λ (s : Status). Agenda a.used s agenda) (sym step.same_status) step.fits)));
+      }

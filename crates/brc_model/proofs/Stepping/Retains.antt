@@ -26,7 +26,7 @@ use Rattle.brc_model.proofs.Frame.Known.{still_backed}
 use Rattle.brc_model.proofs.Basics.Written.{written_here}
 use Rattle.brc_model.proofs.Frame.Leaves.{head_of}
 use Rattle.brc_model.proofs.Stepping.Own.{HeldStep}
-use Rattle.brc_model.proofs.Stepping.Neutral.{ThreadFits, found_by, bag_by, agenda_here, own_neutral}
+use Rattle.brc_model.proofs.Stepping.Neutral.{ThreadFits, bag_by, agenda_here, own_neutral, NotGone, FitsAfter}
 use Rattle.brc_model.proofs.Stepping.Counts.{held_same, backed_not_immortal}
 use Rattle.brc_model.proofs.Work.Weighing.{own_weighs}
 use Rattle.brc_model.proofs.Basics.Continuation.{is_inner}
@@ -76,97 +76,94 @@ count_above p n m t x a core found owns mine alive =
       | InMerged s ↦ absurd (omega (arith, s.local, owns.owner))
     ]
 
-pub weight_here : (p : Accounts) (n : ℕ) (m : Machine) (t x : ℕ) (a : Actor) (d : Duty) (rest : List Duty)
-    → AtDuty p n m t a d rest → is_about x d ≡ true → decides x d ≡ 0 → agenda_weight (decides x) a ≡ 0
-weight_here p n m t x a d rest here this none =
-    own_weighs p n m t x a d rest (decides x) here (decides_of_row x) this ∙ none
+module _ {p : Accounts} {n : ℕ} {m : Machine} {t : ℕ} {a : Actor} {d : Duty} {rest : List Duty} where
+  pub weight_here : (x : ℕ) → AtDuty p n m t a d rest → is_about x d ≡ true → decides x d ≡ 0
+      → agenda_weight (decides x) a ≡ 0
+  weight_here x here this none = own_weighs p n m t x a d rest (decides x) here (decides_of_row x) this ∙ none
 
 retain_bag : (m : Machine) (t : ℕ) (a : Actor) (x : ℕ) (h : Holding) → is_immortal_word (m.memory (Local x)) ≡ false
     → bag_by m t a (RetainLoad x h) ≡ m.abstract.references
 retain_bag m t a x h mortal = ap (λ (b : Bool). (moved m.abstract (cond b (gain t h x) [])).references) mortal
 
--- `OwnerRetains`, `FullOwnerRetains` and `OtherRetains`: the object is counted.
-pub thread_after_retain_counted : (p : Accounts) (n : ℕ) (m : Machine) (t : ℕ) (a : Actor) (x : ℕ) (h : Holding)
-    (rest : List Duty)
-    → IsCounted m.layout x → AtDuty p n m t a (RetainLoad x h) rest → (a.status ≡ Gone → ⊥)
-    → ThreadFits p (done_by m t a (RetainLoad x h) rest) t
-    (actor_by m.layout t a (RetainLoad x h) rest (found_by m t a (RetainLoad x h)))
-thread_after_retain_counted p n m t a x h rest pos here alive =
-    let word = m.memory (Local x) in
-    let fits = head_of p n m t a (RetainLoad x h) rest here in
-    let mortal = backed_not_immortal p n m t a x h rest pos here in
-    let living = alive_backed p n m t a x here.core pos fits in
-    let bag = retain_bag m t a x h mortal in
-    let new = done_by m t a (RetainLoad x h) rest in
-    let backed : (b : Actor) → b.locked ≡ a.locked → IsBacked new t b x =
-    λ b locked. still_backed m new t a b x (λ k. omega (arith, ap (held (reference_of t k x)) bag))
-    (λ y e. (locked ∙ e, record { kind = refl; cells = λ i. refl })) fits in
-    let first : continuation m.layout t (is_running a.status) a.head (RetainLoad x h) word
-    ≡ cond (counts_locally t (is_running a.status) word && nat_lt (local_part word) most_local)
-    (RetainStore x h word ∷ []) (RetainAdd x h ∷ []) =
-    ap (λ (b : Bool). cond b [] (cond
-    (counts_locally t (is_running a.status) word && nat_lt (local_part word) most_local)
-    (RetainStore x h word ∷ []) (RetainAdd x h ∷ []))) mortal in
-    let keeps : (e : Duty) → ((k : Holding) (object : ℕ) → extra_of (e ∷ rest) k object ≡ false)
-    → ((k : Holding) (object : ℕ) → lacks_of (e ∷ rest) k object ≡ (same_holding h k && (x == object)))
-    → HeldStep m.abstract.references (bag_by m t a (RetainLoad x h)) t (RetainLoad x h ∷ rest) (e ∷ rest) =
-    λ e more less. subst (λ (l : List Reference). HeldStep m.abstract.references l t (RetainLoad x h ∷ rest) (e ∷ rest))
-    (sym bag) (held_same m.abstract.references t (RetainLoad x h ∷ rest) (e ∷ rest) more less) in
-    let is_local = counts_locally t (is_running a.status) word && nat_lt (local_part word) most_local in
-    elim is_local as (λ b. is_local ≡ b → ThreadFits p new t (actor_by m.layout t a (RetainLoad x h) rest word)) [
-      | true ↦ λ e.
-          let counts =
-          and_first (counts_locally t (is_running a.status) word) (nat_lt (local_part word) most_local) e in
-          let low : local_part word < most_local =
-          ltb-true _ _ (and_second (counts_locally t (is_running a.status) word)
-          (nat_lt (local_part word) most_local) e) in
-          let owns = counts_owner m t a x counts living in
-          let some =
-          count_above p n m t x a here.core here.found owns
-          (weight_here p n m t x a (RetainLoad x h) rest here (eq-eqb x x refl) refl) living in
-          let same : new.memory (Local x) ≡ word = written_here m.memory (Local x) word in
-          own_neutral p n m t a (RetainLoad x h) rest (RetainStore x h word ∷ []) (RetainStore x h word ∷ rest) here
-          alive (record {
-            next_is = first ∙ ap (λ (b : Bool). cond b (RetainStore x h word ∷ []) (RetainAdd x h ∷ [])) e;
-            none_dies = refl;
-            none_ends = refl;
-            none_born = refl;
-            same_head = refl;
-            same_status = refl;
-            agenda_is = ready_first a.head (RetainStore x h word) rest refl;
-            gates = λ y dies. refl;
-            word = refl;
-            hands = λ y. refl;
-            held = keeps (RetainStore x h word) (λ k o. refl) (λ k o. refl);
-            fits = agenda_here p n m t a (RetainLoad x h) rest here alive;
-            knows =
-                λ b status head used locked. (
-                  pos,
-                  backed b locked,
-                  record {
-                    running = status ∙ owns.running;
-                    owner = ap owner_part same ∙ owns.owner;
-                    low = subst (λ (w : ℕ). local_part w < immortal_local) (sym same) owns.low;
-                  },
-                  same,
-                  some,
-                  low,
-                );
-          })
-      | false ↦ λ e.
-          own_neutral p n m t a (RetainLoad x h) rest (RetainAdd x h ∷ []) (RetainAdd x h ∷ rest) here alive (record {
-            next_is = first ∙ ap (λ (b : Bool). cond b (RetainStore x h word ∷ []) (RetainAdd x h ∷ [])) e;
-            none_dies = refl;
-            none_ends = refl;
-            none_born = refl;
-            same_head = refl;
-            same_status = refl;
-            agenda_is = ready_first a.head (RetainAdd x h) rest refl;
-            gates = λ y dies. refl;
-            word = refl;
-            hands = λ y. refl;
-            held = keeps (RetainAdd x h) (λ k o. refl) (λ k o. refl);
-            fits = agenda_here p n m t a (RetainLoad x h) rest here alive;
-            knows = λ b status head used locked. (pos, backed b locked);
-          })
-    ] refl
+module _ {p : Accounts} {n : ℕ} {m : Machine} {t : ℕ} {a : Actor} {rest : List Duty} where
+  -- `OwnerRetains`, `FullOwnerRetains` and `OtherRetains`: the object is counted.
+  pub thread_after_retain_counted : (x : ℕ) (h : Holding) → IsCounted m.layout x
+      → AtDuty p n m t a (RetainLoad x h) rest → NotGone a → FitsAfter p m t a (RetainLoad x h) rest
+  thread_after_retain_counted x h pos here alive =
+      let word = m.memory (Local x) in
+      let fits = head_of p n m t a (RetainLoad x h) rest here in
+      let mortal = backed_not_immortal x h pos here in
+      let living = alive_backed p n m t a x here.core pos fits in
+      let bag = retain_bag m t a x h mortal in
+      let new = done_by m t a (RetainLoad x h) rest in
+      let backed : (b : Actor) → b.locked ≡ a.locked → IsBacked new t b x =
+      λ b locked. still_backed m new t a b x (λ k. omega (arith, ap (held (reference_of t k x)) bag))
+      (λ y e. (locked ∙ e, record { kind = refl; cells = λ i. refl })) fits in
+      let first : continuation m.layout t (is_running a.status) a.head (RetainLoad x h) word
+      ≡ cond (counts_locally t (is_running a.status) word && nat_lt (local_part word) most_local)
+      (RetainStore x h word ∷ []) (RetainAdd x h ∷ []) =
+      ap (λ (b : Bool). cond b [] (cond
+      (counts_locally t (is_running a.status) word && nat_lt (local_part word) most_local)
+      (RetainStore x h word ∷ []) (RetainAdd x h ∷ []))) mortal in
+      let keeps : (e : Duty) → ((k : Holding) (object : ℕ) → extra_of (e ∷ rest) k object ≡ false)
+      → ((k : Holding) (object : ℕ) → lacks_of (e ∷ rest) k object ≡ (same_holding h k && (x == object)))
+      → HeldStep m.abstract.references (bag_by m t a (RetainLoad x h)) t (RetainLoad x h ∷ rest) (e ∷ rest) =
+      λ e more less. subst (λ (l : List Reference). HeldStep m.abstract.references l t (RetainLoad x h ∷ rest)
+      (e ∷ rest))
+      (sym bag) (held_same m.abstract.references t (RetainLoad x h ∷ rest) (e ∷ rest) more less) in
+      let is_local = counts_locally t (is_running a.status) word && nat_lt (local_part word) most_local in
+      elim is_local as (λ b. is_local ≡ b → ThreadFits p new t (actor_by m.layout t a (RetainLoad x h) rest word)) [
+        | true ↦ λ e.
+            let counts =
+            and_first (counts_locally t (is_running a.status) word) (nat_lt (local_part word) most_local) e in
+            let low : local_part word < most_local =
+            ltb-true _ _ (and_second (counts_locally t (is_running a.status) word)
+            (nat_lt (local_part word) most_local) e) in
+            let owns = counts_owner m t a x counts living in
+            let some =
+            count_above p n m t x a here.core here.found owns (weight_here x here (eq-eqb x x refl) refl) living in
+            let same : new.memory (Local x) ≡ word = written_here m.memory (Local x) word in
+            own_neutral (RetainStore x h word ∷ []) (RetainStore x h word ∷ rest) here alive (record {
+              next_is = first ∙ ap (λ (b : Bool). cond b (RetainStore x h word ∷ []) (RetainAdd x h ∷ [])) e;
+              none_dies = refl;
+              none_ends = refl;
+              none_born = refl;
+              same_head = refl;
+              same_status = refl;
+              agenda_is = ready_first a.head (RetainStore x h word) rest refl;
+              gates = λ y dies. refl;
+              word = refl;
+              hands = λ y. refl;
+              held = keeps (RetainStore x h word) (λ k o. refl) (λ k o. refl);
+              fits = agenda_here here alive;
+              knows =
+                  λ b status head used locked. (
+                    pos,
+                    backed b locked,
+                    record {
+                      running = status ∙ owns.running;
+                      owner = ap owner_part same ∙ owns.owner;
+                      low = subst (λ (w : ℕ). local_part w < immortal_local) (sym same) owns.low;
+                    },
+                    same,
+                    some,
+                    low,
+                  );
+            })
+        | false ↦ λ e.
+            own_neutral (RetainAdd x h ∷ []) (RetainAdd x h ∷ rest) here alive (record {
+              next_is = first ∙ ap (λ (b : Bool). cond b (RetainStore x h word ∷ []) (RetainAdd x h ∷ [])) e;
+              none_dies = refl;
+              none_ends = refl;
+              none_born = refl;
+              same_head = refl;
+              same_status = refl;
+              agenda_is = ready_first a.head (RetainAdd x h) rest refl;
+              gates = λ y dies. refl;
+              word = refl;
+              hands = λ y. refl;
+              held = keeps (RetainAdd x h) (λ k o. refl) (λ k o. refl);
+              fits = agenda_here here alive;
+              knows = λ b status head used locked. (pos, backed b locked);
+            })
+      ] refl

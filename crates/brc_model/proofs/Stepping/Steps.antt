@@ -10,7 +10,6 @@ use Rattle.brc_model.specs.declared.duty.Duty.TheVariants.{Look, Die, Settle, Se
 use Rattle.brc_model.specs.declared.address.Address.TheVariants.{Gate, ThreadWord}
 use Rattle.brc_model.specs.Duties.{new_head, ready}
 use Rattle.brc_model.specs.declared.actor.Status.{Status}
-use Rattle.brc_model.specs.declared.actor.Status.TheVariants.{Gone}
 use Rattle.brc_model.specs.Machine.{Actor, Life, Live, Dying, Closed, Machine, status_by, dies_next, ended_row, with_life, life_by, actor_by, done_by, born_row, locked_by}
 use Rattle.brc_model.specs.References.{one_if, reference_of}
 use Rattle.brc_model.specs.Accounts.{Accounts, extra_of, lacks_of, HoldsAt}
@@ -32,7 +31,7 @@ use Rattle.brc_model.proofs.Stepping.UnderWay.{exits_still}
 use Rattle.brc_model.proofs.Stepping.Locked.{locks_after}
 use Rattle.brc_model.proofs.Stepping.Lending.{lent_after}
 use Rattle.brc_model.proofs.Stepping.Own.{HeldStep, holds_step, ready_is, ChainSame, chain_same}
-use Rattle.brc_model.proofs.Stepping.Neutral.{ThreadFits, found_by, bag_by, memory_by, agenda_out, own_neutral, uses_same}
+use Rattle.brc_model.proofs.Stepping.Neutral.{found_by, bag_by, memory_by, agenda_out, own_neutral, uses_same, NotGone, FitsAfter}
 use Rattle.brc_model.proofs.Stepping.Retains.{ready_first}
 use Rattle.brc_model.proofs.Basics.Continuation.{is_inner}
 use Rattle.brc_model.specs.Invariant.{AtDuty, numbers_of}
@@ -71,21 +70,21 @@ keeping_status status (Leave x n) kept = absurd cc
 keeping_status status Finish kept = absurd cc
 keeping_status status _ kept = refl
 
-keeping_gates : (p : Accounts) (n : ℕ) (m : Machine) (t : ℕ) (a : Actor) (d : Duty) (rest : List Duty) (x : ℕ)
-    → AtDuty p n m t a d rest → keeps_lives d ≡ true → dies_by (m.life x) t ≡ true
-    → memory_by m t a d (Gate x) ≡ m.memory (Gate x)
-keeping_gates p n m t a (Die y) rest x here kept dies = absurd cc
-keeping_gates p n m t a Settle rest x here kept dies = absurd cc
-keeping_gates p n m t a (SettleEnd y) rest x here kept dies = absurd cc
-keeping_gates p n m t a (LockGate y) rest x here kept dies =
-    let fits = head_of p n m t a (LockGate y) rest here in
-    written_apart m.memory (Gate y) (Gate x) _
-    (apart_gate y x (living_clash m t x y (alive_backed p n m t a y here.core fits.0 fits.1) dies))
-keeping_gates p n m t a (UnlockGate y) rest x here kept dies =
-    let fits = head_of p n m t a (UnlockGate y) rest here in
-    written_apart m.memory (Gate y) (Gate x) _
-    (apart_gate y x (living_clash m t x y (alive_backed p n m t a y here.core fits.0 fits.1) dies))
-keeping_gates p n m t a _ rest x here kept dies = refl
+module _ {p : Accounts} {n : ℕ} {m : Machine} {t : ℕ} {a : Actor} {rest : List Duty} where
+  keeping_gates : (d : Duty) (x : ℕ) → AtDuty p n m t a d rest → keeps_lives d ≡ true → dies_by (m.life x) t ≡ true
+      → memory_by m t a d (Gate x) ≡ m.memory (Gate x)
+  keeping_gates (Die y) x here kept dies = absurd cc
+  keeping_gates Settle x here kept dies = absurd cc
+  keeping_gates (SettleEnd y) x here kept dies = absurd cc
+  keeping_gates (LockGate y) x here kept dies =
+      let fits = head_of p n m t a (LockGate y) rest here in
+      written_apart m.memory (Gate y) (Gate x) _
+      (apart_gate y x (living_clash m t x y (alive_backed p n m t a y here.core fits.0 fits.1) dies))
+  keeping_gates (UnlockGate y) x here kept dies =
+      let fits = head_of p n m t a (UnlockGate y) rest here in
+      written_apart m.memory (Gate y) (Gate x) _
+      (apart_gate y x (living_clash m t x y (alive_backed p n m t a y here.core fits.0 fits.1) dies))
+  keeping_gates _ x here kept dies = refl
 
 -- A step that makes a row die changes no gate.
 dying_gates : (m : Machine) (t : ℕ) (a : Actor) (d : Duty) (x y : ℕ) → keeps_lives d ≡ true
@@ -131,70 +130,65 @@ pub record KeepingStep (m : Machine) (t : ℕ) (a : Actor) (d : Duty) (rest next
   pub knows : (b : Actor) → b.status ≡ a.status → b.head ≡ a.head → b.used ≡ a.used
       → b.locked ≡ locked_by a.locked d (found_by m t a d) → HeadOf (done_by m t a d rest) t b agenda
 
--- The thread fits after a step that keeps lives and makes no row die.
-pub own_keeps : (p : Accounts) (n : ℕ) (m : Machine) (t : ℕ) (a : Actor) (d : Duty) (rest next agenda : List Duty)
-    → AtDuty p n m t a d rest → (a.status ≡ Gone → ⊥) → keeps_lives d ≡ true → KeepingStep m t a d rest next agenda
-    → ThreadFits p (done_by m t a d rest) t (actor_by m.layout t a d rest (found_by m t a d))
-own_keeps p n m t a d rest next agenda here alive kept step =
-    own_neutral p n m t a d rest next agenda here alive (record {
-      next_is = step.next_is;
-      none_dies = step.none_dies;
-      none_ends = keeping_ends d kept;
-      none_born = keeping_born d kept;
-      same_head = keeping_head a.head (found_by m t a d) d kept;
-      same_status = keeping_status a.status d kept;
-      agenda_is = step.agenda_is;
-      gates = λ x dies. keeping_gates p n m t a d rest x here kept dies;
-      word = keeping_word m t a d kept;
-      hands = λ x. step.hands x ∙ sym (keeping_hand d rest x kept);
-      held = step.held;
-      fits = step.fits;
-      knows = step.knows;
-    })
+module _ {p : Accounts} {n : ℕ} {m : Machine} {t : ℕ} {a : Actor} {d : Duty} {rest : List Duty} where
+  -- The thread fits after a step that keeps lives and makes no row die.
+  pub own_keeps : (next agenda : List Duty) → AtDuty p n m t a d rest → NotGone a → keeps_lives d ≡ true
+      → KeepingStep m t a d rest next agenda → FitsAfter p m t a d rest
+  own_keeps next agenda here alive kept step =
+      own_neutral next agenda here alive (record {
+        next_is = step.next_is;
+        none_dies = step.none_dies;
+        none_ends = keeping_ends d kept;
+        none_born = keeping_born d kept;
+        same_head = keeping_head a.head (found_by m t a d) d kept;
+        same_status = keeping_status a.status d kept;
+        agenda_is = step.agenda_is;
+        gates = λ x dies. keeping_gates d x here kept dies;
+        word = keeping_word m t a d kept;
+        hands = λ x. step.hands x ∙ sym (keeping_hand d rest x kept);
+        held = step.held;
+        fits = step.fits;
+        knows = step.knows;
+      })
 
--- If nothing follows the duty, the agenda goes on with the duties behind it.
-pub own_done : (p : Accounts) (n : ℕ) (m : Machine) (t : ℕ) (a : Actor) (d : Duty) (rest : List Duty)
-    → AtDuty p n m t a d rest → (a.status ≡ Gone → ⊥) → keeps_lives d ≡ true → next_of m t a d ≡ []
-    → Later a.used a.status rest
-    → HeldStep m.abstract.references (bag_by m t a d) t (d ∷ rest) []
-    → ThreadFits p (done_by m t a d rest) t (actor_by m.layout t a d rest (found_by m t a d))
-own_done p n m t a d rest here alive kept next later moves =
-    let then = ready_is m.layout t a.used a.status a.head rest later in
-    own_keeps p n m t a d rest [] (ready a.head rest) here alive kept (record {
-      next_is = next;
-      none_dies = refl;
-      agenda_is = refl;
-      hands = then.hands;
-      held = record {
-        each = λ k object.
-            let more : one_if (extra_of (ready a.head rest) k object) ≡ 0 = ap one_if (then.more k object) in
-            let less : one_if (lacks_of (ready a.head rest) k object) ≡ 0 = ap one_if (then.less k object) in
-            omega (arith, moves.each k object, more, less);
-      };
-      fits = then.fits;
-      knows =
-          λ b status head used locked. then.knows (done_by m t a d rest) b head (still_behind p n m t a d rest here);
-    })
+  -- If nothing follows the duty, the agenda goes on with the duties behind it.
+  pub own_done : AtDuty p n m t a d rest → NotGone a → keeps_lives d ≡ true → next_of m t a d ≡ []
+      → Later a.used a.status rest → HeldStep m.abstract.references (bag_by m t a d) t (d ∷ rest) []
+      → FitsAfter p m t a d rest
+  own_done here alive kept next later moves =
+      let then = ready_is m.layout t a.used a.status a.head rest later in
+      own_keeps [] (ready a.head rest) here alive kept (record {
+        next_is = next;
+        none_dies = refl;
+        agenda_is = refl;
+        hands = then.hands;
+        held = record {
+          each = λ k object.
+              let more : one_if (extra_of (ready a.head rest) k object) ≡ 0 = ap one_if (then.more k object) in
+              let less : one_if (lacks_of (ready a.head rest) k object) ≡ 0 = ap one_if (then.less k object) in
+              omega (arith, moves.each k object, more, less);
+        };
+        fits = then.fits;
+        knows = λ b status head used locked. then.knows (done_by m t a d rest) b head (still_behind here);
+      })
 
--- If one duty follows, it is the first of the new agenda.
-pub own_next : (p : Accounts) (n : ℕ) (m : Machine) (t : ℕ) (a : Actor) (d e : Duty) (rest : List Duty)
-    → AtDuty p n m t a d rest → (a.status ≡ Gone → ⊥) → keeps_lives d ≡ true → keeps_lives e ≡ true
-    → is_inner e ≡ true
-    → next_of m t a d ≡ e ∷ [] → HeldStep m.abstract.references (bag_by m t a d) t (d ∷ rest) (e ∷ rest)
-    → Agenda a.used a.status (e ∷ rest)
-    → ((b : Actor) → b.status ≡ a.status → b.head ≡ a.head → b.used ≡ a.used
-    → b.locked ≡ locked_by a.locked d (found_by m t a d) → HeadFits (done_by m t a d rest) t b e rest)
-    → ThreadFits p (done_by m t a d rest) t (actor_by m.layout t a d rest (found_by m t a d))
-own_next p n m t a d e rest here alive kept other stays next moves fits knows =
-    own_keeps p n m t a d rest (e ∷ []) (e ∷ rest) here alive kept (record {
-      next_is = next;
-      none_dies = keeping_lives e other;
-      agenda_is = ready_first a.head e rest stays;
-      hands = λ x. keeping_hand e rest x other;
-      held = moves;
-      fits = fits;
-      knows = knows;
-    })
+  -- If one duty follows, it is the first of the new agenda.
+  pub own_next : (e : Duty) → AtDuty p n m t a d rest → NotGone a → keeps_lives d ≡ true → keeps_lives e ≡ true
+      → is_inner e ≡ true → next_of m t a d ≡ e ∷ []
+      → HeldStep m.abstract.references (bag_by m t a d) t (d ∷ rest) (e ∷ rest) → Agenda a.used a.status (e ∷ rest)
+      → ((b : Actor) → b.status ≡ a.status → b.head ≡ a.head → b.used ≡ a.used
+      → b.locked ≡ locked_by a.locked d (found_by m t a d) → HeadFits (done_by m t a d rest) t b e rest)
+      → FitsAfter p m t a d rest
+  own_next e here alive kept other stays next moves fits knows =
+      own_keeps (e ∷ []) (e ∷ rest) here alive kept (record {
+        next_is = next;
+        none_dies = keeping_lives e other;
+        agenda_is = ready_first a.head e rest stays;
+        hands = λ x. keeping_hand e rest x other;
+        held = moves;
+        fits = fits;
+        knows = knows;
+      })
 
 -- ---- a row begins to die
 
@@ -233,102 +227,99 @@ dying_hands life t x y lived =
           omega (arith, hand, after)
     ]
 
--- A row that begins to die isn't locked: who has locked it still holds it, and a dying row has no reference.
-dying_unlocked : (p : Accounts) (n : ℕ) (m : Machine) (t : ℕ) (a : Actor) (d : Duty) (rest : List Duty) (x : ℕ)
-    → AtDuty p n m t a d rest → (a.status ≡ Gone → ⊥) → IsCounted m.layout x → (done_by m t a d rest).life x ≡ Dying t
-    → HoldsAt (done_by m t a d rest).abstract.references t (p t) (Die x ∷ rest) a.aside → (u : ℕ) (b : Actor)
-    → slice_get m.actors u ≡ Some b → b.locked ≡ Some x → ⊥
-dying_unlocked p n m t a d rest x here alive counted dies holds u b found e =
-    let new = done_by m t a d rest in
-    let row : IsDead (numbers_of new x) =
-    subst (λ (l : Life). RowInvariant (block_of m.layout x) l (numbers_of new x)) dies
-    (rows_after p n m t a d rest here.core here.found here.agenda alive x counted) in
-    elim (eqb_tells u t) [
-      | inl same ↦
-          let this : b ≡ a = some_is b a (sym found ∙ ap (slice_get m.actors) same.1 ∙ here.found) in
-          let it = (here.core.each t a here.found).0.locks x (ap (λ (c : Actor). c.locked) (sym this) ∙ e) in
-          absurd (omega (
-            arith,
-            holds.each it.by x,
-            it.held_so,
-            held-le-references_to (reference_of t it.by x) new.abstract.references,
-            row.references,
-          ))
-      | inr other ↦
-          let fits = (here.core.each u b found).0 in
-          let it = fits.locks x e in
-          absurd (omega (
-            arith,
-            locked_held m.abstract.references u (p u) b it.by x fits.holds it.held_so,
-            moves_apart m.memory m.abstract u t it.by x d (found_by m t a d) other.1,
-            held-le-references_to (reference_of u it.by x) new.abstract.references,
-            row.references,
-          ))
-    ]
+module _ {p : Accounts} {n : ℕ} {m : Machine} {t : ℕ} {a : Actor} {d : Duty} {rest : List Duty} where
+  -- A row that begins to die isn't locked: who has locked it still holds it, and a dying row has no reference.
+  dying_unlocked : (x : ℕ) → AtDuty p n m t a d rest → NotGone a → IsCounted m.layout x
+      → (done_by m t a d rest).life x ≡ Dying t
+      → HoldsAt (done_by m t a d rest).abstract.references t (p t) (Die x ∷ rest) a.aside → (u : ℕ) (b : Actor)
+      → slice_get m.actors u ≡ Some b → b.locked ≡ Some x → ⊥
+  dying_unlocked x here alive counted dies holds u b found e =
+      let new = done_by m t a d rest in
+      let row : IsDead (numbers_of new x) =
+      subst (λ (l : Life). RowInvariant (block_of m.layout x) l (numbers_of new x)) dies
+      (rows_after p n m t a d rest here.core here.found here.agenda alive x counted) in
+      elim (eqb_tells u t) [
+        | inl same ↦
+            let this : b ≡ a = some_is b a (sym found ∙ ap (slice_get m.actors) same.1 ∙ here.found) in
+            let it = (here.core.each t a here.found).0.locks x (ap (λ (c : Actor). c.locked) (sym this) ∙ e) in
+            absurd (omega (
+              arith,
+              holds.each it.by x,
+              it.held_so,
+              held-le-references_to (reference_of t it.by x) new.abstract.references,
+              row.references,
+            ))
+        | inr other ↦
+            let fits = (here.core.each u b found).0 in
+            let it = fits.locks x e in
+            absurd (omega (
+              arith,
+              locked_held m.abstract.references u (p u) b it.by x fits.holds it.held_so,
+              moves_apart m.memory m.abstract u t it.by x d (found_by m t a d) other.1,
+              held-le-references_to (reference_of u it.by x) new.abstract.references,
+              row.references,
+            ))
+      ]
 
--- So its gate is free.
-dying_free : (p : Accounts) (n : ℕ) (m : Machine) (t : ℕ) (a : Actor) (d : Duty) (rest : List Duty) (x : ℕ)
-    → AtDuty p n m t a d rest → (a.status ≡ Gone → ⊥) → DyingStep m t a d rest x
-    → (done_by m t a d rest).life x ≡ Dying t
-    → HoldsAt (done_by m t a d rest).abstract.references t (p t) (Die x ∷ rest) a.aside
-    → m.memory (Gate x) ≡ free_word
-dying_free p n m t a d rest x here alive step dies holds =
-    let live : LiveGate m.actors x (m.memory (Gate x)) =
-    subst (λ (l : Life). GateFits m.actors x l (m.memory (Gate x))) step.lived (here.core.gates x) in
-    elim live [
-      | IsFree free ↦ free
-      | IsLocked u b found e gate ↦
-          absurd (dying_unlocked p n m t a d rest x here alive step.counted dies holds u b found e)
-    ]
+  -- So its gate is free.
+  dying_free : (x : ℕ) → AtDuty p n m t a d rest → NotGone a → DyingStep m t a d rest x
+      → (done_by m t a d rest).life x ≡ Dying t
+      → HoldsAt (done_by m t a d rest).abstract.references t (p t) (Die x ∷ rest) a.aside
+      → m.memory (Gate x) ≡ free_word
+  dying_free x here alive step dies holds =
+      let live : LiveGate m.actors x (m.memory (Gate x)) =
+      subst (λ (l : Life). GateFits m.actors x l (m.memory (Gate x))) step.lived (here.core.gates x) in
+      elim live [
+        | IsFree free ↦ free
+        | IsLocked u b found e gate ↦ absurd (dying_unlocked x here alive step.counted dies holds u b found e)
+      ]
 
--- The thread fits after a step that keeps lives and makes its row die.
-pub own_dying : (p : Accounts) (n : ℕ) (m : Machine) (t : ℕ) (a : Actor) (d : Duty) (rest : List Duty) (x : ℕ)
-    → AtDuty p n m t a d rest → (a.status ≡ Gone → ⊥) → keeps_lives d ≡ true → DyingStep m t a d rest x
-    → ThreadFits p (done_by m t a d rest) t (actor_by m.layout t a d rest (found_by m t a d))
-own_dying p n m t a d rest x here alive kept step =
-    let old = (here.core.each t a here.found).0 in
-    let new = done_by m t a d rest in
-    let after = actor_by m.layout t a d rest (found_by m t a d) in
-    let agenda : List Duty = Die x ∷ rest in
-    let same_head : new_head a.head d (found_by m t a d) ≡ a.head = keeping_head a.head (found_by m t a d) d kept in
-    let same_status : status_by a.status d ≡ a.status = keeping_status a.status d kept in
-    let whole : after.agenda ≡ agenda =
-    ap (λ (h : ℕ). ready h (next_of m t a d ++ rest)) same_head
-    ∙ ap (λ (l : List Duty). ready a.head (l ++ rest)) step.next_is ∙ ready_first a.head (Die x) rest refl in
-    let life = λ (y : ℕ). dying_life m t a d x y step.next_is (keeping_ends d kept) (keeping_born d kept) in
-    let holds : HoldsAt new.abstract.references t (p t) agenda a.aside =
-    holds_step m.abstract.references new.abstract.references t (p t) (d ∷ rest) agenda a.aside step.held
-    (subst (λ (l : List Duty). HoldsAt m.abstract.references t (p t) l a.aside) here.agenda old.holds) in
-    let same : ChainSame m new t a.agenda agenda = record {
-      gates = λ y dies. dying_gates m t a d x y kept step.next_is;
-      hands = λ y.
-          let before : finalised a.agenda y ≡ finalised rest y =
-          ap (λ (l : List Duty). finalised l y) here.agenda ∙ keeping_hand d rest y kept in
-          let now : one_if (dies_by (new.life y) t) ≡ one_if (dies_by (cond (x == y) (Dying t) (m.life y)) t) =
-          ap (λ (l : Life). one_if (dies_by l t)) (life y) in
-          omega (arith, before, now, finalised_first (Die x) rest y, dying_hands m.life t x y step.lived);
-    } in
-    let chain : ChainFits new t a.head agenda = chain_same m new t a.head a.agenda agenda same old.chain in
-    let dies : new.life x ≡ Dying t = life x ∙ ap (λ (b : Bool). cond b (Dying t) (m.life x)) (eq-eqb x x refl) in
-    let gate : new.memory (Gate x) ≡ free_word =
-    dying_gates m t a d x x kept step.next_is ∙ dying_free p n m t a d rest x here alive step dies holds in
-    record {
-      actor = record {
-        word = keeping_word m t a d kept ∙ old.word ∙ ap status_word (sym same_status);
-        holds = subst (λ (l : List Duty). HoldsAt new.abstract.references t (p t) l a.aside) (sym whole) holds;
-        bounded = old.bounded;
-        exited = λ e. old.exited (sym (exits_still p n m t a d rest (found_by m t a d) here) ∙ e);
-        head_fits = subst (λ (l : List Duty). HeadOf new t after l) (sym whole) (step.counted, dies, gate);
-        behind = behind_after p n m t a d rest here;
-        chain =
-            subst (λ (l : List Duty). ChainFits new t after.head l) (sym whole)
-            (subst (λ (h : ℕ). ChainFits new t h agenda) (sym same_head) chain);
-        locks = locks_after p n m t a d rest here;
-        lent = lent_after p n m t a d rest here;
-      };
-      agenda = agenda_out after after.status (λ e. alive (sym same_status ∙ e))
-          (subst (λ (l : List Duty). Agenda after.used after.status l) (sym whole)
-          (subst (λ (u : ℕ). Later u after.status rest)
-          (sym (uses_same a.used d (keeping_born d kept)))
-          (subst (λ (s : Status). Later a.used s rest) (sym same_status) step.later)));
-    }
+  -- The thread fits after a step that keeps lives and makes its row die.
+  pub own_dying : (x : ℕ) → AtDuty p n m t a d rest → NotGone a → keeps_lives d ≡ true → DyingStep m t a d rest x
+      → FitsAfter p m t a d rest
+  own_dying x here alive kept step =
+      let old = (here.core.each t a here.found).0 in
+      let new = done_by m t a d rest in
+      let after = actor_by m.layout t a d rest (found_by m t a d) in
+      let agenda : List Duty = Die x ∷ rest in
+      let same_head : new_head a.head d (found_by m t a d) ≡ a.head = keeping_head a.head (found_by m t a d) d kept in
+      let same_status : status_by a.status d ≡ a.status = keeping_status a.status d kept in
+      let whole : after.agenda ≡ agenda =
+      ap (λ (h : ℕ). ready h (next_of m t a d ++ rest)) same_head
+      ∙ ap (λ (l : List Duty). ready a.head (l ++ rest)) step.next_is ∙ ready_first a.head (Die x) rest refl in
+      let life = λ (y : ℕ). dying_life m t a d x y step.next_is (keeping_ends d kept) (keeping_born d kept) in
+      let holds : HoldsAt new.abstract.references t (p t) agenda a.aside =
+      holds_step m.abstract.references new.abstract.references t (p t) (d ∷ rest) agenda a.aside step.held
+      (subst (λ (l : List Duty). HoldsAt m.abstract.references t (p t) l a.aside) here.agenda old.holds) in
+      let same : ChainSame m new t a.agenda agenda = record {
+        gates = λ y dies. dying_gates m t a d x y kept step.next_is;
+        hands = λ y.
+            let before : finalised a.agenda y ≡ finalised rest y =
+            ap (λ (l : List Duty). finalised l y) here.agenda ∙ keeping_hand d rest y kept in
+            let now : one_if (dies_by (new.life y) t) ≡ one_if (dies_by (cond (x == y) (Dying t) (m.life y)) t) =
+            ap (λ (l : Life). one_if (dies_by l t)) (life y) in
+            omega (arith, before, now, finalised_first (Die x) rest y, dying_hands m.life t x y step.lived);
+      } in
+      let chain : ChainFits new t a.head agenda = chain_same m new t a.head a.agenda agenda same old.chain in
+      let dies : new.life x ≡ Dying t = life x ∙ ap (λ (b : Bool). cond b (Dying t) (m.life x)) (eq-eqb x x refl) in
+      let gate : new.memory (Gate x) ≡ free_word =
+      dying_gates m t a d x x kept step.next_is ∙ dying_free x here alive step dies holds in
+      record {
+        actor = record {
+          word = keeping_word m t a d kept ∙ old.word ∙ ap status_word (sym same_status);
+          holds = subst (λ (l : List Duty). HoldsAt new.abstract.references t (p t) l a.aside) (sym whole) holds;
+          bounded = old.bounded;
+          exited = λ e. old.exited (sym (exits_still (found_by m t a d) here) ∙ e);
+          head_fits = subst (λ (l : List Duty). HeadOf new t after l) (sym whole) (step.counted, dies, gate);
+          behind = behind_after here;
+          chain =
+              subst (λ (l : List Duty). ChainFits new t after.head l) (sym whole)
+              (subst (λ (h : ℕ). ChainFits new t h agenda) (sym same_head) chain);
+          locks = locks_after d here;
+          lent = lent_after d here;
+        };
+        agenda = agenda_out after after.status (λ e. alive (sym same_status ∙ e))
+            (subst (λ (l : List Duty). Agenda after.used after.status l) (sym whole)
+            (subst (λ (u : ℕ). Later u after.status rest) (sym (uses_same a.used d (keeping_born d kept)))
+            (subst (λ (s : Status). Later a.used s rest) (sym same_status) step.later)));
+      }

@@ -75,11 +75,12 @@ exits_by layout t a Gone new found (Leave x k) rest is fits = refl
 exits_by layout t a Gone new found Finish rest is fits = refl
 exits_by layout t a Gone new found _ rest is fits = refl
 
--- The thread's exit is under way after its step exactly if it was under way before.
-pub exits_still : (p : Accounts) (n : ℕ) (m : Machine) (t : ℕ) (a : Actor) (d : Duty) (rest : List Duty) (found : ℕ)
-    → AtDuty p n m t a d rest
-    → exits (actor_by m.layout t a d rest found).status
-    (actor_by m.layout t a d rest found).agenda ≡ exits a.status a.agenda
-exits_still p n m t a d rest found here =
-    exits_by m.layout t a a.status (new_head a.head d found) found d rest here.agenda (here.core.each t a here.found).1
-    ∙ ap (exits a.status) (sym here.agenda)
+module _ {p : Accounts} {n : ℕ} {m : Machine} {t : ℕ} {a : Actor} {d : Duty} {rest : List Duty} where
+  -- The thread's exit is under way after its step exactly if it was under way before.
+  pub exits_still : (found : ℕ) → AtDuty p n m t a d rest
+      → exits (actor_by m.layout t a d rest found).status (actor_by m.layout t a d rest found).agenda ≡ exits a.status
+      a.agenda
+  exits_still found here =
+      exits_by m.layout t a a.status (new_head a.head d found) found d rest here.agenda
+      (here.core.each t a here.found).1
+      ∙ ap (exits a.status) (sym here.agenda)

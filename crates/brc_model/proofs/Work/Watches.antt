@@ -130,7 +130,7 @@ agenda_scans : (p : Accounts) (n : ℕ) (m : Machine) (t : ℕ) (a : Actor) (d :
     → scans x (actor_by m.layout t a d rest (found_by m t a d)).agenda ≡ true
 agenda_scans p n m t a d rest x here alive low spares e =
     let word = found_by m t a d in
-    let row = here_scans a.used a.status x d rest (agenda_here p n m t a d rest here alive) low e in
+    let row = here_scans a.used a.status x d rest (agenda_here here alive) low e in
     ready_scans x (new_head a.head d word) (next_of m t a d ++ rest)
     (next_scans x d (next_of m t a d) rest (continues m.layout t (is_running a.status) a.head d word) spares row)
 
@@ -201,26 +201,24 @@ running_after : (p : Accounts) (n : ℕ) (m : Machine) (t : ℕ) (a : Actor) (d 
 running_after p n m t a (Leave y k) [] x here alive marked runs =
     elim (eqb_tells (block_of m.layout x) t) [
       | inl same ↦
-          let fits = agenda_here p n m t a (Leave y k) [] here alive in
+          let fits = agenda_here here alive in
           let within = marked_within p n m t a x here.core here.found marked same.1 in
           mine_after m t a (Leave y k) [] x here.found same.1
           (ready_scans (index_of m.layout t x) a.head (Scan y k ∷ Finish ∷ [])
           (omega (arith, fits.1), omega (arith, within, fits.1, fits.2)))
       | inr other ↦ ByRunning (words_left m t a (Leave y k) (block_of m.layout x) other.1 ∙ runs)
     ]
-running_after p n m t a (Leave y k) (e ∷ rest) x here alive marked runs =
-    absurd (agenda_here p n m t a (Leave y k) (e ∷ rest) here alive)
+running_after p n m t a (Leave y k) (e ∷ rest) x here alive marked runs = absurd (agenda_here here alive)
 running_after p n m t a Finish [] x here alive marked runs =
     elim (eqb_tells (block_of m.layout x) t) [
       | inl same ↦
-          let fits = agenda_here p n m t a Finish [] here alive in
+          let fits = agenda_here here alive in
           let word : m.memory (ThreadWord t) ≡ 2 = (here.core.each t a here.found).0.word ∙ ap status_word fits in
           let still : m.memory (ThreadWord t) ≡ 1 = ap (λ (z : ℕ). m.memory (ThreadWord z)) (sym same.1) ∙ runs in
           absurd (omega (arith, word, still))
       | inr other ↦ ByRunning (words_left m t a Finish (block_of m.layout x) other.1 ∙ runs)
     ]
-running_after p n m t a Finish (e ∷ rest) x here alive marked runs =
-    absurd (agenda_here p n m t a Finish (e ∷ rest) here alive)
+running_after p n m t a Finish (e ∷ rest) x here alive marked runs = absurd (agenda_here here alive)
 running_after p n m t a (Look y) rest x here alive marked runs =
     ByRunning (written_load m.memory (ThreadWord (block_of m.layout y)) (ThreadWord (block_of m.layout x)) ∙ runs)
 running_after p n m t a _ rest x here alive marked runs = ByRunning runs
