@@ -1,12 +1,12 @@
 -- The theorem in two parts: doing a thread's next duty isn't bad and keeps the invariant; taking up work keeps the
 -- invariant if the work meets its condition. The invariant doesn't say what the threads run, so the step world and the
 -- running threads both use it.
-use Rattle.std.proofs.Common.{◌≡◌, ℕ, false, List, ◌∷◌, Some, refl, sym, ◌∙◌, subst, inl, inr}
+use Rattle.std.proofs.Common.{◌≡◌, ℕ, false, List, ◌∷◌, Some, refl, sym, ◌∙◌, subst, inl, inr, []}
 use Rattle.std.specs.Prelude.{slice_get}
 use Rattle.std.proofs.lemmas.Option.{slice_get_within}
 use Rattle.brc_model.specs.declared.duty.Reason.TheVariants.{Own, Handed}
 use Rattle.brc_model.specs.declared.duty.Duty.{Duty}
-use Rattle.brc_model.specs.declared.duty.Duty.TheVariants.{RetainLoad, RetainStore, RetainAdd, ReleaseLoad, ReleaseStore, DecideAtZero, SharedLoad, SharedExchange, SetMark, Look, TakeMark, MergeSwap, MergeLoad, MergeExchange, Die, Settle, SettleKind, SettleCell, TakeSlot, CloseResource, SettleEnd, Leave, Scan, Finish, ClaimMark, BirthKind, BirthSlot, BirthLocal, KindLoad, LockGate, UnlockGate, CellLoad, CellSwap, LendSlot, ReturnSlot}
+use Rattle.brc_model.specs.declared.duty.Duty.TheVariants.{RetainLoad, RetainStore, RetainAdd, ReleaseLoad, ReleaseStore, DecideAtZero, SharedLoad, SharedExchange, SetMark, Look, TakeMark, MergeSwap, MergeLoad, MergeExchange, Die, Settle, SettleKind, SettleCell, TakeSlot, CloseResource, SettleEnd, Leave, Scan, Finish, ClaimMark, BirthKind, BirthSlot, BirthLocal, CellSwap}
 use Rattle.brc_model.specs.declared.actor.Status.TheVariants.{Running, Gone}
 use Rattle.brc_model.specs.Machine.{Actor, Machine, actor_by, done_by, with_actor}
 use Rattle.brc_model.specs.BadDuties.{is_bad_duty}
@@ -14,9 +14,9 @@ use Rattle.brc_model.proofs.Basics.Lists.{slice_get-set_same, written_actor}
 use Rattle.brc_model.specs.Accounts.{Account, Accounts}
 use Rattle.brc_model.specs.Invariant.{AtDuty, Invariant}
 use Rattle.brc_model.specs.OpenWork.{IsSettled}
-use Rattle.brc_model.proofs.Stepping.Neutral.{ThreadFits, found_by}
+use Rattle.brc_model.proofs.Stepping.Neutral.{found_by, agenda_here, FitsAfter, NotGone}
 use Rattle.brc_model.proofs.Stepping.Retains.{thread_after_retain_counted}
-use Rattle.brc_model.proofs.Stepping.Releases.{thread_after_kind_load, thread_after_retain_store, thread_after_retain_add, thread_after_release_counted, release_held, thread_after_release_store, thread_after_decide_at_zero, thread_after_lock_gate, thread_after_unlock_gate, thread_after_cell_load, thread_after_lend_slot, thread_after_return_slot}
+use Rattle.brc_model.proofs.Stepping.Releases.{thread_after_retain_store, thread_after_retain_add, thread_after_release_counted, release_held, thread_after_release_store, thread_after_decide_at_zero}
 use Rattle.brc_model.proofs.Stepping.SharedWords.{thread_after_shared_load, thread_after_shared_exchange}
 use Rattle.brc_model.proofs.Stepping.Merges.{thread_after_set_mark, thread_after_look, thread_after_take_mark, thread_after_merge_swap_own, thread_after_merge_swap_handed, thread_after_merge_load, thread_after_merge_exchange}
 use Rattle.brc_model.proofs.Stepping.Chains.{thread_after_die, thread_after_settle, thread_after_settle_end}
@@ -33,12 +33,13 @@ use Rattle.brc_model.proofs.Stepping.Births.{thread_after_birth_kind, thread_aft
 use Rattle.brc_model.proofs.Stepping.Nones.{thread_after_retain_immortal, thread_after_release_immortal}
 use Rattle.std.proofs.lemmas.Bool.{cases_Bool}
 use Rattle.brc_model.specs.Layout.{is_immortal_row}
+use Rattle.brc_model.proofs.Stepping.Steps.{own_done}
+use Rattle.brc_model.proofs.Stepping.Counts.{held_same}
 
 -- ---- doing a duty
 
 thread_after_duty : (p : Accounts) (n : ℕ) (m : Machine) (t : ℕ) (a : Actor) (d : Duty) (rest : List Duty)
-    → AtDuty p n m t a d rest → (a.status ≡ Gone → ⊥) → IsSettled a.head (d ∷ rest)
-    → ThreadFits p (done_by m t a d rest) t (actor_by m.layout t a d rest (found_by m t a d))
+    → AtDuty p n m t a d rest → NotGone a → IsSettled a.head (d ∷ rest) → FitsAfter p m t a d rest
 thread_after_duty p n m t a (RetainLoad x h) rest here alive settled =
     elim (cases_Bool (is_immortal_row m.layout x)) [
       | inl immortal ↦ thread_after_retain_immortal x h here immortal alive
@@ -79,13 +80,12 @@ thread_after_duty p n m t a (BirthKind x h w) rest here alive settled = thread_a
 thread_after_duty p n m t a (BirthSlot x h) rest here alive settled = thread_after_birth_slot x h here alive
 thread_after_duty p n m t a (BirthLocal x h) rest here alive settled =
     thread_after_birth_local p n m t a x h rest here alive
-thread_after_duty p n m t a (KindLoad x) rest here alive settled = thread_after_kind_load x here alive
-thread_after_duty p n m t a (LockGate x) rest here alive settled = thread_after_lock_gate x here alive
-thread_after_duty p n m t a (UnlockGate x) rest here alive settled = thread_after_unlock_gate x here alive
-thread_after_duty p n m t a (CellLoad x i) rest here alive settled = thread_after_cell_load x i here alive
 thread_after_duty p n m t a (CellSwap x i y h) rest here alive settled = thread_after_cell_swap x i y h here alive
-thread_after_duty p n m t a (LendSlot x) rest here alive settled = thread_after_lend_slot x here alive
-thread_after_duty p n m t a (ReturnSlot x) rest here alive settled = thread_after_return_slot x here alive
+-- `KindRead`, `Locks`, `LockHeld`, `Unlocks`, `CellRead`, `ResourceLent` and `ResourceReturned`: nothing follows the
+-- duty, and no reference moves.
+thread_after_duty p n m t a d rest here alive settled =
+    own_done here alive refl refl (agenda_here here alive)
+    (held_same m.abstract.references t (d ∷ rest) [] (λ k o. refl) (λ k o. refl))
 
 -- What `duty_kept` needs: the invariant holds, and the thread isn't gone and has the duty next.
 pub record Doing (p : Accounts) (n : ℕ) (m : Machine) (t : ℕ) (a : Actor) (d : Duty) (rest : List Duty) : Type 0 where

@@ -15,12 +15,12 @@ use Rattle.brc_model.specs.Accounts.{Accounts}
 use Rattle.brc_model.specs.Knowledge.{IsNext}
 use Rattle.brc_model.specs.Invariant.{AtDuty, numbers_of}
 use Rattle.brc_model.proofs.Objects.RowsAfterOwn.{own, one_own, written_here, row_apart}
-use Rattle.brc_model.proofs.Objects.RowsAfterStep.{KeepsRow, head_fits_of, weighed, row_becomes, row_stays}
+use Rattle.brc_model.proofs.Objects.RowsAfterStep.{KeepsRow, head_fits_of, weighed, row_becomes}
 use Rattle.brc_model.proofs.Objects.RowsAfterElsewhere.{apart_if, all_light}
 use Rattle.brc_model.proofs.Basics.Blocks.{next_counted, next_unborn, next_block}
 use Rattle.brc_model.specs.Layout.{block_of, IsCounted}
 
--- ---- the kind word and the slot
+-- ---- the kind word
 
 -- The row's invariant holds after `KindOfResource` and `KindOfOther`.
 pub row_after_birth_kind : {p : Accounts} {n : ℕ} {m : Machine} {t : ℕ} {a : Actor} {y : ℕ} {h : Holding} {w : ℕ}
@@ -31,25 +31,6 @@ row_after_birth_kind {y = y} {h = h} {w = w} some s =
     let local = all_light y (BirthLocal y h ∷ []) refl in
     row_apart s y some refl (apart_if (has_resource w) slot local) (λ life state. refl)
     (record { local = refl; shared = refl; mark = refl; references = refl })
-
--- The row's invariant holds after `SlotFilled`.
-pub row_after_birth_slot : {p : Accounts} {n : ℕ} {m : Machine} {t : ℕ} {a : Actor} {y : ℕ} {h : Holding}
-    {rest : List Duty}
-    → IsCounted m.layout y → AtDuty p n m t a (BirthSlot y h) rest → KeepsRow m t a (BirthSlot y h) rest y
-row_after_birth_slot {y = y} {h = h} some s =
-    row_stays {next = BirthLocal y h ∷ []} {x = y} s some
-    (record {
-      follows = refl;
-      lives = refl;
-      local = refl;
-      shared = refl;
-      mark = refl;
-      references = refl;
-      waiting = refl;
-      carried = refl;
-      merging = refl;
-      deciding = refl;
-    })
 
 -- ---- the local word
 

@@ -1,4 +1,4 @@
--- A look at the kind, a lock, a swap of a cell, a retain, and a release by the local word keep the row's invariant.
+-- A swap of a cell, a retain, and a release by the local word keep the row's invariant.
 use Rattle.std.proofs.Common.{◌≡◌, ℕ, ◌+◌, ◌-◌, ◌≤◌, Bool, false, cond, List, [], ◌∷◌, ◌++◌, refl, sym, ap, ◌∙◌, arith, inl, inr}
 use Rattle.std.specs.Prelude.{◌&&◌, nat_lt}
 use Rattle.std.proofs.lemmas.Bool.Decides.{eqb_tells}
@@ -8,7 +8,7 @@ use Rattle.brc_model.specs.AbstractState.{without, references_to, AbstractState,
 use Rattle.brc_word.specs.Words.{most_local, local_part, is_immortal_word, fresh_word}
 use Rattle.brc_model.specs.declared.duty.Reason.TheVariants.{Own}
 use Rattle.brc_model.specs.declared.duty.Duty.{Duty}
-use Rattle.brc_model.specs.declared.duty.Duty.TheVariants.{RetainLoad, RetainStore, RetainAdd, ReleaseLoad, ReleaseStore, DecideAtZero, SharedLoad, MergeSwap, Die, KindLoad, LockGate, UnlockGate, CellLoad, CellSwap, LendSlot, ReturnSlot}
+use Rattle.brc_model.specs.declared.duty.Duty.TheVariants.{RetainLoad, RetainStore, RetainAdd, ReleaseLoad, ReleaseStore, DecideAtZero, SharedLoad, MergeSwap, Die, CellSwap}
 use Rattle.brc_model.specs.declared.address.Address.TheVariants.{Local, Shared, Cell}
 use Rattle.brc_model.specs.Duties.{counts_locally}
 use Rattle.brc_model.specs.Machine.{Live, Dying, Actor, Machine}
@@ -25,39 +25,7 @@ use Rattle.brc_model.proofs.Frame.Cells.{swapped_references, stolen_held}
 use Rattle.brc_model.proofs.Objects.RowsAfterOwn.{own, one_own, written_here, gives_up, IsLost, is_lost, lives_so, lives_backed, counted_word, row_apart}
 use Rattle.brc_model.specs.Layout.{block_of, IsCounted}
 
--- ---- asking for the kind
-
--- The row's invariant holds after `KindRead`.
-pub row_after_kind_load : {p : Accounts} {n : ℕ} {m : Machine} {t : ℕ} {a : Actor} {y : ℕ} {rest : List Duty}
-    → IsCounted m.layout y → AtDuty p n m t a (KindLoad y) rest → KeepsRow m t a (KindLoad y) rest y
-row_after_kind_load {y = y} some s =
-    row_apart s y some refl (none_apart y) (λ life state. refl)
-    (record { local = refl; shared = refl; mark = refl; references = refl })
-
--- ---- locking
-
--- The row's invariant holds after `Locks` and `LockHeld`.
-pub row_after_lock_gate : {p : Accounts} {n : ℕ} {m : Machine} {t : ℕ} {a : Actor} {y : ℕ} {rest : List Duty}
-    → IsCounted m.layout y → AtDuty p n m t a (LockGate y) rest → KeepsRow m t a (LockGate y) rest y
-row_after_lock_gate {y = y} some s =
-    row_apart s y some refl (none_apart y) (λ life state. refl)
-    (record { local = refl; shared = refl; mark = refl; references = refl })
-
--- The row's invariant holds after `Unlocks`.
-pub row_after_unlock_gate : {p : Accounts} {n : ℕ} {m : Machine} {t : ℕ} {a : Actor} {y : ℕ} {rest : List Duty}
-    → IsCounted m.layout y → AtDuty p n m t a (UnlockGate y) rest → KeepsRow m t a (UnlockGate y) rest y
-row_after_unlock_gate {y = y} some s =
-    row_apart s y some refl (none_apart y) (λ life state. refl)
-    (record { local = refl; shared = refl; mark = refl; references = refl })
-
--- ---- loading a cell
-
--- The row's invariant holds after `CellRead`.
-pub row_after_cell_load : {p : Accounts} {n : ℕ} {m : Machine} {t : ℕ} {a : Actor} {y i : ℕ} {rest : List Duty}
-    → IsCounted m.layout y → AtDuty p n m t a (CellLoad y i) rest → KeepsRow m t a (CellLoad y i) rest y
-row_after_cell_load {y = y} some s =
-    row_apart s y some refl (none_apart y) (λ life state. refl)
-    (record { local = refl; shared = refl; mark = refl; references = refl })
+-- ---- swapping a cell
 
 -- The row's invariant holds after `ItemStored`.
 pub row_after_cell_swap : {p : Accounts} {n : ℕ} {m : Machine} {t : ℕ} {a : Actor} {y i z : ℕ} {h : Holding}
@@ -72,22 +40,6 @@ row_after_cell_swap {p = p} {n = n} {m = m} {t = t} {a = a} {y = y} {i = i} {z =
           sym (swapped_references m.abstract t z y i (m.memory (Cell y i)) y h (stolen_held p n m t a y i z h rest s)
           (λ v is. omega (arith, cell_held p n m y i v s.core is)));
     })
-
--- ---- the resource of a locked file or socket
-
--- The row's invariant holds after `ResourceLent`.
-pub row_after_lend_slot : {p : Accounts} {n : ℕ} {m : Machine} {t : ℕ} {a : Actor} {y : ℕ} {rest : List Duty}
-    → IsCounted m.layout y → AtDuty p n m t a (LendSlot y) rest → KeepsRow m t a (LendSlot y) rest y
-row_after_lend_slot {y = y} some s =
-    row_apart s y some refl (none_apart y) (λ life state. refl)
-    (record { local = refl; shared = refl; mark = refl; references = refl })
-
--- The row's invariant holds after `ResourceReturned`.
-pub row_after_return_slot : {p : Accounts} {n : ℕ} {m : Machine} {t : ℕ} {a : Actor} {y : ℕ} {rest : List Duty}
-    → IsCounted m.layout y → AtDuty p n m t a (ReturnSlot y) rest → KeepsRow m t a (ReturnSlot y) rest y
-row_after_return_slot {y = y} some s =
-    row_apart s y some refl (none_apart y) (λ life state. refl)
-    (record { local = refl; shared = refl; mark = refl; references = refl })
 
 -- ---- retaining
 

@@ -1,11 +1,11 @@
--- The steps that set, look at and take marks, and those that finalise a row, keep the row's invariant.
+-- The steps that set, look at and take marks, and those that empty and close a row, keep the row's invariant.
 use Rattle.std.proofs.Common.{◌≡◌, ℕ, ◌+◌, ◌-◌, ◌≤◌, Bool, true, false, cond, List, [], ◌∷◌, ◌++◌, refl, sym, ap, ◌∙◌, subst, arith, inl, inr}
 use Rattle.std.specs.Prelude.{◌==◌}
 use Rattle.std.proofs.lemmas.List.Sums.{sum_by-append}
 use Rattle.brc_model.specs.AbstractState.{references_to}
 use Rattle.brc_model.specs.declared.duty.Reason.TheVariants.{Handed}
 use Rattle.brc_model.specs.declared.duty.Duty.{Duty}
-use Rattle.brc_model.specs.declared.duty.Duty.TheVariants.{SetMark, Look, TakeMark, MergeSwap, Die, Settle, SettleKind, SettleCell, TakeSlot, CloseResource, SettleEnd, Scan, ClaimMark}
+use Rattle.brc_model.specs.declared.duty.Duty.TheVariants.{SetMark, Look, TakeMark, MergeSwap, Settle, SettleKind, SettleCell, TakeSlot, SettleEnd, Scan, ClaimMark}
 use Rattle.brc_model.specs.declared.address.Address.TheVariants.{Local, Shared, Mark, Cell, KindOf}
 use Rattle.brc_model.specs.Duties.{claimed, has_resource, cells_of, cells_from}
 use Rattle.brc_model.specs.Machine.{Life, Live, Dying, Closed, Actor, Machine, with_life, dies_next, life_by, done_by}
@@ -206,25 +206,6 @@ row_after_claim_mark {m = m} {t = t} {a = a} {y = y} {rest = rest} some s =
 
 -- ---- deallocation
 
--- The row's invariant holds after `Chained`.
-pub row_after_die : {p : Accounts} {n : ℕ} {m : Machine} {t : ℕ} {a : Actor} {y : ℕ} {rest : List Duty}
-    → IsCounted m.layout y
-    → AtDuty p n m t a (Die y) rest → KeepsRow m t a (Die y) rest y
-row_after_die {y = y} some s =
-    row_stays {next = []} {x = y} s some
-    (record {
-      follows = refl;
-      lives = refl;
-      local = refl;
-      shared = refl;
-      mark = refl;
-      references = refl;
-      waiting = refl;
-      carried = refl;
-      merging = refl;
-      deciding = refl;
-    })
-
 -- The row's invariant holds after `DyingResource` and `DyingCells`.
 pub row_after_settle_kind : {p : Accounts} {n : ℕ} {m : Machine} {t : ℕ} {a : Actor} {y : ℕ} {rest : List Duty}
     → IsCounted m.layout y
@@ -250,44 +231,6 @@ row_after_settle_cell {m = m} {t = t} {y = y} {i = i} {cells = cells} some s =
       references =
           sym (taken_references m.abstract t y i (m.memory (Cell y i)) y
           (λ z is. omega (arith, cell_held _ _ m y i z s.core is)));
-    })
-
--- The row's invariant holds after `SlotEmptied`.
-pub row_after_take_slot : {p : Accounts} {n : ℕ} {m : Machine} {t : ℕ} {a : Actor} {y : ℕ} {rest : List Duty}
-    → IsCounted m.layout y
-    → AtDuty p n m t a (TakeSlot y) rest → KeepsRow m t a (TakeSlot y) rest y
-row_after_take_slot {y = y} some s =
-    row_stays {next = CloseResource y ∷ []} {x = y} s some
-    (record {
-      follows = refl;
-      lives = refl;
-      local = refl;
-      shared = refl;
-      mark = refl;
-      references = refl;
-      waiting = refl;
-      carried = refl;
-      merging = refl;
-      deciding = refl;
-    })
-
--- The row's invariant holds after `ResourceClosed`.
-pub row_after_close_resource : {p : Accounts} {n : ℕ} {m : Machine} {t : ℕ} {a : Actor} {y : ℕ} {rest : List Duty}
-    → IsCounted m.layout y
-    → AtDuty p n m t a (CloseResource y) rest → KeepsRow m t a (CloseResource y) rest y
-row_after_close_resource {y = y} some s =
-    row_stays {next = SettleEnd y ∷ []} {x = y} s some
-    (record {
-      follows = refl;
-      lives = refl;
-      local = refl;
-      shared = refl;
-      mark = refl;
-      references = refl;
-      waiting = refl;
-      carried = refl;
-      merging = refl;
-      deciding = refl;
     })
 
 -- `Closes`: a dying row is closed, and still counts nothing.

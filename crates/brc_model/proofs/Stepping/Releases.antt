@@ -1,5 +1,4 @@
--- A thread fits after its own steps that ask for a kind, lock, unlock, load a cell, lend or return a resource, make a
--- reference, give one up by the local word, or decide at zero.
+-- A thread fits after its own steps that make a reference, give one up by the local word, or decide at zero.
 use Rattle.std.proofs.Common.{◌≡◌, ℕ, ◌+◌, ◌-◌, ◌<◌, Bool, true, false, cond, List, [], ◌∷◌, ◌++◌, refl, sym, ap, ◌∙◌, subst, arith}
 use Rattle.std.specs.Prelude.{◌==◌, ◌&&◌}
 use Rattle.std.specs.List.{list_any}
@@ -10,7 +9,7 @@ use Rattle.brc_model.specs.AbstractState.{Reference, same_holding, same, without
 use Rattle.brc_word.specs.Words.{immortal_local, owner_part, local_part, is_immortal_word, fresh_word}
 use Rattle.brc_model.specs.declared.duty.Reason.TheVariants.{Own}
 use Rattle.brc_model.specs.declared.duty.Duty.{Duty}
-use Rattle.brc_model.specs.declared.duty.Duty.TheVariants.{RetainStore, RetainAdd, ReleaseLoad, ReleaseStore, DecideAtZero, SharedLoad, MergeSwap, Die, KindLoad, LockGate, UnlockGate, CellLoad, LendSlot, ReturnSlot}
+use Rattle.brc_model.specs.declared.duty.Duty.TheVariants.{RetainStore, RetainAdd, ReleaseLoad, ReleaseStore, DecideAtZero, SharedLoad, MergeSwap, Die}
 use Rattle.brc_model.specs.declared.address.Address.TheVariants.{Local, Shared}
 use Rattle.brc_model.specs.Duties.{counts_locally}
 use Rattle.brc_model.specs.Machine.{Actor, Machine, is_running, done_by}
@@ -33,59 +32,9 @@ use Rattle.brc_model.proofs.Stepping.Steps.{own_done, own_next, own_dying}
 use Rattle.brc_model.specs.Invariant.{AtDuty}
 use Rattle.brc_model.specs.Layout.{IsCounted}
 
--- ---- asking for the kind
+-- ---- the last step of a retain
 
 module _ {p : Accounts} {n : ℕ} {m : Machine} {t : ℕ} {a : Actor} {rest : List Duty} where
-  -- The thread fits after `KindRead`.
-  pub thread_after_kind_load : (x : ℕ) → AtDuty p n m t a (KindLoad x) rest → NotGone a
-      → FitsAfter p m t a (KindLoad x) rest
-  thread_after_kind_load x here alive =
-      own_done here alive refl refl (agenda_here here alive)
-      (held_same m.abstract.references t (KindLoad x ∷ rest) [] (λ k o. refl) (λ k o. refl))
-
-  -- ---- locking
-
-  -- The thread fits after `Locks` and `LockHeld`.
-  pub thread_after_lock_gate : (x : ℕ) → AtDuty p n m t a (LockGate x) rest → NotGone a
-      → FitsAfter p m t a (LockGate x) rest
-  thread_after_lock_gate x here alive =
-      own_done here alive refl refl (agenda_here here alive)
-      (held_same m.abstract.references t (LockGate x ∷ rest) [] (λ k o. refl) (λ k o. refl))
-
-  -- The thread fits after `Unlocks`.
-  pub thread_after_unlock_gate : (x : ℕ) → AtDuty p n m t a (UnlockGate x) rest → NotGone a
-      → FitsAfter p m t a (UnlockGate x) rest
-  thread_after_unlock_gate x here alive =
-      own_done here alive refl refl (agenda_here here alive)
-      (held_same m.abstract.references t (UnlockGate x ∷ rest) [] (λ k o. refl) (λ k o. refl))
-
-  -- ---- loading a cell
-
-  -- The thread fits after `CellRead`.
-  pub thread_after_cell_load : (x i : ℕ) → AtDuty p n m t a (CellLoad x i) rest → NotGone a
-      → FitsAfter p m t a (CellLoad x i) rest
-  thread_after_cell_load x i here alive =
-      own_done here alive refl refl (agenda_here here alive)
-      (held_same m.abstract.references t (CellLoad x i ∷ rest) [] (λ k o. refl) (λ k o. refl))
-
-  -- ---- the resource of a locked file or socket
-
-  -- The thread fits after `ResourceLent`.
-  pub thread_after_lend_slot : (x : ℕ) → AtDuty p n m t a (LendSlot x) rest → NotGone a
-      → FitsAfter p m t a (LendSlot x) rest
-  thread_after_lend_slot x here alive =
-      own_done here alive refl refl (agenda_here here alive)
-      (held_same m.abstract.references t (LendSlot x ∷ rest) [] (λ k o. refl) (λ k o. refl))
-
-  -- The thread fits after `ResourceReturned`.
-  pub thread_after_return_slot : (x : ℕ) → AtDuty p n m t a (ReturnSlot x) rest → NotGone a
-      → FitsAfter p m t a (ReturnSlot x) rest
-  thread_after_return_slot x here alive =
-      own_done here alive refl refl (agenda_here here alive)
-      (held_same m.abstract.references t (ReturnSlot x ∷ rest) [] (λ k o. refl) (λ k o. refl))
-
-  -- ---- the last step of a retain
-
   -- The thread fits after `LocalRaised`.
   pub thread_after_retain_store : (x : ℕ) (h : Holding) (w : ℕ) → AtDuty p n m t a (RetainStore x h w) rest → NotGone a
       → FitsAfter p m t a (RetainStore x h w) rest
