@@ -55,7 +55,7 @@ piece_no_cell (SettleCell y j k) piece x i = absurd cc
 piece_no_cell (CellSwap y j z h) piece x i = absurd cc
 piece_no_cell _ piece x i = refl
 
-module _ (p : Accounts) (n : ℕ) (m : Machine) (t : ℕ) (a : Actor) where
+module _ {p : Accounts} {n : ℕ} {m : Machine} {t : ℕ} {a : Actor} where
   -- A step leaves what a duty about another row relies on.
   pub leaves_beside : (d : Duty) (rest : List Duty) (x : ℕ) → AtDuty p n m t a d rest
       → is_piece d ≡ true → status_by a.status d ≡ a.status → is_about x d ≡ false

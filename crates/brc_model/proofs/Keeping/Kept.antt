@@ -38,54 +38,52 @@ use Rattle.brc_model.proofs.Stepping.Counts.{held_same}
 
 -- ---- doing a duty
 
-thread_after_duty : (p : Accounts) (n : ℕ) (m : Machine) (t : ℕ) (a : Actor) (d : Duty) (rest : List Duty)
-    → AtDuty p n m t a d rest → NotGone a → IsSettled a.head (d ∷ rest) → FitsAfter p m t a d rest
-thread_after_duty p n m t a (RetainLoad x h) rest here alive settled =
-    elim (cases_Bool (is_immortal_row m.layout x)) [
-      | inl immortal ↦ thread_after_retain_immortal x h here immortal alive
-      | inr counted ↦ thread_after_retain_counted x h counted here alive
-    ]
-thread_after_duty p n m t a (RetainStore x h w) rest here alive settled = thread_after_retain_store x h w here alive
-thread_after_duty p n m t a (RetainAdd x h) rest here alive settled = thread_after_retain_add x h here alive
-thread_after_duty p n m t a (ReleaseLoad x h) rest here alive settled =
-    elim (cases_Bool (is_immortal_row m.layout x)) [
-      | inl immortal ↦ thread_after_release_immortal x h here immortal alive (release_held x h here)
-      | inr counted ↦ thread_after_release_counted x h counted here alive
-    ]
-thread_after_duty p n m t a (ReleaseStore x w) rest here alive settled = thread_after_release_store x w here alive
-thread_after_duty p n m t a (DecideAtZero x) rest here alive settled = thread_after_decide_at_zero x here alive
-thread_after_duty p n m t a (SharedLoad x r) rest here alive settled = thread_after_shared_load x r here alive
-thread_after_duty p n m t a (SharedExchange x r w) rest here alive settled =
-    thread_after_shared_exchange x r w here alive
-thread_after_duty p n m t a (SetMark x) rest here alive settled = thread_after_set_mark x here alive
-thread_after_duty p n m t a (Look x) rest here alive settled = thread_after_look x here alive
-thread_after_duty p n m t a (TakeMark x) rest here alive settled = thread_after_take_mark x here alive
-thread_after_duty p n m t a (MergeSwap x Own) rest here alive settled = thread_after_merge_swap_own x here alive
-thread_after_duty p n m t a (MergeSwap x Handed) rest here alive settled = thread_after_merge_swap_handed x here alive
-thread_after_duty p n m t a (MergeLoad x c r) rest here alive settled = thread_after_merge_load x c r here alive
-thread_after_duty p n m t a (MergeExchange x c w r) rest here alive settled =
-    thread_after_merge_exchange x c w r here alive
-thread_after_duty p n m t a (Die x) rest here alive settled = thread_after_die x here alive
-thread_after_duty p n m t a Settle rest here alive settled = thread_after_settle here alive
-thread_after_duty p n m t a (SettleKind x) rest here alive settled = thread_after_settle_kind x here alive
-thread_after_duty p n m t a (SettleCell x i k) rest here alive settled = thread_after_settle_cell x i k here alive
-thread_after_duty p n m t a (TakeSlot x) rest here alive settled = thread_after_take_slot x here alive
-thread_after_duty p n m t a (CloseResource x) rest here alive settled = thread_after_close_resource x here alive
-thread_after_duty p n m t a (SettleEnd x) rest here alive settled = thread_after_settle_end x here alive
-thread_after_duty p n m t a (Leave x k) rest here alive settled = thread_after_leave p n m t a x k rest here alive
-thread_after_duty p n m t a (Scan x k) rest here alive settled = thread_after_scan x k here alive
-thread_after_duty p n m t a Finish rest here alive settled = thread_after_finish p n m t a rest here alive settled.0
-thread_after_duty p n m t a (ClaimMark x) rest here alive settled = thread_after_claim_mark x here alive
-thread_after_duty p n m t a (BirthKind x h w) rest here alive settled = thread_after_birth_kind x h w here alive
-thread_after_duty p n m t a (BirthSlot x h) rest here alive settled = thread_after_birth_slot x h here alive
-thread_after_duty p n m t a (BirthLocal x h) rest here alive settled =
-    thread_after_birth_local p n m t a x h rest here alive
-thread_after_duty p n m t a (CellSwap x i y h) rest here alive settled = thread_after_cell_swap x i y h here alive
--- `KindRead`, `Locks`, `LockHeld`, `Unlocks`, `CellRead`, `ResourceLent` and `ResourceReturned`: nothing follows the
--- duty, and no reference moves.
-thread_after_duty p n m t a d rest here alive settled =
-    own_done here alive refl refl (agenda_here here alive)
-    (held_same m.abstract.references t (d ∷ rest) [] (λ k o. refl) (λ k o. refl))
+module _ {p : Accounts} {n : ℕ} {m : Machine} {t : ℕ} {a : Actor} {rest : List Duty} where
+  thread_after_duty : (d : Duty) → AtDuty p n m t a d rest → NotGone a → IsSettled a.head (d ∷ rest)
+      → FitsAfter p m t a d rest
+  thread_after_duty (RetainLoad x h) here alive settled =
+      elim (cases_Bool (is_immortal_row m.layout x)) [
+        | inl immortal ↦ thread_after_retain_immortal x h here immortal alive
+        | inr counted ↦ thread_after_retain_counted x h counted here alive
+      ]
+  thread_after_duty (RetainStore x h w) here alive settled = thread_after_retain_store x h w here alive
+  thread_after_duty (RetainAdd x h) here alive settled = thread_after_retain_add x h here alive
+  thread_after_duty (ReleaseLoad x h) here alive settled =
+      elim (cases_Bool (is_immortal_row m.layout x)) [
+        | inl immortal ↦ thread_after_release_immortal x h here immortal alive (release_held x h here)
+        | inr counted ↦ thread_after_release_counted x h counted here alive
+      ]
+  thread_after_duty (ReleaseStore x w) here alive settled = thread_after_release_store x w here alive
+  thread_after_duty (DecideAtZero x) here alive settled = thread_after_decide_at_zero x here alive
+  thread_after_duty (SharedLoad x r) here alive settled = thread_after_shared_load x r here alive
+  thread_after_duty (SharedExchange x r w) here alive settled = thread_after_shared_exchange x r w here alive
+  thread_after_duty (SetMark x) here alive settled = thread_after_set_mark x here alive
+  thread_after_duty (Look x) here alive settled = thread_after_look x here alive
+  thread_after_duty (TakeMark x) here alive settled = thread_after_take_mark x here alive
+  thread_after_duty (MergeSwap x Own) here alive settled = thread_after_merge_swap_own x here alive
+  thread_after_duty (MergeSwap x Handed) here alive settled = thread_after_merge_swap_handed x here alive
+  thread_after_duty (MergeLoad x c r) here alive settled = thread_after_merge_load x c r here alive
+  thread_after_duty (MergeExchange x c w r) here alive settled = thread_after_merge_exchange x c w r here alive
+  thread_after_duty (Die x) here alive settled = thread_after_die x here alive
+  thread_after_duty Settle here alive settled = thread_after_settle here alive
+  thread_after_duty (SettleKind x) here alive settled = thread_after_settle_kind x here alive
+  thread_after_duty (SettleCell x i k) here alive settled = thread_after_settle_cell x i k here alive
+  thread_after_duty (TakeSlot x) here alive settled = thread_after_take_slot x here alive
+  thread_after_duty (CloseResource x) here alive settled = thread_after_close_resource x here alive
+  thread_after_duty (SettleEnd x) here alive settled = thread_after_settle_end x here alive
+  thread_after_duty (Leave x k) here alive settled = thread_after_leave p n m t a x k rest here alive
+  thread_after_duty (Scan x k) here alive settled = thread_after_scan x k here alive
+  thread_after_duty Finish here alive settled = thread_after_finish p n m t a rest here alive settled.0
+  thread_after_duty (ClaimMark x) here alive settled = thread_after_claim_mark x here alive
+  thread_after_duty (BirthKind x h w) here alive settled = thread_after_birth_kind x h w here alive
+  thread_after_duty (BirthSlot x h) here alive settled = thread_after_birth_slot x h here alive
+  thread_after_duty (BirthLocal x h) here alive settled = thread_after_birth_local p n m t a x h rest here alive
+  thread_after_duty (CellSwap x i y h) here alive settled = thread_after_cell_swap x i y h here alive
+  -- `KindRead`, `Locks`, `LockHeld`, `Unlocks`, `CellRead`, `ResourceLent` and `ResourceReturned`: nothing follows the
+  -- duty, and no reference moves.
+  thread_after_duty d here alive settled =
+      own_done here alive refl refl (agenda_here here alive)
+      (held_same m.abstract.references t (d ∷ rest) [] (λ k o. refl) (λ k o. refl))
 
 -- What `duty_kept` needs: the invariant holds, and the thread isn't gone and has the duty next.
 pub record Doing (p : Accounts) (n : ℕ) (m : Machine) (t : ℕ) (a : Actor) (d : Duty) (rest : List Duty) : Type 0 where
@@ -102,11 +100,11 @@ duty_kept p n m t a d rest doing =
     record { core = doing.kept.core; found = doing.found; agenda = doing.agenda } in
     let settled : IsSettled a.head (d ∷ rest) =
     subst (IsSettled a.head) doing.agenda (doing.kept.settled t a doing.found) in (
-      duty_not_bad p n m t a d rest here,
+      duty_not_bad here,
       record {
         core =
-            keeps_by p n m t a d rest here doing.alive (thread_after_duty p n m t a d rest here doing.alive settled)
-            (λ x. marks_after p n m t a d rest here doing.alive x);
+            keeps_by here doing.alive (thread_after_duty d here doing.alive settled)
+            (λ x. marks_after d here doing.alive x);
         settled =
             λ u b is. written_actor (λ w c. IsSettled c.head c.agenda) m.actors t a
             (actor_by m.layout t a d rest (found_by m t a d)) doing.found

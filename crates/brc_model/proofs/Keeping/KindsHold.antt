@@ -60,7 +60,7 @@ stays_shown n = record {
   stays = λ p t m kept x. inr refl;
   sits = λ t m new a agenda found shown x. shown x;
   moves = λ p t m a moves kept found silent x. inr refl;
-  does = λ p t m a d rest doing. stored_at_duty p n m t a d rest (at_duty doing);
+  does = λ p t m a d rest doing. stored_at_duty d (at_duty doing);
 }
 
 pub thread_stored : (p : Module) (n : ℕ) (m : StepMachine) (t : ℕ) (choice : Choice) (o : Option StepActor)

@@ -24,52 +24,52 @@ use Rattle.brc_model.specs.Layout.{none_row, block_of, IsCounted}
 none_counted : (layout : Layout) → IsCounted layout none_row → ⊥
 none_counted layout counted = immortal_apart layout none_row none_row counted refl refl
 
--- A duty keeps the invariant of the row that it is about.
-own_row : (p : Accounts) (n : ℕ) (m : Machine) (t : ℕ) (a : Actor) (d : Duty) (rest : List Duty)
-    → AtDuty p n m t a d rest
-    → IsCounted m.layout (subject m.layout t d) → KeepsRow m t a d rest (subject m.layout t d)
-own_row p n m t a (RetainLoad y h) rest s some = row_after_retain_load some s
-own_row p n m t a (RetainStore y h w) rest s some = row_after_retain_store s
-own_row p n m t a (RetainAdd y h) rest s some = row_after_retain_add s
-own_row p n m t a (ReleaseLoad y h) rest s some = row_after_release_load some s
-own_row p n m t a (ReleaseStore y w) rest s some = row_after_release_store s
-own_row p n m t a (DecideAtZero y) rest s some = row_after_decide_at_zero s
-own_row p n m t a (SharedLoad y r) rest s some = row_after_shared_load some s
-own_row p n m t a (SharedExchange y Own w) rest s some = row_after_own_exchange s
-own_row p n m t a (SharedExchange y Handed w) rest s some = row_after_handed_exchange s
-own_row p n m t a (SetMark y) rest s some = row_after_set_mark s
-own_row p n m t a (Look y) rest s some = row_after_look s
-own_row p n m t a (TakeMark y) rest s some = row_after_take_mark s
-own_row p n m t a (MergeSwap y Own) rest s some = row_after_own_swap s
-own_row p n m t a (MergeSwap y Handed) rest s some = row_after_handed_swap s
-own_row p n m t a (MergeLoad y c r) rest s some = row_after_merge_load s
-own_row p n m t a (MergeExchange y c w r) rest s some = row_after_merge_exchange s
-own_row p n m t a Settle rest s some = absurd (none_counted m.layout some)
-own_row p n m t a (SettleKind y) rest s some = row_after_settle_kind some s
-own_row p n m t a (SettleCell y i cells) rest s some = row_after_settle_cell some s
-own_row p n m t a (SettleEnd y) rest s some = row_after_settle_end s
-own_row p n m t a (Leave y left) rest s some = absurd (none_counted m.layout some)
-own_row p n m t a (Scan y left) rest s some = row_after_scan some s
-own_row p n m t a Finish rest s some = absurd (none_counted m.layout some)
-own_row p n m t a (ClaimMark y) rest s some = row_after_claim_mark some s
-own_row p n m t a (BirthKind y h w) rest s some = row_after_birth_kind some s
-own_row p n m t a (BirthLocal y h) rest s some = row_after_birth_local s
-own_row p n m t a (CellSwap y i z h) rest s some = row_after_cell_swap some s
--- `SlotFilled`, `Chained`, `SlotEmptied`, `ResourceClosed`, `KindRead`, `Locks`, `LockHeld`, `Unlocks`, `CellRead`,
--- `ResourceLent` and `ResourceReturned`: the step changes neither what the row counts nor what any duty weighs.
-own_row p n m t a d rest s some =
-    row_stays {next = following m t a d} {x = subject m.layout t d} s some (record {
-      follows = refl;
-      lives = refl;
-      local = refl;
-      shared = refl;
-      mark = refl;
-      references = refl;
-      waiting = refl;
-      carried = refl;
-      merging = refl;
-      deciding = refl;
-    })
+module _ {p : Accounts} {n : ℕ} {m : Machine} {t : ℕ} {a : Actor} {rest : List Duty} where
+  -- A duty keeps the invariant of the row that it is about.
+  own_row : (d : Duty) → AtDuty p n m t a d rest → IsCounted m.layout (subject m.layout t d)
+      → KeepsRow m t a d rest (subject m.layout t d)
+  own_row (RetainLoad y h) s some = row_after_retain_load some s
+  own_row (RetainStore y h w) s some = row_after_retain_store s
+  own_row (RetainAdd y h) s some = row_after_retain_add s
+  own_row (ReleaseLoad y h) s some = row_after_release_load some s
+  own_row (ReleaseStore y w) s some = row_after_release_store s
+  own_row (DecideAtZero y) s some = row_after_decide_at_zero s
+  own_row (SharedLoad y r) s some = row_after_shared_load some s
+  own_row (SharedExchange y Own w) s some = row_after_own_exchange s
+  own_row (SharedExchange y Handed w) s some = row_after_handed_exchange s
+  own_row (SetMark y) s some = row_after_set_mark s
+  own_row (Look y) s some = row_after_look s
+  own_row (TakeMark y) s some = row_after_take_mark s
+  own_row (MergeSwap y Own) s some = row_after_own_swap s
+  own_row (MergeSwap y Handed) s some = row_after_handed_swap s
+  own_row (MergeLoad y c r) s some = row_after_merge_load s
+  own_row (MergeExchange y c w r) s some = row_after_merge_exchange s
+  own_row Settle s some = absurd (none_counted m.layout some)
+  own_row (SettleKind y) s some = row_after_settle_kind some s
+  own_row (SettleCell y i cells) s some = row_after_settle_cell some s
+  own_row (SettleEnd y) s some = row_after_settle_end s
+  own_row (Leave y left) s some = absurd (none_counted m.layout some)
+  own_row (Scan y left) s some = row_after_scan some s
+  own_row Finish s some = absurd (none_counted m.layout some)
+  own_row (ClaimMark y) s some = row_after_claim_mark some s
+  own_row (BirthKind y h w) s some = row_after_birth_kind some s
+  own_row (BirthLocal y h) s some = row_after_birth_local s
+  own_row (CellSwap y i z h) s some = row_after_cell_swap some s
+  -- `SlotFilled`, `Chained`, `SlotEmptied`, `ResourceClosed`, `KindRead`, `Locks`, `LockHeld`, `Unlocks`, `CellRead`,
+  -- `ResourceLent` and `ResourceReturned`: the step changes neither what the row counts nor what any duty weighs.
+  own_row d s some =
+      row_stays {next = following m t a d} {x = subject m.layout t d} s some (record {
+        follows = refl;
+        lives = refl;
+        local = refl;
+        shared = refl;
+        mark = refl;
+        references = refl;
+        waiting = refl;
+        carried = refl;
+        merging = refl;
+        deciding = refl;
+      })
 
 -- A thread's next duty keeps the invariant of every counted row.
 pub rows_after : (p : Accounts) (n : ℕ) (m : Machine) (t : ℕ) (a : Actor) (d : Duty) (rest : List Duty)
@@ -81,7 +81,6 @@ rows_after p n m t a d rest core actor agenda runs x some =
     let s : AtDuty p n m t a d rest = record { core = core; found = actor; agenda = agenda } in
     elim (eqb_tells (subject m.layout t d) x) [
       | inl same ↦
-          subst (λ (z : ℕ). KeepsRow m t a d rest z) same.1
-          (own_row p n m t a d rest s (subst (IsCounted m.layout) (sym same.1) some))
+          subst (λ (z : ℕ). KeepsRow m t a d rest z) same.1 (own_row d s (subst (IsCounted m.layout) (sym same.1) some))
       | inr other ↦ row_elsewhere s x some other.0
     ]

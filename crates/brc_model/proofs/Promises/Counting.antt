@@ -110,17 +110,16 @@ pub merge_lives : (p : Accounts) (n : ℕ) (m : Machine) (t : ℕ) (a : Actor) (
 merge_lives p n m t a x c w rest core next same dead =
     let here : AtDuty p n m t a (MergeExchange x c w Handed) rest =
     record { core = core; found = next.found; agenda = next.agenda } in
-    let live = (merge_alive p n m t a x c w Handed rest here).live in
+    let live = (merge_alive x c w Handed here).live in
     let one : one_if (x == x) ≡ 1 = ap one_if (eq-eqb x x refl) in
-    let merging =
-    first_weighs (merges x) m.actors t a (MergeExchange x c w Handed) rest next.found next.agenda in
+    let merging = first_weighs (merges x) m.actors t a (MergeExchange x c w Handed) rest next.found next.agenda in
     let waiting = first_weighs (waits x) m.actors t a (MergeExchange x c w Handed) rest next.found next.agenda in
     let local : m.memory (Local x) ≡ 0 = elim live.mode [
       | InOwned s ↦ absurd (omega (arith, s.merging, merging, one))
       | InSwapped s ↦ s.local
       | InMerged s ↦ s.local
     ] in
-    let carried = carried_is p n m t a x c w Handed rest here in
+    let carried = carried_is x c w Handed here in
     let left = ap biased_part dead in
     omega (arith, live.sum, waiting, one, local, carried, same, (shared_merged w c).0, left)
 

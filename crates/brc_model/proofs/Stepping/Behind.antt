@@ -63,12 +63,12 @@ module _ {p : Accounts} {n : ℕ} {m : Machine} {t : ℕ} {a : Actor} {rest : Li
   gate_stays (SettleEnd y) x here other dies =
       written_apart m.memory (Gate y) (Gate x) _ (apart_gate y x (eqb-false y x other))
   gate_stays (LockGate y) x here other dies =
-      let fits = head_of p n m t a (LockGate y) rest here in
+      let fits = head_of here in
       let own : dies_by (m.life x) t ≡ true = ap (λ (l : Life). dies_by l t) dies ∙ eq-eqb t t refl in
       written_apart m.memory (Gate y) (Gate x) _
       (apart_gate y x (living_clash m t x y (alive_backed p n m t a y here.core fits.0 fits.1) own))
   gate_stays (UnlockGate y) x here other dies =
-      let fits = head_of p n m t a (UnlockGate y) rest here in
+      let fits = head_of here in
       let own : dies_by (m.life x) t ≡ true = ap (λ (l : Life). dies_by l t) dies ∙ eq-eqb t t refl in
       written_apart m.memory (Gate y) (Gate x) _
       (apart_gate y x (living_clash m t x y (alive_backed p n m t a y here.core fits.0 fits.1) own))
@@ -86,7 +86,7 @@ module _ {p : Accounts} {n : ℕ} {m : Machine} {t : ℕ} {a : Actor} {d : Duty}
   life_stays : (x : ℕ) → AtDuty p n m t a d rest → is_finalising d x ≡ false → m.life x ≡ Dying t
       → (done_by m t a d rest).life x ≡ Dying t
   life_stays x here other dies =
-      elim (life_step p n m t a d rest x here) [
+      elim (life_step d x here) [
         | LifeGoesOn now still ↦ now ∙ dies
         | BeginsToDie now alive counted none ↦ now
         | IsClosed now dying counted ended ↦ absurd (false≢true (sym other ∙ ended_finalising d x ended))
@@ -109,7 +109,7 @@ module _ {p : Accounts} {n : ℕ} {m : Machine} {t : ℕ} {a : Actor} {d : Duty}
         life_stays x here other fits.1,
         fits.2,
         subst (IsDyingWord t) (sym (gate_stays d x here other fits.1)) fits.3,
-        λ j out. stays_empty p n m t a d rest x j here (λ live. dying_unlive t (sym fits.1 ∙ live)) (fits.4 j out),
+        λ j out. stays_empty x j here (λ live. dying_unlive t (sym fits.1 ∙ live)) (fits.4 j out),
         resources_stay x here fits.1 ∙ fits.5,
       )
   fits_still (SettleEnd x) here apart fits =
@@ -117,7 +117,7 @@ module _ {p : Accounts} {n : ℕ} {m : Machine} {t : ℕ} {a : Actor} {d : Duty}
         fits.0,
         life_stays x here other fits.1,
         subst (IsDyingWord t) (sym (gate_stays d x here other fits.1)) fits.2,
-        λ j. stays_empty p n m t a d rest x j here (λ live. dying_unlive t (sym fits.1 ∙ live)) (fits.3 j),
+        λ j. stays_empty x j here (λ live. dying_unlive t (sym fits.1 ∙ live)) (fits.3 j),
         resources_stay x here fits.1 ∙ fits.4,
       )
   fits_still _ here apart fits = tt
@@ -202,8 +202,8 @@ module _ {p : Accounts} {n : ℕ} {m : Machine} {t : ℕ} {a : Actor} {rest : Li
   emptying_dies : (x i k : ℕ) → AtDuty p n m t a (SettleCell x i k) rest
       → (done_by m t a (SettleCell x i k) rest).life x ≡ Dying t
   emptying_dies x i k here =
-      let dies = (head_of p n m t a (SettleCell x i k) rest here).1 in
-      elim (life_step p n m t a (SettleCell x i k) rest x here) [
+      let dies = (head_of here).1 in
+      elim (life_step (SettleCell x i k) x here) [
         | LifeGoesOn now still ↦ now ∙ dies
         | BeginsToDie now alive counted none ↦ now
         | IsClosed now dying counted ended ↦ absurd (none_some x ended)
@@ -214,7 +214,7 @@ module _ {p : Accounts} {n : ℕ} {m : Machine} {t : ℕ} {a : Actor} {rest : Li
   pub emptied_known : (x i k : ℕ) → AtDuty p n m t a (SettleCell x i k) rest
       → AllBehind (done_by m t a (SettleCell x i k) rest) t (cells_from x (i + 1) k ++ rest)
   emptied_known x i k here =
-      let fits = head_of p n m t a (SettleCell x i k) rest here in
+      let fits = head_of here in
       cells_known (done_by m t a (SettleCell x i k) rest) t x (i + 1) k rest fits.0 (emptying_dies x i k here) fits.3
       (one_emptied m.memory x i k fits.4) fits.5 (still_behind here)
 

@@ -48,11 +48,11 @@ module _ {p : Accounts} {n : ℕ} {m : Machine} {t : ℕ} {a : Actor} {rest : Li
       → FitsAfter p m t a (BirthKind x h w) rest
   thread_after_birth_kind x h w here alive =
       let d : Duty = BirthKind x h w in
-      let fits = head_of p n m t a d rest here in
+      let fits = head_of here in
       let new = done_by m t a d rest in
       let said : HasCountedKind new.memory x =
       ap (λ (v : ℕ). is_counted_kind (kind_of_word v)) (written_here m.memory (KindOf x) w) ∙ fits.2 in
-      let empty : m.memory (Slot x) ≡ 0 = (blanks_here p n m t a d rest here).slots x (next_block m t a x fits.0)
+      let empty : m.memory (Slot x) ≡ 0 = (blanks_here here).slots x (next_block m t a x fits.0)
       (omega (arith, next_index m t a x fits.0)) refl in
       elim (has_resource w) as
       (λ b. has_resource w ≡ b → ThreadFits p new t (actor_by m.layout t a d rest (found_by m t a d))) [
@@ -93,7 +93,7 @@ module _ {p : Accounts} {n : ℕ} {m : Machine} {t : ℕ} {a : Actor} {rest : Li
       → FitsAfter p m t a (BirthSlot x h) rest
   thread_after_birth_slot x h here alive =
       let d : Duty = BirthSlot x h in
-      let fits = head_of p n m t a d rest here in
+      let fits = head_of here in
       let new = done_by m t a d rest in
       own_keeps (BirthLocal x h ∷ []) (BirthLocal x h ∷ rest) here alive refl (record {
         next_is = refl;
@@ -129,7 +129,7 @@ pub thread_after_birth_local : (p : Accounts) (n : ℕ) (m : Machine) (t : ℕ) 
     (actor_by m.layout t a (BirthLocal x h) rest (found_by m t a (BirthLocal x h)))
 thread_after_birth_local p n m t a x h [] here alive =
     let d : Duty = BirthLocal x h in
-    let fits = head_of p n m t a d [] here in
+    let fits = head_of here in
     let later = agenda_here here alive in
     let new = done_by m t a d [] in
     let after = actor_by m.layout t a d [] (found_by m t a d) in
@@ -153,4 +153,4 @@ thread_after_birth_local p n m t a x h [] here alive =
       knows = λ b status head used. tt;
     })
 thread_after_birth_local p n m t a x h (e ∷ rest) here alive =
-    absurd (let wrong : (e ∷ rest) ≡ [] = (head_of p n m t a (BirthLocal x h) (e ∷ rest) here).1 in cc)
+    absurd (let wrong : (e ∷ rest) ≡ [] = (head_of here).1 in cc)

@@ -58,7 +58,7 @@ module _ {p : Accounts} {n : ℕ} {m : Machine} {t : ℕ} {a : Actor} {rest : Li
       let d : Duty = CellSwap x i y h in
       let bag = m.abstract.references in
       let later = agenda_here here alive in
-      let has = held_has (reference_of t h y) bag (stolen_held p n m t a x i y h rest here) in
+      let has = held_has (reference_of t h y) bag (stolen_held x i y h here) in
       let put = held_put_in bag t y x i h (d ∷ rest) has (λ k o. refl) (λ k o. refl) in
       elim (m.memory (Cell x i)) as (λ w. m.memory (Cell x i) ≡ w → FitsAfter p m t a d rest) [
         | zero ↦ λ is.
@@ -74,6 +74,5 @@ module _ {p : Accounts} {n : ℕ} {m : Machine} {t : ℕ} {a : Actor} {rest : Li
             (reference_of t InFlight z ∷ without (cell_reference x i z)
             (cell_reference x i y ∷ without (reference_of t h y) bag)) t (d ∷ rest) [] (e ∷ rest) put
             (held_taken_out (cell_reference x i y ∷ without (reference_of t h y) bag) t x i z [] (e ∷ rest)
-            (λ k o. refl)
-            (λ k o. refl) (λ k o. refl) (λ k o. refl)))) later (λ b status head used locked. tt)
+            (λ k o. refl) (λ k o. refl) (λ k o. refl) (λ k o. refl)))) later (λ b status head used locked. tt)
       ] refl

@@ -172,7 +172,7 @@ module _ {p : Accounts} {n : ℕ} {m : Machine} {t : ℕ} {a : Actor} {rest : Li
   first_chained : AtDuty p n m t a Settle rest → FirstChained m t a rest
   first_chained here =
       let old = chain_here here in
-      first_by m t a rest old.chained (head_of p n m t a Settle rest here) old.linked old.once
+      first_by m t a rest old.chained (head_of here) old.linked old.once
 
   settle_shown : (first : FirstChained m t a rest) → AtDuty p n m t a Settle rest → NotGone a → a.head - 1 ≡ first.row
       → ShownStep m t a Settle rest (SettleKind first.row ∷ Settle ∷ rest) a.status first.next

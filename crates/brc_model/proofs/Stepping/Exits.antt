@@ -117,7 +117,7 @@ module _ {p : Accounts} {n : ℕ} {m : Machine} {t : ℕ} {a : Actor} {rest : Li
   -- The thread fits after `ScanFindsMark` and `ScanFindsNone`.
   pub thread_after_scan : (i k : ℕ) → AtDuty p n m t a (Scan i k) rest → NotGone a → FitsAfter p m t a (Scan i k) rest
   thread_after_scan i k here alive =
-      let some = head_of p n m t a (Scan i k) rest here in
+      let some = head_of here in
       let fits = agenda_here here alive in
       let x = row_at m.layout t i in
       claim_step x (Settle ∷ Scan (i + 1) (k - 1) ∷ []) here alive (record {
@@ -151,7 +151,7 @@ module _ {p : Accounts} {n : ℕ} {m : Machine} {t : ℕ} {a : Actor} {rest : Li
         word = refl;
         hands = λ y. refl;
         held = λ agenda more less. held_same m.abstract.references t (ClaimMark x ∷ rest) agenda more less;
-        block = λ marked. head_of p n m t a (ClaimMark x) rest here;
+        block = λ marked. head_of here;
         later = agenda_here here alive;
         knows = λ new all. (tt, all);
       })

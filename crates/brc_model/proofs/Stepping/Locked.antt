@@ -176,7 +176,7 @@ module _ {p : Accounts} {n : ℕ} {m : Machine} {t : ℕ} {a : Actor} {rest : Li
       → HasLocked (p t) m.layout (done_by m t a (LockGate x) rest).memory t
       (actor_by m.layout t a (LockGate x) rest (m.memory (Gate x))) x
   lock_taken x here free =
-      let fits = head_of p n m t a (LockGate x) rest here in
+      let fits = head_of here in
       let holds = lock_held m t a x fits.2 fits.1 in
       let less = makes_less m t a (LockGate x) rest holds.by x (m.memory (Gate x)) here.agenda refl in
       let had = backed_account x here holds in
@@ -196,13 +196,11 @@ module _ {p : Accounts} {n : ℕ} {m : Machine} {t : ℕ} {a : Actor} {rest : Li
       → (done_by m t a d rest).memory (Gate x) ≡ m.memory (Gate x)
   gate_kept (Die y) x here e other =
       written_apart m.memory (Gate y) (Gate x) _
-      (apart_gate y x (alive_apart m t x y (head_of p n m t a (Die y) rest here).1
-      (locked_alive p n m t a x here.core here.found e)))
+      (apart_gate y x (alive_apart m t x y (head_of here).1 (locked_alive p n m t a x here.core here.found e)))
   gate_kept Settle x here e other = written_load m.memory (Gate (a.head - 1)) (Gate x)
   gate_kept (SettleEnd y) x here e other =
       written_apart m.memory (Gate y) (Gate x) _
-      (apart_gate y x (alive_apart m t x y (head_of p n m t a (SettleEnd y) rest here).1
-      (locked_alive p n m t a x here.core here.found e)))
+      (apart_gate y x (alive_apart m t x y (head_of here).1 (locked_alive p n m t a x here.core here.found e)))
   gate_kept (LockGate y) x here e other = absurd cc
   gate_kept (UnlockGate y) x here e other = absurd cc
   gate_kept _ x here e other = refl
@@ -230,15 +228,14 @@ module _ {p : Accounts} {n : ℕ} {m : Machine} {t : ℕ} {a : Actor} {rest : Li
       → LocksFit (p t) (done_by m t a d rest) t
       (actor_by m.layout t a d rest (m.memory (address_of m.layout t a.head d)))
   locks_after (LockGate y) here x e =
-      let none : a.locked ≡ None = (head_of p n m t a (LockGate y) rest here).2 in
+      let none : a.locked ≡ None = (head_of here).2 in
       let found = m.memory (Gate y) in
       let after = actor_by m.layout t a (LockGate y) rest found in
       elim (found == free_word) as (λ b. (found == free_word) ≡ b → cond b (Some y) a.locked ≡ Some x
       → HasLocked (p t) m.layout (done_by m t a (LockGate y) rest).memory t after x) [
         | true ↦ λ free is.
             subst (λ (z : ℕ). HasLocked (p t) m.layout (done_by m t a (LockGate y) rest).memory t after z)
-            (some_is y x is)
-            (lock_taken y here (eqb-true found free_word free))
+            (some_is y x is) (lock_taken y here (eqb-true found free_word free))
         | false ↦ λ held is. absurd (none_some x (sym none ∙ is))
       ] refl e
   locks_after (UnlockGate y) here x e = absurd (none_some x e)

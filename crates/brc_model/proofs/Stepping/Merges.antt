@@ -35,7 +35,7 @@ module _ {p : Accounts} {n : ℕ} {m : Machine} {t : ℕ} {a : Actor} {rest : Li
   mark_alive : (x : ℕ) → AtDuty p n m t a (SetMark x) rest → Alive m x
   mark_alive x here =
       let one : one_if (x == x) ≡ 1 = ap one_if (eq-eqb x x refl) in
-      alive_waiting p n m x here.core (head_of p n m t a (SetMark x) rest here)
+      alive_waiting p n m x here.core (head_of here)
       (omega (arith, first_weighs (waits x) m.actors t a (SetMark x) rest here.found here.agenda, one))
 
   -- The thread fits after `Marked`.
@@ -46,8 +46,8 @@ module _ {p : Accounts} {n : ℕ} {m : Machine} {t : ℕ} {a : Actor} {rest : Li
       own_next (Look x) here alive refl refl refl refl
       (held_same m.abstract.references t (d ∷ rest) (Look x ∷ rest) (λ k o. refl) (λ k o. refl))
       (agenda_here here alive) (λ b status head used locked. (
-        head_of p n m t a d rest here,
-        (leaves_others p n m t a d rest here).born x (alive_born m x (mark_alive x here)),
+        head_of here,
+        (leaves_others here).born x (alive_born m x (mark_alive x here)),
       ))
 
   -- The thread fits after `OwnerRuns` and `OwnerExits`.
@@ -64,9 +64,9 @@ module _ {p : Accounts} {n : ℕ} {m : Machine} {t : ℕ} {a : Actor} {rest : Li
             own_next (TakeMark x) here alive refl refl refl (ap (λ (b : Bool). cond b [] (TakeMark x ∷ [])) e)
             (held_same m.abstract.references t (d ∷ rest) (TakeMark x ∷ rest) (λ k o. refl) (λ k o. refl)) later
             (λ b status head used locked. (
-              (head_of p n m t a d rest here).0,
-              (leaves_others p n m t a d rest here).stopped (block_of m.layout x) (eqb-false found 1 e),
-              (leaves_others p n m t a d rest here).born x (head_of p n m t a d rest here).1,
+              (head_of here).0,
+              (leaves_others here).stopped (block_of m.layout x) (eqb-false found 1 e),
+              (leaves_others here).born x (head_of here).1,
             ))
       ] refl
 
@@ -76,7 +76,7 @@ module _ {p : Accounts} {n : ℕ} {m : Machine} {t : ℕ} {a : Actor} {rest : Li
   thread_after_take_mark x here alive =
       let d : Duty = TakeMark x in
       let found = found_by m t a d in
-      let fits = head_of p n m t a d rest here in
+      let fits = head_of here in
       let later = agenda_here here alive in
       elim (found == 1) as (λ b. (found == 1) ≡ b → FitsAfter p m t a d rest) [
         | true ↦ λ e.
@@ -94,13 +94,13 @@ module _ {p : Accounts} {n : ℕ} {m : Machine} {t : ℕ} {a : Actor} {rest : Li
   swap_alive : (x : ℕ) → AtDuty p n m t a (MergeSwap x Own) rest → Alive m x
   swap_alive x here =
       let one : one_if (x == x) ≡ 1 = ap one_if (eq-eqb x x refl) in
-      alive_deciding p n m x here.core (head_of p n m t a (MergeSwap x Own) rest here).0
+      alive_deciding p n m x here.core (head_of here).0
       (omega (arith, first_weighs (decides x) m.actors t a (MergeSwap x Own) rest here.found here.agenda, one))
 
   -- The row of an owner's merge is in the owner's block.
   swap_own : (x : ℕ) → AtDuty p n m t a (MergeSwap x Own) rest → block_of m.layout x ≡ t
   swap_own x here =
-      let owns = (head_of p n m t a (MergeSwap x Own) rest here).1 in
+      let owns = (head_of here).1 in
       elim (swap_alive x here).live.mode [
         | InOwned o ↦ omega (arith, o.owned, owns.owner)
         | InSwapped s ↦ absurd (omega (arith, s.local, owns.owner))
@@ -113,7 +113,7 @@ module _ {p : Accounts} {n : ℕ} {m : Machine} {t : ℕ} {a : Actor} {rest : Li
   thread_after_merge_swap_own x here alive =
       let found = m.memory (Local x) in
       let d : Duty = MergeSwap x Own in
-      let fits = head_of p n m t a d rest here in
+      let fits = head_of here in
       let e : Duty = MergeLoad x (local_part found) Own in
       let some : (found == 0) ≡ false = ne_eqb found 0 (λ q. absurd (omega (arith, q, fits.1.owner))) in
       own_next e here alive refl refl refl (ap (λ (b : Bool). cond b [] (e ∷ [])) some)
@@ -130,7 +130,7 @@ module _ {p : Accounts} {n : ℕ} {m : Machine} {t : ℕ} {a : Actor} {rest : Li
   thread_after_merge_swap_handed x here alive =
       let found = m.memory (Local x) in
       let d : Duty = MergeSwap x Handed in
-      let fits = head_of p n m t a d rest here in
+      let fits = head_of here in
       let e : Duty = MergeLoad x (local_part found) Handed in
       let gives : Duty = SharedLoad x Handed in
       let later = agenda_here here alive in
@@ -138,7 +138,7 @@ module _ {p : Accounts} {n : ℕ} {m : Machine} {t : ℕ} {a : Actor} {rest : Li
         | true ↦ λ none.
             own_next gives here alive refl refl refl (ap (λ (b : Bool). cond b (gives ∷ []) (e ∷ [])) none)
             (held_same m.abstract.references t (d ∷ rest) (gives ∷ rest) (λ k o. refl) (λ k o. refl)) later
-            (λ b status head used locked. (fits.0, swapped_apart p n m t a x rest here (eqb-true found 0 none)))
+            (λ b status head used locked. (fits.0, swapped_apart x here (eqb-true found 0 none)))
         | false ↦ λ some.
             own_next e here alive refl refl refl (ap (λ (b : Bool). cond b (gives ∷ []) (e ∷ [])) some)
             (held_same m.abstract.references t (d ∷ rest) (e ∷ rest) (λ k o. refl) (λ k o. refl)) later
@@ -158,7 +158,7 @@ module _ {p : Accounts} {n : ℕ} {m : Machine} {t : ℕ} {a : Actor} {rest : Li
       → FitsAfter p m t a (MergeLoad x c r) rest
   thread_after_merge_load x c r here alive =
       let d : Duty = MergeLoad x c r in
-      let fits = head_of p n m t a d rest here in
+      let fits = head_of here in
       let e : Duty = MergeExchange x c (m.memory (Shared x)) r in
       own_next e here alive refl refl refl refl
       (held_same m.abstract.references t (d ∷ rest) (e ∷ rest) (λ k o. refl) (λ k o. refl))
@@ -187,8 +187,8 @@ module _ {p : Accounts} {n : ℕ} {m : Machine} {t : ℕ} {a : Actor} {rest : Li
         | true ↦ λ dead.
             own_dying x here alive refl (record {
               next_is = merge_next x c w found true won dead;
-              counted = (head_of p n m t a d rest here).0;
-              lived = (merge_alive p n m t a x c w Own rest here).life;
+              counted = (head_of here).0;
+              lived = (merge_alive x c w Own here).life;
               held = held_same m.abstract.references t (d ∷ rest) (Die x ∷ rest) (λ k o. refl) (λ k o. refl);
               later = later;
             })
@@ -206,7 +206,7 @@ module _ {p : Accounts} {n : ℕ} {m : Machine} {t : ℕ} {a : Actor} {rest : Li
       own_next gives here alive refl refl refl (ap (λ (b : Bool). cond b (gives ∷ []) (MergeLoad x c Handed ∷ [])) won)
       (held_same m.abstract.references t (d ∷ rest) (gives ∷ rest) (λ k o. refl) (λ k o. refl)) (agenda_here here alive)
       (λ b status head used locked. (
-        (head_of p n m t a d rest here).0,
+        (head_of here).0,
         ap phase_part wrote ∙ (shared_merged w c).1,
       ))
 
@@ -216,7 +216,7 @@ module _ {p : Accounts} {n : ℕ} {m : Machine} {t : ℕ} {a : Actor} {rest : Li
   thread_after_merge_exchange x c w r here alive =
       let found = m.memory (Shared x) in
       let d : Duty = MergeExchange x c w r in
-      let fits = head_of p n m t a d rest here in
+      let fits = head_of here in
       let again : Duty = MergeLoad x c r in
       elim (found == w) as (λ b. (found == w) ≡ b → FitsAfter p m t a d rest) [
         | true ↦ λ won. merge_won x c w r here alive won

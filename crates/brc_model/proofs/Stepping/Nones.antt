@@ -39,17 +39,12 @@ module _ {p : Accounts} {n : ℕ} {m : Machine} {t : ℕ} {a : Actor} {rest : Li
       → memory_by m t a d (Local x) ≡ m.memory (Local x)
   immortal_word_left (RetainLoad y h) x here immortal = written_load m.memory (Local y) (Local x)
   immortal_word_left (ReleaseLoad y h) x here immortal = written_load m.memory (Local y) (Local x)
-  immortal_word_left (RetainStore y h w) x here immortal =
-      local_apart m y x (w + 1) (head_of p n m t a (RetainStore y h w) rest here).0 immortal
-  immortal_word_left (ReleaseStore y w) x here immortal =
-      local_apart m y x (w - 1) (head_of p n m t a (ReleaseStore y w) rest here).0 immortal
+  immortal_word_left (RetainStore y h w) x here immortal = local_apart m y x (w + 1) (head_of here).0 immortal
+  immortal_word_left (ReleaseStore y w) x here immortal = local_apart m y x (w - 1) (head_of here).0 immortal
   immortal_word_left (BirthLocal y h) x here immortal =
-      local_apart m y x (local_word t 1) (next_counted m t a y (head_of p n m t a (BirthLocal y h) rest here).0)
-      immortal
-  immortal_word_left (MergeSwap y Own) x here immortal =
-      local_apart m y x 0 (head_of p n m t a (MergeSwap y Own) rest here).0 immortal
-  immortal_word_left (MergeSwap y Handed) x here immortal =
-      local_apart m y x 0 (head_of p n m t a (MergeSwap y Handed) rest here).0 immortal
+      local_apart m y x (local_word t 1) (next_counted m t a y (head_of here).0) immortal
+  immortal_word_left (MergeSwap y Own) x here immortal = local_apart m y x 0 (head_of here).0 immortal
+  immortal_word_left (MergeSwap y Handed) x here immortal = local_apart m y x 0 (head_of here).0 immortal
   immortal_word_left _ x here immortal = refl
 
 pub immortal_row : (p : Accounts) (n : ℕ) (m : Machine) (x : ℕ) → CoreInvariant p n m

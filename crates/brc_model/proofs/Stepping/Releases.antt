@@ -189,7 +189,7 @@ module _ {p : Accounts} {n : ℕ} {m : Machine} {t : ℕ} {a : Actor} {rest : Li
       → FitsAfter p m t a (ReleaseStore x w) rest
   thread_after_release_store x w here alive =
       let d : Duty = ReleaseStore x w in
-      let fits = head_of p n m t a d rest here in
+      let fits = head_of here in
       let lost : (later : List Duty) → ((k : Holding) (object : ℕ) → extra_of later k object ≡ false)
       → ((k : Holding) (object : ℕ) → lacks_of later k object ≡ false)
       → HeldStep m.abstract.references (bag_by m t a d) t (d ∷ rest) later =
@@ -225,14 +225,14 @@ module _ {p : Accounts} {n : ℕ} {m : Machine} {t : ℕ} {a : Actor} {rest : Li
   thread_after_decide_at_zero x here alive =
       let word = m.memory (Shared x) in
       let d : Duty = DecideAtZero x in
-      let fits = head_of p n m t a d rest here in
+      let fits = head_of here in
       let later = agenda_here here alive in
       elim (word == fresh_word) as (λ b. (word == fresh_word) ≡ b → FitsAfter p m t a d rest) [
         | true ↦ λ e.
             own_dying x here alive refl (record {
               next_is = ap (λ (b : Bool). cond b (Die x ∷ []) (MergeSwap x Own ∷ [])) e;
               counted = fits.0;
-              lived = (decide_alive p n m t a x rest here).life;
+              lived = (decide_alive x here).life;
               held = held_same m.abstract.references t (d ∷ rest) (Die x ∷ rest) (λ k o. refl) (λ k o. refl);
               later = later;
             })

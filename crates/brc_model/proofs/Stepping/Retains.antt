@@ -79,7 +79,7 @@ count_above p n m t x a core found owns mine alive =
 module _ {p : Accounts} {n : ℕ} {m : Machine} {t : ℕ} {a : Actor} {d : Duty} {rest : List Duty} where
   pub weight_here : (x : ℕ) → AtDuty p n m t a d rest → is_about x d ≡ true → decides x d ≡ 0
       → agenda_weight (decides x) a ≡ 0
-  weight_here x here this none = own_weighs p n m t x a d rest (decides x) here (decides_of_row x) this ∙ none
+  weight_here x here this none = own_weighs x (decides x) here (decides_of_row x) this ∙ none
 
 retain_bag : (m : Machine) (t : ℕ) (a : Actor) (x : ℕ) (h : Holding) → is_immortal_word (m.memory (Local x)) ≡ false
     → bag_by m t a (RetainLoad x h) ≡ m.abstract.references
@@ -91,7 +91,7 @@ module _ {p : Accounts} {n : ℕ} {m : Machine} {t : ℕ} {a : Actor} {rest : Li
       → AtDuty p n m t a (RetainLoad x h) rest → NotGone a → FitsAfter p m t a (RetainLoad x h) rest
   thread_after_retain_counted x h pos here alive =
       let word = m.memory (Local x) in
-      let fits = head_of p n m t a (RetainLoad x h) rest here in
+      let fits = head_of here in
       let mortal = backed_not_immortal x h pos here in
       let living = alive_backed p n m t a x here.core pos fits in
       let bag = retain_bag m t a x h mortal in
@@ -109,8 +109,7 @@ module _ {p : Accounts} {n : ℕ} {m : Machine} {t : ℕ} {a : Actor} {rest : Li
       → ((k : Holding) (object : ℕ) → lacks_of (e ∷ rest) k object ≡ (same_holding h k && (x == object)))
       → HeldStep m.abstract.references (bag_by m t a (RetainLoad x h)) t (RetainLoad x h ∷ rest) (e ∷ rest) =
       λ e more less. subst (λ (l : List Reference). HeldStep m.abstract.references l t (RetainLoad x h ∷ rest)
-      (e ∷ rest))
-      (sym bag) (held_same m.abstract.references t (RetainLoad x h ∷ rest) (e ∷ rest) more less) in
+      (e ∷ rest)) (sym bag) (held_same m.abstract.references t (RetainLoad x h ∷ rest) (e ∷ rest) more less) in
       let is_local = counts_locally t (is_running a.status) word && nat_lt (local_part word) most_local in
       elim is_local as (λ b. is_local ≡ b → ThreadFits p new t (actor_by m.layout t a (RetainLoad x h) rest word)) [
         | true ↦ λ e.

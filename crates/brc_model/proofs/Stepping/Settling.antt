@@ -167,7 +167,7 @@ module _ {p : Accounts} {n : ℕ} {m : Machine} {t : ℕ} {a : Actor} {rest : Li
   pub thread_after_settle_kind : (x : ℕ) → AtDuty p n m t a (SettleKind x) rest → NotGone a
       → FitsAfter p m t a (SettleKind x) rest
   thread_after_settle_kind x here alive =
-      let fits = head_of p n m t a (SettleKind x) rest here in
+      let fits = head_of here in
       let word = m.memory (KindOf x) in
       let step : SettlingStep m t a (SettleKind x) x rest = record {
         above = fits.0;
@@ -258,7 +258,7 @@ module _ {p : Accounts} {n : ℕ} {m : Machine} {t : ℕ} {a : Actor} {rest : Li
   pub thread_after_settle_cell : (x i k : ℕ) → AtDuty p n m t a (SettleCell x i k) rest → NotGone a
       → FitsAfter p m t a (SettleCell x i k) rest
   thread_after_settle_cell x i k here alive =
-      let fits = head_of p n m t a (SettleCell x i k) rest here in
+      let fits = head_of here in
       let later = agenda_here here alive in
       let bag = m.abstract.references in
       elim (m.memory (Cell x i)) as (λ w. m.memory (Cell x i) ≡ w → FitsAfter p m t a (SettleCell x i k) rest) [
@@ -310,7 +310,7 @@ module _ {p : Accounts} {n : ℕ} {m : Machine} {t : ℕ} {a : Actor} {rest : Li
   pub thread_after_take_slot : (x : ℕ) → AtDuty p n m t a (TakeSlot x) rest → NotGone a
       → FitsAfter p m t a (TakeSlot x) rest
   thread_after_take_slot x here alive =
-      let fits = head_of p n m t a (TakeSlot x) rest here in
+      let fits = head_of here in
       settles_on (CloseResource x) x here alive (record {
         above = fits.0;
         dies = fits.1;
@@ -330,7 +330,7 @@ module _ {p : Accounts} {n : ℕ} {m : Machine} {t : ℕ} {a : Actor} {rest : Li
   pub thread_after_close_resource : (x : ℕ) → AtDuty p n m t a (CloseResource x) rest → NotGone a
       → FitsAfter p m t a (CloseResource x) rest
   thread_after_close_resource x here alive =
-      let fits = head_of p n m t a (CloseResource x) rest here in
+      let fits = head_of here in
       settles_on (SettleEnd x) x here alive (record {
         above = fits.0;
         dies = fits.1;

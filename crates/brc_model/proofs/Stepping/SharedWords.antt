@@ -36,10 +36,10 @@ module _ {p : Accounts} {n : ℕ} {m : Machine} {t : ℕ} {a : Actor} {rest : Li
       let d : Duty = SharedLoad x Own in
       own_next (SharedExchange x Own (m.memory (Shared x))) here alive refl refl refl refl
       (held_same m.abstract.references t (d ∷ rest) (SharedExchange x Own (m.memory (Shared x)) ∷ rest) (λ k o. refl)
-      (λ k o. refl)) (agenda_here here alive) (λ b status head used locked. head_of p n m t a d rest here)
+      (λ k o. refl)) (agenda_here here alive) (λ b status head used locked. head_of here)
   thread_after_shared_load x Handed here alive =
       let d : Duty = SharedLoad x Handed in
-      let fits = head_of p n m t a d rest here in
+      let fits = head_of here in
       own_next (SharedExchange x Handed (m.memory (Shared x))) here alive refl refl refl refl
       (held_same m.abstract.references t (d ∷ rest) (SharedExchange x Handed (m.memory (Shared x)) ∷ rest) (λ k o. refl)
       (λ k o. refl)) (agenda_here here alive)
@@ -77,7 +77,7 @@ module _ {p : Accounts} {n : ℕ} {m : Machine} {t : ℕ} {a : Actor} {rest : Li
                   own_dying x here alive refl (record {
                     next_is = exchange_next x w (m.memory (Shared x)) r false true won other dead;
                     counted = pos;
-                    lived = (exchange_alive p n m t a x w r rest here).life;
+                    lived = (exchange_alive x w r here).life;
                     held = moves (Die x ∷ rest) (λ k o. refl) (λ k o. refl);
                     later = later;
                   })
@@ -93,7 +93,7 @@ module _ {p : Accounts} {n : ℕ} {m : Machine} {t : ℕ} {a : Actor} {rest : Li
   thread_after_shared_exchange x Own w here alive =
       let found = m.memory (Shared x) in
       let d : Duty = SharedExchange x Own w in
-      let pos = head_of p n m t a d rest here in
+      let pos = head_of here in
       elim (found == w) as (λ b. (found == w) ≡ b → FitsAfter p m t a d rest) [
         | true ↦ λ won.
             let bag : bag_by m t a d ≡ without (reference_of t InFlight x) m.abstract.references =
@@ -113,7 +113,7 @@ module _ {p : Accounts} {n : ℕ} {m : Machine} {t : ℕ} {a : Actor} {rest : Li
   thread_after_shared_exchange x Handed w here alive =
       let found = m.memory (Shared x) in
       let d : Duty = SharedExchange x Handed w in
-      let fits = head_of p n m t a d rest here in
+      let fits = head_of here in
       elim (found == w) as (λ b. (found == w) ≡ b → FitsAfter p m t a d rest) [
         | true ↦ λ won.
             exchange_won x w Handed here alive fits.0 won
@@ -122,6 +122,5 @@ module _ {p : Accounts} {n : ℕ} {m : Machine} {t : ℕ} {a : Actor} {rest : Li
             own_next (SharedLoad x Handed) here alive refl refl refl
             (ap (λ (b : Bool). cond b (shared_result x w) (SharedLoad x Handed ∷ [])) lost)
             (held_same m.abstract.references t (d ∷ rest) (SharedLoad x Handed ∷ rest) (λ k o. refl) (λ k o. refl))
-            (agenda_here here alive)
-            (λ b status head used locked. (fits.0, (leaves_others p n m t a d rest here).merged x fits.1))
+            (agenda_here here alive) (λ b status head used locked. (fits.0, (leaves_others here).merged x fits.1))
       ] refl

@@ -77,11 +77,11 @@ module _ {p : Accounts} {n : ℕ} {m : Machine} {t : ℕ} {a : Actor} {rest : Li
   keeping_gates Settle x here kept dies = absurd cc
   keeping_gates (SettleEnd y) x here kept dies = absurd cc
   keeping_gates (LockGate y) x here kept dies =
-      let fits = head_of p n m t a (LockGate y) rest here in
+      let fits = head_of here in
       written_apart m.memory (Gate y) (Gate x) _
       (apart_gate y x (living_clash m t x y (alive_backed p n m t a y here.core fits.0 fits.1) dies))
   keeping_gates (UnlockGate y) x here kept dies =
-      let fits = head_of p n m t a (UnlockGate y) rest here in
+      let fits = head_of here in
       written_apart m.memory (Gate y) (Gate x) _
       (apart_gate y x (living_clash m t x y (alive_backed p n m t a y here.core fits.0 fits.1) dies))
   keeping_gates _ x here kept dies = refl

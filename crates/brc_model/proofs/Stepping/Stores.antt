@@ -89,7 +89,7 @@ module _ {p : Accounts} {n : ℕ} {m : Machine} {t : ℕ} {a : Actor} {rest : Li
       let one : one_if (x == x) ≡ 1 = ap one_if (eq-eqb x x refl) in
       let weighs = first_weighs (waits x) m.actors t a (SetMark x) rest here.found here.agenda in
       let some : 0 < (numbers_of m x).waiting = omega (arith, weighs, one) in
-      let alive = alive_waiting p n m x here.core (head_of p n m t a (SetMark x) rest here) some in
+      let alive = alive_waiting p n m x here.core (head_of here) some in
       elim alive.live.mode [
         | InOwned o ↦ phased_free (numbers_of m x) o.phased some
         | InSwapped s ↦ phased_free (numbers_of m x) s.phased some
@@ -141,25 +141,24 @@ module _ {p : Accounts} {n : ℕ} {m : Machine} {t : ℕ} {a : Actor} {d : Duty}
 module _ {p : Accounts} {n : ℕ} {m : Machine} {t : ℕ} {a : Actor} {rest : List Duty} where
   -- A thread at a storing duty overwrites the word that `Overwrites` names.
   pub overwritten : (d : Duty) → AtDuty p n m t a d rest → Overwrites t d (found_by m t a d)
-  overwritten (RetainStore x h w) here = (head_of p n m t a (RetainStore x h w) rest here).3
-  overwritten (ReleaseStore x w) here = (head_of p n m t a (ReleaseStore x w) rest here).2
+  overwritten (RetainStore x h w) here = (head_of here).3
+  overwritten (ReleaseStore x w) here = (head_of here).2
   overwritten (SetMark x) here = mark_free x here
-  overwritten (Die x) here = (head_of p n m t a (Die x) rest here).2
-  overwritten (SettleEnd x) here = (head_of p n m t a (SettleEnd x) rest here).2
+  overwritten (Die x) here = (head_of here).2
+  overwritten (SettleEnd x) here = (head_of here).2
   overwritten (Leave x k) here =
       word_is Running here (leaving_runs m t a x k rest a.status here.agenda (here.core.each t a here.found).1)
   overwritten Finish here =
       word_is Leaving here (finishing_leaves m t a rest a.status here.agenda (here.core.each t a here.found).1)
   overwritten (BirthKind x h w) here =
       let d : Duty = BirthKind x h w in
-      let next = (head_of p n m t a d rest here).0 in
-      (blanks_here p n m t a d rest here).kinds x (next_block m t a x next) (next_unused m t a x next) refl
+      let next = (head_of here).0 in
+      (blanks_here here).kinds x (next_block m t a x next) (next_unused m t a x next) refl
   overwritten (BirthSlot x h) here =
       let d : Duty = BirthSlot x h in
-      let next = (head_of p n m t a d rest here).0 in
-      (blanks_here p n m t a d rest here).slots x (next_block m t a x next) (next_unused m t a x next) refl
-  overwritten (BirthLocal x h) here = next_local x here (head_of p n m t a (BirthLocal x h) rest here).0
-  overwritten (UnlockGate x) here =
-      ((here.core.each t a here.found).0.locks x (head_of p n m t a (UnlockGate x) rest here).2).gate
+      let next = (head_of here).0 in
+      (blanks_here here).slots x (next_block m t a x next) (next_unused m t a x next) refl
+  overwritten (BirthLocal x h) here = next_local x here (head_of here).0
+  overwritten (UnlockGate x) here = ((here.core.each t a here.found).0.locks x (head_of here).2).gate
   overwritten (ReturnSlot x) here = returning_finds p n m t a x rest here
   overwritten _ here = tt

@@ -76,29 +76,28 @@ decider_is_owner m u b x owns live some =
       | InMerged w ↦ absurd (omega (arith, w.deciding, some))
     ]
 
--- While a thread that claimed a row's mark is about to merge the row, no thread decides about the row.
-pub none_decides : (p : Accounts) (n : ℕ) (m : Machine) (t : ℕ) (a : Actor) (y : ℕ) (rest : List Duty)
-    → AtDuty p n m t a (MergeSwap y Handed) rest → MayMerge m t y
-    → IsLive (block_of m.layout y) (numbers_of m y) → weight (decides y) m.actors ≡ 0
-none_decides p n m t a y rest here may live =
-    elim (eqb_tells (weight (decides y) m.actors) 0) [
-      | inl none ↦ none.1
-      | inr more ↦
-          let some : 0 < weight (decides y) m.actors = omega (arith, more.1) in
-          let it = some_weighs (decides y) m.actors some in
-          let owns = decider_owns p n m it.who y it.which here.core it.found it.some in
-          let owner = decider_is_owner m it.who it.which y owns live some in
-          elim may [
-            | inl mine ↦
-                let at : it.who ≡ t = owner ∙ mine in
-                let which : it.which ≡ a =
-                some_is it.which a (sym it.found ∙ ap (slice_get m.actors) at ∙ here.found) in
-                let same = ap (agenda_weight (decides y)) which in
-                let own = own_weighs p n m t y a (MergeSwap y Handed) rest (decides y) here (decides_of_row y)
-                (eq-eqb y y refl) in
-                absurd (omega (arith, it.some, same, own))
-            | inr stopped ↦
-                absurd (stopped (ap (λ (u : ℕ). m.memory (ThreadWord u)) (sym owner)
-                ∙ (here.core.each it.who it.which it.found).0.word ∙ ap status_word owns.running))
-          ]
-    ]
+module _ {p : Accounts} {n : ℕ} {m : Machine} {t : ℕ} {a : Actor} {rest : List Duty} where
+  -- While a thread that claimed a row's mark is about to merge the row, no thread decides about the row.
+  pub none_decides : (y : ℕ) → AtDuty p n m t a (MergeSwap y Handed) rest → MayMerge m t y
+      → IsLive (block_of m.layout y) (numbers_of m y) → weight (decides y) m.actors ≡ 0
+  none_decides y here may live =
+      elim (eqb_tells (weight (decides y) m.actors) 0) [
+        | inl none ↦ none.1
+        | inr more ↦
+            let some : 0 < weight (decides y) m.actors = omega (arith, more.1) in
+            let it = some_weighs (decides y) m.actors some in
+            let owns = decider_owns p n m it.who y it.which here.core it.found it.some in
+            let owner = decider_is_owner m it.who it.which y owns live some in
+            elim may [
+              | inl mine ↦
+                  let at : it.who ≡ t = owner ∙ mine in
+                  let which : it.which ≡ a =
+                  some_is it.which a (sym it.found ∙ ap (slice_get m.actors) at ∙ here.found) in
+                  let same = ap (agenda_weight (decides y)) which in
+                  let own = own_weighs y (decides y) here (decides_of_row y) (eq-eqb y y refl) in
+                  absurd (omega (arith, it.some, same, own))
+              | inr stopped ↦
+                  absurd (stopped (ap (λ (u : ℕ). m.memory (ThreadWord u)) (sym owner)
+                  ∙ (here.core.each it.who it.which it.found).0.word ∙ ap status_word owns.running))
+            ]
+      ]
