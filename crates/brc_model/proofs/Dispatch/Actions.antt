@@ -52,19 +52,17 @@ claim_fits p n m t a row whole found may =
     let at : AtRest c n (counting m) t a.actor =
     record { core = core; found = there; agenda = claims.agenda; running = claims.running } in
     let sits : Sits (counting m) t a.actor (ClaimMark row ∷ []) (c t) =
-    claim_sits c n (counting m) t a.actor row at (whole.coded t a found).alone
+    claim_sits row at (whole.coded t a found).alone
     (idle_unlocked (code_of (slice_get p.functions a.function)) claims.left a.place a.actor.locked (c t)
     (whole.coded t a found).says claims.idle) claims.block in
     record {
       account = c t;
       says = (whole.coded t a found).says;
-      departs =
-          ap (λ (s : Status). exits s (ClaimMark row ∷ [])) claims.running ∙ sym (ap is_departing claims.idle);
+      departs = ap (λ (s : Status). exits s (ClaimMark row ∷ [])) claims.running ∙ sym (ap is_departing claims.idle);
       lent = (whole.coded t a found).lent;
-      doing = sits_down c n (counting m) t a.actor (ClaimMark row) [] (c t) whole.kept at sits tt;
+      doing = sits_down (ClaimMark row) [] (c t) whole.kept at sits tt;
       small = λ _ _. (
-        row_small (row_count m.layout) row (ClaimMark row)
-            (used_row c n (counting m) t a.actor row core there claims.block claims.low)
+        row_small (row_count m.layout) row (ClaimMark row) (used_row t a.actor row core there claims.block claims.low)
             (λ y. refl) (omega arith),
         tt,
       );

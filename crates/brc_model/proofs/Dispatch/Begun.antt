@@ -25,20 +25,19 @@ use Rattle.brc_model.specs.declared.layout.Layout.{Layout}
 use Rattle.brc_model.proofs.Basics.Blocks.{thread_there}
 use Rattle.brc_model.specs.Layout.{block_size, row_at}
 
--- A thread with room for a row is a worker, since main has used all its rows.
-next_is : (p : Accounts) (n : ℕ) (m : Machine) (t : ℕ) (a : Actor) (agenda : List Duty)
-    → AtRest p n m t a
-    → a.used < block_size m.layout t
-    → IsNext (with_actor m t (sitting a agenda)) t (sitting a agenda) (row_at m.layout t a.used)
-next_is p n m zero a agenda at room = absurd (omega (arith, room, (at.core.uses 0 a at.found).main refl))
-next_is p n m (suc t) a agenda at room =
-    record {
-      running = at.running;
-      worker = omega arith;
-      there = thread_there p n m (suc t) a at.core at.found;
-      row = refl;
-      room = room;
-    }
+module _ {p : Accounts} {n : ℕ} {m : Machine} where
+  -- A thread with room for a row is a worker, since main has used all its rows.
+  next_is : (t : ℕ) (a : Actor) (agenda : List Duty) → AtRest p n m t a → a.used < block_size m.layout t
+      → IsNext (with_actor m t (sitting a agenda)) t (sitting a agenda) (row_at m.layout t a.used)
+  next_is zero a agenda at room = absurd (omega (arith, room, (at.core.uses 0 a at.found).main refl))
+  next_is (suc t) a agenda at room =
+      record {
+        running = at.running;
+        worker = omega arith;
+        there = thread_there (suc t) a at.core at.found;
+        row = refl;
+        room = room;
+      }
 
 later_follows : (layout : Layout) (t used : ℕ) (place : Place) (rest : List Duty) → Follows layout t used place rest
     → Later used Running rest
@@ -252,84 +251,79 @@ backs_duty : (m : Machine) (t : ℕ) (a : Actor) (agenda : List Duty) (row : ℕ
 backs_duty m t a agenda row (ByOwn by some) = ByReference by some
 backs_duty m t a agenda row (ByList list cell has holds) = ByItem list cell has holds
 
--- The thread knows what its first duty has to know.
-begun_knows : (p : Accounts) (n : ℕ) (m : Machine) (t : ℕ) (a : Actor) (d : Duty) (rest : List Duty)
-    → AtRest p n m t a → a.aside ≡ [] → Starts (scene_of m t a) d rest
-    → HeadOf (with_actor m t (sitting a (d ∷ rest))) t (sitting a (d ∷ rest)) (d ∷ rest)
-begun_knows p n m t a d rest at alone (Gives row h behind some) = tt
-begun_knows p n m t a d rest at alone (Takes row h behind backs) = backs_duty m t a (d ∷ rest) row backs
-begun_knows p n m t a d rest at alone (Bears h w room few said) =
-    (next_is p n m t a (BirthKind (row_at m.layout t a.used) h w ∷ []) at room, refl, said)
-begun_knows p n m t a d rest at alone (Asks row backs) = inl (backs_duty m t a (d ∷ rest) row backs)
-begun_knows p n m t a d rest at alone (Locks row backs counted none) =
-    (counted, backs_duty m t a (d ∷ rest) row backs, none)
-begun_knows p n m t a d rest at alone (Unlocks row backs has none) = (
-  ((at.core.each t a at.found).0.locks row has).counted,
-  backs_duty m t a (d ∷ rest) row backs,
-  has,
-  ap (count_by is_retain) alone,
-  none,
-)
-begun_knows p n m t a d rest at alone (Loads row i backs has within) =
-    let lock = (at.core.each t a at.found).0.locks row has in
-    (lock.counted, inl (backs_duty m t a (d ∷ rest) row backs), inl has, within)
-begun_knows p n m t a d rest at alone (Swaps row i item h behind backs has within some) = (has, within)
-begun_knows p n m t a d rest at alone (Lends row backs has none some) =
-    (((at.core.each t a at.found).0.locks row has).counted, has, none, some)
-begun_knows p n m t a d rest at alone (Returns row backs lent) = lent
+module _ {p : Accounts} {n : ℕ} {m : Machine} {t : ℕ} {a : Actor} where
+  -- The thread knows what its first duty has to know.
+  begun_knows : (d : Duty) (rest : List Duty) → AtRest p n m t a → a.aside ≡ [] → Starts (scene_of m t a) d rest
+      → HeadOf (with_actor m t (sitting a (d ∷ rest))) t (sitting a (d ∷ rest)) (d ∷ rest)
+  begun_knows d rest at alone (Gives row h behind some) = tt
+  begun_knows d rest at alone (Takes row h behind backs) = backs_duty m t a (d ∷ rest) row backs
+  begun_knows d rest at alone (Bears h w room few said) =
+      (next_is t a (BirthKind (row_at m.layout t a.used) h w ∷ []) at room, refl, said)
+  begun_knows d rest at alone (Asks row backs) = inl (backs_duty m t a (d ∷ rest) row backs)
+  begun_knows d rest at alone (Locks row backs counted none) = (counted, backs_duty m t a (d ∷ rest) row backs, none)
+  begun_knows d rest at alone (Unlocks row backs has none) = (
+    ((at.core.each t a at.found).0.locks row has).counted,
+    backs_duty m t a (d ∷ rest) row backs,
+    has,
+    ap (count_by is_retain) alone,
+    none,
+  )
+  begun_knows d rest at alone (Loads row i backs has within) =
+      let lock = (at.core.each t a at.found).0.locks row has in
+      (lock.counted, inl (backs_duty m t a (d ∷ rest) row backs), inl has, within)
+  begun_knows d rest at alone (Swaps row i item h behind backs has within some) = (has, within)
+  begun_knows d rest at alone (Lends row backs has none some) =
+      (((at.core.each t a at.found).0.locks row has).counted, has, none, some)
+  begun_knows d rest at alone (Returns row backs lent) = lent
 
--- The thread still holds what it has locked.
-begun_locks : (p : Accounts) (n : ℕ) (m : Machine) (t : ℕ) (a : Actor) (place : Place) (d : Duty) (rest : List Duty)
-    (account : Account)
-    → AtRest p n m t a → a.aside ≡ [] → HoldsAlone m.abstract.references t account (d ∷ rest)
-    → ((x : ℕ) → a.locked ≡ Some x → HeldBeside m.abstract.references t x d)
-    → Follows m.layout t a.used place rest → LocksFit account m t (sitting a (d ∷ rest))
-begun_locks p n m t a place d rest account at alone holds keeps follows x has =
-    let old = (at.core.each t a at.found).0.locks x has in
-    let beside = keeps x has in
-    let f : Duty → ℕ = λ e. one_if (lacks e beside.by x) in
-    let none : sum_by f a.aside ≡ 0 = ap (sum_by f) alone in
-    record {
-      counted = old.counted;
-      by = beside.by;
-      held_so = omega (
-        arith,
-        holds.each beside.by x,
-        beside.held_so,
-        ap one_if beside.beside,
-        sum_by-cons f d rest,
-        follows_weigh m.layout t a.used place rest f refl (λ y k. refl) follows,
-        none,
-      );
-      gate = old.gate;
-    }
+  -- The thread still holds what it has locked.
+  begun_locks : (place : Place) (d : Duty) (rest : List Duty) (account : Account) → AtRest p n m t a → a.aside ≡ []
+      → HoldsAlone m.abstract.references t account (d ∷ rest)
+      → ((x : ℕ) → a.locked ≡ Some x → HeldBeside m.abstract.references t x d) → Follows m.layout t a.used place rest
+      → LocksFit account m t (sitting a (d ∷ rest))
+  begun_locks place d rest account at alone holds keeps follows x has =
+      let old = (at.core.each t a at.found).0.locks x has in
+      let beside = keeps x has in
+      let f : Duty → ℕ = λ e. one_if (lacks e beside.by x) in
+      let none : sum_by f a.aside ≡ 0 = ap (sum_by f) alone in
+      record {
+        counted = old.counted;
+        by = beside.by;
+        held_so = omega (
+          arith,
+          holds.each beside.by x,
+          beside.held_so,
+          ap one_if beside.beside,
+          sum_by-cons f d rest,
+          follows_weigh m.layout t a.used place rest f refl (λ y k. refl) follows,
+          none,
+        );
+        gate = old.gate;
+      }
 
-pub starts_sit : (p : Accounts) (n : ℕ) (m : Machine) (t : ℕ) (a : Actor) (place : Place) (d : Duty) (rest : List Duty)
-    (account : Account)
-    → AtRest p n m t a → a.aside ≡ [] → HoldsAlone m.abstract.references t account (d ∷ rest)
-    → IsBounded m.layout account
-    → (exits Running (d ∷ rest) ≡ true → HoldsNone account)
-    → ((x : ℕ) → a.locked ≡ Some x → HeldBeside m.abstract.references t x d)
-    → Starts (scene_of m t a) d rest → Follows m.layout t a.used place rest
-    → Sits m t a (d ∷ rest) account
-starts_sit p n m t a place d rest account at alone holds bounded exited keeps starts follows =
-    let g = scene_of m t a in
-    record {
-      holds = holds_alone m.abstract.references t account (d ∷ rest) a.aside alone holds;
-      bounded = bounded;
-      exited = λ e. (exited e, alone);
-      aside = alone_fits (with_actor m t (sitting a (d ∷ rest))) t (sitting a (d ∷ rest)) alone;
-      knows = begun_knows p n m t a d rest at alone starts;
-      behind = follows_behind (with_actor m t (sitting a (d ∷ rest))) t m.layout a.used place rest follows;
-      locks = begun_locks p n m t a place d rest account at alone holds keeps follows;
-      fits = begun_fits g place d rest starts follows;
-      hands = λ x. begun_hands g x place d rest starts follows;
-      no_waits = λ x. begun_light (waits x) g place d rest (light_waits x) starts follows;
-      no_carries = λ x. begun_light (carries x) g place d rest (light_carries x) starts follows;
-      no_merges = λ x. begun_light (merges x) g place d rest (light_merges x) starts follows;
-      no_decides = λ x. begun_light (decides x) g place d rest (light_decides x) starts follows;
-      no_looks = λ x. begun_light (looks x) g place d rest (light_looks x) starts follows;
-    }
+  pub starts_sit : (place : Place) (d : Duty) (rest : List Duty) (account : Account) → AtRest p n m t a → a.aside ≡ []
+      → HoldsAlone m.abstract.references t account (d ∷ rest) → IsBounded m.layout account
+      → (exits Running (d ∷ rest) ≡ true → HoldsNone account)
+      → ((x : ℕ) → a.locked ≡ Some x → HeldBeside m.abstract.references t x d) → Starts (scene_of m t a) d rest
+      → Follows m.layout t a.used place rest → Sits m t a (d ∷ rest) account
+  starts_sit place d rest account at alone holds bounded exited keeps starts follows =
+      let g = scene_of m t a in
+      record {
+        holds = holds_alone m.abstract.references t account (d ∷ rest) a.aside alone holds;
+        bounded = bounded;
+        exited = λ e. (exited e, alone);
+        aside = alone_fits (with_actor m t (sitting a (d ∷ rest))) t (sitting a (d ∷ rest)) alone;
+        knows = begun_knows d rest at alone starts;
+        behind = follows_behind (with_actor m t (sitting a (d ∷ rest))) t m.layout a.used place rest follows;
+        locks = begun_locks place d rest account at alone holds keeps follows;
+        fits = begun_fits g place d rest starts follows;
+        hands = λ x. begun_hands g x place d rest starts follows;
+        no_waits = λ x. begun_light (waits x) g place d rest (light_waits x) starts follows;
+        no_carries = λ x. begun_light (carries x) g place d rest (light_carries x) starts follows;
+        no_merges = λ x. begun_light (merges x) g place d rest (light_merges x) starts follows;
+        no_decides = λ x. begun_light (decides x) g place d rest (light_decides x) starts follows;
+        no_looks = λ x. begun_light (looks x) g place d rest (light_looks x) starts follows;
+      }
 
 -- Nothing behind the first duty locks or unlocks.
 pub follows_plain : (layout : Layout) (t used : ℕ) (place : Place) (rest : List Duty)

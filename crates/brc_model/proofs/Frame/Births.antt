@@ -29,7 +29,7 @@ module _ (p : Accounts) (n : ℕ) (m : Machine) (t u : ℕ) (a b : Actor) where
 
   locked_born : (d : Duty) (rest : List Duty) (y : ℕ) → AtDuty p n m t a d rest → a.locked ≡ Some y
       → m.life y ≢ Unborn
-  locked_born d rest y here locked = alive_born m y (locked_alive p n m t a y here.core here.found locked)
+  locked_born d rest y here locked = alive_born m y (locked_alive t a y here.core here.found locked)
 
   kind_left : (d : Duty) (rest : List Duty) (x : ℕ) → AtDuty p n m t a d rest → u ≢ t → IsNext m u b x
       → (done_by m t a d rest).memory (KindOf x) ≡ m.memory (KindOf x)

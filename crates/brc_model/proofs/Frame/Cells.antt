@@ -84,7 +84,7 @@ module _ {p : Accounts} {n : ℕ} {m : Machine} {t : ℕ} {a : Actor} {rest : Li
   dead_unfilled (CellSwap y j z h) x i here dead =
       let locked = (head_of here).0 in
       not_filled x i y j (λ lists cells.
-      dead (ap m.life (sym lists) ∙ (locked_alive p n m t a y here.core here.found locked).life))
+      dead (ap m.life (sym lists) ∙ (locked_alive t a y here.core here.found locked).life))
   dead_unfilled _ x i here dead = refl
 
   -- It fills no cell past the list's number of cells.

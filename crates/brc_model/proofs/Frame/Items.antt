@@ -74,7 +74,7 @@ module _ (p : Accounts) (n : ℕ) (m : Machine) (t : ℕ) (a : Actor) where
       → slice_get m.actors u ≡ Some b → b.locked ≡ Some x
       → (done_by m t a d rest).memory (Cell x i) ≡ m.memory (Cell x i)
   items_left (SettleCell y j k) rest here u x i b ne found e =
-      settled_apart y j k rest x i here (locked_alive p n m u b x here.core found e)
+      settled_apart y j k rest x i here (locked_alive u b x here.core found e)
   items_left (CellLoad y j) rest here u x i b ne found e = written_load m.memory (Cell y j) (Cell x i)
   items_left (CellSwap y j z h) rest here u x i b ne found e =
       swapped_apart y j z h rest u x i b here ne found e
@@ -84,7 +84,7 @@ module _ (p : Accounts) (n : ℕ) (m : Machine) (t : ℕ) (a : Actor) where
   pub own_items_left : (d : Duty) (rest : List Duty) → AtDuty p n m t a d rest → drops_items d ≡ false → (x i : ℕ)
       → a.locked ≡ Some x → (done_by m t a d rest).memory (Cell x i) ≡ m.memory (Cell x i)
   own_items_left (SettleCell y j k) rest here keeps x i e =
-      settled_apart y j k rest x i here (locked_alive p n m t a x here.core here.found e)
+      settled_apart y j k rest x i here (locked_alive t a x here.core here.found e)
   own_items_left (CellLoad y j) rest here keeps x i e = written_load m.memory (Cell y j) (Cell x i)
   own_items_left (CellSwap y j z h) rest here keeps x i e = absurd cc
   own_items_left _ rest here keeps x i e = refl
@@ -95,7 +95,7 @@ module _ (p : Accounts) (n : ℕ) (m : Machine) (t : ℕ) (a : Actor) where
   pub lists_left : (d : Duty) (rest : List Duty) → AtDuty p n m t a d rest → (u x : ℕ) (b : Actor) → u ≢ t
       → slice_get m.actors u ≡ Some b → b.locked ≡ Some x → LeavesList m (done_by m t a d rest) x
   lists_left d rest here u x b ne found e = record {
-    kind = word_stays d rest x here (alive_born m x (locked_alive p n m u b x here.core found e));
+    kind = word_stays d rest x here (alive_born m x (locked_alive u b x here.core found e));
     cells = λ i. items_left d rest here u x i b ne found e;
   }
 
@@ -113,7 +113,7 @@ module _ (p : Accounts) (n : ℕ) (m : Machine) (t : ℕ) (a : Actor) where
   own_list_kept d rest here keeps x e = (
     still_locked d rest x here keeps e,
     record {
-      kind = word_stays d rest x here (alive_born m x (locked_alive p n m t a x here.core here.found e));
+      kind = word_stays d rest x here (alive_born m x (locked_alive t a x here.core here.found e));
       cells = λ i. own_items_left d rest here keeps x i e;
     },
   )

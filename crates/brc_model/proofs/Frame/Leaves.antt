@@ -50,7 +50,7 @@ module _ {p : Accounts} {n : ℕ} {m : Machine} {t : ℕ} {a : Actor} {d : Duty}
       → extra_of (d ∷ rest) k x ≡ true → lacks_of (d ∷ rest) k x ≡ false → Alive m x
   given_alive k x here pos more less =
       let some = gives_held k x here more less in
-      alive_referenced p n m x here.core pos
+      alive_referenced x here.core pos
       (omega (arith, some, held-le-references_to (reference_of t k x) m.abstract.references))
 
 module _ {p : Accounts} {n : ℕ} {m : Machine} {t : ℕ} {a : Actor} {rest : List Duty} where
@@ -58,7 +58,7 @@ module _ {p : Accounts} {n : ℕ} {m : Machine} {t : ℕ} {a : Actor} {rest : Li
   exchange_alive x w Own here = given_alive InFlight x here (head_of here) (eq-eqb x x refl) refl
   exchange_alive x w Handed here =
       let one : one_if (x == x) ≡ 1 = ap one_if (eq-eqb x x refl) in
-      alive_waiting p n m x here.core (head_of here).0 (omega (
+      alive_waiting x here.core (head_of here).0 (omega (
         arith,
         first_weighs (waits x) m.actors t a (SharedExchange x Handed w) rest here.found here.agenda,
         one,
@@ -69,7 +69,7 @@ module _ {p : Accounts} {n : ℕ} {m : Machine} {t : ℕ} {a : Actor} {rest : Li
   load_alive x Own here = given_alive InFlight x here (head_of here) (eq-eqb x x refl) refl
   load_alive x Handed here =
       let one : one_if (x == x) ≡ 1 = ap one_if (eq-eqb x x refl) in
-      alive_waiting p n m x here.core (head_of here).0 (omega (
+      alive_waiting x here.core (head_of here).0 (omega (
         arith,
         first_weighs (waits x) m.actors t a (SharedLoad x Handed) rest here.found here.agenda,
         one,
@@ -78,26 +78,26 @@ module _ {p : Accounts} {n : ℕ} {m : Machine} {t : ℕ} {a : Actor} {rest : Li
   pub decide_alive : (x : ℕ) → AtDuty p n m t a (DecideAtZero x) rest → Alive m x
   decide_alive x here =
       let one : one_if (x == x) ≡ 1 = ap one_if (eq-eqb x x refl) in
-      alive_deciding p n m x here.core (head_of here).0
+      alive_deciding x here.core (head_of here).0
       (omega (arith, first_weighs (decides x) m.actors t a (DecideAtZero x) rest here.found here.agenda, one))
 
   pub merge_alive : (x c w : ℕ) (r : Reason) → AtDuty p n m t a (MergeExchange x c w r) rest → Alive m x
   merge_alive x c w r here =
       let one : one_if (x == x) ≡ 1 = ap one_if (eq-eqb x x refl) in
-      alive_merging p n m x here.core (head_of here).0
+      alive_merging x here.core (head_of here).0
       (omega (arith, first_weighs (merges x) m.actors t a (MergeExchange x c w r) rest here.found here.agenda, one))
 
   -- The row of a merge that loads the shared word is live, for the same reason as at the exchange.
   pub merge_load_alive : (x c : ℕ) (r : Reason) → AtDuty p n m t a (MergeLoad x c r) rest → Alive m x
   merge_load_alive x c r here =
       let one : one_if (x == x) ≡ 1 = ap one_if (eq-eqb x x refl) in
-      alive_merging p n m x here.core (head_of here).0
+      alive_merging x here.core (head_of here).0
       (omega (arith, first_weighs (merges x) m.actors t a (MergeLoad x c r) rest here.found here.agenda, one))
 
   pub claim_alive : (x : ℕ) → AtDuty p n m t a (MergeSwap x Handed) rest → Alive m x
   claim_alive x here =
       let one : one_if (x == x) ≡ 1 = ap one_if (eq-eqb x x refl) in
-      alive_waiting p n m x here.core (head_of here).0
+      alive_waiting x here.core (head_of here).0
       (omega (arith, first_weighs (waits x) m.actors t a (MergeSwap x Handed) rest here.found here.agenda, one))
 
 -- ---- local words
@@ -127,18 +127,16 @@ module _ {p : Accounts} {n : ℕ} {m : Machine} {t : ℕ} {a : Actor} {rest : Li
             ∙ ap status_word other.running)
       ]
 
--- No thread owns a row that isn't born.
-unowned_clash : (p : Accounts) (n : ℕ) (m : Machine) (u x y : ℕ) (b : Actor) → CoreInvariant p n m
-    → IsCounted m.layout y
-    → m.life y ≡ Unborn
-    → OwnsLocally m u b x → y ≡ x → ⊥
-unowned_clash p n m u x y b core above unborn other same =
-    let theirs : owner_part (m.memory (Local y)) ≡ u + 1 =
-    ap (λ (z : ℕ). owner_part (m.memory (Local z))) same ∙ other.owner in
-    let row =
-    subst (λ (l : Life). RowInvariant (block_of m.layout y) l (numbers_of m y)) unborn
-    (core.rows y above) in
-    omega (arith, theirs, row.local)
+module _ {p : Accounts} {n : ℕ} {m : Machine} where
+  -- No thread owns a row that isn't born.
+  unowned_clash : (u x y : ℕ) (b : Actor) → CoreInvariant p n m → IsCounted m.layout y → m.life y ≡ Unborn
+      → OwnsLocally m u b x → y ≡ x → ⊥
+  unowned_clash u x y b core above unborn other same =
+      let theirs : owner_part (m.memory (Local y)) ≡ u + 1 =
+      ap (λ (z : ℕ). owner_part (m.memory (Local z))) same ∙ other.owner in
+      let row =
+      subst (λ (l : Life). RowInvariant (block_of m.layout y) l (numbers_of m y)) unborn (core.rows y above) in
+      omega (arith, theirs, row.local)
 
 local_kept : (m : Machine) (y x v : ℕ) → (y ≡ x → ⊥) → written m.memory (Local y) v (Local x) ≡ m.memory (Local x)
 local_kept m y x v ne = written_apart m.memory (Local y) (Local x) v (apart_local y x ne)
@@ -159,7 +157,7 @@ module _ {p : Accounts} {n : ℕ} {m : Machine} {t : ℕ} {a : Actor} {rest : Li
       local_kept m y x 0 (owners_clash m t u x y a b ne (head_of here).1 other)
   locals_left (BirthLocal y h) here u x b ne found other =
       local_kept m y x (local_word t 1)
-      (unowned_clash p n m u x y b here.core (next_counted m t a y (head_of here).0)
+      (unowned_clash u x y b here.core (next_counted m t a y (head_of here).0)
       (next_unborn p n m t a y here.core here.found (head_of here).0) other)
   locals_left (MergeSwap y Handed) here u x b ne found other =
       local_kept m y x 0 (claim_clash u x y b here ne found other)
@@ -260,19 +258,20 @@ pub locked_held : (bag : List Reference) (t : ℕ) (account : Account) (a : Acto
 locked_held bag t account a k x holds some =
     omega (arith, holds.each k x, some, makes_first a.agenda k x)
 
--- A thread holds a reference to the list that it has locked.
-pub locked_backed : (p : Accounts) (n : ℕ) (m : Machine) (t : ℕ) (a : Actor) (x : ℕ) → CoreInvariant p n m
-    → slice_get m.actors t ≡ Some a → a.locked ≡ Some x → IsBacked m t a x
-locked_backed p n m t a x core found e =
-    let fits = (core.each t a found).0 in
-    let it = fits.locks x e in
-    ByReference it.by (locked_held m.abstract.references t (p t) a it.by x fits.holds it.held_so)
+module _ {p : Accounts} {n : ℕ} {m : Machine} where
+  -- A thread holds a reference to the list that it has locked.
+  pub locked_backed : (t : ℕ) (a : Actor) (x : ℕ) → CoreInvariant p n m → slice_get m.actors t ≡ Some a
+      → a.locked ≡ Some x → IsBacked m t a x
+  locked_backed t a x core found e =
+      let fits = (core.each t a found).0 in
+      let it = fits.locks x e in
+      ByReference it.by (locked_held m.abstract.references t (p t) a it.by x fits.holds it.held_so)
 
--- So the list lives.
-pub locked_alive : (p : Accounts) (n : ℕ) (m : Machine) (t : ℕ) (a : Actor) (x : ℕ) → CoreInvariant p n m
-    → slice_get m.actors t ≡ Some a → a.locked ≡ Some x → Alive m x
-locked_alive p n m t a x core found e =
-    alive_backed p n m t a x core ((core.each t a found).0.locks x e).counted (locked_backed p n m t a x core found e)
+  -- So the list lives.
+  pub locked_alive : (t : ℕ) (a : Actor) (x : ℕ) → CoreInvariant p n m → slice_get m.actors t ≡ Some a
+      → a.locked ≡ Some x → Alive m x
+  locked_alive t a x core found e =
+      alive_backed t a x core ((core.each t a found).0.locks x e).counted (locked_backed t a x core found e)
 
 unlocked_by : (account : Account) (m : Machine) (t : ℕ) (a : Actor) (locked : Option ℕ) → a.locked ≡ locked
     → LocksFit account m t a → HoldsNone account → locked ≡ None
@@ -280,12 +279,13 @@ unlocked_by account m t a None is locks none = refl
 unlocked_by account m t a (Some x) is locks none =
     let it = locks x is in absurd (omega (arith, it.held_so, none it.by x))
 
--- A thread whose exit is under way or done has locked nothing.
-pub exits_unlocked : (p : Accounts) (n : ℕ) (m : Machine) (t : ℕ) (a : Actor) → CoreInvariant p n m
-    → slice_get m.actors t ≡ Some a → exits a.status a.agenda ≡ true → a.locked ≡ None
-exits_unlocked p n m t a core found e =
-    let fits = (core.each t a found).0 in
-    unlocked_by (p t) m t a a.locked refl fits.locks (fits.exited e).0
+module _ {p : Accounts} {n : ℕ} {m : Machine} where
+  -- A thread whose exit is under way or done has locked nothing.
+  pub exits_unlocked : (t : ℕ) (a : Actor) → CoreInvariant p n m → slice_get m.actors t ≡ Some a
+      → exits a.status a.agenda ≡ true → a.locked ≡ None
+  exits_unlocked t a core found e =
+      let fits = (core.each t a found).0 in
+      unlocked_by (p t) m t a a.locked refl fits.locks (fits.exited e).0
 
 -- A row that dies, by whichever thread, isn't one that lives.
 pub alive_apart : (m : Machine) (t x y : ℕ) → m.life y ≡ Dying t → Alive m x → y ≡ x → ⊥
@@ -302,11 +302,11 @@ module _ {p : Accounts} {n : ℕ} {m : Machine} {t : ℕ} {a : Actor} {rest : Li
       (new_word t a.head d (m.memory (address_of m.layout t a.head d))) (Gate x) ≡ m.memory (Gate x)
   locks_left (Die y) here u x b ne found e =
       written_apart m.memory (Gate y) (Gate x) _
-      (apart_gate y x (alive_apart m t x y (head_of here).1 (locked_alive p n m u b x here.core found e)))
+      (apart_gate y x (alive_apart m t x y (head_of here).1 (locked_alive u b x here.core found e)))
   locks_left Settle here u x b ne found e = written_load m.memory (Gate (a.head - 1)) (Gate x)
   locks_left (SettleEnd y) here u x b ne found e =
       written_apart m.memory (Gate y) (Gate x) _
-      (apart_gate y x (alive_apart m t x y (head_of here).1 (locked_alive p n m u b x here.core found e)))
+      (apart_gate y x (alive_apart m t x y (head_of here).1 (locked_alive u b x here.core found e)))
   locks_left (LockGate y) here u x b ne found e =
       elim (eqb_tells y x) [
         | inl same ↦
@@ -349,9 +349,9 @@ module _ {p : Accounts} {n : ℕ} {m : Machine} {t : ℕ} {a : Actor} {rest : Li
   gates_left (LockGate y) here u x ne dies =
       let fits = head_of here in
       written_apart m.memory (Gate y) (Gate x) _
-      (apart_gate y x (living_clash m u x y (alive_backed p n m t a y here.core fits.0 fits.1) dies))
+      (apart_gate y x (living_clash m u x y (alive_backed t a y here.core fits.0 fits.1) dies))
   gates_left (UnlockGate y) here u x ne dies =
       let fits = head_of here in
       written_apart m.memory (Gate y) (Gate x) _
-      (apart_gate y x (living_clash m u x y (alive_backed p n m t a y here.core fits.0 fits.1) dies))
+      (apart_gate y x (living_clash m u x y (alive_backed t a y here.core fits.0 fits.1) dies))
   gates_left _ here u x ne dies = refl

@@ -39,11 +39,11 @@ chains_there p n m t a counts found =
     let core = counts.kept.core in
     let chain = (core.each t a found).0.chain in
     record {
-      head = head_small p n m t a core found;
-      first = λ x first. first_chained p n m t a x core found first;
+      head = head_small t a core found;
+      first = λ x first. first_chained t a x core found first;
       locked = λ x is.
           let none : one_if (dies_by (m.life x) t) ≡ 0 =
-          ap (λ (l : Life). one_if (dies_by l t)) (locked_alive p n m t a x core found is).life in
+          ap (λ (l : Life). one_if (dies_by l t)) (locked_alive t a x core found is).life in
           record {
             later = λ first.
                 omega (
@@ -91,54 +91,53 @@ same_locks account m t a d locks none y e =
       gate = it.gate;
     }
 
--- A ready thread that has put nothing aside takes up such a duty.
-pub alone_begins : (p : Accounts) (n : ℕ) (m : Machine) (t : ℕ) (a : Actor) (d : Duty) → Counts p n m
-    → IsReady m t a → a.aside ≡ [] → TakesAlone p m t a d
-    → Counts p n (with_actor m t (working a (d ∷ []) a.aside))
-alone_begins p n m t a d counts ready none new =
-    let core = counts.kept.core in
-    let begins = new.begins in
-    let old = core.each t a ready.found in
-    let sits : Sits m t a (d ∷ []) (p t) = record {
-      holds = record {
-        each = λ k object.
-            omega (
-              arith,
-              (ready_holds p n m t a core ready).each k object,
-              ap one_if (begins.lacks k object),
-              ap one_if (begins.extra k object),
-            );
-      };
-      bounded = old.0.bounded;
-      exited = λ e. (new.exited e, none);
-      aside = record {
-        waits = still_wait m t a (d ∷ []) a.aside a.aside old.2.waits;
-        apart = λ y.
-            let empty : count_by (is_about y) a.aside ≡ 0 = ap (count_by (is_about y)) none in
-            omega (arith, empty, one_if_low (is_about y d));
-        pieces = inl none;
-      };
-      knows = new.knows;
-      behind = tt;
-      locks = same_locks (p t) m t a d old.0.locks begins.lacks;
-      fits = new.fits;
-      hands = λ y. ap (λ (b : Bool). cond b 1 0) (begins.hands y);
-      no_waits = λ y. one_weight (waits y) d (begins.waits y);
-      no_carries = λ y. one_weight (carries y) d (begins.carries y);
-      no_merges = λ y. one_weight (merges y) d (begins.merges y);
-      no_decides = λ y. one_weight (decides y) d (begins.decides y);
-      no_looks = λ y. one_weight (looks y) d (begins.looks y);
-    } in
-    record {
-      kept =
-          subst (λ (q : Accounts). Invariant q n (with_actor m t (working a (d ∷ []) a.aside)))
-          (with_account_itself p t)
-          (kept_sits p n m t a (d ∷ []) (p t) counts.kept (ready_rests p n m t a core ready) sits new.settled);
-      ranges =
-          working_ranges n m t a (d ∷ []) a.aside counts.ranges ready.found (new.small, tt)
-          (counts.ranges.aside t a ready.found);
-      no_flight = counts.no_flight;
-    }
+module _ {p : Accounts} {n : ℕ} {m : Machine} {t : ℕ} {a : Actor} where
+  -- A ready thread that has put nothing aside takes up such a duty.
+  pub alone_begins : (d : Duty) → Counts p n m → IsReady m t a → a.aside ≡ [] → TakesAlone p m t a d
+      → Counts p n (with_actor m t (working a (d ∷ []) a.aside))
+  alone_begins d counts ready none new =
+      let core = counts.kept.core in
+      let begins = new.begins in
+      let old = core.each t a ready.found in
+      let sits : Sits m t a (d ∷ []) (p t) = record {
+        holds = record {
+          each = λ k object.
+              omega (
+                arith,
+                (ready_holds core ready).each k object,
+                ap one_if (begins.lacks k object),
+                ap one_if (begins.extra k object),
+              );
+        };
+        bounded = old.0.bounded;
+        exited = λ e. (new.exited e, none);
+        aside = record {
+          waits = still_wait m t a (d ∷ []) a.aside a.aside old.2.waits;
+          apart = λ y.
+              let empty : count_by (is_about y) a.aside ≡ 0 = ap (count_by (is_about y)) none in
+              omega (arith, empty, one_if_low (is_about y d));
+          pieces = inl none;
+        };
+        knows = new.knows;
+        behind = tt;
+        locks = same_locks (p t) m t a d old.0.locks begins.lacks;
+        fits = new.fits;
+        hands = λ y. ap (λ (b : Bool). cond b 1 0) (begins.hands y);
+        no_waits = λ y. one_weight (waits y) d (begins.waits y);
+        no_carries = λ y. one_weight (carries y) d (begins.carries y);
+        no_merges = λ y. one_weight (merges y) d (begins.merges y);
+        no_decides = λ y. one_weight (decides y) d (begins.decides y);
+        no_looks = λ y. one_weight (looks y) d (begins.looks y);
+      } in
+      record {
+        kept =
+            subst (λ (q : Accounts). Invariant q n (with_actor m t (working a (d ∷ []) a.aside)))
+            (with_account_itself p t) (kept_sits (d ∷ []) (p t) counts.kept (ready_rests core ready) sits new.settled);
+        ranges =
+            working_ranges n m t a (d ∷ []) a.aside counts.ranges ready.found (new.small, tt)
+            (counts.ranges.aside t a ready.found);
+        no_flight = counts.no_flight;
+      }
 
 settle_begins : BeginsAlone Settle
 settle_begins = record {
@@ -179,7 +178,7 @@ leave_begins i k = record {
 -- The invariant and the ranges hold after a ready thread begins to settle its chain.
 pub settles_begin : SettlesBegin
 settles_begin p n m t a counts ready none some =
-    alone_begins p n m t a Settle counts ready none (record {
+    alone_begins Settle counts ready none (record {
       begins = settle_begins;
       exited = λ e. absurd (false≢true e);
       knows = some;
@@ -191,7 +190,7 @@ settles_begin p n m t a counts ready none some =
 -- The invariant and the ranges hold after a ready thread begins to claim the mark of a row of its block.
 pub claims_begin : ClaimsBegin
 claims_begin p n m t a x counts ready none own there =
-    alone_begins p n m t a (ClaimMark x) counts ready none (record {
+    alone_begins (ClaimMark x) counts ready none (record {
       begins = claim_begins x;
       exited = λ e. absurd (false≢true e);
       knows = own;
@@ -203,7 +202,7 @@ claims_begin p n m t a x counts ready none own there =
 -- The invariant and the ranges hold after a ready thread that holds nothing begins to leave.
 pub exits_begin : ExitsBegin
 exits_begin p n m t a counts ready none empty holds =
-    alone_begins p n m t a (Leave 0 a.used) counts ready none (record {
+    alone_begins (Leave 0 a.used) counts ready none (record {
       begins = leave_begins 0 a.used;
       exited = λ e. holds;
       knows = tt;
@@ -229,17 +228,17 @@ kind_load_begins x = record {
   looks = λ y. refl;
 }
 
--- The thread may look at the object for whose kind it asks.
-asked_looks : (p : Accounts) (n : ℕ) (m : Machine) (t : ℕ) (a : Actor) (x : ℕ) → CoreInvariant p n m → IsReady m t a
-    → HasNoneAbout a x → IsAtHand (p t) m a x ⊎ IsFirstOfChain a x → MayLook m t a x
-asked_looks p n m t a x core ready alone (inl at_hand) = inl (at_hand_backed p n m t a x core ready alone at_hand)
-asked_looks p n m t a x core ready alone (inr first) = inr (first_chained p n m t a x core ready.found first)
+module _ {p : Accounts} {n : ℕ} {m : Machine} {t : ℕ} {a : Actor} where
+  -- The thread may look at the object for whose kind it asks.
+  asked_looks : (x : ℕ) → CoreInvariant p n m → IsReady m t a → HasNoneAbout a x
+      → IsAtHand (p t) m a x ⊎ IsFirstOfChain a x → MayLook m t a x
+  asked_looks x core ready alone (inl at_hand) = inl (at_hand_backed x core ready alone at_hand)
+  asked_looks x core ready alone (inr first) = inr (first_chained t a x core ready.found first)
 
-asked_row : (p : Accounts) (n : ℕ) (m : Machine) (t : ℕ) (a : Actor) (x : ℕ) → CoreInvariant p n m → IsReady m t a
-    → HasNoneAbout a x → IsAtHand (p t) m a x ⊎ IsFirstOfChain a x → x < row_count m.layout
-asked_row p n m t a x core ready alone (inl at_hand) =
-    backed_row p n m t a x core (at_hand_backed p n m t a x core ready alone at_hand)
-asked_row p n m t a x core ready alone (inr first) = first_row p n m t a x core ready.found first
+  asked_row : (x : ℕ) → CoreInvariant p n m → IsReady m t a → HasNoneAbout a x
+      → IsAtHand (p t) m a x ⊎ IsFirstOfChain a x → x < row_count m.layout
+  asked_row x core ready alone (inl at_hand) = backed_row t a x core (at_hand_backed x core ready alone at_hand)
+  asked_row x core ready alone (inr first) = first_row t a x core ready.found first
 
 -- New work leaves what the thread may look at.
 pub looks_still : (m : Machine) (t : ℕ) (a : Actor) (x : ℕ) (d : Duty) → MayLook m t a x
@@ -252,11 +251,10 @@ looks_still m t a x d (inr chained) = inr chained
 pub kinds_asked : KindsAreAsked
 kinds_asked p n m t a x counts ready alone asks =
     let core = counts.kept.core in
-    let holds = ready_holds p n m t a core ready in
-    let looks = asked_looks p n m t a x core ready alone asks in
+    let holds = ready_holds core ready in
+    let looks = asked_looks x core ready alone asks in
     subst (λ (q : Accounts). Counts q n (with_actor m t (working a (KindLoad x ∷ []) a.aside)))
-    (with_account_itself p t)
-    (work_begins p n m t a x (KindLoad x) (p t) counts ready alone (record {
+    (with_account_itself p t) (work_begins x (KindLoad x) (p t) counts ready alone (record {
       begins = kind_load_begins x;
       no_flight = counts.no_flight t;
       holds = λ k object. omega (arith, holds.each k object);
@@ -264,6 +262,5 @@ kinds_asked p n m t a x counts ready alone asks =
       locks = same_locks (p t) m t a (KindLoad x) (core.each t a ready.found).0.locks (λ k y. refl);
       knows = looks_still m t a x (KindLoad x) looks;
       small =
-          row_small (row_count m.layout) x (KindLoad x) (asked_row p n m t a x core ready alone asks) (λ y. refl)
-          (omega arith);
+          row_small (row_count m.layout) x (KindLoad x) (asked_row x core ready alone asks) (λ y. refl) (omega arith);
     }))

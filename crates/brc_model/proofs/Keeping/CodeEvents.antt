@@ -45,7 +45,7 @@ silent_keeps p n m t a moves place whole found fits kinds items rooms =
     let new = with_account c t fits.account in
     let own = whole.coded t a found in
     let here : Invariant new n (silenced (counting m) t a.actor moves) = record {
-      core = silent_core c n (counting m) t a.actor moves fits.account fits.at fits.sits;
+      core = silent_core moves fits.account fits.at fits.sits;
       settled =
           λ u b is. written_actor (λ w x. IsSettled x.head x.agenda) (counting m).actors t a.actor
           (sitting a.actor []) fits.at.found tt whole.kept.settled u b is;
@@ -66,9 +66,7 @@ silent_keeps p n m t a moves place whole found fits kinds items rooms =
         items = items;
         rooms = rooms;
         coded =
-            coded_set p c m.actors t a (at_place a place) fits.account
-            found
-            (record {
+            coded_set p c m.actors t a (at_place a place) fits.account found (record {
               alone = own.alone;
               plain = own.plain;
               accepted = own.accepted;
@@ -93,7 +91,7 @@ action_keeps p n m t a exit (Silent moves place) whole found fits kinds items ro
 action_keeps p n m t a exit (Calls row place) whole found fits kinds items rooms =
     let quiet = (silent_keeps p n m t a [] (place exit) whole found (fits.silent exit)
     (record { named = kinds.named; known = kinds.known }) items rooms).1 in (
-      lent_free whole.accounts n (counting m) t a.actor row whole.kept.core (its_found m t a found) fits.uses,
+      lent_free t a.actor row whole.kept.core (its_found m t a found) fits.uses,
       record {
         accounts = quiet.accounts;
         kept = quiet.kept;

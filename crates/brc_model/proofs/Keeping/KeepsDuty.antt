@@ -53,7 +53,7 @@ module _ {p : Accounts} {n : ℕ} {m : Machine} {t : ℕ} {a : Actor} {d : Duty}
         workers = here.core.workers;
         few_cells = here.core.few_cells;
         few_immortals = here.core.few_immortals;
-        rows = λ x pos. rows_after p n m t a d rest here.core here.found here.agenda alive x pos;
+        rows = λ x pos. rows_after t a d rest here.core here.found here.agenda alive x pos;
         marks = marks;
         each = others_and_own here own (aside_after here);
         beyond =

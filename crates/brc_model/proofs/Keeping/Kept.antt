@@ -114,30 +114,28 @@ duty_kept p n m t a d rest doing =
 
 -- ---- taking up work
 
--- The second part of the theorem: taking up work that meets its condition keeps the invariant.
-pub kept_sits : (p : Accounts) (n : ℕ) (m : Machine) (t : ℕ) (a : Actor) (agenda : List Duty)
-    (account : Account)
-    → Invariant p n m → AtRest p n m t a → Sits m t a agenda account → IsSettled a.head agenda
-    → Invariant (with_account p t account) n (with_actor m t (sitting a agenda))
-kept_sits p n m t a agenda account kept rest sits settled = record {
-  core = sits_core p n m t a agenda account rest sits;
-  settled =
-      λ u b is. written_actor (λ w c. IsSettled c.head c.agenda) m.actors t a (sitting a agenda) rest.found
-      settled kept.settled u b is;
-}
+module _ {p : Accounts} {n : ℕ} {m : Machine} {t : ℕ} {a : Actor} where
+  -- The second part of the theorem: taking up work that meets its condition keeps the invariant.
+  pub kept_sits : (agenda : List Duty) (account : Account) → Invariant p n m → AtRest p n m t a
+      → Sits m t a agenda account → IsSettled a.head agenda
+      → Invariant (with_account p t account) n (with_actor m t (sitting a agenda))
+  kept_sits agenda account kept rest sits settled = record {
+    core = sits_core agenda account rest sits;
+    settled =
+        λ u b is. written_actor (λ w c. IsSettled c.head c.agenda) m.actors t a (sitting a agenda) rest.found
+        settled kept.settled u b is;
+  }
 
--- A thread that has taken up duties is ready to do the first of them.
-pub sits_down : (p : Accounts) (n : ℕ) (m : Machine) (t : ℕ) (a : Actor) (d : Duty) (rest : List Duty)
-    (account : Account)
-    → Invariant p n m → AtRest p n m t a → Sits m t a (d ∷ rest) account → IsSettled a.head (d ∷ rest)
-    → Doing (with_account p t account) n (with_actor m t (sitting a (d ∷ rest))) t (sitting a (d ∷ rest)) d
-    rest
-sits_down p n m t a d rest account kept at sits settled = record {
-  kept = kept_sits p n m t a (d ∷ rest) account kept at sits settled;
-  found = slice_get-set_same m.actors t (sitting a (d ∷ rest)) (slice_get_within m.actors t a at.found);
-  agenda = refl;
-  alive = λ e. let wrong : Running ≡ Gone = sym at.running ∙ e in absurd cc;
-}
+  -- A thread that has taken up duties is ready to do the first of them.
+  pub sits_down : (d : Duty) (rest : List Duty) (account : Account) → Invariant p n m → AtRest p n m t a
+      → Sits m t a (d ∷ rest) account → IsSettled a.head (d ∷ rest)
+      → Doing (with_account p t account) n (with_actor m t (sitting a (d ∷ rest))) t (sitting a (d ∷ rest)) d rest
+  sits_down d rest account kept at sits settled = record {
+    kept = kept_sits (d ∷ rest) account kept at sits settled;
+    found = slice_get-set_same m.actors t (sitting a (d ∷ rest)) (slice_get_within m.actors t a at.found);
+    agenda = refl;
+    alive = λ e. let wrong : Running ≡ Gone = sym at.running ∙ e in absurd cc;
+  }
 
 -- Taking up duties and doing the first of them at once isn't bad and keeps the invariant.
 pub taken_up : (p : Accounts) (n : ℕ) (m : Machine) (t : ℕ) (a : Actor) (d : Duty) (rest : List Duty)
@@ -148,5 +146,5 @@ taken_up p n m t a d rest account kept at sits settled =
     let now = sitting a (d ∷ rest) in
     let done =
     duty_kept (with_account p t account) n (with_actor m t now) t now d rest
-    (sits_down p n m t a d rest account kept at sits settled) in
+    (sits_down d rest account kept at sits settled) in
     (done.0, subst (Invariant (with_account p t account) n) (taken_up_step m t a d rest) done.1)

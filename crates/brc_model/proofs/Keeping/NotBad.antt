@@ -72,44 +72,42 @@ module _ {p : Accounts} {n : ℕ} {m : Machine} {t : ℕ} {a : Actor} {rest : Li
             ap m.life row ∙ is_dying (m.life x) t dies
       ] refl chain.linked
 
--- The next row of a thread's block isn't freed, since it isn't born yet.
-next_free : (p : Accounts) (n : ℕ) (m : Machine) (t : ℕ) (a : Actor) (x : ℕ) → CoreInvariant p n m
-    → slice_get m.actors t ≡ Some a
-    → IsNext m t a x → touches_freed m t (Some x) ≡ false
-next_free p n m t a x core found next = ap (is_freed_for t) (next_unborn p n m t a x core found next)
+module _ {p : Accounts} {n : ℕ} {m : Machine} where
+  -- The next row of a thread's block isn't freed, since it isn't born yet.
+  next_free : (t : ℕ) (a : Actor) (x : ℕ) → CoreInvariant p n m → slice_get m.actors t ≡ Some a → IsNext m t a x
+      → touches_freed m t (Some x) ≡ false
+  next_free t a x core found next = ap (is_freed_for t) (next_unborn p n m t a x core found next)
 
--- An object that something keeps alive for the thread's duty isn't freed.
-backed_free : (p : Accounts) (n : ℕ) (m : Machine) (t : ℕ) (a : Actor) (x : ℕ) → CoreInvariant p n m → IsBacked m t a x
-    → is_freed_for t (m.life x) ≡ false
-backed_free p n m t a x core backed =
-    elim (cases_Bool (is_immortal_row m.layout x)) [
-      | inl immortal ↦ ap (is_freed_for t) (core.immortals_live x immortal)
-      | inr counted ↦ alive_free m t x (alive_backed p n m t a x core counted backed)
-    ]
+  -- An object that something keeps alive for the thread's duty isn't freed.
+  backed_free : (t : ℕ) (a : Actor) (x : ℕ) → CoreInvariant p n m → IsBacked m t a x → is_freed_for t (m.life x) ≡ false
+  backed_free t a x core backed =
+      elim (cases_Bool (is_immortal_row m.layout x)) [
+        | inl immortal ↦ ap (is_freed_for t) (core.immortals_live x immortal)
+        | inr counted ↦ alive_free m t x (alive_backed t a x core counted backed)
+      ]
 
--- Nor is an object that the thread has chained itself.
-look_free : (p : Accounts) (n : ℕ) (m : Machine) (t : ℕ) (a : Actor) (x : ℕ) → CoreInvariant p n m → MayLook m t a x
-    → is_freed_for t (m.life x) ≡ false
-look_free p n m t a x core (inl backed) = backed_free p n m t a x core backed
-look_free p n m t a x core (inr chained) = dying_free m t x chained.0
+  -- Nor is an object that the thread has chained itself.
+  look_free : (t : ℕ) (a : Actor) (x : ℕ) → CoreInvariant p n m → MayLook m t a x → is_freed_for t (m.life x) ≡ false
+  look_free t a x core (inl backed) = backed_free t a x core backed
+  look_free t a x core (inr chained) = dying_free m t x chained.0
 
--- Nor is an object whose resource the thread has lent to a call of the host, since the thread has locked it.
-pub lent_free : (p : Accounts) (n : ℕ) (m : Machine) (t : ℕ) (a : Actor) (row : Option ℕ) → CoreInvariant p n m
-    → slice_get m.actors t ≡ Some a → a.lent ≡ row → touches_freed m t row ≡ false
-lent_free p n m t a None core found lent = refl
-lent_free p n m t a (Some x) core found lent =
-    alive_free m t x (locked_alive p n m t a x core found ((core.each t a found).0.lent x lent))
+  -- Nor is an object whose resource the thread has lent to a call of the host, since the thread has locked it.
+  pub lent_free : (t : ℕ) (a : Actor) (row : Option ℕ) → CoreInvariant p n m → slice_get m.actors t ≡ Some a
+      → a.lent ≡ row → touches_freed m t row ≡ false
+  lent_free t a None core found lent = refl
+  lent_free t a (Some x) core found lent =
+      alive_free m t x (locked_alive t a x core found ((core.each t a found).0.lent x lent))
 
 module _ {p : Accounts} {n : ℕ} {m : Machine} {t : ℕ} {a : Actor} {rest : List Duty} where
   touches_none : (d : Duty) → AtDuty p n m t a d rest
       → touches_freed m t (touched_row (address_of m.layout t a.head d)) ≡ false
-  touches_none (RetainLoad x h) here = backed_free p n m t a x here.core (head_of here)
+  touches_none (RetainLoad x h) here = backed_free t a x here.core (head_of here)
   touches_none (RetainStore x h w) here =
       let fits = head_of here in
-      alive_free m t x (alive_backed p n m t a x here.core fits.0 fits.1)
+      alive_free m t x (alive_backed t a x here.core fits.0 fits.1)
   touches_none (RetainAdd x h) here =
       let fits = head_of here in
-      alive_free m t x (alive_backed p n m t a x here.core fits.0 fits.1)
+      alive_free m t x (alive_backed t a x here.core fits.0 fits.1)
   touches_none (ReleaseLoad x h) here =
       elim (cases_Bool (is_immortal_row m.layout x)) [
         | inl immortal ↦ ap (is_freed_for t) (here.core.immortals_live x immortal)
@@ -121,7 +119,7 @@ module _ {p : Accounts} {n : ℕ} {m : Machine} {t : ℕ} {a : Actor} {rest : Li
   touches_none (SharedLoad x r) here = alive_free m t x (load_alive x r here)
   touches_none (SharedExchange x r w) here = alive_free m t x (exchange_alive x w r here)
   touches_none (MergeSwap x Own) here =
-      alive_free m t x (alive_deciding p n m x here.core (head_of here).0
+      alive_free m t x (alive_deciding x here.core (head_of here).0
       (omega (arith, first_weighs (decides x) m.actors t a (MergeSwap x Own) rest here.found here.agenda, one_at x)))
   touches_none (MergeSwap x Handed) here = alive_free m t x (claim_alive x here)
   touches_none (MergeLoad x c r) here = alive_free m t x (merge_load_alive x c r here)
@@ -132,23 +130,23 @@ module _ {p : Accounts} {n : ℕ} {m : Machine} {t : ℕ} {a : Actor} {rest : Li
   touches_none (SettleCell x i k) here = dying_free m t x (head_of here).1
   touches_none (TakeSlot x) here = dying_free m t x (head_of here).1
   touches_none (CloseResource x) here = dying_free m t x (head_of here).1
-  touches_none (BirthKind x h w) here = next_free p n m t a x here.core here.found (head_of here).0
-  touches_none (BirthSlot x h) here = next_free p n m t a x here.core here.found (head_of here).0
-  touches_none (BirthLocal x h) here = next_free p n m t a x here.core here.found (head_of here).0
+  touches_none (BirthKind x h w) here = next_free t a x here.core here.found (head_of here).0
+  touches_none (BirthSlot x h) here = next_free t a x here.core here.found (head_of here).0
+  touches_none (BirthLocal x h) here = next_free t a x here.core here.found (head_of here).0
   touches_none (SettleEnd x) here = dying_free m t x (head_of here).1
-  touches_none (KindLoad x) here = look_free p n m t a x here.core (head_of here)
-  touches_none (LockGate x) here = backed_free p n m t a x here.core (head_of here).1
-  touches_none (UnlockGate x) here = backed_free p n m t a x here.core (head_of here).1
-  touches_none (CellLoad x i) here = look_free p n m t a x here.core (head_of here).1
+  touches_none (KindLoad x) here = look_free t a x here.core (head_of here)
+  touches_none (LockGate x) here = backed_free t a x here.core (head_of here).1
+  touches_none (UnlockGate x) here = backed_free t a x here.core (head_of here).1
+  touches_none (CellLoad x i) here = look_free t a x here.core (head_of here).1
   touches_none (CellSwap x i y h) here =
       let locked = (head_of here).0 in
-      alive_free m t x (locked_alive p n m t a x here.core here.found locked)
+      alive_free m t x (locked_alive t a x here.core here.found locked)
   touches_none (LendSlot x) here =
       let locked = (head_of here).1 in
-      alive_free m t x (locked_alive p n m t a x here.core here.found locked)
+      alive_free m t x (locked_alive t a x here.core here.found locked)
   touches_none (ReturnSlot x) here =
       let lent = head_of here in
-      alive_free m t x (locked_alive p n m t a x here.core here.found ((here.core.each t a here.found).0.lent x lent))
+      alive_free m t x (locked_alive t a x here.core here.found ((here.core.each t a here.found).0.lent x lent))
   touches_none _ here = refl
 
 -- ---- moves of references
@@ -161,12 +159,13 @@ or_true : (a : Bool) → (a || true) ≡ true
 or_true true = refl
 or_true false = refl
 
-backed_gain : (p : Accounts) (n : ℕ) (m : Machine) (t : ℕ) (a : Actor) (x : ℕ) (h : Holding) → CoreInvariant p n m
-    → IsBacked m t a x → are_allowed m.layout m.abstract (gain t h x) ≡ true
-backed_gain p n m t a x h core backed =
-    let some = backed_referenced p n m t a x core backed in
-    one_allowed m.layout m.abstract (Gain (reference_of t h x))
-    (ap (λ (b : Bool). is_immortal_row m.layout x || b) (lt-ltb 0 _ some) ∙ or_true (is_immortal_row m.layout x))
+module _ {p : Accounts} {n : ℕ} {m : Machine} where
+  backed_gain : (t : ℕ) (a : Actor) (x : ℕ) (h : Holding) → CoreInvariant p n m → IsBacked m t a x
+      → are_allowed m.layout m.abstract (gain t h x) ≡ true
+  backed_gain t a x h core backed =
+      let some = backed_referenced p n m t a x core backed in
+      one_allowed m.layout m.abstract (Gain (reference_of t h x))
+      (ap (λ (b : Bool). is_immortal_row m.layout x || b) (lt-ltb 0 _ some) ∙ or_true (is_immortal_row m.layout x))
 
 module _ {p : Accounts} {n : ℕ} {m : Machine} {t : ℕ} {a : Actor} {d : Duty} {rest : List Duty} where
   given_in_bag : (k : Holding) (x : ℕ) → AtDuty p n m t a d rest → extra_of (d ∷ rest) k x ≡ true
@@ -214,23 +213,23 @@ dying_is_not_live m t x dying e = let wrong : Dying t ≡ Live = sym dying ∙ e
 dying_is_not_unborn : (m : Machine) (t x : ℕ) → m.life x ≡ Dying t → (m.life x ≡ Unborn → ⊥)
 dying_is_not_unborn m t x dying e = let wrong : Dying t ≡ Unborn = sym dying ∙ e in cc
 
--- Finalising a dying row is allowed: it has no reference, its cells hold none, and it wasn't closed before.
-finalise_allowed : (p : Accounts) (n : ℕ) (m : Machine) (t x : ℕ) → CoreInvariant p n m → IsCounted m.layout x
-    → m.life x ≡ Dying t → IsEmpty m.memory x
-    → are_allowed m.layout m.abstract (Finalise x ∷ []) ≡ true
-finalise_allowed p n m t x core pos dying cells =
-    let free = is_free_of p n m x core pos (dying_is_not_live m t x dying) (dying_is_not_unborn m t x dying) in
-    let counted : is_counted m.layout x ≡ true = ap not pos in
-    let none : (references_to x m.abstract.references == 0) ≡ true = eq-eqb _ _ free.references in
-    let open_still : is_among x m.abstract.closed ≡ false =
-    elim (is_among x m.abstract.closed) as (λ b. is_among x m.abstract.closed ≡ b → b ≡ false) [
-      | true ↦ λ e. absurd (let wrong : Dying t ≡ Closed = sym dying ∙ core.closed_is x e in cc)
-      | false ↦ λ e. refl
-    ] refl in
-    let empty : holds_by_cells x m.abstract.references ≡ false =
-    no_cell_holds x m.abstract.references
-    (λ i object. core.cells_hold x i object ∙ ap (λ (w : ℕ). word_holds w object) (cells i)) in
-    one_allowed m.layout m.abstract (Finalise x) (rw (counted, none, open_still, empty) refl)
+module _ {p : Accounts} {n : ℕ} {m : Machine} where
+  -- Finalising a dying row is allowed: it has no reference, its cells hold none, and it wasn't closed before.
+  finalise_allowed : (t x : ℕ) → CoreInvariant p n m → IsCounted m.layout x → m.life x ≡ Dying t → IsEmpty m.memory x
+      → are_allowed m.layout m.abstract (Finalise x ∷ []) ≡ true
+  finalise_allowed t x core pos dying cells =
+      let free = is_free_of x core pos (dying_is_not_live m t x dying) (dying_is_not_unborn m t x dying) in
+      let counted : is_counted m.layout x ≡ true = ap not pos in
+      let none : (references_to x m.abstract.references == 0) ≡ true = eq-eqb _ _ free.references in
+      let open_still : is_among x m.abstract.closed ≡ false =
+      elim (is_among x m.abstract.closed) as (λ b. is_among x m.abstract.closed ≡ b → b ≡ false) [
+        | true ↦ λ e. absurd (let wrong : Dying t ≡ Closed = sym dying ∙ core.closed_is x e in cc)
+        | false ↦ λ e. refl
+      ] refl in
+      let empty : holds_by_cells x m.abstract.references ≡ false =
+      no_cell_holds x m.abstract.references
+      (λ i object. core.cells_hold x i object ∙ ap (λ (w : ℕ). word_holds w object) (cells i)) in
+      one_allowed m.layout m.abstract (Finalise x) (rw (counted, none, open_still, empty) refl)
 
 -- Taking out what a cell holds is allowed.
 taken_allowed : (layout : Layout) (p : AbstractState) (t x i w : ℕ)
@@ -251,18 +250,19 @@ swap_allowed layout p t y x i w h some has =
     ∙ taken_allowed layout (filled p t h y x i) t x i w
     (λ z is. omega (arith, has z is, filled_held p t y x i h x i z))
 
--- The birth of the next row is allowed: the row wasn't born before, and its kind is counted.
-birth_allowed : (p : Accounts) (n : ℕ) (m : Machine) (t : ℕ) (a : Actor) (x : ℕ) (h : Holding) (kind : Kind)
-    → CoreInvariant p n m → slice_get m.actors t ≡ Some a → IsNext m t a x
-    → is_counted_kind kind ≡ true → are_allowed m.layout m.abstract (birth t h x kind) ≡ true
-birth_allowed p n m t a x h kind core found next counts =
-    let counted : is_counted m.layout x ≡ true = ap not (next_counted m t a x next) in
-    let new : is_among x m.abstract.born ≡ false =
-    elim (is_among x m.abstract.born) as (λ b. is_among x m.abstract.born ≡ b → b ≡ false) [
-      | true ↦ λ e. absurd ((core.born_is x e).1 (next_unborn p n m t a x core found next))
-      | false ↦ λ e. refl
-    ] refl in
-    one_allowed m.layout m.abstract (Born (reference_of t h x) kind) (rw (counted, counts, new) refl)
+module _ {p : Accounts} {n : ℕ} {m : Machine} where
+  -- The birth of the next row is allowed: the row wasn't born before, and its kind is counted.
+  birth_allowed : (t : ℕ) (a : Actor) (x : ℕ) (h : Holding) (kind : Kind) → CoreInvariant p n m
+      → slice_get m.actors t ≡ Some a → IsNext m t a x → is_counted_kind kind ≡ true
+      → are_allowed m.layout m.abstract (birth t h x kind) ≡ true
+  birth_allowed t a x h kind core found next counts =
+      let counted : is_counted m.layout x ≡ true = ap not (next_counted m t a x next) in
+      let new : is_among x m.abstract.born ≡ false =
+      elim (is_among x m.abstract.born) as (λ b. is_among x m.abstract.born ≡ b → b ≡ false) [
+        | true ↦ λ e. absurd ((core.born_is x e).1 (next_unborn p n m t a x core found next))
+        | false ↦ λ e. refl
+      ] refl in
+      one_allowed m.layout m.abstract (Born (reference_of t h x) kind) (rw (counted, counts, new) refl)
 
 module _ {p : Accounts} {n : ℕ} {m : Machine} {t : ℕ} {a : Actor} {rest : List Duty} where
   moves_allowed : (d : Duty) → AtDuty p n m t a d rest
@@ -270,15 +270,15 @@ module _ {p : Accounts} {n : ℕ} {m : Machine} {t : ℕ} {a : Actor} {rest : Li
       ≡ true
   moves_allowed (RetainLoad x h) here =
       either (λ mvs. are_allowed m.layout m.abstract mvs ≡ true) (is_immortal_word (m.memory (Local x))) (gain t h x) []
-      (λ e. backed_gain p n m t a x h here.core (head_of here)) refl
-  moves_allowed (RetainStore x h w) here = backed_gain p n m t a x h here.core (head_of here).1
-  moves_allowed (RetainAdd x h) here = backed_gain p n m t a x h here.core (head_of here).1
+      (λ e. backed_gain t a x h here.core (head_of here)) refl
+  moves_allowed (RetainStore x h w) here = backed_gain t a x h here.core (head_of here).1
+  moves_allowed (RetainAdd x h) here = backed_gain t a x h here.core (head_of here).1
   moves_allowed (ReleaseLoad x h) here =
       let has = given_in_bag h x here (holder_same h x) refl in
       elim (cases_Bool (is_immortal_row m.layout x)) [
         | inl immortal ↦
             ap (λ (b : Bool). are_allowed m.layout m.abstract (put_in_flight t h x ++ cond b (lose t x) []))
-            (immortal_row p n m x here.core immortal) ∙ let_go_allowed m.layout m.abstract t x h has
+            (immortal_row x here.core immortal) ∙ let_go_allowed m.layout m.abstract t x h has
         | inr counted ↦
             let alive = given_alive h x here counted (holder_same h x) refl in
             ap (λ (b : Bool). are_allowed m.layout m.abstract (put_in_flight t h x ++ cond b (lose t x) []))
@@ -293,15 +293,15 @@ module _ {p : Accounts} {n : ℕ} {m : Machine} {t : ℕ} {a : Actor} {rest : Li
       (given_in_bag InFlight x here (holder_same InFlight x) refl)) refl
   moves_allowed (SettleCell x i k) here =
       taken_allowed m.layout m.abstract t x i (m.memory (Cell x i))
-      (λ y is. omega (arith, cell_held p n m x i y here.core is))
+      (λ y is. omega (arith, cell_held x i y here.core is))
   moves_allowed (SettleEnd x) here =
-      let fits = head_of here in finalise_allowed p n m t x here.core fits.0 fits.1 fits.3
+      let fits = head_of here in finalise_allowed t x here.core fits.0 fits.1 fits.3
   moves_allowed (BirthLocal x h) here =
       let fits = head_of here in
-      birth_allowed p n m t a x h (kind_of_word (m.memory (KindOf x))) here.core here.found fits.0 fits.2
+      birth_allowed t a x h (kind_of_word (m.memory (KindOf x))) here.core here.found fits.0 fits.2
   moves_allowed (CellSwap x i y h) here =
       swap_allowed m.layout m.abstract t y x i (m.memory (Cell x i)) h (given_in_bag h y here (holder_same h y) refl)
-      (λ z is. omega (arith, cell_held p n m x i z here.core is))
+      (λ z is. omega (arith, cell_held x i z here.core is))
   moves_allowed _ here = refl
 
 module _ {p : Accounts} {n : ℕ} {m : Machine} {t : ℕ} {a : Actor} {d : Duty} {rest : List Duty} where

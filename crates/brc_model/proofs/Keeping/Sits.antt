@@ -64,44 +64,42 @@ same_weight f actors t a agenda found none weightless =
     let before : sum_by f a.agenda ≡ 0 = ap (sum_by f) none in
     omega (arith, weight-set f actors t a (sitting a agenda) found, before, weightless)
 
-sitting_fits : (p : Accounts) (n : ℕ) (m : Machine) (t : ℕ) (a : Actor) (agenda : List Duty)
-    (account : Account)
-    → AtRest p n m t a → Sits m t a agenda account
-    → Fits account (with_actor m t (sitting a agenda)) t (sitting a agenda)
-sitting_fits p n m t a agenda account rest sits =
-    let old = (rest.core.each t a rest.found).0 in
-    let none : (x : ℕ) → finalised a.agenda x ≡ finalised agenda x =
-    λ x. ap (λ (l : List Duty). finalised l x) rest.agenda ∙ sym (sits.hands x) in (
-      record {
-        word = old.word;
-        holds = sits.holds;
-        bounded = sits.bounded;
-        exited = λ e. sits.exited (sym (ap (λ (s : Status). exits s agenda) rest.running) ∙ e);
-        head_fits = sits.knows;
-        behind = sits.behind;
-        chain =
-            record {
-              chained = old.chain.chained;
-              linked = old.chain.linked;
-              once = λ x. omega (arith, old.chain.once x, none x);
-            };
-        locks = sits.locks;
-        lent = old.lent;
-      },
-      subst (λ (s : Status). AgendaFits (sitting a agenda) s) (sym rest.running) sits.fits,
-      sits.aside,
-    )
+module _ {p : Accounts} {n : ℕ} {m : Machine} {t : ℕ} {a : Actor} where
+  sitting_fits : (agenda : List Duty) (account : Account) → AtRest p n m t a → Sits m t a agenda account
+      → Fits account (with_actor m t (sitting a agenda)) t (sitting a agenda)
+  sitting_fits agenda account rest sits =
+      let old = (rest.core.each t a rest.found).0 in
+      let none : (x : ℕ) → finalised a.agenda x ≡ finalised agenda x =
+      λ x. ap (λ (l : List Duty). finalised l x) rest.agenda ∙ sym (sits.hands x) in (
+        record {
+          word = old.word;
+          holds = sits.holds;
+          bounded = sits.bounded;
+          exited = λ e. sits.exited (sym (ap (λ (s : Status). exits s agenda) rest.running) ∙ e);
+          head_fits = sits.knows;
+          behind = sits.behind;
+          chain =
+              record {
+                chained = old.chain.chained;
+                linked = old.chain.linked;
+                once = λ x. omega (arith, old.chain.once x, none x);
+              };
+          locks = sits.locks;
+          lent = old.lent;
+        },
+        subst (λ (s : Status). AgendaFits (sitting a agenda) s) (sym rest.running) sits.fits,
+        sits.aside,
+      )
 
--- All unused rows of a thread at rest are blank, whatever it takes up.
-pub rest_blanks : (p : Accounts) (n : ℕ) (m : Machine) (t : ℕ) (a : Actor) (agenda : List Duty)
-    → AtRest p n m t a → BlankFits m.layout m.memory t a.used agenda
-rest_blanks p n m t a agenda rest =
-    let old : BlankFits m.layout m.memory t a.used [] =
-    subst (λ (l : List Duty). BlankFits m.layout m.memory t a.used l) rest.agenda (rest.core.blanks t a rest.found) in
-    record {
-      kinds = λ x block past none. old.kinds x block past refl;
-      slots = λ x block past none. old.slots x block past refl;
-    }
+  -- All unused rows of a thread at rest are blank, whatever it takes up.
+  pub rest_blanks : (agenda : List Duty) → AtRest p n m t a → BlankFits m.layout m.memory t a.used agenda
+  rest_blanks agenda rest =
+      let old : BlankFits m.layout m.memory t a.used [] =
+      subst (λ (l : List Duty). BlankFits m.layout m.memory t a.used l) rest.agenda (rest.core.blanks t a rest.found) in
+      record {
+        kinds = λ x block past none. old.kinds x block past refl;
+        slots = λ x block past none. old.slots x block past refl;
+      }
 
 -- The work that a thread takes up weighs nothing, so the thread weighs what it weighed before.
 taken_weight : (f : Duty → ℕ) (a : Actor) (agenda : List Duty) → a.agenda ≡ [] → sum_by f agenda ≡ 0
@@ -109,27 +107,26 @@ taken_weight : (f : Duty → ℕ) (a : Actor) (agenda : List Duty) → a.agenda 
 taken_weight f a agenda none weightless =
     let before : sum_by f a.agenda ≡ 0 = ap (sum_by f) none in omega (arith, before, weightless)
 
--- Taking up work that meets its condition keeps the core invariant.
-pub sits_core : (p : Accounts) (n : ℕ) (m : Machine) (t : ℕ) (a : Actor) (agenda : List Duty)
-    (account : Account)
-    → AtRest p n m t a → Sits m t a agenda account
-    → CoreInvariant (with_account p t account) n (with_actor m t (sitting a agenda))
-sits_core p n m t a agenda account rest sits =
-    replaced_core p n m t a (sitting a agenda) account rest.core rest.found (record {
-      fits = sitting_fits p n m t a agenda account rest sits;
-      used = refl;
-      locked = refl;
-      lent = refl;
-      blanks = rest_blanks p n m t a agenda rest;
-      waits = λ x. taken_weight (waits x) a agenda rest.agenda (sits.no_waits x);
-      carries = λ x. taken_weight (carries x) a agenda rest.agenda (sits.no_carries x);
-      merges = λ x. taken_weight (merges x) a agenda rest.agenda (sits.no_merges x);
-      decides = λ x. taken_weight (decides x) a agenda rest.agenda (sits.no_decides x);
-      looks = λ x. taken_weight (looks x) a agenda rest.agenda (sits.no_looks x);
-      finalises = λ x f few.
-          taken_weight f a agenda rest.agenda (omega (arith, list_weight x f few agenda, sits.hands x));
-      scans = λ x scanned. absurd (false≢true (sym (ap (scans x) rest.agenda) ∙ scanned));
-    })
+module _ {p : Accounts} {n : ℕ} {m : Machine} {t : ℕ} {a : Actor} where
+  -- Taking up work that meets its condition keeps the core invariant.
+  pub sits_core : (agenda : List Duty) (account : Account) → AtRest p n m t a → Sits m t a agenda account
+      → CoreInvariant (with_account p t account) n (with_actor m t (sitting a agenda))
+  sits_core agenda account rest sits =
+      replaced_core t a (sitting a agenda) account rest.core rest.found (record {
+        fits = sitting_fits agenda account rest sits;
+        used = refl;
+        locked = refl;
+        lent = refl;
+        blanks = rest_blanks agenda rest;
+        waits = λ x. taken_weight (waits x) a agenda rest.agenda (sits.no_waits x);
+        carries = λ x. taken_weight (carries x) a agenda rest.agenda (sits.no_carries x);
+        merges = λ x. taken_weight (merges x) a agenda rest.agenda (sits.no_merges x);
+        decides = λ x. taken_weight (decides x) a agenda rest.agenda (sits.no_decides x);
+        looks = λ x. taken_weight (looks x) a agenda rest.agenda (sits.no_looks x);
+        finalises = λ x f few.
+            taken_weight f a agenda rest.agenda (omega (arith, list_weight x f few agenda, sits.hands x));
+        scans = λ x scanned. absurd (false≢true (sym (ap (scans x) rest.agenda) ∙ scanned));
+      })
 
 -- ---- taking up a duty and doing it is one step
 

@@ -36,55 +36,52 @@ use Rattle.brc_model.proofs.Keeping.WorkAside.{working_ranges}
 
 -- ---- a ready thread
 
--- A ready thread is at rest, whatever it has put aside.
-pub ready_rests : (p : Accounts) (n : ℕ) (m : Machine) (t : ℕ) (a : Actor) → CoreInvariant p n m → IsReady m t a
-    → AtRest p n m t a
-ready_rests p n m t a core ready =
-    record { core = core; found = ready.found; agenda = ready.agenda; running = ready.running }
+module _ {p : Accounts} {n : ℕ} {m : Machine} {t : ℕ} {a : Actor} where
+  -- A ready thread is at rest, whatever it has put aside.
+  pub ready_rests : CoreInvariant p n m → IsReady m t a → AtRest p n m t a
+  ready_rests core ready = record { core = core; found = ready.found; agenda = ready.agenda; running = ready.running }
 
--- A ready thread's account and the bag differ by the duties put aside alone.
-pub ready_holds : (p : Accounts) (n : ℕ) (m : Machine) (t : ℕ) (a : Actor) → CoreInvariant p n m → IsReady m t a
-    → HoldsAt m.abstract.references t (p t) [] a.aside
-ready_holds p n m t a core ready =
-    subst (λ (l : List Duty). HoldsAt m.abstract.references t (p t) l a.aside) ready.agenda
-    (core.each t a ready.found).0.holds
+  -- A ready thread's account and the bag differ by the duties put aside alone.
+  pub ready_holds : CoreInvariant p n m → IsReady m t a → HoldsAt m.abstract.references t (p t) [] a.aside
+  ready_holds core ready =
+      subst (λ (l : List Duty). HoldsAt m.abstract.references t (p t) l a.aside) ready.agenda
+      (core.each t a ready.found).0.holds
 
--- The bag has what the account says of an object that no open work is about.
-pub none_about_held : (p : Accounts) (n : ℕ) (m : Machine) (t : ℕ) (a : Actor) (x : ℕ) (k : Holding)
-    → CoreInvariant p n m → IsReady m t a → HasNoneAbout a x
-    → held (reference_of t k x) m.abstract.references ≡ p t k x
-none_about_held p n m t a x k core ready alone =
-    omega (
-      arith,
-      (ready_holds p n m t a core ready).each k x,
-      lacks_counted a.aside k x,
-      extra_counted a.aside k x,
-      gives_counted m t a a.aside x (core.each t a ready.found).2.waits,
-      alone,
-    )
+  -- The bag has what the account says of an object that no open work is about.
+  pub none_about_held : (x : ℕ) (k : Holding) → CoreInvariant p n m → IsReady m t a → HasNoneAbout a x
+      → held (reference_of t k x) m.abstract.references ≡ p t k x
+  none_about_held x k core ready alone =
+      omega (
+        arith,
+        (ready_holds core ready).each k x,
+        lacks_counted a.aside k x,
+        extra_counted a.aside k x,
+        gives_counted m t a a.aside x (core.each t a ready.found).2.waits,
+        alone,
+      )
 
--- An object that the thread holds as the caller has a row.
-pub held_row : (p : Accounts) (n : ℕ) (m : Machine) (t : ℕ) (a : Actor) (x : ℕ) → CoreInvariant p n m → IsReady m t a
-    → HasNoneAbout a x → 1 ≤ p t AsCaller x → x < row_count m.layout
-held_row p n m t a x core ready alone some =
-    referenced_small p n m x core (omega (
-      arith,
-      none_about_held p n m t a x AsCaller core ready alone,
-      held-le-references_to (reference_of t AsCaller x) m.abstract.references,
-      some,
-    ))
+  -- An object that the thread holds as the caller has a row.
+  pub held_row : (x : ℕ) → CoreInvariant p n m → IsReady m t a → HasNoneAbout a x → 1 ≤ p t AsCaller x
+      → x < row_count m.layout
+  held_row x core ready alone some =
+      referenced_small x core (omega (
+        arith,
+        none_about_held x AsCaller core ready alone,
+        held-le-references_to (reference_of t AsCaller x) m.abstract.references,
+        some,
+      ))
 
--- An object that the thread holds as the caller, or may borrow, is backed.
-pub at_hand_backed : (p : Accounts) (n : ℕ) (m : Machine) (t : ℕ) (a : Actor) (x : ℕ) → CoreInvariant p n m
-    → IsReady m t a → HasNoneAbout a x → IsAtHand (p t) m a x → IsBacked m t a x
-at_hand_backed p n m t a x core ready alone (inl some) =
-    ByReference AsCaller (omega (arith, none_about_held p n m t a x AsCaller core ready alone, some))
-at_hand_backed p n m t a x core ready alone (inr item) = ByItem item.list item.cell item.locked item.word
+  -- An object that the thread holds as the caller, or may borrow, is backed.
+  pub at_hand_backed : (x : ℕ) → CoreInvariant p n m → IsReady m t a → HasNoneAbout a x → IsAtHand (p t) m a x
+      → IsBacked m t a x
+  at_hand_backed x core ready alone (inl some) =
+      ByReference AsCaller (omega (arith, none_about_held x AsCaller core ready alone, some))
+  at_hand_backed x core ready alone (inr item) = ByItem item.list item.cell item.locked item.word
 
--- A backed object has a row.
-pub backed_row : (p : Accounts) (n : ℕ) (m : Machine) (t : ℕ) (a : Actor) (x : ℕ) → CoreInvariant p n m
-    → IsBacked m t a x → x < row_count m.layout
-backed_row p n m t a x core backed = referenced_small p n m x core (backed_referenced p n m t a x core backed)
+module _ {p : Accounts} {n : ℕ} {m : Machine} where
+  -- A backed object has a row.
+  pub backed_row : (t : ℕ) (a : Actor) (x : ℕ) → CoreInvariant p n m → IsBacked m t a x → x < row_count m.layout
+  backed_row t a x core backed = referenced_small x core (backed_referenced p n m t a x core backed)
 
 -- New work leaves what backs an object.
 pub backed_still : (m : Machine) (t : ℕ) (a : Actor) (x : ℕ) (d : Duty) → IsBacked m t a x
@@ -139,43 +136,41 @@ apart_from a x d begins alone few y =
 pub one_weight : (f : Duty → ℕ) (d : Duty) → f d ≡ 0 → sum_by f (d ∷ []) ≡ 0
 one_weight f d none = omega (arith, sum_by-cons f d [], none)
 
--- A ready thread takes up work about a row that none of its open work is about.
-pub work_begins : (p : Accounts) (n : ℕ) (m : Machine) (t : ℕ) (a : Actor) (x : ℕ) (d : Duty) (account : Account)
-    → Counts p n m → IsReady m t a → HasNoneAbout a x → TakesUp m t a x d account
-    → Counts (with_account p t account) n (with_actor m t (working a (d ∷ []) a.aside))
-work_begins p n m t a x d account counts ready alone new =
-    let core = counts.kept.core in
-    let begins = new.begins in
-    let old = (core.each t a ready.found).2 in
-    let sits : Sits m t a (d ∷ []) account = record {
-      holds = record { each = new.holds };
-      bounded = new.bounded;
-      exited = λ e. absurd (false≢true (sym begins.stays ∙ e));
-      aside = record {
-        waits = still_wait m t a (d ∷ []) a.aside a.aside old.waits;
-        apart = apart_from a x d begins alone (λ y. omega (arith, old.apart y));
-        pieces = inr begins.piece;
-      };
-      knows = new.knows;
-      behind = tt;
-      locks = new.locks;
-      fits = begins.fits a.used;
-      hands = λ y. ap (λ (b : Bool). cond b 1 0) (begins.hands y);
-      no_waits = λ y. one_weight (waits y) d (begins.waits y);
-      no_carries = λ y. one_weight (carries y) d (begins.carries y);
-      no_merges = λ y. one_weight (merges y) d (begins.merges y);
-      no_decides = λ y. one_weight (decides y) d (begins.decides y);
-      no_looks = λ y. one_weight (looks y) d (begins.looks y);
-    } in
-    record {
-      kept =
-          kept_sits p n m t a (d ∷ []) account counts.kept (ready_rests p n m t a core ready) sits
-          (begins.settled a.head);
-      ranges =
-          working_ranges n m t a (d ∷ []) a.aside counts.ranges ready.found (new.small, tt)
-          (counts.ranges.aside t a ready.found);
-      no_flight = flight_with p t account counts.no_flight new.no_flight;
-    }
+module _ {p : Accounts} {n : ℕ} {m : Machine} {t : ℕ} {a : Actor} where
+  -- A ready thread takes up work about a row that none of its open work is about.
+  pub work_begins : (x : ℕ) (d : Duty) (account : Account) → Counts p n m → IsReady m t a → HasNoneAbout a x
+      → TakesUp m t a x d account → Counts (with_account p t account) n (with_actor m t (working a (d ∷ []) a.aside))
+  work_begins x d account counts ready alone new =
+      let core = counts.kept.core in
+      let begins = new.begins in
+      let old = (core.each t a ready.found).2 in
+      let sits : Sits m t a (d ∷ []) account = record {
+        holds = record { each = new.holds };
+        bounded = new.bounded;
+        exited = λ e. absurd (false≢true (sym begins.stays ∙ e));
+        aside = record {
+          waits = still_wait m t a (d ∷ []) a.aside a.aside old.waits;
+          apart = apart_from a x d begins alone (λ y. omega (arith, old.apart y));
+          pieces = inr begins.piece;
+        };
+        knows = new.knows;
+        behind = tt;
+        locks = new.locks;
+        fits = begins.fits a.used;
+        hands = λ y. ap (λ (b : Bool). cond b 1 0) (begins.hands y);
+        no_waits = λ y. one_weight (waits y) d (begins.waits y);
+        no_carries = λ y. one_weight (carries y) d (begins.carries y);
+        no_merges = λ y. one_weight (merges y) d (begins.merges y);
+        no_decides = λ y. one_weight (decides y) d (begins.decides y);
+        no_looks = λ y. one_weight (looks y) d (begins.looks y);
+      } in
+      record {
+        kept = kept_sits (d ∷ []) account counts.kept (ready_rests core ready) sits (begins.settled a.head);
+        ranges =
+            working_ranges n m t a (d ∷ []) a.aside counts.ranges ready.found (new.small, tt)
+            (counts.ranges.aside t a ready.found);
+        no_flight = flight_with p t account counts.no_flight new.no_flight;
+      }
 
 -- ---- accounts
 
@@ -263,10 +258,10 @@ release_begins x = record {
 pub retains_begin : RetainsBegin
 retains_begin p n m t a x counts ready alone at_hand few =
     let core = counts.kept.core in
-    let holds = ready_holds p n m t a core ready in
+    let holds = ready_holds core ready in
     let bounded = (core.each t a ready.found).0.bounded in
-    let backed = at_hand_backed p n m t a x core ready alone at_hand in
-    work_begins p n m t a x (RetainLoad x AsCaller) (with_one_more (p t) AsCaller x) counts ready alone (record {
+    let backed = at_hand_backed x core ready alone at_hand in
+    work_begins x (RetainLoad x AsCaller) (with_one_more (p t) AsCaller x) counts ready alone (record {
       begins = retain_begins x;
       no_flight = λ object. omega (arith, counts.no_flight t object);
       holds = λ k object. omega (arith, holds.each k object);
@@ -276,7 +271,7 @@ retains_begin p n m t a x counts ready alone at_hand few =
           refl (λ k y. omega (arith, one_makes k y (RetainLoad x AsCaller)));
       knows = backed_still m t a x (RetainLoad x AsCaller) backed;
       small =
-          row_small (row_count m.layout) x (RetainLoad x AsCaller) (backed_row p n m t a x core backed)
+          row_small (row_count m.layout) x (RetainLoad x AsCaller) (backed_row t a x core backed)
           (λ y. refl) (omega arith);
     })
 
@@ -284,17 +279,16 @@ retains_begin p n m t a x counts ready alone at_hand few =
 pub releases_begin : ReleasesBegin
 releases_begin p n m t a x counts ready alone some may =
     let core = counts.kept.core in
-    let holds = ready_holds p n m t a core ready in
+    let holds = ready_holds core ready in
     let bounded = (core.each t a ready.found).0.bounded in
-    work_begins p n m t a x (ReleaseLoad x AsCaller) (with_one_less (p t) AsCaller x) counts ready alone (record {
+    work_begins x (ReleaseLoad x AsCaller) (with_one_less (p t) AsCaller x) counts ready alone (record {
       begins = release_begins x;
       no_flight = λ object. omega (arith, counts.no_flight t object);
       holds = λ k object. omega (arith, holds.each k object, has_one (p t) x k object some);
       bounded = less_bounded m.layout (p t) x bounded;
       locks =
           less_locks (p t) m t a (working a (ReleaseLoad x AsCaller ∷ []) a.aside) x (core.each t a ready.found).0.locks
-          refl (λ k y. omega (arith, one_makes k y (ReleaseLoad x AsCaller)))
-          (omega (
+          refl (λ k y. omega (arith, one_makes k y (ReleaseLoad x AsCaller))) (omega (
             arith,
             one_makes AsCaller x (ReleaseLoad x AsCaller),
             lacks_counted a.aside AsCaller x,
@@ -302,6 +296,6 @@ releases_begin p n m t a x counts ready alone some may =
           )) may;
       knows = tt;
       small =
-          row_small (row_count m.layout) x (ReleaseLoad x AsCaller) (held_row p n m t a x core ready alone some)
+          row_small (row_count m.layout) x (ReleaseLoad x AsCaller) (held_row x core ready alone some)
           (λ y. refl) (omega arith);
     })

@@ -60,35 +60,35 @@ record NearBias (m : Machine) (x : ℕ) : Type 0 where
   some : 1 ≤ biased_part (m.memory (Shared x))
   state : phase_part (m.memory (Shared x)) ≢ 1
 
--- A live row with counts is counted, since an immortal row's local word is the immortal one.
-alive_counted : (p : Accounts) (n : ℕ) (m : Machine) (x : ℕ) → CoreInvariant p n m → Alive m x → IsCounted m.layout x
-alive_counted p n m x core alive = elim (cases_Bool (is_immortal_row m.layout x)) [
-  | inl immortal ↦
-      let word = core.immortal_words x immortal in
-      absurd (elim alive.live.mode [
-        | InOwned o ↦ omega (arith, o.low, word)
-        | InSwapped s ↦ omega (arith, s.local, word)
-        | InMerged s ↦ omega (arith, s.local, word)
-      ])
-  | inr counted ↦ counted
-]
+module _ {p : Accounts} {n : ℕ} {m : Machine} where
+  -- A live row with counts is counted, since an immortal row's local word is the immortal one.
+  alive_counted : (x : ℕ) → CoreInvariant p n m → Alive m x → IsCounted m.layout x
+  alive_counted x core alive = elim (cases_Bool (is_immortal_row m.layout x)) [
+    | inl immortal ↦
+        let word = core.immortal_words x immortal in
+        absurd (elim alive.live.mode [
+          | InOwned o ↦ omega (arith, o.low, word)
+          | InSwapped s ↦ omega (arith, s.local, word)
+          | InMerged s ↦ omega (arith, s.local, word)
+        ])
+    | inr counted ↦ counted
+  ]
 
-near_bias : (p : Accounts) (n : ℕ) (m : Machine) (x : ℕ) → CoreInvariant p n m → IsFew n m → Alive m x
-    → NearBias m x
-near_bias p n m x core few alive =
-    let says = live_few (block_of m.layout x) (numbers_of m x) alive.live in
-    record {
-      high =
-          omega (
-            arith,
-            alive.live.sum,
-            says.0,
-            references_few p n m x core few.cells (alive_counted p n m x core alive),
-            few.threads,
-          );
-      some = shared_range (block_of m.layout x) (numbers_of m x) alive.live;
-      state = says.1;
-    }
+  near_bias : (x : ℕ) → CoreInvariant p n m → IsFew n m → Alive m x → NearBias m x
+  near_bias x core few alive =
+      let says = live_few (block_of m.layout x) (numbers_of m x) alive.live in
+      record {
+        high =
+            omega (
+              arith,
+              alive.live.sum,
+              says.0,
+              references_few x core few.cells (alive_counted x core alive),
+              few.threads,
+            );
+        some = shared_range (block_of m.layout x) (numbers_of m x) alive.live;
+        state = says.1;
+      }
 
 -- ---- the word that a duty finds
 
@@ -102,7 +102,7 @@ module _ {p : Accounts} {n : ℕ} {m : Machine} {t : ℕ} {a : Actor} {rest : Li
         let counts : counts_locally t (is_running a.status) (m.memory (Local x)) ≡ true =
         ap (λ (b : Bool). b && (owner_part (m.memory (Local x)) == t + 1)) runs
         ∙ eq-eqb (owner_part (m.memory (Local x))) (t + 1) owner in
-        count_above p n m t x a here.core here.found (counts_owner m t a x counts living)
+        count_above t x a here.core here.found (counts_owner m t a x counts living)
         (weight_here x here (eq-eqb x x refl) refl) living
   ]
 
@@ -118,21 +118,21 @@ module _ {p : Accounts} {n : ℕ} {m : Machine} {t : ℕ} {a : Actor} {rest : Li
       let (pos, backed, owns, same, some, low) = head_of here in low
   duty_suits (RetainAdd x h) here alive few =
       let fits = head_of here in
-      let near = near_bias p n m x here.core few (alive_backed p n m t a x here.core fits.0 fits.1) in
+      let near = near_bias x here.core few (alive_backed t a x here.core fits.0 fits.1) in
       (record { low = omega (arith, near.high); state = near.state }, omega (arith, near.high))
   duty_suits (ReleaseLoad x h) here alive few = release_suits x h here alive
   duty_suits (ReleaseStore x w) here alive few = (head_of here).3
   duty_suits (SharedLoad x r) here alive few =
-      let near = near_bias p n m x here.core few (load_alive x r here) in
+      let near = near_bias x here.core few (load_alive x r here) in
       (record { low = omega (arith, near.high); state = near.state }, near.some)
   duty_suits (SharedExchange x r w) here alive few = λ same.
-      let near = near_bias p n m x here.core few (exchange_alive x w r here) in
+      let near = near_bias x here.core few (exchange_alive x w r here) in
       let word : biased_part (m.memory (Shared x)) ≡ biased_part w = ap biased_part same in (
         record { low = omega (arith, near.high, word); state = λ e. near.state (ap phase_part same ∙ e) },
         omega (arith, near.some, word),
       )
   duty_suits (MergeLoad x c r) here alive few =
-      let near = near_bias p n m x here.core few (merge_load_alive x c r here) in (
+      let near = near_bias x here.core few (merge_load_alive x c r here) in (
         (head_of here).1,
         record { low = omega (arith, near.high); state = near.state },
         omega (arith, near.high, carried_at_load x c r here),
@@ -140,23 +140,23 @@ module _ {p : Accounts} {n : ℕ} {m : Machine} {t : ℕ} {a : Actor} {rest : Li
   duty_suits (MergeExchange x c w r) here alive few = (
     (head_of here).1,
     λ same.
-        let near = near_bias p n m x here.core few (merge_alive x c w r here) in
+        let near = near_bias x here.core few (merge_alive x c w r here) in
         let word : biased_part (m.memory (Shared x)) ≡ biased_part w = ap biased_part same in (
           record { low = omega (arith, near.high, word); state = λ e. near.state (ap phase_part same ∙ e) },
           omega (arith, near.high, word, carried_is x c w r here),
         ),
   )
   duty_suits (SettleCell x i k) here alive few =
-      cell_low (m.memory (Cell x i)) (row_count m.layout) (λ y is. cell_small p n m x i y here.core is)
+      cell_low (m.memory (Cell x i)) (row_count m.layout) (λ y is. cell_small x i y here.core is)
   duty_suits (CellLoad x i) here alive few =
-      cell_low (m.memory (Cell x i)) (row_count m.layout) (λ y is. cell_small p n m x i y here.core is)
+      cell_low (m.memory (Cell x i)) (row_count m.layout) (λ y is. cell_small x i y here.core is)
   duty_suits (CellSwap x i y h) here alive few = (
-    referenced_small p n m y here.core (omega (
+    referenced_small y here.core (omega (
       arith,
       stolen_held x i y h here,
       held-le-references_to (reference_of t h y) m.abstract.references,
     )),
-    cell_low (m.memory (Cell x i)) (row_count m.layout) (λ z is. cell_small p n m x i z here.core is),
+    cell_low (m.memory (Cell x i)) (row_count m.layout) (λ z is. cell_small x i z here.core is),
   )
   duty_suits (TakeSlot x) here alive few = taking_finds p n m t a x rest here
   duty_suits (CloseResource x) here alive few = closing_finds p n m t a x rest here

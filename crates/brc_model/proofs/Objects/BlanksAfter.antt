@@ -66,7 +66,7 @@ module _ {p : Accounts} {n : ℕ} {m : Machine} {t : ℕ} {a : Actor} {rest : Li
   lent_used u b y x here found block past =
       let lent = head_of here in
       let locked = (here.core.each t a here.found).0.lent y lent in
-      let born = alive_born m y (locked_alive p n m t a y here.core here.found locked) in
+      let born = alive_born m y (locked_alive t a y here.core here.found locked) in
       ne_eqb y x (λ e. born (ap m.life e ∙ (here.core.uses u b found).unborn x block past))
 
   own_blanks : (d : Duty) → AtDuty p n m t a d rest

@@ -43,11 +43,11 @@ module _ {p : Accounts} {n : ℕ} {m : Machine} {t : ℕ} {a : Actor} {rest : Li
   dead_gate_stays (LockGate y) x here other dead =
       let fits = head_of here in
       written_apart m.memory (Gate y) (Gate x) _
-      (apart_gate y x (λ e. dead (ap m.life (sym e) ∙ (alive_backed p n m t a y here.core fits.0 fits.1).life)))
+      (apart_gate y x (λ e. dead (ap m.life (sym e) ∙ (alive_backed t a y here.core fits.0 fits.1).life)))
   dead_gate_stays (UnlockGate y) x here other dead =
       let fits = head_of here in
       written_apart m.memory (Gate y) (Gate x) _
-      (apart_gate y x (λ e. dead (ap m.life (sym e) ∙ (alive_backed p n m t a y here.core fits.0 fits.1).life)))
+      (apart_gate y x (λ e. dead (ap m.life (sym e) ∙ (alive_backed t a y here.core fits.0 fits.1).life)))
   dead_gate_stays d x here other dead = gate_stays d x here other refl
 
 ended_gate : (m : Machine) (t : ℕ) (a : Actor) (d : Duty) (x : ℕ) → ended_row d ≡ Some x

@@ -31,7 +31,7 @@ module _ (p : Accounts) (n : ℕ) (m : Machine) (t : ℕ) (a : Actor) where
   pub lending_finds : (x : ℕ) (rest : List Duty) → AtDuty p n m t a (LendSlot x) rest → m.memory (Slot x) ≡ 1
   lending_finds x rest here =
       let head = head_of here in
-      let lives = (locked_alive p n m t a x here.core here.found head.1).life in
+      let lives = (locked_alive t a x here.core here.found head.1).life in
       let fit : ResourcesFit Live (resources_at m x) =
       subst (λ (l : Life). ResourcesFit l (resources_at m x)) lives (here.core.resources x) in
       let none : (u : ℕ) → dies_by (m.life x) u ≡ false = λ u. ap (λ (l : Life). dies_by l u) lives in
@@ -45,7 +45,7 @@ module _ (p : Accounts) (n : ℕ) (m : Machine) (t : ℕ) (a : Actor) where
       → m.memory (Slot x) ≡ 0
   lent_leaves_none x core found lent =
       let locked = (core.each t a found).0.lent x lent in
-      let lives = (locked_alive p n m t a x core found locked).life in
+      let lives = (locked_alive t a x core found locked).life in
       let fit : ResourcesFit Live (resources_at m x) =
       subst (λ (l : Life). ResourcesFit l (resources_at m x)) lives (core.resources x) in
       omega (
@@ -66,7 +66,7 @@ module _ (p : Accounts) (n : ℕ) (m : Machine) (t : ℕ) (a : Actor) where
       let d : Duty = LendSlot x in
       let new = resources_at (done_by m t a d rest) x in
       let head = head_of here in
-      let lives = (locked_alive p n m t a x here.core here.found head.1).life in
+      let lives = (locked_alive t a x here.core here.found head.1).life in
       let fit : ResourcesFit Live (resources_at m x) =
       subst (λ (l : Life). ResourcesFit l (resources_at m x)) lives (here.core.resources x) in
       let after = actor_by m.layout t a d rest (found_by m t a d) in
@@ -93,7 +93,7 @@ module _ (p : Accounts) (n : ℕ) (m : Machine) (t : ℕ) (a : Actor) where
       let new = resources_at (done_by m t a d rest) x in
       let lent = head_of here in
       let locked = (here.core.each t a here.found).0.lent x lent in
-      let lives = (locked_alive p n m t a x here.core here.found locked).life in
+      let lives = (locked_alive t a x here.core here.found locked).life in
       let fit : ResourcesFit Live (resources_at m x) =
       subst (λ (l : Life). ResourcesFit l (resources_at m x)) lives (here.core.resources x) in
       let after = actor_by m.layout t a d rest (found_by m t a d) in

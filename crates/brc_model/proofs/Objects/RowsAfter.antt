@@ -5,7 +5,6 @@ use Rattle.std.proofs.lemmas.Bool.Decides.{eqb_tells}
 use Rattle.brc_model.specs.declared.duty.Reason.TheVariants.{Own, Handed}
 use Rattle.brc_model.specs.declared.duty.Duty.{Duty}
 use Rattle.brc_model.specs.declared.duty.Duty.TheVariants.{RetainLoad, RetainStore, RetainAdd, ReleaseLoad, ReleaseStore, DecideAtZero, SharedLoad, SharedExchange, SetMark, Look, TakeMark, MergeSwap, MergeLoad, MergeExchange, Settle, SettleKind, SettleCell, SettleEnd, Leave, Scan, Finish, ClaimMark, BirthKind, BirthLocal, CellSwap}
-use Rattle.brc_model.specs.declared.actor.Status.TheVariants.{Gone}
 use Rattle.brc_model.specs.Machine.{Actor, Machine, done_by}
 use Rattle.brc_model.specs.RowInvariant.{RowInvariant}
 use Rattle.brc_model.specs.Accounts.{Accounts}
@@ -20,6 +19,7 @@ use Rattle.brc_model.proofs.Objects.RowsAfterMerge.{row_after_own_swap, row_afte
 use Rattle.brc_model.proofs.Basics.Blocks.{immortal_apart}
 use Rattle.brc_model.specs.declared.layout.Layout.{Layout}
 use Rattle.brc_model.specs.Layout.{none_row, block_of, IsCounted}
+use Rattle.brc_model.proofs.Stepping.Neutral.{NotGone}
 
 none_counted : (layout : Layout) → IsCounted layout none_row → ⊥
 none_counted layout counted = immortal_apart layout none_row none_row counted refl refl
@@ -71,16 +71,16 @@ module _ {p : Accounts} {n : ℕ} {m : Machine} {t : ℕ} {a : Actor} {rest : Li
         deciding = refl;
       })
 
--- A thread's next duty keeps the invariant of every counted row.
-pub rows_after : (p : Accounts) (n : ℕ) (m : Machine) (t : ℕ) (a : Actor) (d : Duty) (rest : List Duty)
-    → CoreInvariant p n m
-    → slice_get m.actors t ≡ Some a → a.agenda ≡ d ∷ rest → (a.status ≡ Gone → ⊥)
-    → (x : ℕ) → IsCounted m.layout x
-    → RowInvariant (block_of m.layout x) ((done_by m t a d rest).life x) (numbers_of (done_by m t a d rest) x)
-rows_after p n m t a d rest core actor agenda runs x some =
-    let s : AtDuty p n m t a d rest = record { core = core; found = actor; agenda = agenda } in
-    elim (eqb_tells (subject m.layout t d) x) [
-      | inl same ↦
-          subst (λ (z : ℕ). KeepsRow m t a d rest z) same.1 (own_row d s (subst (IsCounted m.layout) (sym same.1) some))
-      | inr other ↦ row_elsewhere s x some other.0
-    ]
+module _ {p : Accounts} {n : ℕ} {m : Machine} where
+  -- A thread's next duty keeps the invariant of every counted row.
+  pub rows_after : (t : ℕ) (a : Actor) (d : Duty) (rest : List Duty) → CoreInvariant p n m
+      → slice_get m.actors t ≡ Some a → a.agenda ≡ d ∷ rest → NotGone a → (x : ℕ) → IsCounted m.layout x
+      → RowInvariant (block_of m.layout x) ((done_by m t a d rest).life x) (numbers_of (done_by m t a d rest) x)
+  rows_after t a d rest core actor agenda runs x some =
+      let s : AtDuty p n m t a d rest = record { core = core; found = actor; agenda = agenda } in
+      elim (eqb_tells (subject m.layout t d) x) [
+        | inl same ↦
+            subst (λ (z : ℕ). KeepsRow m t a d rest z) same.1
+            (own_row d s (subst (IsCounted m.layout) (sym same.1) some))
+        | inr other ↦ row_elsewhere s x some other.0
+      ]

@@ -250,11 +250,10 @@ module _ {p : Accounts} {n : ℕ} {m : Machine} {t : ℕ} {a : Actor} {rest : Li
       → references_to x (moved m.abstract (reference_effects m.memory t d (found_by m t a d))).references
       ≡ references_to x m.abstract.references
   references_elsewhere (SettleCell y i k) x here other =
-      taken_references m.abstract t y i (m.memory (Cell y i)) x
-      (λ z is. omega (arith, cell_held p n m y i z here.core is))
+      taken_references m.abstract t y i (m.memory (Cell y i)) x (λ z is. omega (arith, cell_held y i z here.core is))
   references_elsewhere (CellSwap y i z h) x here other =
       swapped_references m.abstract t z y i (m.memory (Cell y i)) x h (stolen_held y i z h here)
-      (λ v is. omega (arith, cell_held p n m y i v here.core is))
+      (λ v is. omega (arith, cell_held y i v here.core is))
   references_elsewhere d x here other =
       moved_keeps (λ q. references_to x q.references) (IsOfOther x) (λ q mv apart. sym (move_elsewhere x q mv apart))
       m.abstract (reference_effects m.memory t d (found_by m t a d))

@@ -38,7 +38,7 @@ module _ {p : Accounts} {n : ℕ} {m : Machine} {t : ℕ} {a : Actor} {rest : Li
         mark = refl;
         references =
             sym (swapped_references m.abstract t z y i (m.memory (Cell y i)) y h (stolen_held y i z h s)
-            (λ v is. omega (arith, cell_held p n m y i v s.core is)));
+            (λ v is. omega (arith, cell_held y i v s.core is)));
       })
 
   -- ---- retaining

@@ -225,7 +225,7 @@ module _ {p : Accounts} {n : ℕ} {m : Machine} {t : ℕ} {a : Actor} {rest : Li
         mark = refl;
         references =
             sym (taken_references m.abstract t y i (m.memory (Cell y i)) y
-            (λ z is. omega (arith, cell_held _ _ m y i z s.core is)));
+            (λ z is. omega (arith, cell_held y i z s.core is)));
       })
 
   -- `Closes`: a dying row is closed, and still counts nothing.

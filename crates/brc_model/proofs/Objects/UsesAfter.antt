@@ -236,13 +236,13 @@ none_counted x (y ∷ ys) none =
           omega (arith, sum_by-cons (λ (z : ℕ). cond (z == x) 1 0) y ys, apart, none_counted x ys later)
     ] refl none
 
-not_listed : (p : Accounts) (n : ℕ) (m : Machine) (x : ℕ) → CoreInvariant p n m → m.life x ≡ Unborn
-    → is_among x m.abstract.born ≡ false
-not_listed p n m x core unborn =
-    elim (is_among x m.abstract.born) as (λ b. is_among x m.abstract.born ≡ b → b ≡ false) [
-      | true ↦ λ e. absurd ((core.born_is x e).1 unborn)
-      | false ↦ λ e. refl
-    ] refl
+module _ {p : Accounts} {n : ℕ} {m : Machine} where
+  not_listed : (x : ℕ) → CoreInvariant p n m → m.life x ≡ Unborn → is_among x m.abstract.born ≡ false
+  not_listed x core unborn =
+      elim (is_among x m.abstract.born) as (λ b. is_among x m.abstract.born ≡ b → b ≡ false) [
+        | true ↦ λ e. absurd ((core.born_is x e).1 unborn)
+        | false ↦ λ e. refl
+      ] refl
 
 -- Appending an element that isn't in the list keeps every element at most once in it.
 one_more : (x y : ℕ) (l : List ℕ) → count_by (λ z. z == x) l ≤ 1 → is_among y l ≡ false
@@ -272,6 +272,5 @@ module _ {p : Accounts} {n : ℕ} {m : Machine} {t : ℕ} {a : Actor} {d : Duty}
         | OneBorn y bears more ↦
             let next = (born_next d y here bears).0 in
             let unborn = next_unborn p n m t a y here.core here.found next in
-            subst Q (sym more)
-            (one_more x y m.abstract.born (here.core.born_once x) (not_listed p n m y here.core unborn))
+            subst Q (sym more) (one_more x y m.abstract.born (here.core.born_once x) (not_listed y here.core unborn))
       ]

@@ -44,18 +44,19 @@ module _ {p : Accounts} {n : ℕ} {m : Machine} {t : ℕ} {a : Actor} {d : Duty}
 -- ---- marks
 
 pub marks_guarded : QueuedMarksAreWatched
-marks_guarded p n m x counts set = mark_watched p n m x counts.kept.core set
+marks_guarded p n m x counts set = mark_watched x counts.kept.core set
 
 -- ---- cells and slots
 
--- The gate of the object that a thread has locked names the thread.
-gate_of : (p : Accounts) (n : ℕ) (m : Machine) (t x : ℕ) → Counts p n m → HasLock m t x → HoldsGate m t x
-gate_of p n m t x counts (a, found, locked) = record {
-  actor = a;
-  found = found;
-  locked = locked;
-  gate = ((counts.kept.core.each t a found).0.locks x locked).gate;
-}
+module _ {p : Accounts} {n : ℕ} {m : Machine} where
+  -- The gate of the object that a thread has locked names the thread.
+  gate_of : (t x : ℕ) → Counts p n m → HasLock m t x → HoldsGate m t x
+  gate_of t x counts (a, found, locked) = record {
+    actor = a;
+    found = found;
+    locked = locked;
+    gate = ((counts.kept.core.each t a found).0.locks x locked).gate;
+  }
 
 abbrev MayEdit : Machine → ℕ → Duty → ℕ → Type 0
 MayEdit m t d x = HasLock m t x ⊎ ((m.life x ≡ Dying t) × (is_finalising d x ≡ true))
@@ -81,29 +82,30 @@ module _ {p : Accounts} {n : ℕ} {m : Machine} {t : ℕ} {a : Actor} {rest : Li
 pub cells_guarded : CellsAreGuarded
 cells_guarded p n m t a d rest x i counts next changed =
     elim (edited_by d x i (at_next counts next) changed) [
-      | inl lock ↦ inl (gate_of p n m t x counts lock)
+      | inl lock ↦ inl (gate_of t x counts lock)
       | inr dies ↦ inr dies
     ]
 
--- Two threads don't guard the same cells, and a locked list isn't dying.
-no_other : (p : Accounts) (n : ℕ) (m : Machine) (t u : ℕ) (b : Actor) (d : Duty) (x : ℕ) → Counts p n m
-    → slice_get m.actors u ≡ Some b → u ≢ t → GuardsCells m u b x → MayEdit m t d x → ⊥
-no_other p n m t u b d x counts found apart (inl locked) (inl lock) =
-    let mine = ((counts.kept.core.each u b found).0.locks x locked).gate in
-    let other = (gate_of p n m t x counts lock).gate in
-    apart (omega (arith, mine, other))
-no_other p n m t u b d x counts found apart (inl locked) (inr dies) =
-    let alive = locked_alive p n m u b x counts.kept.core found locked in
-    let wrong : Live ≡ Dying t = sym alive.life ∙ dies.0 in
-    absurd cc
-no_other p n m t u b d x counts found apart (inr chained) (inl (a, at, locked)) =
-    let alive = locked_alive p n m t a x counts.kept.core at locked in
-    let wrong : Live ≡ Dying u = sym alive.life ∙ chained.0 in
-    absurd cc
-no_other p n m t u b d x counts found apart (inr chained) (inr dies) =
-    let both : Dying u ≡ Dying t = sym chained.0 ∙ dies.0 in
-    let same : u ≡ t = cc in
-    apart same
+module _ {p : Accounts} {n : ℕ} {m : Machine} where
+  -- Two threads don't guard the same cells, and a locked list isn't dying.
+  no_other : (t u : ℕ) (b : Actor) (d : Duty) (x : ℕ) → Counts p n m → slice_get m.actors u ≡ Some b → u ≢ t
+      → GuardsCells m u b x → MayEdit m t d x → ⊥
+  no_other t u b d x counts found apart (inl locked) (inl lock) =
+      let mine = ((counts.kept.core.each u b found).0.locks x locked).gate in
+      let other = (gate_of t x counts lock).gate in
+      apart (omega (arith, mine, other))
+  no_other t u b d x counts found apart (inl locked) (inr dies) =
+      let alive = locked_alive u b x counts.kept.core found locked in
+      let wrong : Live ≡ Dying t = sym alive.life ∙ dies.0 in
+      absurd cc
+  no_other t u b d x counts found apart (inr chained) (inl (a, at, locked)) =
+      let alive = locked_alive t a x counts.kept.core at locked in
+      let wrong : Live ≡ Dying u = sym alive.life ∙ chained.0 in
+      absurd cc
+  no_other t u b d x counts found apart (inr chained) (inr dies) =
+      let both : Dying u ≡ Dying t = sym chained.0 ∙ dies.0 in
+      let same : u ≡ t = cc in
+      apart same
 
 module _ {p : Accounts} {n : ℕ} {m : Machine} {t : ℕ} {a : Actor} {d : Duty} {rest : List Duty} where
   -- No thread chains a row for another one.
@@ -116,29 +118,30 @@ module _ {p : Accounts} {n : ℕ} {m : Machine} {t : ℕ} {a : Actor} {d : Duty}
       sym (leaves.lives u x apart) ∙ dying_is ((done_by m t a d rest).life x) u chained.0 in
       inr (is_dying (m.life x) u dies, subst (IsDyingWord u) (leaves.gates u x apart dies) chained.1)
 
--- A gate with a dying word is that of a dying row.
-dying_gate : (p : Accounts) (n : ℕ) (m : Machine) (t : ℕ) (a : Actor) (x : ℕ) → CoreInvariant p n m
-    → slice_get m.actors t ≡ Some a → IsDyingWord t (m.memory (Gate x)) → (w : ℕ) × (m.life x ≡ Dying w)
-dying_gate p n m t a x core found (next, word, low) =
-    let few = slice_get_within m.actors t a found in
-    elim (m.life x) as
-    (λ l. m.life x ≡ l → GateFits m.actors x l (m.memory (Gate x)) → (w : ℕ) × (m.life x ≡ Dying w)) [
-      | Unborn ↦ λ is fits. absurd (omega (arith, fits, word))
-      | Live ↦ λ is fits. elim fits [
-        | IsFree free ↦ absurd (omega (arith, free, word))
-        | IsLocked u b at locked gate ↦
-            absurd (omega (
-              arith,
-              gate,
-              word,
-              slice_get_within m.actors u b at,
-              core.threads,
-              core.few_threads,
-            ))
-      ]
-      | Dying w ↦ λ is fits. (w, is)
-      | Closed ↦ λ is fits. absurd (omega (arith, fits, word, low, few, core.threads, core.few_threads))
-    ] refl (core.gates x)
+module _ {p : Accounts} {n : ℕ} {m : Machine} where
+  -- A gate with a dying word is that of a dying row.
+  dying_gate : (t : ℕ) (a : Actor) (x : ℕ) → CoreInvariant p n m → slice_get m.actors t ≡ Some a
+      → IsDyingWord t (m.memory (Gate x)) → (w : ℕ) × (m.life x ≡ Dying w)
+  dying_gate t a x core found (next, word, low) =
+      let few = slice_get_within m.actors t a found in
+      elim (m.life x) as
+      (λ l. m.life x ≡ l → GateFits m.actors x l (m.memory (Gate x)) → (w : ℕ) × (m.life x ≡ Dying w)) [
+        | Unborn ↦ λ is fits. absurd (omega (arith, fits, word))
+        | Live ↦ λ is fits. elim fits [
+          | IsFree free ↦ absurd (omega (arith, free, word))
+          | IsLocked u b at locked gate ↦
+              absurd (omega (
+                arith,
+                gate,
+                word,
+                slice_get_within m.actors u b at,
+                core.threads,
+                core.few_threads,
+              ))
+        ]
+        | Dying w ↦ λ is fits. (w, is)
+        | Closed ↦ λ is fits. absurd (omega (arith, fits, word, low, few, core.threads, core.few_threads))
+      ] refl (core.gates x)
 
 module _ {p : Accounts} {n : ℕ} {m : Machine} {t : ℕ} {a : Actor} {d : Duty} {rest : List Duty} where
   -- A thread chains a row by a step on the row's gate.
@@ -149,7 +152,7 @@ module _ {p : Accounts} {n : ℕ} {m : Machine} {t : ℕ} {a : Actor} {d : Duty}
       subst (IsDyingWord t)
       (written_apart m.memory (address_of m.layout t a.head d) (Gate x)
       (new_word t a.head d (m.memory (address_of m.layout t a.head d))) apart) chained.1 in
-      let dying = dying_gate p n m t a x here.core here.found word in
+      let dying = dying_gate t a x here.core here.found word in
       elim (eqb_tells dying.0 t) [
         | inl same ↦ (dying.1 ∙ ap Dying same.1, word)
         | inr other ↦
@@ -169,7 +172,7 @@ cells_stay p n m t a d rest counts next =
             before,
             λ i. elim (eqb_tells (memory_by m t a d (Cell x i)) (m.memory (Cell x i))) [
               | inl same ↦ same.1
-              | inr other ↦ absurd (no_other p n m t u b d x counts found apart before (edited_by d x i here other.1))
+              | inr other ↦ absurd (no_other t u b d x counts found apart before (edited_by d x i here other.1))
             ],
           );
       own = λ x apart chained. chained_before x here apart chained;
@@ -202,7 +205,7 @@ module _ {p : Accounts} {n : ℕ} {m : Machine} {t : ℕ} {a : Actor} {rest : Li
 pub slots_guarded : SlotsAreGuarded
 slots_guarded p n m t a d rest x counts next changed =
     elim (moved_by d x (at_next counts next) changed) [
-      | inl lock ↦ inl (gate_of p n m t x counts lock)
+      | inl lock ↦ inl (gate_of t x counts lock)
       | inr other ↦ inr other
     ]
 
@@ -211,7 +214,7 @@ slots_guarded p n m t a d rest x counts next changed =
 module _ {p : Accounts} {n : ℕ} {m : Machine} {t : ℕ} {a : Actor} {d : Duty} {rest : List Duty} where
   -- A live row's owner is the thread of its block.
   owner_block : (x : ℕ) → AtDuty p n m t a d rest → Alive m x → OwnsLocally m t a x → t ≡ block_of m.layout x
-  owner_block x here alive owns = elim (live_owner p n m x here.core alive.life) [
+  owner_block x here alive owns = elim (live_owner x here.core alive.life) [
     | inl nobody ↦ absurd (omega (arith, nobody, owns.owner))
     | inr block ↦ omega (arith, block, owns.owner)
   ]
@@ -240,7 +243,7 @@ module _ {p : Accounts} {n : ℕ} {m : Machine} {t : ℕ} {a : Actor} {rest : Li
   counted_by (RetainStore y h w) x here changed =
       let fits = head_of here in
       by_local m t x y (w + 1) (λ runs.
-      owner_block y here (alive_backed p n m t a y here.core fits.0 fits.1) fits.2) changed
+      owner_block y here (alive_backed t a y here.core fits.0 fits.1) fits.2) changed
   counted_by (ReleaseStore y w) x here changed =
       let fits = head_of here in
       let alive = given_alive InFlight y here fits.0 (eq-eqb y y refl) refl in
@@ -249,7 +252,7 @@ module _ {p : Accounts} {n : ℕ} {m : Machine} {t : ℕ} {a : Actor} {rest : Li
       let fits = head_of here in
       let one : one_if (y == y) ≡ 1 = ap one_if (eq-eqb y y refl) in
       let alive =
-      alive_deciding p n m y here.core fits.0
+      alive_deciding y here.core fits.0
       (omega (arith, first_weighs (decides y) m.actors t a (MergeSwap y Own) rest here.found here.agenda, one)) in
       by_local m t x y 0 (λ runs. owner_block y here alive fits.1) changed
   counted_by (MergeSwap y Handed) x here changed =

@@ -10,7 +10,7 @@ use Rattle.brc_model.specs.declared.duty.Duty.{Duty}
 use Rattle.brc_model.specs.declared.duty.Duty.TheVariants.{RetainAdd, DecideAtZero, SharedLoad, SharedExchange, MergeLoad, MergeExchange, Die, Settle, SettleKind, SettleEnd, TakeSlot, CloseResource, BirthKind, BirthSlot, KindLoad, LockGate, UnlockGate, SettleCell, CellLoad, CellSwap, LendSlot, ReturnSlot}
 use Rattle.brc_model.specs.declared.address.Address.TheVariants.{Local, Shared, Gate, KindOf, Mark, Slot, Resource, Cell}
 use Rattle.brc_model.specs.Machine.{Actor, Life, Unborn, Live, Dying, Closed, Machine, written}
-use Rattle.brc_model.specs.StepMachine.{StepMachine, counting, next_machine}
+use Rattle.brc_model.specs.StepMachine.{StepMachine, next_machine}
 use Rattle.brc_model.specs.Progress.{StaysAt, ImmortalsStay}
 use Rattle.brc_model.specs.RowInvariant.{Numbers, InOwned, InSwapped, InMerged, RowInvariant}
 use Rattle.brc_model.specs.Accounts.{Accounts}
@@ -39,17 +39,18 @@ low_by_life owner Live n row =
 low_by_life owner (Dying t) n row = omega (arith, row.local)
 low_by_life owner Closed n row = omega (arith, row.local)
 
-pub counted_low : (p : Accounts) (n : ℕ) (m : Machine) (x : ℕ) → CoreInvariant p n m → IsCounted m.layout x
-    → local_part (m.memory (Local x)) < immortal_local
-counted_low p n m x core pos = low_by_life (block_of m.layout x) (m.life x) (numbers_of m x) (core.rows x pos)
+module _ {p : Accounts} {n : ℕ} {m : Machine} where
+  pub counted_low : (x : ℕ) → CoreInvariant p n m → IsCounted m.layout x
+      → local_part (m.memory (Local x)) < immortal_local
+  counted_low x core pos = low_by_life (block_of m.layout x) (m.life x) (numbers_of m x) (core.rows x pos)
 
-immortal_is : (p : Accounts) (n : ℕ) (m : Machine) (x : ℕ) → CoreInvariant p n m
-    → is_immortal_word (m.memory (Local x)) ≡ true → is_immortal_row m.layout x ≡ true
-immortal_is p n m x core is =
-    elim (cases_Bool (is_immortal_row m.layout x)) [
-      | inl immortal ↦ immortal
-      | inr counted ↦ absurd (omega (arith, counted_low p n m x core counted, eqb-true _ _ is))
-    ]
+  immortal_is : (x : ℕ) → CoreInvariant p n m → is_immortal_word (m.memory (Local x)) ≡ true
+      → is_immortal_row m.layout x ≡ true
+  immortal_is x core is =
+      elim (cases_Bool (is_immortal_row m.layout x)) [
+        | inl immortal ↦ immortal
+        | inr counted ↦ absurd (omega (arith, counted_low x core counted, eqb-true _ _ is))
+      ]
 
 -- ---- an immortal object's words after a duty
 
@@ -192,13 +193,13 @@ immortals_shown n = record {
   };
 }
 
--- An immortal object's mark is never set.
-immortal_mark : (p : Accounts) (n : ℕ) (m : Machine) (x : ℕ) → CoreInvariant p n m → is_immortal_row m.layout x ≡ true
-    → m.memory (Mark x) ≡ 0
-immortal_mark p n m x core immortal = elim (core.marks x) [
-  | inl none ↦ none
-  | inr set ↦ absurd (immortal_apart m.layout x x set.1 immortal refl)
-]
+module _ {p : Accounts} {n : ℕ} {m : Machine} where
+  -- An immortal object's mark is never set.
+  immortal_mark : (x : ℕ) → CoreInvariant p n m → is_immortal_row m.layout x ≡ true → m.memory (Mark x) ≡ 0
+  immortal_mark x core immortal = elim (core.marks x) [
+    | inl none ↦ none
+    | inr set ↦ absurd (immortal_apart m.layout x x set.1 immortal refl)
+  ]
 
 immortal_stays : (p : Module) (n : ℕ) (m : StepMachine) (event : ℕ × Choice) (x : ℕ) → CodeInvariant p n m
     → is_immortal_row m.layout x ≡ true
@@ -215,12 +216,10 @@ immortal_stays p n m event x whole immortal =
       kind = words.kind;
       slot = words.slot;
       resource = words.resource;
-      mark = immortal_mark new.accounts n (counting (next_machine m event)) x new.kept.core still
-          ∙ sym (immortal_mark whole.accounts n (counting m) x whole.kept.core immortal);
+      mark = immortal_mark x new.kept.core still ∙ sym (immortal_mark x whole.kept.core immortal);
       cells = words.cells;
     }
 
 pub immortals_stay : (p : Module) (n : ℕ) (m : StepMachine) (event : ℕ × Choice) → CodeInvariant p n m
     → ImmortalsStay m event
-immortals_stay p n m event whole =
-    λ x is. immortal_stays p n m event x whole (immortal_is whole.accounts n (counting m) x whole.kept.core is)
+immortals_stay p n m event whole = λ x is. immortal_stays p n m event x whole (immortal_is x whole.kept.core is)

@@ -53,7 +53,7 @@ module _ {p : Accounts} {n : ℕ} {m : Machine} {t : ℕ} {a : Actor} {d : Duty}
         | inl immortal ↦ immortal_word_left d x here immortal
         | inr counted ↦
             locals_left d here owner x runs.0 ne runs.1
-            (record { running = runs.2; owner = owns; low = counted_low p n m x here.core counted })
+            (record { running = runs.2; owner = owns; low = counted_low x here.core counted })
       ]
 
 abbrev CountsSo : ℕ → Machine → Machine → Type 0

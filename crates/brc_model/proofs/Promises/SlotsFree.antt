@@ -118,7 +118,7 @@ module _ (p : Accounts) (n : ℕ) (m : Machine) (x : ℕ) (core : CoreInvariant 
   -- So a thread in the midst of the row's birth gives birth to the next row of its block.
   bearer : (u : ℕ) (b : Actor) → slice_get m.actors u ≡ Some b → 0 < agenda_weight (bearing x) b → IsNext m u b x
   bearer u b found some =
-      let it = weighing p n m u x b (bearing x) (of_bearing x) core found some in
+      let it = weighing u x b (bearing x) (of_bearing x) core found some in
       bears_next m u x b it.duty it.rest it.knows it.some
 
   -- Nobody gives birth to a row that was born.
@@ -137,7 +137,7 @@ module _ (p : Accounts) (n : ℕ) (m : Machine) (x : ℕ) (core : CoreInvariant 
 
   -- Nobody has locked a row that doesn't live.
   none_locked : (m.life x ≢ Live) → (u : ℕ) (b : Actor) → slice_get m.actors u ≡ Some b → b.locked ≡ Some x → ⊥
-  none_locked dead u b found locked = dead (locked_alive p n m u b x core found locked).life
+  none_locked dead u b found locked = dead (locked_alive u b x core found locked).life
 
 -- ---- the threads that take a slot
 
@@ -147,7 +147,7 @@ module _ (p : Accounts) (n : ℕ) (m : Machine) (t : ℕ) (a : Actor) where
       → IsFree m x
   locking_free x rest here free =
       let fits = head_of here in
-      let alive = alive_backed p n m t a x here.core fits.0 fits.1 in
+      let alive = alive_backed t a x here.core fits.0 fits.1 in
       record {
         settled = none_settles p n m x here.core (λ u. ap (λ (l : Life). dies_by l u) alive.life);
         unbegun = none_bears p n m x here.core (alive_born m x alive);

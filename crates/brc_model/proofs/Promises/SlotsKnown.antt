@@ -90,7 +90,7 @@ slots_known = record {
 pub locked_full : LockedSlotsAreFull
 locked_full p n m t a x counts found locked unlent =
     let core = counts.kept.core in
-    let lives = (locked_alive p n m t a x core found locked).life in
+    let lives = (locked_alive t a x core found locked).life in
     let fit : ResourcesFit Live (resources_at m x) =
     subst (λ (l : Life). ResourcesFit l (resources_at m x)) lives (core.resources x) in
     let none_closing =
@@ -137,7 +137,7 @@ module _ (p : Accounts) (n : ℕ) (m : Machine) (x : ℕ) (counts : Counts p n m
       unfinalised p n m x (closing x) (finalises x (closing x) (of_closing x)) core
       (λ u. ap (λ (l : Life). dies_by l u) is) in
       omega (arith, fit.0, fit.1, none_closing, none_lends)
-  open_slot (Dying t) is fit gate still = absurd (none_dying p n m x t core (at_end p n m counts ended) is)
+  open_slot (Dying t) is fit gate still = absurd (none_dying x t core (at_end p n m counts ended) is)
   open_slot Closed is fit gate still = absurd (still gate)
 
 -- At the end a slot has its row's resource, unless the row is closed.

@@ -66,12 +66,12 @@ module _ {p : Accounts} {n : ℕ} {m : Machine} {t : ℕ} {a : Actor} {rest : Li
       let fits = head_of here in
       let own : dies_by (m.life x) t ≡ true = ap (λ (l : Life). dies_by l t) dies ∙ eq-eqb t t refl in
       written_apart m.memory (Gate y) (Gate x) _
-      (apart_gate y x (living_clash m t x y (alive_backed p n m t a y here.core fits.0 fits.1) own))
+      (apart_gate y x (living_clash m t x y (alive_backed t a y here.core fits.0 fits.1) own))
   gate_stays (UnlockGate y) x here other dies =
       let fits = head_of here in
       let own : dies_by (m.life x) t ≡ true = ap (λ (l : Life). dies_by l t) dies ∙ eq-eqb t t refl in
       written_apart m.memory (Gate y) (Gate x) _
-      (apart_gate y x (living_clash m t x y (alive_backed p n m t a y here.core fits.0 fits.1) own))
+      (apart_gate y x (living_clash m t x y (alive_backed t a y here.core fits.0 fits.1) own))
   gate_stays _ x here other dies = refl
 
 dying_unlive : (t : ℕ) → Dying t ≡ Live → ⊥

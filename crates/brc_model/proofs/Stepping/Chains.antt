@@ -46,17 +46,16 @@ one_if_some false some = absurd (omega arith)
 pub dying_born : (m : Machine) (t x : ℕ) → m.life x ≡ Dying t → m.life x ≢ Unborn
 dying_born m t x dies unborn = let wrong : Unborn ≡ Dying t = sym unborn ∙ dies in cc
 
-pub dying_low : (p : Accounts) (n : ℕ) (m : Machine) (t x : ℕ) → CoreInvariant p n m → m.life x ≡ Dying t
-    → x < total_limit
-dying_low p n m t x core dies = born_low p n m x core (dying_born m t x dies)
+module _ {p : Accounts} {n : ℕ} {m : Machine} where
+  pub dying_low : (t x : ℕ) → CoreInvariant p n m → m.life x ≡ Dying t → x < total_limit
+  dying_low t x core dies = born_low x core (dying_born m t x dies)
 
-pub dying_above : (p : Accounts) (n : ℕ) (m : Machine) (t x : ℕ) → CoreInvariant p n m → m.life x ≡ Dying t
-    → IsCounted m.layout x
-dying_above p n m t x core dies =
-    elim (cases_Bool (is_immortal_row m.layout x)) [
-      | inl immortal ↦ absurd (let wrong : Live ≡ Dying t = sym (core.immortals_live x immortal) ∙ dies in cc)
-      | inr counted ↦ counted
-    ]
+  pub dying_above : (t x : ℕ) → CoreInvariant p n m → m.life x ≡ Dying t → IsCounted m.layout x
+  dying_above t x core dies =
+      elim (cases_Bool (is_immortal_row m.layout x)) [
+        | inl immortal ↦ absurd (let wrong : Live ≡ Dying t = sym (core.immortals_live x immortal) ∙ dies in cc)
+        | inr counted ↦ counted
+      ]
 
 -- A row that a duty finalises isn't in the chain.
 hand_not_chained : (m : Machine) (t head x : ℕ) (agenda : List Duty) (chain : ChainFits m t head agenda)
@@ -64,18 +63,17 @@ hand_not_chained : (m : Machine) (t head x : ℕ) (agenda : List Duty) (chain : 
 hand_not_chained m t head x agenda chain some =
     omega (arith, some, chain.once x, one_if_low (dies_by (m.life x) t))
 
--- The head of a chain fits into half a word, since the rows in the chain are born.
-pub head_low : (p : Accounts) (n : ℕ) (m : Machine) (t head : ℕ) (agenda : List Duty) (chained : List ℕ)
-    → CoreInvariant p n m
-    → Linked m.memory t head chained
-    → ((x : ℕ) → finalised agenda x + count_by (λ y. y == x) chained ≡ one_if (dies_by (m.life x) t)) → head < half
-head_low p n m t head agenda [] core linked once = omega (arith, linked)
-head_low p n m t head agenda (x ∷ xs) core linked once =
-    let here : one_if (x == x) ≡ 1 = ap one_if (eq-eqb x x refl) in
-    let dies : m.life x ≡ Dying t =
-    is_dying (m.life x) t (one_if_some _ (omega (arith, once x, sum_by-cons (λ y. cond (y == x) 1 0) x xs, here)))
-    in
-    omega (arith, linked.0, dying_low p n m t x core dies)
+module _ {p : Accounts} {n : ℕ} {m : Machine} where
+  -- The head of a chain fits into half a word, since the rows in the chain are born.
+  pub head_low : (t head : ℕ) (agenda : List Duty) (chained : List ℕ) → CoreInvariant p n m
+      → Linked m.memory t head chained
+      → ((x : ℕ) → finalised agenda x + count_by (λ y. y == x) chained ≡ one_if (dies_by (m.life x) t)) → head < half
+  head_low t head agenda [] core linked once = omega (arith, linked)
+  head_low t head agenda (x ∷ xs) core linked once =
+      let here : one_if (x == x) ≡ 1 = ap one_if (eq-eqb x x refl) in
+      let dies : m.life x ≡ Dying t =
+      is_dying (m.life x) t (one_if_some _ (omega (arith, once x, sum_by-cons (λ y. cond (y == x) 1 0) x xs, here))) in
+      omega (arith, linked.0, dying_low t x core dies)
 
 -- ---- `Die` puts a row into the chain
 
@@ -95,7 +93,7 @@ module _ {p : Accounts} {n : ℕ} {m : Machine} {t : ℕ} {a : Actor} {rest : Li
           (
             a.head,
             written_here m.memory (Gate x) (dying_word t a.head),
-            head_low p n m t a.head (Die x ∷ rest) old.chained here.core old.linked old.once,
+            head_low t a.head (Die x ∷ rest) old.chained here.core old.linked old.once,
             linked_kept m.memory new t a.head old.chained
                 (λ y some. written_apart m.memory (Gate x) (Gate y) (dying_word t a.head)
                 (apart_gate x y (λ e. absurd (omega
@@ -201,7 +199,7 @@ module _ {p : Accounts} {n : ℕ} {m : Machine} {t : ℕ} {a : Actor} {rest : Li
             agenda_shown m t a Settle rest later a.status alive refl (front (next_part (m.memory (Gate (a.head - 1)))))
             (agenda_here here alive);
         knows = λ b status h used. (
-          dying_above p n m t first.row here.core first.dies,
+          dying_above t first.row here.core first.dies,
           first.dies,
           subst (IsDyingWord t) (sym (written_load m.memory (Gate (a.head - 1)) (Gate first.row))) first.gate,
         );

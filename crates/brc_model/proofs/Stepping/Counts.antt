@@ -112,7 +112,7 @@ module _ {p : Accounts} {n : ℕ} {m : Machine} {t : ℕ} {a : Actor} {rest : Li
       → is_immortal_word (m.memory (Local x)) ≡ false
   backed_not_immortal x h pos here =
       let fits = head_of here in
-      let alive = alive_backed p n m t a x here.core pos fits in
+      let alive = alive_backed t a x here.core pos fits in
       ne_eqb (local_part (m.memory (Local x))) immortal_local (elim alive.live.mode [
         | InOwned o ↦ λ e. absurd (omega (arith, o.low, e))
         | InSwapped s ↦ λ e. absurd (omega (arith, s.local, e))

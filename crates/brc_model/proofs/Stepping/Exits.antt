@@ -33,21 +33,20 @@ use Rattle.brc_model.specs.Layout.{block_of, row_at, IsCounted}
 
 -- ---- marked rows
 
-pub mark_above : (p : Accounts) (n : ℕ) (m : Machine) (x : ℕ) → CoreInvariant p n m → m.memory (Mark x) ≡ 1
-    → IsCounted m.layout x
-mark_above p n m x core marked = elim (core.marks x) [
-  | inl none ↦ absurd (omega (arith, none, marked))
-  | inr some ↦ some.1
-]
+module _ {p : Accounts} {n : ℕ} {m : Machine} where
+  pub mark_above : (x : ℕ) → CoreInvariant p n m → m.memory (Mark x) ≡ 1 → IsCounted m.layout x
+  mark_above x core marked = elim (core.marks x) [
+    | inl none ↦ absurd (omega (arith, none, marked))
+    | inr some ↦ some.1
+  ]
 
--- A marked row was born.
-pub marked_born : (p : Accounts) (n : ℕ) (m : Machine) (x : ℕ) → CoreInvariant p n m → m.memory (Mark x) ≡ 1
-    → m.life x ≢ Unborn
-marked_born p n m x core marked = λ unborn.
-    let row =
-    subst (λ (l : Life). RowInvariant (block_of m.layout x) l (numbers_of m x)) unborn
-    (core.rows x (mark_above p n m x core marked)) in
-    absurd (omega (arith, row.mark, marked))
+  -- A marked row was born.
+  pub marked_born : (x : ℕ) → CoreInvariant p n m → m.memory (Mark x) ≡ 1 → m.life x ≢ Unborn
+  marked_born x core marked = λ unborn.
+      let row =
+      subst (λ (l : Life). RowInvariant (block_of m.layout x) l (numbers_of m x)) unborn
+      (core.rows x (mark_above x core marked)) in
+      absurd (omega (arith, row.mark, marked))
 
 -- ---- claiming a mark
 
@@ -76,7 +75,7 @@ module _ {p : Accounts} {n : ℕ} {m : Machine} {t : ℕ} {a : Actor} {d : Duty}
       elim (m.memory (Mark x) == 1) as (λ b. (m.memory (Mark x) == 1) ≡ b → FitsAfter p m t a d rest) [
         | true ↦ λ e.
             let marked : m.memory (Mark x) ≡ 1 = eqb-true (m.memory (Mark x)) 1 e in
-            let above = mark_above p n m x here.core marked in
+            let above = mark_above x here.core marked in
             own_neutral (MergeSwap x Handed ∷ behind) (MergeSwap x Handed ∷ (behind ++ rest)) here alive (record {
               next_is = step.next_is ∙ ap (λ (b : Bool). cond b (MergeSwap x Handed ∷ []) [] ++ behind) e;
               none_dies = refl;
@@ -131,7 +130,7 @@ module _ {p : Accounts} {n : ℕ} {m : Machine} {t : ℕ} {a : Actor} {rest : Li
         word = refl;
         hands = λ y. refl;
         held = λ agenda more less. held_same m.abstract.references t (Scan i k ∷ rest) agenda more less;
-        block = λ marked. used_block p n m t a i here.core here.found (omega (arith, fits.1, some));
+        block = λ marked. used_block t a i here.core here.found (omega (arith, fits.1, some));
         later = (fits.0, omega (arith, fits.1, some), fits.2);
         knows = λ new all. (tt, (tt, all));
       })

@@ -196,11 +196,11 @@ module _ {p : Accounts} {n : ℕ} {m : Machine} {t : ℕ} {a : Actor} {rest : Li
       → (done_by m t a d rest).memory (Gate x) ≡ m.memory (Gate x)
   gate_kept (Die y) x here e other =
       written_apart m.memory (Gate y) (Gate x) _
-      (apart_gate y x (alive_apart m t x y (head_of here).1 (locked_alive p n m t a x here.core here.found e)))
+      (apart_gate y x (alive_apart m t x y (head_of here).1 (locked_alive t a x here.core here.found e)))
   gate_kept Settle x here e other = written_load m.memory (Gate (a.head - 1)) (Gate x)
   gate_kept (SettleEnd y) x here e other =
       written_apart m.memory (Gate y) (Gate x) _
-      (apart_gate y x (alive_apart m t x y (head_of here).1 (locked_alive p n m t a x here.core here.found e)))
+      (apart_gate y x (alive_apart m t x y (head_of here).1 (locked_alive t a x here.core here.found e)))
   gate_kept (LockGate y) x here e other = absurd cc
   gate_kept (UnlockGate y) x here e other = absurd cc
   gate_kept _ x here e other = refl

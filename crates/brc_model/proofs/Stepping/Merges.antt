@@ -35,7 +35,7 @@ module _ {p : Accounts} {n : ℕ} {m : Machine} {t : ℕ} {a : Actor} {rest : Li
   mark_alive : (x : ℕ) → AtDuty p n m t a (SetMark x) rest → Alive m x
   mark_alive x here =
       let one : one_if (x == x) ≡ 1 = ap one_if (eq-eqb x x refl) in
-      alive_waiting p n m x here.core (head_of here)
+      alive_waiting x here.core (head_of here)
       (omega (arith, first_weighs (waits x) m.actors t a (SetMark x) rest here.found here.agenda, one))
 
   -- The thread fits after `Marked`.
@@ -94,7 +94,7 @@ module _ {p : Accounts} {n : ℕ} {m : Machine} {t : ℕ} {a : Actor} {rest : Li
   swap_alive : (x : ℕ) → AtDuty p n m t a (MergeSwap x Own) rest → Alive m x
   swap_alive x here =
       let one : one_if (x == x) ≡ 1 = ap one_if (eq-eqb x x refl) in
-      alive_deciding p n m x here.core (head_of here).0
+      alive_deciding x here.core (head_of here).0
       (omega (arith, first_weighs (decides x) m.actors t a (MergeSwap x Own) rest here.found here.agenda, one))
 
   -- The row of an owner's merge is in the owner's block.

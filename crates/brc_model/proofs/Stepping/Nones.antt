@@ -47,10 +47,10 @@ module _ {p : Accounts} {n : ℕ} {m : Machine} {t : ℕ} {a : Actor} {rest : Li
   immortal_word_left (MergeSwap y Handed) x here immortal = local_apart m y x 0 (head_of here).0 immortal
   immortal_word_left _ x here immortal = refl
 
-pub immortal_row : (p : Accounts) (n : ℕ) (m : Machine) (x : ℕ) → CoreInvariant p n m
-    → is_immortal_row m.layout x ≡ true
-    → is_immortal_word (m.memory (Local x)) ≡ true
-immortal_row p n m x core immortal = ap is_immortal_word (core.immortal_words x immortal)
+module _ {p : Accounts} {n : ℕ} {m : Machine} where
+  pub immortal_row : (x : ℕ) → CoreInvariant p n m → is_immortal_row m.layout x ≡ true
+      → is_immortal_word (m.memory (Local x)) ≡ true
+  immortal_row x core immortal = ap is_immortal_word (core.immortal_words x immortal)
 
 -- ---- a new reference
 
@@ -60,7 +60,7 @@ module _ {p : Accounts} {n : ℕ} {m : Machine} {t : ℕ} {a : Actor} {rest : Li
       → is_immortal_row m.layout x ≡ true → NotGone a → FitsAfter p m t a (RetainLoad x h) rest
   thread_after_retain_immortal x h here row alive =
       let d : Duty = RetainLoad x h in
-      let immortal = immortal_row p n m x here.core row in
+      let immortal = immortal_row x here.core row in
       let bag : bag_by m t a d ≡ reference_of t h x ∷ m.abstract.references =
       ap (λ (b : Bool). (moved m.abstract (cond b (gain t h x) [])).references) immortal in
       let word = m.memory (Local x) in
@@ -94,7 +94,7 @@ module _ {p : Accounts} {n : ℕ} {m : Machine} {t : ℕ} {a : Actor} {rest : Li
       → FitsAfter p m t a (ReleaseLoad x h) rest
   thread_after_release_immortal x h here row alive some =
       let d : Duty = ReleaseLoad x h in
-      let immortal = immortal_row p n m x here.core row in
+      let immortal = immortal_row x here.core row in
       let bag : bag_by m t a d ≡ without (reference_of t h x) m.abstract.references =
       ap (λ (b : Bool). (moved m.abstract (put_in_flight t h x ++ cond b (lose t x) [])).references) immortal
       ∙ lost_from t h x m.abstract in

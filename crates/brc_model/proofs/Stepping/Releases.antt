@@ -69,7 +69,7 @@ module _ {p : Accounts} {n : ℕ} {m : Machine} {t : ℕ} {a : Actor} {rest : Li
 
   pub release_alive : (x : ℕ) (h : Holding) → IsCounted m.layout x → AtDuty p n m t a (ReleaseLoad x h) rest → Alive m x
   release_alive x h pos here =
-      alive_referenced p n m x here.core pos (omega (
+      alive_referenced x here.core pos (omega (
         arith,
         release_held x h here,
         held-le-references_to (reference_of t h x) m.abstract.references,
@@ -147,8 +147,7 @@ module _ {p : Accounts} {n : ℕ} {m : Machine} {t : ℕ} {a : Actor} {rest : Li
       as (λ b. counts_locally t (is_running a.status) word ≡ b → FitsAfter p m t a d rest) [
         | true ↦ λ e.
             let owns = counts_owner m t a x e living in
-            let some =
-            count_above p n m t x a here.core here.found owns (weight_here x here (eq-eqb x x refl) refl) living in
+            let some = count_above t x a here.core here.found owns (weight_here x here (eq-eqb x x refl) refl) living in
             let same_word : (done_by m t a d rest).memory (Local x) ≡ word = written_here m.memory (Local x) word in
             own_next (ReleaseStore x word) here alive refl refl refl
             (first ∙ ap (λ (b : Bool). cond b (ReleaseStore x word ∷ []) (SharedLoad x Own ∷ [])) e)

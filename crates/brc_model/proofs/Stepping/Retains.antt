@@ -64,17 +64,17 @@ counts_owner m t a x counts alive =
       ];
     }
 
--- The running owner's local count is above 0 unless the owner is deciding about the row.
-pub count_above : (p : Accounts) (n : ℕ) (m : Machine) (t x : ℕ) (a : Actor) → CoreInvariant p n m
-    → slice_get m.actors t ≡ Some a
-    → OwnsLocally m t a x → agenda_weight (decides x) a ≡ 0 → Alive m x → 1 ≤ local_part (m.memory (Local x))
-count_above p n m t x a core found owns mine alive =
-    let none : weight (decides x) m.actors ≡ 0 = nobody_decides p n m t x a core found owns mine in
-    elim alive.live.mode [
-      | InOwned o ↦ elim o.decided [ AtZero z d ↦ absurd (omega (arith, none, d)) | AboveZero z d ↦ z ]
-      | InSwapped s ↦ absurd (omega (arith, s.local, owns.owner))
-      | InMerged s ↦ absurd (omega (arith, s.local, owns.owner))
-    ]
+module _ {p : Accounts} {n : ℕ} {m : Machine} where
+  -- The running owner's local count is above 0 unless the owner is deciding about the row.
+  pub count_above : (t x : ℕ) (a : Actor) → CoreInvariant p n m → slice_get m.actors t ≡ Some a → OwnsLocally m t a x
+      → agenda_weight (decides x) a ≡ 0 → Alive m x → 1 ≤ local_part (m.memory (Local x))
+  count_above t x a core found owns mine alive =
+      let none : weight (decides x) m.actors ≡ 0 = nobody_decides t x a core found owns mine in
+      elim alive.live.mode [
+        | InOwned o ↦ elim o.decided [ AtZero z d ↦ absurd (omega (arith, none, d)) | AboveZero z d ↦ z ]
+        | InSwapped s ↦ absurd (omega (arith, s.local, owns.owner))
+        | InMerged s ↦ absurd (omega (arith, s.local, owns.owner))
+      ]
 
 module _ {p : Accounts} {n : ℕ} {m : Machine} {t : ℕ} {a : Actor} {d : Duty} {rest : List Duty} where
   pub weight_here : (x : ℕ) → AtDuty p n m t a d rest → is_about x d ≡ true → decides x d ≡ 0
@@ -93,7 +93,7 @@ module _ {p : Accounts} {n : ℕ} {m : Machine} {t : ℕ} {a : Actor} {rest : Li
       let word = m.memory (Local x) in
       let fits = head_of here in
       let mortal = backed_not_immortal x h pos here in
-      let living = alive_backed p n m t a x here.core pos fits in
+      let living = alive_backed t a x here.core pos fits in
       let bag = retain_bag m t a x h mortal in
       let new = done_by m t a (RetainLoad x h) rest in
       let backed : (b : Actor) → b.locked ≡ a.locked → IsBacked new t b x =
@@ -119,8 +119,7 @@ module _ {p : Accounts} {n : ℕ} {m : Machine} {t : ℕ} {a : Actor} {rest : Li
             ltb-true _ _ (and_second (counts_locally t (is_running a.status) word)
             (nat_lt (local_part word) most_local) e) in
             let owns = counts_owner m t a x counts living in
-            let some =
-            count_above p n m t x a here.core here.found owns (weight_here x here (eq-eqb x x refl) refl) living in
+            let some = count_above t x a here.core here.found owns (weight_here x here (eq-eqb x x refl) refl) living in
             let same : new.memory (Local x) ≡ word = written_here m.memory (Local x) word in
             own_neutral (RetainStore x h word ∷ []) (RetainStore x h word ∷ rest) here alive (record {
               next_is = first ∙ ap (λ (b : Bool). cond b (RetainStore x h word ∷ []) (RetainAdd x h ∷ [])) e;

@@ -79,11 +79,11 @@ module _ {p : Accounts} {n : ℕ} {m : Machine} {t : ℕ} {a : Actor} {rest : Li
   keeping_gates (LockGate y) x here kept dies =
       let fits = head_of here in
       written_apart m.memory (Gate y) (Gate x) _
-      (apart_gate y x (living_clash m t x y (alive_backed p n m t a y here.core fits.0 fits.1) dies))
+      (apart_gate y x (living_clash m t x y (alive_backed t a y here.core fits.0 fits.1) dies))
   keeping_gates (UnlockGate y) x here kept dies =
       let fits = head_of here in
       written_apart m.memory (Gate y) (Gate x) _
-      (apart_gate y x (living_clash m t x y (alive_backed p n m t a y here.core fits.0 fits.1) dies))
+      (apart_gate y x (living_clash m t x y (alive_backed t a y here.core fits.0 fits.1) dies))
   keeping_gates _ x here kept dies = refl
 
 -- A step that makes a row die changes no gate.
@@ -237,7 +237,7 @@ module _ {p : Accounts} {n : ℕ} {m : Machine} {t : ℕ} {a : Actor} {d : Duty}
       let new = done_by m t a d rest in
       let row : IsDead (numbers_of new x) =
       subst (λ (l : Life). RowInvariant (block_of m.layout x) l (numbers_of new x)) dies
-      (rows_after p n m t a d rest here.core here.found here.agenda alive x counted) in
+      (rows_after t a d rest here.core here.found here.agenda alive x counted) in
       elim (eqb_tells u t) [
         | inl same ↦
             let this : b ≡ a = some_is b a (sym found ∙ ap (slice_get m.actors) same.1 ∙ here.found) in

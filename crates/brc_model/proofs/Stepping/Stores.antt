@@ -89,7 +89,7 @@ module _ {p : Accounts} {n : ℕ} {m : Machine} {t : ℕ} {a : Actor} {rest : Li
       let one : one_if (x == x) ≡ 1 = ap one_if (eq-eqb x x refl) in
       let weighs = first_weighs (waits x) m.actors t a (SetMark x) rest here.found here.agenda in
       let some : 0 < (numbers_of m x).waiting = omega (arith, weighs, one) in
-      let alive = alive_waiting p n m x here.core (head_of here) some in
+      let alive = alive_waiting x here.core (head_of here) some in
       elim alive.live.mode [
         | InOwned o ↦ phased_free (numbers_of m x) o.phased some
         | InSwapped s ↦ phased_free (numbers_of m x) s.phased some

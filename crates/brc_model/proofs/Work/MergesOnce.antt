@@ -69,15 +69,15 @@ merger_knows m u x b (MergeLoad y c Handed) rest fits some = inr some
 merger_knows m u x b (MergeExchange y c w Handed) rest fits some = inr some
 merger_knows m u x b _ rest fits some = absurd (omega (arith, some))
 
-merger_of : (p : Accounts) (n : ℕ) (m : Machine) (u x : ℕ) (b : Actor) → CoreInvariant p n m
-    → slice_get m.actors u ≡ Some b
-    → 0 < agenda_weight (merges x) b → IsMerger m u b x
-merger_of p n m u x b core found some =
-    let it = weighing p n m u x b (merges x) (merges_of_row x) core found some in
-    elim (merger_knows m u x b it.duty it.rest it.knows it.some) [
-      | inl own ↦ inl own
-      | inr waiting ↦ inr (omega (arith, it.among (waits x), waiting))
-    ]
+module _ {p : Accounts} {n : ℕ} {m : Machine} where
+  merger_of : (u x : ℕ) (b : Actor) → CoreInvariant p n m → slice_get m.actors u ≡ Some b
+      → 0 < agenda_weight (merges x) b → IsMerger m u b x
+  merger_of u x b core found some =
+      let it = weighing u x b (merges x) (merges_of_row x) core found some in
+      elim (merger_knows m u x b it.duty it.rest it.knows it.some) [
+        | inl own ↦ inl own
+        | inr waiting ↦ inr (omega (arith, it.among (waits x), waiting))
+      ]
 
 -- ---- claimants
 
@@ -117,7 +117,7 @@ module _ {p : Accounts} {n : ℕ} {m : Machine} {t : ℕ} {a : Actor} {rest : Li
       (sym other.found ∙ ap (slice_get m.actors) same ∙ here.found)) in
       absurd (omega (arith, other.some, which, none)) in
       claimants_clash other.who x other.which here ne other.found
-      (merger_of p n m other.who x other.which here.core other.found other.some) phased
+      (merger_of other.who x other.which here.core other.found other.some) phased
 
   -- If the local word is 0, a thread that claimed the row's mark finds the row merged.
   pub swapped_apart : (x : ℕ) → AtDuty p n m t a (MergeSwap x Handed) rest → m.memory (Local x) ≡ 0

@@ -173,16 +173,16 @@ module _ {p : Accounts} {n : ℕ} {m : Machine} {t : ℕ} {a : Actor} {rest : Li
 
 -- ---- the thread of the row's block
 
--- A marked row is among the rows that the thread of its block has used.
-pub marked_within : (p : Accounts) (n : ℕ) (m : Machine) (t : ℕ) (a : Actor) (x : ℕ) → CoreInvariant p n m
-    → slice_get m.actors t ≡ Some a → m.memory (Mark x) ≡ 1 → block_of m.layout x ≡ t
-    → index_of m.layout t x < a.used
-marked_within p n m t a x core found marked block =
-    let used = born_used p n m x core (marked_born p n m x core marked) in
-    let it : used.by ≡ a = some_is used.by a (sym used.found ∙ ap (slice_get m.actors) block ∙ found) in
-    let low : index_of m.layout t x < used.by.used =
-    subst (λ (u : ℕ). index_of m.layout u x < used.by.used) block used.low in
-    omega (arith, low, ap (λ (b : Actor). b.used) it)
+module _ {p : Accounts} {n : ℕ} {m : Machine} where
+  -- A marked row is among the rows that the thread of its block has used.
+  pub marked_within : (t : ℕ) (a : Actor) (x : ℕ) → CoreInvariant p n m → slice_get m.actors t ≡ Some a
+      → m.memory (Mark x) ≡ 1 → block_of m.layout x ≡ t → index_of m.layout t x < a.used
+  marked_within t a x core found marked block =
+      let used = born_used x core (marked_born x core marked) in
+      let it : used.by ≡ a = some_is used.by a (sym used.found ∙ ap (slice_get m.actors) block ∙ found) in
+      let low : index_of m.layout t x < used.by.used =
+      subst (λ (u : ℕ). index_of m.layout u x < used.by.used) block used.low in
+      omega (arith, low, ap (λ (b : Actor). b.used) it)
 
 mine_after : (m : Machine) (t : ℕ) (a : Actor) (d : Duty) (rest : List Duty) (x : ℕ) → slice_get m.actors t ≡ Some a
     → block_of m.layout x ≡ t
@@ -200,7 +200,7 @@ running_after p n m t a (Leave y k) [] x here alive marked runs =
     elim (eqb_tells (block_of m.layout x) t) [
       | inl same ↦
           let fits = agenda_here here alive in
-          let within = marked_within p n m t a x here.core here.found marked same.1 in
+          let within = marked_within t a x here.core here.found marked same.1 in
           mine_after m t a (Leave y k) [] x here.found same.1
           (ready_scans (index_of m.layout t x) a.head (Scan y k ∷ Finish ∷ [])
           (omega (arith, fits.1), omega (arith, within, fits.1, fits.2)))
@@ -235,7 +235,7 @@ module _ {p : Accounts} {n : ℕ} {m : Machine} {t : ℕ} {a : Actor} {d : Duty}
             let still : scans i (d ∷ rest) ≡ true =
             ap (scans i) (sym here.agenda) ∙ ap (λ (c : Actor). scans i c.agenda) (sym it) ∙ mine in
             mine_after m t a d rest x here.found same.1
-            (agenda_scans i here alive (marked_within p n m t a x here.core here.found marked same.1)
+            (agenda_scans i here alive (marked_within t a x here.core here.found marked same.1)
             (spares_index m.layout t d x same.1 spares) still)
         | inr other ↦
             ByExit b (slice_get-set_other m.actors t (block_of m.layout x)

@@ -150,22 +150,21 @@ weighing_aside f m u b (d ∷ rest) waits some =
       }
     ]
 
--- A thread whose duties weigh something at a row has a duty that does, and that knows what it needs.
-pub weighing : (p : Accounts) (n : ℕ) (m : Machine) (u x : ℕ) (b : Actor) (f : Duty → ℕ) → IsOfRow x f
-    → CoreInvariant p n m
-    → slice_get m.actors u ≡ Some b → 0 < agenda_weight f b → Weighing f m u b
-weighing p n m u x b f of_row core found some =
-    let fits = core.each u b found in
-    elim (eqb_tells (sum_by f b.agenda) 0) [
-      | inl none ↦
-          let it = weighing_aside f m u b b.aside fits.2.waits (omega (arith, some, none.1)) in
-          record {
-            duty = it.duty;
-            rest = [];
-            some = it.some;
-            knows = it.knows;
-            among = λ g. omega (arith, it.among g);
-          }
-      | inr more ↦
-          weighing_agenda x f of_row m u b b.agenda refl fits.1 fits.0.head_fits (omega (arith, more.1))
-    ]
+module _ {p : Accounts} {n : ℕ} {m : Machine} where
+  -- A thread whose duties weigh something at a row has a duty that does, and that knows what it needs.
+  pub weighing : (u x : ℕ) (b : Actor) (f : Duty → ℕ) → IsOfRow x f → CoreInvariant p n m
+      → slice_get m.actors u ≡ Some b → 0 < agenda_weight f b → Weighing f m u b
+  weighing u x b f of_row core found some =
+      let fits = core.each u b found in
+      elim (eqb_tells (sum_by f b.agenda) 0) [
+        | inl none ↦
+            let it = weighing_aside f m u b b.aside fits.2.waits (omega (arith, some, none.1)) in
+            record {
+              duty = it.duty;
+              rest = [];
+              some = it.some;
+              knows = it.knows;
+              among = λ g. omega (arith, it.among g);
+            }
+        | inr more ↦ weighing_agenda x f of_row m u b b.agenda refl fits.1 fits.0.head_fits (omega (arith, more.1))
+      ]
