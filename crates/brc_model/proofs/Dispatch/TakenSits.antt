@@ -2,7 +2,6 @@
 use Rattle.std.proofs.Common.{◌≡◌, ◌≢◌, ℕ, false, List, [], ◌∷◌, Some, refl, sym, ap, ◌∙◌, subst, None, Option}
 use Rattle.std.specs.Prelude.{slice_get}
 use Rattle.std.proofs.lemmas.Bool.{false≢true}
-use Rattle.std.proofs.lemmas.List.Sums.{sum_by-cons}
 use Rattle.brc_lang.specs.declared.module.Function.{Function}
 use Rattle.brc_lang.specs.declared.module.Module.{Module}
 use Rattle.brc_model.specs.Threads.{code_of}
@@ -15,10 +14,9 @@ use Rattle.brc_model.specs.declared.actor.Place.TheVariants.{Exiting}
 use Rattle.brc_model.specs.Machine.{Actor, Machine, with_actor, locked_by}
 use Rattle.brc_model.specs.Actions.{StepActor, dispatch, agenda_action}
 use Rattle.brc_model.specs.StepMachine.{StepMachine, counting}
-use Rattle.brc_model.specs.RowInvariant.{waits, carries, merges, decides}
 use Rattle.brc_model.specs.Accounts.{Account, Accounts, HoldsAt}
 use Rattle.brc_model.specs.OpenWork.{Agenda, AgendaFits, has_leave, exits}
-use Rattle.brc_model.specs.Invariant.{looks, CoreInvariant}
+use Rattle.brc_model.specs.Invariant.{CoreInvariant}
 use Rattle.brc_model.proofs.Frame.Aside.{HoldsAlone, alone_holds, alone_fits}
 use Rattle.brc_model.proofs.Dispatch.Begun.{starts_leave, follows_leave, starts_sit}
 use Rattle.brc_model.proofs.Dispatch.Coded.{PlaceSays, InCode, is_departing, departing_is, place_fits, placed_by, exited_none, says_bounded}
@@ -77,12 +75,7 @@ module _ {p : Accounts} {n : ℕ} {m : Machine} {t : ℕ} {a : Actor} where
         behind = tt;
         locks = λ x e. absurd (none_some x (sym unlocked ∙ e));
         fits = refl;
-        hands = λ x. refl;
-        no_waits = λ x. sum_by-cons (waits x) (ClaimMark row) [];
-        no_carries = λ x. sum_by-cons (carries x) (ClaimMark row) [];
-        no_merges = λ x. sum_by-cons (merges x) (ClaimMark row) [];
-        no_decides = λ x. sum_by-cons (decides x) (ClaimMark row) [];
-        no_looks = λ x. sum_by-cons (looks x) (ClaimMark row) [];
+        light = refl;
       }
 
 -- ---- a thread at rest

@@ -1,6 +1,6 @@
 -- A ready thread that has put nothing aside begins what it does in one go: to settle, to claim a mark, or to leave. And
 -- a ready thread asks for an object's kind.
-use Rattle.std.proofs.Common.{◌≡◌, ℕ, ◌<◌, Bool, cond, true, false, [], ◌∷◌, inl, inr, refl, ap, subst, arith}
+use Rattle.std.proofs.Common.{◌≡◌, ℕ, ◌<◌, true, false, [], ◌∷◌, inl, inr, refl, ap, subst, arith}
 use Rattle.std.specs.Prelude.{◌⊎◌, count_by}
 use Rattle.std.proofs.lemmas.Bool.{false≢true}
 use Rattle.brc_model.specs.declared.duty.Holding.{Holding}
@@ -10,12 +10,11 @@ use Rattle.brc_model.specs.declared.actor.Status.TheVariants.{Running}
 use Rattle.brc_model.specs.Layout.{row_count}
 use Rattle.brc_model.specs.Machine.{Actor, Life, Machine, with_actor}
 use Rattle.brc_model.specs.References.{one_if}
-use Rattle.brc_model.specs.RowInvariant.{waits, carries, merges, decides}
 use Rattle.brc_model.specs.Accounts.{Account, Accounts, lacks, extra, HoldsNone}
 use Rattle.brc_model.specs.Knowledge.{MayLook, HeadFits}
-use Rattle.brc_model.specs.OpenWork.{dies_by, is_about, is_finalising, has_leave, Agenda, IsSettled}
+use Rattle.brc_model.specs.OpenWork.{dies_by, is_about, has_leave, Agenda, IsSettled}
 use Rattle.brc_model.specs.Gates.{LocksFit}
-use Rattle.brc_model.specs.Invariant.{looks, CoreInvariant, Invariant}
+use Rattle.brc_model.specs.Invariant.{CoreInvariant, Invariant}
 use Rattle.brc_model.specs.Ranges.{IsSmall}
 use Rattle.brc_model.specs.Counting.{Counts, working, IsReady, HasNoneAbout, IsAtHand}
 use Rattle.brc_model.specs.CountingLaws.{SettlesBegin, ClaimsBegin, ExitsBegin, IsFirstOfChain, KindsAreAsked, ChainsAreThere}
@@ -28,7 +27,8 @@ use Rattle.brc_model.proofs.Keeping.Replaced.{with_account_itself}
 use Rattle.brc_model.proofs.Keeping.Sits.{Sits}
 use Rattle.brc_model.proofs.Keeping.Kept.{kept_sits}
 use Rattle.brc_model.proofs.Keeping.WorkAside.{working_ranges}
-use Rattle.brc_model.proofs.Keeping.WorkBegins.{ready_rests, ready_holds, at_hand_backed, backed_row, backed_still, BeginsWork, one_weight, one_makes, work_begins}
+use Rattle.brc_model.proofs.Keeping.WorkBegins.{ready_rests, ready_holds, at_hand_backed, backed_row, backed_still, one_makes, work_begins, one_light}
+use Rattle.brc_model.proofs.Keeping.Weightless.{weighs_any}
 
 -- ---- chains
 
@@ -62,12 +62,7 @@ chains_there p n m t a counts found =
 pub record BeginsAlone (d : Duty) : Type 0 where
   pub lacks : (k : Holding) (object : ℕ) → lacks d k object ≡ false
   pub extra : (k : Holding) (object : ℕ) → extra d k object ≡ false
-  pub hands : (y : ℕ) → is_finalising d y ≡ false
-  pub waits : (y : ℕ) → waits y d ≡ 0
-  pub carries : (y : ℕ) → carries y d ≡ 0
-  pub merges : (y : ℕ) → merges y d ≡ 0
-  pub decides : (y : ℕ) → decides y d ≡ 0
-  pub looks : (y : ℕ) → looks y d ≡ 0
+  pub light : weighs_any d ≡ false
 
 -- What the thread has to show besides.
 pub record TakesAlone (p : Accounts) (m : Machine) (t : ℕ) (a : Actor) (d : Duty) : Type 0 where
@@ -122,12 +117,7 @@ module _ {p : Accounts} {n : ℕ} {m : Machine} {t : ℕ} {a : Actor} where
         behind = tt;
         locks = same_locks (p t) m t a d old.0.locks begins.lacks;
         fits = new.fits;
-        hands = λ y. ap (λ (b : Bool). cond b 1 0) (begins.hands y);
-        no_waits = λ y. one_weight (waits y) d (begins.waits y);
-        no_carries = λ y. one_weight (carries y) d (begins.carries y);
-        no_merges = λ y. one_weight (merges y) d (begins.merges y);
-        no_decides = λ y. one_weight (decides y) d (begins.decides y);
-        no_looks = λ y. one_weight (looks y) d (begins.looks y);
+        light = one_light d begins.light;
       } in
       record {
         kept =
@@ -139,47 +129,11 @@ module _ {p : Accounts} {n : ℕ} {m : Machine} {t : ℕ} {a : Actor} where
         no_flight = counts.no_flight;
       }
 
-settle_begins : BeginsAlone Settle
-settle_begins = record {
-  lacks = λ k object. refl;
-  extra = λ k object. refl;
-  hands = λ y. refl;
-  waits = λ y. refl;
-  carries = λ y. refl;
-  merges = λ y. refl;
-  decides = λ y. refl;
-  looks = λ y. refl;
-}
-
-claim_begins : (x : ℕ) → BeginsAlone (ClaimMark x)
-claim_begins x = record {
-  lacks = λ k object. refl;
-  extra = λ k object. refl;
-  hands = λ y. refl;
-  waits = λ y. refl;
-  carries = λ y. refl;
-  merges = λ y. refl;
-  decides = λ y. refl;
-  looks = λ y. refl;
-}
-
-leave_begins : (i k : ℕ) → BeginsAlone (Leave i k)
-leave_begins i k = record {
-  lacks = λ k object. refl;
-  extra = λ k object. refl;
-  hands = λ y. refl;
-  waits = λ y. refl;
-  carries = λ y. refl;
-  merges = λ y. refl;
-  decides = λ y. refl;
-  looks = λ y. refl;
-}
-
 -- The invariant and the ranges hold after a ready thread begins to settle its chain.
 pub settles_begin : SettlesBegin
 settles_begin p n m t a counts ready none some =
     alone_begins Settle counts ready none (record {
-      begins = settle_begins;
+      begins = record { lacks = λ k object. refl; extra = λ k object. refl; light = refl };
       exited = λ e. absurd (false≢true e);
       knows = some;
       fits = refl;
@@ -191,7 +145,7 @@ settles_begin p n m t a counts ready none some =
 pub claims_begin : ClaimsBegin
 claims_begin p n m t a x counts ready none own there =
     alone_begins (ClaimMark x) counts ready none (record {
-      begins = claim_begins x;
+      begins = record { lacks = λ k object. refl; extra = λ k object. refl; light = refl };
       exited = λ e. absurd (false≢true e);
       knows = own;
       fits = refl;
@@ -203,7 +157,7 @@ claims_begin p n m t a x counts ready none own there =
 pub exits_begin : ExitsBegin
 exits_begin p n m t a counts ready none empty holds =
     alone_begins (Leave 0 a.used) counts ready none (record {
-      begins = leave_begins 0 a.used;
+      begins = record { lacks = λ k object. refl; extra = λ k object. refl; light = refl };
       exited = λ e. holds;
       knows = tt;
       fits = (refl, refl, refl);
@@ -212,21 +166,6 @@ exits_begin p n m t a counts ready none empty holds =
     })
 
 -- ---- a look at a kind
-
-kind_load_begins : (x : ℕ) → BeginsWork x (KindLoad x)
-kind_load_begins x = record {
-  about = λ y. refl;
-  piece = refl;
-  fits = λ used. refl;
-  stays = refl;
-  settled = λ head. tt;
-  hands = λ y. refl;
-  waits = λ y. refl;
-  carries = λ y. refl;
-  merges = λ y. refl;
-  decides = λ y. refl;
-  looks = λ y. refl;
-}
 
 module _ {p : Accounts} {n : ℕ} {m : Machine} {t : ℕ} {a : Actor} where
   -- The thread may look at the object for whose kind it asks.
@@ -255,7 +194,7 @@ kinds_asked p n m t a x counts ready alone asks =
     let looks = asked_looks x core ready alone asks in
     subst (λ (q : Accounts). Counts q n (with_actor m t (working a (KindLoad x ∷ []) a.aside)))
     (with_account_itself p t) (work_begins x (KindLoad x) (p t) counts ready alone (record {
-      begins = kind_load_begins x;
+      begins = record { about = λ y. refl; piece = refl; light = refl };
       no_flight = counts.no_flight t;
       holds = λ k object. omega (arith, holds.each k object);
       bounded = (core.each t a ready.found).0.bounded;

@@ -17,24 +17,8 @@ use Rattle.brc_model.specs.CountingLaws.{BirthsBegin}
 use Rattle.brc_model.proofs.Basics.Bag.{held-le-references_to}
 use Rattle.brc_model.proofs.Basics.Blocks.{thread_there, next_counted, next_unborn, next_within}
 use Rattle.brc_model.proofs.Limits.Ranges.{row_small}
-use Rattle.brc_model.proofs.Keeping.WorkBegins.{ready_holds, none_about_held, BeginsWork, more_bounded, work_begins, one_makes}
+use Rattle.brc_model.proofs.Keeping.WorkBegins.{ready_holds, none_about_held, more_bounded, work_begins, one_makes}
 use Rattle.brc_model.proofs.Keeping.NextRows.{unborn_alone}
-
--- A birth can begin a piece of work.
-birth_begins : (x word : ℕ) → BeginsWork x (BirthKind x AsCaller word)
-birth_begins x word = record {
-  about = λ y. refl;
-  piece = refl;
-  fits = λ used. refl;
-  stays = refl;
-  settled = λ head. tt;
-  hands = λ y. refl;
-  waits = λ y. refl;
-  carries = λ y. refl;
-  merges = λ y. refl;
-  decides = λ y. refl;
-  looks = λ y. refl;
-}
 
 module _ {p : Accounts} {n : ℕ} {m : Machine} {t : ℕ} {a : Actor} where
   -- A ready thread holds no reference to an object that isn't born.
@@ -71,7 +55,7 @@ births_begin p n m t a word counts ready worker has_room counted_kind few =
     let holds = ready_holds core ready in
     let bounded = (core.each t a ready.found).0.bounded in
     work_begins x (BirthKind x AsCaller word) (with_one_more (p t) AsCaller x) counts ready alone (record {
-      begins = birth_begins x word;
+      begins = record { about = λ y. refl; piece = refl; light = refl };
       no_flight = λ object. omega (arith, counts.no_flight t object);
       holds = λ k object. omega (arith, holds.each k object);
       bounded = more_bounded m.layout (p t) x bounded (λ c. omega (arith, none));
