@@ -50,7 +50,7 @@ use Rattle.brc_model.proofs.Keeping.Replaced.{with_account_itself}
 use Rattle.brc_model.proofs.Dispatch.Begun.{starts_settled, follows_plain}
 use Rattle.brc_model.proofs.Dispatch.TakenSits.{taken_sits, rests, dispatch_fits}
 use Rattle.brc_model.proofs.Dispatch.Counting.{its_found}
-use Rattle.brc_model.proofs.Stepping.Neutral.{found_by}
+use Rattle.brc_model.proofs.Stepping.FitsAfter.{found_by}
 use Rattle.brc_model.proofs.Keeping.Kept.{Doing, sits_down}
 use Rattle.brc_model.proofs.Keeping.CodeInvariant.{CodeInvariant}
 use Rattle.brc_model.proofs.Basics.Blocks.{next_within}

@@ -13,14 +13,14 @@ use Rattle.brc_model.specs.Accounts.{Accounts}
 use Rattle.brc_model.specs.Knowledge.{is_retain}
 use Rattle.brc_model.specs.OpenWork.{is_about, about_of, is_piece, IsPiece, AllWait, AsideFits}
 use Rattle.brc_model.proofs.Frame.Aside.{alone_fits}
-use Rattle.brc_model.proofs.Stepping.Neutral.{found_by}
+use Rattle.brc_model.proofs.Stepping.FitsAfter.{found_by}
 use Rattle.brc_model.proofs.Stepping.Settled.{ready_none}
-use Rattle.brc_model.proofs.Stepping.Retains.{ready_first}
 use Rattle.brc_model.proofs.Basics.Continuation.{Traits, next_inner, Continuation, Ends, GoesOn, continues}
 use Rattle.brc_model.proofs.Frame.Beside.{beside}
 use Rattle.brc_model.proofs.Frame.Items.{drops_items, drops_alone}
 use Rattle.brc_model.specs.Invariant.{AtDuty}
 use Rattle.brc_model.specs.declared.layout.Layout.{Layout}
+use Rattle.brc_model.proofs.Stepping.Own.{ready_first}
 
 -- ---- what follows a piece of work
 

@@ -21,7 +21,7 @@ use Rattle.brc_model.proofs.Basics.Moves.{IsOfOther, effects_elsewhere, moved_ke
 use Rattle.brc_model.proofs.Frame.Items.{drops_items, own_list_kept}
 use Rattle.brc_model.proofs.Frame.Leaves.{stopped_left}
 use Rattle.brc_model.proofs.Frame.Lives.{born_left, next_of}
-use Rattle.brc_model.proofs.Stepping.Neutral.{found_by}
+use Rattle.brc_model.proofs.Stepping.FitsAfter.{found_by}
 use Rattle.brc_model.specs.Invariant.{AtDuty}
 
 -- ---- moves of references to other objects

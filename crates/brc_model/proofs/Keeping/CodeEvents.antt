@@ -12,7 +12,7 @@ use Rattle.brc_model.specs.Actions.{StepActor, Action, Skip, Stuck, Silent, Call
 use Rattle.brc_model.specs.StepMachine.{StepMachine, counting, of_thread, at_place, step_actor, silent_by, machine_by, next_machine, machine_after}
 use Rattle.brc_model.specs.Events.{is_bad_action, chooses_unfit, is_bad_event}
 use Rattle.brc_model.proofs.Basics.Lists.{written_actor}
-use Rattle.brc_model.proofs.Stepping.Neutral.{found_by}
+use Rattle.brc_model.proofs.Stepping.FitsAfter.{found_by}
 use Rattle.brc_model.proofs.Stepping.UnderWay.{exits_still}
 use Rattle.brc_model.proofs.Keeping.Sits.{sitting, taken_up_step}
 use Rattle.brc_model.specs.Counting.{with_account}

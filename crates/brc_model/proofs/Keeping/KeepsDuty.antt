@@ -14,7 +14,7 @@ use Rattle.brc_model.proofs.Frame.Others.{each_fits}
 use Rattle.brc_model.proofs.Basics.MovesApart.{moves_apart}
 use Rattle.brc_model.proofs.Frame.Cells.{cells_hold_after}
 use Rattle.brc_model.proofs.Frame.Lives.{leaves_others}
-use Rattle.brc_model.proofs.Stepping.Neutral.{found_by, NotGone, FitsAfter}
+use Rattle.brc_model.proofs.Stepping.FitsAfter.{found_by, NotGone, FitsAfter}
 use Rattle.brc_model.proofs.Objects.RowsAfter.{rows_after}
 use Rattle.brc_model.proofs.Objects.ClosedAfter.{closed_is_after, closed_has_after, closed_once_after, immortals_live_after, dying_after}
 use Rattle.brc_model.proofs.Objects.UsesAfter.{uses_after, born_is_after, born_has_after, born_once_after}

@@ -14,7 +14,7 @@ use Rattle.brc_model.proofs.Basics.Lists.{slice_get-set_same, written_actor}
 use Rattle.brc_model.specs.Accounts.{Account, Accounts}
 use Rattle.brc_model.specs.Invariant.{AtDuty, Invariant}
 use Rattle.brc_model.specs.OpenWork.{IsSettled}
-use Rattle.brc_model.proofs.Stepping.Neutral.{found_by, agenda_here, FitsAfter, NotGone}
+use Rattle.brc_model.proofs.Stepping.FitsAfter.{found_by, agenda_here, FitsAfter, NotGone}
 use Rattle.brc_model.proofs.Stepping.Retains.{thread_after_retain_counted}
 use Rattle.brc_model.proofs.Stepping.Releases.{thread_after_retain_store, thread_after_retain_add, thread_after_release_counted, release_held, thread_after_release_store, thread_after_decide_at_zero}
 use Rattle.brc_model.proofs.Stepping.SharedWords.{thread_after_shared_load, thread_after_shared_exchange}

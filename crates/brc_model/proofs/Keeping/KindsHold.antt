@@ -22,7 +22,7 @@ use Rattle.brc_model.proofs.Dispatch.Grounded.{AreInstructions}
 use Rattle.brc_model.proofs.Keeping.CodeInvariant.{CodeInvariant}
 use Rattle.brc_model.proofs.Dispatch.Coded.{PlaceSays}
 use Rattle.brc_model.proofs.Basics.Written.{written_here, written_load}
-use Rattle.brc_model.proofs.Stepping.Neutral.{found_by}
+use Rattle.brc_model.proofs.Stepping.FitsAfter.{found_by}
 use Rattle.brc_model.proofs.Frame.Kinds.{StoredStay, stored_at_duty}
 use Rattle.brc_model.proofs.Dispatch.Kinds.{knows_still, named_stay}
 use Rattle.brc_model.proofs.Dispatch.KindsLeft.{SeesKind, Leaves}

@@ -32,7 +32,7 @@ use Rattle.brc_model.specs.Ranges.{HasFewCells}
 use Rattle.brc_model.specs.Limits.{thread_limit, cell_limit, total_limit}
 use Rattle.std.proofs.lemmas.Bool.{cases_Bool}
 use Rattle.brc_model.specs.Layout.{row_count, block_of, is_immortal_row, IsCounted}
-use Rattle.brc_model.proofs.Stepping.Neutral.{NotGone}
+use Rattle.brc_model.proofs.Stepping.FitsAfter.{NotGone}
 
 -- ---- the shared word of a live row
 

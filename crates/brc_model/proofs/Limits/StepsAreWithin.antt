@@ -25,7 +25,7 @@ use Rattle.brc_model.proofs.Stepping.Stores.{overwritten}
 use Rattle.brc_model.proofs.Frame.Alive.{alive_backed}
 use Rattle.brc_model.proofs.Stepping.Releases.{release_alive}
 use Rattle.brc_model.proofs.Frame.Leaves.{head_of}
-use Rattle.brc_model.proofs.Stepping.Neutral.{agenda_here, found_by, NotGone}
+use Rattle.brc_model.proofs.Stepping.FitsAfter.{agenda_here, found_by, NotGone}
 use Rattle.brc_model.proofs.Keeping.Sits.{sitting}
 use Rattle.brc_model.proofs.Keeping.Kept.{Doing}
 use Rattle.brc_model.proofs.Dispatch.Actions.{DutyFits, ActionFits, action_fits}

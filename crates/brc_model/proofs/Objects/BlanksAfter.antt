@@ -15,7 +15,7 @@ use Rattle.brc_model.proofs.Basics.Written.{zero_written, written_load}
 use Rattle.brc_model.proofs.Basics.Blocks.{next_block, next_index}
 use Rattle.brc_model.proofs.Frame.Alive.{alive_born}
 use Rattle.brc_model.proofs.Frame.Leaves.{head_of, locked_alive}
-use Rattle.brc_model.proofs.Stepping.Neutral.{found_by, memory_by}
+use Rattle.brc_model.proofs.Stepping.FitsAfter.{found_by, memory_by}
 use Rattle.brc_model.specs.Accounts.{Accounts}
 use Rattle.brc_model.specs.Knowledge.{IsNext}
 use Rattle.brc_model.specs.Invariant.{AtDuty, kind_stored, slot_stored, BlankFits}

@@ -13,7 +13,7 @@ use Rattle.brc_model.proofs.Frame.Cells.{still_empty, past_unfilled, stays_empty
 use Rattle.brc_model.proofs.Frame.Leaves.{head_of}
 use Rattle.brc_model.proofs.Objects.Closing.{GoesOn, BeginsToDie, IsClosed, IsBorn, life_step}
 use Rattle.brc_model.proofs.Frame.Kinds.{stored_at_duty}
-use Rattle.brc_model.proofs.Stepping.Neutral.{memory_by}
+use Rattle.brc_model.proofs.Stepping.FitsAfter.{memory_by}
 
 -- ---- rows without an object
 

@@ -14,7 +14,7 @@ use Rattle.brc_model.proofs.Basics.Written.{written_here, written_apart, written
 use Rattle.brc_model.proofs.Frame.Alive.{alive_backed}
 use Rattle.brc_model.proofs.Frame.Leaves.{head_of}
 use Rattle.brc_model.proofs.Frame.Locks.{live_gate_kept, live_gate_others}
-use Rattle.brc_model.proofs.Stepping.Neutral.{found_by, memory_by}
+use Rattle.brc_model.proofs.Stepping.FitsAfter.{found_by, memory_by}
 use Rattle.brc_model.proofs.Objects.Closing.{GoesOn, BeginsToDie, IsClosed, IsBorn, life_step}
 use Rattle.brc_model.specs.Accounts.{Accounts}
 use Rattle.brc_model.specs.Gates.{LiveGate, IsFree, IsLocked, GateFits}

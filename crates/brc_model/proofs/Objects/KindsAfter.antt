@@ -15,7 +15,7 @@ use Rattle.brc_model.specs.Moves.{reference_effects}
 use Rattle.brc_model.proofs.Basics.Blocks.{next_unborn}
 use Rattle.brc_model.proofs.Frame.Items.{word_stays}
 use Rattle.brc_model.proofs.Frame.Leaves.{head_of}
-use Rattle.brc_model.proofs.Stepping.Neutral.{found_by, memory_by}
+use Rattle.brc_model.proofs.Stepping.FitsAfter.{found_by, memory_by}
 use Rattle.brc_model.proofs.Basics.Moves.{moved_keeps}
 use Rattle.brc_model.proofs.Objects.UsesAfter.{BearsNone, moves_none, before_or_now}
 use Rattle.brc_model.proofs.Basics.Lists.{some_is}

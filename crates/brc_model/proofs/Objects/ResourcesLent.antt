@@ -14,7 +14,7 @@ use Rattle.brc_model.specs.Invariant.{AtDuty, CoreInvariant}
 use Rattle.brc_model.specs.Resources.{closing, resources_at, ResourcesFit}
 use Rattle.brc_model.proofs.Basics.Written.{written_here}
 use Rattle.brc_model.proofs.Frame.Leaves.{head_of, locked_alive}
-use Rattle.brc_model.proofs.Stepping.Neutral.{found_by}
+use Rattle.brc_model.proofs.Stepping.FitsAfter.{found_by}
 use Rattle.brc_model.proofs.Objects.Finalisers.{unfinalised}
 use Rattle.brc_model.proofs.Objects.Lenders.{is_named, none_named, lenders-set, lends-le, locker_alone}
 use Rattle.brc_model.proofs.Objects.SettlingWeights.{settles, settles_row, finalises, of_closing, settling_kept}

@@ -18,7 +18,7 @@ use Rattle.brc_model.proofs.Basics.Written.{written_here}
 use Rattle.brc_model.proofs.Frame.Items.{word_stays}
 use Rattle.brc_model.proofs.Frame.Leaves.{head_of}
 use Rattle.brc_model.proofs.Frame.Lives.{next_of}
-use Rattle.brc_model.proofs.Stepping.Neutral.{found_by, memory_by}
+use Rattle.brc_model.proofs.Stepping.FitsAfter.{found_by, memory_by}
 use Rattle.brc_model.proofs.Objects.Closing.{GoesOn, BeginsToDie, IsClosed, IsBorn, life_step}
 use Rattle.brc_model.proofs.Objects.Finalisers.{finalised_alone}
 use Rattle.brc_model.proofs.Objects.Lenders.{lenders-set, none_lent}

@@ -19,7 +19,7 @@ use Rattle.brc_model.proofs.Objects.RowsAfterMerge.{row_after_own_swap, row_afte
 use Rattle.brc_model.proofs.Basics.Blocks.{immortal_apart}
 use Rattle.brc_model.specs.declared.layout.Layout.{Layout}
 use Rattle.brc_model.specs.Layout.{none_row, block_of, IsCounted}
-use Rattle.brc_model.proofs.Stepping.Neutral.{NotGone}
+use Rattle.brc_model.proofs.Stepping.FitsAfter.{NotGone}
 
 none_counted : (layout : Layout) → IsCounted layout none_row → ⊥
 none_counted layout counted = immortal_apart layout none_row none_row counted refl refl

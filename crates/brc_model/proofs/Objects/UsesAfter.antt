@@ -23,7 +23,7 @@ use Rattle.std.specs.List.{AllByRecursion}
 use Rattle.brc_model.proofs.Basics.Moves.{MoveOf, Bears, each_effect, moved_keeps}
 use Rattle.brc_model.proofs.Frame.Leaves.{head_of}
 use Rattle.brc_model.proofs.Frame.Lives.{next_of, born_left}
-use Rattle.brc_model.proofs.Stepping.Neutral.{found_by, uses_same}
+use Rattle.brc_model.proofs.Stepping.FitsAfter.{found_by, uses_same}
 use Rattle.brc_model.proofs.Objects.Closing.{GoesOn, BeginsToDie, IsClosed, IsBorn, life_step}
 use Rattle.brc_model.proofs.Objects.ClosedAfter.{among_more, among_last, either_true, one_is}
 use Rattle.brc_model.proofs.Basics.Bag.{one_if_low}

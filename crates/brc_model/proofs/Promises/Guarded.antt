@@ -33,7 +33,7 @@ use Rattle.brc_model.proofs.Frame.Leaves.{head_of, given_alive, locked_alive}
 use Rattle.brc_model.proofs.Frame.Lives.{leaves_others}
 use Rattle.brc_model.proofs.Frame.Others.{dying_is, is_dying, life_kept}
 use Rattle.brc_model.proofs.Limits.StepsAreWithin.{live_owner}
-use Rattle.brc_model.proofs.Stepping.Neutral.{memory_by}
+use Rattle.brc_model.proofs.Stepping.FitsAfter.{memory_by}
 use Rattle.brc_model.proofs.Promises.MarksWatched.{mark_watched}
 
 module _ {p : Accounts} {n : ℕ} {m : Machine} {t : ℕ} {a : Actor} {d : Duty} {rest : List Duty} where

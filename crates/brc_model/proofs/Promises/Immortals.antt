@@ -17,7 +17,7 @@ use Rattle.brc_model.specs.Accounts.{Accounts}
 use Rattle.brc_model.specs.Invariant.{AtDuty, numbers_of, CoreInvariant}
 use Rattle.brc_model.proofs.Basics.Written.{written_apart, written_load, apart_shared, apart_gate}
 use Rattle.brc_model.proofs.Frame.Leaves.{head_of}
-use Rattle.brc_model.proofs.Stepping.Neutral.{memory_by}
+use Rattle.brc_model.proofs.Stepping.FitsAfter.{memory_by}
 use Rattle.brc_model.proofs.Keeping.CodeInvariant.{CodeInvariant}
 use Rattle.brc_model.proofs.Keeping.CodeEvents.{event_keeps}
 use Rattle.brc_model.proofs.Keeping.StepCases.{ShowsSteps, at_duty, event_shows}

@@ -14,7 +14,7 @@ use Rattle.brc_model.specs.Progress.{StatesRise}
 use Rattle.brc_model.proofs.Objects.RowSteps.{shared_range, shared_up, shared_down, shared_merged}
 use Rattle.brc_model.proofs.Basics.Written.{written_here, written_apart, apart_shared}
 use Rattle.brc_model.proofs.Frame.Leaves.{exchange_alive}
-use Rattle.brc_model.proofs.Stepping.Neutral.{memory_by}
+use Rattle.brc_model.proofs.Stepping.FitsAfter.{memory_by}
 use Rattle.brc_model.proofs.Keeping.CodeInvariant.{CodeInvariant}
 use Rattle.brc_model.proofs.Keeping.StepCases.{ShowsSteps, at_duty, event_shows}
 use Rattle.brc_model.specs.Accounts.{Accounts}

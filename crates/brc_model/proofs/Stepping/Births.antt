@@ -6,7 +6,6 @@ use Rattle.brc_model.specs.declared.duty.Holding.{Holding}
 use Rattle.brc_model.specs.declared.duty.Duty.{Duty}
 use Rattle.brc_model.specs.declared.duty.Duty.TheVariants.{BirthKind, BirthSlot, BirthLocal}
 use Rattle.brc_model.specs.Duties.{has_resource, resources_of}
-use Rattle.brc_model.specs.declared.actor.Status.TheVariants.{Gone}
 use Rattle.brc_model.specs.Machine.{Actor, Life, Unborn, Live, Machine, done_by, actor_by}
 use Rattle.brc_model.specs.References.{one_if}
 use Rattle.brc_model.specs.Accounts.{Accounts}
@@ -19,16 +18,15 @@ use Rattle.brc_model.proofs.Basics.Blocks.{next_unborn, next_block, next_index}
 use Rattle.brc_model.proofs.Objects.BlanksAfter.{blanks_here}
 use Rattle.brc_model.proofs.Frame.Leaves.{head_of}
 use Rattle.brc_model.proofs.Stepping.Own.{chain_same}
-use Rattle.brc_model.proofs.Stepping.Neutral.{ThreadFits, found_by, agenda_here, agenda_out, NotGone, FitsAfter}
+use Rattle.brc_model.proofs.Stepping.FitsAfter.{found_by, agenda_here, agenda_out, NotGone, FitsAfter}
 use Rattle.brc_model.proofs.Stepping.Counts.{held_same, held_gained}
-use Rattle.brc_model.proofs.Stepping.Retains.{ready_first}
-use Rattle.brc_model.proofs.Stepping.Steps.{own_keeps}
 use Rattle.brc_model.proofs.Stepping.Shown.{own_shown}
 use Rattle.brc_model.proofs.Stepping.Chains.{chain_here}
 use Rattle.brc_model.proofs.Stepping.Settled.{ready_none}
 use Rattle.brc_model.specs.Invariant.{AtDuty}
 use Rattle.brc_model.specs.declared.layout.Layout.{Layout}
 use Rattle.brc_model.specs.Layout.{block_size, row_at}
+use Rattle.brc_model.proofs.Stepping.Steps.{own_next}
 
 -- The row is still the next one of the thread's block.
 still_next : (m new : Machine) (t : ℕ) (a b : Actor) (x : ℕ) → new.layout ≡ m.layout → b.status ≡ a.status
@@ -54,38 +52,27 @@ module _ {p : Accounts} {n : ℕ} {m : Machine} {t : ℕ} {a : Actor} {rest : Li
       ap (λ (v : ℕ). is_counted_kind (kind_of_word v)) (written_here m.memory (KindOf x) w) ∙ fits.2 in
       let empty : m.memory (Slot x) ≡ 0 = (blanks_here here).slots x (next_block m t a x fits.0)
       (omega (arith, next_index m t a x fits.0)) refl in
-      elim (has_resource w) as
-      (λ b. has_resource w ≡ b → ThreadFits p new t (actor_by m.layout t a d rest (found_by m t a d))) [
+      elim (has_resource w) as (λ b. has_resource w ≡ b → FitsAfter p m t a d rest) [
         | true ↦ λ e.
-            own_keeps (BirthSlot x h ∷ []) (BirthSlot x h ∷ rest) here alive refl (record {
-              next_is = ap (λ (b : Bool). cond b (BirthSlot x h ∷ []) (BirthLocal x h ∷ [])) e;
-              none_dies = refl;
-              agenda_is = ready_first a.head (BirthSlot x h) rest refl;
-              hands = λ y. refl;
-              held = held_same m.abstract.references t (d ∷ rest) (BirthSlot x h ∷ rest) (λ k o. refl) (λ k o. refl);
-              fits = agenda_here here alive;
-              knows = λ b status head used locked. (
-                still_next m new t a b x refl status used fits.0,
-                fits.1,
-                said,
-                ap resources_of (written_here m.memory (KindOf x) w) ∙ ap (λ (c : Bool). cond c 1 0) e,
-              );
-            })
+            own_next (BirthSlot x h) here alive refl refl refl
+            (ap (λ (b : Bool). cond b (BirthSlot x h ∷ []) (BirthLocal x h ∷ [])) e)
+            (held_same m.abstract.references t (d ∷ rest) (BirthSlot x h ∷ rest) (λ k o. refl) (λ k o. refl))
+            (agenda_here here alive) (λ b status head used locked. (
+              still_next m new t a b x refl status used fits.0,
+              fits.1,
+              said,
+              ap resources_of (written_here m.memory (KindOf x) w) ∙ ap (λ (c : Bool). cond c 1 0) e,
+            ))
         | false ↦ λ e.
-            own_keeps (BirthLocal x h ∷ []) (BirthLocal x h ∷ rest) here alive refl (record {
-              next_is = ap (λ (b : Bool). cond b (BirthSlot x h ∷ []) (BirthLocal x h ∷ [])) e;
-              none_dies = refl;
-              agenda_is = ready_first a.head (BirthLocal x h) rest refl;
-              hands = λ y. refl;
-              held = held_same m.abstract.references t (d ∷ rest) (BirthLocal x h ∷ rest) (λ k o. refl) (λ k o. refl);
-              fits = agenda_here here alive;
-              knows = λ b status head used locked. (
-                still_next m new t a b x refl status used fits.0,
-                fits.1,
-                said,
-                empty ∙ sym (ap resources_of (written_here m.memory (KindOf x) w) ∙ ap (λ (c : Bool). cond c 1 0) e),
-              );
-            })
+            own_next (BirthLocal x h) here alive refl refl refl
+            (ap (λ (b : Bool). cond b (BirthSlot x h ∷ []) (BirthLocal x h ∷ [])) e)
+            (held_same m.abstract.references t (d ∷ rest) (BirthLocal x h ∷ rest) (λ k o. refl) (λ k o. refl))
+            (agenda_here here alive) (λ b status head used locked. (
+              still_next m new t a b x refl status used fits.0,
+              fits.1,
+              said,
+              empty ∙ sym (ap resources_of (written_here m.memory (KindOf x) w) ∙ ap (λ (c : Bool). cond c 1 0) e),
+            ))
       ] refl
 
   -- The thread fits after `SlotFilled`.
@@ -95,20 +82,14 @@ module _ {p : Accounts} {n : ℕ} {m : Machine} {t : ℕ} {a : Actor} {rest : Li
       let d : Duty = BirthSlot x h in
       let fits = head_of here in
       let new = done_by m t a d rest in
-      own_keeps (BirthLocal x h ∷ []) (BirthLocal x h ∷ rest) here alive refl (record {
-        next_is = refl;
-        none_dies = refl;
-        agenda_is = ready_first a.head (BirthLocal x h) rest refl;
-        hands = λ y. refl;
-        held = held_same m.abstract.references t (d ∷ rest) (BirthLocal x h ∷ rest) (λ k o. refl) (λ k o. refl);
-        fits = agenda_here here alive;
-        knows = λ b status head used locked. (
-          still_next m new t a b x refl status used fits.0,
-          fits.1,
-          fits.2,
-          written_here m.memory (Slot x) 1 ∙ sym fits.3,
-        );
-      })
+      own_next (BirthLocal x h) here alive refl refl refl refl
+      (held_same m.abstract.references t (d ∷ rest) (BirthLocal x h ∷ rest) (λ k o. refl) (λ k o. refl))
+      (agenda_here here alive) (λ b status head used locked. (
+        still_next m new t a b x refl status used fits.0,
+        fits.1,
+        fits.2,
+        written_here m.memory (Slot x) 1 ∙ sym fits.3,
+      ))
 
 -- A birth doesn't change which rows the thread is finalising.
 born_dies : (life : ℕ → Life) (t x y : ℕ) → life x ≡ Unborn
@@ -124,9 +105,7 @@ born_dies life t x y unborn =
 -- `Born`: the object is born, and the thread's agenda is empty.
 pub thread_after_birth_local : (p : Accounts) (n : ℕ) (m : Machine) (t : ℕ) (a : Actor) (x : ℕ) (h : Holding)
     (rest : List Duty)
-    → AtDuty p n m t a (BirthLocal x h) rest → (a.status ≡ Gone → ⊥)
-    → ThreadFits p (done_by m t a (BirthLocal x h) rest) t
-    (actor_by m.layout t a (BirthLocal x h) rest (found_by m t a (BirthLocal x h)))
+    → AtDuty p n m t a (BirthLocal x h) rest → NotGone a → FitsAfter p m t a (BirthLocal x h) rest
 thread_after_birth_local p n m t a x h [] here alive =
     let d : Duty = BirthLocal x h in
     let fits = head_of here in
@@ -150,7 +129,7 @@ thread_after_birth_local p n m t a x h [] here alive =
       fits =
           agenda_out after a.status alive
           (subst (λ (l : List Duty). Agenda after.used a.status l) (sym (ready_none a.head)) later);
-      knows = λ b status head used. tt;
+      knows = λ b status head used locked. tt;
     })
 thread_after_birth_local p n m t a x h (e ∷ rest) here alive =
     absurd (let wrong : (e ∷ rest) ≡ [] = (head_of here).1 in cc)

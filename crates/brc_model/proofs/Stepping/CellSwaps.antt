@@ -17,7 +17,7 @@ use Rattle.brc_model.specs.Invariant.{AtDuty}
 use Rattle.brc_model.proofs.Basics.Bag.{held-cons, held-without, held_has}
 use Rattle.brc_model.proofs.Frame.Cells.{stolen_held}
 use Rattle.brc_model.proofs.Stepping.Own.{HeldStep}
-use Rattle.brc_model.proofs.Stepping.Neutral.{agenda_here, NotGone, FitsAfter}
+use Rattle.brc_model.proofs.Stepping.FitsAfter.{agenda_here, NotGone, FitsAfter}
 use Rattle.brc_model.proofs.Stepping.Counts.{same_is}
 use Rattle.brc_model.proofs.Stepping.Steps.{own_done, own_next}
 use Rattle.brc_model.proofs.Stepping.Settling.{held_taken_out}

@@ -19,10 +19,9 @@ use Rattle.brc_model.proofs.Basics.Written.{written_here, written_apart, written
 use Rattle.brc_model.proofs.Frame.Others.{is_dying, linked_kept}
 use Rattle.brc_model.proofs.Frame.Leaves.{head_of}
 use Rattle.brc_model.proofs.Stepping.Behind.{finalised_first, still_behind}
-use Rattle.brc_model.proofs.Stepping.Own.{ready_is}
-use Rattle.brc_model.proofs.Stepping.Neutral.{agenda_here, NotGone, FitsAfter}
+use Rattle.brc_model.proofs.Stepping.Own.{ready_is, ready_first}
+use Rattle.brc_model.proofs.Stepping.FitsAfter.{agenda_here, NotGone, FitsAfter}
 use Rattle.brc_model.proofs.Stepping.Counts.{held_same}
-use Rattle.brc_model.proofs.Stepping.Retains.{ready_first}
 use Rattle.brc_model.proofs.Basics.Blocks.{born_low}
 use Rattle.brc_model.proofs.Stepping.Shown.{ShownStep, own_shown, agenda_shown}
 use Rattle.brc_model.proofs.Basics.Bag.{one_if_low}
@@ -123,7 +122,7 @@ module _ {p : Accounts} {n : ℕ} {m : Machine} {t : ℕ} {a : Actor} {rest : Li
         held = held_same m.abstract.references t (Die x ∷ rest) (ready (x + 1) rest) ready_so.more ready_so.less;
         chain = die_chain x (ready (x + 1) rest) here ready_so.hands;
         fits = agenda_shown m t a (Die x) rest (ready (x + 1) rest) a.status alive refl refl ready_so.fits;
-        knows = λ b status head used. ready_so.knows (done_by m t a (Die x) rest) b head (still_behind here);
+        knows = λ b status head used locked. ready_so.knows (done_by m t a (Die x) rest) b head (still_behind here);
       })
 
 -- ---- `Settle` takes the first row from the chain
@@ -198,7 +197,7 @@ module _ {p : Accounts} {n : ℕ} {m : Machine} {t : ℕ} {a : Actor} {rest : Li
         fits =
             agenda_shown m t a Settle rest later a.status alive refl (front (next_part (m.memory (Gate (a.head - 1)))))
             (agenda_here here alive);
-        knows = λ b status h used. (
+        knows = λ b status h used locked. (
           dying_above t first.row here.core first.dies,
           first.dies,
           subst (IsDyingWord t) (sym (written_load m.memory (Gate (a.head - 1)) (Gate first.row))) first.gate,
@@ -262,5 +261,6 @@ module _ {p : Accounts} {n : ℕ} {m : Machine} {t : ℕ} {a : Actor} {rest : Li
         held = held_same m.abstract.references t (SettleEnd x ∷ rest) (ready a.head rest) ready_so.more ready_so.less;
         chain = end_chain x (ready a.head rest) here ready_so.hands;
         fits = agenda_shown m t a (SettleEnd x) rest (ready a.head rest) a.status alive refl refl ready_so.fits;
-        knows = λ b status head used. ready_so.knows (done_by m t a (SettleEnd x) rest) b head (still_behind here);
+        knows = λ b status head used locked. ready_so.knows (done_by m t a (SettleEnd x) rest) b head
+            (still_behind here);
       })

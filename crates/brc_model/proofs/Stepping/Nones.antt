@@ -20,7 +20,7 @@ use Rattle.brc_model.proofs.Basics.Written.{written_apart, written_load, apart_l
 use Rattle.brc_model.proofs.Basics.Blocks.{next_counted, immortal_apart}
 use Rattle.brc_model.proofs.Frame.Leaves.{head_of}
 use Rattle.brc_model.proofs.Stepping.Own.{HeldStep}
-use Rattle.brc_model.proofs.Stepping.Neutral.{bag_by, memory_by, agenda_here, NotGone, FitsAfter}
+use Rattle.brc_model.proofs.Stepping.FitsAfter.{bag_by, memory_by, agenda_here, NotGone, FitsAfter}
 use Rattle.brc_model.proofs.Stepping.Counts.{held_gained, held_lost}
 use Rattle.brc_model.proofs.Stepping.Steps.{own_done}
 use Rattle.brc_model.proofs.Frame.Lives.{next_of}

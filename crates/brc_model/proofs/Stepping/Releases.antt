@@ -25,7 +25,7 @@ use Rattle.brc_model.proofs.Basics.Written.{written_here}
 use Rattle.brc_model.proofs.Frame.Leaves.{head_of, decide_alive}
 use Rattle.brc_model.proofs.Frame.Lives.{next_of}
 use Rattle.brc_model.proofs.Stepping.Own.{HeldStep}
-use Rattle.brc_model.proofs.Stepping.Neutral.{bag_by, agenda_here, NotGone, FitsAfter}
+use Rattle.brc_model.proofs.Stepping.FitsAfter.{bag_by, agenda_here, NotGone, FitsAfter}
 use Rattle.brc_model.proofs.Stepping.Counts.{same_is, held_same, held_gained, held_lost}
 use Rattle.brc_model.proofs.Stepping.Retains.{counts_owner, count_above, weight_here}
 use Rattle.brc_model.proofs.Stepping.Steps.{own_done, own_next, own_dying}

@@ -1,5 +1,5 @@
 -- A thread fits after the first step of a retain.
-use Rattle.std.proofs.Common.{◌≡◌, ℕ, zero, suc, ◌+◌, ◌<◌, ◌≤◌, Bool, true, false, cond, List, [], ◌∷◌, Some, refl, sym, ap, ◌∙◌, subst, arith}
+use Rattle.std.proofs.Common.{◌≡◌, ℕ, ◌+◌, ◌<◌, ◌≤◌, Bool, true, false, cond, List, [], ◌∷◌, Some, refl, sym, ap, ◌∙◌, subst, arith}
 use Rattle.std.proofs.lemmas.Bool.{eq-eqb}
 use Rattle.std.specs.Prelude.{◌==◌, ◌&&◌, nat_lt, slice_get}
 use Rattle.std.proofs.lemmas.Bool.{eqb-true, ltb-true}
@@ -7,12 +7,12 @@ use Rattle.brc_model.specs.declared.duty.Holding.{Holding}
 use Rattle.brc_model.specs.AbstractState.{Reference, same_holding, moved}
 use Rattle.brc_word.specs.Words.{immortal_local, most_local, owner_part, local_part, is_immortal_word}
 use Rattle.brc_model.specs.declared.duty.Duty.{Duty}
-use Rattle.brc_model.specs.declared.duty.Duty.TheVariants.{RetainLoad, RetainStore, RetainAdd, Settle, Scan}
+use Rattle.brc_model.specs.declared.duty.Duty.TheVariants.{RetainLoad, RetainStore, RetainAdd}
 use Rattle.brc_model.specs.declared.address.Address.TheVariants.{Local}
-use Rattle.brc_model.specs.Duties.{continuation, counts_locally, ready}
+use Rattle.brc_model.specs.Duties.{continuation, counts_locally}
 use Rattle.brc_model.specs.declared.actor.Status.{Status}
 use Rattle.brc_model.specs.declared.actor.Status.TheVariants.{Running, Leaving, Gone}
-use Rattle.brc_model.specs.Machine.{Actor, Machine, is_running, done_by, actor_by}
+use Rattle.brc_model.specs.Machine.{Actor, Machine, is_running, done_by}
 use Rattle.brc_model.specs.Moves.{gain}
 use Rattle.brc_model.proofs.Basics.Lists.{and_first, and_second}
 use Rattle.brc_model.specs.References.{held, reference_of}
@@ -26,21 +26,13 @@ use Rattle.brc_model.proofs.Frame.Known.{still_backed}
 use Rattle.brc_model.proofs.Basics.Written.{written_here}
 use Rattle.brc_model.proofs.Frame.Leaves.{head_of}
 use Rattle.brc_model.proofs.Stepping.Own.{HeldStep}
-use Rattle.brc_model.proofs.Stepping.Neutral.{ThreadFits, bag_by, agenda_here, own_neutral, NotGone, FitsAfter}
+use Rattle.brc_model.proofs.Stepping.FitsAfter.{bag_by, agenda_here, NotGone, FitsAfter}
 use Rattle.brc_model.proofs.Stepping.Counts.{held_same, backed_not_immortal}
 use Rattle.brc_model.proofs.Work.Weighing.{own_weighs}
-use Rattle.brc_model.proofs.Basics.Continuation.{is_inner}
 use Rattle.brc_model.proofs.Frame.Aside.{decides_of_row}
 use Rattle.brc_model.proofs.Work.Deciders.{nobody_decides}
 use Rattle.brc_model.specs.Layout.{IsCounted}
-
-pub ready_first : (head : ℕ) (d : Duty) (rest : List Duty) → is_inner d ≡ true → ready head (d ∷ rest) ≡ d ∷ rest
-ready_first zero Settle rest e = absurd cc
-ready_first zero (Scan x k) rest e = absurd cc
-ready_first zero _ rest e = refl
-ready_first (suc head) Settle rest e = absurd cc
-ready_first (suc head) (Scan x k) rest e = absurd cc
-ready_first (suc head) _ rest e = refl
+use Rattle.brc_model.proofs.Stepping.Steps.{own_next}
 
 -- ---- the local word of a live row
 
@@ -111,7 +103,7 @@ module _ {p : Accounts} {n : ℕ} {m : Machine} {t : ℕ} {a : Actor} {rest : Li
       λ e more less. subst (λ (l : List Reference). HeldStep m.abstract.references l t (RetainLoad x h ∷ rest)
       (e ∷ rest)) (sym bag) (held_same m.abstract.references t (RetainLoad x h ∷ rest) (e ∷ rest) more less) in
       let is_local = counts_locally t (is_running a.status) word && nat_lt (local_part word) most_local in
-      elim is_local as (λ b. is_local ≡ b → ThreadFits p new t (actor_by m.layout t a (RetainLoad x h) rest word)) [
+      elim is_local as (λ b. is_local ≡ b → FitsAfter p m t a (RetainLoad x h) rest) [
         | true ↦ λ e.
             let counts =
             and_first (counts_locally t (is_running a.status) word) (nat_lt (local_part word) most_local) e in
@@ -121,47 +113,24 @@ module _ {p : Accounts} {n : ℕ} {m : Machine} {t : ℕ} {a : Actor} {rest : Li
             let owns = counts_owner m t a x counts living in
             let some = count_above t x a here.core here.found owns (weight_here x here (eq-eqb x x refl) refl) living in
             let same : new.memory (Local x) ≡ word = written_here m.memory (Local x) word in
-            own_neutral (RetainStore x h word ∷ []) (RetainStore x h word ∷ rest) here alive (record {
-              next_is = first ∙ ap (λ (b : Bool). cond b (RetainStore x h word ∷ []) (RetainAdd x h ∷ [])) e;
-              none_dies = refl;
-              none_ends = refl;
-              none_born = refl;
-              same_head = refl;
-              same_status = refl;
-              agenda_is = ready_first a.head (RetainStore x h word) rest refl;
-              gates = λ y dies. refl;
-              word = refl;
-              hands = λ y. refl;
-              held = keeps (RetainStore x h word) (λ k o. refl) (λ k o. refl);
-              fits = agenda_here here alive;
-              knows =
-                  λ b status head used locked. (
-                    pos,
-                    backed b locked,
-                    record {
-                      running = status ∙ owns.running;
-                      owner = ap owner_part same ∙ owns.owner;
-                      low = subst (λ (w : ℕ). local_part w < immortal_local) (sym same) owns.low;
-                    },
-                    same,
-                    some,
-                    low,
-                  );
-            })
+            own_next (RetainStore x h word) here alive refl refl refl
+            (first ∙ ap (λ (b : Bool). cond b (RetainStore x h word ∷ []) (RetainAdd x h ∷ [])) e)
+            (keeps (RetainStore x h word) (λ k o. refl) (λ k o. refl)) (agenda_here here alive)
+            (λ b status head used locked. (
+              pos,
+              backed b locked,
+              record {
+                running = status ∙ owns.running;
+                owner = ap owner_part same ∙ owns.owner;
+                low = subst (λ (w : ℕ). local_part w < immortal_local) (sym same) owns.low;
+              },
+              same,
+              some,
+              low,
+            ))
         | false ↦ λ e.
-            own_neutral (RetainAdd x h ∷ []) (RetainAdd x h ∷ rest) here alive (record {
-              next_is = first ∙ ap (λ (b : Bool). cond b (RetainStore x h word ∷ []) (RetainAdd x h ∷ [])) e;
-              none_dies = refl;
-              none_ends = refl;
-              none_born = refl;
-              same_head = refl;
-              same_status = refl;
-              agenda_is = ready_first a.head (RetainAdd x h) rest refl;
-              gates = λ y dies. refl;
-              word = refl;
-              hands = λ y. refl;
-              held = keeps (RetainAdd x h) (λ k o. refl) (λ k o. refl);
-              fits = agenda_here here alive;
-              knows = λ b status head used locked. (pos, backed b locked);
-            })
+            own_next (RetainAdd x h) here alive refl refl refl
+            (first ∙ ap (λ (b : Bool). cond b (RetainStore x h word ∷ []) (RetainAdd x h ∷ [])) e)
+            (keeps (RetainAdd x h) (λ k o. refl) (λ k o. refl)) (agenda_here here alive)
+            (λ b status head used locked. (pos, backed b locked))
       ] refl

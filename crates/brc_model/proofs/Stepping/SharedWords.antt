@@ -19,7 +19,7 @@ use Rattle.brc_model.proofs.Basics.Written.{written_load}
 use Rattle.brc_model.proofs.Frame.Leaves.{head_of, exchange_alive}
 use Rattle.brc_model.proofs.Frame.Lives.{leaves_others}
 use Rattle.brc_model.proofs.Stepping.Own.{HeldStep}
-use Rattle.brc_model.proofs.Stepping.Neutral.{bag_by, agenda_here, NotGone, FitsAfter}
+use Rattle.brc_model.proofs.Stepping.FitsAfter.{bag_by, agenda_here, NotGone, FitsAfter}
 use Rattle.brc_model.proofs.Stepping.Counts.{held_same}
 use Rattle.brc_model.proofs.Stepping.Steps.{own_done, own_next, own_dying}
 use Rattle.brc_model.proofs.Stepping.Releases.{held_let_go}

@@ -5,7 +5,7 @@ use Rattle.brc_model.specs.declared.address.Address.TheVariants.{ThreadWord}
 use Rattle.brc_model.specs.Duties.{new_head}
 use Rattle.brc_model.specs.declared.actor.Status.{Status}
 use Rattle.brc_model.specs.declared.actor.Status.TheVariants.{Gone}
-use Rattle.brc_model.specs.Machine.{Actor, Machine, status_by, actor_by, done_by, born_row, used_by}
+use Rattle.brc_model.specs.Machine.{Actor, Machine, status_by, actor_by, done_by, born_row, used_by, locked_by}
 use Rattle.brc_model.specs.Accounts.{Accounts, HoldsAt}
 use Rattle.brc_model.specs.Knowledge.{HeadOf, status_word}
 use Rattle.brc_model.specs.OpenWork.{Agenda, ChainFits, AgendaFits}
@@ -14,7 +14,7 @@ use Rattle.brc_model.proofs.Stepping.UnderWay.{exits_still}
 use Rattle.brc_model.proofs.Stepping.Locked.{locks_after}
 use Rattle.brc_model.proofs.Stepping.Lending.{lent_after}
 use Rattle.brc_model.proofs.Stepping.Own.{HeldStep, holds_step}
-use Rattle.brc_model.proofs.Stepping.Neutral.{found_by, bag_by, memory_by, agenda_out, uses_same, FitsAfter}
+use Rattle.brc_model.proofs.Stepping.FitsAfter.{found_by, bag_by, memory_by, agenda_out, uses_same, FitsAfter}
 use Rattle.brc_model.specs.Invariant.{AtDuty}
 
 -- What a step has to show that changes the head of the chain, the life of a row or the thread's status.
@@ -28,7 +28,7 @@ pub record ShownStep (m : Machine) (t : ℕ) (a : Actor) (d : Duty) (rest agenda
   pub chain : ChainFits (done_by m t a d rest) t head agenda
   pub fits : AgendaFits (actor_by m.layout t a d rest (found_by m t a d)) status
   pub knows : (b : Actor) → b.status ≡ status → b.head ≡ head → b.used ≡ used_by a.used d
-      → HeadOf (done_by m t a d rest) t b agenda
+      → b.locked ≡ locked_by a.locked d (found_by m t a d) → HeadOf (done_by m t a d rest) t b agenda
 
 module _ {p : Accounts} {n : ℕ} {m : Machine} {t : ℕ} {a : Actor} {d : Duty} {rest : List Duty} where
   -- The thread fits after a step that shows all this.
@@ -50,7 +50,7 @@ module _ {p : Accounts} {n : ℕ} {m : Machine} {t : ℕ} {a : Actor} {d : Duty}
           exited = λ e. old.exited (sym (exits_still (found_by m t a d) here) ∙ e);
           head_fits =
               subst (λ (l : List Duty). HeadOf new t after l) (sym step.agenda_is)
-              (step.knows after step.status_is step.head_is refl);
+              (step.knows after step.status_is step.head_is refl refl);
           behind = behind_after here;
           chain =
               subst (λ (l : List Duty). ChainFits new t after.head l) (sym step.agenda_is)

@@ -22,7 +22,7 @@ use Rattle.brc_model.proofs.Basics.Written.{written_here, written_apart, written
 use Rattle.brc_model.proofs.Basics.Continuation.{is_inner, next_inner, first_inner, Continuation, Ends, GoesOn, Frees, Exits, Scans, ScansNone, continues}
 use Rattle.brc_model.proofs.Frame.Leaves.{head_of, words_left}
 use Rattle.brc_model.proofs.Frame.Lives.{next_of}
-use Rattle.brc_model.proofs.Stepping.Neutral.{found_by, memory_by, agenda_here, NotGone}
+use Rattle.brc_model.proofs.Stepping.FitsAfter.{found_by, memory_by, agenda_here, NotGone}
 use Rattle.brc_model.proofs.Stepping.Exits.{marked_born}
 use Rattle.brc_model.proofs.Basics.Blocks.{row_back, born_used}
 use Rattle.brc_model.proofs.Objects.Weights.{weight-stepped}
