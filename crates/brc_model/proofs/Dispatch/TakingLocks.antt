@@ -7,7 +7,7 @@ use Rattle.brc_lang.specs.declared.module.Instr.{Instr}
 use Rattle.brc_lang.specs.declared.module.Instr.TheVariants.{Lock, Unlock}
 use Rattle.brc_word.specs.Words.{free_word}
 use Rattle.brc_model.specs.declared.slot.Slot.{Slot}
-use Rattle.brc_model.specs.declared.slot.Slot.TheVariants.{Empty, Owned, Caller, Locked}
+use Rattle.brc_model.specs.declared.slot.Slot.TheVariants.{Locked}
 use Rattle.brc_model.specs.declared.slot.State.{State}
 use Rattle.brc_model.specs.declared.slot.Exit.TheVariants.{Success}
 use Rattle.brc_model.specs.declared.duty.Holding.{Holding}
@@ -35,10 +35,8 @@ use Rattle.brc_model.proofs.Dispatch.Standing.{named_at, keeps_all}
 
 -- A variable that isn't empty keeps its object, since no variable borrows an item while nothing is locked.
 slot_kept : (slot : Slot) → is_empty slot ≡ false → (borrows_item slot ≡ true → ⊥) → is_kept slot ≡ true
-slot_kept Empty some none = absurd cc
-slot_kept (Owned k) some none = refl
-slot_kept (Caller k) some none = refl
 slot_kept (Locked k) some none = absurd (none refl)
+slot_kept _ some none = cc
 
 -- A lock changes nothing of what the thread is to hold.
 says_locked : (call : Activation) (s : State) (variables : List (Option ℕ)) (o : Option ℕ) (h : Holding) (object : ℕ)

@@ -6,7 +6,7 @@ use Rattle.std.proofs.lemmas.Bool.{false≢true}
 use Rattle.std.proofs.lemmas.List.Sums.{sum_by-cons, sum_by-append}
 use Rattle.brc_model.specs.declared.duty.Holding.{Holding}
 use Rattle.brc_model.specs.declared.duty.Duty.{Duty}
-use Rattle.brc_model.specs.declared.duty.Duty.TheVariants.{Die, Settle, SettleKind, SettleCell, TakeSlot, CloseResource, SettleEnd, Leave, Scan, Finish, BirthSlot, BirthLocal}
+use Rattle.brc_model.specs.declared.duty.Duty.TheVariants.{Die, Settle, Leave, Scan, Finish, BirthSlot, BirthLocal}
 use Rattle.brc_model.specs.declared.actor.Status.{Status}
 use Rattle.brc_model.specs.declared.actor.Status.TheVariants.{Running, Leaving, Gone}
 use Rattle.brc_model.specs.Machine.{Actor, Machine, with_actor}
@@ -27,27 +27,16 @@ use Rattle.brc_model.proofs.Keeping.Replaced.{with_account_itself, replaced_core
 waiting_later : (used : ℕ) (status : Status) (d : Duty) → may_wait d ≡ true
     → Agenda used status (d ∷ []) → Later used status []
 waiting_later used status Settle waits fits = absurd cc
-waiting_later used status (Leave x n) waits fits = absurd cc
-waiting_later used status (Scan x n) waits fits = absurd cc
-waiting_later used status Finish waits fits = absurd cc
-waiting_later used status _ waits fits = fits
+waiting_later used status _ waits fits = cc
 
 later_waiting : (used : ℕ) (status : Status) (d : Duty) → may_wait d ≡ true
     → Later used status [] → Agenda used status (d ∷ [])
 later_waiting used status Settle waits fits = absurd cc
-later_waiting used status (Leave x n) waits fits = absurd cc
-later_waiting used status (Scan x n) waits fits = absurd cc
-later_waiting used status Finish waits fits = absurd cc
-later_waiting used status _ waits fits = fits
+later_waiting used status _ waits fits = cc
 
 waiting_hand : (d : Duty) (x : ℕ) → may_wait d ≡ true → finalised (d ∷ []) x ≡ 0
 waiting_hand (Die y) x waits = absurd cc
-waiting_hand (SettleKind y) x waits = absurd cc
-waiting_hand (SettleCell y i n) x waits = absurd cc
-waiting_hand (TakeSlot y) x waits = absurd cc
-waiting_hand (CloseResource y) x waits = absurd cc
-waiting_hand (SettleEnd y) x waits = absurd cc
-waiting_hand _ x waits = refl
+waiting_hand _ x waits = cc
 
 waiting_scans : (d : Duty) (x : ℕ) → may_wait d ≡ true → scans x (d ∷ []) ≡ false
 waiting_scans (Scan y n) x waits = absurd cc

@@ -166,9 +166,7 @@ cells_in x rows (q ∷ bag) none =
 -- A cell outside the machine's rows is empty, since no row outside was born.
 empty_by : (l : Life) (word : ℕ) → l ≡ Unborn → CellFits l word → word ≡ 0
 empty_by Unborn word is fits = fits
-empty_by Live word is fits = absurd cc
-empty_by (Dying t) word is fits = absurd cc
-empty_by Closed word is fits = fits
+empty_by _ word is fits = cc
 
 unborn_by : (l : Life) → (l ≡ Unborn) ⊎ (l ≢ Unborn)
 unborn_by Unborn = inl refl

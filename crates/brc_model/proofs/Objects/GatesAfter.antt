@@ -33,9 +33,7 @@ module _ {p : Accounts} {n : ℕ} {m : Machine} {t : ℕ} {a : Actor} {rest : Li
   gate_stays (SettleEnd y) x here other plain =
       written_apart m.memory (Gate y) (Gate x) closed_word
       (apart_gate y x (λ e. other (ap m.life (sym e) ∙ (head_of here).1)))
-  gate_stays (LockGate y) x here other plain = absurd cc
-  gate_stays (UnlockGate y) x here other plain = absurd cc
-  gate_stays _ x here other plain = refl
+  gate_stays _ x here other plain = cc
 
   -- A thread stores in the gate of a row only if it is finalising the row, or the row lives.
   dead_gate_stays : (d : Duty) (x : ℕ) → AtDuty p n m t a d rest → (m.life x ≡ Dying t → ⊥) → (m.life x ≡ Live → ⊥)

@@ -83,18 +83,11 @@ moves_resource _ x = false
 
 no_settling : (d : Duty) (x : ℕ) → moves_resource d x ≡ false → settles_row d x ≡ false
 no_settling (SettleKind y) x e = e
-no_settling (SettleCell y i n) x e = e
-no_settling (TakeSlot y) x e = e
-no_settling (CloseResource y) x e = e
-no_settling (SettleEnd y) x e = e
-no_settling _ x e = refl
+no_settling _ x e = cc
 
 no_step : (d : Duty) (x : ℕ) → moves_resource d x ≡ false → settles d x ≡ false
 no_step (SettleCell y i n) x e = e
-no_step (TakeSlot y) x e = e
-no_step (CloseResource y) x e = e
-no_step (SettleEnd y) x e = e
-no_step _ x e = refl
+no_step _ x e = cc
 
 module _ (p : Accounts) (n : ℕ) (m : Machine) (t : ℕ) (a : Actor) where
   slot_same : (d : Duty) (x : ℕ) → moves_resource d x ≡ false → memory_by m t a d (Slot x) ≡ m.memory (Slot x)

@@ -72,10 +72,7 @@ subject layout t (ReturnSlot x) = x
 other_mark : (layout : Layout) (t head : ℕ) (d : Duty) (x : ℕ) → (subject layout t d == x) ≡ false
     → same_address (address_of layout t head d) (Mark x) ≡ false
 other_mark layout t head (SetMark y) x e = e
-other_mark layout t head (TakeMark y) x e = e
-other_mark layout t head (Scan i n) x e = e
-other_mark layout t head (ClaimMark y) x e = e
-other_mark layout t head d x e = refl
+other_mark layout t head _ x e = cc
 
 -- ---- references
 
@@ -204,10 +201,7 @@ all_light x (d ∷ ds) light =
 -- A duty's subject is the row that it is about.
 not_about : (layout : Layout) (t x : ℕ) (d : Duty) → (subject layout t d == x) ≡ false → is_about x d ≡ false
 not_about layout t x Settle e = refl
-not_about layout t x (Leave i n) e = refl
-not_about layout t x (Scan i n) e = refl
-not_about layout t x Finish e = refl
-not_about layout t x _ e = e
+not_about layout t x _ e = cc
 
 led_apart : {found : ℕ} (layout : Layout) (t x : ℕ) (d e : Duty) → Leads found d e → (subject layout t d == x) ≡ false
     → AreApart x (e ∷ [])

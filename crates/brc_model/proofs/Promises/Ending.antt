@@ -54,15 +54,11 @@ named_by (suc y) x some = let same = eqb-true y x (one_if_true (y == x) some) in
 -- A cell of a row that isn't live is empty.
 closed_is_empty : (l : Life) (word : ℕ) → l ≡ Closed → CellFits l word → word ≡ 0
 closed_is_empty Unborn word is fits = fits
-closed_is_empty Live word is fits = absurd cc
-closed_is_empty (Dying t) word is fits = absurd cc
-closed_is_empty Closed word is fits = fits
+closed_is_empty _ word is fits = cc
 
 unborn_is_empty : (l : Life) (word : ℕ) → l ≡ Unborn → CellFits l word → word ≡ 0
 unborn_is_empty Unborn word is fits = fits
-unborn_is_empty Live word is fits = absurd cc
-unborn_is_empty (Dying t) word is fits = absurd cc
-unborn_is_empty Closed word is fits = fits
+unborn_is_empty _ word is fits = cc
 
 module _ (p : Accounts) (n : ℕ) (m : Machine) (counts : Counts p n m) (ended : HaveEnded p m) where
   core : CoreInvariant p n m

@@ -201,9 +201,7 @@ module _ {p : Accounts} {n : ℕ} {m : Machine} {t : ℕ} {a : Actor} {rest : Li
   gate_kept (SettleEnd y) x here e other =
       written_apart m.memory (Gate y) (Gate x) _
       (apart_gate y x (alive_apart m t x y (head_of here).1 (locked_alive t a x here.core here.found e)))
-  gate_kept (LockGate y) x here e other = absurd cc
-  gate_kept (UnlockGate y) x here e other = absurd cc
-  gate_kept _ x here e other = refl
+  gate_kept _ x here e other = cc
 
 module _ {p : Accounts} {n : ℕ} {m : Machine} {t : ℕ} {a : Actor} {d : Duty} {rest : List Duty} where
   -- The thread still holds the list after a step that neither locks nor unlocks.

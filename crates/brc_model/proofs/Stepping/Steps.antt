@@ -81,9 +81,6 @@ keeping_status status _ kept = refl
 module _ {p : Accounts} {n : ℕ} {m : Machine} {t : ℕ} {a : Actor} {rest : List Duty} where
   pub keeping_gates : (d : Duty) (x : ℕ) → AtDuty p n m t a d rest → is_steady d ≡ true → dies_by (m.life x) t ≡ true
       → memory_by m t a d (Gate x) ≡ m.memory (Gate x)
-  keeping_gates (Die y) x here kept dies = absurd cc
-  keeping_gates Settle x here kept dies = absurd cc
-  keeping_gates (SettleEnd y) x here kept dies = absurd cc
   keeping_gates (LockGate y) x here kept dies =
       let fits = head_of here in
       written_apart m.memory (Gate y) (Gate x) _
@@ -92,34 +89,23 @@ module _ {p : Accounts} {n : ℕ} {m : Machine} {t : ℕ} {a : Actor} {rest : Li
       let fits = head_of here in
       written_apart m.memory (Gate y) (Gate x) _
       (apart_gate y x (living_clash m t x y (alive_backed t a y here.core fits.0 fits.1) dies))
-  keeping_gates _ x here kept dies = refl
+  keeping_gates _ x here kept dies = cc
 
 -- A step that makes a row die changes no gate.
 dying_gates : (m : Machine) (t : ℕ) (a : Actor) (d : Duty) (x y : ℕ) → is_steady d ≡ true
     → next_of m t a d ≡ Die x ∷ [] → memory_by m t a d (Gate y) ≡ m.memory (Gate y)
 dying_gates m t a (Die z) x y kept next = absurd cc
-dying_gates m t a Settle x y kept next = absurd cc
-dying_gates m t a (SettleEnd z) x y kept next = absurd cc
-dying_gates m t a (LockGate z) x y kept next = absurd (let wrong : [] ≡ Die x ∷ [] = next in cc)
-dying_gates m t a (UnlockGate z) x y kept next = absurd (let wrong : [] ≡ Die x ∷ [] = next in cc)
-dying_gates m t a _ x y kept next = refl
+dying_gates m t a _ x y kept next = cc
 
 keeping_word : (m : Machine) (t : ℕ) (a : Actor) (d : Duty) → is_steady d ≡ true
     → memory_by m t a d (ThreadWord t) ≡ m.memory (ThreadWord t)
 keeping_word m t a (Look y) kept = written_load m.memory (ThreadWord (block_of m.layout y)) (ThreadWord t)
-keeping_word m t a (Leave y n) kept = absurd cc
-keeping_word m t a Finish kept = absurd cc
-keeping_word m t a _ kept = refl
+keeping_word m t a _ kept = cc
 
 keeping_hand : (d : Duty) (rest : List Duty) (x : ℕ) → finalises_none d ≡ true
     → finalised (d ∷ rest) x ≡ finalised rest x
 keeping_hand (Die y) rest x kept = absurd cc
-keeping_hand (SettleKind y) rest x kept = absurd cc
-keeping_hand (SettleCell y i n) rest x kept = absurd cc
-keeping_hand (TakeSlot y) rest x kept = absurd cc
-keeping_hand (CloseResource y) rest x kept = absurd cc
-keeping_hand (SettleEnd y) rest x kept = absurd cc
-keeping_hand _ rest x kept = refl
+keeping_hand _ rest x kept = cc
 
 -- ---- no row begins to die
 

@@ -24,16 +24,10 @@ leave_behind (Leave x k ∷ l) rest none = absurd cc
 leave_behind (_ ∷ l) rest none = leave_behind l rest none
 
 leave_ready : (head : ℕ) (l : List Duty) → has_leave (ready head l) ≡ has_leave l
-leave_ready zero [] = refl
-leave_ready (suc head) [] = refl
 leave_ready zero (Settle ∷ rest) = leave_ready zero rest
-leave_ready (suc head) (Settle ∷ rest) = refl
 leave_ready zero (Scan x zero ∷ rest) = leave_ready zero rest
 leave_ready (suc head) (Scan x zero ∷ rest) = leave_ready (suc head) rest
-leave_ready zero (Scan x (suc k) ∷ rest) = refl
-leave_ready (suc head) (Scan x (suc k) ∷ rest) = refl
-leave_ready zero (_ ∷ rest) = refl
-leave_ready (suc head) (_ ∷ rest) = refl
+leave_ready _ _ = cc
 
 -- No step is followed by the duty to leave.
 next_leave : {layout : Layout} {t head found : ℕ} (d : Duty) (next : List Duty)
