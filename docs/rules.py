@@ -26,14 +26,11 @@ REAL = ["brc_table", "brc_heap", "brc_list", "brc_free", "brc_queue"]
 OTHER_BRANCH = "none (other branch)"
 ONLY_READS = "none (only reads)"
 WITHOUT = {
-    "KindOfResource": OTHER_BRANCH,
     "OwnerReleases": OTHER_BRANCH,
-    "SharedRead": ONLY_READS,
     "MarkGone": OTHER_BRANCH,
     "NothingToClaim": OTHER_BRANCH,
     "NobodysCount": OTHER_BRANCH,
     "MergeRead": ONLY_READS,
-    "DyingResource": OTHER_BRANCH,
 }
 class Rule:
     def __init__(self, name, comment, statement):
