@@ -17,8 +17,9 @@ use Rattle.brc_model.specs.CountingLaws.{BirthsBegin}
 use Rattle.brc_model.proofs.Basics.Bag.{held-le-references_to}
 use Rattle.brc_model.proofs.Basics.Blocks.{thread_there, next_counted, next_unborn, next_within}
 use Rattle.brc_model.proofs.Limits.Ranges.{row_small}
-use Rattle.brc_model.proofs.Keeping.WorkBegins.{ready_holds, none_about_held, more_bounded, work_begins, one_makes}
+use Rattle.brc_model.proofs.Keeping.WorkBegins.{ready_holds, none_about_held, work_begins, one_makes}
 use Rattle.brc_model.proofs.Keeping.NextRows.{unborn_alone}
+use Rattle.brc_model.proofs.Keeping.OneReference.{bounded_more}
 
 module _ {p : Accounts} {n : ℕ} {m : Machine} {t : ℕ} {a : Actor} where
   -- A ready thread holds no reference to an object that isn't born.
@@ -58,7 +59,7 @@ births_begin p n m t a word counts ready worker has_room counted_kind few =
       begins = record { about = λ y. refl; piece = refl; light = refl };
       no_flight = λ object. omega (arith, counts.no_flight t object);
       holds = λ k object. omega (arith, holds.each k object);
-      bounded = more_bounded m.layout (p t) x bounded (λ c. omega (arith, none));
+      bounded = bounded_more m.layout (p t) x bounded (λ c. omega (arith, none));
       locks =
           more_locks (p t) m t a (working a (BirthKind x AsCaller word ∷ []) a.aside) x
           (core.each t a ready.found).0.locks refl (λ k y. omega (arith, one_makes k y (BirthKind x AsCaller word)));

@@ -26,9 +26,8 @@ use Rattle.brc_model.proofs.Frame.Cells.{same_cell}
 use Rattle.brc_model.proofs.Frame.CellsHeld.{cell_held}
 use Rattle.brc_model.proofs.Stepping.Locked.{making_none}
 use Rattle.brc_model.proofs.Keeping.Locks.{more_locks, less_locks}
-use Rattle.brc_model.proofs.Keeping.OneReference.{account_held, held_elsewhere, holds_less, holds_more, bounded_less}
+use Rattle.brc_model.proofs.Keeping.OneReference.{account_held, held_elsewhere, holds_less, holds_more, bounded_less, bounded_more}
 use Rattle.brc_model.proofs.Keeping.Replaced.{with_account_itself, with_account_same}
-use Rattle.brc_model.proofs.Keeping.WorkBegins.{more_bounded}
 use Rattle.brc_model.proofs.Keeping.CellChanges.{changed, counts_changed}
 use Rattle.brc_model.proofs.Keeping.FirstOfChain.{first_chained}
 
@@ -90,7 +89,7 @@ module _ (p : Accounts) (n : ℕ) (m : Machine) (t : ℕ) (a : Actor) (x i y : �
                     held-without_apart (reference_of t k object) out bag refl,
                   );
             });
-        bounded = more_bounded m.layout (p t) y old.bounded room;
+        bounded = bounded_more m.layout (p t) y old.bounded room;
         locks = more_locks (p t) m t a a y old.locks refl (λ k z. omega arith);
         keeps = λ z k some.
             let r = reference_of t k z in

@@ -30,7 +30,7 @@ use Rattle.brc_model.proofs.Frame.Known.{LeavesRow, known_kept}
 use Rattle.brc_model.proofs.Frame.Others.{LeavesOthers, each_fits}
 use Rattle.brc_model.proofs.Stepping.Counts.{same_is}
 use Rattle.brc_model.proofs.Keeping.Replaced.{flight_with, with_account_same, with_account_other}
-use Rattle.brc_model.proofs.Keeping.WorkBegins.{more_bounded}
+use Rattle.brc_model.proofs.Keeping.OneReference.{bounded_more}
 
 -- the machine with one reference more, which the thread holds as the caller
 abbrev gained : Machine → ℕ → ℕ → Machine
@@ -145,7 +145,7 @@ module _ {p : Accounts} {n : ℕ} {m : Machine} {t : ℕ} {a : Actor} where
                 let one = ap one_if (same_is t x AsCaller k object) in
                 omega (arith, old.holds.each k object, held-cons r (reference_of t AsCaller x) bag, one);
           };
-          bounded = more_bounded m.layout (p t) x old.bounded (λ counted. absurd (false≢true (sym counted ∙ immortal)));
+          bounded = bounded_more m.layout (p t) x old.bounded (λ counted. absurd (false≢true (sym counted ∙ immortal)));
           exited = λ e. absurd (false≢true (sym ends ∙ e));
           head_fits = subst (HeadOf (gained m t x) t a) (sym ready.agenda) tt;
           behind = subst (BehindOf (gained m t x) t) (sym ready.agenda) tt;

@@ -95,7 +95,7 @@ module _ (p : Accounts) (n : ℕ) (m : Machine) (t u : ℕ) (a b : Actor) (x : �
       let own : Fits account handed u b =
       moved_fits given (gain u AsCaller x) u b x (λ k y other. held_besides bag u AsCaller x k y other) (p u) account
       old hands.taker_free hands.taker_stays (holds_more bag u (p u) b.agenda b.aside AsCaller x old.0.holds)
-      (bounded_more m.layout (p u) x old.0.bounded hands.room)
+      (bounded_more m.layout (p u) x old.0.bounded (λ counted. hands.room))
       (more_locks (p u) given u b b x old.0.locks refl (λ k y. omega arith)) in
       each_moved after_giving given u b account (gain u AsCaller x) hands.taker
       (λ w k ne. (other_thread w u k AsCaller ne, tt)) own each_given

@@ -2,12 +2,12 @@
 use Rattle.std.proofs.Common.{◌≡◌, ℕ, zero, suc, ◌-◌, ◌<◌, Bool, true, false, cond, not, List, [], ◌∷◌, ◌++◌, refl, sym, ap, ◌∙◌, subst, arith, inl, inr}
 use Rattle.std.specs.Prelude.{◌==◌, ◌&&◌, ◌||◌, count_by, slice_get, Option, None, Some}
 use Rattle.std.specs.List.{list_any}
-use Rattle.std.proofs.lemmas.Bool.{eq-eqb, ne_eqb, lt-ltb}
+use Rattle.std.proofs.lemmas.Bool.{eq-eqb, lt-ltb}
 use Rattle.std.proofs.lemmas.List.Sums.{sum_by-cons}
 use Rattle.brc_model.specs.declared.duty.Holding.{Holding}
 use Rattle.brc_model.specs.declared.duty.Holding.TheVariants.{ByVariable, AsCaller, InFlight}
 use Rattle.brc_model.specs.AbstractState.{is_counted, is_among, AbstractState, same_holding, same, references_to, Move, Gain, Lose, PassOn, Finalise, is_allowed, are_allowed, Born, ByThread, holds_by_cells, move, without}
-use Rattle.brc_word.specs.Words.{immortal_local, local_part, is_immortal_word}
+use Rattle.brc_word.specs.Words.{is_immortal_word}
 use Rattle.brc_model.specs.declared.duty.Reason.TheVariants.{Own, Handed}
 use Rattle.brc_model.specs.declared.duty.Duty.{Duty}
 use Rattle.brc_model.specs.declared.duty.Duty.TheVariants.{RetainLoad, RetainStore, RetainAdd, ReleaseLoad, ReleaseStore, DecideAtZero, SharedLoad, SharedExchange, MergeSwap, MergeLoad, MergeExchange, Die, Settle, SettleKind, SettleCell, SettleEnd, TakeSlot, CloseResource, BirthKind, BirthSlot, BirthLocal, KindLoad, LockGate, UnlockGate, CellLoad, CellSwap, LendSlot, ReturnSlot}
@@ -21,11 +21,11 @@ use Rattle.brc_model.specs.BadDuties.{touched_row, is_freed_for, touches_freed, 
 use Rattle.brc_model.proofs.Basics.Lists.{either}
 use Rattle.brc_model.proofs.Basics.Bag.{same_holding-refl, held_has, no_cell_holds, same-refl, one_if_true}
 use Rattle.brc_model.specs.References.{held, one_if, reference_of, word_holds, cell_reference}
-use Rattle.brc_model.specs.RowInvariant.{decides, InOwned, InSwapped, InMerged}
+use Rattle.brc_model.specs.RowInvariant.{decides}
 use Rattle.brc_model.specs.Accounts.{Accounts, extra_of, lacks_of}
 use Rattle.brc_model.specs.Knowledge.{IsBacked, MayLook, IsNext, IsEmpty}
 use Rattle.brc_model.specs.OpenWork.{Linked, dies_by}
-use Rattle.brc_model.specs.Invariant.{AtDuty, CoreInvariant}
+use Rattle.brc_model.specs.Invariant.{AtDuty, CoreInvariant, numbers_of}
 use Rattle.brc_model.proofs.Promises.Agreeing.{is_free_of}
 use Rattle.brc_model.proofs.Frame.Alive.{Alive, first_weighs, alive_deciding, alive_backed, backed_referenced}
 use Rattle.brc_model.proofs.Frame.CellsHeld.{cell_held}
@@ -36,7 +36,8 @@ use Rattle.brc_model.proofs.Basics.Blocks.{next_counted, next_unborn}
 use Rattle.brc_model.proofs.Stepping.Nones.{immortal_row}
 use Rattle.std.proofs.lemmas.Bool.{cases_Bool}
 use Rattle.brc_model.specs.declared.layout.Layout.{Layout}
-use Rattle.brc_model.specs.Layout.{is_immortal_row, IsCounted}
+use Rattle.brc_model.specs.Layout.{is_immortal_row, IsCounted, block_of}
+use Rattle.brc_model.proofs.Objects.RowsAfterOwn.{counted_word}
 
 -- ---- references given up
 
@@ -173,11 +174,7 @@ module _ {p : Accounts} {n : ℕ} {m : Machine} {t : ℕ} {a : Actor} {d : Duty}
   given_in_bag k x here more less = held_has (reference_of t k x) m.abstract.references (gives_held k x here more less)
 
 mortal_row : (m : Machine) (x : ℕ) → Alive m x → is_immortal_word (m.memory (Local x)) ≡ false
-mortal_row m x alive = ne_eqb (local_part (m.memory (Local x))) immortal_local (elim alive.live.mode [
-  | InOwned o ↦ λ e. absurd (omega (arith, o.low, e))
-  | InSwapped s ↦ λ e. absurd (omega (arith, s.local, e))
-  | InMerged s ↦ λ e. absurd (omega (arith, s.local, e))
-])
+mortal_row m x alive = counted_word (block_of m.layout x) (numbers_of m x) alive.live
 
 -- If the bag has a reference, putting it in flight is allowed.
 put_in_flight_allowed : (layout : Layout) (p : AbstractState) (t x : ℕ) (h : Holding)

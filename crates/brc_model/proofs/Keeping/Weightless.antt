@@ -27,15 +27,8 @@ record WeighsNone (x : ℕ) (d : Duty) : Type 0 where
   hands : is_finalising d x ≡ false
 
 weighs_none : (x : ℕ) (d : Duty) → weighs_any d ≡ false → WeighsNone x d
-weighs_none x (Look y) light = absurd cc
-weighs_none x (TakeMark y) light = absurd cc
-weighs_none x (SettleKind y) light = absurd cc
-weighs_none x (SettleCell y i n) light = absurd cc
-weighs_none x (TakeSlot y) light = absurd cc
-weighs_none x (CloseResource y) light = absurd cc
-weighs_none x (SettleEnd y) light = absurd cc
 weighs_none x (Die y) light = absurd cc
-weighs_none x d light = record { apart = light_apart x d light; looks = refl; hands = refl }
+weighs_none x d light = record { apart = light_apart x d (cc); looks = cc; hands = cc }
 
 -- An agenda of such duties weighs nothing at the row.
 pub record Weightless (x : ℕ) (ds : List Duty) : Type 0 where

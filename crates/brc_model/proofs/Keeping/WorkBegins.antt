@@ -9,12 +9,11 @@ use Rattle.brc_model.specs.declared.duty.Holding.TheVariants.{ByVariable, AsCall
 use Rattle.brc_model.specs.declared.duty.Duty.{Duty}
 use Rattle.brc_model.specs.declared.duty.Duty.TheVariants.{RetainLoad, ReleaseLoad, Settle, Leave, Scan, Finish}
 use Rattle.brc_model.specs.declared.actor.Status.TheVariants.{Running}
-use Rattle.brc_model.specs.declared.layout.Layout.{Layout}
 use Rattle.brc_model.specs.AbstractState.{same_holding}
-use Rattle.brc_model.specs.Layout.{row_count, IsCounted}
+use Rattle.brc_model.specs.Layout.{row_count}
 use Rattle.brc_model.specs.Machine.{Actor, Machine, with_actor}
 use Rattle.brc_model.specs.References.{held, one_if, reference_of}
-use Rattle.brc_model.specs.Accounts.{Account, Accounts, extra, lacks, extra_aside, lacks_aside, HoldsAt, most_lent, IsBounded}
+use Rattle.brc_model.specs.Accounts.{Account, Accounts, extra, lacks, extra_aside, lacks_aside, HoldsAt, IsBounded}
 use Rattle.brc_model.specs.Knowledge.{IsBacked, ByReference, ByItem, HeadFits}
 use Rattle.brc_model.specs.OpenWork.{is_about, is_piece, has_leave, Agenda, IsSettled}
 use Rattle.brc_model.specs.Gates.{LocksFit}
@@ -34,6 +33,7 @@ use Rattle.brc_model.proofs.Keeping.Kept.{kept_sits}
 use Rattle.brc_model.proofs.Keeping.WorkAside.{working_ranges}
 use Rattle.brc_model.proofs.Keeping.Weightless.{weighs_any}
 use Rattle.std.specs.List.{list_any}
+use Rattle.brc_model.proofs.Keeping.OneReference.{bounded_more, bounded_less}
 
 -- ---- a ready thread
 
@@ -176,35 +176,6 @@ module _ {p : Accounts} {n : ℕ} {m : Machine} {t : ℕ} {a : Actor} where
 
 -- ---- accounts
 
--- With one reference more, a thread still holds at most `most_lent` to a counted object.
-pub more_bounded : (layout : Layout) (account : Account) (x : ℕ) → IsBounded layout account
-    → (IsCounted layout x → account AsCaller x < most_lent) → IsBounded layout (with_one_more account AsCaller x)
-more_bounded layout account x bounded few = record {
-  by_variable = λ depth v object. omega (arith, bounded.by_variable depth v object);
-  sixteen = λ depth v object past. omega (arith, bounded.sixteen depth v object past);
-  shallow = λ depth v object deep. omega (arith, bounded.shallow depth v object deep);
-  lent = λ object counted. elim (eqb_tells x object) [
-    | inl same ↦
-        let low = subst (λ (y : ℕ). IsCounted layout y → account AsCaller y < most_lent) same.1 few counted in
-        omega (arith, low, one_if_low (x == object))
-    | inr other ↦
-        let none : one_if (x == object) ≡ 0 = ap one_if other.0 in
-        omega (arith, bounded.lent object counted, none)
-  ];
-  in_flight = λ object. omega (arith, bounded.in_flight object);
-}
-
--- With one reference less, a thread holds no more than before.
-less_bounded : (layout : Layout) (account : Account) (x : ℕ) → IsBounded layout account
-    → IsBounded layout (with_one_less account AsCaller x)
-less_bounded layout account x bounded = record {
-  by_variable = λ depth v object. omega (arith, bounded.by_variable depth v object);
-  sixteen = λ depth v object past. omega (arith, bounded.sixteen depth v object past);
-  shallow = λ depth v object deep. omega (arith, bounded.shallow depth v object deep);
-  lent = λ object counted. omega (arith, bounded.lent object counted);
-  in_flight = λ object. omega (arith, bounded.in_flight object);
-}
-
 -- The account has the reference that it loses.
 has_one : (account : Account) (x : ℕ) (k : Holding) (object : ℕ) → 1 ≤ account AsCaller x
     → one_if (same_holding AsCaller k && (x == object)) ≤ account k object
@@ -236,7 +207,7 @@ retains_begin p n m t a x counts ready alone at_hand few =
       begins = record { about = λ y. refl; piece = refl; light = refl };
       no_flight = λ object. omega (arith, counts.no_flight t object);
       holds = λ k object. omega (arith, holds.each k object);
-      bounded = more_bounded m.layout (p t) x bounded few;
+      bounded = bounded_more m.layout (p t) x bounded few;
       locks =
           more_locks (p t) m t a (working a (RetainLoad x AsCaller ∷ []) a.aside) x (core.each t a ready.found).0.locks
           refl (λ k y. omega (arith, one_makes k y (RetainLoad x AsCaller)));
@@ -256,7 +227,7 @@ releases_begin p n m t a x counts ready alone some may =
       begins = record { about = λ y. refl; piece = refl; light = refl };
       no_flight = λ object. omega (arith, counts.no_flight t object);
       holds = λ k object. omega (arith, holds.each k object, has_one (p t) x k object some);
-      bounded = less_bounded m.layout (p t) x bounded;
+      bounded = bounded_less m.layout (p t) x bounded;
       locks =
           less_locks (p t) m t a (working a (ReleaseLoad x AsCaller ∷ []) a.aside) x (core.each t a ready.found).0.locks
           refl (λ k y. omega (arith, one_makes k y (ReleaseLoad x AsCaller))) (omega (

@@ -27,6 +27,31 @@ use Rattle.brc_model.specs.Layout.{block_of, index_of}
 still_zero : (b : Bool) (v word : ℕ) → b ≡ false → word ≡ 0 → cond b v word ≡ 0
 still_zero b v word apart zero_before = ap (λ (c : Bool). cond c v word) apart ∙ zero_before
 
+-- Says whether the duty stores the row's kind, and whether it fills the row's slot.
+abbrev bears_kind : Duty → ℕ → Bool
+bears_kind (BirthKind y h w) x = y == x
+bears_kind _ x = false
+
+abbrev fills_slot : Duty → ℕ → Bool
+fills_slot (BirthSlot y h) x = y == x
+fills_slot (ReturnSlot y) x = y == x
+fills_slot _ x = false
+
+kind_zero : (m : Machine) (t : ℕ) (a : Actor) (d : Duty) (x : ℕ) → bears_kind d x ≡ false → m.memory (KindOf x) ≡ 0
+    → memory_by m t a d (KindOf x) ≡ 0
+kind_zero m t a (BirthKind y h w) x apart was = still_zero (y == x) w (m.memory (KindOf x)) apart was
+kind_zero m t a (SettleKind y) x apart was = written_load m.memory (KindOf y) (KindOf x) ∙ was
+kind_zero m t a (KindLoad y) x apart was = written_load m.memory (KindOf y) (KindOf x) ∙ was
+kind_zero m t a _ x apart was = was
+
+slot_zero : (m : Machine) (t : ℕ) (a : Actor) (d : Duty) (x : ℕ) → fills_slot d x ≡ false → m.memory (Slot x) ≡ 0
+    → memory_by m t a d (Slot x) ≡ 0
+slot_zero m t a (BirthSlot y h) x apart was = still_zero (y == x) 1 (m.memory (Slot x)) apart was
+slot_zero m t a (ReturnSlot y) x apart was = still_zero (y == x) 1 (m.memory (Slot x)) apart was
+slot_zero m t a (TakeSlot y) x apart was = zero_written (y == x) (m.memory (Slot x)) was
+slot_zero m t a (LendSlot y) x apart was = zero_written (y == x) (m.memory (Slot x)) was
+slot_zero m t a _ x apart was = was
+
 -- After the step on the kind word, the agenda says that the birth has stored it. After the step on the slot, the agenda
 -- says so of both.
 kind_stored_after_kind : (b : Bool) (head y : ℕ) (h : Holding) (rest : List Duty) (x : ℕ)
@@ -73,20 +98,21 @@ module _ {p : Accounts} {n : ℕ} {m : Machine} {t : ℕ} {a : Actor} {rest : Li
       → BlankFits m.layout (memory_by m t a d) t (used_by a.used d)
       (actor_by m.layout t a d rest (found_by m t a d)).agenda
   own_blanks (BirthKind y h w) here =
+      let d : Duty = BirthKind y h w in
       let old = blanks_here here in
       record {
         kinds = λ x block past none.
-            still_zero (y == x) w (m.memory (KindOf x))
-            (sym (kind_stored_after_kind (has_resource w) a.head y h rest x) ∙ none) (old.kinds x block past refl);
+            kind_zero m t a d x (sym (kind_stored_after_kind (has_resource w) a.head y h rest x) ∙ none)
+            (old.kinds x block past refl);
         slots = λ x block past none. old.slots x block past refl;
       }
   own_blanks (BirthSlot y h) here =
+      let d : Duty = BirthSlot y h in
       let old = blanks_here here in
       record {
         kinds = λ x block past none. old.kinds x block past (sym (kind_stored_after_slot a.head y h rest x) ∙ none);
         slots = λ x block past none.
-            still_zero (y == x) 1 (m.memory (Slot x)) (sym (slot_stored_after_slot a.head y h rest x) ∙ none)
-            (old.slots x block past refl);
+            slot_zero m t a d x (sym (slot_stored_after_slot a.head y h rest x) ∙ none) (old.slots x block past refl);
       }
   own_blanks (BirthLocal y h) here =
       let old = blanks_here here in
@@ -95,43 +121,19 @@ module _ {p : Accounts} {n : ℕ} {m : Machine} {t : ℕ} {a : Actor} {rest : Li
         kinds = λ x block past none. old.kinds x block (omega (arith, past)) (born_apart m t a y x next past);
         slots = λ x block past none. old.slots x block (omega (arith, past)) (born_apart m t a y x next past);
       }
-  own_blanks (SettleKind y) here =
-      let old = blanks_here here in
-      record {
-        kinds = λ x block past none. written_load m.memory (KindOf y) (KindOf x) ∙ old.kinds x block past refl;
-        slots = λ x block past none. old.slots x block past refl;
-      }
-  own_blanks (KindLoad y) here =
-      let old = blanks_here here in
-      record {
-        kinds = λ x block past none. written_load m.memory (KindOf y) (KindOf x) ∙ old.kinds x block past refl;
-        slots = λ x block past none. old.slots x block past refl;
-      }
-  own_blanks (TakeSlot y) here =
-      let old = blanks_here here in
-      record {
-        kinds = λ x block past none. old.kinds x block past refl;
-        slots = λ x block past none. zero_written (y == x) (m.memory (Slot x)) (old.slots x block past refl);
-      }
-  own_blanks (LendSlot y) here =
-      let old = blanks_here here in
-      record {
-        kinds = λ x block past none. old.kinds x block past refl;
-        slots = λ x block past none. zero_written (y == x) (m.memory (Slot x)) (old.slots x block past refl);
-      }
   own_blanks (ReturnSlot y) here =
       let old = blanks_here here in
       record {
         kinds = λ x block past none. old.kinds x block past refl;
         slots = λ x block past none.
-            still_zero (y == x) 1 (m.memory (Slot x)) (lent_used t a y x here here.found block past)
+            slot_zero m t a (ReturnSlot y) x (lent_used t a y x here here.found block past)
             (old.slots x block past refl);
       }
   own_blanks d here =
       let old = blanks_here here in
       record {
-        kinds = λ x block past none. old.kinds x block past refl;
-        slots = λ x block past none. old.slots x block past refl;
+        kinds = λ x block past none. kind_zero m t a d x refl (old.kinds x block past refl);
+        slots = λ x block past none. slot_zero m t a d x refl (old.slots x block past refl);
       }
 
 -- ---- the other threads
@@ -143,61 +145,27 @@ block_apart m t u a y x ne next block =
     ne_eqb y x (λ e. ne (sym block ∙ ap (block_of m.layout) (sym e) ∙ next_block m t a y next))
 
 module _ {p : Accounts} {n : ℕ} {m : Machine} {t : ℕ} {a : Actor} {rest : List Duty} where
+  -- The duty stores neither the kind of another thread's unused row nor its slot.
+  others_apart : (d : Duty) (u : ℕ) (b : Actor) (x : ℕ) → AtDuty p n m t a d rest → u ≢ t
+      → slice_get m.actors u ≡ Some b → block_of m.layout x ≡ u → b.used ≤ index_of m.layout u x
+      → (bears_kind d x ≡ false) × (fills_slot d x ≡ false)
+  others_apart (BirthKind y h w) u b x here ne found block past =
+      (block_apart m t u a y x ne (head_of here).0 block, refl)
+  others_apart (BirthSlot y h) u b x here ne found block past =
+      (refl, block_apart m t u a y x ne (head_of here).0 block)
+  others_apart (ReturnSlot y) u b x here ne found block past = (refl, lent_used u b y x here found block past)
+  others_apart _ u b x here ne found block past = (refl, refl)
+
   others_blanks : (d : Duty) (u : ℕ) (b : Actor) → AtDuty p n m t a d rest → u ≢ t → slice_get m.actors u ≡ Some b
       → BlankFits m.layout (memory_by m t a d) u b.used b.agenda
-  others_blanks (BirthKind y h w) u b here ne found =
+  others_blanks d u b here ne found =
       let old = here.core.blanks u b found in
-      let next = (head_of here).0 in
       record {
         kinds = λ x block past none.
-            still_zero (y == x) w (m.memory (KindOf x)) (block_apart m t u a y x ne next block)
-            (old.kinds x block past none);
-        slots = old.slots;
-      }
-  others_blanks (BirthSlot y h) u b here ne found =
-      let old = here.core.blanks u b found in
-      let next = (head_of here).0 in
-      record {
-        kinds = old.kinds;
+            kind_zero m t a d x (others_apart d u b x here ne found block past).0 (old.kinds x block past none);
         slots = λ x block past none.
-            still_zero (y == x) 1 (m.memory (Slot x)) (block_apart m t u a y x ne next block)
-            (old.slots x block past none);
+            slot_zero m t a d x (others_apart d u b x here ne found block past).1 (old.slots x block past none);
       }
-  others_blanks (SettleKind y) u b here ne found =
-      let old = here.core.blanks u b found in
-      record {
-        kinds = λ x block past none. written_load m.memory (KindOf y) (KindOf x) ∙ old.kinds x block past none;
-        slots = old.slots;
-      }
-  others_blanks (KindLoad y) u b here ne found =
-      let old = here.core.blanks u b found in
-      record {
-        kinds = λ x block past none. written_load m.memory (KindOf y) (KindOf x) ∙ old.kinds x block past none;
-        slots = old.slots;
-      }
-  others_blanks (TakeSlot y) u b here ne found =
-      let old = here.core.blanks u b found in
-      record {
-        kinds = old.kinds;
-        slots = λ x block past none. zero_written (y == x) (m.memory (Slot x)) (old.slots x block past none);
-      }
-  others_blanks (LendSlot y) u b here ne found =
-      let old = here.core.blanks u b found in
-      record {
-        kinds = old.kinds;
-        slots = λ x block past none. zero_written (y == x) (m.memory (Slot x)) (old.slots x block past none);
-      }
-  others_blanks (ReturnSlot y) u b here ne found =
-      let old = here.core.blanks u b found in
-      record {
-        kinds = old.kinds;
-        slots = λ x block past none.
-            still_zero (y == x) 1 (m.memory (Slot x)) (lent_used u b y x here found block past)
-            (old.slots x block past none);
-      }
-  others_blanks _ u b here ne found =
-      let old = here.core.blanks u b found in
-      record { kinds = old.kinds; slots = old.slots }
 
 module _ {p : Accounts} {n : ℕ} {m : Machine} {t : ℕ} {a : Actor} {d : Duty} {rest : List Duty} where
   -- After a thread's step the unused rows of every thread's block are blank.

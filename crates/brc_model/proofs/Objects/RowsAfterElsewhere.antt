@@ -181,16 +181,9 @@ weighs (Die x) = true
 weighs _ = false
 
 pub light_apart : (x : ℕ) (d : Duty) → weighs d ≡ false → IsApart x d
-light_apart x (DecideAtZero y) light = absurd cc
 light_apart x (SharedLoad y Handed) light = absurd cc
 light_apart x (SharedExchange y Handed w) light = absurd cc
-light_apart x (SetMark y) light = absurd cc
-light_apart x (MergeSwap y r) light = absurd cc
-light_apart x (MergeLoad y c r) light = absurd cc
-light_apart x (MergeExchange y c w r) light = absurd cc
-light_apart x (Die y) light = absurd cc
-light_apart x _ light =
-    record { waiting = refl; carried = refl; merging = refl; deciding = refl; lives = λ life state. refl }
+light_apart x _ light = record { waiting = cc; carried = cc; merging = cc; deciding = cc; lives = λ life state. cc }
 
 pub all_light : (x : ℕ) (ds : List Duty) → list_any weighs ds ≡ false → AreApart x ds
 all_light x [] light = none_apart x

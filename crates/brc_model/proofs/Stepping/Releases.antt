@@ -2,11 +2,11 @@
 use Rattle.std.proofs.Common.{◌≡◌, ℕ, ◌+◌, ◌-◌, ◌<◌, Bool, true, false, cond, List, [], ◌∷◌, ◌++◌, refl, sym, ap, ◌∙◌, subst, arith}
 use Rattle.std.specs.Prelude.{◌==◌, ◌&&◌}
 use Rattle.std.specs.List.{list_any}
-use Rattle.std.proofs.lemmas.Bool.{eqb-true, eq-eqb, ne_eqb}
+use Rattle.std.proofs.lemmas.Bool.{eqb-true, eq-eqb}
 use Rattle.brc_model.specs.declared.duty.Holding.{Holding}
 use Rattle.brc_model.specs.declared.duty.Holding.TheVariants.{ByVariable, AsCaller, InFlight}
 use Rattle.brc_model.specs.AbstractState.{Reference, same_holding, same, without, moved}
-use Rattle.brc_word.specs.Words.{immortal_local, owner_part, local_part, is_immortal_word, fresh_word}
+use Rattle.brc_word.specs.Words.{immortal_local, owner_part, local_part, fresh_word}
 use Rattle.brc_model.specs.declared.duty.Reason.TheVariants.{Own}
 use Rattle.brc_model.specs.declared.duty.Duty.{Duty}
 use Rattle.brc_model.specs.declared.duty.Duty.TheVariants.{RetainStore, RetainAdd, ReleaseLoad, ReleaseStore, DecideAtZero, SharedLoad, MergeSwap, Die}
@@ -16,7 +16,6 @@ use Rattle.brc_model.specs.Machine.{Actor, Machine, is_running, done_by}
 use Rattle.brc_model.specs.Moves.{lose, put_in_flight}
 use Rattle.brc_model.proofs.Basics.Bag.{same_holding-refl, held-cons, held-without, held_has, held-le-references_to}
 use Rattle.brc_model.specs.References.{held, one_if, reference_of}
-use Rattle.brc_model.specs.RowInvariant.{InOwned, InSwapped, InMerged}
 use Rattle.brc_model.specs.Accounts.{Accounts, extra_of, lacks_of}
 use Rattle.brc_model.proofs.Objects.RowSteps.{owner_down}
 use Rattle.brc_model.proofs.Frame.Aside.{extra_held}
@@ -29,8 +28,9 @@ use Rattle.brc_model.proofs.Stepping.FitsAfter.{bag_by, agenda_here, NotGone, Fi
 use Rattle.brc_model.proofs.Stepping.Counts.{same_is, held_same, held_gained, held_lost}
 use Rattle.brc_model.proofs.Stepping.Retains.{counts_owner, count_above, weight_here}
 use Rattle.brc_model.proofs.Stepping.Steps.{own_done, own_next, own_dying}
-use Rattle.brc_model.specs.Invariant.{AtDuty}
-use Rattle.brc_model.specs.Layout.{IsCounted}
+use Rattle.brc_model.specs.Invariant.{AtDuty, numbers_of}
+use Rattle.brc_model.specs.Layout.{IsCounted, block_of}
+use Rattle.brc_model.proofs.Objects.RowsAfterOwn.{counted_word}
 
 -- ---- the last step of a retain
 
@@ -74,14 +74,6 @@ module _ {p : Accounts} {n : ℕ} {m : Machine} {t : ℕ} {a : Actor} {rest : Li
         release_held x h here,
         held-le-references_to (reference_of t h x) m.abstract.references,
       ))
-
-alive_mortal : (m : Machine) (x : ℕ) → Alive m x → is_immortal_word (m.memory (Local x)) ≡ false
-alive_mortal m x alive =
-    ne_eqb (local_part (m.memory (Local x))) immortal_local (elim alive.live.mode [
-      | InOwned o ↦ λ e. absurd (omega (arith, o.low, e))
-      | InSwapped s ↦ λ e. absurd (omega (arith, s.local, e))
-      | InMerged s ↦ λ e. absurd (omega (arith, s.local, e))
-    ])
 
 -- The step puts its holder's reference in flight, and the duty that follows gives that up.
 held_taken : (bag : List Reference) (t x : ℕ) (h : Holding) (rest later : List Duty)
@@ -128,7 +120,7 @@ module _ {p : Accounts} {n : ℕ} {m : Machine} {t : ℕ} {a : Actor} {rest : Li
       let word = m.memory (Local x) in
       let d : Duty = ReleaseLoad x h in
       let living = release_alive x h pos here in
-      let mortal = alive_mortal m x living in
+      let mortal = counted_word (block_of m.layout x) (numbers_of m x) living.live in
       let has = held_has (reference_of t h x) m.abstract.references (release_held x h here) in
       let bag : bag_by m t a d ≡ (moved m.abstract (put_in_flight t h x ++ [])).references =
       ap (λ (b : Bool). (moved m.abstract (put_in_flight t h x ++ cond b (lose t x) [])).references) mortal in
