@@ -24,9 +24,9 @@ use Rattle.brc_table.specs.declared.view.View.{View}
 use Rattle.brc_table.specs.Views.{actor_of, event_of, did, taken_after, holds, RowsAreThere}
 use Rattle.brc_table.specs.Rule.{Stands}
 use Rattle.brc_table.specs.Homes.{SlotsStand, TableStands}
-use Rattle.brc_table.specs.Plays.{SuitsFirst, FirstFindsOwner, FindsKnown, Continues, overwritten, Stores}
+use Rattle.brc_table.specs.Plays.{FindsKnown}
 use Rattle.brc_table.specs.Hands.{TableState, HandState}
-use Rattle.brc_table.specs.Begins.{Passes, Becomes, IsAt, MakesWithoutSlot, StoresWord}
+use Rattle.brc_table.specs.Begins.{Passes, Becomes, IsAt}
 use Rattle.brc_table.specs.Places.{place, IsTableWord}
 use Rattle.brc_table.proofs.CellGuards.{change_guards}
 use Rattle.brc_table.proofs.Lists.{set_view}
@@ -63,14 +63,6 @@ finds_known live chains layout words views id v (MergeExchange x c w Handed) fou
     stands.counts
     (record { found = stands.acts id v here; agenda = agenda; alive = alive }) (is ∙ same)
 finds_known live chains layout words views id v _ found stands here rest agenda alive is = tt
-
--- What is behind the duty doesn't matter.
-known_first : (v : View) (d : Duty) (rest : List Duty) (found : ℕ) → FindsKnown v (d ∷ []) found
-    → FindsKnown v (d ∷ rest) found
-known_first v (KindLoad x) rest found known = known
-known_first v (CellLoad x i) rest found known = known
-known_first v (MergeExchange x c w Handed) rest found known = known
-known_first v _ rest found known = tt
 
 -- The hand's first duty is about the word at this place.
 pub record IsNextAt (v : View) (d : Duty) (rest : List Duty) (index : ℕ) : Type 0 where
@@ -285,7 +277,7 @@ module _ (kept : DutiesAreKept) (within : DutiesAreWithin) (law : AccountsAreThe
         there = subst (λ (k : ℕ). RowsAreThere (did u (d ∷ rest) k)) (itself found) rows;
       })))
 
--- ---- kinds of steps
+-- ---- what a call knows
 
 -- What contracts see of the table and the hand is what the table's code has.
 pub record Seen {S : Type 0} (words : TableState) (hand : HandState) (layout : Layout) (me : Me S View) : Type 0 where
@@ -297,60 +289,7 @@ module _ (kept : DutiesAreKept) (within : DutiesAreWithin) (law : AccountsAreThe
     (hand : HandState) (begins : View → View) {T : Type 0} (layout : Layout) (slots id index : ℕ)
     (me : Me (Option T) View) (seen : Seen words hand layout me)
     (becomes : Becomes words.layout hand.view (begins hand.view)) where
-  -- What the hand learns is what a step that goes on says.
-  continues : (d : Duty) (rest : List Duty) (found : ℕ) → (begins me.0).agenda ≡ d ∷ rest
-      → Learns (begins me.0) d rest found → taken_after (begins me.0).taken (use_of d found) ≡ me.0.taken
-      → Continues begins me found (did (begins me.0) (d ∷ rest) found, me.1)
-  continues d rest found agenda learned taken =
-      let u = begins me.0 in (
-        ap (λ (ds : List Duty). did u ds found) (sym agenda),
-        refl,
-        subst (λ (ds : List Duty). SuitsFirst u ds found) (sym agenda) learned.known.suits,
-        subst (λ (ds : List Duty). FirstFindsOwner u ds found) (sym agenda) learned.known.owner,
-        learned.there,
-        subst (λ (ds : List Duty). FindsKnown u ds found) (sym agenda) (known_first u d rest found learned.known.finds),
-        taken,
-      )
-
   pub becomes_here : Becomes layout me.0 (begins me.0)
   becomes_here =
       subst (λ (l : Layout). Becomes l me.0 (begins me.0)) (sym seen.layout_is)
       (subst (λ (v : View). Becomes words.layout v (begins v)) (sym seen.view_is) becomes)
-
-  -- A step that goes on with the value that it finds is allowed.
-  pub step_allowed : (f : ℕ → ℕ) → MakesWithoutSlot (begins hand.view) index f
-      → Allows (λ (s : State (Option T) View). TableStands layout s.words s.homes s.views) slots id me index f
-      (λ found after. Continues begins me found after)
-  step_allowed f makes_there =
-      let without : MakesWithoutSlot (begins me.0) index f =
-      subst (λ (v : View). MakesWithoutSlot (begins v) index f) (sym seen.view_is) makes_there in
-      let makes = without.makes in
-      object_allows kept within law chains stay live layout me.0 (begins me.0) makes.duty makes.rest index becomes_here
-      makes.at slots id me
-      f (λ found after. Continues begins me found after) refl without.slots
-      (λ found known. makes.leaves found known.suits)
-      (λ found learned.
-      continues makes.duty makes.rest found makes.at.agenda learned
-      (ap (taken_after (begins me.0).taken) (without.slots found) ∙ becomes_here.slots.taken))
-
-  -- A store is allowed.
-  pub store_allowed : (word : ℕ) → StoresWord (begins hand.view) index word
-      → Allows (λ (s : State (Option T) View). TableStands layout s.words s.homes s.views) slots id me index
-      (λ found. word) (λ found after. Stores begins me after)
-  store_allowed word stores_there =
-      let stores : StoresWord (begins me.0) index word =
-      subst (λ (v : View). StoresWord (begins v) index word) (sym seen.view_is) stores_there in
-      let u = begins me.0 in
-      let makes = stores.makes in
-      object_allows kept within law chains stay live layout me.0 u makes.duty makes.rest index becomes_here makes.at
-      slots id me
-      (λ found. word) (λ found after. Stores begins me after) refl stores.slots
-      (λ found known. makes.leaves found known.suits)
-      (λ found learned.
-      let known : found ≡ overwritten u = stores.knows found learned.known.overwrites in (
-        ap (did u (makes.duty ∷ makes.rest)) known
-            ∙ ap (λ (ds : List Duty). did u ds (overwritten u)) (sym makes.at.agenda),
-        refl,
-        learned.there,
-        ap (taken_after u.taken) (stores.slots found) ∙ becomes_here.slots.taken,
-      ))

@@ -9,6 +9,7 @@ use Rattle.brc_model.specs.Duties.{address_of, new_word, new_head}
 use Rattle.brc_model.specs.Machine.{status_by, used_by}
 use Rattle.brc_model.specs.Within.{Suits}
 use Rattle.brc_model.specs.Stores.{Overwrites}
+use Rattle.brc_model.specs.OpenWork.{is_about}
 use Rattle.brc_model.specs.SlotLaws.{use_of}
 use Rattle.brc_table.specs.Plays.{overwritten_by}
 use Rattle.brc_table.specs.Uses.{first_due}
@@ -27,6 +28,7 @@ pub record IsLike (d e : Duty) : Type 0 where
   pub suits : (t : ℕ) (running : Bool) (n found : ℕ) → Suits t running n d found → Suits t running n e found
   pub overwrites : (t found : ℕ) → Overwrites t d found → Overwrites t e found
   pub row : row_of d ≡ row_of e
+  pub about : (x : ℕ) → is_about x d ≡ is_about x e
   pub has : HasAccess d → HasAccess e
 
 like_bare : (d : Duty) → IsLike d (bare d)
@@ -42,6 +44,7 @@ like_bare (RetainLoad x h) = record {
   suits = λ t running n found is. is;
   overwrites = λ t found is. is;
   row = refl;
+  about = λ x. refl;
   has = λ is. is;
 }
 like_bare _ = record {
@@ -56,6 +59,7 @@ like_bare _ = record {
   suits = λ t running n found is. is;
   overwrites = λ t found is. is;
   row = refl;
+  about = λ x. refl;
   has = λ is. is;
 }
 
@@ -72,6 +76,7 @@ bare_like (RetainLoad x h) = record {
   suits = λ t running n found is. is;
   overwrites = λ t found is. is;
   row = refl;
+  about = λ x. refl;
   has = λ is. is;
 }
 bare_like _ = record {
@@ -86,6 +91,7 @@ bare_like _ = record {
   suits = λ t running n found is. is;
   overwrites = λ t found is. is;
   row = refl;
+  about = λ x. refl;
   has = λ is. is;
 }
 
@@ -102,6 +108,7 @@ like_by a b c one other = record {
   suits = λ t running n found is. other.suits t running n found (one.suits t running n found is);
   overwrites = λ t found is. other.overwrites t found (one.overwrites t found is);
   row = one.row ∙ other.row;
+  about = λ x. one.about x ∙ other.about x;
   has = λ is. other.has (one.has is);
 }
 

@@ -1,35 +1,27 @@
--- The duty of each kind of step, and where its word is.
-use Rattle.std.proofs.Common.{◌≡◌, ◌≢◌, ℕ, ◌+◌, ◌%◌, ◌*◌, ◌^◌, ◌<◌, ◌≤◌, ◌⊎◌, true, Bool, List, [], ◌∷◌, ◌++◌, inl, inr, refl, sym, ap, ◌∙◌, subst, arith}
+-- The rows of duties are there, and what comes next as a birth ends.
+use Rattle.std.proofs.Common.{◌≡◌, ◌≢◌, ℕ, ◌+◌, ◌*◌, ◌<◌, ◌≤◌, ◌⊎◌, true, Bool, List, [], ◌∷◌, ◌++◌, inl, inr, refl, sym, ap, ◌∙◌, subst, arith}
 use Rattle.std.specs.Prelude.{◌==◌, ◌||◌, cond}
 use Rattle.std.specs.List.{filter, list_any}
 use Rattle.std.proofs.lemmas.Bool.{cases_Bool, eq-eqb}
 use prog.Atomic.{either}
 use Rattle.brc_model.specs.declared.duty.Duty.{Duty}
-use Rattle.brc_model.specs.declared.duty.Duty.TheVariants.{RetainLoad, RetainStore, RetainAdd, ReleaseLoad, ReleaseStore, DecideAtZero, SharedLoad, SharedExchange, MergeSwap, MergeLoad, MergeExchange, Die, BirthKind, BirthSlot, BirthLocal}
-use Rattle.brc_model.specs.declared.duty.Holding.TheVariants.{AsCaller, InFlight}
+use Rattle.brc_model.specs.declared.duty.Duty.TheVariants.{BirthSlot, BirthLocal}
+use Rattle.brc_model.specs.declared.duty.Holding.TheVariants.{AsCaller}
 use Rattle.brc_model.specs.declared.actor.Status.TheVariants.{Running, Gone}
 use Rattle.brc_model.specs.declared.layout.Layout.{Layout}
 use Rattle.brc_model.specs.Layout.{front_rows, row_count}
 use Rattle.brc_model.specs.Limits.{worker_limit, row_limit}
-use Rattle.std.proofs.Math.Nat.{div-add-mod, mod-lt, mod-eq_of_lt}
-use Rattle.brc_word.specs.Words.{biased_part, bias, local_word, released_word, merged_word, dying_word}
-use Rattle.brc_model.specs.Duties.{address_of, new_word, resources_of}
-use Rattle.brc_model.specs.Machine.{is_running}
-use Rattle.brc_model.specs.Within.{Suits}
+use Rattle.brc_model.specs.Duties.{resources_of}
 use Rattle.brc_model.specs.OpenWork.{is_about}
 use Rattle.brc_model.specs.Counting.{IsPlainLayout}
 use Rattle.std.proofs.Math.Nat.{mul-le-mul}
 use Rattle.brc_table.specs.declared.view.View.{View}
-use Rattle.brc_table.specs.Places.{in_tile, place, IsObjectWord}
 use Rattle.brc_table.specs.Seen.{has_seen_kind}
+use Rattle.brc_table.specs.Accesses.{IsNext}
 use Rattle.brc_table.specs.Uses.{IsDue}
-use Rattle.brc_model.specs.declared.duty.Holding.{Holding}
-use Rattle.brc_table.specs.Views.{RowsAreThere, slot_filled_by, done, did, work_about, retaining, releasing, bearing, next_row}
+use Rattle.brc_table.specs.Views.{RowsAreThere, slot_filled_by, work_about}
 use Rattle.brc_table.specs.Hands.{HoldsOne, MayUse, MayLook}
-use Rattle.brc_table.specs.Begins.{IsQuiet, Makes, MakesQuietly, StoresWord, StoresWithSlot, KeepsThread}
-use Rattle.brc_table.specs.Plays.{overwritten_by}
-use Rattle.brc_table.specs.Calls.{ReleasesItem, LoadsShared, SwapsLocal, StoresLocal, AddsShared, ExchangesShared, ChainsRow, OwnsFirst}
-use Rattle.brc_model.specs.SlotLaws.{Takes, Gives}
+use Rattle.brc_table.specs.Calls.{OwnsFirst}
 use Rattle.brc_table.proofs.RowsThere.{immortal_there}
 
 pub runs_on : (v : View) → v.status ≡ Running → v.status ≢ Gone
@@ -53,56 +45,12 @@ looks_there v x plain rows (inr first) = omega (arith, rows.head, first)
 
 -- ---- words
 
-low_word : (found : ℕ) → biased_part found < 2 * bias → found + 4 < 2 ^ 64
-low_word found low = let parts = div-add-mod found 4 in let rest : found % 4 < 4 = mod-lt found (omega arith) in
-    omega (arith, low, parts, rest)
-
 pub either_is : (found old new w word : ℕ) → old ≡ w → new ≡ word
     → either (found == old) new found ≡ cond (found == w) word found
 either_is found old new w word same leaves = elim (cases_Bool (found == w)) [
   | inl this ↦ rw (same, this) leaves
   | inr other ↦ rw (same, other) refl
 ]
-
--- ---- beginnings
-
-pub retain_makes : (v : View) (x : ℕ) → v.status ≡ Running
-    → MakesQuietly (retaining v x) (in_tile 0 x) (λ found. found)
-retain_makes v x runs = record {
-  makes = record {
-    duty = RetainLoad x AsCaller;
-    rest = [];
-    at = record { agenda = refl; alive = runs_on v runs; object = tt; index_is = refl };
-    leaves = λ found suits. refl;
-  };
-  quiet = record { status = λ s. refl; head = λ head found. refl; used = λ used. refl; slots = λ found. refl };
-}
-
-pub release_makes : (v : View) (x : ℕ) → v.status ≡ Running
-    → MakesQuietly (releasing v x) (in_tile 0 x) (λ found. found)
-release_makes v x runs = record {
-  makes = record {
-    duty = ReleaseLoad x AsCaller;
-    rest = [];
-    at = record { agenda = refl; alive = runs_on v runs; object = tt; index_is = refl };
-    leaves = λ found suits. refl;
-  };
-  quiet = record { status = λ s. refl; head = λ head found. refl; used = λ used. refl; slots = λ found. refl };
-}
-
--- The hand's next duty is to give up a reference that came out of a cell.
-pub item_release_makes : (u : View) (x : ℕ) → u.status ≢ Gone → (ds : List Duty) → u.agenda ≡ ds → ReleasesItem x ds
-    → MakesQuietly u (in_tile 0 x) (λ found. found)
-item_release_makes u x alive (ReleaseLoad y InFlight ∷ rest) is same = record {
-  makes = record {
-    duty = ReleaseLoad y InFlight;
-    rest = rest;
-    at = record { agenda = is; alive = alive; object = tt; index_is = ap (in_tile 0) (sym same) };
-    leaves = λ found suits. refl;
-  };
-  quiet = record { status = λ s. refl; head = λ head found. refl; used = λ used. refl; slots = λ found. refl };
-}
-item_release_makes u x alive _ is same = absurd same
 
 -- ---- the row of a duty
 
@@ -149,161 +97,7 @@ pub next_there : (v : View) (x : ℕ) (d : Duty) → RowsAreThere v → v.agenda
     → x < row_count v.layout
 next_there v x d rows is this = first_there v x d [] rows is this
 
--- ---- going on
-
-module _ (u : View) (x : ℕ) (alive : u.status ≢ Gone) where
-  -- The hand's next duty is about the row's word in this line.
-  abbrev pub line_makes : (line : ℕ) (f : ℕ → ℕ) (d : Duty) (rest : List Duty) → u.agenda ≡ d ∷ rest
-      → IsObjectWord (address_of u.layout u.thread u.head d)
-      → in_tile line x ≡ place (address_of u.layout u.thread u.head d)
-      → ((found : ℕ) → Suits u.thread (is_running u.status) (row_count u.layout) d found
-      → f found ≡ new_word u.thread u.head d found)
-      → Makes u (in_tile line x) f
-  line_makes line f d rest is object index leaves = record {
-    duty = d;
-    rest = rest;
-    at = record { agenda = is; alive = alive; object = object; index_is = index };
-    leaves = leaves;
-  }
-
-  pub at_line : (line : ℕ) (f : ℕ → ℕ) (d : Duty) (rest : List Duty) → u.agenda ≡ d ∷ rest
-      → IsObjectWord (address_of u.layout u.thread u.head d)
-      → in_tile line x ≡ place (address_of u.layout u.thread u.head d) → IsQuiet d
-      → ((found : ℕ) → Suits u.thread (is_running u.status) (row_count u.layout) d found
-      → f found ≡ new_word u.thread u.head d found)
-      → MakesQuietly u (in_tile line x) f
-  at_line line f d rest is object index quiet leaves =
-      record { makes = line_makes line f d rest is object index leaves; quiet = quiet }
-
-  pub shared_load_makes : (ds : List Duty) → u.agenda ≡ ds → LoadsShared x ds
-      → MakesQuietly u (in_tile 1 x) (λ found. found)
-  shared_load_makes (DecideAtZero y ∷ rest) is same =
-      at_line 1 (λ found. found) (DecideAtZero y) rest is tt (ap (in_tile 1) (sym same))
-      (record { status = λ s. refl; head = λ head found. refl; used = λ used. refl; slots = λ found. refl })
-      (λ found suits. refl)
-  shared_load_makes (SharedLoad y r ∷ rest) is same =
-      at_line 1 (λ found. found) (SharedLoad y r) rest is tt (ap (in_tile 1) (sym same))
-      (record { status = λ s. refl; head = λ head found. refl; used = λ used. refl; slots = λ found. refl })
-      (λ found suits. refl)
-  shared_load_makes (MergeLoad y c r ∷ rest) is same =
-      at_line 1 (λ found. found) (MergeLoad y c r) rest is tt (ap (in_tile 1) (sym same))
-      (record { status = λ s. refl; head = λ head found. refl; used = λ used. refl; slots = λ found. refl })
-      (λ found suits. refl)
-  shared_load_makes _ is same = absurd same
-
-  pub local_swap_makes : (ds : List Duty) → u.agenda ≡ ds → SwapsLocal x ds
-      → MakesQuietly u (in_tile 0 x) (λ found. 0)
-  local_swap_makes (MergeSwap y r ∷ rest) is same =
-      at_line 0 (λ found. 0) (MergeSwap y r) rest is tt (ap (in_tile 0) (sym same))
-      (record { status = λ s. refl; head = λ head found. refl; used = λ used. refl; slots = λ found. refl })
-      (λ found suits. refl)
-  local_swap_makes _ is same = absurd same
-
-  pub shared_add_makes : (ds : List Duty) → u.agenda ≡ ds → AddsShared x ds
-      → MakesQuietly u (in_tile 1 x) (λ found. (found + 4) % 2 ^ 64)
-  shared_add_makes (RetainAdd y h ∷ []) is same =
-      at_line 1 (λ found. (found + 4) % 2 ^ 64) (RetainAdd y h) [] is tt (ap (in_tile 1) (sym same))
-      (record { status = λ s. refl; head = λ head found. refl; used = λ used. refl; slots = λ found. refl })
-      (λ found suits. mod-eq_of_lt (low_word found suits.0.low))
-  shared_add_makes _ is same = absurd same
-
-  pub shared_exchange_makes : (old new : ℕ) (ds : List Duty) → u.agenda ≡ ds → ExchangesShared x old new ds
-      → MakesQuietly u (in_tile 1 x) (λ found. either (found == old) new found)
-  shared_exchange_makes old new (SharedExchange y r w ∷ rest) is same =
-      at_line 1 (λ found. either (found == old) new found) (SharedExchange y r w) rest is tt (ap (in_tile 1) (sym
-      same.0))
-      (record { status = λ s. refl; head = λ head found. refl; used = λ used. refl; slots = λ found. refl })
-      (λ found suits. either_is found old new w (released_word w) same.1 same.2)
-  shared_exchange_makes old new (MergeExchange y c w r ∷ rest) is same =
-      at_line 1 (λ found. either (found == old) new found) (MergeExchange y c w r) rest is tt (ap (in_tile 1) (sym
-      same.0))
-      (record { status = λ s. refl; head = λ head found. refl; used = λ used. refl; slots = λ found. refl })
-      (λ found suits. either_is found old new w (merged_word w c) same.1 same.2)
-  shared_exchange_makes old new _ is same = absurd same
-
-  pub local_store_makes : (word : ℕ) (ds : List Duty) → u.agenda ≡ ds → StoresLocal x word ds
-      → StoresWord u (in_tile 0 x) word
-  local_store_makes word (RetainStore y h w ∷ rest) is same = record {
-    makes =
-        line_makes 0 (λ found. word) (RetainStore y h w) rest is tt (ap (in_tile 0) (sym same.0))
-        (λ found suits. same.1);
-    knows = λ found over. over ∙ sym (ap (overwritten_by u.thread) is);
-    slots = λ found. refl;
-  }
-  local_store_makes word (ReleaseStore y w ∷ rest) is same = record {
-    makes =
-        line_makes 0 (λ found. word) (ReleaseStore y w) rest is tt (ap (in_tile 0) (sym same.0))
-        (λ found suits. same.1);
-    knows = λ found over. over ∙ sym (ap (overwritten_by u.thread) is);
-    slots = λ found. refl;
-  }
-  local_store_makes word _ is same = absurd same
-
--- A store in the local word leaves status, chain and used rows as they are.
-pub local_store_keeps : (v : View) (x word : ℕ) (ds : List Duty) (found : ℕ) → StoresLocal x word ds
-    → KeepsThread v (did v ds found)
-local_store_keeps v x word (RetainStore y h w ∷ rest) found same =
-    record { layout = refl; thread = refl; status = refl; head = refl; used = refl; given = refl }
-local_store_keeps v x word (ReleaseStore y w ∷ rest) found same =
-    record { layout = refl; thread = refl; status = refl; head = refl; used = refl; given = refl }
-local_store_keeps v x word _ found same = absurd same
-
--- ---- the rows of these duties
-
-pub shared_load_there : (v : View) (x : ℕ) (ds : List Duty) → RowsAreThere v → work_about x v ≡ ds → LoadsShared x ds
-    → x < row_count v.layout
-shared_load_there v x (d ∷ rest) rows is same = work_there v x d rest rows is
-shared_load_there v x [] rows is same = absurd same
-
-pub local_swap_there : (v : View) (x : ℕ) (ds : List Duty) → RowsAreThere v → work_about x v ≡ ds → SwapsLocal x ds
-    → x < row_count v.layout
-local_swap_there v x (d ∷ rest) rows is same = work_there v x d rest rows is
-local_swap_there v x [] rows is same = absurd same
-
-pub shared_add_there : (v : View) (x : ℕ) (ds : List Duty) → RowsAreThere v → v.agenda ≡ ds → AddsShared x ds
-    → x < row_count v.layout
-shared_add_there v x (RetainAdd y h ∷ []) rows is same = next_there v x (RetainAdd y h) rows is (eq-eqb y x same)
-shared_add_there v x _ rows is same = absurd same
-
-pub shared_exchange_there : (v : View) (x old new : ℕ) (ds : List Duty) → RowsAreThere v → v.agenda ≡ ds
-    → ExchangesShared x old new ds → x < row_count v.layout
-shared_exchange_there v x old new (SharedExchange y r w ∷ rest) rows is same =
-    first_there v x (SharedExchange y r w) rest rows is (eq-eqb y x same.0)
-shared_exchange_there v x old new (MergeExchange y c w r ∷ rest) rows is same =
-    first_there v x (MergeExchange y c w r) rest rows is (eq-eqb y x same.0)
-shared_exchange_there v x old new _ rows is same = absurd same
-
-pub local_store_there : (v : View) (x word : ℕ) (ds : List Duty) → RowsAreThere v → v.agenda ≡ ds
-    → StoresLocal x word ds → x < row_count v.layout
-local_store_there v x word (RetainStore y h w ∷ rest) rows is same =
-    first_there v x (RetainStore y h w) rest rows is (eq-eqb y x same.0)
-local_store_there v x word (ReleaseStore y w ∷ rest) rows is same =
-    first_there v x (ReleaseStore y w) rest rows is (eq-eqb y x same.0)
-local_store_there v x word _ rows is same = absurd same
-
-pub shared_load_next_there : (v : View) (x : ℕ) (ds : List Duty) → RowsAreThere v → v.agenda ≡ ds → LoadsShared x ds
-    → x < row_count v.layout
-shared_load_next_there v x (DecideAtZero y ∷ rest) rows is same =
-    first_there v x (DecideAtZero y) rest rows is (eq-eqb y x same)
-shared_load_next_there v x (SharedLoad y r ∷ rest) rows is same =
-    first_there v x (SharedLoad y r) rest rows is (eq-eqb y x same)
-shared_load_next_there v x (MergeLoad y c r ∷ rest) rows is same =
-    first_there v x (MergeLoad y c r) rest rows is (eq-eqb y x same)
-shared_load_next_there v x _ rows is same = absurd same
-
-pub item_release_there : (v : View) (x : ℕ) (ds : List Duty) → RowsAreThere v → v.agenda ≡ ds → ReleasesItem x ds
-    → x < row_count v.layout
-item_release_there v x (ReleaseLoad y InFlight ∷ rest) rows is same =
-    first_there v x (ReleaseLoad y InFlight) rest rows is (eq-eqb y x same)
-item_release_there v x _ rows is same = absurd same
-
-pub local_swap_next_there : (v : View) (x : ℕ) (ds : List Duty) → RowsAreThere v → v.agenda ≡ ds → SwapsLocal x ds
-    → x < row_count v.layout
-local_swap_next_there v x (MergeSwap y r ∷ rest) rows is same =
-    first_there v x (MergeSwap y r) rest rows is (eq-eqb y x same)
-local_swap_next_there v x _ rows is same = absurd same
-
--- ---- births and deaths
+-- ---- births
 
 -- There are few rows.
 pub rows_few : (layout : Layout) → IsPlainLayout layout → row_count layout ≤ front_rows + worker_limit * row_limit
@@ -311,57 +105,12 @@ rows_few layout plain =
     let most = mul-le-mul plain.few_workers plain.few_rows in
     omega (arith, most, plain.immortals)
 
-pub birth_stores : (v : View) (word : ℕ) → v.status ≡ Running
-    → StoresWithSlot (bearing v word) (in_tile 3 (next_row v)) word (Takes (next_row v))
-birth_stores v word runs = record {
-  makes = record {
-    duty = BirthKind (next_row v) AsCaller word;
-    rest = [];
-    at = record { agenda = refl; alive = runs_on v runs; object = tt; index_is = refl };
-    leaves = λ found suits. refl;
-  };
-  knows = λ found over. over;
-  uses = λ found. refl;
-}
-
-pub own_stores : (u : View) (x word : ℕ) → u.status ≢ Gone → (ds : List Duty) → u.agenda ≡ ds → OwnsFirst x ds
-    → word ≡ local_word u.thread 1 → StoresWithSlot (slot_filled_by ds u) (in_tile 0 x) word (Gives x)
-own_stores u x word alive (BirthSlot y h ∷ []) is same first =
-    let v : View = record u { agenda = BirthLocal y h ∷ [] } in
-    record {
-      makes =
-          line_makes v x alive 0 (λ found. word) (BirthLocal y h) [] refl tt (ap (in_tile 0) (sym same))
-          (λ found suits. first);
-      knows = λ found over. over;
-      uses = λ found. ap Gives same;
-    }
-own_stores u x word alive (BirthLocal y h ∷ []) is same first = record {
-  makes = line_makes u x alive 0 (λ found. word) (BirthLocal y h) [] is tt (ap (in_tile 0) (sym same)) (λ found suits.
-      first);
-  knows = λ found over. over ∙ sym (ap (overwritten_by u.thread) is);
-  uses = λ found. ap Gives same;
-}
-own_stores u x word alive _ is same first = absurd same
-
--- What the store of a first local word leaves of its thread.
-pub record Owned (u : View) (found : ℕ) : Type 0 where
-  pub status : (done u found).status ≡ u.status
-  pub head : (done u found).head ≡ u.head
-  pub used : (done u found).used ≡ u.used + 1
-
-owned_by : (u : View) (y : ℕ) (h : Holding) (found : ℕ) → u.agenda ≡ BirthLocal y h ∷ [] → Owned u found
-owned_by u y h found is = record {
-  status = subst (λ (ds : List Duty). (did u ds found).status ≡ u.status) (sym is) refl;
-  head = subst (λ (ds : List Duty). (did u ds found).head ≡ u.head) (sym is) refl;
-  used = subst (λ (ds : List Duty). (did u ds found).used ≡ u.used + 1) (sym is) refl;
-}
-
-pub own_leaves : (v : View) (x found : ℕ) (ds : List Duty) → v.agenda ≡ ds → OwnsFirst x ds
-    → Owned (slot_filled_by ds v) found
-own_leaves v x found (BirthSlot y h ∷ []) is same =
-    owned_by (record v { agenda = BirthLocal y h ∷ [] }) y h found refl
-own_leaves v x found (BirthLocal y h ∷ []) is same = owned_by v y h found is
-own_leaves v x found _ is same = absurd same
+pub own_next : (v : View) (x : ℕ) (ds : List Duty) → v.agenda ≡ ds → OwnsFirst x ds
+    → IsNext (BirthLocal x AsCaller) (slot_filled_by ds v).agenda
+own_next v x (BirthSlot y h ∷ []) is same = ap (λ (z : ℕ). BirthLocal z AsCaller) same
+own_next v x (BirthLocal y h ∷ []) is same =
+    subst (IsNext (BirthLocal x AsCaller)) (sym is) (ap (λ (z : ℕ). BirthLocal z AsCaller) same)
+own_next v x _ is same = absurd same
 
 -- What is due in the slot.
 pub own_due : (v : View) (x word : ℕ) (ds : List Duty) → v.agenda ≡ ds → OwnsFirst x ds → 0 < word
@@ -374,22 +123,8 @@ own_due v x word (BirthLocal y h ∷ []) is same some seen =
     (word, some, subst (λ (z : ℕ). has_seen_kind z word v ≡ true) (sym same) seen, refl)
 own_due v x word _ is same some seen = absurd same
 
-pub chain_stores : (u : View) (x word : ℕ) → u.status ≢ Gone → (ds : List Duty) → u.agenda ≡ ds → ChainsRow x ds
-    → word ≡ dying_word u.thread u.head → StoresWord u (in_tile 2 x) word
-chain_stores u x word alive (Die y ∷ rest) is same dies = record {
-  makes = line_makes u x alive 2 (λ found. word) (Die y) rest is tt (ap (in_tile 2) (sym same)) (λ found suits. dies);
-  knows = λ found over. over ∙ sym (ap (overwritten_by u.thread) is);
-  slots = λ found. refl;
-}
-chain_stores u x word alive _ is same dies = absurd same
-
 pub owns_first_there : (v : View) (x : ℕ) (ds : List Duty) → RowsAreThere v → v.agenda ≡ ds → OwnsFirst x ds
     → x < row_count v.layout
 owns_first_there v x (BirthSlot y h ∷ []) rows is same = next_there v x (BirthSlot y h) rows is (eq-eqb y x same)
 owns_first_there v x (BirthLocal y h ∷ []) rows is same = next_there v x (BirthLocal y h) rows is (eq-eqb y x same)
 owns_first_there v x _ rows is same = absurd same
-
-pub chains_row_there : (v : View) (x : ℕ) (ds : List Duty) → RowsAreThere v → v.agenda ≡ ds → ChainsRow x ds
-    → x < row_count v.layout
-chains_row_there v x (Die y ∷ rest) rows is same = first_there v x (Die y) rest rows is (eq-eqb y x same)
-chains_row_there v x _ rows is same = absurd same

@@ -1,5 +1,5 @@
 -- The duties of a hand that finalises the objects of its chain: where their words are, and how the hand begins.
-use Rattle.std.proofs.Common.{◌≡◌, ◌≢◌, ℕ, ◌+◌, ◌-◌, ◌<◌, ◌≤◌, List, [], ◌∷◌, refl, sym, ap, ◌∙◌, subst, arith}
+use Rattle.std.proofs.Common.{◌≡◌, ◌≢◌, ℕ, ◌+◌, ◌<◌, ◌≤◌, List, [], ◌∷◌, refl, sym, ap, ◌∙◌, subst, arith}
 use Rattle.std.proofs.lemmas.Bool.{eq-eqb}
 use Rattle.brc_model.specs.declared.duty.Duty.{Duty}
 use Rattle.brc_model.specs.declared.duty.Duty.TheVariants.{TakeSlot, Settle, SettleKind, SettleCell, SettleEnd}
@@ -7,14 +7,12 @@ use Rattle.brc_model.specs.declared.actor.Status.TheVariants.{Gone}
 use Rattle.brc_model.specs.declared.layout.Layout.{Layout}
 use Rattle.brc_model.specs.Layout.{row_count}
 use Rattle.brc_model.specs.Limits.{cell_limit}
-use Rattle.brc_word.specs.Words.{closed_word}
 use Rattle.brc_model.specs.CountingLaws.{SettlesBegin}
 use Rattle.brc_table.specs.declared.view.View.{View}
-use Rattle.brc_table.specs.Places.{in_tile, cell_place}
 use Rattle.brc_table.specs.Views.{slot_emptied_by, actor_of, settle_first, settling, NamesFewCells, RowsAreThere}
 use Rattle.brc_table.specs.Hands.{MayWait}
-use Rattle.brc_table.specs.Begins.{Becomes, MakesWithoutSlot, MakesQuietly, MakesWithSlot, SettlesNext}
-use Rattle.brc_model.specs.SlotLaws.{Takes, Gives}
+use Rattle.brc_table.specs.Accesses.{IsNext}
+use Rattle.brc_table.specs.Begins.{Becomes}
 use Rattle.brc_table.specs.Uses.{IsDue}
 use Rattle.brc_table.specs.Calls.{SettlesFrom, LoadsDyingKind, EmptiesCell, ClosesRow}
 use Rattle.brc_table.proofs.Passing.{becomes_same, waiting_keeps}
@@ -44,41 +42,18 @@ pub settling_becomes : SettlesBegin → (layout : Layout) (v : View) → Settles
     → Becomes layout v (settling v)
 settling_becomes law layout v may some = settling_from law layout v v.agenda refl may some
 
-pub settles_next : (v : View) (ds : List Duty) → SettlesFrom v ds → SettlesNext (record v { agenda = settle_first ds })
-settles_next v [] may = record { rest = []; agenda = refl; alive = runs_on v may.0 }
-settles_next v (Settle ∷ rest) may = record { rest = rest; agenda = refl; alive = may }
+-- To settle comes next, of a thread that isn't gone.
+pub settles_next : (v : View) (ds : List Duty) → SettlesFrom v ds → IsNext Settle (settle_first ds)
+settles_next v [] may = refl
+settles_next v (Settle ∷ rest) may = refl
 settles_next v _ may = absurd may
 
--- To settle loads the gate of the chain's first row.
-pub settle_makes : (v u : View) → u.head ≡ v.head → SettlesNext u
-    → MakesWithoutSlot u (in_tile 2 (v.head - 1)) (λ found. found)
-settle_makes v u same next = record {
-  makes = record {
-    duty = Settle;
-    rest = next.rest;
-    at = record {
-      agenda = next.agenda;
-      alive = next.alive;
-      object = tt;
-      index_is = ap (λ (k : ℕ). in_tile 2 (k - 1)) (sym same);
-    };
-    leaves = λ found suits. refl;
-  };
-  slots = λ found. refl;
-}
+pub settles_alive : (v : View) (ds : List Duty) → SettlesFrom v ds → v.status ≢ Gone
+settles_alive v [] may = runs_on v may.0
+settles_alive v (Settle ∷ rest) may = may
+settles_alive v _ may = absurd may
 
 -- ---- the rows of these duties
-
-pub dying_kind_there : (v : View) (x : ℕ) (ds : List Duty) → RowsAreThere v → v.agenda ≡ ds → LoadsDyingKind x ds
-    → x < row_count v.layout
-dying_kind_there v x (SettleKind y ∷ rest) rows is same = first_there v x (SettleKind y) rest rows is (eq-eqb y x same)
-dying_kind_there v x _ rows is same = absurd same
-
-pub dying_cell_there : (v : View) (x i : ℕ) (ds : List Duty) → RowsAreThere v → v.agenda ≡ ds → EmptiesCell x i ds
-    → x < row_count v.layout
-dying_cell_there v x i (SettleCell y j n ∷ rest) rows is same =
-    first_there v x (SettleCell y j n) rest rows is (eq-eqb y x same.0)
-dying_cell_there v x i _ rows is same = absurd same
 
 -- A dying list has at most as many cells as a list may have.
 pub dying_cell_low : (v : View) (x i : ℕ) (ds : List Duty) → RowsAreThere v → v.agenda ≡ ds → EmptiesCell x i ds
@@ -93,70 +68,22 @@ gate_close_there v x (TakeSlot y ∷ rest) rows is same = first_there v x (TakeS
 gate_close_there v x (SettleEnd y ∷ rest) rows is same = first_there v x (SettleEnd y) rest rows is (eq-eqb y x same)
 gate_close_there v x _ rows is same = absurd same
 
--- ---- the words of these duties
+-- ---- what comes next
 
-module _ (u : View) (x : ℕ) (alive : u.status ≢ Gone) where
-  pub dying_kind_makes : (ds : List Duty) → u.agenda ≡ ds → LoadsDyingKind x ds
-      → MakesWithSlot u (in_tile 3 x) (λ found. found) (λ found. Takes x)
-  dying_kind_makes (SettleKind y ∷ rest) is same = record {
-    makes = record {
-      duty = SettleKind y;
-      rest = rest;
-      at = record { agenda = is; alive = alive; object = tt; index_is = ap (in_tile 3) (sym same) };
-      leaves = λ found suits. refl;
-    };
-    status = λ s. refl;
-    head = λ head found. refl;
-    used = λ used. refl;
-    uses = λ found. ap Takes same;
-  }
-  dying_kind_makes _ is same = absurd same
+pub dying_kind_next : (x : ℕ) (ds : List Duty) → LoadsDyingKind x ds → IsNext (SettleKind x) ds
+dying_kind_next x (SettleKind y ∷ rest) same = ap SettleKind same
+dying_kind_next x _ same = absurd same
 
-  pub dying_cell_makes : (i : ℕ) (ds : List Duty) → u.agenda ≡ ds → EmptiesCell x i ds
-      → MakesQuietly u (cell_place x i) (λ found. 0)
-  dying_cell_makes i (SettleCell y j n ∷ rest) is same = record {
-    makes = record {
-      duty = SettleCell y j n;
-      rest = rest;
-      at = record {
-        agenda = is;
-        alive = alive;
-        object = tt;
-        index_is = ap (λ (z : ℕ). cell_place z i) (sym same.0) ∙ ap (cell_place y) (sym same.1);
-      };
-      leaves = λ found suits. refl;
-    };
-    quiet = record { status = λ s. refl; head = λ head found. refl; used = λ used. refl; slots = λ found. refl };
-  }
-  dying_cell_makes i _ is same = absurd same
+pub dying_cell_next : (x i k : ℕ) (ds : List Duty) → EmptiesCell x i ds → IsNext (SettleCell x i k) ds
+dying_cell_next x i k (SettleCell y j n ∷ rest) same =
+    ap (λ (z : ℕ). SettleCell z j 0) same.0 ∙ ap (λ (l : ℕ). SettleCell x l 0) same.1
+dying_cell_next x i k _ same = absurd same
 
-  pub gate_close_makes : (word : ℕ) (ds : List Duty) → u.agenda ≡ ds → ClosesRow x ds → word ≡ closed_word
-      → MakesWithSlot (slot_emptied_by ds u) (in_tile 2 x) (λ found. word) (λ found. Gives x)
-  gate_close_makes word (TakeSlot y ∷ rest) is same closed = record {
-    makes = record {
-      duty = SettleEnd y;
-      rest = rest;
-      at = record { agenda = refl; alive = alive; object = tt; index_is = ap (in_tile 2) (sym same) };
-      leaves = λ found suits. closed;
-    };
-    status = λ s. refl;
-    head = λ head found. refl;
-    used = λ used. refl;
-    uses = λ found. ap Gives same;
-  }
-  gate_close_makes word (SettleEnd y ∷ rest) is same closed = record {
-    makes = record {
-      duty = SettleEnd y;
-      rest = rest;
-      at = record { agenda = is; alive = alive; object = tt; index_is = ap (in_tile 2) (sym same) };
-      leaves = λ found suits. closed;
-    };
-    status = λ s. refl;
-    head = λ head found. refl;
-    used = λ used. refl;
-    uses = λ found. ap Gives same;
-  }
-  gate_close_makes word _ is same closed = absurd same
+pub gate_close_next : (v : View) (x : ℕ) (ds : List Duty) → v.agenda ≡ ds → ClosesRow x ds
+    → IsNext (SettleEnd x) (slot_emptied_by ds v).agenda
+gate_close_next v x (TakeSlot y ∷ rest) is same = ap SettleEnd same
+gate_close_next v x (SettleEnd y ∷ rest) is same = subst (IsNext (SettleEnd x)) (sym is) (ap SettleEnd same)
+gate_close_next v x _ is same = absurd same
 
 -- Nothing is due in the slot of an object that is closed.
 pub close_due : (v : View) (x : ℕ) (ds : List Duty) → v.agenda ≡ ds → ClosesRow x ds

@@ -1,28 +1,25 @@
 -- The duties of a hand that claims a mark of its block, or leaves: where their words are, and how the hand begins.
-use Rattle.std.proofs.Common.{◌≡◌, ◌≢◌, ℕ, zero, suc, ◌+◌, ◌*◌, ◌<◌, ◌≤◌, Bool, cond, List, [], ◌∷◌, set, inl, inr, refl, sym, ap, ◌∙◌, subst, arith}
+use Rattle.std.proofs.Common.{◌≡◌, ℕ, zero, suc, ◌+◌, ◌*◌, ◌<◌, ◌≤◌, Bool, cond, List, [], ◌∷◌, set, inl, inr, refl, sym, ap, ◌∙◌, subst, arith}
 use Rattle.std.specs.Prelude.{◌==◌, count_by}
 use Rattle.std.proofs.Math.Nat.{mul-le-mul_right}
 use Rattle.std.proofs.lemmas.Bool.{cases_Bool, lt-ltb}
 use Rattle.brc_model.specs.declared.duty.Holding.TheVariants.{ByVariable, AsCaller, InFlight}
 use Rattle.brc_model.specs.declared.duty.Duty.{Duty}
 use Rattle.brc_model.specs.declared.duty.Duty.TheVariants.{ClaimMark, Leave, Scan, Finish}
-use Rattle.brc_model.specs.declared.actor.Status.TheVariants.{Gone}
 use Rattle.brc_model.specs.declared.layout.Layout.{Layout}
 use Rattle.brc_model.specs.Layout.{front_rows, worker_rows, block_of, block_size, row_at, row_count, is_immortal_row}
 use Rattle.brc_model.specs.Accounts.{HoldsNone}
 use Rattle.brc_model.specs.CountingLaws.{DutiesAreKept, ReleasesBegin, ClaimsBegin, ExitsBegin}
 use Rattle.brc_table.specs.declared.view.View.{View}
-use Rattle.brc_table.specs.Places.{in_tile}
 use Rattle.brc_table.specs.Views.{actor_of, RowsAreThere, claiming, leaving}
-use Rattle.brc_table.specs.Begins.{Passes, Becomes, MakesQuietly, StoresThreadWord}
+use Rattle.brc_table.specs.Accesses.{IsNext}
+use Rattle.brc_table.specs.Begins.{Passes, Becomes}
 use Rattle.brc_table.specs.Hands.{MayWait}
 use Rattle.brc_model.specs.Machine.{Machine}
 use Rattle.brc_table.specs.Calls.{IsFree, MayLeave, ScansRow, Finishes}
-use Rattle.brc_table.specs.Plays.{overwritten_by}
 use Rattle.brc_table.proofs.Passing.{passes_on, waiting_keeps}
 use Rattle.brc_table.proofs.Becoming.{rearranged}
 use Rattle.brc_table.proofs.FreeDropped.{HasJust, drops_all, plain_immortal}
-use Rattle.brc_table.proofs.Duties.{runs_on}
 use mathlib.Core.Option.{some}
 use lib.ListN.{get_elem?}
 
@@ -40,17 +37,6 @@ claiming_becomes law layout v x free own there = record {
       (subst (λ (l : Layout). block_of l x ≡ v.thread) told own)
       (subst (λ (l : Layout). x < row_count l) told there));
   slots = waiting_keeps v (claiming v x) (subst MayWait (sym free.agenda) tt) (refl, (λ y locks. refl), refl);
-}
-
-pub claim_makes : (v : View) (x : ℕ) → IsFree v → MakesQuietly (claiming v x) (in_tile 4 x) (λ found. 0)
-claim_makes v x free = record {
-  makes = record {
-    duty = ClaimMark x;
-    rest = [];
-    at = record { agenda = refl; alive = runs_on v free.running; object = tt; index_is = refl };
-    leaves = λ found suits. refl;
-  };
-  quiet = record { status = λ s. refl; head = λ head found. refl; used = λ used. refl; slots = λ found. refl };
 }
 
 -- ---- the beginning of an exit
@@ -93,68 +79,24 @@ leaving_becomes kept release law layout v may = record {
   slots = waiting_keeps v (leaving v) (subst MayWait (sym may.free.agenda) tt) (refl, (λ y locks. refl), refl);
 }
 
-pub leave_stores : (v : View) → MayLeave v → StoresThreadWord (leaving v) v.thread 2
-leave_stores v may = record {
-  makes = record {
-    duty = Leave 0 v.used;
-    rest = [];
-    agenda = refl;
-    alive = runs_on v may.free.running;
-    address = refl;
-    leaves = λ found. refl;
-  };
-  some = omega arith;
-  knows = λ found over. over;
-}
-
 -- ---- the end of an exit
 
-pub gone_stores : (v : View) (ds : List Duty) → v.agenda ≡ ds → v.status ≢ Gone → Finishes ds
-    → StoresThreadWord v v.thread 3
-gone_stores v (Finish ∷ []) is alive same = record {
-  makes = record {
-    duty = Finish;
-    rest = [];
-    agenda = is;
-    alive = alive;
-    address = refl;
-    leaves = λ found. refl;
-  };
-  some = omega arith;
-  knows = λ found over. over ∙ sym (ap (overwritten_by v.thread) is);
-}
-gone_stores v _ is alive same = absurd same
-
-pub gone_overwrites : (t : ℕ) (ds : List Duty) → Finishes ds → overwritten_by t ds ≡ 2
-gone_overwrites t (Finish ∷ []) same = refl
-gone_overwrites t _ same = absurd same
+pub finish_next : (ds : List Duty) → Finishes ds → IsNext Finish ds
+finish_next (Finish ∷ []) same = refl
+finish_next _ same = absurd same
 
 -- ---- the scan
 
-pub scan_makes : (u : View) (i : ℕ) → u.status ≢ Gone → (ds : List Duty) → u.agenda ≡ ds → ScansRow i ds
-    → MakesQuietly u (in_tile 4 (row_at u.layout u.thread i)) (λ found. 0)
-scan_makes u i alive (Scan j n ∷ rest) is same = record {
-  makes = record {
-    duty = Scan j n;
-    rest = rest;
-    at = record {
-      agenda = is;
-      alive = alive;
-      object = tt;
-      index_is = ap (λ (k : ℕ). in_tile 4 (row_at u.layout u.thread k)) (sym same);
-    };
-    leaves = λ found suits. refl;
-  };
-  quiet = record { status = λ s. refl; head = λ head found. refl; used = λ used. refl; slots = λ found. refl };
-}
-scan_makes u i alive _ is same = absurd same
+pub scan_next : (i n : ℕ) (ds : List Duty) → ScansRow i ds → IsNext (Scan i n) ds
+scan_next i n (Scan j k ∷ rest) same = ap (λ (l : ℕ). Scan l 0) same
+scan_next i n _ same = absurd same
 
 -- Main's rows in front are at their own numbers.
 pub front_is : (layout : Layout) (i : ℕ) → i < front_rows → row_at layout 0 i ≡ i
 front_is layout i low =
     ap (λ (b : Bool). cond b i (worker_rows layout + i)) (lt-ltb i front_rows low)
 
-low_row : (layout : Layout) (t i : ℕ) → t ≤ layout.workers → layout.immortal_lists ≡ 0 → i < block_size layout t
+pub low_row : (layout : Layout) (t i : ℕ) → t ≤ layout.workers → layout.immortal_lists ≡ 0 → i < block_size layout t
     → row_at layout t i < row_count layout
 low_row layout zero i there none low =
     let is : row_at layout zero i ≡ i = front_is layout i (omega (arith, low, none)) in omega (arith, is, low, none)

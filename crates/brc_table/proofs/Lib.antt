@@ -20,7 +20,6 @@ mod AtHand
 mod Becoming
 mod Silent
 mod Duties
-mod MarkDuties
 mod KindLoads
 mod Locking
 mod LockedSlots

@@ -1,24 +1,19 @@
 -- A hand locks an object, unlocks it, or loads a cell of it.
 use Rattle.std.proofs.Common.{◌≡◌, ℕ, ◌+◌, ◌<◌, [], ◌∷◌, None, Some, refl, sym, ◌∙◌, subst, arith, inl, inr}
 use Rattle.std.proofs.lemmas.Bool.{cases_lt}
-use Rattle.brc_word.specs.Words.{free_word}
 use Rattle.brc_model.specs.declared.duty.Duty.TheVariants.{LockGate, UnlockGate, CellLoad}
-use Rattle.brc_model.specs.declared.actor.Status.TheVariants.{Running}
 use Rattle.brc_model.specs.declared.layout.Layout.{Layout}
 use Rattle.brc_model.specs.Layout.{IsCounted}
 use Rattle.brc_model.specs.Limits.{cell_limit}
 use Rattle.brc_model.specs.Duties.{cells_of}
 use Rattle.brc_model.specs.CountingLaws.{WorkIsPutAside, LocksBegin, UnlocksBegin, CellLoadsBegin, ImmortalsAreFree}
 use Rattle.brc_table.specs.declared.view.View.{View}
-use Rattle.brc_table.specs.Places.{in_tile, cell_place}
 use Rattle.brc_table.specs.Views.{RowsAreThere, actor_of, open_work, locking, unlocking, loading_cell}
 use Rattle.brc_table.specs.Seen.{KnowsCell}
 use Rattle.brc_table.specs.Hands.{HoldsOne, MayLoad, HasNoWork, HasNoRetain, IsRunning}
-use Rattle.brc_table.specs.Begins.{Becomes, MakesQuietly, StoresWithSlot}
-use Rattle.brc_model.specs.SlotLaws.{Gives}
+use Rattle.brc_table.specs.Begins.{Becomes}
 use Rattle.brc_table.proofs.AtHand.{rested, is_ready, alone, has_one, with_one}
 use Rattle.brc_table.proofs.Becoming.{then_begins, rearranged, rearranged_with}
-use Rattle.brc_table.proofs.Duties.{runs_on}
 
 -- A hand begins to lock an object that it holds.
 pub locking_becomes : WorkIsPutAside → LocksBegin → ImmortalsAreFree → (layout : Layout) (v : View) (x n : ℕ)
@@ -93,34 +88,6 @@ loading_becomes put law free layout v x i running none (inr first) knows =
     (law s.accounts (1 + s.machine.layout.workers) s.machine v.thread (actor_of (rested v)) x i s.counts
     (is_ready layout words views id v s here running.0) (alone v x none) (inr (omega (arith, first)))
     (subst (λ (w : ℕ). i < cells_of w) (sym kind) knows.low)))
-
--- ---- the steps
-
--- Its first duty then is to store the object's gate, or to load the cell.
-pub unlocking_stores : (v : View) (x : ℕ) → v.status ≡ Running
-    → StoresWithSlot (unlocking v x) (in_tile 2 x) free_word (Gives x)
-unlocking_stores v x runs = record {
-  makes = record {
-    duty = UnlockGate x;
-    rest = [];
-    at = record { agenda = refl; alive = runs_on v runs; object = tt; index_is = refl };
-    leaves = λ found suits. refl;
-  };
-  knows = λ found over. over;
-  uses = λ found. refl;
-}
-
-pub loading_makes : (v : View) (x i : ℕ) → v.status ≡ Running
-    → MakesQuietly (loading_cell v x i) (cell_place x i) (λ found. found)
-loading_makes v x i runs = record {
-  makes = record {
-    duty = CellLoad x i;
-    rest = [];
-    at = record { agenda = refl; alive = runs_on v runs; object = tt; index_is = refl };
-    leaves = λ found suits. refl;
-  };
-  quiet = record { status = λ s. refl; head = λ head found. refl; used = λ used. refl; slots = λ found. refl };
-}
 
 -- A list's cell is one of those that a list may have.
 pub known_low : (v : View) (x i : ℕ) → RowsAreThere v → KnowsCell v x i → i < cell_limit

@@ -1,92 +1,103 @@
 -- The duty that comes next: where its word is, and what its step leaves of the thread.
-use Rattle.std.proofs.Common.{◌≡◌, ℕ, zero, suc, ◌+◌, ◌-◌, ◌<◌, ◌^◌, true, List, [], ◌∷◌, refl, sym, ap, ◌∙◌, subst, arith}
-use Rattle.std.proofs.lemmas.Bool.{eq-eqb}
+use Rattle.std.proofs.Common.{◌≡◌, ℕ, zero, suc, ◌+◌, ◌-◌, ◌<◌, ◌^◌, ◌⊎◌, Bool, true, List, [], ◌∷◌, inl, inr, refl, sym, ap, ◌∙◌, subst, arith, cond}
+use Rattle.std.proofs.lemmas.Bool.{eq-eqb, ne_eqb}
 use Rattle.brc_model.specs.declared.duty.Duty.{Duty}
 use Rattle.brc_model.specs.declared.duty.Duty.TheVariants.{Look, Die, Settle, SettleCell, TakeSlot, CloseResource, Leave, Scan, Finish, BirthSlot, LockGate, CellLoad, CellSwap, LendSlot, ReturnSlot}
-use Rattle.brc_model.specs.declared.actor.Status.{Status}
 use Rattle.brc_model.specs.declared.layout.Layout.{Layout}
 use Rattle.brc_model.specs.Counting.{IsPlainLayout}
 use Rattle.brc_model.specs.Duties.{address_of, new_head}
-use Rattle.brc_model.specs.Layout.{block_size, row_count}
+use Rattle.brc_model.specs.Layout.{block_of, block_size, row_count}
+use Rattle.brc_model.specs.Within.{IsThere, Suits}
+use Rattle.brc_model.specs.declared.address.Address.{Address}
+use Rattle.brc_model.specs.declared.address.Address.TheVariants.{Cell, Slot, Resource, ThreadWord}
 use Rattle.brc_model.specs.Machine.{status_by, used_by}
 use Rattle.brc_model.specs.OpenWork.{is_about}
 use Rattle.brc_model.specs.SlotLaws.{SlotUse, use_of}
 use Rattle.brc_model.specs.Stores.{Overwrites}
-use Rattle.brc_table.specs.declared.access.Access.{Access}
-use Rattle.brc_table.specs.declared.access.Access.TheVariants.{Store}
+use Rattle.brc_effect.specs.declared.access.Access.{Access}
+use Rattle.brc_effect.specs.declared.access.Access.TheVariants.{Store}
 use Rattle.brc_table.specs.declared.view.View.{View}
-use Rattle.brc_table.specs.Accesses.{HasAccess, HasCell, HasNextRow, IfStored, IsNext, row_of}
-use Rattle.brc_table.specs.DutySteps.{OverwritesFirst}
-use Rattle.brc_table.specs.Places.{HasWord, IsObjectWord}
+use Rattle.brc_effect.specs.Accesses.{IfStored}
+use Rattle.brc_effect.specs.Effects.{IsIndexed}
+use Rattle.brc_effect.proofs.Indices.{indexed}
+use Rattle.brc_table.specs.Accesses.{HasAccess, HasCell, HasChain, HasNextRow, HasUsedRow, IsNext, row_of}
+use Rattle.brc_table.specs.DutySteps.{OverwritesFirst, said}
+use Rattle.brc_table.specs.Rule.{reading}
+use Rattle.brc_table.specs.Places.{HasWord, IsObjectWord, IsTableWord}
 use Rattle.brc_table.specs.Plays.{overwritten, overwritten_by}
 use Rattle.brc_table.specs.Uses.{first_use, first_due, held_after}
 use Rattle.brc_table.specs.Views.{RowsAreThere, did, done, work_about}
 use Rattle.brc_table.proofs.Bare.{IsLike, alike}
-use Rattle.brc_table.proofs.Duties.{first_there, work_there}
+use Rattle.brc_table.proofs.Duties.{first_there, rows_few, work_there}
+use Rattle.brc_table.proofs.ExitDuties.{own_row_there}
+use Rattle.brc_table.proofs.ThreadWords.{block_there}
+use Rattle.brc_table.proofs.ThreadsAllowed.{IsOnThread}
 
 -- ---- duties with an operation
 
--- Their word is an object's.
-pub object_of : (layout : Layout) (t head : ℕ) (d : Duty) → HasAccess d → IsObjectWord (address_of layout t head d)
-object_of layout t head (Look x) has = absurd has
-object_of layout t head (TakeSlot x) has = absurd has
-object_of layout t head (CloseResource x) has = absurd has
-object_of layout t head (Leave i n) has = absurd has
-object_of layout t head Finish has = absurd has
-object_of layout t head (BirthSlot x h) has = absurd has
-object_of layout t head (LendSlot x) has = absurd has
-object_of layout t head (ReturnSlot x) has = absurd has
-object_of layout t head _ has = tt
+-- Their word is an object's, or a thread's.
+pub word_of : (layout : Layout) (t head : ℕ) (d : Duty) → HasAccess d
+    → IsObjectWord (address_of layout t head d)
+    ⊎ (IsOnThread layout t head d × ((running : Bool) (n found : ℕ) → Suits t running n d found))
+word_of layout t head (Look x) has = inr (
+  record { thread = block_of layout x; address = refl; says = λ found. refl; kind = inl (λ found. refl) },
+  λ running n found. tt,
+)
+word_of layout t head (Leave i n) has = inr (
+  record { thread = t; address = refl; says = λ found. refl; kind = inr (refl, λ found. omega arith) },
+  λ running n found. tt,
+)
+word_of layout t head Finish has = inr (
+  record { thread = t; address = refl; says = λ found. refl; kind = inr (refl, λ found. omega arith) },
+  λ running n found. tt,
+)
+word_of layout t head (TakeSlot x) has = absurd has
+word_of layout t head (CloseResource x) has = absurd has
+word_of layout t head (BirthSlot x h) has = absurd has
+word_of layout t head (LendSlot x) has = absurd has
+word_of layout t head (ReturnSlot x) has = absurd has
+word_of layout t head _ has = inl tt
+
+pub table_word_of : (layout : Layout) (t head : ℕ) (d : Duty) → HasAccess d
+    → IsTableWord (address_of layout t head d)
+table_word_of layout t head (TakeSlot x) has = absurd has
+table_word_of layout t head (CloseResource x) has = absurd has
+table_word_of layout t head (BirthSlot x h) has = absurd has
+table_word_of layout t head (LendSlot x) has = absurd has
+table_word_of layout t head (ReturnSlot x) has = absurd has
+table_word_of layout t head _ has = tt
 
 -- Their word is there, if their row is.
-pub word_of : (layout : Layout) (t head : ℕ) (d : Duty) → HasAccess d → HasCell d → row_of d < row_count layout
-    → HasWord layout (address_of layout t head d)
-word_of layout t head (SettleCell x i n) has cell there = (there, cell)
-word_of layout t head (CellLoad x i) has cell there = (there, cell)
-word_of layout t head (Look x) has cell there = absurd has
-word_of layout t head Settle has cell there = absurd has
-word_of layout t head (TakeSlot x) has cell there = absurd has
-word_of layout t head (CloseResource x) has cell there = absurd has
-word_of layout t head (Leave i n) has cell there = absurd has
-word_of layout t head (Scan i n) has cell there = absurd has
-word_of layout t head Finish has cell there = absurd has
-word_of layout t head (BirthSlot x h) has cell there = absurd has
-word_of layout t head (LockGate x) has cell there = absurd has
-word_of layout t head (CellSwap x i y h) has cell there = absurd has
-word_of layout t head (LendSlot x) has cell there = absurd has
-word_of layout t head (ReturnSlot x) has cell there = absurd has
-word_of layout t head _ has cell there = there
+pub word_there : (v : View) (d : Duty) → IsPlainLayout v.layout → RowsAreThere v → HasAccess d → HasCell d
+    → HasChain d v.head → HasUsedRow d v.used → (is_about (row_of d) d ≡ true → row_of d < row_count v.layout)
+    → HasWord v.layout (address_of v.layout v.thread v.head d)
+word_there v (Look x) plain rows has cell chain used row =
+    let low = block_there v.layout x plain in omega (arith, low)
+word_there v (Leave i n) plain rows has cell chain used row = omega (arith, rows.thread)
+word_there v Finish plain rows has cell chain used row = omega (arith, rows.thread)
+word_there v Settle plain rows has cell chain used row = omega (arith, rows.head, chain)
+word_there v (Scan i n) plain rows has cell chain used row = own_row_there v i rows plain.immortals used
+word_there v (SettleCell x i n) plain rows has cell chain used row = (row (eq-eqb x x refl), cell)
+word_there v (CellLoad x i) plain rows has cell chain used row = (row (eq-eqb x x refl), cell)
+word_there v (TakeSlot x) plain rows has cell chain used row = absurd has
+word_there v (CloseResource x) plain rows has cell chain used row = absurd has
+word_there v (BirthSlot x h) plain rows has cell chain used row = absurd has
+word_there v (LockGate x) plain rows has cell chain used row = absurd has
+word_there v (CellSwap x i y h) plain rows has cell chain used row = absurd has
+word_there v (LendSlot x) plain rows has cell chain used row = absurd has
+word_there v (ReturnSlot x) plain rows has cell chain used row = absurd has
+word_there v d plain rows has cell chain used row = row (eq-eqb (row_of d) (row_of d) refl)
 
 -- What they do with slots doesn't depend on what they find.
 pub use_same : (d : Duty) → HasAccess d → (found : ℕ) → use_of d found ≡ use_of d 0
 use_same (LockGate x) has found = absurd has
 use_same _ has found = refl
 
--- The thread's status stays.
-status_same : (d : Duty) → HasAccess d → (s : Status) → status_by s d ≡ s
-status_same (Leave i n) has s = absurd has
-status_same Finish has s = absurd has
-status_same _ has s = refl
-
--- They are about their row.
-about_row : (d : Duty) → HasAccess d → is_about (row_of d) d ≡ true
-about_row (Look x) has = absurd has
-about_row Settle has = absurd has
-about_row (TakeSlot x) has = absurd has
-about_row (CloseResource x) has = absurd has
-about_row (Leave i n) has = absurd has
-about_row (Scan i n) has = absurd has
-about_row Finish has = absurd has
-about_row (BirthSlot x h) has = absurd has
-about_row (LockGate x) has = absurd has
-about_row (CellSwap x i y h) has = absurd has
-about_row (LendSlot x) has = absurd has
-about_row (ReturnSlot x) has = absurd has
-about_row d has = eq-eqb (row_of d) (row_of d) refl
-
-pub next_row_low : (d : Duty) → row_of d + 1 < 2 ^ 32 → HasNextRow d
-next_row_low (Die x) low = low
-next_row_low _ low = tt
+-- If the duty chains a row that is there, the row plus 1 is a number of 32 bits.
+pub next_row_low : (layout : Layout) (t head : ℕ) (d : Duty) → IsPlainLayout layout
+    → HasWord layout (address_of layout t head d) → HasNextRow d
+next_row_low layout t head (Die x) plain there = omega (arith, rows_few layout plain, there)
+next_row_low layout t head _ plain there = tt
 
 -- A thread has room for its numbers.
 pub block_few : (layout : Layout) (t : ℕ) → IsPlainLayout layout → block_size layout t < 2 ^ 32 - 1
@@ -111,11 +122,10 @@ module _ (u : View) (d : Duty) (next : IsNext d u.agenda) (has : HasAccess d) wh
   abbrev c : Coming d u.agenda
   c = coming d u.agenda next
 
-  about : is_about (row_of d) c.first ≡ true
-  about = subst (λ (x : ℕ). is_about x c.first ≡ true) c.like.row (about_row c.first (c.back.has has))
-
-  pub next_there : RowsAreThere u → row_of d < row_count u.layout
-  next_there rows = first_there u (row_of d) c.first c.rest rows c.is about
+  -- The row that the duty names is there.
+  pub next_there : RowsAreThere u → is_about (row_of d) d ≡ true → row_of d < row_count u.layout
+  next_there rows this =
+      first_there u (row_of d) c.first c.rest rows c.is (c.like.about (row_of d) ∙ this)
 
   -- The operation overwrites what the hand knows.
   pub before_next : (a : Access) → IfStored a (λ b. b ≡ overwritten_by u.thread (d ∷ []))
@@ -124,6 +134,19 @@ module _ (u : View) (d : Duty) (next : IsNext d u.agenda) (has : HasAccess d) wh
       before ∙ (sym (c.like.before u.thread c.rest [])
       ∙ sym (ap (overwritten_by u.thread) c.is))
   before_next _ before = tt
+
+  -- What its word says.
+  pub said_next : (word : ℕ)
+      → said u u.agenda word ≡ reading (address_of u.layout u.thread u.head d) word
+  said_next word =
+      ap (λ (ds : List Duty). said u ds word) c.is
+      ∙ ap (λ (a : Address). reading a word) (c.like.address u.layout u.thread u.head)
+
+  pub says_next : (a : Access)
+      → IfStored a (λ b. reading (address_of u.layout u.thread u.head d) b ≡ b)
+      → IfStored a (λ b. said u u.agenda b ≡ b)
+  says_next (Store word b) says = said_next b ∙ says
+  says_next _ says = tt
 
   pub overwrites_next : (found : ℕ) → OverwritesFirst u.thread u.agenda found → Overwrites u.thread d found
   overwrites_next found first =
@@ -144,10 +167,8 @@ module _ (u : View) (d : Duty) (next : IsNext d u.agenda) (has : HasAccess d) wh
       ∙ ap (held_after slots (use_of d 0)) (c.like.due c.rest [] found))
 
   -- What the step leaves of the thread.
-  pub status_next : (found : ℕ) → (done u found).status ≡ u.status
-  status_next found =
-      ap (λ (ds : List Duty). (did u ds found).status) c.is
-      ∙ (c.like.status u.status ∙ status_same d has u.status)
+  pub status_next : (found : ℕ) → (done u found).status ≡ status_by u.status d
+  status_next found = ap (λ (ds : List Duty). (did u ds found).status) c.is ∙ c.like.status u.status
 
   pub head_next : (found : ℕ) → (done u found).head ≡ new_head u.head d found
   head_next found = ap (λ (ds : List Duty). (did u ds found).head) c.is ∙ c.like.head u.head found
@@ -169,3 +190,31 @@ pub work_row_there : (v : View) (x : ℕ) (d : Duty) → RowsAreThere v → IsNe
     → x < row_count v.layout
 work_row_there v x d rows next =
     let c = coming d (work_about x v) next in work_there v x c.first c.rest rows c.is
+
+-- A word of an object says what it is, and so does one of a thread that is started.
+says_itself : (a : Address) (before : ℕ) → ((t : ℕ) → a ≡ ThreadWord t → 0 < before) → reading a before ≡ before
+says_itself (ThreadWord t) before started =
+    ap (λ (b : Bool). cond b 1 before) (ne_eqb before 0 (λ same. omega (arith, started t refl, same)))
+says_itself _ before started = refl
+
+-- A store knows what its word says.
+pub stored_says : (layout : Layout) (t head : ℕ) (d : Duty) (access : Access)
+    → ((l : Layout) (at : ℕ) → IfStored access (λ b. address_of l t head d ≡ ThreadWord at → 0 < b))
+    → IfStored access (λ b. reading (address_of layout t head d) b ≡ b)
+stored_says layout t head d (Store word b) started =
+    says_itself (address_of layout t head d) b (λ at is. started layout at is)
+stored_says layout t head d _ started = tt
+
+-- The address of a word of the table is there in the model.
+in_table : (layout : Layout) (a : Address) → HasWord layout a → IsThere (row_count layout) (1 + layout.workers) a
+in_table layout (Slot x) there = absurd there
+in_table layout (Resource x) there = absurd there
+in_table layout (Cell x i) there = there
+in_table layout _ there = there
+
+-- The index that the duty names is small, if its word is there.
+pub index_small : (layout : Layout) (t head : ℕ) (d : Duty) → IsPlainLayout layout
+    → HasWord layout (address_of layout t head d) → IsIndexed d
+index_small layout t head d plain there =
+    indexed layout t head (row_count layout) (1 + layout.workers) d (omega (arith, rows_few layout plain))
+    (in_table layout (address_of layout t head d) there)

@@ -1,5 +1,5 @@
 -- The step of a duty that has an operation is allowed, whatever it does with slots.
-use Rattle.std.proofs.Common.{◌≡◌, ◌≢◌, ℕ, Bool, Option, List, [], ◌∷◌, refl, sym, ap, ◌∙◌, subst}
+use Rattle.std.proofs.Common.{◌≡◌, ◌≢◌, ℕ, ◌<◌, Bool, Option, List, [], ◌∷◌, inl, inr, refl, sym, ap, ◌∙◌, subst}
 use Rattle.atomic_table.specs.Table.{State, Me, Allows}
 use Rattle.brc_model.specs.declared.duty.Duty.{Duty}
 use Rattle.brc_model.specs.declared.duty.Duty.TheVariants.{MergeExchange, KindLoad, CellLoad}
@@ -14,19 +14,22 @@ use Rattle.brc_model.specs.GuardLaws.{GuardedCellsStay}
 use Rattle.brc_model.specs.SlotLaws.{SlotUse, Stays, Takes, Gives, use_of, GivenSlotsAreUnlocked, SlotsAreFree, SlotsAreKnown}
 use Rattle.brc_model.specs.Within.{Suits}
 use Rattle.brc_table.specs.declared.view.View.{View}
-use Rattle.brc_table.specs.Views.{did, taken_after}
-use Rattle.brc_table.specs.Places.{place, IsObjectWord}
+use Rattle.brc_table.specs.Rule.{thread_reading}
+use Rattle.brc_table.specs.Views.{RowsAreThere, did, taken_after}
+use Rattle.brc_table.specs.Places.{place, IsObjectWord, IsTableWord}
 use Rattle.brc_table.specs.Hands.{TableState, HandState}
 use Rattle.brc_table.specs.Homes.{rows_of, held_in, TableStands}
 use Rattle.brc_table.specs.Begins.{Becomes, IsAt}
 use Rattle.brc_table.specs.Uses.{IsDue, first_use, first_due, held_after, Uses}
 use Rattle.brc_table.specs.Plays.{SuitsFirst, FirstFindsOwner, FindsKnown}
 use Rattle.brc_table.specs.Accesses.{HasAccess, IsNext}
-use Rattle.brc_table.specs.DutySteps.{DueSlot, OverwritesFirst, Steps}
+use Rattle.brc_table.specs.DutySteps.{DueSlot, OverwritesFirst, Steps, StepsBy, said}
 use Rattle.brc_table.proofs.Stepping.{read_of}
 use Rattle.brc_table.proofs.Allowed as allowed
-use Rattle.brc_table.proofs.Allowed.{Knows, Learns, Seen, object_next}
-use Rattle.brc_table.proofs.NextDuty.{coming, object_of, use_same}
+use Rattle.brc_table.proofs.Allowed.{IsNextAt, Knows, Seen}
+use Rattle.brc_table.proofs.Bare.{IsLike}
+use Rattle.brc_table.proofs.ThreadsAllowed.{thread_leaves}
+use Rattle.brc_table.proofs.NextDuty.{coming, table_word_of, use_same, word_of}
 use Rattle.brc_table.proofs.SlotsTaken as taken
 use Rattle.brc_table.proofs.SlotsGiven as given
 
@@ -45,70 +48,97 @@ module _ (kept : DutiesAreKept) (within : DutiesAreWithin) (law : AccountsAreThe
   abbrev u : View
   u = begins me.0
 
-  becoming : Becomes layout me.0 u
+  pub becoming : Becomes layout me.0 u
   becoming =
       allowed.becomes_here kept within law chains stay live words hand begins layout slots id index me seen becomes
 
-  module _ (d : Duty) (rest : List Duty) (is_at : IsAt u d rest index) (f : ℕ → ℕ)
-      (leaves : (found : ℕ) → Suits u.thread (is_running u.status) (row_count u.layout) d found
-      → f found ≡ new_word u.thread u.head d found) where
+  module _ (d : Duty) (rest : List Duty) (next : IsNextAt u d rest index) (f : ℕ → ℕ)
+      (leaves : allowed.Leaves kept within law chains stay live layout me.0 u d rest index becoming next f) where
     -- What the hand learns, beside what becomes of its slots.
     learns : (found : ℕ) (after : Me (Option T) View) → Knows u d found → Uses begins me found after
         → Steps begins me found after
     learns found after known uses = (
       uses,
-      subst (λ (ds : List Duty). SuitsFirst u ds found) (sym is_at.agenda) known.suits,
-      subst (λ (ds : List Duty). FirstFindsOwner u ds found) (sym is_at.agenda) known.owner,
-      subst (λ (ds : List Duty). FindsKnown u ds found) (sym is_at.agenda) (behind_known u d rest found known.finds),
-      subst (λ (ds : List Duty). OverwritesFirst u.thread ds found) (sym is_at.agenda) known.overwrites,
+      subst (λ (ds : List Duty). SuitsFirst u ds found) (sym next.agenda) known.suits,
+      subst (λ (ds : List Duty). FirstFindsOwner u ds found) (sym next.agenda) known.owner,
+      subst (λ (ds : List Duty). FindsKnown u ds found) (sym next.agenda) (behind_known u d rest found known.finds),
+      subst (λ (ds : List Duty). OverwritesFirst u.thread ds found) (sym next.agenda) known.overwrites,
     )
 
-    itself : (word : ℕ) → read_of u d word ≡ word
-    itself word =
-        allowed.itself kept within law chains stay live layout me.0 u d rest index becoming is_at word
-
-    learns_read : (found : ℕ) (after : Me (Option T) View) → Knows u d (read_of u d found)
-        → Uses begins me (read_of u d found) after → Steps begins me found after
-    learns_read found after known uses =
-        learns found after (subst (Knows u d) (itself found) known)
-        (subst (λ (k : ℕ). Uses begins me k after) (itself found) uses)
-
-    leaves_word : allowed.Leaves kept within law chains stay live layout me.0 u d rest index becoming
-        (object_next u d rest index is_at) f
-    leaves_word =
-        allowed.object_leaves kept within law chains stay live layout me.0 u d rest index becoming is_at f
-        (λ found known. leaves found known.suits)
+    -- The hand goes on with what the word says.
+    goes_on : (word : ℕ) (after : Me (Option T) View) → Knows u d (read_of u d word)
+        → Uses begins me (read_of u d word) after → StepsBy begins me word after
+    goes_on word after known uses =
+        subst (λ (ds : List Duty). Steps begins me (said u ds word) after) (sym next.agenda)
+        (learns (read_of u d word) after known uses)
 
     -- A duty that takes no slot and gives none back uses none.
-    uses_none : ((found : ℕ) → use_of d found ≡ Stays) → (found : ℕ) → Learns u d rest found
+    uses_none : ((found : ℕ) → use_of d found ≡ Stays) → (found : ℕ) → RowsAreThere (did u (d ∷ rest) found)
         → Uses begins me found (did u (d ∷ rest) found, me.1)
-    uses_none stays found learned = (
-      ap (λ (ds : List Duty). did u ds found) (sym is_at.agenda),
-      learned.there,
+    uses_none stays found rows = (
+      ap (λ (ds : List Duty). did u ds found) (sym next.agenda),
+      rows,
       λ follows.
           follows ∙ (sym becoming.slots.taken ∙ sym (ap (taken_after u.taken) (stays found))),
       sym (ap (λ (s : SlotUse). held_after (held_in me.1) s (first_due (d ∷ rest) found)) (stays found))
           ∙ ap (λ (ds : List Duty). held_after (held_in me.1) (first_use ds found) (first_due ds found))
-          (sym is_at.agenda),
+          (sym next.agenda),
     )
 
     pub permitted : SlotsAreFree → SlotsAreKnown → GivenSlotsAreUnlocked → rows_of me.1 ≡ me.0.taken → (s : SlotUse)
         → ((found : ℕ) → use_of d found ≡ s) → DueSlot s (held_in me.1) u
         → Allows (λ (s : State (Option T) View). TableStands layout s.words s.homes s.views) slots id me index f
-        (Steps begins me)
+        (StepsBy begins me)
     permitted free known unlocked rows Stays all due =
-        allowed.object_allows kept within law chains stay live layout me.0 u d rest index becoming is_at slots id me f
-        (Steps begins me) refl all (λ found knows. leaves found knows.suits)
-        (λ found learned.
-        learns found (did u (d ∷ rest) found, me.1) learned.known (uses_none all found learned))
+        allowed.allows kept within law chains stay live layout me.0 u d rest index becoming next slots id me f
+        (StepsBy begins me) refl all leaves
+        (λ word knows there.
+        goes_on word (did u (d ∷ rest) (read_of u d word), me.1) knows (uses_none all (read_of u d word) there))
     permitted free known unlocked rows (Takes x) all due =
-        taken.takes_allows kept within law chains stay live free layout me.0 u d rest index becoming
-        (object_next u d rest index is_at) x slots id me f begins (Steps begins me) known refl refl all leaves_word
-        learns_read
+        taken.takes_allows kept within law chains stay live free layout me.0 u d rest index becoming next x slots id me f
+        begins (StepsBy begins me) known refl refl all leaves goes_on
     permitted free known unlocked rows (Gives x) all due =
-        given.gives_allows kept within law chains stay live unlocked known layout me.0 u d rest index becoming
-        (object_next u d rest index is_at) x slots id due.0 me f begins (Steps begins me) refl refl rows due.1
-        (subst (λ (ds : List Duty). IsDue u ds due.0) is_at.agenda due.2) all leaves_word learns_read
+        given.gives_allows kept within law chains stay live unlocked known layout me.0 u d rest index becoming next x
+        slots id due.0 me f begins (StepsBy begins me) refl refl rows due.1
+        (subst (λ (ds : List Duty). IsDue u ds due.0) next.agenda due.2) all leaves goes_on
+
+  -- The step of a duty that comes next leaves the duty's new word.
+  next_leaves : (d : Duty) → HasAccess d → (e : Duty) (rest : List Duty) (next : IsNextAt u e rest index) → IsLike e d
+      → (f : ℕ → ℕ)
+      → ((running : Bool) (n found : ℕ) → Suits u.thread running n d found
+      → f found ≡ new_word u.thread u.head d found)
+      → allowed.Leaves kept within law chains stay live layout me.0 u e rest index becoming next f
+  next_leaves d has e rest next like f leaves = elim (word_of u.layout u.thread u.head d has) [
+    | inl object ↦
+        let is_at : IsAt u e rest index = record {
+          agenda = next.agenda;
+          alive = next.alive;
+          object = subst IsObjectWord (sym (like.address u.layout u.thread u.head)) object;
+          index_is = next.index_is;
+        } in
+        allowed.object_leaves kept within law chains stay live layout me.0 u e rest index becoming is_at f
+        (λ found knows.
+        leaves (is_running u.status) (row_count u.layout) found
+        (like.suits u.thread (is_running u.status) (row_count u.layout) found knows.suits)
+        ∙ sym (like.word u.thread u.head found))
+    | inr (on, suits) ↦
+        let word = like.word u.thread u.head in
+        thread_leaves kept within law chains stay live layout me.0 u e rest index becoming next
+        (record {
+          thread = on.thread;
+          address = like.address u.layout u.thread u.head ∙ on.address;
+          says = λ found. ap thread_reading (word found) ∙ (on.says found ∙ sym (word (thread_reading found)));
+          kind = elim on.kind [
+            | inl looks ↦ inl (λ found. word found ∙ looks found)
+            | inr (own, some) ↦ inr (own, λ found. subst (λ (k : ℕ). 0 < k) (sym (word found)) (some found))
+          ];
+        })
+        f
+        (λ found.
+        leaves (is_running u.status) (row_count u.layout) found
+        (suits (is_running u.status) (row_count u.layout) found)
+        ∙ sym (word found))
+  ]
 
   -- So is that of a duty that comes next.
   pub next_permitted : SlotsAreFree → SlotsAreKnown → GivenSlotsAreUnlocked → rows_of me.1 ≡ me.0.taken → (d : Duty)
@@ -118,19 +148,15 @@ module _ (kept : DutiesAreKept) (within : DutiesAreWithin) (law : AccountsAreThe
       → f found ≡ new_word u.thread u.head d found)
       → DueSlot (use_of d 0) (held_in me.1) u
       → Allows (λ (s : State (Option T) View). TableStands layout s.words s.homes s.views) slots id me index f
-      (Steps begins me)
-  next_permitted free known unlocked rows d has next alive at f leaves due =
-      let c = coming d u.agenda next in
+      (StepsBy begins me)
+  next_permitted free known unlocked rows d has coming_next alive at f leaves due =
+      let c = coming d u.agenda coming_next in
       let address = c.like.address u.layout u.thread u.head in
-      let is_at : IsAt u c.first c.rest index = record {
+      let next : IsNextAt u c.first c.rest index = record {
         agenda = c.is;
         alive = alive;
-        object = subst IsObjectWord (sym address) (object_of u.layout u.thread u.head d has);
+        word = subst IsTableWord (sym address) (table_word_of u.layout u.thread u.head d has);
         index_is = at ∙ sym (ap place address);
       } in
-      permitted c.first c.rest is_at f
-      (λ found suits.
-      leaves (is_running u.status) (row_count u.layout) found
-      (c.like.suits u.thread (is_running u.status) (row_count u.layout) found suits)
-      ∙ sym (c.like.word u.thread u.head found)) free known unlocked rows (use_of d 0)
-      (λ found. c.like.slots found ∙ use_same d has found) due
+      permitted c.first c.rest next f (next_leaves d has c.first c.rest next c.like f leaves) free known unlocked rows
+      (use_of d 0) (λ found. c.like.slots found ∙ use_same d has found) due

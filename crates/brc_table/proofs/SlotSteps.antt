@@ -9,129 +9,30 @@ use prog.Atomic.{either}
 use Rattle.atomic_table.specs.Table.{State, keeps, takes, Me, Allows}
 use Rattle.brc_word.specs.Words.{free_word, locked_word}
 use Rattle.brc_model.specs.declared.address.Address.TheVariants.{Slot}
-use Rattle.brc_model.specs.declared.duty.Duty.{Duty}
 use Rattle.brc_model.specs.declared.duty.Duty.TheVariants.{LockGate}
 use Rattle.brc_model.specs.declared.layout.Layout.{Layout}
 use Rattle.brc_model.specs.Layout.{IsCounted}
-use Rattle.brc_model.specs.Duties.{new_word}
 use Rattle.brc_model.specs.CountingLaws.{WorkIsPutAside, LocksBegin, ImmortalsAreFree, DutiesAreKept, DutiesAreWithin, AccountsAreThere, ChainsAreThere, HandedMergesLive}
 use Rattle.brc_model.specs.GuardLaws.{GuardedCellsStay}
-use Rattle.brc_model.specs.SlotLaws.{Stays, Takes, Gives, use_of, GivenSlotsAreUnlocked, LockedSlotsAreFull, SlotsAreFree, SlotsAreKnown}
+use Rattle.brc_model.specs.SlotLaws.{Stays, Takes, use_of, LockedSlotsAreFull, SlotsAreFree}
 use Rattle.brc_table.specs.declared.view.View.{View}
 use Rattle.brc_table.specs.Views.{done, did, taken_after, locking}
 use Rattle.brc_table.specs.Seen.{has_seen_kind}
 use Rattle.brc_table.specs.Places.{in_tile}
-use Rattle.brc_table.specs.Hands.{TableState, HandState, HoldsOne, HasNoWork, IsRunning}
-use Rattle.brc_table.specs.Homes.{rows_of, held_in, TableStands}
-use Rattle.brc_table.specs.Begins.{Becomes, IsAt, MakesWithSlot, StoresWithSlot}
-use Rattle.brc_table.specs.Uses.{FirstSlot, IsDue, Uses, UsesStored, Locks}
+use Rattle.brc_table.specs.Hands.{HoldsOne, HasNoWork, IsRunning}
+use Rattle.brc_table.specs.Homes.{held_in, TableStands}
+use Rattle.brc_table.specs.Begins.{IsAt}
+use Rattle.brc_table.specs.Uses.{Locks}
 use Rattle.brc_table.proofs.Lists.{set_view}
-use Rattle.brc_table.proofs.Stepping.{read_of}
 use Rattle.brc_table.proofs.Duties.{runs_on, either_is}
 use Rattle.brc_table.proofs.Locking.{locking_becomes}
 use Rattle.brc_table.proofs.LockedSlots.{still_seen, slot_seen}
 use Rattle.brc_table.proofs.Allowed as allowed
 use Rattle.brc_table.proofs.Allowed.{Knows, IsNextAt, Seen, object_next}
 use Rattle.brc_table.proofs.SlotsTaken as taken
-use Rattle.brc_table.proofs.SlotsGiven as given
 
 module _ (kept : DutiesAreKept) (within : DutiesAreWithin) (law : AccountsAreThere) (chains : ChainsAreThere)
     (stay : GuardedCellsStay) (live : HandedMergesLive) where
-  -- ---- taking a slot, and giving one back
-
-  module _ (words : TableState) (hand : HandState) (begins : View → View) {T : Type 0} (layout : Layout)
-      (slots id index : ℕ) (me : Me (Option T) View) (seen : Seen words hand layout me)
-      (becomes : Becomes words.layout hand.view (begins hand.view)) where
-    abbrev u : View
-    u = begins me.0
-
-    becoming : Becomes layout me.0 u
-    becoming =
-        allowed.becomes_here kept within law chains stay live words hand begins layout slots id index me seen becomes
-
-    -- what a duty about an object's word leaves
-    leaves_word : (d : Duty) (rest : List Duty) (is_at : IsAt u d rest index) (f : ℕ → ℕ)
-        → ((found : ℕ) → Knows u d found → f found ≡ new_word u.thread u.head d found)
-        → allowed.Leaves kept within law chains stay live layout me.0 u d rest index becoming
-        (object_next u d rest index is_at) f
-    leaves_word d rest is_at f leaves =
-        allowed.object_leaves kept within law chains stay live layout me.0 u d rest index becoming is_at f leaves
-
-    -- an object's word says what it is
-    itself : (d : Duty) (rest : List Duty) (is_at : IsAt u d rest index) (word : ℕ) → read_of u d word ≡ word
-    itself d rest is_at word =
-        allowed.itself kept within law chains stay live layout me.0 u d rest index becoming is_at word
-
-    pub takes_allowed : SlotsAreFree → SlotsAreKnown → (x : ℕ) (f : ℕ → ℕ)
-        → MakesWithSlot (begins hand.view) index f (λ found. Takes x)
-        → Allows (λ (s : State (Option T) View). TableStands layout s.words s.homes s.views) slots id me index f
-        (λ found after. Uses begins me found after)
-    takes_allowed free known x f makes_there =
-        let with_slot : MakesWithSlot u index f (λ found. Takes x) =
-        subst (λ (v : View). MakesWithSlot (begins v) index f (λ found. Takes x)) (sym seen.view_is) makes_there in
-        let makes = with_slot.makes in
-        taken.takes_allows kept within law chains stay live free layout me.0 u makes.duty makes.rest index becoming
-        (object_next u makes.duty makes.rest index makes.at) x slots id me f begins
-        (λ found after. Uses begins me found after) known refl refl with_slot.uses
-        (leaves_word makes.duty makes.rest makes.at f (λ found knows. makes.leaves found knows.suits))
-        (λ found after knows uses.
-        subst (λ (k : ℕ). Uses begins me k after) (itself makes.duty makes.rest makes.at found) uses)
-
-    pub store_taking_allowed : SlotsAreFree → SlotsAreKnown → (x word : ℕ)
-        → StoresWithSlot (begins hand.view) index word (Takes x)
-        → Allows (λ (s : State (Option T) View). TableStands layout s.words s.homes s.views) slots id me index
-        (λ found. word) (λ found after. UsesStored begins me after)
-    store_taking_allowed free known x word stores_there =
-        let stores : StoresWithSlot u index word (Takes x) =
-        subst (λ (v : View). StoresWithSlot (begins v) index word (Takes x)) (sym seen.view_is) stores_there in
-        let makes = stores.makes in
-        taken.takes_allows kept within law chains stay live free layout me.0 u makes.duty makes.rest index becoming
-        (object_next u makes.duty makes.rest index makes.at) x slots id me (λ found. word) begins
-        (λ found after. UsesStored begins me after) known refl refl stores.uses
-        (leaves_word makes.duty makes.rest makes.at (λ found. word) (λ found knows. makes.leaves found knows.suits))
-        (λ found after knows uses.
-        subst (λ (k : ℕ). Uses begins me k after) (stores.knows (read_of u makes.duty found) knows.overwrites) uses)
-
-    -- the slot that goes back
-    module _ (unlocked : GivenSlotsAreUnlocked) (known : SlotsAreKnown) (x n : ℕ) (rows : rows_of me.1 ≡ me.0.taken)
-        (first : FirstSlot (held_in me.1) x n) (due : IsDue (begins hand.view) (begins hand.view).agenda n) where
-      due_here : (d : Duty) (rest : List Duty) → u.agenda ≡ d ∷ rest → IsDue u (d ∷ rest) n
-      due_here d rest agenda =
-          subst (λ (ds : List Duty). IsDue u ds n) agenda
-          (subst (λ (v : View). IsDue (begins v) (begins v).agenda n) (sym seen.view_is) due)
-
-      pub gives_allowed : (f : ℕ → ℕ) → MakesWithSlot (begins hand.view) index f (λ found. Gives x)
-          → Allows (λ (s : State (Option T) View). TableStands layout s.words s.homes s.views) slots id me index f
-          (λ found after. Uses begins me found after)
-      gives_allowed f makes_there =
-          let with_slot : MakesWithSlot u index f (λ found. Gives x) =
-          subst (λ (v : View). MakesWithSlot (begins v) index f (λ found. Gives x)) (sym seen.view_is) makes_there in
-          let makes = with_slot.makes in
-          given.gives_allows kept within law chains stay live unlocked known layout me.0 u makes.duty makes.rest index
-          becoming (object_next u makes.duty makes.rest index makes.at) x slots id n me f begins
-          (λ found after. Uses begins me found after) refl refl rows first
-          (due_here makes.duty makes.rest makes.at.agenda) with_slot.uses
-          (leaves_word makes.duty makes.rest makes.at f (λ found knows. makes.leaves found knows.suits))
-          (λ found after knows uses.
-          subst (λ (k : ℕ). Uses begins me k after) (itself makes.duty makes.rest makes.at found) uses)
-
-      pub store_giving_allowed : (word : ℕ) → StoresWithSlot (begins hand.view) index word (Gives x)
-          → Allows (λ (s : State (Option T) View). TableStands layout s.words s.homes s.views) slots id me index
-          (λ found. word) (λ found after. UsesStored begins me after)
-      store_giving_allowed word stores_there =
-          let stores : StoresWithSlot u index word (Gives x) =
-          subst (λ (v : View). StoresWithSlot (begins v) index word (Gives x)) (sym seen.view_is) stores_there in
-          let makes = stores.makes in
-          given.gives_allows kept within law chains stay live unlocked known layout me.0 u makes.duty makes.rest index
-          becoming (object_next u makes.duty makes.rest index makes.at) x slots id n me (λ found. word) begins
-          (λ found after. UsesStored begins me after) refl refl rows first
-          (due_here makes.duty makes.rest makes.at.agenda) stores.uses
-          (leaves_word makes.duty makes.rest makes.at (λ found. word) (λ found knows. makes.leaves found knows.suits))
-          (λ found after knows uses.
-          subst (λ (k : ℕ). Uses begins me k after) (stores.knows (read_of u makes.duty found) knows.overwrites) uses)
-
-  -- ---- trying to lock
-
   module _ (put : WorkIsPutAside) (locks_begin : LocksBegin) (immortals : ImmortalsAreFree) (free : SlotsAreFree)
       (full : LockedSlotsAreFull) (layout : Layout) (v : View) (x gate : ℕ) (running : IsRunning v)
       (counted : IsCounted v.layout x) (idle : HasNoWork v x) (holding : HoldsOne v x) (unlocked : v.locked ≡ None)

@@ -1,40 +1,17 @@
--- The one operation on a word by which each duty is done, for the duties whose word's place depends on the duty alone.
-use Rattle.std.specs.Prelude.{◌≡◌, ℕ, ◌+◌, ◌<◌, ◌%◌, ◌^◌, ◌==◌, List, [], ◌∷◌}
-use prog.Atomic.{either}
+-- The duties that the table's one step call does, and what comes next.
+use Rattle.std.specs.Prelude.{◌≡◌, ℕ, ◌+◌, ◌<◌, ◌^◌, List, [], ◌∷◌}
 use Rattle.brc_model.specs.declared.duty.Duty.{Duty}
-use Rattle.brc_model.specs.declared.duty.Duty.TheVariants.{RetainLoad, RetainStore, RetainAdd, ReleaseLoad, ReleaseStore, DecideAtZero, SharedLoad, SharedExchange, SetMark, Look, TakeMark, MergeSwap, MergeLoad, MergeExchange, Die, Settle, SettleKind, SettleCell, TakeSlot, CloseResource, SettleEnd, Leave, Scan, Finish, ClaimMark, BirthKind, BirthSlot, BirthLocal, KindLoad, LockGate, UnlockGate, CellLoad, CellSwap, LendSlot, ReturnSlot}
+use Rattle.brc_model.specs.declared.duty.Duty.TheVariants.{RetainLoad, RetainStore, RetainAdd, ReleaseLoad, ReleaseStore, DecideAtZero, SharedLoad, SharedExchange, SetMark, Look, TakeMark, MergeSwap, MergeLoad, MergeExchange, Die, Settle, SettleKind, SettleCell, TakeSlot, CloseResource, SettleEnd, Leave, Scan, ClaimMark, BirthKind, BirthSlot, BirthLocal, KindLoad, LockGate, UnlockGate, CellLoad, CellSwap, LendSlot, ReturnSlot}
 use Rattle.brc_model.specs.declared.duty.Holding.TheVariants.{AsCaller}
 use Rattle.brc_model.specs.declared.duty.Reason.TheVariants.{Own}
 use Rattle.brc_model.specs.Limits.{cell_limit}
-use Rattle.brc_table.specs.declared.access.Access.{Access}
-use Rattle.brc_table.specs.declared.access.Access.TheVariants.{Load, Store, Add, Swap, Exchange}
-
--- ---- operations
-
--- the value that the operation leaves of the one that it finds
-abbrev pub left_by : Access → ℕ → ℕ
-left_by Load found = found
-left_by (Store word before) found = word
-left_by (Add more) found = (found + more) % 2 ^ 64
-left_by (Swap word) found = word
-left_by (Exchange old new) found = either (found == old) new found
-
--- If the operation is a store, this holds of the value that it overwrites.
-abbrev pub IfStored : Access → (ℕ → Type 0) → Type 0
-IfStored (Store word before) P = P before
-IfStored _ P = Unit {0}
 
 -- ---- duties
 
 -- The duty is done by one such operation.
 abbrev pub HasAccess : Duty → Type 0
-HasAccess (Look x) = ⊥
-HasAccess Settle = ⊥
 HasAccess (TakeSlot x) = ⊥
 HasAccess (CloseResource x) = ⊥
-HasAccess (Leave i n) = ⊥
-HasAccess (Scan i n) = ⊥
-HasAccess Finish = ⊥
 HasAccess (BirthSlot x h) = ⊥
 HasAccess (LockGate x) = ⊥
 HasAccess (CellSwap x i y h) = ⊥
@@ -48,12 +25,22 @@ HasCell (SettleCell x i n) = i < cell_limit
 HasCell (CellLoad x i) = i < cell_limit
 HasCell _ = Unit {0}
 
+-- If the duty is about the head of the thread's dying chain, the chain isn't empty.
+abbrev pub HasChain : Duty → ℕ → Type 0
+HasChain Settle head = 0 < head
+HasChain _ head = Unit {0}
+
+-- If the duty is about a row of the thread's block by the row's index, the thread has used the row.
+abbrev pub HasUsedRow : Duty → ℕ → Type 0
+HasUsedRow (Scan i n) used = i < used
+HasUsedRow _ used = Unit {0}
+
 -- If the duty chains an object, the object's row plus 1 is a number of 32 bits.
 abbrev pub HasNextRow : Duty → Type 0
 HasNextRow (Die x) = x + 1 < 2 ^ 32
 HasNextRow _ = Unit {0}
 
--- the row that the duty is about
+-- the row that the duty is about, if it names one
 abbrev pub row_of : Duty → ℕ
 row_of (RetainLoad x h) = x
 row_of (RetainStore x h w) = x
@@ -64,6 +51,7 @@ row_of (DecideAtZero x) = x
 row_of (SharedLoad x r) = x
 row_of (SharedExchange x r w) = x
 row_of (SetMark x) = x
+row_of (Look x) = x
 row_of (TakeMark x) = x
 row_of (MergeSwap x r) = x
 row_of (MergeLoad x c r) = x
@@ -80,9 +68,16 @@ row_of (UnlockGate x) = x
 row_of (CellLoad x i) = x
 row_of _ = 0
 
+-- the number of the cell that the duty is about
+abbrev pub cell_of : Duty → ℕ
+cell_of (SettleCell x i n) = i
+cell_of (CellLoad x i) = i
+cell_of _ = 0
+
 -- ---- what comes next
 
--- The duty without what its step doesn't need: by what its reference is held, and whose it is.
+-- The duty without what its step doesn't need: by what its reference is held, whose it is, and how many cells or rows
+-- there are.
 abbrev pub bare : Duty → Duty
 bare (RetainLoad x h) = RetainLoad x AsCaller
 bare (RetainStore x h w) = RetainStore x AsCaller w
@@ -93,6 +88,9 @@ bare (SharedExchange x r w) = SharedExchange x Own w
 bare (MergeSwap x r) = MergeSwap x Own
 bare (MergeLoad x c r) = MergeLoad x c Own
 bare (MergeExchange x c w r) = MergeExchange x c w Own
+bare (SettleCell x i n) = SettleCell x i 0
+bare (Leave i n) = Leave i 0
+bare (Scan i n) = Scan i 0
 bare (BirthKind x h w) = BirthKind x AsCaller w
 bare (BirthLocal x h) = BirthLocal x AsCaller
 bare d = d

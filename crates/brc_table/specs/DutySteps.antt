@@ -2,9 +2,11 @@
 use Rattle.std.specs.Prelude.{ℕ, List, [], ◌∷◌, Option}
 use Rattle.atomic_table.specs.Table.{Me}
 use Rattle.brc_model.specs.declared.duty.Duty.{Duty}
+use Rattle.brc_model.specs.Duties.{address_of}
 use Rattle.brc_model.specs.SlotLaws.{SlotUse, Gives}
 use Rattle.brc_model.specs.Stores.{Overwrites}
 use Rattle.brc_table.specs.declared.view.View.{View}
+use Rattle.brc_table.specs.Rule.{reading}
 use Rattle.brc_table.specs.Plays.{SuitsFirst, FirstFindsOwner, FindsKnown, overwritten}
 use Rattle.brc_table.specs.Uses.{FirstSlot, IsDue, Uses}
 
@@ -18,6 +20,11 @@ abbrev pub OverwritesFirst : ℕ → List Duty → ℕ → Type 0
 OverwritesFirst t [] found = Unit {0}
 OverwritesFirst t (d ∷ rest) found = Overwrites t d found
 
+-- what the word of the first duty says: that of a thread says that the thread runs, if it isn't started yet
+abbrev pub said : View → List Duty → ℕ → ℕ
+said v [] word = word
+said v (d ∷ rest) word = reading (address_of v.layout v.thread v.head d) word
+
 -- The hand first becomes `begins` of what it was, and then does its first duty.
 abbrev pub Steps : {T : Type 0} → (View → View) → Me (Option T) View → ℕ → Me (Option T) View → Type 0
 Steps begins me found after =
@@ -26,6 +33,10 @@ Steps begins me found after =
     × FirstFindsOwner (begins me.0) (begins me.0).agenda found
     × FindsKnown (begins me.0) (begins me.0).agenda found
     × OverwritesFirst (begins me.0).thread (begins me.0).agenda found
+
+-- The same of a step that finds this word, and goes on with what the word says.
+abbrev pub StepsBy : {T : Type 0} → (View → View) → Me (Option T) View → ℕ → Me (Option T) View → Type 0
+StepsBy begins me word after = Steps begins me (said (begins me.0) (begins me.0).agenda word) after
 
 -- The same of a store, which knows the value that it overwrites.
 abbrev pub StepsStored : {T : Type 0} → (View → View) → Me (Option T) View → Me (Option T) View → Type 0

@@ -11,11 +11,11 @@ use Rattle.brc_model.specs.Layout.{none_row, row_count}
 use Rattle.brc_model.specs.Machine.{is_running}
 use Rattle.brc_model.specs.Within.{Suits, FindsOwner}
 use Rattle.brc_word.specs.Words.{half, free_word, locked_word, merged_word, dead_word}
+use Rattle.brc_effect.specs.Accesses.{known_before}
 use Rattle.brc_table.specs.declared.view.View.{View}
 use Rattle.brc_table.specs.Views.{done, asking, RowsAreThere}
 use Rattle.brc_table.specs.Seen.{has_seen_kind, cell_seen}
 use Rattle.brc_table.specs.Hands.{MayChange}
-use Rattle.brc_table.specs.Rule.{thread_reading}
 
 -- The value found suits the view's first duty.
 abbrev pub SuitsFirst : View → List Duty → ℕ → Type 0
@@ -37,41 +37,18 @@ FindsKnown v _ found = Unit {0}
 
 -- the value that the thread's first duty overwrites, if it is a store
 abbrev pub overwritten_by : ℕ → List Duty → ℕ
-overwritten_by t (RetainStore x h w ∷ rest) = w
-overwritten_by t (ReleaseStore x w ∷ rest) = w
-overwritten_by t (Die x ∷ rest) = free_word
-overwritten_by t (Leave i n ∷ rest) = status_word Running
-overwritten_by t (Finish ∷ rest) = status_word Leaving
-overwritten_by t (UnlockGate x ∷ rest) = locked_word t
-overwritten_by t _ = 0
+overwritten_by t [] = 0
+overwritten_by t (d ∷ rest) = known_before t d
 
 -- the same of a hand
 abbrev pub overwritten : View → ℕ
 overwritten v = overwritten_by v.thread v.agenda
 
--- The hand first becomes `begins` of what it was, and then does its first duty.
-abbrev pub Continues : {S : Type 0} → (View → View) → Me S View → ℕ → Me S View → Type 0
-Continues begins me found after =
-    (after.0 ≡ done (begins me.0) found) × (after.1 ≡ me.1) × SuitsFirst (begins me.0) (begins me.0).agenda found
-    × FirstFindsOwner (begins me.0) (begins me.0).agenda found × RowsAreThere after.0
-    × FindsKnown (begins me.0) (begins me.0).agenda found × (after.0.taken ≡ me.0.taken)
-
--- The same of a hand that asks for the kind of the row's object. If it has locked the object, the object's slot had as
--- many resources as the kind word says, when the hand took it. None's kind word says that it is none.
+-- A hand asks for the kind of the row's object. If it has locked the object, the object's slot had as many resources as
+-- the kind word says, when the hand took it. None's kind word says that it is none.
 abbrev pub Asks : {S : Type 0} → ℕ → Me S View → ℕ → Me S View → Type 0
 Asks x me found after =
-    Continues (λ v. asking v x) me found after
+    (after.0 ≡ done (asking me.0 x) found) × (after.1 ≡ me.1) × RowsAreThere after.0 × (after.0.taken ≡ me.0.taken)
+    × FindsKnown (asking me.0 x) (KindLoad x ∷ []) found
     × (me.0.locked ≡ Some x → me.0.in_slot ≡ resources_of found)
     × (x ≡ none_row → found ≡ half)
-
--- The same of a store, which knows the value that it overwrites.
-abbrev pub Stores : {S : Type 0} → (View → View) → Me S View → Me S View → Type 0
-Stores begins me after =
-    (after.0 ≡ done (begins me.0) (overwritten (begins me.0))) × (after.1 ≡ me.1) × RowsAreThere after.0
-    × (after.0.taken ≡ me.0.taken)
-
--- The same of a step on a thread word, which goes on with what the word says of the thread.
-abbrev pub Looks : {S : Type 0} → (View → View) → Me S View → ℕ → Me S View → Type 0
-Looks begins me found after =
-    (after.0 ≡ done (begins me.0) (thread_reading found)) × (after.1 ≡ me.1) × RowsAreThere after.0
-    × (after.0.taken ≡ me.0.taken)

@@ -11,7 +11,6 @@ use Rattle.brc_table.specs.declared.view.View.{View}
 use Rattle.brc_table.specs.Views.{RowsAreThere, done, locking}
 use Rattle.brc_table.specs.Seen.{has_seen_kind}
 use Rattle.brc_table.specs.Homes.{rows_of, held_in}
-use Rattle.brc_table.specs.Plays.{overwritten}
 use Rattle.brc_table.specs.Hands.{HandState}
 
 -- ---- the slots of a hand, each with how many resources it holds
@@ -74,10 +73,6 @@ Uses begins me found after =
     (after.0 ≡ done (begins me.0) found) × RowsAreThere after.0 × Follows me after
     × (held_in after.1 ≡ held_after (held_in me.1) (first_use (begins me.0).agenda found)
     (first_due (begins me.0).agenda found))
-
--- The same of a store, which knows the value that it overwrites.
-abbrev pub UsesStored : {T : Type 0} → (View → View) → Me (Option T) View → Me (Option T) View → Type 0
-UsesStored begins me after = Uses begins me (overwritten (begins me.0)) after
 
 -- The hand tries to lock the row, and takes its slot if it finds the gate free. Then the slot holds as many resources
 -- as the kind word says that the hand has seen.

@@ -3,20 +3,27 @@
 
 ghost use Rattle.std.specs.Prelude.{◌≡◌, ◌<◌, ◌≤◌, ℕ, Some, length};
 ghost use Rattle.brc_model.specs.Layout.{row_count};
+ghost use Rattle.brc_model.specs.Limits.{cell_limit};
 ghost use Rattle.brc_table.specs.Views.{done, loading_cell};
 ghost use Rattle.brc_table.specs.Seen.{KnowsCell, cell_seen};
-ghost use Rattle.brc_table.specs.Swaps.{swapped, MayPut};
+ghost use Rattle.brc_table.specs.Swaps.{swapped, MayPut, MaySwap};
 ghost use Rattle.brc_table.specs.Hands.{most_references, IsOf, IsRunning, MayLoad, MayChange, HasNoWork, HasNoRetain};
 
 use crate::hand::Hand;
+use crate::place::in_cell;
+use crate::rule::{Swap, Swapped};
 use crate::words::Words;
-use brc_model::{cell_loads_begin, immortals_are_free, work_is_put_aside};
+use brc_model::{
+    Duty, accounts_are_there, cell_loads_begin, cells_are_swapped, chains_are_there,
+    immortals_are_free, items_are_there, work_is_put_aside,
+};
 use std::marker::Brand;
 
 impl<T: Drop> Words<T> {
     /// Loads a cell of the list that the hand has locked, or is to finalise as the first of its dying chain. Returns
     /// what is there: a row plus 1, or 0 if the cell is empty. Since the hand locked or chained the list, no other
     /// thread has changed the cell.
+    #[inline(always)]
     pub fn cell_load(&self, hand: &mut Hand<T>, row: u32, cell: u32) -> u64
         requires table { IsOf self.now hand.old }
         requires running { IsRunning hand.old.view }
@@ -34,7 +41,7 @@ impl<T: Drop> Words<T> {
         cell_loads_begin();
         immortals_are_free();
         hand.rows_are_there();
-        self.load_cell::<Brand>(hand, row, cell)
+        self.step_from::<Brand>(hand, &Duty::CellLoad { row, cell })
     }
 
     /// Swaps a cell of the list that the hand has locked, or is to finalise as the first of its dying chain, for
@@ -58,5 +65,34 @@ impl<T: Drop> Words<T> {
     {
         hand.rows_are_there();
         self.swap_item::<Brand>(hand, row, cell, item)
+    }
+
+    /// Swaps a cell of the list that the hand has locked. A reference of the hand goes in, and what the cell held is
+    /// the hand's from then on.
+    fn swap_item<B: Swap>(&self, hand: &mut Hand<T>, row: u32, cell: u32, item: u64) -> u64
+        requires table { IsOf self.now hand.old }
+        requires list { row ≡ B.list }
+        requires index { cell ≡ B.cell }
+        requires item { item ≡ B.item }
+        requires cell { cell < cell_limit }
+        requires there { row < row_count self.now.layout }
+        requires may { MaySwap hand.old.view row cell item }
+        ensures table { hand.new.table ≡ hand.old.table }
+        ensures carried { hand.new.carried ≡ hand.old.carried }
+        ensures slots { hand.new.slots ≡ hand.old.slots }
+        ensures view { hand.new.view ≡ swapped hand.old.view row cell item result }
+        ensures there { result ≤ row_count hand.old.view.layout }
+        ensures stays { (seen : ℕ) → cell_seen row cell hand.old.view ≡ Some seen → result ≡ seen }
+    {
+        work_is_put_aside();
+        immortals_are_free();
+        accounts_are_there();
+        chains_are_there();
+        items_are_there();
+        cells_are_swapped();
+        let index = in_cell(row, cell);
+        self.table
+            .shared
+            .swap::<Swapped<B>>(&mut hand.seat, index, item)
     }
 }

@@ -12,17 +12,16 @@ ghost use Rattle.brc_table.specs.Uses.{FirstSlot, behind_slot};
 ghost use Rattle.brc_table.specs.Calls.{MaySettle, LoadsDyingKind, EmptiesCell, ClosesRow};
 
 use crate::hand::Hand;
-use crate::place::{GATE, KIND};
 use crate::words::Words;
-use brc_model::{duties_are_kept, needed_slots_are_unlocked, settles_begin};
-use brc_word::closed;
+use brc_model::{Duty, duties_are_kept, needed_slots_are_unlocked, settles_begin};
 use std::marker::Brand;
 
-/// A cell without a reference.
-const EMPTY: u64 = 0;
+/// The most cells that a list may have.
+const MOST_CELLS: u32 = 8;
 
 impl<T: Drop> Words<T> {
     /// Takes the first object off the hand's dying chain: loads its gate, which names the next one.
+    #[inline(always)]
     pub fn gate_load(&self, hand: &mut Hand<T>) -> u64
         requires table { IsOf self.now hand.old }
         requires chain { 0 < hand.old.view.head }
@@ -33,11 +32,13 @@ impl<T: Drop> Words<T> {
         ensures view { hand.new.view ≡ done (settling hand.old.view) result }
     {
         settles_begin();
-        self.load_chain::<Brand>(hand)
+        hand.rows_are_there();
+        self.step_from::<Brand>(hand, &Duty::Settle)
     }
 
     /// Does the next duty: loads the kind word of the dying object, and takes its slot, which holds a resource if the
     /// kind has one.
+    #[inline(always)]
     pub fn dying_kind_load(&self, hand: &mut Hand<T>, row: u32) -> u64
         requires table { IsOf self.now hand.old }
         requires alive { hand.old.view.status ≢ Gone }
@@ -47,11 +48,11 @@ impl<T: Drop> Words<T> {
         ensures view { hand.new.view ≡ done hand.old.view result }
         ensures slots { hand.new.slots ≡ (row, resources_of result) ∷ hand.old.slots }
     {
-        hand.rows_are_there();
-        self.load_taking::<Brand>(hand, KIND, row)
+        self.step(hand, Duty::SettleKind { row })
     }
 
     /// Does the next duty: empties a cell of the dying list. Returns what was there: a row plus 1, or 0.
+    #[inline(always)]
     pub fn dying_cell_swap(&self, hand: &mut Hand<T>, row: u32, cell: u32) -> u64
         requires table { IsOf self.now hand.old }
         requires alive { hand.old.view.status ≢ Gone }
@@ -63,13 +64,21 @@ impl<T: Drop> Words<T> {
         ensures suits { SuitsFirst hand.old.view hand.old.view.agenda result }
     {
         hand.rows_are_there();
-        self.swap_cell::<Brand>(hand, row, cell, EMPTY)
+        self.step(
+            hand,
+            Duty::SettleCell {
+                row,
+                cell,
+                cells: MOST_CELLS,
+            },
+        )
     }
 
     /// Does the next duty: closes the dying object, and gives its slot back, which has to be empty. Returns the gate
     /// found, which says who deallocates the object.
     ///
     /// The step is a swap, since no duty knows what the gate said of the rest of the chain.
+    #[inline(always)]
     pub fn gate_close(&self, hand: &mut Hand<T>, row: u32) -> u64
         requires table { IsOf self.now hand.old }
         requires alive { hand.old.view.status ≢ Gone }
@@ -84,6 +93,6 @@ impl<T: Drop> Words<T> {
         needed_slots_are_unlocked();
         hand.slots_are_taken();
         hand.rows_are_there();
-        self.swap_giving::<Brand>(hand, GATE, row, closed())
+        self.step_from::<Brand>(hand, &Duty::SettleEnd { row })
     }
 }

@@ -12,22 +12,10 @@ ghost use Rattle.brc_table.specs.Hands.{IsOf};
 ghost use Rattle.brc_table.specs.Calls.{IsFree, MayLeave, ScansRow, Finishes};
 
 use crate::hand::Hand;
-use crate::place::MARK;
+use crate::size::row_at;
 use crate::words::Words;
-use brc_model::{claims_begin, duties_are_kept, exits_begin, releases_begin};
+use brc_model::{Duty, claims_begin, duties_are_kept, exits_begin, releases_begin};
 use std::marker::Brand;
-
-/// Main's number.
-const MAIN: u8 = 0;
-
-/// The word of a thread that is leaving.
-const LEAVING: u64 = 2;
-
-/// The word of a thread that is gone.
-const GONE: u64 = 3;
-
-/// The mark of an object that is in no queue.
-const NOT_QUEUED: u64 = 0;
 
 impl<T: Drop> Words<T> {
     /// Returns the row with the index in the block of the hand's thread.
@@ -40,14 +28,11 @@ impl<T: Drop> Words<T> {
     {
         self.layout_is_plain();
         hand.rows_are_there();
-        if hand.thread == MAIN {
-            index
-        } else {
-            self.row_at(hand.thread, index)
-        }
+        row_at(self.layout, hand.thread, index)
     }
 
     /// Begins to look through the hand's queue: takes the mark of a row of its own block. Returns the mark found.
+    #[inline(always)]
     pub fn mark_claim(&self, hand: &mut Hand<T>, row: u32) -> u64
         requires table { IsOf self.now hand.old }
         requires free { IsFree hand.old.view }
@@ -59,10 +44,11 @@ impl<T: Drop> Words<T> {
         ensures view { hand.new.view ≡ done (claiming hand.old.view row) result }
     {
         claims_begin();
-        self.swap::<Brand>(hand, MARK, row, NOT_QUEUED)
+        self.step_from::<Brand>(hand, &Duty::ClaimMark { row })
     }
 
     /// Begins to leave: says so in the thread's word. The hand's thread no longer runs.
+    #[inline(always)]
     pub fn thread_leave(&self, hand: &mut Hand<T>)
         requires table { IsOf self.now hand.old }
         requires may_leave { MayLeave hand.old.view }
@@ -74,10 +60,14 @@ impl<T: Drop> Words<T> {
         releases_begin();
         exits_begin();
         duties_are_kept();
-        self.store_thread::<Brand>(hand, LEAVING);
+        self.layout_is_plain();
+        hand.rows_are_there();
+        let rows = hand.used;
+        self.step_from::<Brand>(hand, &Duty::Leave { index: 0, rows });
     }
 
     /// Does the next duty: takes the mark of the thread's row with the index. Returns the mark found.
+    #[inline(always)]
     pub fn mark_scan(&self, hand: &mut Hand<T>, index: u32) -> u64
         requires table { IsOf self.now hand.old }
         requires alive { hand.old.view.status ≢ Gone }
@@ -88,13 +78,12 @@ impl<T: Drop> Words<T> {
         ensures slots { hand.new.slots ≡ hand.old.slots }
         ensures view { hand.new.view ≡ done hand.old.view result }
     {
-        self.layout_is_plain();
-        hand.rows_are_there();
-        let row = self.own_row(hand, index);
-        self.swap::<Brand>(hand, MARK, row, NOT_QUEUED)
+        let rows = hand.used;
+        self.step(hand, Duty::Scan { index, rows })
     }
 
     /// Does the next duty: says in the thread's word that the thread is gone.
+    #[inline(always)]
     pub fn thread_gone(&self, hand: &mut Hand<T>)
         requires table { IsOf self.now hand.old }
         requires alive { hand.old.view.status ≢ Gone }
@@ -104,6 +93,6 @@ impl<T: Drop> Words<T> {
         ensures slots { hand.new.slots ≡ hand.old.slots }
         ensures view { hand.new.view ≡ done hand.old.view 2 }
     {
-        self.store_thread::<Brand>(hand, GONE);
+        self.step(hand, Duty::Finish);
     }
 }

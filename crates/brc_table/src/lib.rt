@@ -2,31 +2,27 @@
 //! which threads change them, one atomic step at a time.
 #![tactic(auto)]
 
-mod access;
+mod after;
+mod births;
 mod carried;
 mod cells;
 mod closed;
-mod duty_step;
 mod dying;
 mod exits;
 mod first_words;
 mod hand;
-mod handed;
 mod join;
 mod kinds;
 mod laws;
-mod lives;
 mod locks;
-mod marks;
 mod peeks;
 mod place;
+mod references;
 mod rule;
 mod size;
-mod slot_steps;
 mod slots;
 mod split;
 mod step;
-mod steps;
 mod view;
 mod words;
 mod work;

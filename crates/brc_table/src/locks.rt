@@ -2,9 +2,9 @@
 //! Section API). The gate of an object says whether it is free, or which thread has locked it.
 
 ghost use Rattle.std.specs.Prelude.{◌≡◌, ◌<◌, ◌==◌, ℕ, true, None, Some, ◌∷◌, if◌then◌else◌};
-ghost use Rattle.brc_word.specs.Words.{free_word};
+ghost use Rattle.brc_word.specs.Words.{free_word, locked_word};
 ghost use Rattle.brc_model.specs.Duties.{resources_of};
-ghost use Rattle.brc_model.specs.Layout.{IsCounted};
+ghost use Rattle.brc_model.specs.Layout.{IsCounted, row_count};
 ghost use Rattle.brc_table.specs.Views.{done, locking, unlocking};
 ghost use Rattle.brc_table.specs.Seen.{has_seen_kind};
 ghost use Rattle.brc_table.specs.Plays.{overwritten};
@@ -12,9 +12,14 @@ ghost use Rattle.brc_table.specs.Uses.{FirstSlot, behind_slot};
 ghost use Rattle.brc_table.specs.Hands.{IsOf, IsRunning, HoldsOne, HasNoWork, HasNoRetain};
 
 use crate::hand::Hand;
-use crate::place::GATE;
+use crate::place::{GATE, in_line};
+use crate::rule::{Locked, OfRow};
 use crate::words::Words;
-use brc_model::{immortals_are_free, unlocks_begin, work_is_put_aside};
+use brc_model::{
+    Duty, accounts_are_there, chains_are_there, duties_are_kept, duties_are_within,
+    guarded_cells_stay, handed_merges_live, immortals_are_free, locked_slots_are_full, locks_begin,
+    slots_are_free, unlocks_begin, work_is_put_aside,
+};
 use brc_word::locked;
 use std::marker::Brand;
 
@@ -48,6 +53,7 @@ impl<T: Drop> Words<T> {
 
     /// Unlocks the object that the hand has locked: stores that its gate is free, and gives the object's slot back,
     /// which has to hold what it held when the hand took it.
+    #[inline(always)]
     pub fn gate_unlock(&self, hand: &mut Hand<T>, row: u32)
         requires table { IsOf self.now hand.old }
         requires running { IsRunning hand.old.view }
@@ -66,7 +72,44 @@ impl<T: Drop> Words<T> {
         immortals_are_free();
         self.layout_is_plain();
         hand.rows_are_there();
-        let used = hand.used;
-        self.store_giving::<Brand>(hand, GATE, row, FREE, used);
+        self.step_from::<Brand>(hand, &Duty::UnlockGate { row });
+    }
+
+    /// Tries to lock the row that the type names: exchanges its gate, if it is free, for one that names the hand's
+    /// thread, and then takes the row's slot. Returns the gate found. If the hand has seen the object's kind, it knows
+    /// whether the slot has a resource.
+    fn lock_gate<R: OfRow>(&self, hand: &mut Hand<T>, row: u32, gate: u64) -> u64
+        requires row { row ≡ R.target }
+        requires table { IsOf self.now hand.old }
+        requires running { IsRunning hand.old.view }
+        requires counted { IsCounted hand.old.view.layout row }
+        requires held { HoldsOne hand.old.view row }
+        requires idle { HasNoWork hand.old.view row }
+        requires unlocked { hand.old.view.locked ≡ None }
+        requires there { row < row_count self.now.layout }
+        requires gate { gate ≡ locked_word hand.old.view.thread }
+        ensures table { hand.new.table ≡ hand.old.table }
+        ensures carried { hand.new.carried ≡ hand.old.carried }
+        ensures view { hand.new.view ≡ done (locking hand.old.view row hand.new.view.in_slot) result }
+        ensures slots { hand.new.slots
+            ≡ (if result == free_word then (row, hand.new.view.in_slot) ∷ hand.old.slots else hand.old.slots) }
+        ensures kind { (word : ℕ) → result ≡ free_word → 0 < word
+            → has_seen_kind row word hand.old.view ≡ true → hand.new.view.in_slot ≡ resources_of word }
+    {
+        work_is_put_aside();
+        locks_begin();
+        immortals_are_free();
+        duties_are_kept();
+        duties_are_within();
+        accounts_are_there();
+        chains_are_there();
+        guarded_cells_stay();
+        handed_merges_live();
+        slots_are_free();
+        locked_slots_are_full();
+        let index = in_line(GATE, row);
+        self.table
+            .shared
+            .compare_exchange::<Locked<R>>(&mut hand.seat, index, FREE, gate)
     }
 }

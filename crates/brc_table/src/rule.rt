@@ -30,39 +30,6 @@ impl Begins for Brand {
     ghost begins = { λ v. v };
 }
 
-/// A step that goes on with the value that it finds.
-pub(crate) struct Continued<B> {
-    marker: PhantomData<B>,
-}
-
-impl<S, B: Begins> Play<S, View> for Continued<B> {
-    ghost use Rattle.brc_table.specs.Plays.{Continues};
-
-    ghost then = { λ s me found after. Continues B.begins me found after };
-}
-
-/// A store.
-pub(crate) struct Stored<B> {
-    marker: PhantomData<B>,
-}
-
-impl<S, B: Begins> Play<S, View> for Stored<B> {
-    ghost use Rattle.brc_table.specs.Plays.{Stores};
-
-    ghost then = { λ s me stored after. Stores B.begins me after };
-}
-
-/// A step that goes on with what a thread word says.
-pub(crate) struct Looked<B> {
-    marker: PhantomData<B>,
-}
-
-impl<S, B: Begins> Play<S, View> for Looked<B> {
-    ghost use Rattle.brc_table.specs.Plays.{Looks};
-
-    ghost then = { λ s me found after. Looks B.begins me found after };
-}
-
 /// Which cell a swap is of, and which word it stores.
 pub(crate) trait Swap {
     ghost list: { ℕ };
@@ -91,37 +58,15 @@ impl<S, B: Swap> Play<S, View> for Swapped<B> {
     ghost then = { λ s me found after. Swaps B.list B.cell B.item me found after };
 }
 
-/// A step that takes a slot out of the table or gives one back.
-pub(crate) struct Used<B> {
-    marker: PhantomData<B>,
-}
-
-impl<T, B: Begins> Play<Option<T>, View> for Used<B> {
-    ghost use Rattle.brc_table.specs.Uses.{Uses};
-
-    ghost then = { λ s me found after. Uses B.begins me found after };
-}
-
-/// A store that does so.
-pub(crate) struct UsedStored<B> {
-    marker: PhantomData<B>,
-}
-
-impl<T, B: Begins> Play<Option<T>, View> for UsedStored<B> {
-    ghost use Rattle.brc_table.specs.Uses.{UsesStored};
-
-    ghost then = { λ s me stored after. UsesStored B.begins me after };
-}
-
 /// A step of any duty.
 pub(crate) struct Stepped<B> {
     marker: PhantomData<B>,
 }
 
 impl<T, B: Begins> Play<Option<T>, View> for Stepped<B> {
-    ghost use Rattle.brc_table.specs.DutySteps.{Steps};
+    ghost use Rattle.brc_table.specs.DutySteps.{StepsBy};
 
-    ghost then = { λ s me found after. Steps B.begins me found after };
+    ghost then = { λ s me found after. StepsBy B.begins me found after };
 }
 
 /// A step of any duty that is a store.

@@ -1,7 +1,8 @@
 //! How many rows and words a table has.
 
 ghost use Rattle.std.specs.Prelude.{◌≡◌, ◌<◌};
-ghost use Rattle.brc_model.specs.Layout.{row_count, block_of};
+ghost use Rattle.brc_model.specs.Layout.{row_count, block_of, row_at};
+ghost use Rattle.brc_model.specs.Counting.{IsPlainLayout};
 ghost use Rattle.brc_table.specs.Places.{word_count};
 
 use crate::place::{FRONT, LINE, TILE};
@@ -12,6 +13,9 @@ pub(crate) const NONE_ROW: u32 = 0;
 
 /// The root's row.
 pub(crate) const ROOT_ROW: u32 = 1;
+
+/// Main's number.
+const MAIN: u8 = 0;
 
 /// Main's rows in front of the workers': none's and the root's.
 pub(crate) const FRONT_ROWS: u32 = 2;
@@ -44,5 +48,18 @@ pub(crate) fn block_of(layout: Layout, row: u32) -> u32
         (row - FRONT_ROWS) / u32::from(layout.rows) + 1
     } else {
         0
+    }
+}
+
+/// Returns the row with the index in the thread's block.
+pub(crate) fn row_at(layout: Layout, thread: u8, index: u32) -> u32
+    requires plain { IsPlainLayout layout }
+    requires there { row_at layout thread index < row_count layout }
+    ensures { result ≡ row_at layout thread index }
+{
+    if thread == MAIN {
+        index
+    } else {
+        FRONT_ROWS + u32::from(thread - 1) * u32::from(layout.rows) + index
     }
 }

@@ -1,48 +1,151 @@
-//! One atomic step of a hand, of any kind. Each is sequentially consistent, and may first turn the hand to other work.
+//! One step of a hand, of any duty whose word is in the table. What the duty does to its word is said by
+//! `brc_effect::access_of`. The duty has to come next in the hand's view.
 
-ghost use Rattle.std.specs.Prelude.{◌≡◌, ◌+◌, ◌%◌, ◌^◌, ◌<◌, ◌≤◌, ◌==◌, ℕ, Some, false};
-ghost use prog.Atomic.{either};
-ghost use Rattle.brc_model.specs.Layout.{row_count, block_of};
-ghost use Rattle.brc_model.specs.Limits.{cell_limit};
-ghost use Rattle.brc_model.specs.Machine.{is_running};
-ghost use Rattle.brc_table.specs.Places.{in_tile, cell_place};
-ghost use Rattle.brc_table.specs.Views.{done};
+ghost use Rattle.std.specs.Prelude.{◌≡◌, ◌≢◌, ◌<◌, ℕ, Option, [], ◌∷◌};
+ghost use Rattle.atomic_table.specs.Table.{State, Allows};
+ghost use Rattle.brc_model.specs.declared.actor.Status.TheVariants.{Gone};
+ghost use Rattle.brc_model.specs.Duties.{address_of};
+ghost use Rattle.brc_table.specs.Places.{HasWord};
+ghost use Rattle.brc_model.specs.SlotLaws.{use_of};
+ghost use Rattle.brc_model.specs.Stores.{Overwrites};
+ghost use Rattle.brc_table.specs.declared.view.View.{View};
+ghost use Rattle.brc_table.specs.Views.{done, turned};
+ghost use Rattle.brc_table.specs.Homes.{TableStands};
 ghost use Rattle.brc_table.specs.Plays.{SuitsFirst, FirstFindsOwner, FindsKnown, overwritten};
-ghost use Rattle.brc_table.specs.Seen.{cell_seen};
-ghost use Rattle.brc_table.specs.Swaps.{MaySwap, swapped};
+ghost use Rattle.brc_table.specs.Uses.{first_due, held_after};
+ghost use Rattle.brc_table.specs.Turns.{MayGoOn, turned_to};
+ghost use Rattle.brc_table.specs.DutySteps.{DueSlot, OverwritesFirst, StepsBy, said};
+ghost use Rattle.brc_effect.specs.Accesses.{IfStored, left_by};
+ghost use Rattle.brc_table.specs.Accesses.{HasAccess, HasCell, HasChain, HasUsedRow, IsNext, row_of};
+ghost use Rattle.brc_table.specs.Begins.{Becomes, KeepsThread};
 ghost use Rattle.brc_table.specs.Hands.{IsOf};
-ghost use Rattle.brc_table.specs.Begins.{Becomes, KeepsThread, SettlesNext, MakesQuietly, MakesAtThreadQuietly, StoresThreadWord, StoresWord};
+ghost use Rattle.brc_table.specs.Calls.{CanAct};
 
+use crate::after::{head_after, runs_after, said_by, used_after};
 use crate::hand::Hand;
-use crate::place::{GATE, in_cell, in_line};
-use crate::rule::{Begins, Continued, Looked, Stored, Swap, Swapped};
-use crate::size::block_of;
+use crate::place::place_at;
+use crate::rule::{Begins, Stepped, SteppedStored};
+use crate::view::View;
 use crate::words::Words;
+use crate::work::Work;
+use atomic_table::Seat;
+use brc_effect::{Access, access_of, address_of};
 use brc_model::{
-    accounts_are_there, cells_are_swapped, chains_are_there, duties_are_kept, duties_are_within,
-    guarded_cells_stay, handed_merges_live, immortals_are_free, items_are_there, work_is_put_aside,
+    Duty, accounts_are_there, chains_are_there, duties_are_kept, duties_are_within,
+    given_slots_are_unlocked, guarded_cells_stay, handed_merges_live, slots_are_free,
+    slots_are_known, work_is_put_aside, work_is_taken_back,
 };
-use brc_word::next_of_dying;
-
-/// The word of a thread that isn't started yet, which counts as running.
-const NOT_STARTED: u64 = 0;
-
-/// The word of a running thread.
-const RUNNING: u64 = 1;
+use std::marker::Brand;
 
 impl<T: Drop> Words<T> {
-    /// Loads a word.
-    pub(crate) fn load<B: Begins>(&self, hand: &mut Hand<T>, line: usize, row: u32) -> u64
+    /// Does the next duty, and returns the word found. A store returns the word that it overwrites, which the hand
+    /// knows. Of a thread that isn't started yet the word found is 1, as of one that runs.
+    #[inline(always)]
+    pub fn step(&self, hand: &mut Hand<T>, duty: Duty) -> u64
+        requires table { IsOf self.now hand.old }
+        requires alive { hand.old.view.status ≢ Gone }
+        requires known { HasAccess duty }
+        requires cell { HasCell duty }
+        requires chain { HasChain duty hand.old.view.head }
+        requires row { HasUsedRow duty hand.old.view.used }
+        requires next { IsNext duty hand.old.view.agenda }
+        requires due { DueSlot (use_of duty 0) hand.old.slots hand.old.view }
+        ensures table { hand.new.table ≡ hand.old.table }
+        ensures carried { hand.new.carried ≡ hand.old.carried }
+        ensures slots { hand.new.slots
+            ≡ held_after hand.old.slots (use_of duty 0) (first_due (duty ∷ []) result) }
+        ensures view { hand.new.view ≡ done hand.old.view result }
+        ensures overwrites { Overwrites hand.old.view.thread duty result }
+        ensures suits { SuitsFirst hand.old.view hand.old.view.agenda result }
+        ensures owner { FirstFindsOwner hand.old.view hand.old.view.agenda result }
+        ensures finds { FindsKnown hand.old.view hand.old.view.agenda result }
+    {
+        self.layout_is_plain();
+        hand.rows_are_there();
+        self.step_from::<Brand>(hand, &duty)
+    }
+
+    /// Goes on with the hand's work about the duty's row: turns to it, if it is aside, and does the duty, with which it
+    /// goes on. Returns what `step` does.
+    #[inline(always)]
+    pub fn go_on(&self, hand: &mut Hand<T>, work: Work, duty: Duty) -> u64
+        requires table { IsOf self.now hand.old }
+        requires may { MayGoOn work hand.old.view }
+        requires known { HasAccess duty }
+        requires cell { HasCell duty }
+        requires chain { HasChain duty hand.old.view.head }
+        requires row { HasUsedRow duty hand.old.view.used }
+        requires next { IsNext duty (turned_to work hand.old.view (row_of duty)).agenda }
+        requires due { DueSlot (use_of duty 0) hand.old.slots (turned_to work hand.old.view (row_of duty)) }
+        ensures table { hand.new.table ≡ hand.old.table }
+        ensures carried { hand.new.carried ≡ hand.old.carried }
+        ensures slots { hand.new.slots
+            ≡ held_after hand.old.slots (use_of duty 0) (first_due (duty ∷ []) result) }
+        ensures view { hand.new.view ≡ done (turned_to work hand.old.view (row_of duty)) result }
+        ensures overwrites { Overwrites hand.old.view.thread duty result }
+        ensures suits { SuitsFirst (turned_to work hand.old.view (row_of duty))
+            (turned_to work hand.old.view (row_of duty)).agenda result }
+        ensures owner { FirstFindsOwner (turned_to work hand.old.view (row_of duty))
+            (turned_to work hand.old.view (row_of duty)).agenda result }
+        ensures finds { FindsKnown (turned_to work hand.old.view (row_of duty))
+            (turned_to work hand.old.view (row_of duty)).agenda result }
+    {
+        match work {
+            Work::Next => self.step(hand, duty),
+            Work::Aside => self.resume(hand, duty),
+        }
+    }
+
+    /// Turns to the work about the duty's row, and does the duty, which is that work. Returns what `step` does.
+    #[inline(always)]
+    pub(crate) fn resume(&self, hand: &mut Hand<T>, duty: Duty) -> u64
+        requires table { IsOf self.now hand.old }
+        requires acts { CanAct hand.old.view }
+        requires known { HasAccess duty }
+        requires cell { HasCell duty }
+        requires chain { HasChain duty hand.old.view.head }
+        requires row { HasUsedRow duty hand.old.view.used }
+        requires next { IsNext duty (turned hand.old.view (row_of duty)).agenda }
+        requires due { DueSlot (use_of duty 0) hand.old.slots (turned hand.old.view (row_of duty)) }
+        ensures table { hand.new.table ≡ hand.old.table }
+        ensures carried { hand.new.carried ≡ hand.old.carried }
+        ensures slots { hand.new.slots
+            ≡ held_after hand.old.slots (use_of duty 0) (first_due (duty ∷ []) result) }
+        ensures view { hand.new.view ≡ done (turned hand.old.view (row_of duty)) result }
+        ensures overwrites { Overwrites hand.old.view.thread duty result }
+        ensures suits { SuitsFirst (turned hand.old.view (row_of duty))
+            (turned hand.old.view (row_of duty)).agenda result }
+        ensures owner { FirstFindsOwner (turned hand.old.view (row_of duty))
+            (turned hand.old.view (row_of duty)).agenda result }
+        ensures finds { FindsKnown (turned hand.old.view (row_of duty))
+            (turned hand.old.view (row_of duty)).agenda result }
+    {
+        work_is_put_aside();
+        work_is_taken_back();
+        self.layout_is_plain();
+        hand.rows_are_there();
+        self.step_from::<Brand>(hand, &duty)
+    }
+
+    /// Becomes what `B` begins with, and does the duty, which then comes next.
+    #[inline(always)]
+    pub(crate) fn step_from<B: Begins>(&self, hand: &mut Hand<T>, duty: &Duty) -> u64
         requires table { IsOf self.now hand.old }
         requires begins { Becomes self.now.layout hand.old.view (B.begins hand.old.view) }
         requires thread { KeepsThread hand.old.view (B.begins hand.old.view) }
-        requires line { line < 5 }
-        requires there { row < row_count self.now.layout }
-        requires makes { MakesQuietly (B.begins hand.old.view) (in_tile line row) (λ found. found) }
+        requires alive { (B.begins hand.old.view).status ≢ Gone }
+        requires known { HasAccess duty.now }
+        requires there { HasWord self.now.layout
+            (address_of self.now.layout hand.old.view.thread hand.old.view.head duty.now) }
+        requires chain { HasChain duty.now hand.old.view.head }
+        requires next { IsNext duty.now (B.begins hand.old.view).agenda }
+        requires due { DueSlot (use_of duty.now 0) hand.old.slots (B.begins hand.old.view) }
         ensures table { hand.new.table ≡ hand.old.table }
         ensures carried { hand.new.carried ≡ hand.old.carried }
-        ensures slots { hand.new.slots ≡ hand.old.slots }
+        ensures slots { hand.new.slots
+            ≡ held_after hand.old.slots (use_of duty.now 0) (first_due (duty.now ∷ []) result) }
         ensures view { hand.new.view ≡ done (B.begins hand.old.view) result }
+        ensures overwrites { Overwrites hand.old.view.thread duty.now result }
         ensures suits { SuitsFirst (B.begins hand.old.view) (B.begins hand.old.view).agenda result }
         ensures owner { FirstFindsOwner (B.begins hand.old.view) (B.begins hand.old.view).agenda result }
         ensures finds { FindsKnown (B.begins hand.old.view) (B.begins hand.old.view).agenda result }
@@ -53,312 +156,63 @@ impl<T: Drop> Words<T> {
         chains_are_there();
         guarded_cells_stay();
         handed_merges_live();
-        let index = in_line(line, row);
-        self.table
-            .shared
-            .load::<Continued<B>>(&mut hand.seat, index)
-    }
-
-    /// Loads a list's cell.
-    pub(crate) fn load_cell<B: Begins>(&self, hand: &mut Hand<T>, row: u32, cell: u32) -> u64
-        requires table { IsOf self.now hand.old }
-        requires begins { Becomes self.now.layout hand.old.view (B.begins hand.old.view) }
-        requires thread { KeepsThread hand.old.view (B.begins hand.old.view) }
-        requires cell { cell < cell_limit }
-        requires there { row < row_count self.now.layout }
-        requires makes { MakesQuietly (B.begins hand.old.view) (cell_place row cell) (λ found. found) }
-        ensures table { hand.new.table ≡ hand.old.table }
-        ensures carried { hand.new.carried ≡ hand.old.carried }
-        ensures slots { hand.new.slots ≡ hand.old.slots }
-        ensures view { hand.new.view ≡ done (B.begins hand.old.view) result }
-        ensures suits { SuitsFirst (B.begins hand.old.view) (B.begins hand.old.view).agenda result }
-        ensures finds { FindsKnown (B.begins hand.old.view) (B.begins hand.old.view).agenda result }
-    {
-        duties_are_kept();
-        duties_are_within();
-        accounts_are_there();
-        chains_are_there();
-        guarded_cells_stay();
-        handed_merges_live();
-        let index = in_cell(row, cell);
-        self.table
-            .shared
-            .load::<Continued<B>>(&mut hand.seat, index)
-    }
-
-    /// Loads the word of the thread whose block has the row. Returns what it says of the thread: 1 if it runs or isn't
-    /// started yet, 2 if it is leaving, 3 if it is gone.
-    pub(crate) fn load_thread<B: Begins>(&self, hand: &mut Hand<T>, row: u32) -> u64
-        requires table { IsOf self.now hand.old }
-        requires begins { Becomes self.now.layout hand.old.view (B.begins hand.old.view) }
-        requires thread { KeepsThread hand.old.view (B.begins hand.old.view) }
-        requires makes { MakesAtThreadQuietly (B.begins hand.old.view) (block_of self.now.layout row) (λ found. found) }
-        ensures table { hand.new.table ≡ hand.old.table }
-        ensures carried { hand.new.carried ≡ hand.old.carried }
-        ensures slots { hand.new.slots ≡ hand.old.slots }
-        ensures view { hand.new.view ≡ done (B.begins hand.old.view) result }
-    {
-        duties_are_kept();
-        duties_are_within();
-        accounts_are_there();
-        chains_are_there();
-        guarded_cells_stay();
-        handed_merges_live();
+        slots_are_free();
+        slots_are_known();
+        given_slots_are_unlocked();
         self.layout_is_plain();
-        let thread = block_of(self.layout, row) as usize;
-        let word = self.table.shared.load::<Looked<B>>(&mut hand.seat, thread);
-        if word == NOT_STARTED { RUNNING } else { word }
-    }
-
-    /// Loads the gate of the first object of the hand's chain. The rest of the chain is the hand's chain from then on.
-    pub(crate) fn load_chain<B: Begins>(&self, hand: &mut Hand<T>) -> u64
-        requires table { IsOf self.now hand.old }
-        requires begins { Becomes self.now.layout hand.old.view (B.begins hand.old.view) }
-        requires thread { KeepsThread hand.old.view (B.begins hand.old.view) }
-        requires chain { 0 < hand.old.view.head }
-        requires settles { SettlesNext (B.begins hand.old.view) }
-        ensures table { hand.new.table ≡ hand.old.table }
-        ensures carried { hand.new.carried ≡ hand.old.carried }
-        ensures slots { hand.new.slots ≡ hand.old.slots }
-        ensures view { hand.new.view ≡ done (B.begins hand.old.view) result }
-    {
-        duties_are_kept();
-        duties_are_within();
-        accounts_are_there();
-        chains_are_there();
-        guarded_cells_stay();
-        handed_merges_live();
+        self.words_are_there();
         hand.rows_are_there();
-        let index = in_line(GATE, hand.head - 1);
-        let word = self
-            .table
-            .shared
-            .load::<Continued<B>>(&mut hand.seat, index);
-        hand.head = next_of_dying(word);
-        word
-    }
-
-    /// Stores the word of the hand's own thread, which no longer runs after the step.
-    pub(crate) fn store_thread<B: Begins>(&self, hand: &mut Hand<T>, word: u64)
-        requires table { IsOf self.now hand.old }
-        requires begins { Becomes self.now.layout hand.old.view (B.begins hand.old.view) }
-        requires thread { KeepsThread hand.old.view (B.begins hand.old.view) }
-        requires stores { StoresThreadWord (B.begins hand.old.view) hand.old.view.thread word }
-        requires status { is_running (done (B.begins hand.old.view) (overwritten (B.begins hand.old.view))).status
-            ≡ false }
-        requires head { (done (B.begins hand.old.view) (overwritten (B.begins hand.old.view))).head
-            ≡ hand.old.view.head }
-        requires used { (done (B.begins hand.old.view) (overwritten (B.begins hand.old.view))).used
-            ≡ hand.old.view.used }
-        ensures table { hand.new.table ≡ hand.old.table }
-        ensures carried { hand.new.carried ≡ hand.old.carried }
-        ensures slots { hand.new.slots ≡ hand.old.slots }
-        ensures view { hand.new.view ≡ done (B.begins hand.old.view) (overwritten (B.begins hand.old.view)) }
-    {
-        duties_are_kept();
-        duties_are_within();
-        accounts_are_there();
-        chains_are_there();
-        guarded_cells_stay();
-        handed_merges_live();
-        self.layout_is_plain();
-        hand.rows_are_there();
-        let thread = hand.thread as usize;
-        self.table
-            .shared
-            .store::<Stored<B>>(&mut hand.seat, thread, word);
-        hand.running = false;
-    }
-
-    /// Swaps a word with another value.
-    pub(crate) fn swap<B: Begins>(&self, hand: &mut Hand<T>, line: usize, row: u32, new: u64) -> u64
-        requires table { IsOf self.now hand.old }
-        requires begins { Becomes self.now.layout hand.old.view (B.begins hand.old.view) }
-        requires thread { KeepsThread hand.old.view (B.begins hand.old.view) }
-        requires line { line < 5 }
-        requires there { row < row_count self.now.layout }
-        requires makes { MakesQuietly (B.begins hand.old.view) (in_tile line row) (λ found. new) }
-        ensures table { hand.new.table ≡ hand.old.table }
-        ensures carried { hand.new.carried ≡ hand.old.carried }
-        ensures slots { hand.new.slots ≡ hand.old.slots }
-        ensures view { hand.new.view ≡ done (B.begins hand.old.view) result }
-        ensures suits { SuitsFirst (B.begins hand.old.view) (B.begins hand.old.view).agenda result }
-    {
-        duties_are_kept();
-        duties_are_within();
-        accounts_are_there();
-        chains_are_there();
-        guarded_cells_stay();
-        handed_merges_live();
-        let index = in_line(line, row);
-        self.table
-            .shared
-            .swap::<Continued<B>>(&mut hand.seat, index, new)
-    }
-
-    /// Swaps a list's cell with another value.
-    pub(crate) fn swap_cell<B: Begins>(
-        &self,
-        hand: &mut Hand<T>,
-        row: u32,
-        cell: u32,
-        new: u64,
-    ) -> u64
-        requires table { IsOf self.now hand.old }
-        requires begins { Becomes self.now.layout hand.old.view (B.begins hand.old.view) }
-        requires thread { KeepsThread hand.old.view (B.begins hand.old.view) }
-        requires cell { cell < cell_limit }
-        requires there { row < row_count self.now.layout }
-        requires makes { MakesQuietly (B.begins hand.old.view) (cell_place row cell) (λ found. new) }
-        ensures table { hand.new.table ≡ hand.old.table }
-        ensures carried { hand.new.carried ≡ hand.old.carried }
-        ensures slots { hand.new.slots ≡ hand.old.slots }
-        ensures view { hand.new.view ≡ done (B.begins hand.old.view) result }
-        ensures suits { SuitsFirst (B.begins hand.old.view) (B.begins hand.old.view).agenda result }
-    {
-        duties_are_kept();
-        duties_are_within();
-        accounts_are_there();
-        chains_are_there();
-        guarded_cells_stay();
-        handed_merges_live();
-        let index = in_cell(row, cell);
-        self.table
-            .shared
-            .swap::<Continued<B>>(&mut hand.seat, index, new)
-    }
-
-    /// Swaps a cell of the list that the hand has locked. A reference of the hand goes in, and what the cell held is
-    /// the hand's from then on.
-    pub(crate) fn swap_item<B: Swap>(
-        &self,
-        hand: &mut Hand<T>,
-        row: u32,
-        cell: u32,
-        item: u64,
-    ) -> u64
-        requires table { IsOf self.now hand.old }
-        requires list { row ≡ B.list }
-        requires index { cell ≡ B.cell }
-        requires item { item ≡ B.item }
-        requires cell { cell < cell_limit }
-        requires there { row < row_count self.now.layout }
-        requires may { MaySwap hand.old.view row cell item }
-        ensures table { hand.new.table ≡ hand.old.table }
-        ensures carried { hand.new.carried ≡ hand.old.carried }
-        ensures slots { hand.new.slots ≡ hand.old.slots }
-        ensures view { hand.new.view ≡ swapped hand.old.view row cell item result }
-        ensures there { result ≤ row_count hand.old.view.layout }
-        ensures stays { (seen : ℕ) → cell_seen row cell hand.old.view ≡ Some seen → result ≡ seen }
-    {
-        work_is_put_aside();
-        immortals_are_free();
-        accounts_are_there();
-        chains_are_there();
-        items_are_there();
-        cells_are_swapped();
-        let index = in_cell(row, cell);
-        self.table
-            .shared
-            .swap::<Swapped<B>>(&mut hand.seat, index, item)
-    }
-
-    /// Adds to a word.
-    pub(crate) fn add<B: Begins>(&self, hand: &mut Hand<T>, line: usize, row: u32, more: u64) -> u64
-        requires table { IsOf self.now hand.old }
-        requires begins { Becomes self.now.layout hand.old.view (B.begins hand.old.view) }
-        requires thread { KeepsThread hand.old.view (B.begins hand.old.view) }
-        requires line { line < 5 }
-        requires there { row < row_count self.now.layout }
-        requires makes { MakesQuietly (B.begins hand.old.view) (in_tile line row) (λ found. (found + more) % 2 ^ 64) }
-        ensures table { hand.new.table ≡ hand.old.table }
-        ensures carried { hand.new.carried ≡ hand.old.carried }
-        ensures slots { hand.new.slots ≡ hand.old.slots }
-        ensures view { hand.new.view ≡ done (B.begins hand.old.view) result }
-        ensures suits { SuitsFirst (B.begins hand.old.view) (B.begins hand.old.view).agenda result }
-    {
-        duties_are_kept();
-        duties_are_within();
-        accounts_are_there();
-        chains_are_there();
-        guarded_cells_stay();
-        handed_merges_live();
-        let index = in_line(line, row);
-        self.table
-            .shared
-            .fetch_add::<Continued<B>>(&mut hand.seat, index, more)
-    }
-
-    /// Exchanges a word for another value if it is still the old one. Returns the value found.
-    pub(crate) fn exchange<B: Begins>(
-        &self,
-        hand: &mut Hand<T>,
-        line: usize,
-        row: u32,
-        old: u64,
-        new: u64,
-    ) -> u64
-        requires table { IsOf self.now hand.old }
-        requires begins { Becomes self.now.layout hand.old.view (B.begins hand.old.view) }
-        requires thread { KeepsThread hand.old.view (B.begins hand.old.view) }
-        requires line { line < 5 }
-        requires there { row < row_count self.now.layout }
-        requires makes { MakesQuietly (B.begins hand.old.view) (in_tile line row) (λ found. either (found == old) new found) }
-        ensures table { hand.new.table ≡ hand.old.table }
-        ensures carried { hand.new.carried ≡ hand.old.carried }
-        ensures slots { hand.new.slots ≡ hand.old.slots }
-        ensures view { hand.new.view ≡ done (B.begins hand.old.view) result }
-        ensures suits { SuitsFirst (B.begins hand.old.view) (B.begins hand.old.view).agenda result }
-        ensures finds { FindsKnown (B.begins hand.old.view) (B.begins hand.old.view).agenda result }
-    {
-        duties_are_kept();
-        duties_are_within();
-        accounts_are_there();
-        chains_are_there();
-        guarded_cells_stay();
-        handed_merges_live();
-        let index = in_line(line, row);
-        self.table
-            .shared
-            .compare_exchange::<Continued<B>>(&mut hand.seat, index, old, new)
-    }
-
-    /// Stores a word. `head` and `used` are those of the thread after the step.
-    pub(crate) fn store<B: Begins>(
-        &self,
-        hand: &mut Hand<T>,
-        line: usize,
-        row: u32,
-        word: u64,
-        head: u32,
-        used: u32,
-    )
-        requires table { IsOf self.now hand.old }
-        requires begins { Becomes self.now.layout hand.old.view (B.begins hand.old.view) }
-        requires thread { KeepsThread hand.old.view (B.begins hand.old.view) }
-        requires line { line < 5 }
-        requires there { row < row_count self.now.layout }
-        requires stores { StoresWord (B.begins hand.old.view) (in_tile line row) word }
-        requires status { (done (B.begins hand.old.view) (overwritten (B.begins hand.old.view))).status
-            ≡ hand.old.view.status }
-        requires head { (done (B.begins hand.old.view) (overwritten (B.begins hand.old.view))).head ≡ head }
-        requires used { (done (B.begins hand.old.view) (overwritten (B.begins hand.old.view))).used ≡ used }
-        ensures table { hand.new.table ≡ hand.old.table }
-        ensures carried { hand.new.carried ≡ hand.old.carried }
-        ensures slots { hand.new.slots ≡ hand.old.slots }
-        ensures view { hand.new.view ≡ done (B.begins hand.old.view) (overwritten (B.begins hand.old.view)) }
-    {
-        duties_are_kept();
-        duties_are_within();
-        accounts_are_there();
-        chains_are_there();
-        guarded_cells_stay();
-        handed_merges_live();
-        let index = in_line(line, row);
-        self.table
-            .shared
-            .store::<Stored<B>>(&mut hand.seat, index, word);
+        let address = address_of(self.layout, hand.thread, hand.head, *duty);
+        let index = place_at(address);
+        let access = access_of(*duty, hand.thread, hand.head);
+        let word = self.operate::<B>(&mut hand.seat, index, access);
+        let found = said_by(*duty, word);
+        // Computed behind the operation: a value from before it would be written back at each step.
+        let head = head_after(*duty, hand.head, found);
+        let used = used_after(*duty, hand.used);
+        let running = runs_after(*duty, hand.running);
         hand.head = head;
         hand.used = used;
+        hand.running = running;
+        found
+    }
+
+    /// Makes the operation on the word at the place.
+    #[inline(always)]
+    fn operate<B: Begins>(
+        &self,
+        seat: &mut Seat<Option<T>, View>,
+        index: usize,
+        access: Access,
+    ) -> u64
+        requires table { seat.old.table_id ≡ self.now.table }
+        requires there { index < self.now.table.words }
+        requires allowed { Allows
+            (λ (s : State (Option T) View). TableStands self.now.layout s.words s.homes s.views)
+            self.now.table.slots seat.old.id seat.old.me index (left_by access) (StepsBy B.begins seat.old.me) }
+        requires before { IfStored access (λ before. before ≡ overwritten (B.begins seat.old.me.0)) }
+        requires says { IfStored access (λ before. said (B.begins seat.old.me.0) (B.begins seat.old.me.0).agenda before
+            ≡ before) }
+        requires knows { IfStored access (λ before. (found : ℕ)
+            → OverwritesFirst (B.begins seat.old.me.0).thread (B.begins seat.old.me.0).agenda found
+            → found ≡ before) }
+        ensures table { seat.new.table_id ≡ seat.old.table_id }
+        ensures step { StepsBy B.begins seat.old.me result seat.new.me }
+    {
+        match access {
+            Access::Load => self.table.shared.load::<Stepped<B>>(seat, index),
+            Access::Store { word, before } => {
+                self.table
+                    .shared
+                    .store::<SteppedStored<B>>(seat, index, word);
+                before
+            }
+            Access::Add { more } => self.table.shared.fetch_add::<Stepped<B>>(seat, index, more),
+            Access::Swap { word } => self.table.shared.swap::<Stepped<B>>(seat, index, word),
+            Access::Exchange { old, new } => self
+                .table
+                .shared
+                .compare_exchange::<Stepped<B>>(seat, index, old, new),
+        }
     }
 }

@@ -107,14 +107,14 @@ held_lost bag t x h agenda later has extra no_less more less = record {
 
 -- ---- retains
 
-pub backed_not_immortal : (p : Accounts) (n : ℕ) (m : Machine) (t : ℕ) (a : Actor) (x : ℕ) (h : Holding)
-    (rest : List Duty)
-    → IsCounted m.layout x → AtDuty p n m t a (RetainLoad x h) rest → is_immortal_word (m.memory (Local x)) ≡ false
-backed_not_immortal p n m t a x h rest pos here =
-    let fits = head_of p n m t a (RetainLoad x h) rest here in
-    let alive = alive_backed p n m t a x here.core pos fits in
-    ne_eqb (local_part (m.memory (Local x))) immortal_local (elim alive.live.mode [
-      | InOwned o ↦ λ e. absurd (omega (arith, o.low, e))
-      | InSwapped s ↦ λ e. absurd (omega (arith, s.local, e))
-      | InMerged s ↦ λ e. absurd (omega (arith, s.local, e))
-    ])
+module _ {p : Accounts} {n : ℕ} {m : Machine} {t : ℕ} {a : Actor} {rest : List Duty} where
+  pub backed_not_immortal : (x : ℕ) (h : Holding) → IsCounted m.layout x → AtDuty p n m t a (RetainLoad x h) rest
+      → is_immortal_word (m.memory (Local x)) ≡ false
+  backed_not_immortal x h pos here =
+      let fits = head_of here in
+      let alive = alive_backed t a x here.core pos fits in
+      ne_eqb (local_part (m.memory (Local x))) immortal_local (elim alive.live.mode [
+        | InOwned o ↦ λ e. absurd (omega (arith, o.low, e))
+        | InSwapped s ↦ λ e. absurd (omega (arith, s.local, e))
+        | InMerged s ↦ λ e. absurd (omega (arith, s.local, e))
+      ])

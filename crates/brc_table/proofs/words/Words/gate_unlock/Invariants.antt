@@ -1,5 +1,6 @@
+use Rattle.brc_table.specs.Accesses.{row_of}
 use Rattle.brc_table.specs.Views.{unlocking}
 use Rattle.brc_table.proofs.words.Words.gate_unlock.Given as goal
 
-abbrev pub ghosts-store_giving : goal.ghosts-store_giving
-ghosts-store_giving g a = record { begins = λ v. unlocking v a.row }
+abbrev pub ghosts-step_from : goal.ghosts-step_from
+ghosts-step_from g a = record { begins = λ v. unlocking v (row_of a.duty.now) }

@@ -1,27 +1,31 @@
-use Rattle.std.proofs.Common.{◌≡◌, ℕ, ◌∙◌, sym, ap, subst}
+use Rattle.std.proofs.Common.{◌≡◌, ℕ, ◌∙◌, sym, ap}
 use Rattle.brc_model.specs.declared.layout.Layout.{Layout}
 use Rattle.brc_model.specs.Layout.{row_at}
-use Rattle.brc_table.specs.Hands.{HandState}
-use Rattle.brc_table.specs.Views.{bearing, next_row}
-use Rattle.brc_table.specs.Places.{in_tile}
-use Rattle.brc_model.specs.SlotLaws.{Takes}
-use Rattle.brc_table.specs.Begins.{StoresWithSlot}
+use Rattle.brc_table.specs.Hands.{HandState, TableState}
+use Rattle.brc_table.specs.Views.{next_row}
+use Rattle.brc_model.specs.declared.duty.Duty.TheVariants.{BirthKind}
+use Rattle.brc_model.specs.declared.duty.Holding.TheVariants.{AsCaller}
 use Rattle.brc_table.proofs.Becoming.{bearing_becomes}
-use Rattle.brc_table.proofs.Duties.{birth_stores}
+use Rattle.brc_table.proofs.Duties.{runs_on}
 use Rattle.brc_table.proofs.words.Words.kind_store.Goals as goal
 
-pub store_taking-requires-clause-begins : goal.store_taking-requires-clause-begins
-store_taking-requires-clause-begins g c =
+pub step_from-requires-clause-begins : goal.step_from-requires-clause-begins
+step_from-requires-clause-begins g c =
     bearing_becomes c.work_is_put_aside.ensures c.births_begin.ensures c.args.self.now.layout c.args.hand.now.view
     c.args.word c.requires.running c.requires.worker c.requires.room c.requires.kind c.requires.cells
 
-pub store_taking-requires-clause-stores : goal.store_taking-requires-clause-stores
-store_taking-requires-clause-stores g c =
+pub step_from-requires-clause-alive : goal.step_from-requires-clause-alive
+step_from-requires-clause-alive g c = runs_on c.args.hand.now.view c.requires.running.0
+
+pub step_from-requires-clause-next : goal.step_from-requires-clause-next
+step_from-requires-clause-next g c =
     let v = c.args.hand.now.view in
-    let thread : c.hand.inside.thread ≡ v.thread = c.hand.invariant.1 ∙ ap (λ (h : HandState). h.view.thread) c.hand.view_is in
+    let thread : c.hand.inside.thread ≡ v.thread =
+    c.hand.invariant.1 ∙ ap (λ (h : HandState). h.view.thread) c.hand.view_is in
     let used : c.hand.inside.used ≡ v.used = c.hand.invariant.4 ∙ ap (λ (h : HandState). h.view.used) c.hand.view_is in
     let row_is : c.row_at-row.result ≡ next_row v =
-    c.row_at-row.ensures ∙ (ap (λ (t : ℕ). row_at c.args.self.now.layout t c.hand.inside.used) thread
-    ∙ (ap (row_at c.args.self.now.layout v.thread) used ∙ ap (λ (l : Layout). row_at l v.thread v.used) (sym c.requires.table.1))) in
-    subst (λ (row : ℕ). StoresWithSlot (bearing v c.args.word) (in_tile 3 row) c.args.word (Takes row)) (sym row_is)
-    (birth_stores v c.args.word c.requires.running.0)
+    c.row_at-row.ensures ∙ (ap (λ (t : ℕ). row_at c.self.inside.layout t c.hand.inside.used) thread
+    ∙ (ap (row_at c.self.inside.layout v.thread) used
+    ∙ ap (λ (l : Layout). row_at l v.thread v.used)
+    (c.self.invariant.0 ∙ (ap (λ (w : TableState). w.layout) c.self.view_is ∙ sym c.requires.table.1)))) in
+    ap (λ (x : ℕ). BirthKind x AsCaller c.args.word) (sym row_is)

@@ -1,5 +1,6 @@
+use Rattle.brc_model.specs.Duties.{new_word}
 use Rattle.brc_table.specs.Views.{bearing}
 use Rattle.brc_table.proofs.words.Words.kind_store.Given as goal
 
-abbrev pub ghosts-store_taking : goal.ghosts-store_taking
-ghosts-store_taking g a = record { begins = λ v. bearing v a.word }
+abbrev pub ghosts-step_from : goal.ghosts-step_from
+ghosts-step_from g a = record { begins = λ v. bearing v (new_word 0 0 a.duty.now 0) }

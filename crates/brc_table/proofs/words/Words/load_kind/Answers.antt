@@ -1,4 +1,9 @@
-use Rattle.std.proofs.Common.{◌≡◌, ℕ, ◌<◌, arith, ap, sym, ◌∙◌, subst}
+use Rattle.std.proofs.Common.{◌≡◌, ℕ, ◌<◌, Option, arith, ap, sym, ◌∙◌, subst}
+use Rattle.atomic_table.specs.Table.{State, Allows}
+use Rattle.brc_model.specs.declared.layout.Layout.{Layout}
+use Rattle.brc_table.specs.declared.view.View.{View}
+use Rattle.brc_table.specs.Homes.{TableStands}
+use Rattle.brc_table.specs.Plays.{Asks}
 use Rattle.brc_model.specs.Layout.{row_count}
 use Rattle.brc_table.specs.Hands.{TableState, HandState, HasNoWork, MayLook}
 use Rattle.brc_table.specs.Places.{word_count, in_tile}
@@ -20,14 +25,16 @@ load-requires g c =
       ap (λ (h : HandState). h.table) c.hand.view_is ∙ (c.requires.table.0 ∙ sym table_is),
       subst (λ (i : ℕ). i < shared.table_id.words) (sym at) (subst (λ (k : ℕ). in_tile 3 c.args.row < k)
           (sym (c.self.invariant.1 ∙ ap word_count layout_is)) there),
-      asks_allowed c.duties_are_kept.ensures c.duties_are_within.ensures
-          c.accounts_are_there.ensures c.chains_are_there.ensures
-          c.guarded_cells_stay.ensures c.handed_merges_live.ensures c.work_is_put_aside.ensures
-          c.kinds_are_asked.ensures c.immortals_are_free.ensures c.locked_slots_are_full.ensures c.args.self.now now x
-          c.requires.running (subst (HasNoWork now.view) same c.requires.idle)
-          (subst (MayLook now.view) same c.requires.usable)
-          (subst (λ (y : ℕ). y < row_count c.args.self.now.layout) same c.requires.there) shared.key
-          shared.table_id.slots hand.seat.id c.in_line-index.result hand.seat.me
-          (record { layout_is = layout_is; view_is = ap (λ (h : HandState). h.view) c.hand.view_is })
-          (at ∙ ap (in_tile 3) same),
+      subst (λ (i : ℕ). Allows
+          (λ (s : State (Option g.row.T.Denot) View). TableStands shared.key s.words s.homes s.views)
+          shared.table_id.slots hand.seat.id hand.seat.me i (λ found. found)
+          (λ found after. Asks x hand.seat.me found after)) (sym (at ∙ ap (in_tile 3) same))
+          (asks_allowed c.duties_are_kept.ensures c.duties_are_within.ensures c.accounts_are_there.ensures
+          c.chains_are_there.ensures c.guarded_cells_stay.ensures c.handed_merges_live.ensures
+          c.work_is_put_aside.ensures c.kinds_are_asked.ensures c.immortals_are_free.ensures
+          c.locked_slots_are_full.ensures shared.key now.view x c.requires.running
+          (subst (HasNoWork now.view) same c.requires.idle) (subst (MayLook now.view) same c.requires.usable)
+          (subst (λ (y : ℕ). y < row_count shared.key) same
+          (subst (λ (l : Layout). c.args.row < row_count l) (sym layout_is) c.requires.there)) shared.table_id.slots
+          hand.seat.id hand.seat.me (ap (λ (h : HandState). h.view) c.hand.view_is)),
     )

@@ -1,10 +1,21 @@
-use Rattle.brc_table.proofs.ExitDuties.{claiming_becomes, claim_makes}
+use Rattle.std.proofs.Common.{◌<◌, refl, subst}
+use Rattle.brc_model.specs.declared.layout.Layout.{Layout}
+use Rattle.brc_model.specs.Layout.{row_count}
+use Rattle.brc_table.proofs.Duties.{runs_on}
+use Rattle.brc_table.proofs.ExitDuties.{claiming_becomes}
 use Rattle.brc_table.proofs.words.Words.mark_claim.Goals as goal
 
-pub swap-requires-clause-begins : goal.swap-requires-clause-begins
-swap-requires-clause-begins g c =
+pub step_from-requires-clause-begins : goal.step_from-requires-clause-begins
+step_from-requires-clause-begins g c =
     claiming_becomes c.claims_begin.ensures c.args.self.now.layout c.args.hand.now.view c.args.row c.requires.free
     c.requires.own c.requires.there
 
-pub swap-requires-clause-makes : goal.swap-requires-clause-makes
-swap-requires-clause-makes g c = claim_makes c.args.hand.now.view c.args.row c.requires.free
+pub step_from-requires-clause-alive : goal.step_from-requires-clause-alive
+step_from-requires-clause-alive g c = runs_on c.args.hand.now.view c.requires.free.running
+
+pub step_from-requires-clause-next : goal.step_from-requires-clause-next
+step_from-requires-clause-next g c = refl
+
+pub step_from-requires-clause-there : goal.step_from-requires-clause-there
+step_from-requires-clause-there g c =
+    subst (λ (l : Layout). c.args.row < row_count l) c.requires.table.1 c.requires.there

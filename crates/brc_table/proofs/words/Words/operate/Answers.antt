@@ -3,8 +3,8 @@ use Rattle.atomic_table.specs.Table.{State, Allows}
 use Rattle.brc_table.specs.declared.view.View.{View}
 use Rattle.brc_table.specs.Hands.{TableState}
 use Rattle.brc_table.specs.Homes.{TableStands}
-use Rattle.brc_table.specs.Accesses.{left_by}
-use Rattle.brc_table.specs.DutySteps.{Steps}
+use Rattle.brc_effect.specs.Accesses.{left_by}
+use Rattle.brc_table.specs.DutySteps.{StepsBy}
 use Rattle.brc_table.proofs.StoredSteps.{stored_allowed}
 use Rattle.brc_table.proofs.words.Words.operate.Goals as goal
 
@@ -21,6 +21,6 @@ store-requires g c =
           c.requires.knows
           (subst (λ (w : TableState). Allows
           (λ (s : State (Option g.row.T.Denot) View). TableStands w.layout s.words s.homes s.views) w.table.slots
-          seat.id seat.me c.args.index (left_by c.args.access) (Steps begins seat.me)) (sym c.self.view_is)
+          seat.id seat.me c.args.index (left_by c.args.access) (StepsBy begins seat.me)) (sym c.self.view_is)
           c.requires.allowed),
     )

@@ -1,9 +1,11 @@
-use Rattle.std.proofs.Common.{◌<◌, subst}
+use Rattle.std.proofs.Common.{sym, subst}
 use Rattle.brc_model.specs.declared.layout.Layout.{Layout}
-use Rattle.brc_model.specs.Layout.{row_count}
+use Rattle.brc_model.specs.Counting.{IsPlainLayout}
+use Rattle.brc_model.specs.Duties.{address_of}
+use Rattle.brc_table.specs.Places.{HasWord}
 use Rattle.brc_table.specs.Accesses.{row_of}
 use Rattle.brc_table.proofs.Becoming.{turned_becomes}
-use Rattle.brc_table.proofs.NextDuty.{work_row_there}
+use Rattle.brc_table.proofs.NextDuty.{word_there, work_row_there}
 use Rattle.brc_table.proofs.words.Words.resume.Goals as goal
 
 pub step_from-requires-clause-begins : goal.step_from-requires-clause-begins
@@ -13,5 +15,9 @@ step_from-requires-clause-begins g c =
 
 pub step_from-requires-clause-there : goal.step_from-requires-clause-there
 step_from-requires-clause-there g c =
-    subst (λ (l : Layout). row_of c.args.duty < row_count l) c.requires.table.1
-    (work_row_there c.args.hand.now.view (row_of c.args.duty) c.args.duty c.rows_are_there.ensures c.requires.next)
+    let v = c.args.hand.now.view in
+    let d = c.args.duty in
+    subst (λ (l : Layout). HasWord l (address_of l v.thread v.head d)) c.requires.table.1
+    (word_there v d (subst IsPlainLayout (sym c.requires.table.1) c.layout_is_plain.ensures) c.rows_are_there.ensures
+    c.requires.known c.requires.cell c.requires.chain c.requires.row
+    (λ this. work_row_there v (row_of d) d c.rows_are_there.ensures c.requires.next))

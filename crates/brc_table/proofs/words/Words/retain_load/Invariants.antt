@@ -1,5 +1,6 @@
+use Rattle.brc_table.specs.Accesses.{row_of}
 use Rattle.brc_table.specs.Views.{retaining}
 use Rattle.brc_table.proofs.words.Words.retain_load.Given as goal
 
-abbrev pub ghosts-load : goal.ghosts-load
-ghosts-load g a = record { begins = λ v. retaining v a.row }
+abbrev pub ghosts-step_from : goal.ghosts-step_from
+ghosts-step_from g a = record { begins = λ v. retaining v (row_of a.duty.now) }

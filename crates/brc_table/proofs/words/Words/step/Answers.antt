@@ -1,9 +1,10 @@
-use Rattle.std.proofs.Common.{◌<◌, subst}
+use Rattle.std.proofs.Common.{sym, subst}
 use Rattle.brc_model.specs.declared.layout.Layout.{Layout}
-use Rattle.brc_model.specs.Layout.{row_count}
-use Rattle.brc_table.specs.Accesses.{row_of}
+use Rattle.brc_model.specs.Counting.{IsPlainLayout}
+use Rattle.brc_model.specs.Duties.{address_of}
+use Rattle.brc_table.specs.Places.{HasWord}
 use Rattle.brc_table.proofs.Changing.{itself_becomes}
-use Rattle.brc_table.proofs.NextDuty.{next_there}
+use Rattle.brc_table.proofs.NextDuty.{next_there, word_there}
 use Rattle.brc_table.proofs.words.Words.step.Goals as goal
 
 pub step_from-requires-clause-begins : goal.step_from-requires-clause-begins
@@ -11,5 +12,9 @@ step_from-requires-clause-begins g c = itself_becomes c.args.self.now.layout c.a
 
 pub step_from-requires-clause-there : goal.step_from-requires-clause-there
 step_from-requires-clause-there g c =
-    subst (λ (l : Layout). row_of c.args.duty < row_count l) c.requires.table.1
-    (next_there c.args.hand.now.view c.args.duty c.requires.next c.requires.known c.rows_are_there.ensures)
+    let v = c.args.hand.now.view in
+    let d = c.args.duty in
+    subst (λ (l : Layout). HasWord l (address_of l v.thread v.head d)) c.requires.table.1
+    (word_there v d (subst IsPlainLayout (sym c.requires.table.1) c.layout_is_plain.ensures) c.rows_are_there.ensures
+    c.requires.known c.requires.cell c.requires.chain c.requires.row
+    (next_there v d c.requires.next c.requires.known c.rows_are_there.ensures))

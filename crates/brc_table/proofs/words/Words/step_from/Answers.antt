@@ -1,50 +1,89 @@
 use Rattle.std.specs.List.{list_any}
 use Rattle.std.specs.Prelude.{◌==◌, ◌-◌}
-use Rattle.std.proofs.Common.{◌≡◌, ◌≢◌, ℕ, ◌<◌, ◌^◌, Bool, [], ◌∷◌, refl, sym, ap, ◌∙◌, subst, arith}
+use Rattle.std.proofs.Common.{◌≡◌, ◌≢◌, ℕ, ◌<◌, ◌≤◌, Option, List, ◌^◌, Bool, [], ◌∷◌, refl, sym, ap, ◌∙◌, subst, arith}
+use Rattle.atomic_table.specs.Table.{Me}
+use Rattle.brc_model.specs.declared.duty.Duty.{Duty}
+use Rattle.brc_model.specs.declared.actor.Status.{Status}
 use Rattle.brc_model.specs.declared.actor.Status.TheVariants.{Gone}
+use Rattle.brc_model.specs.Counting.{IsPlainLayout}
+use Rattle.brc_model.specs.Limits.{worker_limit}
 use Rattle.brc_model.specs.declared.layout.Layout.{Layout}
 use Rattle.brc_model.specs.Duties.{address_of, new_word, new_head}
 use Rattle.brc_model.specs.Layout.{block_size}
-use Rattle.brc_model.specs.Machine.{is_running, used_by}
+use Rattle.brc_model.specs.Machine.{is_running, status_by, used_by}
 use Rattle.brc_model.specs.SlotLaws.{use_of}
 use Rattle.brc_model.specs.Stores.{Overwrites}
 use Rattle.brc_model.specs.Within.{Suits}
 use Rattle.brc_table.specs.declared.view.View.{View}
-use Rattle.brc_table.specs.Accesses.{IfStored, IsNext, left_by}
+use Rattle.brc_effect.specs.Accesses.{IfStored, left_by}
+use Rattle.brc_table.specs.Accesses.{HasAccess, HasChain, IsNext}
 use Rattle.brc_table.specs.Begins.{KeepsThread}
-use Rattle.brc_table.specs.DutySteps.{DueSlot}
-use Rattle.brc_table.specs.Hands.{HandState}
+use Rattle.brc_table.specs.DutySteps.{DueSlot, Steps, StepsBy}
+use Rattle.brc_table.specs.Hands.{HandState, TableState}
+use Rattle.brc_table.specs.Rule.{reading}
+use Rattle.brc_table.specs.Views.{RowsAreThere}
 use Rattle.brc_table.specs.Homes.{held_in}
-use Rattle.brc_table.specs.Places.{place}
+use Rattle.brc_table.specs.Places.{HasWord, place, word_count}
 use Rattle.brc_table.specs.Plays.{SuitsFirst, FirstFindsOwner, FindsKnown, overwritten_by}
 use Rattle.brc_table.specs.Uses.{held_after, first_due}
 use Rattle.brc_table.specs.Views.{done}
-use Rattle.brc_table.proofs.Duties.{rows_few}
 use Rattle.brc_table.proofs.Places.{place_within}
 use Rattle.brc_table.proofs.NextDuty as next
 use Rattle.brc_table.proofs.Permitted.{next_permitted}
 use Rattle.brc_table.proofs.words.Words.step_from.Goals as goal
 
-pub access_of-access-requires-clause-thread : goal.access_of-access-requires-clause-thread
-access_of-access-requires-clause-thread g c =
+-- The hand's own thread and head are those of its view.
+thread_here : (hand : HandState) (layout : Layout) → RowsAreThere hand.view → IsPlainLayout layout
+    → hand.view.layout ≡ layout → hand.view.thread ≤ worker_limit
+thread_here hand layout rows plain is =
+    let workers = ap (λ (l : Layout). l.workers) is in omega (arith, workers, rows.thread, plain.few_workers)
+
+pub address_of-address-requires-clause-some_rows : goal.address_of-address-requires-clause-some_rows
+address_of-address-requires-clause-some_rows g c =
+    (subst IsPlainLayout (sym (c.self.invariant.0 ∙ ap (λ (w : TableState). w.layout) c.self.view_is))
+    c.layout_is_plain.ensures).some_rows
+
+-- The word is where the hand's own fields say.
+word_here : (d : Duty) (l k : Layout) (t u head n : ℕ) → l ≡ k → t ≡ u → head ≡ n → HasWord k (address_of k u n d)
+    → HasWord l (address_of l t head d)
+word_here d l k t u head n layout thread same there =
+    subst (λ (z : Layout). HasWord z (address_of z t head d)) (sym layout)
+    (subst (λ (z : ℕ). HasWord k (address_of k z head d)) (sym thread)
+    (subst (λ (z : ℕ). HasWord k (address_of k u z d)) (sym same) there))
+
+pub address_of-address-requires-clause-indexed : goal.address_of-address-requires-clause-indexed
+address_of-address-requires-clause-indexed g c =
+    let v = c.args.hand.now.view in
+    next.index_small c.args.self.now.layout v.thread v.head c.args.duty.now c.layout_is_plain.ensures c.requires.there
+
+pub access_of-access-requires : goal.access_of-access-requires
+access_of-access-requires g c =
     let thread = c.hand.invariant.1 ∙ ap (λ (h : HandState). h.view.thread) c.hand.view_is in
-    let workers = ap (λ (l : Layout). l.workers) c.requires.table.1 in
-    omega (arith, thread, workers, c.rows_are_there.ensures.thread, c.layout_is_plain.ensures.few_workers)
+    record {
+      thread = subst (λ (t : ℕ). t ≤ worker_limit) (sym thread)
+          (thread_here c.args.hand.now c.args.self.now.layout c.rows_are_there.ensures c.layout_is_plain.ensures
+          c.requires.table.1);
+    }
 
-pub operate-found-requires-clause-table : goal.operate-found-requires-clause-table
-operate-found-requires-clause-table g c = ap (λ (h : HandState). h.table) c.hand.view_is ∙ c.requires.table.0
+pub operate-word-requires-clause-table : goal.operate-word-requires-clause-table
+operate-word-requires-clause-table g c = ap (λ (h : HandState). h.table) c.hand.view_is ∙ c.requires.table.0
 
-pub operate-found-requires-clause-there : goal.operate-found-requires-clause-there
-operate-found-requires-clause-there g c =
-    let layout = c.args.self.now.layout in
-    let address = address_of layout 0 0 c.args.duty.now in
-    subst (λ (i : ℕ). i < c.args.self.now.table.words) (sym (c.place_of-index.ensures layout 0 0))
-    (subst (λ (n : ℕ). place address < n) (sym c.words_are_there.ensures)
-    (place_within layout address c.layout_is_plain.ensures.few_workers
-    (next.word_of layout 0 0 c.args.duty.now c.requires.known c.requires.cell c.requires.there)))
+pub operate-word-requires-clause-there : goal.operate-word-requires-clause-there
+operate-word-requires-clause-there g c =
+    let v = c.args.hand.now.view in
+    let layout = c.self.inside.layout in
+    let layout_is = c.self.invariant.0 ∙ ap (λ (w : TableState). w.layout) c.self.view_is in
+    let address = address_of layout c.hand.inside.thread c.hand.inside.head c.args.duty.now in
+    subst (λ (i : ℕ). i < c.args.self.now.table.words) (sym (c.place_at-index.ensures ∙ ap place c.address_of-address.ensures))
+    (subst (λ (n : ℕ). place address < n) (sym (c.words_are_there.ensures ∙ ap word_count (sym layout_is)))
+    (place_within layout address
+    (subst (λ (l : Layout). l.workers ≤ worker_limit) (sym layout_is) c.layout_is_plain.ensures.few_workers)
+    (word_here c.args.duty.now layout c.args.self.now.layout c.hand.inside.thread v.thread c.hand.inside.head v.head
+    layout_is (c.hand.invariant.1 ∙ ap (λ (h : HandState). h.view.thread) c.hand.view_is)
+    (c.hand.invariant.3 ∙ ap (λ (h : HandState). h.view.head) c.hand.view_is) c.requires.there)))
 
-pub operate-found-requires-clause-allowed : goal.operate-found-requires-clause-allowed
-operate-found-requires-clause-allowed g c =
+pub operate-word-requires-clause-allowed : goal.operate-word-requires-clause-allowed
+operate-word-requires-clause-allowed g c =
     let begins = g.B.Begins.begins in
     let hand = c.hand.inside in
     let me = hand.seat.me in
@@ -56,22 +95,29 @@ operate-found-requires-clause-allowed g c =
     let keeps = subst (λ (h : HandState). KeepsThread h.view (begins h.view)) (sym view_is) c.requires.thread in
     let thread : hand.thread ≡ u.thread = c.hand.invariant.1 ∙ sym keeps.thread in
     let head : hand.head ≡ u.head = c.hand.invariant.3 ∙ sym keeps.head in
+    let layout : c.self.inside.layout ≡ u.layout =
+    c.self.invariant.0 ∙ (ap (λ (w : TableState). w.layout) c.self.view_is
+    ∙ (sym c.requires.table.1 ∙ (ap (λ (h : HandState). h.view.layout) (sym view_is) ∙ sym keeps.layout))) in
+    let index : c.place_at-index.result ≡ place (address_of u.layout u.thread u.head d) =
+    c.place_at-index.ensures ∙ ap place c.address_of-address.ensures
+    ∙ (ap (λ (l : Layout). place (address_of l hand.thread hand.head d)) layout
+    ∙ (ap (λ (t : ℕ). place (address_of u.layout t hand.head d)) thread
+    ∙ ap (λ (k : ℕ). place (address_of u.layout u.thread k d)) head)) in
     next_permitted c.duties_are_kept.ensures c.duties_are_within.ensures c.accounts_are_there.ensures
     c.chains_are_there.ensures c.guarded_cells_stay.ensures c.handed_merges_live.ensures words c.args.hand.now begins
-    words.layout words.table.slots hand.seat.id c.place_of-index.result me
+    words.layout words.table.slots hand.seat.id c.place_at-index.result me
     (record { layout_is = refl; view_is = ap (λ (h : HandState). h.view) view_is }) c.requires.begins
     c.slots_are_free.ensures c.slots_are_known.ensures c.given_slots_are_unlocked.ensures c.hand.invariant.0 d
     c.requires.known (subst (λ (h : HandState). IsNext d (begins h.view).agenda) (sym view_is) c.requires.next)
-    (subst (λ (h : HandState). (begins h.view).status ≢ Gone) (sym view_is) c.requires.alive)
-    (c.place_of-index.ensures u.layout u.thread u.head) (left_by access)
+    (subst (λ (h : HandState). (begins h.view).status ≢ Gone) (sym view_is) c.requires.alive) index (left_by access)
     (subst (λ (t : ℕ). (running : Bool) (n found : ℕ) → Suits t running n d found
     → left_by access found ≡ new_word t u.head d found) thread
     (subst (λ (k : ℕ). (running : Bool) (n found : ℕ) → Suits hand.thread running n d found
     → left_by access found ≡ new_word hand.thread k d found) head c.access_of-access.ensures.word))
     (subst (λ (h : HandState). DueSlot (use_of d 0) h.slots (begins h.view)) (sym view_is) c.requires.due)
 
-pub operate-found-requires-clause-before : goal.operate-found-requires-clause-before
-operate-found-requires-clause-before g c =
+pub operate-word-requires-clause-before : goal.operate-word-requires-clause-before
+operate-word-requires-clause-before g c =
     let begins = g.B.Begins.begins in
     let hand = c.hand.inside in
     let u = begins hand.seat.me.0 in
@@ -84,8 +130,25 @@ operate-found-requires-clause-before g c =
     (subst (λ (t : ℕ). IfStored access (λ b. b ≡ overwritten_by t (d ∷ [])))
     (c.hand.invariant.1 ∙ sym keeps.thread) c.access_of-access.ensures.before)
 
-pub operate-found-requires-clause-knows : goal.operate-found-requires-clause-knows
-operate-found-requires-clause-knows g c =
+pub operate-word-requires-clause-says : goal.operate-word-requires-clause-says
+operate-word-requires-clause-says g c =
+    let begins = g.B.Begins.begins in
+    let hand = c.hand.inside in
+    let u = begins hand.seat.me.0 in
+    let d = c.args.duty.now in
+    let view_is = c.hand.view_is in
+    let access = c.access_of-access.result in
+    let keeps = subst (λ (h : HandState). KeepsThread h.view (begins h.view)) (sym view_is) c.requires.thread in
+    next.says_next u d (subst (λ (h : HandState). IsNext d (begins h.view).agenda) (sym view_is) c.requires.next)
+    c.requires.known access
+    (subst (λ (t : ℕ). IfStored access (λ b. reading (address_of u.layout t u.head d) b ≡ b))
+    (c.hand.invariant.1 ∙ sym keeps.thread)
+    (subst (λ (k : ℕ). IfStored access (λ b. reading (address_of u.layout hand.thread k d) b ≡ b))
+    (c.hand.invariant.3 ∙ sym keeps.head)
+    (next.stored_says u.layout hand.thread hand.head d access c.access_of-access.ensures.started)))
+
+pub operate-word-requires-clause-knows : goal.operate-word-requires-clause-knows
+operate-word-requires-clause-knows g c =
     let begins = g.B.Begins.begins in
     let hand = c.hand.inside in
     let u = begins hand.seat.me.0 in
@@ -98,10 +161,23 @@ operate-found-requires-clause-knows g c =
     (subst (λ (t : ℕ). IfStored access (λ b. (found : ℕ) → Overwrites t d found → found ≡ b))
     (c.hand.invariant.1 ∙ sym keeps.thread) c.access_of-access.ensures.knows)
 
-pub head_after-head-requires-clause-row : goal.head_after-head-requires-clause-row
-head_after-head-requires-clause-row g c =
-    next.next_row_low c.args.duty.now
-    (omega (arith, c.requires.there, rows_few c.args.self.now.layout c.layout_is_plain.ensures))
+-- What the hand has done, and what the word that it found said.
+stepped : (begins : View → View) (duty : Duty) {T : Type 0} (me after : Me (Option T) View) (word found : ℕ)
+    → IsNext duty (begins me.0).agenda → HasAccess duty → StepsBy begins me word after
+    → found ≡ reading (address_of (begins me.0).layout (begins me.0).thread (begins me.0).head duty) word
+    → Steps begins me found after
+stepped begins duty me after word found is known steps says =
+    subst (λ (k : ℕ). Steps begins me k after)
+    (next.said_next (begins me.0) duty is known word ∙ sym says) steps
+
+pub head_after-head-requires : goal.head_after-head-requires
+head_after-head-requires g c =
+    let v = c.args.hand.now.view in
+    record {
+      row =
+          next.next_row_low c.args.self.now.layout v.thread v.head c.args.duty.now c.layout_is_plain.ensures
+          c.requires.there;
+    }
 
 pub used_after-used-requires : goal.used_after-used-requires
 used_after-used-requires g c =
@@ -119,26 +195,28 @@ invariant_of-hand g c =
     let u = begins before in
     let d = c.args.duty.now in
     let view_is = c.hand.view_is in
-    let found = c.operate-found.result in
-    let after = c.operate-found.new.seat.me in
-    let step = c.operate-found.ensures.step in
+    let found = c.said_by-found.result in
+    let after = c.operate-word.new.seat.me in
     let keeps = subst (λ (h : HandState). KeepsThread h.view (begins h.view)) (sym view_is) c.requires.thread in
     let is = subst (λ (h : HandState). IsNext d (begins h.view).agenda) (sym view_is) c.requires.next in
     let known = c.requires.known in
     let fits = c.hand.invariant in
+    let step = stepped begins d c.hand.inside.seat.me after c.operate-word.result found is known
+    c.operate-word.ensures.step (c.said_by-found.ensures u.layout u.thread u.head) in
     let thread : after.0.thread ≡ before.thread =
     ap (λ (v : View). v.thread) step.0.0 ∙ (next.thread_next u d is known found ∙ keeps.thread) in
     let layout : after.0.layout ≡ before.layout =
     ap (λ (v : View). v.layout) step.0.0 ∙ (next.layout_next u d is known found ∙ keeps.layout) in
     let given : after.0.given ≡ before.given =
     ap (λ (v : View). v.given) step.0.0 ∙ (next.given_next u d is known found ∙ keeps.given) in
-    let status : is_running after.0.status ≡ is_running before.status =
+    let status : is_running after.0.status ≡ is_running (status_by before.status d) =
     ap (λ (v : View). is_running v.status) step.0.0
-    ∙ ap is_running (next.status_next u d is known found ∙ keeps.status) in (
+    ∙ (ap is_running (next.status_next u d is known found)
+    ∙ ap (λ (s : Status). is_running (status_by s d)) keeps.status) in (
       step.0.2 fits.0,
       fits.1 ∙ sym thread,
-      fits.2 ∙ sym status,
-      c.head_after-head.ensures found
+      c.runs_after-running.ensures before.status fits.2 ∙ sym status,
+      c.head_after-head.ensures
           ∙ (ap (λ (k : ℕ). new_head k d found) (fits.3 ∙ sym keeps.head)
           ∙ sym (ap (λ (v : View). v.head) step.0.0 ∙ next.head_next u d is known found)),
       c.used_after-used.ensures
@@ -151,54 +229,81 @@ invariant_of-hand g c =
     )
 
 pub returns-clause-table : goal.returns-clause-table
-returns-clause-table g c = c.operate-found.ensures.table ∙ ap (λ (h : HandState). h.table) c.hand.view_is
+returns-clause-table g c = c.operate-word.ensures.table ∙ ap (λ (h : HandState). h.table) c.hand.view_is
 
 pub returns-clause-carried : goal.returns-clause-carried
 returns-clause-carried g c = ap (λ (h : HandState). h.carried) c.hand.view_is
 
+-- What a caller reads off the step.
+record Made (begins : View → View) (hand : HandState) (d : Duty) (found : ℕ) (after : View) (slots : List (ℕ × ℕ))
+    : Type 0 where
+  slots_are : slots ≡ held_after hand.slots (use_of d 0) (first_due (d ∷ []) found)
+  view_is : after ≡ done (begins hand.view) found
+  overwrites : Overwrites hand.view.thread d found
+  suits : SuitsFirst (begins hand.view) (begins hand.view).agenda found
+  owner : FirstFindsOwner (begins hand.view) (begins hand.view).agenda found
+  finds : FindsKnown (begins hand.view) (begins hand.view).agenda found
+
+made : (begins : View → View) (hand : HandState) (d : Duty) {T : Type 0} (me after : Me (Option T) View)
+    (word found : ℕ) → me.0 ≡ hand.view → held_in me.1 ≡ hand.slots → KeepsThread hand.view (begins hand.view)
+    → IsNext d (begins hand.view).agenda → HasAccess d → StepsBy begins me word after
+    → ((layout : Layout) (t head : ℕ) → found ≡ reading (address_of layout t head d) word)
+    → Made begins hand d found after.0 (held_in after.1)
+made begins hand d me after word found view_is slots_is keeps coming known steps says =
+    let u = begins me.0 in
+    let is = subst (λ (v : View). IsNext d (begins v).agenda) (sym view_is) coming in
+    let step = stepped begins d me after word found is known steps (says u.layout u.thread u.head) in
+    record {
+      slots_are =
+          step.0.3 ∙ (next.slots_next u d is known (held_in me.1) found
+          ∙ ap (λ (l : List (ℕ × ℕ)). held_after l (use_of d 0) (first_due (d ∷ []) found)) slots_is);
+      view_is = step.0.0 ∙ ap (λ (v : View). done (begins v) found) view_is;
+      overwrites =
+          subst (λ (t : ℕ). Overwrites t d found) (ap (λ (v : View). (begins v).thread) view_is ∙ keeps.thread)
+          (next.overwrites_next u d is known found step.4);
+      suits = subst (λ (v : View). SuitsFirst (begins v) (begins v).agenda found) view_is step.1;
+      owner = subst (λ (v : View). FirstFindsOwner (begins v) (begins v).agenda found) view_is step.2;
+      finds = subst (λ (v : View). FindsKnown (begins v) (begins v).agenda found) view_is step.3;
+    }
+
 pub returns-clause-slots : goal.returns-clause-slots
 returns-clause-slots g c =
-    let begins = g.B.Begins.begins in
-    let d = c.args.duty.now in
-    let found = c.operate-found.result in
-    let me = c.hand.inside.seat.me in
-    let is = subst (λ (h : HandState). IsNext d (begins h.view).agenda) (sym c.hand.view_is) c.requires.next in
-    c.operate-found.ensures.step.0.3
-    ∙ (next.slots_next (begins me.0) d is c.requires.known (held_in me.1) found
-    ∙ ap (λ (h : HandState). held_after h.slots (use_of d 0) (first_due (d ∷ []) found)) c.hand.view_is)
+    (made g.B.Begins.begins c.args.hand.now c.args.duty.now c.hand.inside.seat.me c.operate-word.new.seat.me
+    c.operate-word.result c.said_by-found.result (ap (λ (h : HandState). h.view) c.hand.view_is)
+    (ap (λ (h : HandState). h.slots) c.hand.view_is) c.requires.thread c.requires.next c.requires.known
+    c.operate-word.ensures.step c.said_by-found.ensures).slots_are
 
 pub returns-clause-view : goal.returns-clause-view
 returns-clause-view g c =
-    let begins = g.B.Begins.begins in
-    c.operate-found.ensures.step.0.0
-    ∙ ap (λ (h : HandState). done (begins h.view) c.operate-found.result) c.hand.view_is
+    (made g.B.Begins.begins c.args.hand.now c.args.duty.now c.hand.inside.seat.me c.operate-word.new.seat.me
+    c.operate-word.result c.said_by-found.result (ap (λ (h : HandState). h.view) c.hand.view_is)
+    (ap (λ (h : HandState). h.slots) c.hand.view_is) c.requires.thread c.requires.next c.requires.known
+    c.operate-word.ensures.step c.said_by-found.ensures).view_is
 
 pub returns-clause-overwrites : goal.returns-clause-overwrites
 returns-clause-overwrites g c =
-    let begins = g.B.Begins.begins in
-    let d = c.args.duty.now in
-    let found = c.operate-found.result in
-    let u = begins c.hand.inside.seat.me.0 in
-    let view_is = c.hand.view_is in
-    let keeps = subst (λ (h : HandState). KeepsThread h.view (begins h.view)) (sym view_is) c.requires.thread in
-    let is = subst (λ (h : HandState). IsNext d (begins h.view).agenda) (sym view_is) c.requires.next in
-    subst (λ (t : ℕ). Overwrites t d found) (keeps.thread ∙ ap (λ (h : HandState). h.view.thread) view_is)
-    (next.overwrites_next u d is c.requires.known found c.operate-found.ensures.step.4)
+    (made g.B.Begins.begins c.args.hand.now c.args.duty.now c.hand.inside.seat.me c.operate-word.new.seat.me
+    c.operate-word.result c.said_by-found.result (ap (λ (h : HandState). h.view) c.hand.view_is)
+    (ap (λ (h : HandState). h.slots) c.hand.view_is) c.requires.thread c.requires.next c.requires.known
+    c.operate-word.ensures.step c.said_by-found.ensures).overwrites
 
 pub returns-clause-suits : goal.returns-clause-suits
 returns-clause-suits g c =
-    let begins = g.B.Begins.begins in
-    subst (λ (h : HandState). SuitsFirst (begins h.view) (begins h.view).agenda c.operate-found.result) c.hand.view_is
-    c.operate-found.ensures.step.1
+    (made g.B.Begins.begins c.args.hand.now c.args.duty.now c.hand.inside.seat.me c.operate-word.new.seat.me
+    c.operate-word.result c.said_by-found.result (ap (λ (h : HandState). h.view) c.hand.view_is)
+    (ap (λ (h : HandState). h.slots) c.hand.view_is) c.requires.thread c.requires.next c.requires.known
+    c.operate-word.ensures.step c.said_by-found.ensures).suits
 
 pub returns-clause-owner : goal.returns-clause-owner
 returns-clause-owner g c =
-    let begins = g.B.Begins.begins in
-    subst (λ (h : HandState). FirstFindsOwner (begins h.view) (begins h.view).agenda c.operate-found.result)
-    c.hand.view_is c.operate-found.ensures.step.2
+    (made g.B.Begins.begins c.args.hand.now c.args.duty.now c.hand.inside.seat.me c.operate-word.new.seat.me
+    c.operate-word.result c.said_by-found.result (ap (λ (h : HandState). h.view) c.hand.view_is)
+    (ap (λ (h : HandState). h.slots) c.hand.view_is) c.requires.thread c.requires.next c.requires.known
+    c.operate-word.ensures.step c.said_by-found.ensures).owner
 
 pub returns-clause-finds : goal.returns-clause-finds
 returns-clause-finds g c =
-    let begins = g.B.Begins.begins in
-    subst (λ (h : HandState). FindsKnown (begins h.view) (begins h.view).agenda c.operate-found.result)
-    c.hand.view_is c.operate-found.ensures.step.3
+    (made g.B.Begins.begins c.args.hand.now c.args.duty.now c.hand.inside.seat.me c.operate-word.new.seat.me
+    c.operate-word.result c.said_by-found.result (ap (λ (h : HandState). h.view) c.hand.view_is)
+    (ap (λ (h : HandState). h.slots) c.hand.view_is) c.requires.thread c.requires.next c.requires.known
+    c.operate-word.ensures.step c.said_by-found.ensures).finds

@@ -1,5 +1,5 @@
 use Rattle.brc_table.specs.Views.{leaving}
 use Rattle.brc_table.proofs.words.Words.thread_leave.Given as goal
 
-abbrev pub ghosts-store_thread : goal.ghosts-store_thread
-ghosts-store_thread g a = record { begins = λ v. leaving v }
+abbrev pub ghosts-step_from : goal.ghosts-step_from
+ghosts-step_from g a = record { begins = λ v. leaving v }

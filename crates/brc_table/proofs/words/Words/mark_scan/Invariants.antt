@@ -1,4 +1,0 @@
-use Rattle.brc_table.proofs.words.Words.mark_scan.Given as goal
-
-abbrev pub ghosts-swap : goal.ghosts-swap
-ghosts-swap g a = record { begins = λ v. v }
