@@ -1,5 +1,5 @@
 -- What a table asks of a step: whatever its words are, the hand can go on, and the rule holds again.
-use Rattle.std.proofs.Common.{◌≡◌, ◌≢◌, ℕ, ◌+◌, Option, None, List, [], ◌∷◌, set, inl, refl, sym, ap, ◌∙◌, subst, arith}
+use Rattle.std.proofs.Common.{◌≡◌, ◌≢◌, ℕ, ◌+◌, Option, None, Some, List, [], ◌∷◌, set, inl, refl, sym, ap, ◌∙◌, subst, arith}
 use Rattle.std.specs.Prelude.{slice_index}
 use Rattle.std.proofs.lemmas.List.{set-set}
 use Rattle.std.proofs.lemmas.Option.{slice_get_within}
@@ -10,28 +10,28 @@ use Rattle.brc_model.specs.declared.duty.Duty.{Duty}
 use Rattle.brc_model.specs.declared.duty.Duty.TheVariants.{MergeExchange, KindLoad, CellLoad}
 use Rattle.brc_model.specs.declared.duty.Reason.TheVariants.{Handed}
 use Rattle.brc_model.specs.declared.actor.Status.TheVariants.{Gone}
-use Rattle.brc_model.specs.declared.address.Address.TheVariants.{Slot}
+use Rattle.brc_model.specs.declared.address.Address.TheVariants.{KindOf, Slot}
 use Rattle.brc_model.specs.declared.layout.Layout.{Layout}
 use Rattle.brc_model.specs.Layout.{row_count}
-use Rattle.brc_model.specs.Duties.{address_of, new_word}
+use Rattle.brc_model.specs.Duties.{address_of, new_word, resources_of}
 use Rattle.brc_model.specs.Machine.{is_running}
 use Rattle.brc_model.specs.Within.{Suits, FindsOwner}
 use Rattle.brc_model.specs.SlotLaws.{Stays, Gives, use_of}
 use Rattle.brc_model.specs.Stores.{Overwrites}
-use Rattle.brc_model.specs.CountingLaws.{DutiesAreKept, DutiesAreWithin, AccountsAreThere, ChainsAreThere, HandedMergesLive}
-use Rattle.brc_model.specs.GuardLaws.{GuardedCellsStay}
+use Rattle.brc_table.specs.ModelLaws.{ModelLaws}
 use Rattle.brc_table.specs.declared.view.View.{View}
 use Rattle.brc_table.specs.Views.{actor_of, event_of, did, taken_after, holds, RowsAreThere}
 use Rattle.brc_table.specs.Rule.{Stands}
 use Rattle.brc_table.specs.Homes.{SlotsStand, TableStands}
 use Rattle.brc_table.specs.Plays.{FindsKnown}
 use Rattle.brc_table.specs.Hands.{TableState, HandState}
-use Rattle.brc_table.specs.Begins.{Passes, Becomes, IsAt}
-use Rattle.brc_table.specs.Places.{place, IsTableWord}
+use Rattle.brc_table.specs.Begins.{Passes, Becomes, IsAt, KeepsSlots}
+use Rattle.brc_table.specs.Places.{HasWord, place, IsTableWord}
 use Rattle.brc_table.proofs.CellGuards.{change_guards}
 use Rattle.brc_table.proofs.Lists.{set_view}
 use Rattle.brc_table.proofs.ThreadsKept.{KeepsThreads, object_step}
 use Rattle.brc_table.proofs.Stepping.{Does, place_of, read_of, finds, has, relies, passes_after, object_in_table, object_reads}
+use Rattle.brc_table.proofs.LockedSlots.{slot_full}
 use Rattle.brc_table.proofs.RowsThere.{rows_there}
 use Rattle.brc_table.proofs.SlotsKept.{slots_kept}
 use Rattle.brc_table.proofs.SlotsUsed.{lock_stays, used_left}
@@ -45,24 +45,44 @@ pub record Knows (v : View) (d : Duty) (found : ℕ) : Type 0 where
   pub owner : FindsOwner v.layout d found
   pub finds : FindsKnown v (d ∷ []) found
 
+-- What the slot of the object tells of the kind word that is loaded, if the hand has locked the object.
+abbrev SlotTells : View → Duty → ℕ → Type 0
+SlotTells v (KindLoad x) found = v.locked ≡ Some x → v.in_slot ≡ resources_of found
+SlotTells v _ found = Unit {0}
+
+slot_tells : ModelLaws → {T : Type 0} (layout : Layout) (s : State (Option T) View)
+    (table : TableStands layout s.words s.homes s.views) (id : ℕ) (v u : View) → get_elem? s.views id ≡ some v
+    → KeepsSlots v u → (d : Duty) → HasWord table.stands.machine.layout (address_of u.layout u.thread u.head d)
+    → SlotTells u d (read_of u d (slice_index s.words (place_of u d)))
+slot_tells laws layout s table id v u here same (KindLoad x) there = λ locked.
+    let mine : v.locked ≡ Some x = sym same.locked ∙ locked in
+    same.in_slot x mine
+    ∙ (slot_full laws.full layout s.words s.homes s.views table id x v here mine
+    ∙ ap resources_of (table.stands.reads (KindOf x) there))
+slot_tells laws layout s table id v u here same _ there = tt
+
 -- The hand's first duty finds what the hand knows of it.
-finds_known : HandedMergesLive → ChainsAreThere
-    → (layout : Layout) (words : List ℕ) (views : List View) (id : ℕ) (v : View) (d : Duty) (found : ℕ)
-    → (stands : Stands layout words views) → get_elem? views id ≡ some v → (rest : List Duty) → v.agenda ≡ d ∷ rest
-    → v.status ≢ Gone → stands.machine.memory (address_of v.layout v.thread v.head d) ≡ found
+finds_known : ModelLaws → (layout : Layout) (words : List ℕ) (views : List View) (id : ℕ) (v : View) (d : Duty)
+    (found : ℕ) (stands : Stands layout words views) → get_elem? views id ≡ some v → (rest : List Duty)
+    → v.agenda ≡ d ∷ rest → v.status ≢ Gone
+    → stands.machine.memory (address_of v.layout v.thread v.head d) ≡ found → SlotTells v d found
     → FindsKnown v (d ∷ []) found
-finds_known live chains layout words views id v (KindLoad x) found stands here rest agenda alive is =
-    λ word some seen. sym is ∙ stands.kinds_seen id x word v here some seen
-finds_known live chains layout words views id v (CellLoad x i) found stands here rest agenda alive is =
+finds_known laws layout words views id v (KindLoad x) found stands here rest agenda alive is tells = (
+  λ word some seen. sym is ∙ stands.kinds_seen id x word v here some seen,
+  tells,
+  λ none. sym is ∙ (ap (λ (y : ℕ). stands.machine.memory (KindOf y)) none ∙ stands.named),
+)
+finds_known laws layout words views id v (CellLoad x i) found stands here rest agenda alive is tells =
     λ word changes seen.
     sym is
-    ∙ stands.cells_seen id x i word v here (change_guards chains layout words views id v x stands here changes) seen
-finds_known live chains layout words views id v (MergeExchange x c w Handed) found stands here rest agenda alive is =
+    ∙ stands.cells_seen id x i word v here (change_guards laws.chains layout words views id v x stands here changes)
+    seen
+finds_known laws layout words views id v (MergeExchange x c w Handed) found stands here rest agenda alive is tells =
     λ same.
-    live stands.accounts (1 + stands.machine.layout.workers) stands.machine v.thread (actor_of v) x c w rest
+    laws.handed stands.accounts (1 + stands.machine.layout.workers) stands.machine v.thread (actor_of v) x c w rest
     stands.counts
     (record { found = stands.acts id v here; agenda = agenda; alive = alive }) (is ∙ same)
-finds_known live chains layout words views id v _ found stands here rest agenda alive is = tt
+finds_known laws layout words views id v _ found stands here rest agenda alive is tells = tt
 
 -- The hand's first duty is about the word at this place.
 pub record IsNextAt (v : View) (d : Duty) (rest : List Duty) (index : ℕ) : Type 0 where
@@ -71,19 +91,19 @@ pub record IsNextAt (v : View) (d : Duty) (rest : List Duty) (index : ℕ) : Typ
   pub word : IsTableWord (address_of v.layout v.thread v.head d)
   pub index_is : index ≡ place (address_of v.layout v.thread v.head d)
 
-module _ (kept : DutiesAreKept) (within : DutiesAreWithin) (law : AccountsAreThere)
-    (chains : ChainsAreThere) (stay : GuardedCellsStay) (live : HandedMergesLive) (layout : Layout) (v u : View)
+module _ (laws : ModelLaws) (layout : Layout) (v u : View)
     (d : Duty) (rest : List Duty) (index : ℕ) (becomes : Becomes layout v u) (next : IsNextAt u d rest index) where
   knows : (words : List ℕ) (views : List View) (id : ℕ) → Does layout words views id u d rest
+      → SlotTells u d (read_of u d (slice_index words (place_of u d)))
       → Knows u d (read_of u d (slice_index words (place_of u d)))
-  knows words views id does =
+  knows words views id does tells =
       let m = does.stands.machine in
       let told = does.stands.told id u does.here in
-      let relied = relies kept within stay layout words views id u d rest does in
+      let relied = relies laws.kept laws.within laws.guarded layout words views id u d rest does in
       let found = read_of u d (slice_index words (place_of u d)) in
       let seen : m.memory (address_of m.layout u.thread u.head d) ≡ found =
       subst (λ (l : Layout). m.memory (address_of l u.thread u.head d) ≡ found) told
-      (finds kept within stay layout words views id u d rest does) in
+      (finds laws.kept laws.within laws.guarded layout words views id u d rest does) in
       record {
         suits =
             subst (λ (l : Layout). Suits u.thread (is_running u.status) (row_count l) d found) (sym told)
@@ -93,8 +113,8 @@ module _ (kept : DutiesAreKept) (within : DutiesAreWithin) (law : AccountsAreThe
             subst (λ (l : Layout). FindsOwner l d found) (sym told)
             (subst (λ (k : ℕ). FindsOwner m.layout d k) seen relied.owner);
         finds =
-            finds_known live chains layout words views id u d found does.stands does.here rest does.agenda does.alive
-            (finds kept within stay layout words views id u d rest does);
+            finds_known laws layout words views id u d found does.stands does.here rest does.agenda does.alive
+            (finds laws.kept laws.within laws.guarded layout words views id u d rest does) tells;
       }
 
   -- What a table asks of the word that the step leaves.
@@ -133,7 +153,13 @@ module _ (kept : DutiesAreKept) (within : DutiesAreWithin) (law : AccountsAreThe
     w = did u (d ∷ rest) (read_of u d word)
 
     pub known : Knows u d (read_of u d word)
-    known = subst (λ (k : ℕ). Knows u d (read_of u d k)) same (knows s.words (set s.views id u) id does)
+    known =
+        let machine = first.stands.layout_is ∙ sym holds.stands.layout_is in
+        subst (λ (k : ℕ). Knows u d (read_of u d k)) same
+        (knows s.words (set s.views id u) id does
+        (slot_tells laws layout s holds id v u here becomes.slots d
+        (subst (λ (l : Layout). HasWord l (address_of u.layout u.thread u.head d)) machine
+        (has laws.kept laws.within laws.guarded layout s.words (set s.views id u) id u d rest does))))
 
     -- The machine has what the step finds.
     pub finds_word : first.stands.machine.memory (address_of first.stands.machine.layout u.thread u.head d)
@@ -141,14 +167,14 @@ module _ (kept : DutiesAreKept) (within : DutiesAreWithin) (law : AccountsAreThe
     finds_word =
         subst (λ (l : Layout). first.stands.machine.memory (address_of l u.thread u.head d) ≡ read_of u d word)
         (first.stands.told id u (set_view s.views id v u here))
-        (finds kept within stay layout s.words (set s.views id u) id u d rest does ∙ ap (read_of u d) same)
+        (finds laws.kept laws.within laws.guarded layout s.words (set s.views id u) id u d rest does ∙ ap (read_of u d) same)
 
     module _ (f : ℕ → ℕ) (leaves : Leaves f) where
       after : Passes layout (set s.words (place_of u d) (f word))
           (set (set s.views id u) id (did u (d ∷ rest) (read_of u d (slice_index s.words (place_of u d))))) [] None
           first.stands.machine
       after =
-          passes_after kept within stay layout s.words (set s.views id u) id u d rest does (f word)
+          passes_after laws.kept laws.within laws.guarded layout s.words (set s.views id u) id u d rest does (f word)
           (leaves.0 word known ∙ ap (λ (k : ℕ). new_word u.thread u.head d (read_of u d k)) (sym same))
           (subst (λ (k : ℕ). KeepsThreads does.stands.machine.layout s.words (set s.words (place_of u d) (f k)) u
           (did u (d ∷ rest) (read_of u d (slice_index s.words (place_of u d))))) same
@@ -170,7 +196,7 @@ module _ (kept : DutiesAreKept) (within : DutiesAreWithin) (law : AccountsAreThe
 
       pub rows_now : RowsAreThere w
       rows_now =
-          rows_there law chains layout (set s.words index (f word)) (set s.views id w) id w now.stands
+          rows_there laws.accounts laws.chains layout (set s.words index (f word)) (set s.views id w) id w now.stands
           (set_view s.views id v w here)
 
       -- The step itself changes no slot.
@@ -234,15 +260,14 @@ object_next v d rest index is_at = record {
   index_is = is_at.index_is;
 }
 
-module _ (kept : DutiesAreKept) (within : DutiesAreWithin) (law : AccountsAreThere)
-    (chains : ChainsAreThere) (stay : GuardedCellsStay) (live : HandedMergesLive) (layout : Layout) (v u : View)
+module _ (laws : ModelLaws) (layout : Layout) (v u : View)
     (d : Duty) (rest : List Duty) (index : ℕ) (becomes : Becomes layout v u) (is_at : IsAt u d rest index) where
   -- An object's word says what it is.
   pub itself : (word : ℕ) → read_of u d word ≡ word
   itself word = object_reads (address_of u.layout u.thread u.head d) word is_at.object
 
   pub object_leaves : (f : ℕ → ℕ) → ((found : ℕ) → Knows u d found → f found ≡ new_word u.thread u.head d found)
-      → Leaves kept within law chains stay live layout v u d rest index becomes (object_next u d rest index is_at) f
+      → Leaves laws layout v u d rest index becomes (object_next u d rest index is_at) f
   object_leaves f leaves = (
     λ found known.
         itself (f found) ∙ (leaves found (subst (Knows u d) (itself found) known)
@@ -258,7 +283,7 @@ module _ (kept : DutiesAreKept) (within : DutiesAreWithin) (law : AccountsAreThe
           does.stands.counts.kept.core.threads,
         ))
         (record { thread = refl; given = refl; trace = refl }) is_at.object
-        (has kept within stay layout words views i u d rest does),
+        (has laws.kept laws.within laws.guarded layout words views i u d rest does),
   )
 
   pub object_allows : {T : Type 0} (slots id : ℕ) (me : Me (Option T) View) (f : ℕ → ℕ)
@@ -268,7 +293,7 @@ module _ (kept : DutiesAreKept) (within : DutiesAreWithin) (law : AccountsAreThe
       → ((found : ℕ) → Learns u d rest found → then found (did u (d ∷ rest) found, me.1))
       → Allows (λ (s : State (Option T) View). TableStands layout s.words s.homes s.views) slots id me index f then
   object_allows slots id me f then is_me stays leaves goes =
-      allows kept within law chains stay live layout v u d rest index becomes (object_next u d rest index is_at) slots
+      allows laws layout v u d rest index becomes (object_next u d rest index is_at) slots
       id me f then is_me stays (object_leaves f leaves)
       (λ found known rows.
       subst (λ (k : ℕ). then found (did u (d ∷ rest) k, me.1)) (sym (itself found))
@@ -284,8 +309,7 @@ pub record Seen {S : Type 0} (words : TableState) (hand : HandState) (layout : L
   pub layout_is : layout ≡ words.layout
   pub view_is : me.0 ≡ hand.view
 
-module _ (kept : DutiesAreKept) (within : DutiesAreWithin) (law : AccountsAreThere)
-    (chains : ChainsAreThere) (stay : GuardedCellsStay) (live : HandedMergesLive) (words : TableState)
+module _ (laws : ModelLaws) (words : TableState)
     (hand : HandState) (begins : View → View) {T : Type 0} (layout : Layout) (slots id index : ℕ)
     (me : Me (Option T) View) (seen : Seen words hand layout me)
     (becomes : Becomes words.layout hand.view (begins hand.view)) where

@@ -8,6 +8,7 @@ mod SeenWords
 mod Stepping
 mod CellGuards
 mod RowsThere
+mod LockedSlots
 mod Allowed
 mod ThreadsAllowed
 mod SlotLists
@@ -20,9 +21,8 @@ mod AtHand
 mod Becoming
 mod Silent
 mod Duties
-mod KindLoads
+mod Asking
 mod Locking
-mod LockedSlots
 mod SlotSteps
 mod Bare
 mod NextDuty

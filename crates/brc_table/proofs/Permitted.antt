@@ -9,10 +9,9 @@ use Rattle.brc_model.specs.declared.layout.Layout.{Layout}
 use Rattle.brc_model.specs.Layout.{row_count}
 use Rattle.brc_model.specs.Machine.{is_running}
 use Rattle.brc_model.specs.Duties.{address_of, new_word}
-use Rattle.brc_model.specs.CountingLaws.{DutiesAreKept, DutiesAreWithin, AccountsAreThere, ChainsAreThere, HandedMergesLive}
-use Rattle.brc_model.specs.GuardLaws.{GuardedCellsStay}
-use Rattle.brc_model.specs.SlotLaws.{SlotUse, Stays, Takes, Gives, use_of, GivenSlotsAreUnlocked, SlotsAreFree, SlotsAreKnown}
+use Rattle.brc_model.specs.SlotLaws.{SlotUse, Stays, Takes, Gives, use_of}
 use Rattle.brc_model.specs.Within.{Suits}
+use Rattle.brc_table.specs.ModelLaws.{ModelLaws}
 use Rattle.brc_table.specs.declared.view.View.{View}
 use Rattle.brc_table.specs.Rule.{thread_reading}
 use Rattle.brc_table.specs.Views.{RowsAreThere, did, taken_after}
@@ -41,8 +40,7 @@ behind_known v (CellLoad x i) rest found known = known
 behind_known v (MergeExchange x c w Handed) rest found known = known
 behind_known v _ rest found known = tt
 
-module _ (kept : DutiesAreKept) (within : DutiesAreWithin) (law : AccountsAreThere) (chains : ChainsAreThere)
-    (stay : GuardedCellsStay) (live : HandedMergesLive) (words : TableState) (hand : HandState) (begins : View → View)
+module _ (laws : ModelLaws) (words : TableState) (hand : HandState) (begins : View → View)
     {T : Type 0} (layout : Layout) (slots id index : ℕ) (me : Me (Option T) View) (seen : Seen words hand layout me)
     (becomes : Becomes words.layout hand.view (begins hand.view)) where
   abbrev u : View
@@ -50,10 +48,10 @@ module _ (kept : DutiesAreKept) (within : DutiesAreWithin) (law : AccountsAreThe
 
   pub becoming : Becomes layout me.0 u
   becoming =
-      allowed.becomes_here kept within law chains stay live words hand begins layout slots id index me seen becomes
+      allowed.becomes_here laws words hand begins layout slots id index me seen becomes
 
   module _ (d : Duty) (rest : List Duty) (next : IsNextAt u d rest index) (f : ℕ → ℕ)
-      (leaves : allowed.Leaves kept within law chains stay live layout me.0 u d rest index becoming next f) where
+      (leaves : allowed.Leaves laws layout me.0 u d rest index becoming next f) where
     -- What the hand learns, beside what becomes of its slots.
     learns : (found : ℕ) (after : Me (Option T) View) → Knows u d found → Uses begins me found after
         → Steps begins me found after
@@ -85,20 +83,20 @@ module _ (kept : DutiesAreKept) (within : DutiesAreWithin) (law : AccountsAreThe
           (sym next.agenda),
     )
 
-    pub permitted : SlotsAreFree → SlotsAreKnown → GivenSlotsAreUnlocked → rows_of me.1 ≡ me.0.taken → (s : SlotUse)
+    pub permitted : rows_of me.1 ≡ me.0.taken → (s : SlotUse)
         → ((found : ℕ) → use_of d found ≡ s) → DueSlot s (held_in me.1) u
         → Allows (λ (s : State (Option T) View). TableStands layout s.words s.homes s.views) slots id me index f
         (StepsBy begins me)
-    permitted free known unlocked rows Stays all due =
-        allowed.allows kept within law chains stay live layout me.0 u d rest index becoming next slots id me f
+    permitted rows Stays all due =
+        allowed.allows laws layout me.0 u d rest index becoming next slots id me f
         (StepsBy begins me) refl all leaves
         (λ word knows there.
         goes_on word (did u (d ∷ rest) (read_of u d word), me.1) knows (uses_none all (read_of u d word) there))
-    permitted free known unlocked rows (Takes x) all due =
-        taken.takes_allows kept within law chains stay live free layout me.0 u d rest index becoming next x slots id me f
-        begins (StepsBy begins me) known refl refl all leaves goes_on
-    permitted free known unlocked rows (Gives x) all due =
-        given.gives_allows kept within law chains stay live unlocked known layout me.0 u d rest index becoming next x
+    permitted rows (Takes x) all due =
+        taken.takes_allows laws layout me.0 u d rest index becoming next x slots id me f
+        begins (StepsBy begins me) refl refl all leaves goes_on
+    permitted rows (Gives x) all due =
+        given.gives_allows laws layout me.0 u d rest index becoming next x
         slots id due.0 me f begins (StepsBy begins me) refl refl rows due.1
         (subst (λ (ds : List Duty). IsDue u ds due.0) next.agenda due.2) all leaves goes_on
 
@@ -107,7 +105,7 @@ module _ (kept : DutiesAreKept) (within : DutiesAreWithin) (law : AccountsAreThe
       → (f : ℕ → ℕ)
       → ((running : Bool) (n found : ℕ) → Suits u.thread running n d found
       → f found ≡ new_word u.thread u.head d found)
-      → allowed.Leaves kept within law chains stay live layout me.0 u e rest index becoming next f
+      → allowed.Leaves laws layout me.0 u e rest index becoming next f
   next_leaves d has e rest next like f leaves = elim (word_of u.layout u.thread u.head d has) [
     | inl object ↦
         let is_at : IsAt u e rest index = record {
@@ -116,14 +114,14 @@ module _ (kept : DutiesAreKept) (within : DutiesAreWithin) (law : AccountsAreThe
           object = subst IsObjectWord (sym (like.address u.layout u.thread u.head)) object;
           index_is = next.index_is;
         } in
-        allowed.object_leaves kept within law chains stay live layout me.0 u e rest index becoming is_at f
+        allowed.object_leaves laws layout me.0 u e rest index becoming is_at f
         (λ found knows.
         leaves (is_running u.status) (row_count u.layout) found
         (like.suits u.thread (is_running u.status) (row_count u.layout) found knows.suits)
         ∙ sym (like.word u.thread u.head found))
     | inr (on, suits) ↦
         let word = like.word u.thread u.head in
-        thread_leaves kept within law chains stay live layout me.0 u e rest index becoming next
+        thread_leaves laws layout me.0 u e rest index becoming next
         (record {
           thread = on.thread;
           address = like.address u.layout u.thread u.head ∙ on.address;
@@ -141,7 +139,7 @@ module _ (kept : DutiesAreKept) (within : DutiesAreWithin) (law : AccountsAreThe
   ]
 
   -- So is that of a duty that comes next.
-  pub next_permitted : SlotsAreFree → SlotsAreKnown → GivenSlotsAreUnlocked → rows_of me.1 ≡ me.0.taken → (d : Duty)
+  pub next_permitted : rows_of me.1 ≡ me.0.taken → (d : Duty)
       → HasAccess d → IsNext d u.agenda → u.status ≢ Gone → index ≡ place (address_of u.layout u.thread u.head d)
       → (f : ℕ → ℕ)
       → ((running : Bool) (n found : ℕ) → Suits u.thread running n d found
@@ -149,7 +147,7 @@ module _ (kept : DutiesAreKept) (within : DutiesAreWithin) (law : AccountsAreThe
       → DueSlot (use_of d 0) (held_in me.1) u
       → Allows (λ (s : State (Option T) View). TableStands layout s.words s.homes s.views) slots id me index f
       (StepsBy begins me)
-  next_permitted free known unlocked rows d has coming_next alive at f leaves due =
+  next_permitted rows d has coming_next alive at f leaves due =
       let c = coming d u.agenda coming_next in
       let address = c.like.address u.layout u.thread u.head in
       let next : IsNextAt u c.first c.rest index = record {
@@ -158,5 +156,5 @@ module _ (kept : DutiesAreKept) (within : DutiesAreWithin) (law : AccountsAreThe
         word = subst IsTableWord (sym address) (table_word_of u.layout u.thread u.head d has);
         index_is = at ∙ sym (ap place address);
       } in
-      permitted c.first c.rest next f (next_leaves d has c.first c.rest next c.like f leaves) free known unlocked rows
+      permitted c.first c.rest next f (next_leaves d has c.first c.rest next c.like f leaves) rows
       (use_of d 0) (λ found. c.like.slots found ∙ use_same d has found) due

@@ -12,9 +12,9 @@ use Rattle.brc_model.specs.declared.address.Address.TheVariants.{Slot}
 use Rattle.brc_model.specs.declared.duty.Duty.TheVariants.{LockGate}
 use Rattle.brc_model.specs.declared.layout.Layout.{Layout}
 use Rattle.brc_model.specs.Layout.{IsCounted}
-use Rattle.brc_model.specs.CountingLaws.{WorkIsPutAside, LocksBegin, ImmortalsAreFree, DutiesAreKept, DutiesAreWithin, AccountsAreThere, ChainsAreThere, HandedMergesLive}
-use Rattle.brc_model.specs.GuardLaws.{GuardedCellsStay}
-use Rattle.brc_model.specs.SlotLaws.{Stays, Takes, use_of, LockedSlotsAreFull, SlotsAreFree}
+use Rattle.brc_model.specs.CountingLaws.{WorkIsPutAside, LocksBegin, ImmortalsAreFree}
+use Rattle.brc_model.specs.SlotLaws.{Stays, Takes, use_of}
+use Rattle.brc_table.specs.ModelLaws.{ModelLaws}
 use Rattle.brc_table.specs.declared.view.View.{View}
 use Rattle.brc_table.specs.Views.{done, did, taken_after, locking}
 use Rattle.brc_table.specs.Seen.{has_seen_kind}
@@ -31,10 +31,9 @@ use Rattle.brc_table.proofs.Allowed as allowed
 use Rattle.brc_table.proofs.Allowed.{Knows, IsNextAt, Seen, object_next}
 use Rattle.brc_table.proofs.SlotsTaken as taken
 
-module _ (kept : DutiesAreKept) (within : DutiesAreWithin) (law : AccountsAreThere) (chains : ChainsAreThere)
-    (stay : GuardedCellsStay) (live : HandedMergesLive) where
-  module _ (put : WorkIsPutAside) (locks_begin : LocksBegin) (immortals : ImmortalsAreFree) (free : SlotsAreFree)
-      (full : LockedSlotsAreFull) (layout : Layout) (v : View) (x gate : ℕ) (running : IsRunning v)
+module _ (laws : ModelLaws) where
+  module _ (put : WorkIsPutAside) (locks_begin : LocksBegin) (immortals : ImmortalsAreFree)
+      (layout : Layout) (v : View) (x gate : ℕ) (running : IsRunning v)
       (counted : IsCounted v.layout x) (idle : HasNoWork v x) (holding : HoldsOne v x) (unlocked : v.locked ≡ None)
       (names : gate ≡ locked_word v.thread) where
     abbrev f : ℕ → ℕ
@@ -61,20 +60,20 @@ module _ (kept : DutiesAreKept) (within : DutiesAreWithin) (law : AccountsAreThe
         record { agenda = refl; alive = runs_on v running.0; object = tt; index_is = at } in
         let next = object_next u (LockGate x) [] index is_at in
         let leaves =
-        allowed.object_leaves kept within law chains stay live layout v u (LockGate x) [] index becomes is_at f
+        allowed.object_leaves laws layout v u (LockGate x) [] index becomes is_at f
         (λ found knows. either_is found free_word gate free_word (locked_word v.thread) refl names) in
         let w = did u (LockGate x ∷ []) word in
         let rows =
-        allowed.rows_now kept within law chains stay live layout v u (LockGate x) [] index becomes next s holds id mine
+        allowed.rows_now laws layout v u (LockGate x) [] index becomes next s holds id mine
         f leaves in
         elim (cases_Bool (word == free_word)) [
           | inl is_free ↦
               let takes_it : use_of (LockGate x) word ≡ Takes x = ap (λ (b : Bool). cond b (Takes x) Stays) is_free in
               let slot =
-              taken.slot_home kept within law chains stay live free layout v u (LockGate x) [] index becomes next x s
+              taken.slot_home laws layout v u (LockGate x) [] index becomes next x s
               holds id mine takes_it in
               let now =
-              taken.stands_now kept within law chains stay live free layout v u (LockGate x) [] index becomes next x s
+              taken.stands_now laws layout v u (LockGate x) [] index becomes next x s
               holds id mine takes_it f leaves (λ y locks. none_locked y locks)
               (λ y locks.
               inl (is_some x y (sym (ap (λ (b : Bool). cond b (Some x) v.locked) is_free) ∙ locks), refl)) in (
@@ -91,7 +90,7 @@ module _ (kept : DutiesAreKept) (within : DutiesAreWithin) (law : AccountsAreThe
                   ap (λ (k : ℕ). (x, k) ∷ held_in me.1) slot.holds
                       ∙ sym (ap (λ (b : Bool). cond b ((x, n) ∷ held_in me.1) (held_in me.1)) is_free),
                   λ kind found_free more seen.
-                      slot_seen full layout (set s.words index (f word)) (set s.homes x home.none) (set s.views id w)
+                      slot_seen laws.full layout (set s.words index (f word)) (set s.homes x home.none) (set s.views id w)
                       now id x w (set_view s.views id v w mine) (ap (λ (b : Bool). cond b (Some x) v.locked) is_free)
                       kind more
                       (still_seen x kind u (LockGate x) [] word
@@ -101,7 +100,7 @@ module _ (kept : DutiesAreKept) (within : DutiesAreWithin) (law : AccountsAreThe
           | inr other ↦
               let stays : use_of (LockGate x) word ≡ Stays = ap (λ (b : Bool). cond b (Takes x) Stays) other in
               let now =
-              allowed.now kept within law chains stay live layout v u (LockGate x) [] index becomes next s holds id mine
+              allowed.now laws layout v u (LockGate x) [] index becomes next s holds id mine
               f leaves in (
                 w,
                 keeps,
@@ -109,7 +108,7 @@ module _ (kept : DutiesAreKept) (within : DutiesAreWithin) (law : AccountsAreThe
                 record {
                   stands = now.stands;
                   slots =
-                      allowed.slots_now kept within law chains stay live layout v u (LockGate x) [] index becomes next s
+                      allowed.slots_now laws layout v u (LockGate x) [] index becomes next s
                       holds id mine f leaves stays;
                 },
                 (

@@ -15,9 +15,8 @@ use Rattle.brc_model.specs.Layout.{row_count}
 use Rattle.brc_model.specs.Duties.{address_of, resources_of}
 use Rattle.brc_model.specs.Machine.{Machine}
 use Rattle.brc_model.specs.Within.{IsThere}
-use Rattle.brc_model.specs.CountingLaws.{DutiesAreKept, DutiesAreWithin, AccountsAreThere, ChainsAreThere, HandedMergesLive}
-use Rattle.brc_model.specs.GuardLaws.{GuardedCellsStay}
-use Rattle.brc_model.specs.SlotLaws.{SlotUse, Stays, Takes, Gives, use_of, Unlocks, GivenSlotsAreUnlocked, SlotsAreKnown}
+use Rattle.brc_model.specs.SlotLaws.{SlotUse, Stays, Takes, Gives, use_of, Unlocks, SlotsAreKnown}
+use Rattle.brc_table.specs.ModelLaws.{ModelLaws}
 use Rattle.brc_table.specs.declared.view.View.{View}
 use Rattle.brc_table.specs.Views.{actor_of, did, behind_first, taken_after}
 use Rattle.brc_table.specs.Seen.{has_seen_kind}
@@ -86,15 +85,14 @@ due_is law layout words views id v u _ rest does found x n is same in_slot locke
 
 -- ---- the step
 
-module _ (kept : DutiesAreKept) (within : DutiesAreWithin) (law : AccountsAreThere) (chains : ChainsAreThere)
-    (stay : GuardedCellsStay) (live : HandedMergesLive) (unlocked : GivenSlotsAreUnlocked) (known : SlotsAreKnown)
+module _ (laws : ModelLaws)
     (layout : Layout) (v u : View) (d : Duty) (rest : List Duty) (index : ℕ) (becomes : Becomes layout v u)
     (next : IsNextAt u d rest index) (x : ℕ) where
   module _ {T : Type 0} (s : State (Option T) View) (holds : TableStands layout s.words s.homes s.views) (id : ℕ)
       (here : get_elem? s.views id ≡ some v) (gives_it : use_of d (read_of u d (slice_index s.words index)) ≡ Gives x)
       (rows : List ℕ) (taken : v.taken ≡ x ∷ rows) (slot : Option T) (due : IsDue u (d ∷ rest) (resources slot)) where
     abbrev it : Does layout s.words (set s.views id u) id u d rest
-    it = allowed.does kept within law chains stay live layout v u d rest index becomes next s holds id here
+    it = allowed.does laws layout v u d rest index becomes next s holds id here
 
     abbrev m : Machine
     m = holds.stands.machine
@@ -108,12 +106,12 @@ module _ (kept : DutiesAreKept) (within : DutiesAreWithin) (law : AccountsAreThe
     -- What becomes of the hand's lock.
     lock : Unlocks (actor_of u) d found x
     lock =
-        unlocked it.stands.accounts (1 + k.layout.workers) k u.thread (actor_of u) d rest found x it.stands.counts
+        laws.unlocked it.stands.accounts (1 + k.layout.workers) k u.thread (actor_of u) d rest found x it.stands.counts
         (record { found = it.stands.acts id u it.here; agenda = next.agenda; alive = next.alive }) gives_it
 
     row_low : x < row_count m.layout
     row_low =
-        let relied = relies kept within stay layout s.words (set s.views id u) id u d rest it in
+        let relied = relies laws.kept laws.within laws.guarded layout s.words (set s.views id u) id u d rest it in
         let same : k.layout ≡ m.layout = it.stands.layout_is ∙ sym holds.stands.layout_is in
         subst (λ (l : Layout). x < row_count l) same
         (given_there k.layout u.thread u.head (row_count k.layout) (1 + k.layout.workers) d found x gives_it
@@ -122,28 +120,28 @@ module _ (kept : DutiesAreKept) (within : DutiesAreWithin) (law : AccountsAreThe
     -- What the slot holds is what the machine says.
     holds_due : resources slot ≡ k.memory (Slot x)
     holds_due =
-        let first = allowed.first kept within law chains stay live layout v u d rest index becomes next s holds id here
+        let first = allowed.first laws layout v u d rest index becomes next s holds id here
         in
-        due_is known layout s.words (set s.views id u) id v u d rest it found x (resources slot) gives_it
+        due_is laws.known layout s.words (set s.views id u) id v u d rest it found x (resources slot) gives_it
         (sym becomes.slots.locked) becomes.slots.in_slot
         (λ y locks. first.slots y (inr locks) ∙ (holds.slots.locked id y v here locks).1) due
 
     module _ (f : ℕ → ℕ)
-        (leaves : allowed.Leaves kept within law chains stay live layout v u d rest index becomes next f) where
+        (leaves : allowed.Leaves laws layout v u d rest index becomes next f) where
       -- The rule holds after the step.
       pub stands_now : TableStands layout (set s.words index (f (slice_index s.words index)))
           (set s.homes x (home.some slot)) (set s.views id (did u (d ∷ rest) found))
       stands_now =
           let now =
-          allowed.now kept within law chains stay live layout v u d rest index becomes next s holds id here f leaves in
+          allowed.now laws layout v u d rest index becomes next s holds id here f leaves in
           let stays =
-          allowed.slots_stay kept within law chains stay live layout v u d rest index becomes next s holds id here f
+          allowed.slots_stay laws layout v u d rest index becomes next s holds id here f
           leaves in
           record {
             stands = now.stands;
             slots =
                 slots_given m now.stands.machine s.homes s.views id v (did u (d ∷ rest) found) holds.slots here
-                (allowed.layout_stays kept within law chains stay live layout v u d rest index becomes next s holds id
+                (allowed.layout_stays laws layout v u d rest index becomes next s holds id
                 here f leaves) x rows taken
                 (ap (taken_after u.taken) gives_it ∙ ap behind_first (becomes.slots.taken ∙ taken)) slot row_low
                 (holds_due ∙ sym (stays x))
@@ -162,7 +160,7 @@ module _ (kept : DutiesAreKept) (within : DutiesAreWithin) (law : AccountsAreThe
       (begins : View → View) (then : ℕ → Me (Option T) View → Type 0)
       → seat ≡ v → begins v ≡ u → x ∷ rows_of ps ≡ v.taken → IsDue u (d ∷ rest) (resources slot)
       → (all : (found : ℕ) → use_of d found ≡ Gives x)
-      → allowed.Leaves kept within law chains stay live layout v u d rest index becomes next f
+      → allowed.Leaves laws layout v u d rest index becomes next f
       → ((found : ℕ) (after : Me (Option T) View) → Knows u d (read_of u d found)
       → Uses begins (seat, (x, slot) ∷ ps) (read_of u d found) after → then found after)
       → Allows (λ (s : State (Option T) View). TableStands layout s.words s.homes s.views) slots id
@@ -181,10 +179,10 @@ module _ (kept : DutiesAreKept) (within : DutiesAreWithin) (law : AccountsAreThe
         tt,
         now,
         goes word (w, ps)
-            (allowed.known kept within law chains stay live layout v u d rest index becomes next s holds id mine) (
+            (allowed.known laws layout v u d rest index becomes next s holds id mine) (
               ap (λ (ds : List Duty). did u ds found_now) (sym next.agenda)
                   ∙ ap (λ (z : View). did z z.agenda found_now) (sym is_u),
-              allowed.rows_now kept within law chains stay live layout v u d rest index becomes next s holds id mine f
+              allowed.rows_now laws layout v u d rest index becomes next s holds id mine f
                   leaves,
               λ same.
                   ap behind_first (follows ∙ sym becomes.slots.taken) ∙ sym (ap (taken_after u.taken) gives_it),
@@ -200,7 +198,7 @@ module _ (kept : DutiesAreKept) (within : DutiesAreWithin) (law : AccountsAreThe
       (then : ℕ → Me (Option T) View → Type 0)
       → me.0 ≡ v → begins v ≡ u → rows_of me.1 ≡ v.taken → FirstSlot (held_in me.1) x n → IsDue u (d ∷ rest) n
       → (all : (found : ℕ) → use_of d found ≡ Gives x)
-      → allowed.Leaves kept within law chains stay live layout v u d rest index becomes next f
+      → allowed.Leaves laws layout v u d rest index becomes next f
       → ((found : ℕ) (after : Me (Option T) View) → Knows u d (read_of u d found)
       → Uses begins me (read_of u d found) after → then found after)
       → Allows (λ (s : State (Option T) View). TableStands layout s.words s.homes s.views) slots id me index f then

@@ -18,9 +18,8 @@ use Rattle.brc_model.specs.Layout.{row_count}
 use Rattle.brc_model.specs.Duties.{address_of}
 use Rattle.brc_model.specs.Machine.{Machine, locked_by}
 use Rattle.brc_model.specs.Within.{IsThere}
-use Rattle.brc_model.specs.CountingLaws.{DutiesAreKept, DutiesAreWithin, AccountsAreThere, ChainsAreThere, HandedMergesLive}
-use Rattle.brc_model.specs.GuardLaws.{GuardedCellsStay}
-use Rattle.brc_model.specs.SlotLaws.{SlotUse, Stays, Takes, Gives, use_of, UsesSlot, SlotsAreFree, SlotsAreKnown}
+use Rattle.brc_model.specs.SlotLaws.{SlotUse, Stays, Takes, Gives, use_of, UsesSlot, SlotsAreKnown}
+use Rattle.brc_table.specs.ModelLaws.{ModelLaws}
 use Rattle.brc_table.specs.declared.view.View.{View}
 use Rattle.brc_table.specs.Views.{actor_of, did, taken_after}
 use Rattle.brc_table.specs.Homes.{resources, held_in, times_taken, IsHome, HoldsHome, TableStands}
@@ -90,14 +89,13 @@ due_known law layout words views id u _ rest does x all =
 
 -- ---- the step
 
-module _ (kept : DutiesAreKept) (within : DutiesAreWithin) (law : AccountsAreThere) (chains : ChainsAreThere)
-    (stay : GuardedCellsStay) (live : HandedMergesLive) (free : SlotsAreFree) (layout : Layout) (v u : View) (d : Duty)
+module _ (laws : ModelLaws) (layout : Layout) (v u : View) (d : Duty)
     (rest : List Duty) (index : ℕ) (becomes : Becomes layout v u) (next : IsNextAt u d rest index) (x : ℕ) where
   module _ {T : Type 0} (s : State (Option T) View) (holds : TableStands layout s.words s.homes s.views) (id : ℕ)
       (here : get_elem? s.views id ≡ some v) (takes_it : use_of d (read_of u d (slice_index s.words index)) ≡ Takes x)
     where
       abbrev it : Does layout s.words (set s.views id u) id u d rest
-      it = allowed.does kept within law chains stay live layout v u d rest index becomes next s holds id here
+      it = allowed.does laws layout v u d rest index becomes next s holds id here
 
       abbrev m : Machine
       m = holds.stands.machine
@@ -110,12 +108,12 @@ module _ (kept : DutiesAreKept) (within : DutiesAreWithin) (law : AccountsAreThe
 
       pub finds_found : k.memory (address_of k.layout u.thread u.head d) ≡ found
       finds_found =
-          allowed.finds_word kept within law chains stay live layout v u d rest index becomes next s holds id here
+          allowed.finds_word laws layout v u d rest index becomes next s holds id here
 
       -- Nobody uses the slot,
       free_of : (z : View) → slice_get k.actors z.thread ≡ Some (actor_of z) → UsesSlot (actor_of z) x → ⊥
       free_of z acts uses =
-          free it.stands.accounts (1 + k.layout.workers) k u.thread (actor_of u) d rest z.thread (actor_of z) x
+          laws.free it.stands.accounts (1 + k.layout.workers) k u.thread (actor_of u) d rest z.thread (actor_of z) x
           it.stands.counts
           (record { found = it.stands.acts id u it.here; agenda = next.agenda; alive = next.alive })
           (ap (use_of d) finds_found ∙ takes_it) acts uses
@@ -139,7 +137,7 @@ module _ (kept : DutiesAreKept) (within : DutiesAreWithin) (law : AccountsAreThe
 
       row_low : x < row_count m.layout
       row_low =
-          let relied = relies kept within stay layout s.words (set s.views id u) id u d rest it in
+          let relied = relies laws.kept laws.within laws.guarded layout s.words (set s.views id u) id u d rest it in
           let same : k.layout ≡ m.layout = it.stands.layout_is ∙ sym holds.stands.layout_is in
           subst (λ (l : Layout). x < row_count l) same
           (taken_there k.layout u.thread u.head (row_count k.layout) (1 + k.layout.workers) d found x takes_it
@@ -151,11 +149,11 @@ module _ (kept : DutiesAreKept) (within : DutiesAreWithin) (law : AccountsAreThe
       -- The hand's turning to this duty has not changed it.
       pub slot_then : k.memory (Slot x) ≡ m.memory (Slot x)
       slot_then =
-          (allowed.first kept within law chains stay live layout v u d rest index becomes next s holds id here).slots x
+          (allowed.first laws layout v u d rest index becomes next s holds id here).slots x
           (inl (is_home id v here))
 
       module _ (f : ℕ → ℕ)
-          (leaves : allowed.Leaves kept within law chains stay live layout v u d rest index becomes next f)
+          (leaves : allowed.Leaves laws layout v u d rest index becomes next f)
           (lock : (y : ℕ) → u.locked ≡ Some y → locked_by u.locked d found ≡ Some y)
           (locks : (y : ℕ) → locked_by u.locked d found ≡ Some y
           → ((y ≡ x) × (m.memory (Slot x) ≡ u.in_slot)) ⊎ ((v.locked ≡ Some y) × (u.in_slot ≡ v.in_slot))) where
@@ -165,13 +163,13 @@ module _ (kept : DutiesAreKept) (within : DutiesAreWithin) (law : AccountsAreThe
             (set s.views id (did u (d ∷ rest) found))
         stands_now =
             let now =
-            allowed.now kept within law chains stay live layout v u d rest index becomes next s holds id here f leaves
+            allowed.now laws layout v u d rest index becomes next s holds id here f leaves
             in
             record {
               stands = now.stands;
               slots =
                   slots_taken m now.stands.machine s.homes s.views id v (did u (d ∷ rest) found) holds.slots here
-                  (allowed.layout_stays kept within law chains stay live layout v u d rest index becomes next s holds id
+                  (allowed.layout_stays laws layout v u d rest index becomes next s holds id
                   here f leaves) x
                   (ap (taken_after u.taken) takes_it ∙ ap (λ (rows : List ℕ). x ∷ rows) becomes.slots.taken) is_home
                   (used_now u d rest found x takes_it)
@@ -184,12 +182,12 @@ module _ (kept : DutiesAreKept) (within : DutiesAreWithin) (law : AccountsAreThe
   -- A step is allowed whose duty takes the slot whatever it finds.
   pub takes_allows : {T : Type 0} (slots id : ℕ) (me : Me (Option T) View) (f : ℕ → ℕ) (begins : View → View)
       (then : ℕ → Me (Option T) View → Type 0)
-      → SlotsAreKnown → me.0 ≡ v → begins v ≡ u → (all : (found : ℕ) → use_of d found ≡ Takes x)
-      → allowed.Leaves kept within law chains stay live layout v u d rest index becomes next f
+      → me.0 ≡ v → begins v ≡ u → (all : (found : ℕ) → use_of d found ≡ Takes x)
+      → allowed.Leaves laws layout v u d rest index becomes next f
       → ((found : ℕ) (after : Me (Option T) View) → Knows u d (read_of u d found)
       → Uses begins me (read_of u d found) after → then found after)
       → Allows (λ (s : State (Option T) View). TableStands layout s.words s.homes s.views) slots id me index f then
-  takes_allows {T} slots id me f begins then known is_me becomes_is all leaves goes s holds homes here below =
+  takes_allows {T} slots id me f begins then is_me becomes_is all leaves goes s holds homes here below =
       let mine = here ∙ ap some is_me in
       let word = slice_index s.words index in
       let found_now = read_of u d word in
@@ -204,7 +202,7 @@ module _ (kept : DutiesAreKept) (within : DutiesAreWithin) (law : AccountsAreThe
       inr (before, becomes.slots.in_slot y before)) in
       let due : resources slot.slot ≡ first_due (d ∷ rest) found_now =
       slot.holds ∙ (sym (slot_then s holds id mine takes_it)
-      ∙ (due_known known layout s.words (set s.views id u) id u d rest (it s holds id mine takes_it) x all
+      ∙ (due_known laws.known layout s.words (set s.views id u) id u d rest (it s holds id mine takes_it) x all
       ∙ ap (first_due (d ∷ rest)) (finds_found s holds id mine takes_it))) in
       let is_u : begins me.0 ≡ u = ap begins is_me ∙ becomes_is in
       let after : Me (Option T) View = (w, (x, slot.slot) ∷ me.1) in (
@@ -213,10 +211,10 @@ module _ (kept : DutiesAreKept) (within : DutiesAreWithin) (law : AccountsAreThe
         slot.there,
         now,
         goes word after
-            (allowed.known kept within law chains stay live layout v u d rest index becomes next s holds id mine) (
+            (allowed.known laws layout v u d rest index becomes next s holds id mine) (
               ap (λ (ds : List Duty). did u ds found_now) (sym next.agenda)
                   ∙ ap (λ (z : View). did z z.agenda found_now) (sym is_u),
-              allowed.rows_now kept within law chains stay live layout v u d rest index becomes next s holds id mine f
+              allowed.rows_now laws layout v u d rest index becomes next s holds id mine f
                   leaves,
               λ follows.
                   ap (λ (rows : List ℕ). x ∷ rows) (follows ∙

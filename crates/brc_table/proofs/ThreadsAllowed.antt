@@ -12,8 +12,7 @@ use Rattle.brc_model.specs.Knowledge.{status_word}
 use Rattle.brc_model.specs.declared.address.Address.{Address}
 use Rattle.brc_model.specs.declared.layout.Layout.{Layout}
 use Rattle.brc_model.specs.Duties.{address_of, new_word}
-use Rattle.brc_model.specs.CountingLaws.{DutiesAreKept, DutiesAreWithin, AccountsAreThere, ChainsAreThere, HandedMergesLive}
-use Rattle.brc_model.specs.GuardLaws.{GuardedCellsStay}
+use Rattle.brc_table.specs.ModelLaws.{ModelLaws}
 use Rattle.brc_table.specs.declared.view.View.{View}
 use Rattle.brc_table.specs.Views.{actor_of, event_of, did}
 use Rattle.brc_table.specs.Rule.{thread_reading, reading}
@@ -39,8 +38,7 @@ pub record IsOnThread (layout : Layout) (t head : ℕ) (d : Duty) : Type 0 where
   pub kind : ((found : ℕ) → new_word t head d found ≡ found)
       ⊎ ((thread ≡ t) × ((found : ℕ) → 0 < new_word t head d found))
 
-module _ (kept : DutiesAreKept) (within : DutiesAreWithin) (law : AccountsAreThere)
-    (chains : ChainsAreThere) (stay : GuardedCellsStay) (live : HandedMergesLive) (layout : Layout) (v u : View)
+module _ (laws : ModelLaws) (layout : Layout) (v u : View)
     (d : Duty) (rest : List Duty) (index : ℕ) (becomes : Becomes layout v u) (next : IsNextAt u d rest index)
     (on : IsOnThread u.layout u.thread u.head d) (f : ℕ → ℕ)
     (leaves : (found : ℕ) → f found ≡ new_word u.thread u.head d found) where
@@ -88,7 +86,7 @@ module _ (kept : DutiesAreKept) (within : DutiesAreWithin) (law : AccountsAreThe
       (omega (
         arith,
         place_within does.stands.machine.layout (address_of u.layout u.thread u.head d) does.stands.plain.few_workers
-            (has kept within stay layout words views i u d rest does),
+            (has laws.kept laws.within laws.guarded layout words views i u d rest does),
         does.stands.length_is,
       )) in
       subst (λ (k : ℕ). KeepsThreads does.stands.machine.layout words (set words k (f raw)) u
@@ -124,5 +122,5 @@ module _ (kept : DutiesAreKept) (within : DutiesAreWithin) (law : AccountsAreThe
         (λ is. absurd (not_gone words views i does own is))
   ]
 
-  pub thread_leaves : Leaves kept within law chains stay live layout v u d rest index becomes next f
+  pub thread_leaves : Leaves laws layout v u d rest index becomes next f
   thread_leaves = ((λ found known. left_says found), thread_keeps)

@@ -5,6 +5,7 @@ pub mod Threads
 pub mod Rule
 pub mod Homes
 pub mod Plays
+pub mod ModelLaws
 pub mod Hands
 pub mod Swaps
 pub mod Begins

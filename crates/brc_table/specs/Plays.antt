@@ -1,6 +1,5 @@
 -- What a step on a word makes of its hand.
 use Rattle.std.specs.Prelude.{◌≡◌, ◌≢◌, ℕ, ◌<◌, true, Some, List, [], ◌∷◌}
-use Rattle.atomic_table.specs.Table.{Me}
 use Rattle.brc_model.specs.declared.duty.Reason.TheVariants.{Handed}
 use Rattle.brc_model.specs.declared.duty.Duty.{Duty}
 use Rattle.brc_model.specs.declared.duty.Duty.TheVariants.{RetainStore, ReleaseStore, Die, Leave, Finish, MergeExchange, KindLoad, UnlockGate, CellLoad}
@@ -13,7 +12,6 @@ use Rattle.brc_model.specs.Within.{Suits, FindsOwner}
 use Rattle.brc_word.specs.Words.{half, free_word, locked_word, merged_word, dead_word}
 use Rattle.brc_effect.specs.Accesses.{known_before}
 use Rattle.brc_table.specs.declared.view.View.{View}
-use Rattle.brc_table.specs.Views.{done, asking, RowsAreThere}
 use Rattle.brc_table.specs.Seen.{has_seen_kind, cell_seen}
 use Rattle.brc_table.specs.Hands.{MayChange}
 
@@ -27,10 +25,14 @@ abbrev pub FirstFindsOwner : View → List Duty → ℕ → Type 0
 FirstFindsOwner v [] found = Unit {0}
 FirstFindsOwner v (d ∷ rest) found = FindsOwner v.layout d found
 
--- What a hand knows of what its first duty finds. A load of a kind word finds what the hand has seen there, and so does
--- a load of a cell that no other hand changes. A merge for a handed reference that wins leaves that reference counted.
+-- What a hand knows of what its first duty finds. A load of a kind word finds what the hand has seen there; if the hand
+-- has locked the object, the object's slot had as many resources as the kind word says, when the hand took it; and none's
+-- kind word says that it is none. A load of a cell that no other hand changes finds what the hand has seen there. A merge for a handed reference that wins leaves that reference counted.
 abbrev pub FindsKnown : View → List Duty → ℕ → Type 0
-FindsKnown v (KindLoad x ∷ rest) found = (word : ℕ) → 0 < word → has_seen_kind x word v ≡ true → found ≡ word
+FindsKnown v (KindLoad x ∷ rest) found =
+    ((word : ℕ) → 0 < word → has_seen_kind x word v ≡ true → found ≡ word)
+    × (v.locked ≡ Some x → v.in_slot ≡ resources_of found)
+    × (x ≡ none_row → found ≡ half)
 FindsKnown v (CellLoad x i ∷ rest) found = (word : ℕ) → MayChange v x → cell_seen x i v ≡ Some word → found ≡ word
 FindsKnown v (MergeExchange x c w Handed ∷ rest) found = found ≡ w → merged_word w c ≢ dead_word
 FindsKnown v _ found = Unit {0}
@@ -43,12 +45,3 @@ overwritten_by t (d ∷ rest) = known_before t d
 -- the same of a hand
 abbrev pub overwritten : View → ℕ
 overwritten v = overwritten_by v.thread v.agenda
-
--- A hand asks for the kind of the row's object. If it has locked the object, the object's slot had as many resources as
--- the kind word says, when the hand took it. None's kind word says that it is none.
-abbrev pub Asks : {S : Type 0} → ℕ → Me S View → ℕ → Me S View → Type 0
-Asks x me found after =
-    (after.0 ≡ done (asking me.0 x) found) × (after.1 ≡ me.1) × RowsAreThere after.0 × (after.0.taken ≡ me.0.taken)
-    × FindsKnown (asking me.0 x) (KindLoad x ∷ []) found
-    × (me.0.locked ≡ Some x → me.0.in_slot ≡ resources_of found)
-    × (x ≡ none_row → found ≡ half)

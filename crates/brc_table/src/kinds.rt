@@ -4,20 +4,14 @@
 ghost use Rattle.std.specs.Prelude.{◌≡◌, ◌<◌, ℕ, true, None, Some};
 ghost use Rattle.brc_model.specs.Duties.{resources_of};
 ghost use Rattle.brc_word.specs.Words.{half};
-ghost use Rattle.brc_model.specs.Layout.{none_row, row_count};
+ghost use Rattle.brc_model.specs.Layout.{none_row};
 ghost use Rattle.brc_table.specs.Views.{done, asking};
 ghost use Rattle.brc_table.specs.Seen.{has_seen_kind};
 ghost use Rattle.brc_table.specs.Hands.{IsOf, IsRunning, MayLook, HasNoWork};
 
 use crate::hand::Hand;
-use crate::place::{KIND, in_line};
-use crate::rule::{Asked, OfRow};
 use crate::words::Words;
-use brc_model::{
-    accounts_are_there, chains_are_there, duties_are_kept, duties_are_within, guarded_cells_stay,
-    handed_merges_live, immortals_are_free, kinds_are_asked, locked_slots_are_full,
-    work_is_put_aside,
-};
+use brc_model::{Duty, immortals_are_free, kinds_are_asked, work_is_put_aside};
 use std::marker::Brand;
 
 impl<T: Drop> Words<T> {
@@ -25,6 +19,7 @@ impl<T: Drop> Words<T> {
     /// as the first of its dying chain: loads its kind word, which its birth stored. The word is the one that the hand
     /// has seen there before, if it has. If the hand has locked the object, the kind says whether the object's slot has
     /// a resource.
+    #[inline(always)]
     pub fn kind_load(&self, hand: &mut Hand<T>, row: u32) -> u64
         requires table { IsOf self.now hand.old }
         requires running { IsRunning hand.old.view }
@@ -38,38 +33,11 @@ impl<T: Drop> Words<T> {
         ensures slot { hand.old.view.locked ≡ Some row → hand.old.view.in_slot ≡ resources_of result }
         ensures named { row ≡ none_row → result ≡ half }
     {
-        self.layout_is_plain();
-        hand.rows_are_there();
-        self.load_kind::<Brand>(hand, row)
-    }
-
-    /// Loads the kind word of the row that the type names.
-    fn load_kind<R: OfRow>(&self, hand: &mut Hand<T>, row: u32) -> u64
-        requires row { row ≡ R.target }
-        requires table { IsOf self.now hand.old }
-        requires running { IsRunning hand.old.view }
-        requires usable { MayLook hand.old.view row }
-        requires idle { HasNoWork hand.old.view row }
-        requires there { row < row_count self.now.layout }
-        ensures table { hand.new.table ≡ hand.old.table }
-        ensures carried { hand.new.carried ≡ hand.old.carried }
-        ensures slots { hand.new.slots ≡ hand.old.slots }
-        ensures view { hand.new.view ≡ done (asking hand.old.view row) result }
-        ensures stays { (word : ℕ) → 0 < word → has_seen_kind row word hand.old.view ≡ true → result ≡ word }
-        ensures slot { hand.old.view.locked ≡ Some row → hand.old.view.in_slot ≡ resources_of result }
-        ensures named { row ≡ none_row → result ≡ half }
-    {
         work_is_put_aside();
         kinds_are_asked();
         immortals_are_free();
-        duties_are_kept();
-        duties_are_within();
-        accounts_are_there();
-        chains_are_there();
-        guarded_cells_stay();
-        handed_merges_live();
-        locked_slots_are_full();
-        let index = in_line(KIND, row);
-        self.table.shared.load::<Asked<R>>(&mut hand.seat, index)
+        self.layout_is_plain();
+        hand.rows_are_there();
+        self.step_from::<Brand>(hand, &Duty::KindLoad { row })
     }
 }

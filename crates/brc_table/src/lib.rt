@@ -15,6 +15,7 @@ mod join;
 mod kinds;
 mod laws;
 mod locks;
+mod model_laws;
 mod peeks;
 mod place;
 mod references;

@@ -12,14 +12,11 @@ ghost use Rattle.brc_table.specs.Uses.{FirstSlot, behind_slot};
 ghost use Rattle.brc_table.specs.Hands.{IsOf, IsRunning, HoldsOne, HasNoWork, HasNoRetain};
 
 use crate::hand::Hand;
+use crate::model_laws::model_laws;
 use crate::place::{GATE, in_line};
 use crate::rule::{Locked, OfRow};
 use crate::words::Words;
-use brc_model::{
-    Duty, accounts_are_there, chains_are_there, duties_are_kept, duties_are_within,
-    guarded_cells_stay, handed_merges_live, immortals_are_free, locked_slots_are_full, locks_begin,
-    slots_are_free, unlocks_begin, work_is_put_aside,
-};
+use brc_model::{Duty, immortals_are_free, locks_begin, unlocks_begin, work_is_put_aside};
 use brc_word::locked;
 use std::marker::Brand;
 
@@ -99,14 +96,7 @@ impl<T: Drop> Words<T> {
         work_is_put_aside();
         locks_begin();
         immortals_are_free();
-        duties_are_kept();
-        duties_are_within();
-        accounts_are_there();
-        chains_are_there();
-        guarded_cells_stay();
-        handed_merges_live();
-        slots_are_free();
-        locked_slots_are_full();
+        model_laws();
         let index = in_line(GATE, row);
         self.table
             .shared

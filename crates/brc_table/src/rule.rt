@@ -80,7 +80,7 @@ impl<T, B: Begins> Play<Option<T>, View> for SteppedStored<B> {
     ghost then = { λ s me stored after. StepsStored B.begins me after };
 }
 
-/// Which row a hand tries to lock, or asks about.
+/// Which row a hand tries to lock.
 pub(crate) trait OfRow {
     ghost target: { ℕ };
 }
@@ -98,15 +98,4 @@ impl<T, R: OfRow> Play<Option<T>, View> for Locked<R> {
     ghost use Rattle.brc_table.specs.Uses.{Locks};
 
     ghost then = { λ s me found after. Locks R.target me found after };
-}
-
-/// A load of a row's kind word.
-pub(crate) struct Asked<R> {
-    marker: PhantomData<R>,
-}
-
-impl<S, R: OfRow> Play<S, View> for Asked<R> {
-    ghost use Rattle.brc_table.specs.Plays.{Asks};
-
-    ghost then = { λ s me found after. Asks R.target me found after };
 }

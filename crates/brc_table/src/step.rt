@@ -23,6 +23,7 @@ ghost use Rattle.brc_table.specs.Calls.{CanAct};
 
 use crate::after::{head_after, runs_after, said_by, used_after};
 use crate::hand::Hand;
+use crate::model_laws::model_laws;
 use crate::place::place_at;
 use crate::rule::{Begins, Stepped, SteppedStored};
 use crate::view::View;
@@ -30,11 +31,7 @@ use crate::words::Words;
 use crate::work::Work;
 use atomic_table::Seat;
 use brc_effect::{Access, access_of, address_of};
-use brc_model::{
-    Duty, accounts_are_there, chains_are_there, duties_are_kept, duties_are_within,
-    given_slots_are_unlocked, guarded_cells_stay, handed_merges_live, slots_are_free,
-    slots_are_known, work_is_put_aside, work_is_taken_back,
-};
+use brc_model::{Duty, work_is_put_aside, work_is_taken_back};
 use std::marker::Brand;
 
 impl<T: Drop> Words<T> {
@@ -150,15 +147,7 @@ impl<T: Drop> Words<T> {
         ensures owner { FirstFindsOwner (B.begins hand.old.view) (B.begins hand.old.view).agenda result }
         ensures finds { FindsKnown (B.begins hand.old.view) (B.begins hand.old.view).agenda result }
     {
-        duties_are_kept();
-        duties_are_within();
-        accounts_are_there();
-        chains_are_there();
-        guarded_cells_stay();
-        handed_merges_live();
-        slots_are_free();
-        slots_are_known();
-        given_slots_are_unlocked();
+        model_laws();
         self.layout_is_plain();
         self.words_are_there();
         hand.rows_are_there();

@@ -1,4 +1,6 @@
+use Rattle.brc_table.specs.Accesses.{row_of}
+use Rattle.brc_table.specs.Views.{asking}
 use Rattle.brc_table.proofs.words.Words.kind_load.Given as goal
 
-abbrev pub ghosts-load_kind : goal.ghosts-load_kind
-ghosts-load_kind g a = record { target = a.row }
+abbrev pub ghosts-step_from : goal.ghosts-step_from
+ghosts-step_from g a = record { begins = λ v. asking v (row_of a.duty.now) }

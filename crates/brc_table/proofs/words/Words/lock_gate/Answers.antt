@@ -24,11 +24,8 @@ compare_exchange-requires g c =
       ap (λ (h : HandState). h.table) c.hand.view_is ∙ (c.requires.table.0 ∙ sym table_is),
       subst (λ (i : ℕ). i < shared.table_id.words) (sym at) (subst (λ (k : ℕ). in_tile 2 c.args.row < k)
           (sym (c.self.invariant.1 ∙ ap word_count layout_is)) there),
-      lock_allowed c.duties_are_kept.ensures c.duties_are_within.ensures
-          c.accounts_are_there.ensures c.chains_are_there.ensures
-          c.guarded_cells_stay.ensures c.handed_merges_live.ensures c.work_is_put_aside.ensures c.locks_begin.ensures
-          c.immortals_are_free.ensures c.slots_are_free.ensures c.locked_slots_are_full.ensures shared.key me.0 x
-          c.args.gate
+      lock_allowed c.model_laws.ensures c.work_is_put_aside.ensures c.locks_begin.ensures
+          c.immortals_are_free.ensures shared.key me.0 x c.args.gate
           (here (λ v y. IsRunning v) c.requires.running) (here (λ v y. IsCounted v.layout y) c.requires.counted)
           (here HasNoWork c.requires.idle) (here HoldsOne c.requires.held)
           (here (λ v y. v.locked ≡ None) c.requires.unlocked)

@@ -103,11 +103,10 @@ operate-word-requires-clause-allowed g c =
     ∙ (ap (λ (l : Layout). place (address_of l hand.thread hand.head d)) layout
     ∙ (ap (λ (t : ℕ). place (address_of u.layout t hand.head d)) thread
     ∙ ap (λ (k : ℕ). place (address_of u.layout u.thread k d)) head)) in
-    next_permitted c.duties_are_kept.ensures c.duties_are_within.ensures c.accounts_are_there.ensures
-    c.chains_are_there.ensures c.guarded_cells_stay.ensures c.handed_merges_live.ensures words c.args.hand.now begins
+    next_permitted c.model_laws.ensures words c.args.hand.now begins
     words.layout words.table.slots hand.seat.id c.place_at-index.result me
     (record { layout_is = refl; view_is = ap (λ (h : HandState). h.view) view_is }) c.requires.begins
-    c.slots_are_free.ensures c.slots_are_known.ensures c.given_slots_are_unlocked.ensures c.hand.invariant.0 d
+    c.hand.invariant.0 d
     c.requires.known (subst (λ (h : HandState). IsNext d (begins h.view).agenda) (sym view_is) c.requires.next)
     (subst (λ (h : HandState). (begins h.view).status ≢ Gone) (sym view_is) c.requires.alive) index (left_by access)
     (subst (λ (t : ℕ). (running : Bool) (n found : ℕ) → Suits t running n d found
