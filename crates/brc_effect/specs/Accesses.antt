@@ -1,5 +1,5 @@
 -- The one operation on a word by which a duty is done.
-use Rattle.std.specs.Prelude.{◌≡◌, ℕ, ◌+◌, ◌%◌, ◌^◌, ◌==◌}
+use Rattle.std.specs.Prelude.{ℕ, ◌+◌, ◌%◌, ◌^◌, ◌==◌}
 use prog.Atomic.{either}
 use Rattle.brc_word.specs.Words.{free_word, locked_word}
 use Rattle.brc_model.specs.declared.actor.Status.TheVariants.{Running, Leaving}
