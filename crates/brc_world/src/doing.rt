@@ -25,9 +25,9 @@ use crate::no_memory::NoMemory;
 use crate::question::answer;
 use crate::thread::{Mode, ROOM, Thread, owned_rows};
 use brc_check::Checked;
-use brc_effect::{Doer, access_of, address_of};
 use brc_effect::rows::{block_of, index_of};
 use brc_effect::states::FREE;
+use brc_effect::{Doer, access_of, address_of};
 use brc_lang::Function;
 use brc_model::{Address, Duty, Exit, Layout, Status};
 

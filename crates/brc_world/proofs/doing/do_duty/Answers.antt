@@ -1,10 +1,9 @@
 -- The step loads and stores the duty's word, and stores the rest of the effect in the thread.
 use Rattle.std.specs.Prelude.{length}
 use Rattle.std.proofs.Common.{ℕ, ap, sym, ◌∙◌, subst}
-use Rattle.brc_model.specs.declared.address.Address.{Address}
 use Rattle.brc_model.specs.Machine.{is_running}
 use Rattle.brc_model.specs.Within.{Suits}
-use Rattle.brc_world.specs.Storage.{word_in, IsStored}
+use Rattle.brc_world.specs.Storage.{word_in}
 use Rattle.brc_effect.proofs.Indices.{indexed}
 use Rattle.brc_world.proofs.doing.do_duty.Goals as goal
 
