@@ -111,13 +111,7 @@ duty_fits p n m t a d rest whole found alive is =
     let now : sitting a.actor (d ∷ rest) ≡ a.actor = ap (sitting a.actor) (sym is) in
     let actors = ap (λ (b : Actor). with_actor (counting m) t b) now in
     let same : with_actor (counting m) t (sitting a.actor (d ∷ rest)) ≡ counting m =
-    actors ∙ (λ i. record {
-      layout = m.layout;
-      memory = m.memory;
-      actors = set_found (counting m).actors t a.actor there i;
-      abstract = m.abstract;
-      life = m.life;
-    }) in
+    actors ∙ (λ i. record (counting m) { actors = set_found (counting m).actors t a.actor there i }) in
     let c = whole.accounts in
     let own = whole.coded t a found in
     let plain : sum_by at_once (d ∷ rest) ≡ 0 = ap (sum_by at_once) (sym is) ∙ own.plain in

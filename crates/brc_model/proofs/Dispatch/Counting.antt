@@ -20,13 +20,7 @@ pub counting_silent : (m : StepMachine) (t : ℕ) (a : StepActor) (moves : List 
     → with_moves (with_actor (counting m) t a.actor) moves ≡ counting (silent_by m t a moves place)
 counting_silent m t a moves place =
     let new = with_moves (with_actor (counting m) t a.actor) moves in
-    λ i. record {
-      layout = new.layout;
-      memory = new.memory;
-      actors = sym (map-set its_actor m.actors t (at_place a place)) i;
-      abstract = new.abstract;
-      life = new.life;
-    }
+    λ i. record new { actors = sym (map-set its_actor m.actors t (at_place a place)) i }
 
 -- A host call changes nothing of the counting machine.
 pub counting_called : (m : StepMachine) (t : ℕ) (a : StepActor) (exit : Exit) (place : Exit → Place)
@@ -40,10 +34,4 @@ counting_done m t a exit d rest place =
     let new = done_by (counting m) t a.actor d rest in
     let found = m.memory (address_of m.layout t a.actor.head d) in
     let after = step_actor m.layout t a d rest (place found) found in
-    λ i. record {
-      layout = new.layout;
-      memory = new.memory;
-      actors = sym (map-set its_actor m.actors t after) i;
-      abstract = new.abstract;
-      life = new.life;
-    }
+    λ i. record new { actors = sym (map-set its_actor m.actors t after) i }

@@ -33,17 +33,9 @@ use Rattle.brc_model.proofs.Keeping.Replaced.{flight_with, with_account_same, wi
 
 -- the machine with another word in the cell and another bag
 abbrev pub changed : Machine → ℕ → ℕ → ℕ → List Reference → Machine
-changed m x i word bag = record {
-  layout = m.layout;
+changed m x i word bag = record m {
   memory = written m.memory (Cell x i) word;
-  actors = m.actors;
-  abstract = record {
-    references = bag;
-    born = m.abstract.born;
-    closed = m.abstract.closed;
-    kinds = m.abstract.kinds;
-  };
-  life = m.life;
+  abstract = record (m.abstract) { references = bag };
 }
 
 -- What the change of a cell has to show.
@@ -231,16 +223,7 @@ module _ (p : Accounts) (n : ℕ) (m : Machine) (t : ℕ) (a : Actor) (x i word 
   same_numbers y =
       let old = numbers_of m y in
       let r = sym (change.as_many y) in
-      λ k. record {
-        local = old.local;
-        shared = old.shared;
-        mark = old.mark;
-        references = r k;
-        waiting = old.waiting;
-        carried = old.carried;
-        merging = old.merging;
-        deciding = old.deciding;
-      }
+      λ k. record old { references = r k }
 
   still_watched : (y : ℕ) → IsWatched m y → IsWatched new y
   still_watched y (ByRunning one) = ByRunning one

@@ -184,12 +184,9 @@ twice_accounted p t one other = fun_ext (λ u. elim (cases_Bool (u == t)) [
 
 -- the machine after the item of the word is taken out of the cell
 abbrev emptied : Machine → ℕ → ℕ → ℕ → ℕ → Machine
-emptied m t x i w = record {
-  layout = m.layout;
+emptied m t x i w = record m {
   memory = written m.memory (Cell x i) 0;
-  actors = m.actors;
   abstract = moved m.abstract (take_item t x i w);
-  life = m.life;
 }
 
 module _ {p : Accounts} {n : ℕ} {m : Machine} {t : ℕ} {a : Actor} where
@@ -198,24 +195,16 @@ module _ {p : Accounts} {n : ℕ} {m : Machine} {t : ℕ} {a : Actor} where
       → Counts (with_account p t (with_item (p t) w)) n (emptied m t x i w)
   taken_any x i zero counts ready guards retains is room =
       subst (λ (q : Accounts). Counts q n (emptied m t x i 0)) (sym (with_account_itself p t))
-      (subst (λ (memory : Address → ℕ). Counts p n (record {
-        layout = m.layout;
-        memory = memory;
-        actors = m.actors;
-        abstract = m.abstract;
-        life = m.life;
-      })) (sym (same_memory m.memory x i is)) counts)
+      (subst (λ (memory : Address → ℕ). Counts p n (record m { memory = memory })) (sym (same_memory m.memory x i is))
+      counts)
   taken_any x i (suc y) counts ready guards retains is room =
       item_taken p n m t a x i y counts ready guards retains is room
 
 -- the machine after the item of the word is put into the cell
 abbrev filled : Machine → ℕ → ℕ → ℕ → ℕ → Machine
-filled m t x i w = record {
-  layout = m.layout;
+filled m t x i w = record m {
   memory = written m.memory (Cell x i) w;
-  actors = m.actors;
   abstract = moved m.abstract (put_item t x i w);
-  life = m.life;
 }
 
 module _ {p : Accounts} {n : ℕ} {m : Machine} {t : ℕ} {a : Actor} where
@@ -224,13 +213,8 @@ module _ {p : Accounts} {n : ℕ} {m : Machine} {t : ℕ} {a : Actor} where
       → Counts (with_account p t (without_item (p t) w)) n (filled m t x i w)
   put_any x i zero counts ready guards retains is low may =
       subst (λ (q : Accounts). Counts q n (filled m t x i 0)) (sym (with_account_itself p t))
-      (subst (λ (memory : Address → ℕ). Counts p n (record {
-        layout = m.layout;
-        memory = memory;
-        actors = m.actors;
-        abstract = m.abstract;
-        life = m.life;
-      })) (sym (same_memory m.memory x i is)) counts)
+      (subst (λ (memory : Address → ℕ). Counts p n (record m { memory = memory })) (sym (same_memory m.memory x i is))
+      counts)
   put_any x i (suc y) counts ready guards retains is low may =
       item_put p n m t a x i y counts ready guards retains is low may
 
@@ -279,10 +263,7 @@ cells_are_swapped p n m t a x i word counts ready may_swap retains low may room 
     ap (λ (c : Account). with_account q t (without_item c word)) (sym own)
     ∙ twice_accounted p t more (without_item more word) in
     subst (λ (o : Accounts). Counts o n (cell_swapped m t x i word)) accounts
-    (subst (λ (memory : Address → ℕ). Counts (with_account q t (without_item (q t) word)) n (record {
-      layout = m.layout;
+    (subst (λ (memory : Address → ℕ). Counts (with_account q t (without_item (q t) word)) n (record m {
       memory = memory;
-      actors = m.actors;
       abstract = (cell_swapped m t x i word).abstract;
-      life = m.life;
     })) (twice_written m.memory (Cell x i) 0 word) second)

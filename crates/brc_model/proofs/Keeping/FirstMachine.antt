@@ -70,13 +70,7 @@ pub first_rooted : (m : Module) (states : ℕ → ℕ → Option State) (rows : 
     → rooted_machine (first_layout rows calls) (1 + length calls) ≡ counting (first_machine m states rows calls)
 first_rooted m states rows calls =
     let rooted = rooted_machine (first_layout rows calls) (1 + length calls) in
-    λ i. record {
-      layout = rooted.layout;
-      memory = rooted.memory;
-      actors = first_idle calls i;
-      abstract = rooted.abstract;
-      life = rooted.life;
-    }
+    λ i. record rooted { actors = first_idle calls i }
 
 -- The first accounts: each thread holds the root as the caller that lends it.
 abbrev pub first_accounts : Accounts

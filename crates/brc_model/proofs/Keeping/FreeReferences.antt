@@ -48,16 +48,7 @@ same_numbers m t x y immortal counted =
     let r : references_to y bag ≡ references_to y (reference_of t AsCaller x ∷ bag) =
     omega (arith, references_to-cons y (reference_of t AsCaller x) bag, none) in
     let old = numbers_of m y in
-    λ i. record {
-      local = old.local;
-      shared = old.shared;
-      mark = old.mark;
-      references = r i;
-      waiting = old.waiting;
-      carried = old.carried;
-      merging = old.merging;
-      deciding = old.deciding;
-    }
+    λ i. record old { references = r i }
 
 -- A mark that is set is still watched.
 still_watched : (m : Machine) (t x y : ℕ) → IsWatched m y → IsWatched (gained m t x) y

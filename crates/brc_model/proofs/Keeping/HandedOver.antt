@@ -111,16 +111,7 @@ module _ (p : Accounts) (n : ℕ) (m : Machine) (t u : ℕ) (a b : Actor) (x : �
         references_to-cons y (reference_of u AsCaller x) (without q bag),
         references_to-without y q bag has,
       ) in
-      λ i. record {
-        local = (numbers_of m y).local;
-        shared = (numbers_of m y).shared;
-        mark = (numbers_of m y).mark;
-        references = count i;
-        waiting = (numbers_of m y).waiting;
-        carried = (numbers_of m y).carried;
-        merging = (numbers_of m y).merging;
-        deciding = (numbers_of m y).deciding;
-      }
+      λ i. record (numbers_of m y) { references = count i }
 
   -- A reference of neither thread is as often in the bag as before.
   others_held : (r : Reference) → AreAside r.holder (hand_over t u x)

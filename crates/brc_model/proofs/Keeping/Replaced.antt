@@ -81,11 +81,7 @@ same_numbers m t a b account x found new =
     let c = sym (same_weight (carries x) m.actors t a b found (new.carries x)) in
     let g = sym (same_weight (merges x) m.actors t a b found (new.merges x)) in
     let d = sym (same_weight (decides x) m.actors t a b found (new.decides x)) in
-    λ i. record {
-      local = (numbers_of m x).local;
-      shared = (numbers_of m x).shared;
-      mark = (numbers_of m x).mark;
-      references = (numbers_of m x).references;
+    λ i. record (numbers_of m x) {
       waiting = w i;
       carried = c i;
       merging = g i;

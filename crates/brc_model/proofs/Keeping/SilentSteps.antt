@@ -106,10 +106,7 @@ module _ {p : Accounts} {n : ℕ} {m : Machine} {t : ℕ} {a : Actor} where
       sym (same_weight (merges x) m.actors t a [] rest.found rest.agenda refl) in
       let d : weight (decides x) m.actors ≡ weight (decides x) (slice_set m.actors t (sitting a [])) =
       sym (same_weight (decides x) m.actors t a [] rest.found rest.agenda refl) in
-      λ i. record {
-        local = (numbers_of m x).local;
-        shared = (numbers_of m x).shared;
-        mark = (numbers_of m x).mark;
+      λ i. record (numbers_of m x) {
         references = r i;
         waiting = w i;
         carried = c i;

@@ -23,20 +23,10 @@ use Rattle.std.specs.List.{list_any}
 
 -- The thread with another agenda.
 abbrev pub sitting : Actor → List Duty → Actor
-sitting a agenda =
-    record {
-      status = a.status;
-      agenda = agenda;
-      aside = a.aside;
-      head = a.head;
-      used = a.used;
-      locked = a.locked;
-      lent = a.lent;
-    }
+sitting a agenda = record a { agenda = agenda }
 
 -- What a thread has to show to take up work, with its account from then on.
-pub record Sits (m : Machine) (t : ℕ) (a : Actor) (agenda : List Duty) (account : Account)
-    : Type 0 where
+pub record Sits (m : Machine) (t : ℕ) (a : Actor) (agenda : List Duty) (account : Account) : Type 0 where
   pub holds : HoldsAt m.abstract.references t account agenda a.aside
   pub bounded : IsBounded m.layout account
   pub exited : exits Running agenda ≡ true → HoldsNone account × (a.aside ≡ [])
@@ -134,10 +124,4 @@ pub taken_up_step : (m : Machine) (t : ℕ) (a : Actor) (d : Duty) (rest : List 
 taken_up_step m t a d rest =
     let new = done_by m t a d rest in
     let after = actor_by m.layout t a d rest (m.memory (address_of m.layout t a.head d)) in
-    λ i. record {
-      layout = new.layout;
-      memory = new.memory;
-      actors = set-set m.actors t (sitting a (d ∷ rest)) after i;
-      abstract = new.abstract;
-      life = new.life;
-    }
+    λ i. record new { actors = set-set m.actors t (sitting a (d ∷ rest)) after i }

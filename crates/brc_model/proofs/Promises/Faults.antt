@@ -104,17 +104,7 @@ action_alike m t a (Does d rest place) quiet unclosed =
     ap (λ (b : Bool). cond b m.close_faults m.close_faults) unclosed in
     let same : cond (closes d) (counted FaultExit m.close_faults) m.close_faults ≡ new.close_faults =
     omega (arith, counts, before) in
-    λ i. record {
-      functions = new.functions;
-      states = new.states;
-      layout = new.layout;
-      memory = new.memory;
-      actors = new.actors;
-      abstract = new.abstract;
-      life = new.life;
-      host_faults = new.host_faults;
-      close_faults = same i;
-    }
+    λ i. record new { close_faults = same i }
 action_alike m t a _ quiet unclosed = cc
 
 thread_alike : (m : StepMachine) (t : ℕ) (o : Option StepActor) → says calls_host m (t, Ok) o ≡ false

@@ -191,33 +191,13 @@ tried_stays w t a exit (Does (LockGate y) rest place) found waits locked =
     let lock : cond (word == free_word) (Some y) a.actor.locked ≡ a.actor.locked =
     ap (λ (b : Bool). cond b (Some y) a.actor.locked) taken in
     let same : step_actor w.layout t a (LockGate y) rest (place word) word ≡ a =
-    λ i. record {
-      function = a.function;
-      place = there i;
-      actor = record {
-        status = a.actor.status;
-        agenda = agenda i;
-        aside = a.actor.aside;
-        head = a.actor.head;
-        used = a.actor.used;
-        locked = lock i;
-        lent = a.actor.lent;
-      };
-    } in
+    λ i. record a { place = there i; actor = record (a.actor) { agenda = agenda i; locked = lock i } } in
     let actors : slice_set w.actors t (step_actor w.layout t a (LockGate y) rest (place word) word) ≡ w.actors =
     ap (slice_set w.actors t) same ∙ set_found w.actors t a found in
     let memory : written w.memory (Gate y) (cond (word == free_word) (locked_word t) word) ≡ w.memory =
     fun_ext (λ (b : Address). ap (λ (c : Bool). written w.memory (Gate y) (cond c (locked_word t) word) b) taken
     ∙ written_load w.memory (Gate y) b) in
-    λ i. record {
-      functions = w.functions;
-      states = w.states;
-      layout = w.layout;
-      memory = memory i;
-      actors = actors i;
-      host_faults = w.host_faults;
-      close_faults = w.close_faults;
-    }
+    λ i. record w { memory = memory i; actors = actors i }
 tried_stays w t a exit _ found waits locked = absurd cc
 
 pub waiting_stays : (p : Module) (w : World) (t : ℕ) (a : StepActor) → IsReachable p w

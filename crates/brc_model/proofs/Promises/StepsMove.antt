@@ -213,32 +213,12 @@ miss_stays : (w : World) (t : ℕ) (a : StepActor) (row : ℕ) → slice_get w.a
 miss_stays w t a row found rest empty none =
     let agenda = none_claimed a.actor.head row (w.memory (Mark row)) empty none ∙ sym rest in
     let same : step_actor w.layout t a (ClaimMark row) [] a.place (w.memory (Mark row)) ≡ a =
-    λ i. record {
-      function = a.function;
-      place = a.place;
-      actor = record {
-        status = a.actor.status;
-        agenda = agenda i;
-        aside = a.actor.aside;
-        head = a.actor.head;
-        used = a.actor.used;
-        locked = a.actor.locked;
-        lent = a.actor.lent;
-      };
-    } in
+    λ i. record a { actor = record (a.actor) { agenda = agenda i } } in
     let actors : slice_set w.actors t
     (step_actor w.layout t a (ClaimMark row) [] a.place (w.memory (Mark row))) ≡ w.actors =
     ap (slice_set w.actors t) same ∙ set_found w.actors t a found in
     let memory = unmarked_stays w.memory row none in
-    λ i. record {
-      functions = w.functions;
-      states = w.states;
-      layout = w.layout;
-      memory = memory i;
-      actors = actors i;
-      host_faults = w.host_faults;
-      close_faults = w.close_faults;
-    }
+    λ i. record w { memory = memory i; actors = actors i }
 
 pub claim_misses : (p : Module) (w : World) (t : ℕ) (a : StepActor) (row : ℕ) → IsReachable p w
     → slice_get w.actors t ≡ Some a → may_claim w.layout t a row ≡ true → w.memory (Mark row) ≡ 0

@@ -37,6 +37,7 @@ module _ {p : Accounts} {n : ℕ} {m : Machine} {t : ℕ} {a : Actor} {d : Duty}
   chain_here here =
       subst (λ (l : List Duty). ChainFits m t a.head l) here.agenda (here.core.each t a here.found).0.chain
 
+-- A test that counts for something holds.
 pub one_if_some : (b : Bool) → 0 < one_if b → b ≡ true
 one_if_some true some = refl
 one_if_some false some = absurd (omega arith)
@@ -46,9 +47,11 @@ pub dying_born : (m : Machine) (t x : ℕ) → m.life x ≡ Dying t → m.life x
 dying_born m t x dies unborn = let wrong : Unborn ≡ Dying t = sym unborn ∙ dies in cc
 
 module _ {p : Accounts} {n : ℕ} {m : Machine} where
+  -- A dying row has a number below the greatest number of rows.
   pub dying_low : (t x : ℕ) → CoreInvariant p n m → m.life x ≡ Dying t → x < total_limit
   dying_low t x core dies = born_low x core (dying_born m t x dies)
 
+  -- A dying row is counted.
   pub dying_above : (t x : ℕ) → CoreInvariant p n m → m.life x ≡ Dying t → IsCounted m.layout x
   dying_above t x core dies =
       elim (cases_Bool (is_immortal_row m.layout x)) [

@@ -23,6 +23,7 @@ use Rattle.brc_model.proofs.Objects.RowsAfterOwn.{counted_word}
 
 -- ---- the bag
 
+-- The test for equality is symmetric.
 pub flip_eqb : (x y : ℕ) → (x == y) ≡ (y == x)
 flip_eqb x y = elim (y == x) as (λ b. (y == x) ≡ b → (x == y) ≡ b) [
   | true ↦ λ e. eq-eqb x y (sym (eqb-true y x e))
@@ -108,6 +109,7 @@ held_lost bag t x h agenda later has extra no_less more less = record {
 -- ---- retains
 
 module _ {p : Accounts} {n : ℕ} {m : Machine} {t : ℕ} {a : Actor} {rest : List Duty} where
+  -- A counted object that a thread may retain isn't immortal.
   pub backed_not_immortal : (x : ℕ) (h : Holding) → IsCounted m.layout x → AtDuty p n m t a (RetainLoad x h) rest
       → is_immortal_word (m.memory (Local x)) ≡ false
   backed_not_immortal x h pos here =

@@ -34,6 +34,7 @@ use Rattle.brc_model.proofs.Stepping.Steps.{own_steady, is_steady}
 -- ---- marked rows
 
 module _ {p : Accounts} {n : ℕ} {m : Machine} where
+  -- A marked row is counted.
   pub mark_above : (x : ℕ) → CoreInvariant p n m → m.memory (Mark x) ≡ 1 → IsCounted m.layout x
   mark_above x core marked = elim (core.marks x) [
     | inl none ↦ absurd (omega (arith, none, marked))

@@ -38,6 +38,7 @@ NotGone a = a.status ≡ Gone → ⊥
 
 -- ---- agendas and statuses
 
+-- The agenda of a thread that isn't gone has the form of an agenda.
 pub agenda_in : (a : Actor) (status : Status) → (status ≡ Gone → ⊥)
     → AgendaFits a status
     → Agenda a.used status a.agenda
@@ -45,6 +46,7 @@ agenda_in a Gone alive fits = absurd (alive refl)
 agenda_in a Running alive fits = fits
 agenda_in a Leaving alive fits = fits
 
+-- An agenda of that form fits a thread that isn't gone.
 pub agenda_out : (a : Actor) (status : Status) → (status ≡ Gone → ⊥)
     → Agenda a.used status a.agenda → AgendaFits a status
 agenda_out a Gone alive fits = absurd (alive refl)

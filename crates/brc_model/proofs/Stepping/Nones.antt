@@ -35,6 +35,7 @@ local_apart m y x v counted immortal =
     written_apart m.memory (Local y) (Local x) v (apart_local y x (immortal_apart m.layout y x counted immortal))
 
 module _ {p : Accounts} {n : ℕ} {m : Machine} {t : ℕ} {a : Actor} {rest : List Duty} where
+  -- No step changes the local word of an immortal object.
   pub immortal_word_left : (d : Duty) (x : ℕ) → AtDuty p n m t a d rest → is_immortal_row m.layout x ≡ true
       → memory_by m t a d (Local x) ≡ m.memory (Local x)
   immortal_word_left (RetainLoad y h) x here immortal = written_load m.memory (Local y) (Local x)
@@ -48,6 +49,7 @@ module _ {p : Accounts} {n : ℕ} {m : Machine} {t : ℕ} {a : Actor} {rest : Li
   immortal_word_left _ x here immortal = refl
 
 module _ {p : Accounts} {n : ℕ} {m : Machine} where
+  -- The local word of an immortal object is immortal.
   pub immortal_row : (x : ℕ) → CoreInvariant p n m → is_immortal_row m.layout x ≡ true
       → is_immortal_word (m.memory (Local x)) ≡ true
   immortal_row x core immortal = ap is_immortal_word (core.immortal_words x immortal)

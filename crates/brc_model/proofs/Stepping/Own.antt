@@ -26,6 +26,7 @@ pub record HeldStep (bag new : List Reference) (t : ℕ) (agenda later : List Du
       → held (reference_of t k object) new + one_if (lacks_of later k object) + one_if (extra_of agenda k object)
       ≡ held (reference_of t k object) bag + one_if (lacks_of agenda k object) + one_if (extra_of later k object)
 
+-- The account still agrees with the bag after the step.
 pub holds_step : (bag new : List Reference) (t : ℕ) (account : Account) (agenda later aside : List Duty)
     → HeldStep bag new t agenda later → HoldsAt bag t account agenda aside → HoldsAt new t account later aside
 holds_step bag new t account agenda later aside step holds =
@@ -63,6 +64,7 @@ ready_past d rest agenda none then = record {
   knows = λ m a h behind. then.knows m a h behind.1;
 }
 
+-- The duties behind a finished one make an agenda, once those that need no step are skipped.
 pub ready_is : (layout : Layout) (t used : ℕ) (status : Status) (head : ℕ) (rest : List Duty)
     → Later used status rest → IsReady layout t used status head rest (ready head rest)
 ready_is layout t used status zero [] later = ready_as [] later (λ k o. refl) (λ k o. refl) (λ m a h b. tt)
@@ -106,6 +108,7 @@ pub record ChainSame (m new : Machine) (t : ℕ) (agenda later : List Duty) : Ty
   pub hands : (x : ℕ)
       → finalised later x + one_if (dies_by (m.life x) t) ≡ finalised agenda x + one_if (dies_by (new.life x) t)
 
+-- The dying chain fits after a step that changes neither its gates nor the rows that the thread finalises.
 pub chain_same : (m new : Machine) (t head : ℕ) (agenda later : List Duty) → ChainSame m new t agenda later
     → ChainFits m t head agenda → ChainFits new t head later
 chain_same m new t head agenda later same fits = record {

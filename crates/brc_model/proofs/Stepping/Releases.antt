@@ -62,11 +62,13 @@ module _ {p : Accounts} {n : ℕ} {m : Machine} {t : ℕ} {a : Actor} {d : Duty}
       (ap (λ (l : List Duty). lacks_of l h x) here.agenda ∙ less)
 
 module _ {p : Accounts} {n : ℕ} {m : Machine} {t : ℕ} {a : Actor} {rest : List Duty} where
+  -- The bag has the reference that a release gives up.
   pub release_held : (x : ℕ) (h : Holding) → AtDuty p n m t a (ReleaseLoad x h) rest
       → 0 < held (reference_of t h x) m.abstract.references
   release_held x h here =
       extra_here h x here (ap (λ (b : Bool). b && (x == x)) (same_holding-refl h) ∙ eq-eqb x x refl) refl
 
+  -- A counted object that is released lives.
   pub release_alive : (x : ℕ) (h : Holding) → IsCounted m.layout x → AtDuty p n m t a (ReleaseLoad x h) rest → Alive m x
   release_alive x h pos here =
       alive_referenced x here.core pos (omega (

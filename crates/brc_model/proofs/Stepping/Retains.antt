@@ -36,11 +36,13 @@ use Rattle.brc_model.proofs.Stepping.Steps.{own_next}
 
 -- ---- the local word of a live row
 
+-- A thread that runs has the status of a running thread.
 pub running_is : (status : Status) → is_running status ≡ true → status ≡ Running
 running_is Running e = refl
 running_is Leaving e = absurd cc
 running_is Gone e = absurd cc
 
+-- A thread that counts in the local word owns the row.
 pub counts_owner : (m : Machine) (t : ℕ) (a : Actor) (x : ℕ)
     → counts_locally t (is_running a.status) (m.memory (Local x)) ≡ true → Alive m x → OwnsLocally m t a x
 counts_owner m t a x counts alive =
@@ -69,6 +71,7 @@ module _ {p : Accounts} {n : ℕ} {m : Machine} where
       ]
 
 module _ {p : Accounts} {n : ℕ} {m : Machine} {t : ℕ} {a : Actor} {d : Duty} {rest : List Duty} where
+  -- If a thread's first duty is about the row and doesn't decide about it, none of its duties does.
   pub weight_here : (x : ℕ) → AtDuty p n m t a d rest → is_about x d ≡ true → decides x d ≡ 0
       → agenda_weight (decides x) a ≡ 0
   weight_here x here this none = own_weighs x (decides x) here (decides_of_row x) this ∙ none

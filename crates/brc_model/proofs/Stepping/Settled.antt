@@ -13,6 +13,7 @@ use Rattle.brc_model.specs.declared.layout.Layout.{Layout}
 
 -- ---- agendas
 
+-- An empty agenda stays empty.
 pub ready_none : (head : ℕ) → ready head [] ≡ []
 ready_none zero = refl
 ready_none (suc head) = refl

@@ -60,10 +60,12 @@ finalises_none _ = true
 abbrev pub keeps_lives : Duty → Bool
 keeps_lives d = is_steady d && finalises_none d
 
+-- A steady duty closes no row.
 pub keeping_ends : (d : Duty) → is_steady d ≡ true → ended_row d ≡ None
 keeping_ends (SettleEnd x) kept = absurd cc
 keeping_ends _ kept = refl
 
+-- A steady duty gives birth to no row.
 pub keeping_born : (d : Duty) → is_steady d ≡ true → born_row d ≡ None
 keeping_born (BirthLocal x h) kept = absurd cc
 keeping_born _ kept = refl
@@ -79,6 +81,7 @@ keeping_status status Finish kept = absurd cc
 keeping_status status _ kept = refl
 
 module _ {p : Accounts} {n : ℕ} {m : Machine} {t : ℕ} {a : Actor} {rest : List Duty} where
+  -- A steady duty leaves the gates of the rows that the thread finalises.
   pub keeping_gates : (d : Duty) (x : ℕ) → AtDuty p n m t a d rest → is_steady d ≡ true → dies_by (m.life x) t ≡ true
       → memory_by m t a d (Gate x) ≡ m.memory (Gate x)
   keeping_gates (LockGate y) x here kept dies =
