@@ -5,11 +5,11 @@ use Rattle.brc_model.specs.declared.duty.Duty.{Duty}
 use Rattle.brc_model.specs.declared.duty.Duty.TheVariants.{SetMark}
 use Rattle.brc_table.specs.declared.view.View.{View}
 use Rattle.brc_table.specs.Views.{without_reference}
-use Rattle.brc_heap.specs.declared.release.LocalRelease.{LocalRelease}
-use Rattle.brc_heap.specs.declared.release.LocalRelease.TheVariants as local
-use Rattle.brc_heap.specs.declared.release.SharedRelease.{SharedRelease}
-use Rattle.brc_heap.specs.declared.release.SharedRelease.TheVariants as shared
-use Rattle.brc_heap.specs.declared.marker.Looked.{Looked}
+use Rattle.brc_effect.specs.declared.outcomes.LocalRelease.{LocalRelease}
+use Rattle.brc_effect.specs.declared.outcomes.LocalRelease.TheVariants as local
+use Rattle.brc_effect.specs.declared.outcomes.SharedRelease.{SharedRelease}
+use Rattle.brc_effect.specs.declared.outcomes.SharedRelease.TheVariants as shared
+use Rattle.brc_effect.specs.declared.outcomes.Looked.{Looked}
 use Rattle.brc_heap.specs.Calls.{Leaves, local_left, shared_left}
 use Rattle.brc_heap.specs.Marks.{look_answer, look_left, posted}
 use Rattle.brc_heap.specs.Steps.{HasStepped}

@@ -4,8 +4,8 @@ use Rattle.brc_model.specs.declared.duty.Duty.{Duty}
 use Rattle.brc_model.specs.declared.duty.Reason.{Reason}
 use Rattle.brc_model.specs.declared.duty.Reason.TheVariants.{Own}
 use Rattle.brc_model.specs.Duties.{once_merged}
-use Rattle.brc_heap.specs.declared.merge.MergeStep.{MergeStep}
-use Rattle.brc_heap.specs.declared.merge.MergeStep.TheVariants as merge
+use Rattle.brc_effect.specs.declared.outcomes.MergeStep.{MergeStep}
+use Rattle.brc_effect.specs.declared.outcomes.MergeStep.TheVariants as merge
 use Rattle.brc_heap.specs.Calls.{merge_left}
 
 pub merge_won : (x c : ℕ) (r : Reason) (answer : MergeStep) → (answer ≡ merge.Kept) ⊎ (answer ≡ merge.Dying)

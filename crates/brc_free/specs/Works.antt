@@ -12,7 +12,7 @@ use Rattle.brc_table.specs.declared.view.View.{View}
 use Rattle.brc_model.specs.OpenWork.{is_about}
 use Rattle.brc_table.specs.Seen.{has_seen_kind, cell_seen}
 use Rattle.brc_table.specs.Views.{done, slot_emptied, without_reference, open_work}
-use Rattle.brc_heap.specs.declared.release.LocalRelease.{LocalRelease}
+use Rattle.brc_effect.specs.declared.outcomes.LocalRelease.{LocalRelease}
 use Rattle.brc_heap.specs.Calls.{local_left}
 use Rattle.brc_heap.specs.Steps.{Keeps}
 

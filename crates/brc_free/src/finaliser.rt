@@ -6,46 +6,18 @@ ghost use Rattle.brc_host.specs.HostCalls.{HostCall, Close, HasAnswered, close_f
 ghost use Rattle.brc_model.specs.declared.actor.Status.TheVariants.{Gone};
 ghost use Rattle.brc_model.specs.declared.duty.Duty.{Duty};
 ghost use Rattle.brc_model.specs.declared.duty.Duty.TheVariants.{Settle, SettleEnd};
-ghost use Rattle.brc_model.specs.Duties.{has_resource, cells_of, cells_from};
+ghost use Rattle.brc_model.specs.Duties.{cells_from};
 ghost use Rattle.brc_table.specs.Hands.{IsOf};
 ghost use Rattle.brc_table.specs.Uses.{FirstSlot, behind_slot};
 ghost use Rattle.brc_free.specs.Works.{HasWorked, ComesToSettle, to_settle, EmptiesNext, CellNext, TakesNext, ClaimedNext, behind, cells_left, claimed_left};
 
 use crate::merging::merge;
+use brc_effect::kinds::{cells_of, has_resource};
 use brc_heap::{Hand, Heap, Marker};
 use brc_host::{Fault, Host};
 use brc_list::Lists;
-use brc_word::{kind_argument, kind_number};
 use std::marker::Model;
 use std::sync::Wait;
-
-/// The number of the kind of lists, in kind words.
-const LIST: u32 = 3;
-
-/// The number of the kind of files.
-const FILE: u32 = 4;
-
-/// The number of the kind of sockets.
-const SOCK: u32 = 5;
-
-/// Returns whether an object with this kind word has a resource of the host.
-fn has_resource(kind: u64) -> bool
-    ensures { result ≡ has_resource kind }
-{
-    let number = kind_number(kind);
-    number == FILE || number == SOCK
-}
-
-/// Returns how many cells an object with this kind word has.
-fn cells_of(kind: u64) -> u32
-    ensures { result ≡ cells_of kind }
-{
-    if kind_number(kind) == LIST {
-        kind_argument(kind)
-    } else {
-        0
-    }
-}
 
 /// Returns how many faults a close has answered: one, or none.
 fn faults_of(closed: &Result<(), Fault>) -> u64

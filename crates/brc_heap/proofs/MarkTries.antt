@@ -7,8 +7,9 @@ use Rattle.brc_model.specs.declared.duty.Duty.TheVariants.{SetMark, Look, TakeMa
 use Rattle.brc_model.specs.declared.duty.Reason.TheVariants.{Handed}
 use Rattle.brc_table.specs.declared.view.View.{View}
 use Rattle.brc_table.specs.Views.{done}
-use Rattle.brc_heap.specs.declared.marker.Looked.{Looked}
-use Rattle.brc_heap.specs.declared.marker.Looked.TheVariants as looks
+use Rattle.brc_effect.specs.declared.outcomes.Looked.{Looked}
+use Rattle.brc_effect.specs.declared.outcomes.Looked.TheVariants as looks
+use Rattle.brc_effect.specs.Outcomes.{taken_answer}
 use Rattle.brc_heap.specs.Marks.{look_answer, look_left, looked_after, posted}
 use Rattle.brc_heap.specs.Steps.{HasStepped}
 use Rattle.brc_heap.proofs.Stepping.{IsPiece, plain_first, plain_begins, plain_on, stepped_then}
@@ -48,13 +49,14 @@ runs {v} {u} {x} {rest} said view is next =
     subst (HasStepped v rest) (sym view)
     (plain_on said (plain_begins next refl) refl (ap (λ (b : Bool). if b then [] else TakeMark x ∷ []) is))
 
-pub taken : {v u w : View} {x : ℕ} {rest : List Duty} (set : Bool) (said found : ℕ) → u ≡ done v said
-    → w ≡ done u found → (said == 1) ≡ false → (found == 1) ≡ set → v.agenda ≡ Look x ∷ rest
-    → HasStepped v ((if set then MergeSwap x Handed ∷ [] else []) ++ rest) w
-taken {v} {u} {w} {x} {rest} set said found view after is one next =
-    subst (HasStepped v ((if set then MergeSwap x Handed ∷ [] else []) ++ rest))
+pub taken_back : {v u w : View} {x : ℕ} {rest : List Duty} (answer : Looked) (said found : ℕ) → u ≡ done v said
+    → w ≡ done u found → (said == 1) ≡ false → answer ≡ taken_answer found → v.agenda ≡ Look x ∷ rest
+    → HasStepped v (look_left x answer ++ rest) w
+taken_back {v} {u} {w} {x} {rest} answer said found view after is one next =
+    subst (λ (a : Looked). HasStepped v (look_left x a ++ rest) w) (sym one)
+    (subst (HasStepped v (look_left x (taken_answer found) ++ rest))
     (sym (after ∙ ap (λ (z : View). done z found) view))
-    (plain_on found (stopped said next is) refl (ap (λ (b : Bool). if b then MergeSwap x Handed ∷ [] else []) one))
+    (plain_on found (stopped said next is) refl (taken_by x (found == 1))))
 
 -- One after the other.
 pub posted_stepped : {v : View} {x : ℕ} {rest : List Duty} (said found : ℕ) → v.agenda ≡ SetMark x ∷ rest

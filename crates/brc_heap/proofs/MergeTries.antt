@@ -18,15 +18,16 @@ use Rattle.std.specs.List.{filter}
 use Rattle.brc_model.specs.OpenWork.{is_about}
 use Rattle.brc_heap.proofs.Turning.{none_aside, turned_itself}
 use Rattle.brc_table.specs.Plays.{FindsKnown}
-use Rattle.brc_heap.specs.declared.release.LocalRelease.{LocalRelease}
-use Rattle.brc_heap.specs.declared.release.LocalRelease.TheVariants as local
-use Rattle.brc_heap.specs.declared.release.ZeroStep.{ZeroStep}
-use Rattle.brc_heap.specs.declared.release.ZeroStep.TheVariants as zeros
-use Rattle.brc_heap.specs.declared.release.SharedRelease.{SharedRelease}
-use Rattle.brc_heap.specs.declared.release.SharedRelease.TheVariants as shared
-use Rattle.brc_heap.specs.declared.merge.MergeStep.{MergeStep}
-use Rattle.brc_heap.specs.declared.merge.MergeStep.TheVariants as merge
-use Rattle.brc_heap.specs.Calls.{counts_here, released_locally, chained, chained_by, local_answer, local_left, zero_answer, zero_left, shared_answer, shared_left, merge_answer, merge_tried, merge_begun, first_answer, merge_left, Leaves}
+use Rattle.brc_effect.specs.declared.outcomes.LocalRelease.{LocalRelease}
+use Rattle.brc_effect.specs.declared.outcomes.LocalRelease.TheVariants as local
+use Rattle.brc_effect.specs.declared.outcomes.ZeroStep.{ZeroStep}
+use Rattle.brc_effect.specs.declared.outcomes.ZeroStep.TheVariants as zeros
+use Rattle.brc_effect.specs.declared.outcomes.SharedRelease.{SharedRelease}
+use Rattle.brc_effect.specs.declared.outcomes.SharedRelease.TheVariants as shared
+use Rattle.brc_effect.specs.declared.outcomes.MergeStep.{MergeStep}
+use Rattle.brc_effect.specs.declared.outcomes.MergeStep.TheVariants as merge
+use Rattle.brc_effect.specs.Outcomes.{zero_answer, shared_answer, merge_answer}
+use Rattle.brc_heap.specs.Calls.{counts_here, released_locally, chained, chained_by, local_answer, local_left, zero_left, shared_left, merge_tried, merge_begun, first_answer, merge_left, Leaves}
 use Rattle.brc_heap.specs.Steps.{HasStepped, ended}
 use Rattle.brc_heap.specs.Tries.{lowered, zero_dies, shared_dies, merge_dies, carries_of, swap_left, still_carried}
 use Rattle.brc_heap.proofs.Stepping.{plain_first, die_first, plain_begins, plain_on, IsPiece}

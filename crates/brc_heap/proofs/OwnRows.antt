@@ -15,7 +15,7 @@ use Rattle.brc_model.specs.Machine.{is_running, has_room}
 use Rattle.brc_model.specs.Within.{OwnerFits}
 use Rattle.brc_table.specs.declared.view.View.{View}
 use Rattle.brc_table.specs.Views.{did, done, retaining, next_row, RowsAreThere}
-use Rattle.brc_heap.specs.declared.release.LocalRelease.TheVariants as local
+use Rattle.brc_effect.specs.declared.outcomes.LocalRelease.TheVariants as local
 use Rattle.brc_heap.specs.Calls.{retained, RetainsOwn, local_answer}
 
 runs_true : (v : View) → v.status ≡ Running → is_running v.status ≡ true

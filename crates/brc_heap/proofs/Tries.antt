@@ -15,15 +15,17 @@ use Rattle.brc_table.specs.declared.view.View.{View}
 use Rattle.brc_table.specs.Views.{did, done, resumed, releasing}
 use Rattle.brc_table.specs.Hands.{HasNoWork}
 use Rattle.brc_table.specs.Plays.{FindsKnown}
-use Rattle.brc_heap.specs.declared.release.LocalRelease.{LocalRelease}
-use Rattle.brc_heap.specs.declared.release.LocalRelease.TheVariants as local
-use Rattle.brc_heap.specs.declared.release.ZeroStep.{ZeroStep}
-use Rattle.brc_heap.specs.declared.release.ZeroStep.TheVariants as zeros
-use Rattle.brc_heap.specs.declared.release.SharedRelease.{SharedRelease}
-use Rattle.brc_heap.specs.declared.release.SharedRelease.TheVariants as shared
-use Rattle.brc_heap.specs.declared.merge.MergeStep.{MergeStep}
-use Rattle.brc_heap.specs.declared.merge.MergeStep.TheVariants as merge
-use Rattle.brc_heap.specs.Calls.{counts_here, released_locally, chained, chained_by, local_answer, local_left, zero_answer, zero_left, shared_answer, shared_left, merge_answer, merge_tried, merge_left}
+use Rattle.brc_effect.specs.declared.outcomes.LocalRelease.{LocalRelease}
+use Rattle.brc_effect.specs.declared.outcomes.LocalRelease.TheVariants as local
+use Rattle.brc_effect.specs.declared.outcomes.ZeroStep.{ZeroStep}
+use Rattle.brc_effect.specs.declared.outcomes.ZeroStep.TheVariants as zeros
+use Rattle.brc_effect.specs.declared.outcomes.SharedRelease.{SharedRelease}
+use Rattle.brc_effect.specs.declared.outcomes.SharedRelease.TheVariants as shared
+use Rattle.brc_effect.specs.declared.outcomes.MergeStep.{MergeStep}
+use Rattle.brc_effect.specs.declared.outcomes.MergeStep.TheVariants as merge
+use Rattle.brc_effect.specs.Outcomes.{zero_answer, shared_answer, merge_answer}
+use Rattle.brc_heap.specs.Calls.{counts_here, released_locally, chained, chained_by, local_answer, local_left, zero_left, shared_left, merge_tried, merge_left}
+use Rattle.brc_effect.specs.Outcomes.{local_answer as local_release}
 use Rattle.brc_heap.specs.Steps.{HasStepped, ended}
 use Rattle.brc_heap.specs.Tries.{lowered, zero_dies, shared_dies, merge_dies, carries_of, swap_left, still_carried}
 use Rattle.brc_heap.proofs.Stepping.{plain_first, die_first, plain_begins, plain_on, IsPiece}
@@ -69,18 +71,11 @@ lowered_stepped v u x word h rest next is =
 
 -- The code asks for the hand's thread and status, as the model does.
 pub answered : {answer : LocalRelease} {thread : ℕ} {running : Bool} (u : View) (word : ℕ) → thread ≡ u.thread
-    → running ≡ is_running u.status
-    → answer ≡ (if is_immortal_word word then local.Skip
-    else if running && (owner_part word == thread + 1) then (if local_part word == 1 then local.Zero else local.Kept)
-    else local.Share) → answer ≡ local_answer u word
+    → running ≡ is_running u.status → answer ≡ local_release thread running word → answer ≡ local_answer u word
 answered {answer} {thread} {running} u word same runs is =
     is
-    ∙ (ap (λ (t : ℕ). if is_immortal_word word then local.Skip
-    else if running && (owner_part word == t + 1) then (if local_part word == 1 then local.Zero else local.Kept)
-    else local.Share) same
-    ∙ ap (λ (b : Bool). if is_immortal_word word then local.Skip
-    else if b && (owner_part word == u.thread + 1) then (if local_part word == 1 then local.Zero else local.Kept)
-    else local.Share) runs)
+    ∙ (ap (λ (t : ℕ). local_release t running word) same
+    ∙ ap (λ (b : Bool). local_release u.thread b word) runs)
 
 stores_by : (v u : View) (immortal counts last : Bool) (answer : LocalRelease)
     → answer ≡ (if immortal then local.Skip else if counts then (if last then local.Zero else local.Kept)

@@ -22,14 +22,15 @@ use Rattle.brc_table.specs.declared.view.Event.{Event}
 use Rattle.brc_table.specs.Views.{done, resumed, turned, slot_filled, asking, retaining, releasing, bearing, work_about, open_work, next_row, is_given}
 use Rattle.brc_table.specs.Seen.{has_seen_kind, cell_seen}
 use Rattle.brc_table.specs.Hands.{HandState, MayWait, carried_of}
-use Rattle.brc_heap.specs.declared.release.LocalRelease.{LocalRelease}
-use Rattle.brc_heap.specs.declared.release.LocalRelease.TheVariants as local
-use Rattle.brc_heap.specs.declared.release.ZeroStep.{ZeroStep}
-use Rattle.brc_heap.specs.declared.release.ZeroStep.TheVariants as zero
-use Rattle.brc_heap.specs.declared.release.SharedRelease.{SharedRelease}
-use Rattle.brc_heap.specs.declared.release.SharedRelease.TheVariants as shared
-use Rattle.brc_heap.specs.declared.merge.MergeStep.{MergeStep}
-use Rattle.brc_heap.specs.declared.merge.MergeStep.TheVariants as merge
+use Rattle.brc_effect.specs.Outcomes.{local_answer as local_release, merge_answer}
+use Rattle.brc_effect.specs.declared.outcomes.LocalRelease.{LocalRelease}
+use Rattle.brc_effect.specs.declared.outcomes.LocalRelease.TheVariants as local
+use Rattle.brc_effect.specs.declared.outcomes.ZeroStep.{ZeroStep}
+use Rattle.brc_effect.specs.declared.outcomes.ZeroStep.TheVariants as zero
+use Rattle.brc_effect.specs.declared.outcomes.SharedRelease.{SharedRelease}
+use Rattle.brc_effect.specs.declared.outcomes.SharedRelease.TheVariants as shared
+use Rattle.brc_effect.specs.declared.outcomes.MergeStep.{MergeStep}
+use Rattle.brc_effect.specs.declared.outcomes.MergeStep.TheVariants as merge
 
 -- ---- retain
 
@@ -60,11 +61,9 @@ abbrev pub released_locally : View → ℕ → ℕ → View
 released_locally v x word =
     let loaded = done (releasing v x) word in if counts_here v word then done loaded word else loaded
 
+-- how the release ends that has loaded it
 abbrev pub local_answer : View → ℕ → LocalRelease
-local_answer v word =
-    if is_immortal_word word then local.Skip
-    else if counts_here v word then (if local_part word == 1 then local.Zero else local.Kept)
-    else local.Share
+local_answer v word = local_release v.thread (is_running v.status) word
 
 -- If the object dies, the hand chains it at once.
 abbrev pub chained_by : View → List Duty → View
@@ -78,20 +77,9 @@ chained v = chained_by v v.agenda
 abbrev pub decided : View → ℕ → ℕ → View
 decided v x word = chained (done (turned v x) word)
 
-abbrev pub zero_answer : ℕ → ZeroStep
-zero_answer word = if word == fresh_word then zero.Dying else zero.Merge
-
 -- the hand has loaded the shared word, and exchanged it if it was still the same
 abbrev pub released_shared : View → ℕ → ℕ → ℕ → View
 released_shared v x word found = chained (resumed (turned v x) (word ∷ found ∷ []))
-
-abbrev pub shared_answer : ℕ → ℕ → SharedRelease
-shared_answer word found =
-    if found == word
-    then (if word == fresh_word then shared.Queued
-    else if released_word word == dead_word then shared.Dying
-    else shared.Kept)
-    else shared.Again
 
 -- ---- merge
 
@@ -104,10 +92,6 @@ merge_tried v word found = chained (resumed v (word ∷ found ∷ []))
 abbrev pub merge_begun : View → ℕ → ℕ → ℕ → ℕ → View
 merge_begun v x local word found =
     let swapped = done (turned v x) local in if local == 0 then swapped else merge_tried swapped word found
-
-abbrev pub merge_answer : ℕ → ℕ → ℕ → MergeStep
-merge_answer carried word found =
-    if found == word then (if merged_word word carried == dead_word then merge.Dying else merge.Kept) else merge.Again
 
 abbrev pub first_answer : ℕ → ℕ → ℕ → MergeStep
 first_answer local word found = if local == 0 then merge.Kept else merge_answer (local_part local) word found

@@ -7,13 +7,13 @@ use Rattle.brc_model.specs.declared.duty.Duty.TheVariants.{MergeSwap}
 use Rattle.brc_model.specs.declared.duty.Reason.TheVariants.{Handed}
 use Rattle.brc_table.specs.declared.view.View.{View}
 use Rattle.brc_table.specs.Views.{done}
-use Rattle.brc_heap.specs.declared.marker.Looked.{Looked}
-use Rattle.brc_heap.specs.declared.marker.Looked.TheVariants as looks
+use Rattle.brc_effect.specs.Outcomes.{taken_answer}
+use Rattle.brc_effect.specs.declared.outcomes.Looked.{Looked}
+use Rattle.brc_effect.specs.declared.outcomes.Looked.TheVariants as looks
 
 -- A thread that runs will find the mark itself, and so may the exit of one that doesn't.
 abbrev pub look_answer : ℕ → ℕ → Looked
-look_answer said found =
-    if said == status_word Running then looks.Left else if found == 1 then looks.Claimed else looks.Left
+look_answer said found = if said == status_word Running then looks.Left else taken_answer found
 
 -- the hand has loaded the word of the thread of the object's block, and taken the mark back unless that thread runs
 abbrev pub looked_after : View → ℕ → ℕ → View

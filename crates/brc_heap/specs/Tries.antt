@@ -8,12 +8,12 @@ use Rattle.brc_model.specs.declared.duty.Duty.TheVariants.{ReleaseLoad, DecideAt
 use Rattle.brc_model.specs.Duties.{once_merged}
 use Rattle.brc_table.specs.declared.view.View.{View}
 use Rattle.brc_table.specs.Views.{done}
-use Rattle.brc_heap.specs.declared.release.ZeroStep.{ZeroStep}
-use Rattle.brc_heap.specs.declared.release.ZeroStep.TheVariants as zero_step
-use Rattle.brc_heap.specs.declared.release.SharedRelease.{SharedRelease}
-use Rattle.brc_heap.specs.declared.release.SharedRelease.TheVariants as shared
-use Rattle.brc_heap.specs.declared.merge.MergeStep.{MergeStep}
-use Rattle.brc_heap.specs.declared.merge.MergeStep.TheVariants as merge
+use Rattle.brc_effect.specs.declared.outcomes.ZeroStep.{ZeroStep}
+use Rattle.brc_effect.specs.declared.outcomes.ZeroStep.TheVariants as zero_step
+use Rattle.brc_effect.specs.declared.outcomes.SharedRelease.{SharedRelease}
+use Rattle.brc_effect.specs.declared.outcomes.SharedRelease.TheVariants as shared
+use Rattle.brc_effect.specs.declared.outcomes.MergeStep.{MergeStep}
+use Rattle.brc_effect.specs.declared.outcomes.MergeStep.TheVariants as merge
 use Rattle.brc_heap.specs.Calls.{counts_here}
 
 -- ---- what comes next

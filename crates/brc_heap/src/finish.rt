@@ -12,6 +12,7 @@ ghost use Rattle.brc_heap.specs.Ends.{was_born, is_closed, named_row, HasEnded, 
 
 use crate::heap::Heap;
 use crate::kinds::kind_numbered;
+use brc_effect::states::{LEAVING, RUNNING};
 use brc_lang::Kind;
 use brc_table::{
     Closed, Hand, joined_hands_are_gone, rows_end_in_every_table, seen_ends_are_so,
@@ -19,12 +20,6 @@ use brc_table::{
 };
 use brc_word::{closed, kind_number};
 use std::marker::Model;
-
-/// The word of a running thread.
-const RUNNING: u64 = 1;
-
-/// The word of a thread that is leaving.
-const LEAVING: u64 = 2;
 
 /// H3: a thread that was started, main or a worker, isn't gone. Let it leave, and finish then. The heap and the hand
 /// come back as they were.

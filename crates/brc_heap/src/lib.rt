@@ -12,14 +12,12 @@ mod heap;
 mod kinds;
 mod marker;
 mod merge;
-mod outcomes;
 mod release;
 mod retain;
 
+pub use brc_effect::outcomes::{LocalRelease, Looked, MergeStep, SharedRelease, ZeroStep};
 pub use brc_table::{Hand, Words, Work};
 pub use error::{NoMemory, Taken};
 pub use finish::{Final, StillRunning};
 pub use heap::{Heap, ROOT};
-pub use marker::{Looked, Marker};
-pub use merge::MergeStep;
-pub use release::{LocalRelease, SharedRelease, ZeroStep};
+pub use marker::Marker;

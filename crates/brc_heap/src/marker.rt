@@ -6,17 +6,8 @@ ghost use Rattle.brc_table.specs.Hands.{TableState, IsOf};
 ghost use Rattle.brc_heap.specs.Tries.{MarksNext};
 ghost use Rattle.brc_heap.specs.Marks.{posted, look_answer};
 
+use brc_effect::outcomes::Looked;
 use brc_table::Hand;
-
-/// What a hand has found that looked after an object in its owner's queue.
-#[derive(Clone, Copy, Debug, PartialEq, Eq)]
-pub enum Looked {
-    /// The owner runs, and finds the object in its queue; or the owner's exit has found it already.
-    Left,
-    /// The owner doesn't run any more. The hand has taken the object out of the queue, and has to merge it, by
-    /// `merge_step`.
-    Claimed,
-}
 
 /// What puts objects into their owners' queues, for a hand that deallocates others meanwhile. `T` is the resource of a
 /// file or a socket.

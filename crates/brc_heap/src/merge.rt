@@ -12,24 +12,14 @@ ghost use Rattle.brc_table.specs.Hands.{IsOf, carried_of};
 ghost use Rattle.brc_table.specs.Calls.{CanAct};
 ghost use Rattle.brc_heap.specs.Steps.{HasStepped, ended};
 ghost use Rattle.brc_heap.specs.Tries.{MergesNext, CarriesNext, merge_dies, carries_of, swap_left, still_carried};
-ghost use Rattle.brc_heap.specs.Calls.{MergeIsFirst, MergeIsBegun, Merges, merge_begun, merge_tried, merge_answer, first_answer, merge_left, Leaves};
+ghost use Rattle.brc_effect.specs.Outcomes.{merge_answer};
+ghost use Rattle.brc_heap.specs.Calls.{MergeIsFirst, MergeIsBegun, Merges, merge_begun, merge_tried, first_answer, merge_left, Leaves};
 
 use crate::heap::Heap;
-use crate::outcomes::merge_step;
+use brc_effect::outcomes::{MergeStep, merge_step};
 use brc_model::{Duty, Reason};
 use brc_table::{Hand, Work};
 use brc_word::local_count;
-
-/// How a try to merge ended.
-#[derive(Clone, Copy, Debug, PartialEq, Eq)]
-pub enum MergeStep {
-    /// The counts are merged, and references are left.
-    Kept,
-    /// No reference is left. The object is in the hand's dying chain.
-    Dying,
-    /// Another thread changed the shared word in between: try again.
-    Again,
-}
 
 /// Returns what a hand still carries that has tried to add the count.
 fn still_carried(step: MergeStep, carried: u32) -> Option<u32>

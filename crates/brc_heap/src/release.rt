@@ -17,47 +17,15 @@ ghost use Rattle.brc_table.specs.Hands.{IsOf, IsRunning, HoldsOne, KeepsLock, Ha
 ghost use Rattle.brc_table.specs.Calls.{CanAct};
 ghost use Rattle.brc_heap.specs.Steps.{HasStepped, ended};
 ghost use Rattle.brc_heap.specs.Tries.{LoadedLocal, DecidesNext, GivesUpNext, lowered, zero_dies, shared_dies};
-ghost use Rattle.brc_heap.specs.Calls.{local_answer, released_locally, local_left, zero_answer, decided, zero_left, shared_answer, released_shared, shared_left, Leaves};
+ghost use Rattle.brc_effect.specs.Outcomes.{zero_answer, shared_answer};
+ghost use Rattle.brc_heap.specs.Calls.{local_answer, released_locally, local_left, decided, zero_left, released_shared, shared_left, Leaves};
 
 use crate::heap::Heap;
-use crate::outcomes::{local_release, shared_release, zero_step};
+use brc_effect::outcomes::{
+    LocalRelease, SharedRelease, ZeroStep, local_release, shared_release, zero_step,
+};
 use brc_model::{Duty, Reason};
 use brc_table::{Hand, Work};
-
-/// How a release through the local word ended.
-#[derive(Clone, Copy, Debug, PartialEq, Eq)]
-pub enum LocalRelease {
-    /// The object is immortal, and isn't counted.
-    Skip,
-    /// The local count went down, and local references are left.
-    Kept,
-    /// The last local reference is gone: `zero_step` decides what becomes of the object.
-    Zero,
-    /// The hand doesn't count the object locally: `try_release_shared` gives the reference up.
-    Share,
-}
-
-/// What becomes of an object whose last local reference is gone.
-#[derive(Clone, Copy, Debug, PartialEq, Eq)]
-pub enum ZeroStep {
-    /// No reference is left. The object is in the hand's dying chain.
-    Dying,
-    /// The counts are to be merged, by `merge_step`.
-    Merge,
-}
-
-/// How a try to release through the shared word ended.
-#[derive(Clone, Copy, Debug, PartialEq, Eq)]
-pub enum SharedRelease {
-    /// The shared count went down, and references are left.
-    Kept,
-    /// The reference is handed to the owner's queue: the hand has still to set the object's mark.
-    Queued,
-    /// No reference is left. The object is in the hand's dying chain.
-    Dying,
-    /// Another thread changed the shared word in between: try again.
-    Again,
-}
 
 impl<T: Drop> Heap<T> {
     /// Gives up a reference to an object (`Py_DECREF`), in the local word if the hand's thread owns the object.

@@ -9,9 +9,10 @@ ghost use Rattle.brc_table.specs.Calls.{CanAct};
 ghost use Rattle.brc_heap_tests.specs.Ready.{IsAlone};
 
 use crate::calls::{ROOT, opened, retain_and_release, worker};
-use brc_heap::{Hand, Heap, LocalRelease, MergeStep, SharedRelease};
+use brc_heap::{Hand, Heap, LocalRelease, MergeStep, SharedRelease, Work};
+use brc_model::{Duty, Reason};
 use brc_queue::{Looked, Queue};
-use brc_word::{Phase, Shared, local_count, merged, pack, released};
+use brc_word::{Phase, Shared, local_count, pack};
 use std::test::*;
 
 /// The word of a running thread.
@@ -43,8 +44,9 @@ fn marked(heap: &Heap<u32>, hand: &mut Hand<u32>) -> u64
     requires acts { CanAct hand.old.view }
     requires duty { work_about root_row hand.old.view ≡ SetMark root_row ∷ [] }
 {
-    heap.words().mark_store(hand, ROOT);
-    heap.words().thread_load(hand, ROOT)
+    let words = heap.words();
+    words.go_on(hand, Work::Aside, Duty::SetMark { row: ROOT });
+    words.go_on(hand, Work::Aside, Duty::Look { row: ROOT })
 }
 
 /// Gives up main's reference to the root, and says that main leaves. Returns whether main has done so.
@@ -112,20 +114,37 @@ fn merges_own(heap: &Heap<u32>, main: &mut Hand<u32>) -> Option<(u32, u64, u64)>
     if words.mark_claim(main, ROOT) != QUEUED {
         return None;
     }
-    let local = words.local_swap_next(main, ROOT);
+    let (row, reason) = (ROOT, Reason::Handed);
+    let local = words.step(main, Duty::MergeSwap { row, reason });
     if local == 0 {
         return None;
     }
-    let queued = words.shared_load_next(main, ROOT);
-    let next = merged(queued, local_count(local));
-    if words.shared_exchange(main, ROOT, queued, next) != queued {
+    let carried = local_count(local);
+    let load = Duty::MergeLoad {
+        row,
+        carried,
+        reason,
+    };
+    let queued = words.step(main, load);
+    let exchange = Duty::MergeExchange {
+        row,
+        carried,
+        word: queued,
+        reason,
+    };
+    if words.step(main, exchange) != queued {
         return None;
     }
-    let left = words.shared_load_next(main, ROOT);
-    if words.shared_exchange(main, ROOT, left, released(left)) != left {
+    let left = words.step(main, Duty::SharedLoad { row, reason });
+    let exchange = Duty::SharedExchange {
+        row,
+        reason,
+        word: left,
+    };
+    if words.step(main, exchange) != left {
         return None;
     }
-    Some((local_count(local), queued, left))
+    Some((carried, queued, left))
 }
 
 #[test]

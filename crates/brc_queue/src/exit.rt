@@ -11,7 +11,8 @@ ghost use Rattle.brc_table.specs.Calls.{IsFree};
 ghost use Rattle.brc_free.specs.Works.{HasWorked};
 ghost use Rattle.brc_queue.specs.Scans.{ScansNext, ScanNext, HasLeft, scan_left};
 
-use crate::queue::{QUEUED, Queue};
+use crate::queue::Queue;
+use brc_effect::states::SET;
 use brc_free::Finaliser;
 use brc_heap::{Hand, ROOT};
 use brc_host::Host;
@@ -98,7 +99,7 @@ impl<'h, T: Drop> Queue<'h, T> {
             × HasAnswered H.answers H.counts host.old closes host.new }
     {
         let words = self.heap.words();
-        if words.mark_scan(hand, index) != QUEUED {
+        if words.mark_scan(hand, index) != SET {
             return 0;
         }
         let row = words.own_row(hand, index);

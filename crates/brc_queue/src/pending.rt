@@ -8,7 +8,8 @@ ghost use Rattle.brc_table.specs.Calls.{IsFree};
 ghost use Rattle.brc_heap.specs.Steps.{Keeps};
 ghost use Rattle.brc_queue.specs.Scans.{Claims, LooksThrough};
 
-use crate::queue::{QUEUED, Queue};
+use crate::queue::Queue;
+use brc_effect::states::SET;
 use brc_free::Finaliser;
 use brc_heap::Hand;
 use brc_host::Host;
@@ -71,7 +72,7 @@ impl<'h, T: Drop> Queue<'h, T> {
     {
         let words = self.heap.words();
         let row = words.own_row(hand, index);
-        if words.mark_claim(hand, row) != QUEUED {
+        if words.mark_claim(hand, row) != SET {
             return 0;
         }
         Finaliser::new(self.heap, self).merge_claimed(rt, hand, host, row)

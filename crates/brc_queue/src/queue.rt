@@ -13,15 +13,10 @@ ghost use Rattle.brc_heap.specs.Steps.{HasStepped};
 ghost use Rattle.brc_heap.specs.Tries.{MarksNext, LooksNext};
 ghost use Rattle.brc_queue.specs.Calls.{marked, looked};
 
+use brc_effect::outcomes::{runs, taken};
 use brc_heap::{Hand, Heap, Looked, Work};
 use brc_model::Duty;
 use std::marker::Model;
-
-/// What the thread word of a running thread says.
-pub(crate) const RUNNING: u64 = 1;
-
-/// The mark of an object that is in its owner's queue.
-pub(crate) const QUEUED: u64 = 1;
 
 /// The queues of a heap's threads. `T` is the resource of a file or a socket.
 #[derive(Drop)]
@@ -74,11 +69,10 @@ impl<'h, T: Drop> Queue<'h, T> {
         ensures left { (rest : List Duty) → (turned_to work hand.old.view row).agenda ≡ SetMark row ∷ rest
             → HasStepped (turned_to work hand.old.view row) (Look row ∷ rest) hand.new.view }
     {
+        let words = self.heap.words();
         // `Marked` (PEP 703, Biased Reference Counting: the object is added to its owner's queue): the mark is set before
         // the look, because an owner that leaves in between may have scanned the mark by then (`post_without_look`).
-        self.heap
-            .words()
-            .go_on(hand, work, Duty::SetMark { row });
+        words.go_on(hand, work, Duty::SetMark { row });
     }
 
     /// Looks after an object whose mark the hand has set. An owner that runs will find the mark. If the owner is
@@ -113,37 +107,17 @@ impl<'h, T: Drop> Queue<'h, T> {
         ensures left { (rest : List Duty) → (turned_to work hand.old.view row).agenda ≡ Look row ∷ rest
             → HasStepped (turned_to work hand.old.view row) (look_left row result ++ rest) hand.new.view }
     {
-        if self.owner_says(hand, row, work) == RUNNING {
-            return Looked::Left;
-        }
-        // `MarkTakenBack`, `MarkGone`: a swap, because the owner's exit may take the mark at the same time, and only one
-        // may merge the object (`claim_of_a_taken_mark`).
-        let found = self.heap.words().step(hand, Duty::TakeMark { row });
-        if found == QUEUED {
-            Looked::Claimed
-        } else {
-            Looked::Left
-        }
-    }
-
-    /// Returns what the word of the thread of the object's block says.
-    #[inline(always)]
-    fn owner_says(&self, hand: &mut Hand<T>, row: u32, work: Work) -> u64
-        requires table { IsOf self.now hand.old }
-        requires may { MayGoOn work hand.old.view }
-        requires duty { LooksNext row (turned_to work hand.old.view row).agenda }
-        ensures table { hand.new.table ≡ hand.old.table }
-        ensures carried { hand.new.carried ≡ hand.old.carried }
-        ensures slots { hand.new.slots ≡ hand.old.slots }
-        ensures view { hand.new.view ≡ done (turned_to work hand.old.view row) result }
-    {
         let words = self.heap.words();
         // `OwnerRuns`, `OwnerExits` (PEP 703, Biased Reference Counting: an exiting thread merges the objects in its
         // queue): an owner says that it leaves, and only then scans its marks.
-        match work {
-            Work::Next => words.thread_load_next(hand, row),
-            Work::Aside => words.thread_load(hand, row),
+        let said = words.go_on(hand, work, Duty::Look { row });
+        if runs(said) {
+            return Looked::Left;
         }
+        // `MarkTakenBack`, `MarkGone`: a swap, because the owner's exit may take the mark at the same time, and only one
+        // may merge the object.
+        let found = words.step(hand, Duty::TakeMark { row });
+        taken(found)
     }
 
     /// Puts an object into its owner's queue and looks after it: `mark`, and then `look`.

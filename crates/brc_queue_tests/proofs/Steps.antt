@@ -8,8 +8,8 @@ use Rattle.brc_model.specs.declared.duty.Duty.{Duty}
 use Rattle.brc_model.specs.declared.duty.Duty.TheVariants.{MergeSwap, SharedLoad}
 use Rattle.brc_model.specs.declared.duty.Reason.TheVariants.{Handed}
 use Rattle.brc_model.specs.Limits.{row_limit}
-use Rattle.brc_heap.specs.declared.merge.MergeStep.{MergeStep}
-use Rattle.brc_heap.specs.declared.merge.MergeStep.TheVariants as merge
+use Rattle.brc_effect.specs.declared.outcomes.MergeStep.{MergeStep}
+use Rattle.brc_effect.specs.declared.outcomes.MergeStep.TheVariants as merge
 use Rattle.brc_free.specs.Works.{HasWorked, ComesToSettle, AtOnce, to_settle}
 use Rattle.brc_model.specs.OpenWork.{is_about}
 use Rattle.brc_table.specs.Hands.{TableState, HandState, IsOf, carried_of}

@@ -3,7 +3,7 @@
 
 ghost use Rattle.std.specs.Prelude.{◌≡◌, true, [], ◌∷◌, IfSome};
 ghost use Rattle.brc_model.specs.declared.duty.Duty.TheVariants.{SetMark};
-ghost use Rattle.brc_queue.specs.Calls.{look_left};
+ghost use Rattle.brc_heap.specs.Marks.{look_left};
 ghost use Rattle.brc_model.specs.Duties.{resources_of};
 ghost use Rattle.brc_heap.specs.Calls.{IsBornWith, kind_word};
 ghost use Rattle.brc_table.specs.Homes.{resources};

@@ -8,7 +8,7 @@ ghost use Rattle.brc_table.specs.Hands.{IsOf};
 ghost use Rattle.brc_table.specs.Homes.{resources};
 ghost use Rattle.brc_model.specs.Duties.{resources_of};
 ghost use Rattle.brc_heap.specs.Calls.{IsBornWith, kind_word, shared_left};
-ghost use Rattle.brc_queue.specs.Calls.{look_left};
+ghost use Rattle.brc_heap.specs.Marks.{look_left};
 ghost use Rattle.brc_queue_tests.specs.Sharing.{small_layout, shared_row, HasWork, HoldsRoot, HoldsBoth, HasLeft};
 
 use brc_free::Finaliser;

@@ -7,7 +7,7 @@ use Rattle.brc_model.proofs.Basics.Blocks.{root_counted}
 use Rattle.brc_table.specs.Calls.{IsFree}
 use Rattle.brc_table.specs.Hands.{HandState}
 use Rattle.brc_table.specs.Views.{holds}
-use Rattle.brc_free.specs.Works.{Keeps}
+use Rattle.brc_heap.specs.Steps.{Keeps}
 use Rattle.brc_work.specs.Calls.{HasCalled}
 use Rattle.brc_work.specs.Fits.{IsReady}
 use Rattle.brc_work.proofs.CallsBelow.{follows_by}

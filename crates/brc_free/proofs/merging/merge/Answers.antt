@@ -4,7 +4,7 @@ use Rattle.brc_model.specs.declared.duty.Duty.TheVariants.{MergeSwap, MergeLoad}
 use Rattle.brc_model.specs.declared.duty.Reason.{Reason}
 use Rattle.brc_model.specs.Duties.{once_merged}
 use Rattle.brc_table.specs.declared.view.View.{View}
-use Rattle.brc_heap.specs.declared.merge.MergeStep.{MergeStep}
+use Rattle.brc_effect.specs.declared.outcomes.MergeStep.{MergeStep}
 use Rattle.brc_heap.specs.Calls.{merge_left as tried_left}
 use Rattle.brc_heap.specs.Tries.{swap_left}
 use Rattle.brc_heap.proofs.Stepping.{plain_first}

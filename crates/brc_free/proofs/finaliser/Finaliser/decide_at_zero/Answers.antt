@@ -2,7 +2,7 @@ use Rattle.std.proofs.Common.{List, [], ◌∷◌, ◌++◌, refl, sym, ap, ◌�
 use Rattle.brc_model.specs.declared.duty.Reason.TheVariants.{Own}
 use Rattle.brc_model.specs.declared.duty.Duty.{Duty}
 use Rattle.brc_model.specs.declared.duty.Duty.TheVariants.{MergeSwap}
-use Rattle.brc_heap.specs.declared.release.ZeroStep.{ZeroStep}
+use Rattle.brc_effect.specs.declared.outcomes.ZeroStep.{ZeroStep}
 use Rattle.brc_heap.specs.Calls.{zero_left}
 use Rattle.brc_heap.proofs.Stepping.{plain_first}
 use Rattle.brc_free.specs.Works.{HasWorked, behind, merge_left}

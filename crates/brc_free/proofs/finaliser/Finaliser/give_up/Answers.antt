@@ -2,10 +2,10 @@ use Rattle.std.proofs.Common.{◌≡◌, ◌⊎◌, List, [], ◌∷◌, ◌++�
 use Rattle.brc_model.specs.declared.duty.Reason.TheVariants.{Handed}
 use Rattle.brc_model.specs.declared.duty.Duty.{Duty}
 use Rattle.brc_model.specs.declared.duty.Duty.TheVariants.{SharedLoad, SetMark, MergeSwap}
-use Rattle.brc_heap.specs.declared.release.SharedRelease.{SharedRelease}
-use Rattle.brc_heap.specs.declared.release.SharedRelease.TheVariants as shared
-use Rattle.brc_heap.specs.declared.marker.Looked.{Looked}
-use Rattle.brc_heap.specs.declared.marker.Looked.TheVariants as looks
+use Rattle.brc_effect.specs.declared.outcomes.SharedRelease.{SharedRelease}
+use Rattle.brc_effect.specs.declared.outcomes.SharedRelease.TheVariants as shared
+use Rattle.brc_effect.specs.declared.outcomes.Looked.{Looked}
+use Rattle.brc_effect.specs.declared.outcomes.Looked.TheVariants as looks
 use Rattle.brc_heap.specs.Calls.{shared_left}
 use Rattle.brc_heap.specs.Marks.{look_left}
 use Rattle.brc_heap.proofs.Stepping.{plain_first, plain_begins}

@@ -3,8 +3,8 @@ use Rattle.brc_model.specs.Duties.{ready}
 use Rattle.brc_table.specs.declared.view.View.{View}
 use Rattle.brc_model.specs.declared.duty.Duty.TheVariants.{DecideAtZero, SharedLoad}
 use Rattle.brc_model.specs.declared.duty.Reason.TheVariants.{Own}
-use Rattle.brc_heap.specs.declared.release.LocalRelease.{LocalRelease}
-use Rattle.brc_heap.specs.declared.release.LocalRelease.TheVariants as local
+use Rattle.brc_effect.specs.declared.outcomes.LocalRelease.{LocalRelease}
+use Rattle.brc_effect.specs.declared.outcomes.LocalRelease.TheVariants as local
 use Rattle.brc_heap.specs.Calls.{local_left}
 use Rattle.brc_heap.proofs.Stepping.{plain_first}
 use Rattle.brc_free.specs.Works.{HasWorked, EndsRelease}

@@ -4,7 +4,7 @@ use Rattle.brc_model.specs.declared.duty.Duty.TheVariants.{MergeLoad}
 use Rattle.brc_model.specs.declared.duty.Reason.{Reason}
 use Rattle.brc_table.specs.declared.view.View.{View}
 use Rattle.brc_table.specs.Views.{turned, work_about}
-use Rattle.brc_heap.specs.declared.merge.MergeStep.{MergeStep}
+use Rattle.brc_effect.specs.declared.outcomes.MergeStep.{MergeStep}
 use Rattle.brc_heap.specs.Calls.{merge_left}
 use Rattle.brc_heap.specs.Steps.{HasStepped}
 use Rattle.brc_heap.specs.Tries.{still_carried}

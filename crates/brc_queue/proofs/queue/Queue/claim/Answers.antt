@@ -12,8 +12,8 @@ use Rattle.brc_free.proofs.Working.{worked_first}
 use Rattle.brc_queue.proofs.Scanning.{claim_none, claim_keeps}
 use Rattle.brc_queue.proofs.queue.Queue.claim.Goals as goal
 
-pub returns-then-mark_claim-ne-QUEUED-clause-keeps : goal.returns-then-mark_claim-ne-QUEUED-clause-keeps
-returns-then-mark_claim-ne-QUEUED-clause-keeps g c =
+pub returns-then-mark_claim-ne-SET-clause-keeps : goal.returns-then-mark_claim-ne-SET-clause-keeps
+returns-then-mark_claim-ne-SET-clause-keeps g c =
     claim_keeps c.args.hand.now.view c.mark_claim.new.hand.view c.own_row-row.result c.mark_claim.result
     c.mark_claim.ensures.view
 
@@ -25,8 +25,8 @@ returns-clause-keeps g c =
     (claim_keeps v u c.own_row-row.result c.mark_claim.result c.mark_claim.ensures.view)
     c.merge_claimed.ensures.work.1.keeps
 
-pub returns-then-mark_claim-ne-QUEUED-clause-work : goal.returns-then-mark_claim-ne-QUEUED-clause-work
-returns-then-mark_claim-ne-QUEUED-clause-work g c =
+pub returns-then-mark_claim-ne-SET-clause-work : goal.returns-then-mark_claim-ne-SET-clause-work
+returns-then-mark_claim-ne-SET-clause-work g c =
     let v = c.args.hand.now.view in
     let w = c.mark_claim.new.hand.view in
     let found = c.mark_claim.result in
@@ -36,7 +36,7 @@ returns-then-mark_claim-ne-QUEUED-clause-work g c =
     ∙ ap (λ (l : Layout). row_at l v.thread c.args.index) (same ∙ sym c.requires.table.1) in
     let is : w ≡ done (claiming v (row_at v.layout v.thread c.args.index)) found =
     c.mark_claim.ensures.view ∙ ap (λ (x : ℕ). done (claiming v x) found) row_is in
-    let none = ne_eqb found 1 c.if-mark_claim-ne-QUEUED.true in (
+    let none = ne_eqb found 1 c.if-mark_claim-ne-SET.true in (
       [],
       record {
         found = found;

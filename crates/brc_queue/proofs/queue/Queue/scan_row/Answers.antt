@@ -8,13 +8,13 @@ use Rattle.brc_queue.specs.Scans.{scan_left}
 use Rattle.brc_queue.proofs.Scanning.{scanned_none, scanned_one, scanned_settled, scan_head}
 use Rattle.brc_queue.proofs.queue.Queue.scan_row.Goals as goal
 
-pub returns-then-mark_scan-ne-QUEUED-clause-work : goal.returns-then-mark_scan-ne-QUEUED-clause-work
-returns-then-mark_scan-ne-QUEUED-clause-work g c =
+pub returns-then-mark_scan-ne-SET-clause-work : goal.returns-then-mark_scan-ne-SET-clause-work
+returns-then-mark_scan-ne-SET-clause-work g c =
     let v = c.args.hand.now.view in
     let w = c.mark_scan.new.hand.view in
     let duty = c.requires.duty in
     let found = c.mark_scan.result in
-    let none = ne_eqb found 1 c.if-mark_scan-ne-QUEUED.true in (
+    let none = ne_eqb found 1 c.if-mark_scan-ne-SET.true in (
       [],
       subst (λ (ds : List Duty). HasWorked v [] ds w) (sym (ap scan_left duty.next))
           (scanned_none v w c.args.index duty.more found duty.rest duty.next c.mark_scan.ensures.view none
@@ -30,7 +30,7 @@ returns-clause-work g c =
     let w = c.merge_claimed.new.hand.view in
     let duty = c.requires.duty in
     let found = c.mark_scan.result in
-    let one = eq-eqb found 1 c.if-mark_scan-ne-QUEUED.false in
+    let one = eq-eqb found 1 c.if-mark_scan-ne-SET.false in
     let work = c.merge_claimed.ensures.work in (
       work.0,
       subst (λ (ds : List Duty). HasWorked v work.0 ds w) (sym (ap scan_left duty.next))
