@@ -200,7 +200,7 @@ pub(crate) fn access_of(duty: Duty, thread: u8, head: u32) -> Access
         Duty::SettleCell { .. } => Access::Swap { word: EMPTY },
         // A swap, since no duty knows what the gate said of the rest of the chain. Rule `Closes`.
         Duty::SettleEnd { .. } => Access::Swap { word: closed() },
-        // The thread says so before it scans its marks, so that whoever queues an object from then on looks after it. Rule
+        // The thread says so before it scans its marks: whoever queues an object from then on merges it. Rule
         // `SaysLeaving`.
         Duty::Leave { .. } => Access::Store {
             word: LEAVING,
