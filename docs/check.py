@@ -18,7 +18,7 @@ import rules
 import wrong_bodies
 
 ROOT = Path(__file__).resolve().parents[1]
-PAGES = [ROOT / "README.md", ROOT / "examples" / "README.md", *sorted((ROOT / "docs").glob("*.md"))]
+PAGES = [ROOT / "README.md", ROOT / "examples" / "README.md", *sorted((ROOT / "docs").rglob("*.md"))]
 # Names of other projects.
 FOREIGN = re.compile(r"Py|_Py|ob_|tp_|write_all$|keep_two$")
 # Words that are often about the repository at the time of writing, and then grow stale.
@@ -30,7 +30,7 @@ RIGHT = {
     # A row whose birth is under way.
     "docs/PICTURES.md": ["the row holds no object yet"],
     # The first sentence of a doc comment, of a row whose birth is under way.
-    "docs/PROVED.md": ["in whose block it isn't born yet"],
+    "docs/lists/PROVED.md": ["in whose block it isn't born yet"],
 }
 # What names a file or a folder of the repository.
 FILE = re.compile(r"[\w*./-]+\.(rt|antt|edit|py|md|txt)")
@@ -131,6 +131,16 @@ def quote_faults(found):
             yield f"in no source: {quote.splitlines()[0]}"
 
 
+def line_faults(found):
+    """Lines of code on the page for a new instruction that no source has; one with `..` is shortened."""
+    page = (ROOT / "docs" / "ADD_AN_INSTRUCTION.md").read_text()
+    lines = {" ".join(line.split()) for text in found.values() for line in text.splitlines()}
+    for mark, block in re.findall(r"^```(\w*)\n(.*?)^```$", page, re.M | re.S):
+        for line in block.splitlines() if not mark else []:
+            if line.strip() and " .. " not in line and " ".join(line.split()) not in lines:
+                yield f"in no source: {line.strip()}"
+
+
 def main():
     found = sources()
     known = words_of(found.values()) | {path.stem for path in found}
@@ -144,9 +154,10 @@ def main():
         in_page += stale_faults(page) if page.parent.name != "examples" else []
         faults += [f"{page.relative_to(ROOT)}: {fault}" for fault in in_page]
     faults += [f"docs/EMBED.md: {fault}" for fault in quote_faults(found)]
-    faults += [f"docs/PROVED.md: {fault}" for fault in proved.PART.faults()]
-    faults += [f"docs/DEFINITIONS.md: {fault}" for fault in rules.faults()]
-    faults += [f"docs/WRONG_BODIES.md: {fault}" for fault in wrong_bodies.faults()]
+    faults += [f"docs/ADD_AN_INSTRUCTION.md: {fault}" for fault in line_faults(found)]
+    faults += [f"docs/lists/PROVED.md: {fault}" for fault in proved.PART.faults()]
+    faults += [f"docs/lists/RULES.md: {fault}" for fault in rules.faults()]
+    faults += [f"docs/lists/WRONG_BODIES.md: {fault}" for fault in wrong_bodies.faults()]
     print(*faults, f"{len(faults)} faults", sep="\n")
     return 1 if faults else 0
 

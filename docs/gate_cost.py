@@ -1,13 +1,14 @@
 #!/usr/bin/env python3
-"""Measures what the gate costs, crate by crate, and writes the table of docs/MAP.md.
+"""Measures what the gate costs, crate by crate, and writes the table of docs/lists/PERFORMANCE.md.
 
     python3 docs/gate_cost.py LOG [--anew]
 
 Clones the last commit, runs `rt ci` there (where the kit keeps what earlier runs passed, from nothing only with
---anew), and puts what it prints into the file LOG. Each second it reads how much processor time the compiler's processes have taken, by the
-crate that they work on and by what they do for it: its code, its tests, the second check that its wrong bodies begin
-with, and the wrong bodies. Last it writes the table between the two marks of docs/MAP.md, and prints the closing line
-of the gate and the times. The machine has to be idle, or the times say little.
+--anew), and puts what it prints into the file LOG. Each second it reads how much processor time the compiler's
+processes have taken, by the crate that they work on and by what they do for it: its code, its tests, the second check
+that its wrong bodies begin with, and the wrong bodies. Last it writes the table between the two marks of
+docs/lists/PERFORMANCE.md, and prints the closing line of the gate and the times. The machine has to be idle, or the
+times say little.
 
 What a process takes in its last second isn't seen, nor what starts and ends between two looks: the row "the rest" has
 that, and compiling, linking and running.
@@ -24,7 +25,7 @@ from collections import defaultdict
 from pathlib import Path
 
 ROOT = Path(__file__).resolve().parents[1]
-MAP = ROOT / "docs" / "MAP.md"
+PAGE = ROOT / "docs" / "lists" / "PERFORMANCE.md"
 MARKS = "<!-- the table of docs/gate_cost.py -->", "<!-- its end -->"
 TICKS = os.sysconf("SC_CLK_TCK")
 PARTS = ["code", "tests", "second check", "wrong bodies"]
@@ -111,9 +112,9 @@ def main():
         edits = {crate: len(list(clone.glob(f"crates/{crate}/must-fail/*.edit"))) for crate in named}
     closing = (Path(sys.argv[1]).read_text().strip().splitlines() or ["nothing was printed"])[-1]
     made = table(seen, edits, named, used.ru_utime + used.ru_stime, closing, wall, os.cpu_count())
-    text = MAP.read_text()
+    text = PAGE.read_text()
     head, rest = text.split(MARKS[0])
-    MAP.write_text(head + MARKS[0] + "\n" + made + "\n" + MARKS[1] + rest.split(MARKS[1])[1])
+    PAGE.write_text(head + MARKS[0] + "\n" + made + "\n" + MARKS[1] + rest.split(MARKS[1])[1])
     print(closing)
     print(f"{used.ru_utime + used.ru_stime:.0f} core-seconds, {wall:.0f} seconds")
     return ran.returncode

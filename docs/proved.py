@@ -1,5 +1,5 @@
 #!/usr/bin/env python3
-"""Writes the tables of docs/PROVED.md from the sources of the crates.
+"""Writes the tables of docs/lists/PROVED.md from the sources of the crates.
 
     python3 docs/proved.py            writes what is between the two marks of the page
     python3 docs/proved.py --check    changes nothing, and fails if the page isn't what it would write
@@ -14,7 +14,7 @@ import sys
 
 # Importing a script of this folder leaves no file there.
 sys.dont_write_bytecode = True
-from tables import ROOT, Part, mark_lines
+from tables import LISTS, ROOT, Part, link, mark_lines
 
 
 class Function:
@@ -30,7 +30,7 @@ class Function:
         name = f"{self.owner}::{self.name}" if self.owner else self.name
         does = first_sentence(self.doc) if self.doc or not self.of_trait else f"Is `{self.of_trait}::{self.name}`."
         clauses = ", ".join(f"`{clause}`" for clause in self.clauses if clause)
-        return f"| [`{name}`](../{path.relative_to(ROOT).as_posix()}) | {does} | {clauses} |\n"
+        return f"| {link(name, path)} | {does} | {clauses} |\n"
 
 
 def owner_of(block):
@@ -95,13 +95,13 @@ def tables():
     return "\n".join(f"### {crate}\n\n{head}{''.join(rows(crate))}" for crate in crates() if rows(crate))
 
 
-PART = Part(ROOT / "docs" / "PROVED.md", mark_lines("proved.py", several=True), tables)
+PART = Part(LISTS / "PROVED.md", mark_lines("proved.py", several=True), tables)
 
 
 def main():
     if sys.argv[1:] == ["--check"]:
         found = PART.faults()
-        print(*(f"docs/PROVED.md: {fault}" for fault in found), f"{len(found)} faults", sep="\n")
+        print(*(f"docs/lists/PROVED.md: {fault}" for fault in found), f"{len(found)} faults", sep="\n")
         return 1 if found else 0
     if sys.argv[1:]:
         print(__doc__)

@@ -4,7 +4,7 @@
     python3 docs/refused_memory.py [FIRST]
 
 It runs the tests of crates/brc_memory_tests by `rt try --test --fail-alloc N`, which proves nothing and takes some twenty
-seconds for each N, from FIRST on. docs/PROVED.md says what came of it.
+seconds for each N, from FIRST on. docs/lists/PROVED.md says what came of it.
 """
 import re
 import subprocess

@@ -1,13 +1,13 @@
 #!/usr/bin/env python3
-"""Writes the table of rules of docs/DEFINITIONS.md, or compares it with the sources.
+"""Writes the table of rules of docs/lists/RULES.md, or compares it with the sources.
 
     python3 docs/rules.py            changes nothing, and fails if the page isn't what this script would write
     python3 docs/rules.py --write    writes what is between the two marks of the page
 
-A row is a rule of crates/brc_model/specs/Rules.antt: its name; the function of brc_effect whose doc comment names it;
-the premises, what the step leaves and which duties follow, as the rule has them; in words the comment above the rule,
-or that of IN_WORDS, or else the first sentence of the function's doc comment; and the wrong bodies whose first line
-names the rule, or why there is none. It also fails if no function names a rule. docs/check.py makes the same check, and
+A row is a rule of crates/brc_model/specs/Rules.antt: its name; the function of brc_effect that names it in a comment;
+the premises, what the step leaves and which duties follow, as the rule has them; in words the comment above the rule;
+the files of the crates of real threads that name it; and the wrong bodies whose first line names the rule, or why there
+is none. It also fails if a rule has no comment or no function names it. docs/check.py makes the same check, and
 docs/wrong_bodies.py asks for a wrong body of each rule that isn't in WITHOUT.
 """
 import re
@@ -16,36 +16,22 @@ import sys
 # Importing a script of this folder leaves no file there.
 sys.dont_write_bytecode = True
 import proved
-from tables import ROOT, Part, mark_lines
+from tables import LISTS, ROOT, Part, link, mark_lines
 
 SOURCE = ROOT / "crates" / "brc_model" / "specs" / "Rules.antt"
-EFFECTS = ROOT / "crates" / "brc_effect" / "src" / "effect"
+EFFECT = ROOT / "crates" / "brc_effect" / "src"
+# The crates of which a file may name a rule above a step that real threads take.
+REAL = ["brc_table", "brc_heap", "brc_list", "brc_free", "brc_queue"]
 # Why a rule has no wrong body of its own: its function has one in the other branch, or the step only reads a word.
 OTHER_BRANCH = "none (other branch)"
 ONLY_READS = "none (only reads)"
 WITHOUT = {
-    "KindOfResource": OTHER_BRANCH,
     "OwnerReleases": OTHER_BRANCH,
-    "SharedRead": ONLY_READS,
     "MarkGone": OTHER_BRANCH,
     "NothingToClaim": OTHER_BRANCH,
     "NobodysCount": OTHER_BRANCH,
     "MergeRead": ONLY_READS,
-    "DyingResource": OTHER_BRANCH,
 }
-# Rules without a comment in Rules.antt whose function has other rules too.
-IN_WORDS = {
-    "ReleasesImmortal": "an immortal object isn't counted",
-    "OwnerReleases": "the running owner counts in the local word next",
-    "OtherReleases": "any other thread, or an owner that no longer runs, counts in the shared word next",
-    "Decrements": "the shared count loses one reference",
-    "NothingToClaim": "the mark was clear",
-    "MergesToZero": "no reference is left: the owner deallocates the object",
-    "MergeLost": "the compare-exchange fails, because another thread has changed the word: the thread retries",
-    "ScanFindsNone": "the mark was clear: the thread goes on to its next row",
-}
-
-
 class Rule:
     def __init__(self, name, comment, statement):
         self.name, self.comment = name, comment
@@ -101,13 +87,38 @@ def names():
     return [rule.name for _, rules in groups() for rule in rules]
 
 
+RULES = re.compile(r"[Rr]ules? ((?:`\w+`(?:[,;] | and |; and )?)+)")
+
+
+def named(text):
+    """Returns the rules that a comment names."""
+    text = re.sub(r"\s*\n\s*//[/!]?\s*", " ", text)
+    return {rule for names in RULES.findall(text) for rule in re.findall(r"\w+", names) if rule[0].isupper()}
+
+
 def functions():
-    """Returns for each rule the function of brc_effect that names it, with its file."""
+    """Returns for each rule the function of brc_effect that names it, with its file: how a step ends (outcomes), what
+    follows it (effect), or its operation (access)."""
     found = {}
-    for path in sorted(EFFECTS.glob("*.rt")):
-        for function in proved.functions(path):
-            for name in re.findall(r"Rules? ((?:`\w+`(?:, | and )?)+)", " ".join(function.doc)):
-                found |= {rule: (function, path) for rule in re.findall(r"\w+", name) if rule[0].isupper()}
+    for path in [EFFECT / "access.rt", EFFECT / "effect.rt", *sorted((EFFECT / "effect").glob("*.rt"))]:
+        for rule in named(path.read_text()):
+            found[rule] = ("access_of" if path.name == "access.rt" else "effect", path)
+        if path.parent != EFFECT:
+            for function in proved.functions(path):
+                found |= {rule: (function.name, path) for rule in named(" ".join(function.doc))}
+    outcomes = EFFECT / "outcomes.rt"
+    for function in proved.functions(outcomes):
+        found |= {rule: (function.name, outcomes) for rule in named(" ".join(function.doc))}
+    return found
+
+
+def real_threads():
+    """Returns for each rule the files of the crates of real threads that name it."""
+    found = {}
+    for crate in REAL:
+        for path in sorted((ROOT / "crates" / crate / "src").rglob("*.rt")):
+            for rule in named(path.read_text()):
+                found.setdefault(rule, []).append(path)
     return found
 
 
@@ -131,30 +142,28 @@ def codes(terms):
 
 
 def table():
-    lines = ["| Rule | Step | If | Leaves | Then | In words | Wrong bodies |", "|---|---|---|---|---|---|---|"]
-    does, wrong = functions(), wrong_bodies()
+    lines = ["| Rule | If | Leaves | Then | In words | Step | Real threads | Wrong bodies |", "|" + "---|" * 8]
+    does, real, wrong = functions(), real_threads(), wrong_bodies()
     for heading, rules in groups():
         lines.append(f"| **{heading[0].upper()}{heading[1:]}** |")
         for rule in rules:
             function, path = does.get(rule.name, (None, None))
-            step = f"[`{function.name}`](../{path.relative_to(ROOT).as_posix()})" if function else ""
-            first = proved.first_sentence(function.doc) if function else ""
-            words = rule.comment or IN_WORDS.get(rule.name) or first
-            bodies = [f"[`{it.stem}`](../{it.relative_to(ROOT).as_posix()})" for it in wrong.get(rule.name, [])]
+            bodies = [link(it.stem, it) for it in wrong.get(rule.name, [])]
             cells = [
                 f"`{rule.name}`",
-                step,
                 codes(rule.premises),
                 codes([rule.left] if rule.left else []),
                 codes(rule.next),
-                sentence(words) if words else "",
+                sentence(rule.comment) if rule.comment else "",
+                link(function, path) if function else "",
+                ", ".join(link(it.stem, it) for it in real.get(rule.name, [])),
                 ", ".join(bodies) or WITHOUT.get(rule.name, ""),
             ]
             lines.append(f"| {' | '.join(cells)} |")
     return "\n".join(lines) + "\n"
 
 
-PART = Part(ROOT / "docs" / "DEFINITIONS.md", mark_lines("rules.py"), table)
+PART = Part(LISTS / "RULES.md", mark_lines("rules.py"), table)
 
 
 def faults_of_wrong_bodies():
@@ -168,8 +177,8 @@ def faults():
     known, does = names(), functions()
     commented = {rule.name for _, its in groups() for rule in its if rule.comment}
     found = [f"no function names the rule {name}" for name in known if name not in does]
-    found += [f"{name} is no rule" for name in sorted({*does, *IN_WORDS}) if name not in known]
-    found += [f"{name} has a comment by now" for name in IN_WORDS if name in commented]
+    found += [f"the rule {name} has no comment" for name in known if name not in commented]
+    found += [f"{name} is no rule" for name in sorted({*does, *real_threads()}) if name not in known]
     return found + PART.faults()
 
 
@@ -181,7 +190,7 @@ def main():
         print(__doc__)
         return 2
     found = faults()
-    print(*(f"docs/DEFINITIONS.md: {fault}" for fault in found), f"{len(names())} rules, {len(found)} faults", sep="\n")
+    print(*(f"docs/lists/RULES.md: {fault}" for fault in found), f"{len(names())} rules, {len(found)} faults", sep="\n")
     return 1 if found else 0
 
 

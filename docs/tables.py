@@ -1,15 +1,23 @@
 """A part of a page that a script writes: what is between two marks. The scripts of this folder share it."""
+import os
 import re
 import sys
 from pathlib import Path
 
 ROOT = Path(__file__).resolve().parents[1]
+# The pages that are lists, most of them written by a script of this folder.
+LISTS = ROOT / "docs" / "lists"
 
 
 def mark_lines(script, several=False):
     """Returns the marks before and behind what the script writes."""
     what, end = ("tables", "their end") if several else ("table", "its end")
     return f"<!-- the {what} of docs/{script} -->\n", f"<!-- {end} -->\n"
+
+
+def link(text, path):
+    """Returns the text as code, with a link from a page of LISTS to the file."""
+    return f"[`{text}`]({os.path.relpath(path, LISTS)})"
 
 
 class Part:

@@ -1,5 +1,5 @@
 #!/usr/bin/env python3
-"""Writes the tables of docs/WRONG_BODIES.md from the wrong bodies, compares them, or tries all wrong bodies.
+"""Writes the tables of docs/lists/WRONG_BODIES.md from the wrong bodies, compares them, or tries all wrong bodies.
 
     python3 docs/wrong_bodies.py                    changes nothing, and fails if the page or a wrong body is at fault
     python3 docs/wrong_bodies.py --write            writes what is between the two marks of the page
@@ -33,9 +33,9 @@ from pathlib import Path
 sys.dont_write_bytecode = True
 import proved
 import rules
-from tables import ROOT, Part, mark_lines
+from tables import LISTS, ROOT, Part, link, mark_lines
 
-PAGE = ROOT / "docs" / "WRONG_BODIES.md"
+PAGE = LISTS / "WRONG_BODIES.md"
 NAMES_HEADING = "## The mistakes that have a name"
 FOLDERS = {"must-fail": "gate", "also-must-fail": "script"}
 LONGEST = 200
@@ -61,8 +61,7 @@ class Edit:
                    for it in functions(self.source))
 
     def row(self):
-        link = f"[`{self.name}`](../{self.path.relative_to(ROOT).as_posix()})"
-        return f"| {link} | {FOLDERS[self.folder]} | {self.wrong}. | {self.refused_by} |\n"
+        return f"| {link(self.name, self.path)} | {FOLDERS[self.folder]} | {self.wrong}. | {self.refused_by} |\n"
 
 
 @functools.cache
@@ -114,7 +113,7 @@ def faults():
 def check():
     there, found = edits(), faults()
     in_gate = sum(edit.folder == "must-fail" for edit in there)
-    print(*(f"docs/WRONG_BODIES.md: {fault}" for fault in found), sep="\n", end="\n" if found else "")
+    print(*(f"docs/lists/WRONG_BODIES.md: {fault}" for fault in found), sep="\n", end="\n" if found else "")
     print(f"{len(there)} wrong bodies, {in_gate} of them in the gate, {len(rules.names())} rules, {len(found)} faults")
     return 1 if found else 0
 

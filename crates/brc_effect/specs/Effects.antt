@@ -5,7 +5,7 @@ use Rattle.brc_model.specs.declared.duty.Duty.{Duty}
 use Rattle.brc_model.specs.declared.duty.Duty.TheVariants.{ReleaseLoad, Die, Scan, SettleCell}
 use Rattle.brc_model.specs.declared.duty.Holding.TheVariants.{InFlight}
 use Rattle.brc_model.specs.Limits.{cell_limit}
-use Rattle.brc_model.specs.Duties.{new_word, continuation, new_head}
+use Rattle.brc_model.specs.Duties.{continuation, new_head}
 use Rattle.brc_model.specs.Machine.{is_running, status_by, used_by, locked_by, lent_by}
 use Rattle.brc_effect.specs.declared.effect.Change.{Change}
 use Rattle.brc_effect.specs.declared.effect.Change.TheVariants as changes
@@ -55,8 +55,6 @@ IsIndexed _ = Unit {0}
 
 -- the effect is the model's, for a duty whose step finds `found` in its word
 pub record IsEffect (by : Doer) (d : Duty) (found : ℕ) (e : Effect) : Type 0 where
-  -- the new value of the word
-  pub word : e.word ≡ new_word by.number by.head d found
   -- the duties that follow
   pub next : duties_of e.next ≡ continuation by.layout by.number (is_running by.status) by.head d found
   -- the thread afterwards

@@ -1,4 +1,5 @@
-//! The effect of a step, as one value: the new value of its word, the duties that follow, and the thread afterwards.
+//! The effect of a step, as one value: the duties that follow, and the thread afterwards. What it leaves in its word is
+//! said by its access.
 
 ghost use Rattle.std.specs.Prelude.{◌≡◌, ◌≤◌, ◌<◌, ◌^◌};
 ghost use Rattle.brc_model.specs.Machine.{is_running, used_by};
@@ -9,10 +10,8 @@ ghost use Rattle.brc_effect.specs.Effects.{IsIndexed, IsNumbered, IsEffect};
 use brc_model::{Duty, Layout, Status};
 
 mod birth;
-mod cell;
 mod dying;
 mod exit;
-mod kind;
 mod lend;
 mod lock;
 mod merge;
@@ -34,8 +33,6 @@ pub enum Next {
 /// The effect of a step.
 #[derive(Clone, Copy, Debug)]
 pub struct Effect {
-    /// The new value of the accessed word.
-    pub word: u64,
     /// The duties that the thread does next, before the rest of its agenda.
     pub next: Next,
     /// The head of the thread's dying chain: 0 if it is empty, else a row plus 1.
@@ -71,11 +68,10 @@ pub struct Doer {
 }
 
 impl Doer {
-    /// Returns the effect of the duty, whose step found `found` in its word. Each duty has a function of its own in the
-    /// modules below. The effect depends on the thread, the duty and `found` alone: no step reads a second word.
+    /// Returns the effect of the duty, whose step found `found` in its word. The effect depends on the thread, the duty
+    /// and `found` alone: no step reads a second word.
     #[inline(always)]
     pub fn effect(self, duty: Duty, found: u64) -> Effect
-        requires known { self.number ≤ worker_limit }
         requires suits { Suits self.number (is_running self.status) self.rows duty found }
         requires numbered { IsNumbered self.rows duty }
         requires indexed { IsIndexed duty }
@@ -84,8 +80,12 @@ impl Doer {
     {
         match duty {
             Duty::RetainLoad { row, holding } => self.retain_load(row, holding, found),
-            Duty::RetainStore { word, .. } => self.retain_store(word),
-            Duty::RetainAdd { .. } => self.retain_add(found),
+            // The step ends its piece of work. Rules `LocalRaised` and `SharedRaised`; `Closes`; `KindRead`; `CellRead`.
+            Duty::RetainStore { .. }
+            | Duty::RetainAdd { .. }
+            | Duty::SettleEnd { .. }
+            | Duty::KindLoad { .. }
+            | Duty::CellLoad { .. } => self.then(Next::Nothing),
             Duty::ReleaseLoad { row, .. } => self.release_load(row, found),
             Duty::ReleaseStore { row, word } => self.release_store(row, word),
             Duty::DecideAtZero { row } => self.decide_at_zero(row, found),
@@ -113,8 +113,7 @@ impl Doer {
             Duty::SettleKind { row } => self.settle_kind(row, found),
             Duty::SettleCell { row, cell, cells } => self.settle_cell(row, cell, cells, found),
             Duty::TakeSlot { row } => self.take_slot(row),
-            Duty::CloseResource { row } => self.close_resource(row, found),
-            Duty::SettleEnd { .. } => self.settle_end(),
+            Duty::CloseResource { row } => self.close_resource(row),
             Duty::Leave { index, rows } => self.leave(index, rows),
             Duty::Scan { index, rows } => self.scan(index, rows, found),
             Duty::Finish => self.finish(),
@@ -122,28 +121,20 @@ impl Doer {
             Duty::BirthKind { row, holding, word } => self.birth_kind(row, holding, word),
             Duty::BirthSlot { row, holding } => self.birth_slot(row, holding),
             Duty::BirthLocal { .. } => self.birth_local(),
-            Duty::KindLoad { .. } => self.kind_load(found),
             Duty::LockGate { row } => self.lock_gate(row, found),
             Duty::UnlockGate { .. } => self.unlock_gate(),
-            Duty::CellLoad { .. } => self.cell_load(found),
-            Duty::CellSwap { item, .. } => self.cell_swap(item, found),
+            Duty::CellSwap { .. } => self.cell_swap(found),
             Duty::LendSlot { row } => self.lend_slot(row, found),
             Duty::ReturnSlot { .. } => self.return_slot(),
         }
     }
 
-    /// Returns an effect that keeps the thread's head, and changes nothing else in the thread.
+    /// Returns the effect after which these duties follow, and which changes nothing else in the thread.
     #[inline(always)]
-    fn leaves(self, word: u64, next: Next) -> Effect
-        ensures { result ≡ record {
-          word = word;
-          next = next;
-          head = self.head;
-          change = Change.Nothing;
-        } }
+    fn then(self, next: Next) -> Effect
+        ensures { result ≡ record { next = next; head = self.head; change = Change.Nothing } }
     {
         Effect {
-            word,
             next,
             head: self.head,
             change: Change::Nothing,

@@ -1,12 +1,20 @@
-//! What one step does. The effect of a duty is one value: the new value of the word, the duties that follow, and the
-//! thread afterwards. It depends on the thread, the duty and the value found in the word alone.
+//! What one step does, as values: the address of its word, the operation on the word (`Access`), and, by the value found
+//! there, the duties that follow and the thread afterwards (`Effect`). It depends on the thread, the duty and the value
+//! found alone.
 //!
-//! The crate changes nothing itself: the world above it stores what an effect says. It also has what effects and the
-//! world share of the rows (`rows`) and of the values of words (`states`).
+//! The crate changes nothing itself. The step world makes the operation on its columns of words, and real threads on
+//! the words that they share. It also has what both share of the rows (`rows`), of kind words (`kinds`), of the values of
+//! words (`states`) and of how a release or a merge ends (`outcomes`).
 #![tactic(auto)]
 
+mod access;
+mod address;
 mod effect;
+pub mod kinds;
+pub mod outcomes;
 pub mod rows;
 pub mod states;
 
+pub use access::{Access, access_of};
+pub use address::address_of;
 pub use effect::{Change, Doer, Effect, Next};

@@ -12,6 +12,18 @@ pub const GONE: u64 = 3;
 /// A set mark: the object is in its owner's queue.
 pub const SET: u64 = 1;
 
+/// A mark that isn't set: the object is in no queue.
+pub const UNSET: u64 = 0;
+
+/// The local word of an object that nobody owns.
+pub const NOBODY: u64 = 0;
+
+/// One reference in a shared word, whose two lowest bits are the state.
+pub const ONE_REFERENCE: u64 = 4;
+
+/// A cell without a reference, and a slot without a resource.
+pub const EMPTY: u64 = 0;
+
 /// The gate of an object that is neither dying nor closed.
 pub const FREE: u64 = 1;
 

@@ -1,7 +1,6 @@
 pub mod FirstDuties
 pub mod Working
-pub mod MergeDuties
+pub mod MergeEnds
 pub mod GivingUp
-pub mod Choosing
 pub mod Closes
 pub mod SettleDuties

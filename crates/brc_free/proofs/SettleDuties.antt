@@ -12,8 +12,10 @@ use Rattle.brc_model.specs.Duties.{ready, has_resource, cells_of, cells_from, re
 use Rattle.brc_table.specs.declared.view.View.{View}
 use Rattle.brc_table.specs.Views.{RowsAreThere, did, done, settling, settle_first, slot_emptied, slot_emptied_by}
 use Rattle.brc_table.specs.Calls.{MaySettle, SettlesFrom}
-use Rattle.brc_free.specs.Works.{Works, Next, Keeps, HasWorked, ComesToSettle, AtOnce, InWork, to_settle, closes_by}
-use Rattle.brc_free.proofs.Working.{head_unlocked, gate_apart, keeps_beside, keeps_then, did_keeps, worked_first, worked_on, worked_then}
+use Rattle.brc_free.specs.Works.{Works, Next, HasWorked, ComesToSettle, AtOnce, InWork, to_settle, closes_by}
+use Rattle.brc_heap.specs.Steps.{Keeps}
+use Rattle.brc_heap.proofs.Stepping.{gate_apart, keeps_then, did_keeps}
+use Rattle.brc_free.proofs.Working.{head_unlocked, keeps_beside, worked_first, worked_on, worked_then}
 use Rattle.brc_free.proofs.FirstDuties.{settle_kind_first, settle_cell_first, take_slot_first, settle_end_first}
 
 -- ---- taking the first object off the chain

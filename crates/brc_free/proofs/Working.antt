@@ -11,41 +11,11 @@ use Rattle.brc_model.specs.Machine.{is_running, status_by, used_by}
 use Rattle.brc_model.specs.OpenWork.{is_finalising, finalised}
 use Rattle.brc_table.specs.declared.view.View.{View}
 use Rattle.brc_table.specs.Views.{RowsAreThere, did, done, slot_emptied, slot_emptied_by}
-use Rattle.brc_heap.proofs.Sight.{StaysOff, away_off, did_sight}
-use Rattle.brc_heap.proofs.Leaving.{is_plain, plain_keeps}
-use Rattle.brc_free.specs.Works.{Works, Begun, Next, Keeps, HasWorked, closes_by}
+use Rattle.brc_heap.specs.Steps.{Keeps, HasStepped, Steps, TakesNothing, Begun as NoStep, Next as OneStep}
+use Rattle.brc_heap.proofs.Stepping.{IsQuiet, keeps_first, keeps_then, did_keeps}
+use Rattle.brc_free.specs.Works.{Works, Begun, Next, HasWorked, closes_by}
 
 -- ---- what is kept
-
-pub keeps_first : (v : View) → Keeps v v
-keeps_first v = record {
-  layout = refl;
-  thread = refl;
-  status = refl;
-  references = refl;
-  aside = refl;
-  used = refl;
-  locked = refl;
-  in_slot = refl;
-  given = refl;
-  kinds = λ x word seen. seen;
-  cells = λ x i is. refl;
-}
-
-pub keeps_then : (v u w : View) → Keeps v u → Keeps u w → Keeps v w
-keeps_then v u w one other = record {
-  layout = other.layout ∙ one.layout;
-  thread = other.thread ∙ one.thread;
-  status = other.status ∙ one.status;
-  references = other.references ∙ one.references;
-  aside = other.aside ∙ one.aside;
-  used = other.used ∙ one.used;
-  locked = other.locked ∙ one.locked;
-  in_slot = other.in_slot ∙ one.in_slot;
-  given = other.given ∙ one.given;
-  kinds = λ x word seen. other.kinds x word (one.kinds x word seen);
-  cells = λ x i is. other.cells x i (one.locked ∙ is) ∙ one.cells x i is;
-}
 
 -- Other duties that come next change nothing else.
 pub keeps_beside : (u : View) (ds : List Duty) → Keeps u (record u { agenda = ds })
@@ -63,40 +33,9 @@ keeps_beside u ds = record {
   cells = λ x i is. refl;
 }
 
--- The duty changes neither the hand's status nor its lock, uses no row, and touches neither the gate nor a cell of the
--- object that the hand has locked.
-pub record IsQuiet (u : View) (d : Duty) (found : ℕ) : Type 0 where
-  pub status : status_by u.status d ≡ u.status
-  pub used : used_by u.used d ≡ u.used
-  pub off : StaysOff u d found
-
--- So does a duty about counts, kinds or marks.
-pub plain_quiet : {u : View} {d : Duty} {found : ℕ} → is_plain d ≡ true → IsQuiet u d found
-plain_quiet {u} {d} {found} plain =
-    let keeps = plain_keeps d [] plain in
-    record { status = keeps.0 u.status; used = keeps.1 u.used; off = away_off u d found keeps.2 }
-
--- ---- the object that the hand has locked
-
--- It isn't one that the hand's next duty finalises,
-pub finalising_unlocked : (u : View) (d : Duty) (rest : List Duty) (x : ℕ) → RowsAreThere u → u.agenda ≡ d ∷ rest
-    → is_finalising d x ≡ true → u.locked ≢ Some x
-finalising_unlocked u d rest x there next this is =
-    let none : finalised (d ∷ rest) x ≡ 0 =
-    subst (λ (ds : List Duty). finalised ds x ≡ 0) next (there.unfinalised x is).duties in
-    let some : finalised (d ∷ rest) x ≡ 1 + finalised rest x =
-    ap (λ (b : Bool). if b then 1 + finalised rest x else finalised rest x) this in
-    omega (arith, none, some)
-
--- nor the first one of its chain.
+-- The object that the hand has locked isn't the first one of its chain.
 pub head_unlocked : (v : View) (x : ℕ) → RowsAreThere v → 0 < v.head → x ≡ v.head - 1 → v.locked ≢ Some x
 head_unlocked v x there some row is = (there.unfinalised x is).later (omega (arith, some, row))
-
--- So a step on another object's gate, or on a cell of it, leaves what the hand has seen of that object's cells.
-pub gate_apart : (v u : View) (x : ℕ) → v.locked ≢ Some x → u.locked ≡ v.locked → (y : ℕ) → u.locked ≡ Some y
-    → (x == y) ≡ false
-gate_apart v u x apart same y is =
-    ne_eqb x y (λ (e : x ≡ y). apart (sym same ∙ (is ∙ ap (λ (z : ℕ). Some z) (sym e))))
 
 -- ---- first steps
 
@@ -105,25 +44,6 @@ pub worked_first : (v : View) (ds : List Duty) → v.agenda ≡ ready v.head ds 
 worked_first v ds is = record { agenda = is; works = Begun; keeps = keeps_first v }
 
 -- ---- one duty more
-
--- What one duty keeps.
-pub did_keeps : (u : View) (d : Duty) (rest : List Duty) (found : ℕ) → IsQuiet u d found
-    → Keeps u (did u (d ∷ rest) found)
-did_keeps u d rest found quiet =
-    let sight = did_sight u d rest found quiet.off in
-    record {
-      layout = refl;
-      thread = refl;
-      status = quiet.status;
-      references = refl;
-      aside = refl;
-      used = quiet.used;
-      locked = sight.locked;
-      in_slot = refl;
-      given = refl;
-      kinds = sight.kinds;
-      cells = sight.cells;
-    }
 
 -- One duty more, the first of those that come next.
 pub worked_on : (v u w : View) (cs : List HostCall) (d : Duty) (rest ds : List Duty) (found : ℕ)
@@ -191,3 +111,26 @@ works_close v u cs (Next closes z found failed other) =
       by_closes [] failed = refl
       by_closes (TakeSlot x ∷ rest) failed = refl
       by_closes (d ∷ rest) failed = refl
+
+-- ---- steps that use no slot
+
+-- They ask the host for nothing.
+works_of : (v u : View) → Steps v u → Works v [] u
+works_of v u NoStep = Begun
+works_of v w (OneStep u found before takes) =
+    subst (λ (z : View). Works v [] (done z found)) (unslotted u.agenda u takes)
+    (subst (λ (cs : List HostCall). Works v cs (done (slot_emptied u) found)) (none u.agenda takes)
+    (Next [] u found false (works_of v u before))) where
+      unslotted : (ds : List Duty) (u : View) → TakesNothing ds → slot_emptied_by ds u ≡ u
+      unslotted (TakeSlot x ∷ rest) u takes = absurd takes
+      unslotted _ u takes = refl
+      none : (ds : List Duty) → TakesNothing ds → closes_by ds false ≡ []
+      none (TakeSlot x ∷ rest) takes = absurd takes
+      none _ takes = refl
+
+pub worked_by : {v u : View} {ds : List Duty} → HasStepped v ds u → HasWorked v [] ds u
+worked_by {v} {u} {ds} at = record { agenda = at.agenda; works = works_of v u at.steps; keeps = at.keeps }
+
+-- A hand that has worked goes on.
+pub worked_more : {v u w : View} {ds es : List Duty} → HasWorked v [] ds u → HasWorked u [] es w → HasWorked v [] es w
+worked_more {v} {u} {w} {ds} {es} one other = worked_then v u w [] [] ds es one other

@@ -4,17 +4,17 @@ use Rattle.std.specs.List.{filter}
 use Rattle.brc_host.specs.HostCalls.{HostCall, Close}
 use Rattle.brc_model.specs.declared.actor.Status.TheVariants.{Running, Gone}
 use Rattle.brc_model.specs.declared.duty.Holding.TheVariants.{InFlight}
-use Rattle.brc_model.specs.declared.duty.Reason.{Reason}
 use Rattle.brc_model.specs.declared.duty.Reason.TheVariants.{Handed}
 use Rattle.brc_model.specs.declared.duty.Duty.{Duty}
-use Rattle.brc_model.specs.declared.duty.Duty.TheVariants.{ReleaseLoad, DecideAtZero, SharedLoad, MergeSwap, MergeLoad, Settle, SettleCell, TakeSlot}
+use Rattle.brc_model.specs.declared.duty.Duty.TheVariants.{ReleaseLoad, MergeSwap, Settle, SettleCell, TakeSlot}
 use Rattle.brc_model.specs.Duties.{ready, once_merged, cells_from}
 use Rattle.brc_table.specs.declared.view.View.{View}
 use Rattle.brc_model.specs.OpenWork.{is_about}
 use Rattle.brc_table.specs.Seen.{has_seen_kind, cell_seen}
 use Rattle.brc_table.specs.Views.{done, slot_emptied, without_reference, open_work}
-use Rattle.brc_free.specs.declared.giving_up.Tried.{Tried}
-use Rattle.brc_free.specs.declared.giving_up.Tried.TheVariants as tried
+use Rattle.brc_heap.specs.declared.release.LocalRelease.{LocalRelease}
+use Rattle.brc_heap.specs.Calls.{local_left}
+use Rattle.brc_heap.specs.Steps.{Keeps}
 
 -- ---- work
 
@@ -30,21 +30,6 @@ pub data Works (v : View) : List HostCall → View → Type 0 where
   Next : (closes : List HostCall) (u : View) (found : ℕ) (failed : Bool) → Works v closes u
       → Works v (closes ++ closes_by u.agenda failed) (done (slot_emptied u) found)
 
--- What no such work changes. The hand has seen the kinds that it had seen, and of the cells of the list that it has
--- locked what it had seen.
-pub record Keeps (v u : View) : Type 0 where
-  pub layout : u.layout ≡ v.layout
-  pub thread : u.thread ≡ v.thread
-  pub status : u.status ≡ v.status
-  pub references : u.references ≡ v.references
-  pub aside : u.aside ≡ v.aside
-  pub used : u.used ≡ v.used
-  pub locked : u.locked ≡ v.locked
-  pub in_slot : u.in_slot ≡ v.in_slot
-  pub given : u.given ≡ v.given
-  pub kinds : (x word : ℕ) → has_seen_kind x word v ≡ true → has_seen_kind x word u ≡ true
-  pub cells : (x i : ℕ) → v.locked ≡ Some x → cell_seen x i u ≡ cell_seen x i v
-
 -- The hand has done duty after duty, with these closes of the host, and these duties are left, but for those that need
 -- no step.
 pub record HasWorked (v : View) (closes : List HostCall) (ds : List Duty) (u : View) : Type 0 where
@@ -59,46 +44,19 @@ abbrev pub behind : List Duty → List Duty
 behind [] = []
 behind (d ∷ rest) = rest
 
--- The first duty is to begin a merge of row x.
-pub record MergesNext (x : ℕ) (ds : List Duty) : Type 0 where
-  pub reason : Reason
-  pub rest : List Duty
-  pub next : ds ≡ MergeSwap x reason ∷ rest
-
--- The first duty is to load the shared word of row x, to which c local references are to be added.
-pub record CarriesNext (x c : ℕ) (ds : List Duty) : Type 0 where
-  pub reason : Reason
-  pub rest : List Duty
-  pub next : ds ≡ MergeLoad x c reason ∷ rest
-
 -- what is left of these duties once the first one's merge is done
 abbrev pub merge_left : List Duty → List Duty
 merge_left (MergeSwap x r ∷ rest) = once_merged x r ++ rest
-merge_left (MergeLoad x c r ∷ rest) = once_merged x r ++ rest
 merge_left _ = []
-
--- The first duty is to give up a reference to the object of row x in its shared word.
-pub record GivesUpNext (x : ℕ) (ds : List Duty) : Type 0 where
-  pub reason : Reason
-  pub rest : List Duty
-  pub next : ds ≡ SharedLoad x reason ∷ rest
-
--- what is left of these duties after a try to give the reference up
-abbrev pub tried_left : Tried → List Duty → List Duty
-tried_left tried.GivenUp ds = behind ds
-tried_left tried.Lost ds = ds
-tried_left tried.Claimed (SharedLoad x r ∷ rest) = MergeSwap x Handed ∷ rest
-tried_left tried.Claimed _ = []
-
--- The first duty is to decide what becomes of the object of row x, whose last local reference is gone.
-pub record DecidesNext (x : ℕ) (ds : List Duty) : Type 0 where
-  pub rest : List Duty
-  pub next : ds ≡ DecideAtZero x ∷ rest
 
 -- The first duty is to give up a reference to the object of row x that came out of a cell.
 pub record ReleasesNext (x : ℕ) (ds : List Duty) : Type 0 where
   pub rest : List Duty
   pub next : ds ≡ ReleaseLoad x InFlight ∷ rest
+
+-- What is left of a release of row x that has this answer comes next, and these duties come behind.
+abbrev pub EndsRelease : ℕ → LocalRelease → List Duty → View → Type 0
+EndsRelease x answer rest v = v.agenda ≡ ready v.head (local_left x answer ++ rest)
 
 -- ---- settling
 

@@ -130,7 +130,7 @@ impl<'h, T: Drop, Q: Marker<T>> Finaliser<'h, T, Q> {
             × (result ≡ raised (close_faults closes) 0)
             × HasAnswered H.answers H.counts host.old closes host.new }
     {
-        merge(rt, self.heap.words(), hand, row);
+        merge(rt, self.heap, hand, row);
         self.give_up(rt, hand, row);
         self.settle(rt, hand, host)
     }

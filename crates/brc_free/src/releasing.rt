@@ -6,7 +6,7 @@ ghost use Rattle.brc_heap.specs.Calls.{released_locally};
 ghost use Rattle.brc_free.specs.Works.{HasWorked, HasReleased};
 
 use crate::finaliser::Finaliser;
-use brc_heap::{Hand, LocalRelease, Marker};
+use brc_heap::{Hand, Marker};
 use std::sync::Wait;
 
 impl<'h, T: Drop, Q: Marker<T>> Finaliser<'h, T, Q> {
@@ -26,10 +26,7 @@ impl<'h, T: Drop, Q: Marker<T>> Finaliser<'h, T, Q> {
         ensures work { (word : ℕ) × HasWorked (released_locally hand.old.view row word) [] [] hand.new.view }
         ensures released { HasReleased row hand.old.view hand.new.view }
     {
-        match self.heap.release_local(hand, row) {
-            LocalRelease::Skip | LocalRelease::Kept => {}
-            LocalRelease::Zero => self.decide_at_zero(rt, hand, row),
-            LocalRelease::Share => self.give_up(rt, hand, row),
-        }
+        let release = self.heap.release_local(hand, row);
+        self.end_release(rt, hand, row, release);
     }
 }

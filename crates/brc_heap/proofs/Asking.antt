@@ -1,11 +1,10 @@
 -- A look at an object's kind leaves nothing to do, and the hand has seen the kind word.
-use Rattle.std.proofs.Common.{◌≡◌, ℕ, zero, suc, Bool, true, false, [], ◌∷◌, ◌++◌, refl, ap, ◌∙◌}
+use Rattle.std.proofs.Common.{◌≡◌, ℕ, Bool, true, false, [], ◌∷◌, refl, ap, ◌∙◌}
 use Rattle.std.specs.Prelude.{◌==◌, ◌&&◌, ◌||◌}
 use Rattle.std.specs.List.{list_any}
 use Rattle.std.proofs.lemmas.Bool.{eq-eqb}
 use Rattle.std.proofs.lemmas.List.Folds.{list_any-append}
 use Rattle.brc_model.specs.declared.duty.Duty.TheVariants.{KindLoad}
-use Rattle.brc_model.specs.Duties.{ready}
 use Rattle.brc_table.specs.declared.view.View.{View}
 use Rattle.brc_table.specs.Views.{done, event_of, asking}
 use Rattle.brc_table.specs.Seen.{shows_kind, has_seen_kind}
@@ -13,18 +12,14 @@ use Rattle.brc_table.specs.Hands.{HasNoWork}
 use Rattle.brc_heap.specs.Calls.{Leaves}
 use Rattle.brc_heap.proofs.Sight.{same_sight}
 use Rattle.brc_heap.proofs.Bearing.{or_true}
-use Rattle.brc_heap.proofs.Leaving.{plain_keeps, begun_works, done_works, works_leave}
-
-ready_none : (head : ℕ) → ready head ([] ++ []) ≡ []
-ready_none zero = refl
-ready_none (suc head) = refl
+use Rattle.brc_heap.proofs.Leaving.{begun_works}
+use Rattle.brc_heap.proofs.Stepping.{plain_begins, plain_on, stepped_leaves}
 
 pub ask_leaves : (v : View) (x word : ℕ) → HasNoWork v x → Leaves x [] v (done (asking v x) word)
 ask_leaves v x word none =
-    let begun = begun_works x v (asking v x) none refl refl refl refl refl
-    (same_sight v (asking v x) refl refl refl) refl in
-    let works = done_works x v (asking v x) (KindLoad x ∷ []) word begun refl (plain_keeps (KindLoad x) [] refl) in
-    works_leave x v (done (asking v x) word) [] works (ready_none v.head) tt tt
+    stepped_leaves (begun_works x v (asking v x) none refl refl refl refl refl
+    (same_sight v (asking v x) refl refl refl) refl)
+    (plain_on {d = KindLoad x} {rest = []} word (plain_begins refl refl) refl refl) tt
 
 pub ask_seen : (v : View) (x word : ℕ) → has_seen_kind x word (done (asking v x) word) ≡ true
 ask_seen v x word =

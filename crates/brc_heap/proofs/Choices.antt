@@ -10,12 +10,11 @@ use Rattle.brc_model.specs.Duties.{ready}
 use Rattle.brc_model.specs.Machine.{is_running}
 use Rattle.brc_table.specs.declared.view.View.{View}
 use Rattle.brc_table.specs.Views.{done, retaining}
-use Rattle.brc_table.specs.Hands.{MayWait}
-use Rattle.brc_table.specs.Calls.{AddsShared}
+use Rattle.brc_table.specs.Accesses.{IsNext}
 
 shares_by : (head x word : ℕ) (immortal counts : Bool)
     → (if immortal then choice.Skip else if counts then choice.Store (word + 1) else choice.Share) ≡ choice.Share
-    → AddsShared x (ready head ((if immortal then [] else if counts then RetainStore x AsCaller word ∷ []
+    → IsNext (RetainAdd x AsCaller) (ready head ((if immortal then [] else if counts then RetainStore x AsCaller word ∷ []
     else RetainAdd x AsCaller ∷ []) ++ []))
 shares_by head x word true counts is = absurd cc
 shares_by head x word false true is = absurd cc
@@ -28,7 +27,7 @@ pub retain_shares : (v : View) (x word thread : ℕ) (running : Bool) → thread
     → (if is_immortal_word word then choice.Skip
     else if (running && (owner_part word == thread + 1)) && nat_lt (local_part word) most_local
     then choice.Store (word + 1) else choice.Share) ≡ choice.Share
-    → AddsShared x (done (retaining v x) word).agenda
+    → IsNext (RetainAdd x AsCaller) (done (retaining v x) word).agenda
 retain_shares v x word thread running same runs is =
     shares_by v.head x word (is_immortal_word word)
     ((is_running v.status && (owner_part word == v.thread + 1)) && nat_lt (local_part word) most_local)
@@ -38,8 +37,3 @@ retain_shares v x word thread running same runs is =
     (subst (λ (b : Bool). (if is_immortal_word word then choice.Skip
     else if (b && (owner_part word == thread + 1)) && nat_lt (local_part word) most_local
     then choice.Store (word + 1) else choice.Share) ≡ choice.Share) runs is))
-
--- An addition to the shared word may wait.
-pub adds_wait : (x : ℕ) (ds : List Duty) → AddsShared x ds → MayWait ds
-adds_wait x (RetainAdd y h ∷ []) adds = refl
-adds_wait x _ adds = absurd adds

@@ -196,25 +196,6 @@ plain_used _ n is = refl
 pub plain_keeps : (d : Duty) (ds : List Duty) → is_plain d ≡ true → KeepsStatus (d ∷ ds)
 plain_keeps d ds is = ((λ s. plain_status d s is), (λ n. plain_used d n is), plain_stays d is)
 
-did_works : (x : ℕ) (v u : View) (ds : List Duty) (found : ℕ) → WorksAt x v u → KeepsStatus ds
-    → WorksAt x v (did u ds found)
-did_works x v u [] found works keeps = works
-did_works x v u (d ∷ ds) found works keeps = record {
-  layout = works.layout;
-  thread = works.thread;
-  status = keeps.0 u.status ∙ works.status;
-  used = keeps.1 u.used ∙ works.used;
-  given = works.given;
-  sight = sight_then v u (did u (d ∷ ds) found) works.sight (did_sight u d ds found (away_off u d found keeps.2));
-  aside = works.aside;
-}
-
--- One more duty leaves the hand at work.
-pub done_works : (x : ℕ) (v u : View) (ds : List Duty) (found : ℕ) → WorksAt x v u → u.agenda ≡ ds → KeepsStatus ds
-    → WorksAt x v (done u found)
-done_works x v u ds found works is keeps =
-    did_works x v u u.agenda found works (subst KeepsStatus (sym is) keeps)
-
 -- What is left of the hand's work.
 pub works_leave : (x : ℕ) (v u : View) (left : List Duty) → WorksAt x v u → u.agenda ≡ left → AllAbout x left
     → MayWait left → Leaves x left v u

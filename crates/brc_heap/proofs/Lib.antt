@@ -1,12 +1,13 @@
 pub mod Turning
 mod Choices
-mod Exchanges
-mod Dying
+mod Retaining
 pub mod Sight
 pub mod Leaving
-mod Ending
+pub mod Stepping
+pub mod Tries
+pub mod MergeTries
+pub mod MarkTries
 mod Looks
-mod Merging
 mod Bearing
 mod Asking
 mod OwnRows

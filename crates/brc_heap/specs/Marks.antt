@@ -1,7 +1,10 @@
--- What a hand does to a view that sets an object's mark and looks after it, in the midst of other work.
-use Rattle.std.specs.Prelude.{ℕ, ◌==◌, if◌then◌else◌}
+-- What a hand does to a view that sets an object's mark and looks after it, and what that leaves.
+use Rattle.std.specs.Prelude.{ℕ, ◌==◌, if◌then◌else◌, List, [], ◌∷◌}
 use Rattle.brc_model.specs.Knowledge.{status_word}
 use Rattle.brc_model.specs.declared.actor.Status.TheVariants.{Running}
+use Rattle.brc_model.specs.declared.duty.Duty.{Duty}
+use Rattle.brc_model.specs.declared.duty.Duty.TheVariants.{MergeSwap}
+use Rattle.brc_model.specs.declared.duty.Reason.TheVariants.{Handed}
 use Rattle.brc_table.specs.declared.view.View.{View}
 use Rattle.brc_table.specs.Views.{done}
 use Rattle.brc_heap.specs.declared.marker.Looked.{Looked}
@@ -12,8 +15,16 @@ abbrev pub look_answer : ℕ → ℕ → Looked
 look_answer said found =
     if said == status_word Running then looks.Left else if found == 1 then looks.Claimed else looks.Left
 
--- the hand has set the mark, loaded the word of the thread of the object's block, and taken the mark back unless that
--- thread runs
+-- the hand has loaded the word of the thread of the object's block, and taken the mark back unless that thread runs
+abbrev pub looked_after : View → ℕ → ℕ → View
+looked_after v said found =
+    let saw = done v said in if said == status_word Running then saw else done saw found
+
+-- the hand has set the mark before that
 abbrev pub posted : View → ℕ → ℕ → View
-posted v said found =
-    let saw = done (done v 0) said in if said == status_word Running then saw else done saw found
+posted v said found = looked_after (done v 0) said found
+
+-- what a look leaves: the hand that has claimed the mark merges the object
+abbrev pub look_left : ℕ → Looked → List Duty
+look_left x looks.Left = []
+look_left x looks.Claimed = MergeSwap x Handed ∷ []

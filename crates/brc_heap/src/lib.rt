@@ -5,16 +5,18 @@
 #![tactic(auto)]
 
 mod birth;
+mod chain;
 mod error;
 mod finish;
 mod heap;
 mod kinds;
 mod marker;
 mod merge;
+mod outcomes;
 mod release;
 mod retain;
 
-pub use brc_table::{Hand, Words};
+pub use brc_table::{Hand, Words, Work};
 pub use error::{NoMemory, Taken};
 pub use finish::{Final, StillRunning};
 pub use heap::{Heap, ROOT};

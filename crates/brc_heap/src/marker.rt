@@ -2,8 +2,8 @@
 
 ghost use Rattle.std.specs.Prelude.{◌≡◌, ◌≢◌, ℕ};
 ghost use Rattle.brc_model.specs.declared.actor.Status.TheVariants.{Gone};
-ghost use Rattle.brc_table.specs.Calls.{SetsMark};
 ghost use Rattle.brc_table.specs.Hands.{TableState, IsOf};
+ghost use Rattle.brc_heap.specs.Tries.{MarksNext};
 ghost use Rattle.brc_heap.specs.Marks.{posted, look_answer};
 
 use brc_table::Hand;
@@ -31,7 +31,7 @@ pub trait Marker<T> {
     fn post(&self, hand: &mut Hand<T>, row: u32) -> Looked
         requires table { IsOf (heap self.now) hand.old }
         requires alive { hand.old.view.status ≢ Gone }
-        requires duty { SetsMark row hand.old.view.agenda }
+        requires duty { MarksNext row hand.old.view.agenda }
         ensures table { hand.new.table ≡ hand.old.table }
         ensures carried { hand.new.carried ≡ hand.old.carried }
         ensures slots { hand.new.slots ≡ hand.old.slots }

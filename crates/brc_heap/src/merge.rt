@@ -1,19 +1,24 @@
 //! Merging an object's two counts, so that nobody owns it any more.
 
-ghost use Rattle.std.specs.Prelude.{◌≡◌, ◌≢◌, ◌%◌, [], ◌∷◌, ℕ, None, slice_set};
+ghost use Rattle.std.specs.Prelude.{◌≡◌, ◌≢◌, ◌%◌, List, [], ◌∷◌, ◌++◌, ℕ, None, slice_set};
 ghost use Rattle.brc_model.specs.Limits.{row_limit};
-ghost use Rattle.brc_word.specs.Words.{merged_word, dead_word};
+ghost use Rattle.brc_model.specs.declared.duty.Duty.{Duty};
 ghost use Rattle.brc_model.specs.declared.duty.Reason.{Reason};
-ghost use Rattle.brc_model.specs.declared.duty.Reason.TheVariants.{Handed};
-ghost use Rattle.brc_model.specs.declared.duty.Duty.TheVariants.{MergeLoad};
-ghost use Rattle.brc_table.specs.Views.{turned, work_about};
+ghost use Rattle.brc_model.specs.declared.duty.Reason.TheVariants.{Own};
+ghost use Rattle.brc_model.specs.declared.duty.Duty.TheVariants.{MergeSwap, MergeLoad};
+ghost use Rattle.brc_table.specs.Turns.{MayGoOn, turned_to};
+ghost use Rattle.brc_table.specs.Views.{done, resumed, turned, work_about};
 ghost use Rattle.brc_table.specs.Hands.{IsOf, carried_of};
 ghost use Rattle.brc_table.specs.Calls.{CanAct};
+ghost use Rattle.brc_heap.specs.Steps.{HasStepped, ended};
+ghost use Rattle.brc_heap.specs.Tries.{MergesNext, CarriesNext, merge_dies, carries_of, swap_left, still_carried};
 ghost use Rattle.brc_heap.specs.Calls.{MergeIsFirst, MergeIsBegun, Merges, merge_begun, merge_tried, merge_answer, first_answer, merge_left, Leaves};
 
 use crate::heap::Heap;
-use brc_table::Hand;
-use brc_word::{is_dead, local_count, merged};
+use crate::outcomes::merge_step;
+use brc_model::{Duty, Reason};
+use brc_table::{Hand, Work};
+use brc_word::local_count;
 
 /// How a try to merge ended.
 #[derive(Clone, Copy, Debug, PartialEq, Eq)]
@@ -24,6 +29,16 @@ pub enum MergeStep {
     Dying,
     /// Another thread changed the shared word in between: try again.
     Again,
+}
+
+/// Returns what a hand still carries that has tried to add the count.
+fn still_carried(step: MergeStep, carried: u32) -> Option<u32>
+    ensures { result ≡ still_carried step carried }
+{
+    match step {
+        MergeStep::Again => Some(carried),
+        MergeStep::Kept | MergeStep::Dying => None,
+    }
 }
 
 impl<T: Drop> Heap<T> {
@@ -79,11 +94,10 @@ impl<T: Drop> Heap<T> {
             → (carried : ℕ) × Leaves row (merge_left row carried r result) hand.old.view hand.new.view }
         ensures references { hand.new.view.references ≡ hand.old.view.references }
     {
-        let local = self.words().local_swap(hand, row);
-        if local == 0 {
-            return MergeStep::Kept;
+        match self.take_local(hand, row, Work::Aside) {
+            Some(carried) => self.merge_carried(hand, row, carried),
+            None => MergeStep::Kept,
         }
-        self.merge_carried(hand, row, local_count(local))
     }
 
     /// Tries once to add the carried local count to the shared count, and to make the state merged.
@@ -105,41 +119,91 @@ impl<T: Drop> Heap<T> {
             → Leaves row (merge_left row carried r result) hand.old.view hand.new.view }
         ensures references { hand.new.view.references ≡ hand.old.view.references }
     {
-        let step = self.merge_steps(hand, row, carried);
-        hand.rows_are_there();
+        let step = self.merge(hand, row, carried, Work::Aside);
+        hand.remember(row, still_carried(step, carried));
         step
     }
 
-    /// Makes the steps of `merge_carried`.
-    fn merge_steps(&self, hand: &mut Hand<T>, row: u32, carried: u32) -> MergeStep
+    /// Begins a merge, which may come next, with other duties behind it: swaps the local word for nobody's. Returns the
+    /// local count, or `None` if nobody owned the object any more: it is merged already.
+    #[inline(always)]
+    pub fn take_local(&self, hand: &mut Hand<T>, row: u32, work: Work) -> Option<u32>
         requires table { IsOf self.now hand.old }
-        requires acts { CanAct hand.old.view }
-        requires duty { (r : Reason) × (work_about row hand.old.view ≡ MergeLoad row carried r ∷ []) }
+        requires may { MayGoOn work hand.old.view }
+        requires duty { MergesNext row (turned_to work hand.old.view row).agenda }
         ensures table { hand.new.table ≡ hand.old.table }
+        ensures carried { hand.new.carried ≡ hand.old.carried }
         ensures slots { hand.new.slots ≡ hand.old.slots }
-        ensures events { (word : ℕ) × (found : ℕ)
-            × (hand.new.view ≡ merge_tried (turned hand.old.view row) word found)
-            × (result ≡ merge_answer carried word found)
-            × (work_about row hand.old.view ≡ MergeLoad row carried Handed ∷ [] → found ≡ word
-            → merged_word word carried ≢ dead_word) }
-        ensures again { (r : Reason) → work_about row hand.old.view ≡ MergeLoad row carried r ∷ []
-            → result ≡ MergeStep.Again → MergeIsBegun r hand.new row carried }
-        ensures done { result ≢ MergeStep.Again → carried_of hand.new row ≡ None }
-        ensures others { hand.new.carried
-            ≡ slice_set hand.old.carried (row % row_limit) (carried_of hand.new row) }
+        ensures events { (local : ℕ) × (result ≡ carries_of local)
+            × (hand.new.view ≡ done (turned_to work hand.old.view row) local) }
+        ensures left { (r : Reason) (rest : List Duty)
+            → (turned_to work hand.old.view row).agenda ≡ MergeSwap row r ∷ rest
+            → HasStepped (turned_to work hand.old.view row) (swap_left row r result ++ rest) hand.new.view }
+    {
+        // `LocalTakenOut`, `NobodysCount` (PEP 703, Biased Reference Counting: a merge): a swap, because two threads
+        // may want to merge the object, and only one may add the local count (`merge_swap_keeps_local`).
+        let local = self.words().go_on(
+            hand,
+            work,
+            Duty::MergeSwap {
+                row,
+                reason: Reason::Own,
+            },
+        );
+        if local == 0 {
+            return None;
+        }
+        Some(local_count(local))
+    }
+
+    /// Tries once to add the carried local count to the shared count, and to make the state merged. This may come next,
+    /// with other duties behind it.
+    #[inline(always)]
+    pub fn merge(&self, hand: &mut Hand<T>, row: u32, carried: u32, work: Work) -> MergeStep
+        requires table { IsOf self.now hand.old }
+        requires may { MayGoOn work hand.old.view }
+        requires duty { CarriesNext row carried (turned_to work hand.old.view row).agenda }
+        ensures table { hand.new.table ≡ hand.old.table }
+        ensures carried { hand.new.carried ≡ hand.old.carried }
+        ensures slots { hand.new.slots ≡ hand.old.slots }
+        ensures events { (word : ℕ) × (found : ℕ) × (result ≡ merge_answer carried word found)
+            × (hand.new.view
+            ≡ ended (merge_dies result) (resumed (turned_to work hand.old.view row) (word ∷ found ∷ []))) }
+        ensures left { (r : Reason) (rest : List Duty)
+            → (turned_to work hand.old.view row).agenda ≡ MergeLoad row carried r ∷ rest
+            → HasStepped (turned_to work hand.old.view row) (merge_left row carried r result ++ rest) hand.new.view }
+        ensures own { (r : Reason) (rest : List Duty)
+            → (turned_to work hand.old.view row).agenda ≡ MergeLoad row carried r ∷ rest
+            → result ≡ MergeStep.Dying → r ≡ Own }
     {
         let words = self.words();
-        let word = words.shared_load(hand, row);
-        let next = merged(word, carried);
-        if words.shared_exchange(hand, row, word, next) != word {
-            hand.remember(row, Some(carried));
-            return MergeStep::Again;
+        let reason = Reason::Own;
+        // `MergeRead`: the new word depends on the count that is there.
+        let word = words.go_on(
+            hand,
+            work,
+            Duty::MergeLoad {
+                row,
+                carried,
+                reason,
+            },
+        );
+        // `Merges`, `MergesToZero`, `MergesForHanded`, `MergeLost` (PEP 703, Biased Reference Counting: the owner's count
+        // is added to the shared one): a compare-exchange, because other threads count there meanwhile.
+        let found = words.step(
+            hand,
+            Duty::MergeExchange {
+                row,
+                carried,
+                word,
+                reason,
+            },
+        );
+        let step = merge_step(word, carried, found);
+        match step {
+            MergeStep::Dying => self.chain(hand, row),
+            _ => {}
         }
-        hand.remember(row, None);
-        if is_dead(next) {
-            words.gate_store(hand, row);
-            return MergeStep::Dying;
-        }
-        MergeStep::Kept
+        step
     }
 }

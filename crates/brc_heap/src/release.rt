@@ -1,19 +1,28 @@
 //! Releasing a reference, by the owner or by another thread.
 
-ghost use Rattle.std.specs.Prelude.{◌≡◌, ◌<◌, [], ◌∷◌, ℕ};
+ghost use Rattle.std.specs.Prelude.{◌≡◌, ◌≢◌, ◌≤◌, ◌+◌, true, List, [], ◌∷◌, ◌++◌, ℕ};
+ghost use Rattle.brc_model.specs.declared.duty.Duty.{Duty};
+ghost use Rattle.brc_model.specs.declared.duty.Holding.{Holding};
+ghost use Rattle.brc_model.specs.Machine.{is_running};
+ghost use Rattle.brc_model.specs.declared.actor.Status.TheVariants.{Gone};
 ghost use Rattle.brc_model.specs.declared.duty.Reason.{Reason};
-ghost use Rattle.brc_model.specs.declared.duty.Duty.TheVariants.{DecideAtZero, SharedLoad};
-ghost use Rattle.brc_word.specs.Words.{owner_part};
+ghost use Rattle.brc_model.specs.declared.duty.Duty.TheVariants.{ReleaseLoad, DecideAtZero, SharedLoad};
+ghost use Rattle.brc_word.specs.Words.{owner_part, local_part};
 ghost use Rattle.brc_model.specs.Layout.{block_of};
 ghost use Rattle.brc_model.specs.Within.{OwnerFits};
-ghost use Rattle.brc_table.specs.Views.{without_reference, work_about};
+ghost use Rattle.brc_table.specs.declared.view.View.{View};
+ghost use Rattle.brc_table.specs.Views.{done, resumed, releasing, without_reference, work_about};
+ghost use Rattle.brc_table.specs.Turns.{MayGoOn, turned_to};
 ghost use Rattle.brc_table.specs.Hands.{IsOf, IsRunning, HoldsOne, KeepsLock, HasNoWork};
 ghost use Rattle.brc_table.specs.Calls.{CanAct};
+ghost use Rattle.brc_heap.specs.Steps.{HasStepped, ended};
+ghost use Rattle.brc_heap.specs.Tries.{LoadedLocal, DecidesNext, GivesUpNext, lowered, zero_dies, shared_dies};
 ghost use Rattle.brc_heap.specs.Calls.{local_answer, released_locally, local_left, zero_answer, decided, zero_left, shared_answer, released_shared, shared_left, Leaves};
 
 use crate::heap::Heap;
-use brc_table::Hand;
-use brc_word::{LocalChoice, is_dead, is_fresh, local_count, release_choice_local, released};
+use crate::outcomes::{local_release, shared_release, zero_step};
+use brc_model::{Duty, Reason};
+use brc_table::{Hand, Work};
 
 /// How a release through the local word ended.
 #[derive(Clone, Copy, Debug, PartialEq, Eq)]
@@ -73,37 +82,39 @@ impl<T: Drop> Heap<T> {
         ensures references { hand.new.view.references
             ≡ without_reference hand.old.view.layout row hand.old.view.references }
     {
-        self.release_steps(hand, row)
+        // `ReleasesImmortal`, `OwnerReleases`, `OtherReleases` (PEP 703, Biased Reference Counting: `Py_DECREF`): who owns
+        // the object decides.
+        let word = self.words().release_load(hand, row);
+        self.lower(hand, row, word)
     }
 
-    /// Makes the steps of `release_local`.
-    fn release_steps(&self, hand: &mut Hand<T>, row: u32) -> LocalRelease
+    /// Does what follows the load of the local word in a release, with other duties behind it: a running owner stores
+    /// the lowered count.
+    #[inline(always)]
+    pub fn lower(&self, hand: &mut Hand<T>, row: u32, word: u64) -> LocalRelease
         requires table { IsOf self.now hand.old }
-        requires running { IsRunning hand.old.view }
-        requires held { HoldsOne hand.old.view row }
-        requires keeps { KeepsLock hand.old.view row }
-        requires idle { HasNoWork hand.old.view row }
+        requires alive { hand.old.view.status ≢ Gone }
+        requires duty { (v : View) × LoadedLocal row word v hand.old.view }
+        requires counted { is_running hand.old.view.status ≡ true → owner_part word ≡ hand.old.view.thread + 1
+            → 1 ≤ local_part word }
         ensures table { hand.new.table ≡ hand.old.table }
         ensures carried { hand.new.carried ≡ hand.old.carried }
         ensures slots { hand.new.slots ≡ hand.old.slots }
-        ensures events { (word : ℕ) × OwnerFits hand.old.view.layout row word
-            × (result ≡ local_answer hand.old.view word)
-            × (hand.new.view ≡ released_locally hand.old.view row word) }
+        ensures answer { result ≡ local_answer hand.old.view word }
+        ensures view { hand.new.view ≡ lowered hand.old.view word }
+        ensures left { (v : View) (holding : Holding) (rest : List Duty) → v.agenda ≡ ReleaseLoad row holding ∷ rest
+            → hand.old.view ≡ done v word → HasStepped v (local_left row result ++ rest) hand.new.view }
     {
-        let words = self.words();
-        let word = words.release_load(hand, row);
-        match release_choice_local(word, hand.thread(), hand.is_running()) {
-            LocalChoice::Skip => LocalRelease::Skip,
-            LocalChoice::Store(next) => {
-                words.local_store(hand, row, next);
-                if local_count(word) == 1 {
-                    LocalRelease::Zero
-                } else {
-                    LocalRelease::Kept
-                }
+        let release = local_release(word, hand.thread(), hand.is_running());
+        match release {
+            LocalRelease::Kept | LocalRelease::Zero => {
+                // `LocalLowered`, `LocalReachesZero` (PEP 703, Biased Reference Counting: the owner changes the local
+                // count without atomic operations): a plain store, because only the running owner writes the word.
+                self.words().step(hand, Duty::ReleaseStore { row, word });
             }
-            LocalChoice::Share => LocalRelease::Share,
+            LocalRelease::Skip | LocalRelease::Share => {}
         }
+        release
     }
 
     /// Decides what becomes of an object whose last local reference is gone, as `release_local` answered `Zero`.
@@ -121,31 +132,35 @@ impl<T: Drop> Heap<T> {
         ensures left { Leaves row (zero_left row result) hand.old.view hand.new.view }
         ensures references { hand.new.view.references ≡ hand.old.view.references }
     {
-        let step = self.zero_steps(hand, row);
-        hand.rows_are_there();
-        step
+        self.decide(hand, row, Work::Aside)
     }
 
-    /// Makes the steps of `zero_step`.
-    fn zero_steps(&self, hand: &mut Hand<T>, row: u32) -> ZeroStep
+    /// Decides what becomes of an object whose last local reference is gone: the work of `zero_step`, which may come
+    /// next, with other duties behind it.
+    #[inline(always)]
+    pub fn decide(&self, hand: &mut Hand<T>, row: u32, work: Work) -> ZeroStep
         requires table { IsOf self.now hand.old }
-        requires acts { CanAct hand.old.view }
-        requires duty { work_about row hand.old.view ≡ DecideAtZero row ∷ [] }
+        requires may { MayGoOn work hand.old.view }
+        requires duty { DecidesNext row (turned_to work hand.old.view row).agenda }
         ensures table { hand.new.table ≡ hand.old.table }
         ensures carried { hand.new.carried ≡ hand.old.carried }
         ensures slots { hand.new.slots ≡ hand.old.slots }
         ensures events { (word : ℕ) × (result ≡ zero_answer word)
-            × (hand.new.view ≡ decided hand.old.view row word) }
+            × (hand.new.view ≡ ended (zero_dies result) (done (turned_to work hand.old.view row) word)) }
+        ensures left { (rest : List Duty) → (turned_to work hand.old.view row).agenda ≡ DecideAtZero row ∷ rest
+            → HasStepped (turned_to work hand.old.view row) (zero_left row result ++ rest) hand.new.view }
     {
-        let words = self.words();
-        let word = words.shared_load(hand, row);
-        let unshared = is_fresh(word);
-        if unshared {
-            words.gate_store(hand, row);
-            ZeroStep::Dying
-        } else {
-            ZeroStep::Merge
+        // `NothingShared`, `WasShared` (PEP 703, Biased Reference Counting: the owner frees the object, or merges the
+        // counts): the whole word decides, since an object at count 0 may be queued (`count_alone_decides`).
+        let word = self
+            .words()
+            .go_on(hand, work, Duty::DecideAtZero { row });
+        let step = zero_step(word);
+        match step {
+            ZeroStep::Dying => self.chain(hand, row),
+            ZeroStep::Merge => {}
         }
+        step
     }
 
     /// Tries once to give up a reference in the shared word, as `release_local` answered `Share`, or this call `Again`.
@@ -165,35 +180,39 @@ impl<T: Drop> Heap<T> {
             → Leaves row (shared_left row r result) hand.old.view hand.new.view }
         ensures references { hand.new.view.references ≡ hand.old.view.references }
     {
-        let release = self.shared_steps(hand, row);
-        hand.rows_are_there();
-        release
+        self.release_shared(hand, row, Work::Aside)
     }
 
-    /// Makes the steps of `try_release_shared`.
-    fn shared_steps(&self, hand: &mut Hand<T>, row: u32) -> SharedRelease
+    /// Tries once to give up a reference in the shared word: the work of `try_release_shared`, which may come next, with
+    /// other duties behind it.
+    #[inline(always)]
+    pub fn release_shared(&self, hand: &mut Hand<T>, row: u32, work: Work) -> SharedRelease
         requires table { IsOf self.now hand.old }
-        requires acts { CanAct hand.old.view }
-        requires duty { (r : Reason) × (work_about row hand.old.view ≡ SharedLoad row r ∷ []) }
+        requires may { MayGoOn work hand.old.view }
+        requires duty { GivesUpNext row (turned_to work hand.old.view row).agenda }
         ensures table { hand.new.table ≡ hand.old.table }
         ensures carried { hand.new.carried ≡ hand.old.carried }
         ensures slots { hand.new.slots ≡ hand.old.slots }
         ensures events { (word : ℕ) × (found : ℕ) × (result ≡ shared_answer word found)
-            × (hand.new.view ≡ released_shared hand.old.view row word found) }
+            × (hand.new.view
+            ≡ ended (shared_dies result) (resumed (turned_to work hand.old.view row) (word ∷ found ∷ []))) }
+        ensures left { (r : Reason) (rest : List Duty)
+            → (turned_to work hand.old.view row).agenda ≡ SharedLoad row r ∷ rest
+            → HasStepped (turned_to work hand.old.view row) (shared_left row r result ++ rest) hand.new.view }
     {
         let words = self.words();
-        let word = words.shared_load(hand, row);
-        let next = released(word);
-        if words.shared_exchange(hand, row, word, next) != word {
-            return SharedRelease::Again;
+        let reason = Reason::Own;
+        // `SharedRead`: count and state together decide the new word.
+        let word = words.go_on(hand, work, Duty::SharedLoad { row, reason });
+        // `Queues`, `Decrements`, `DecrementsToZero`, `ExchangeLost` (PEP 703, Biased Reference Counting: a decrement by
+        // a thread that isn't the owner): a compare-exchange, because a plain store would undo another thread's count
+        // (`lost_exchange_forgotten`). At (0, default) the count keeps the reference (`release_below_zero`).
+        let found = words.step(hand, Duty::SharedExchange { row, reason, word });
+        let release = shared_release(word, found);
+        match release {
+            SharedRelease::Dying => self.chain(hand, row),
+            _ => {}
         }
-        if is_fresh(word) {
-            return SharedRelease::Queued;
-        }
-        if is_dead(next) {
-            words.gate_store(hand, row);
-            return SharedRelease::Dying;
-        }
-        SharedRelease::Kept
+        release
     }
 }

@@ -8,6 +8,7 @@ ghost use Rattle.brc_table.specs.Hands.{IsOf, IsRunning, MayUse, HasNoWork, most
 ghost use Rattle.brc_heap.specs.Calls.{retained, RetainsOwn, Leaves};
 
 use crate::heap::Heap;
+use brc_model::{Duty, Holding};
 use brc_table::Hand;
 use brc_word::{LocalChoice, retain_choice};
 
@@ -52,12 +53,19 @@ impl<T: Drop> Heap<T> {
             × (hand.new.view ≡ retained hand.old.view row word found) }
     {
         let words = self.words();
+        let holding = Holding::AsCaller;
+        // `RetainsImmortal`, `OwnerRetains`, `FullOwnerRetains`, `OtherRetains`: who owns the object decides.
         let word = words.retain_load(hand, row);
         match retain_choice(word, hand.thread(), hand.is_running()) {
             LocalChoice::Skip => {}
-            LocalChoice::Store(next) => words.local_store(hand, row, next),
+            // `LocalRaised` (PEP 703, Biased Reference Counting: the owner counts without atomic operations): a plain
+            // store, because only the running owner writes the word.
+            LocalChoice::Store(_) => {
+                words.step(hand, Duty::RetainStore { row, holding, word });
+            }
+            // `SharedRaised`: an addition, because other threads count there at the same time.
             LocalChoice::Share => {
-                words.shared_add(hand, row);
+                words.step(hand, Duty::RetainAdd { row, holding });
             }
         }
     }

@@ -1,22 +1,22 @@
 -- The theorem in two parts: doing a thread's next duty isn't bad and keeps the invariant (`Kept.duty_kept`); taking up
 -- work keeps the invariant if the work meets its condition (`Kept.kept_sits`).
 --
--- In order: `NotBad` and `KeepsDuty` (a duty), `Replaced`, `Sits`, `SilentMoves` and `SilentSteps` (work that a thread
--- takes up), and `Kept`, which has both parts. `Rearranging` puts a duty aside and takes it back. `WorkAside`,
--- `WorkBegins`, `NextRows`, `BirthsBegin` and `FreeReferences` are the laws of what a running thread does between two
--- duties, `AloneBegins` those of what it does in one go, `LocksBegin` those of locks and of a look at a cell;
--- `FirstOfChain` says what holds of the first object of a thread's dying chain, and `Locks` that the thread still holds
--- the list that it has locked. `Moved`, `OneReference` and
--- `HandedOver` hand a reference over to another thread. None of these knows code. `Callers`, `FirstCounts` and `FirstRanges` show the
--- invariant of a machine in which some threads hold the root, `FirstHands` and `FirstMachine` that the first machines
--- are such. `CodeInvariant` adds the second layer, about accepted code, `StepCases` splits an event by its action,
--- `KindsHold` shows over it that variables keep their kinds `ItemsHold` that borrowed items stay in the locked list and
--- `RoomsHold` that a thread that awaits a birth has room for it, and `CodeEvents` carries both layers through every
--- list of events.
+-- In order: `NotBad` and `KeepsDuty` (a duty), `Replaced`, `Weightless`, `Sits`, `SilentMoves` and `SilentSteps` (work
+-- that a thread takes up), and `Kept`, which has both parts. `Rearranging` puts a duty aside and takes it back.
+-- `WorkAside`, `WorkBegins`, `NextRows`, `BirthsBegin` and `FreeReferences` are the laws of what a running thread does
+-- between two duties, `AloneBegins` those of what it does in one go, `LocksBegin` those of locks and of a look at a
+-- cell; `FirstOfChain` says what holds of the first object of a thread's dying chain, and `Locks` that the thread still
+-- holds the list that it has locked. `Moved`, `OneReference` and `HandedOver` hand a reference over to another thread.
+-- None of these knows code. `Callers`, `FirstCounts` and `FirstRanges` show the invariant of a machine in which some
+-- threads hold the root, `FirstHands` and `FirstMachine` that the first machines are such. `CodeInvariant` adds the
+-- second layer, about accepted code, `StepCases` splits an event by its action, `KindsHold` shows over it that
+-- variables keep their kinds, `ItemsHold` that borrowed items stay in the locked list and `RoomsHold` that a thread
+-- that awaits a birth has room for it, and `CodeEvents` carries both layers through every list of events.
 
 pub mod NotBad
 pub mod KeepsDuty
 pub mod Replaced
+pub mod Weightless
 pub mod Sits
 pub mod SilentMoves
 pub mod SilentSteps

@@ -39,8 +39,10 @@ module _ (memory : Address → ℕ) (layout : Layout) (t : ℕ) (running : Bool)
     -- a file or a socket: its resource comes next
     KindOfResource : (x : ℕ) (h : Holding) (word found : ℕ) → has_resource word ≡ true
         → Goes (BirthKind x h word) found word (BirthSlot x h ∷ []) []
+    -- any other object is owned next
     KindOfOther : (x : ℕ) (h : Holding) (word found : ℕ) → has_resource word ≡ false
         → Goes (BirthKind x h word) found word (BirthLocal x h ∷ []) []
+    -- the resource is put into its slot before the object is born
     SlotFilled : (x : ℕ) (h : Holding) (found : ℕ)
         → Goes (BirthSlot x h) found 1 (BirthLocal x h ∷ []) []
     -- the thread that makes the object owns it, with one local reference
@@ -48,6 +50,7 @@ module _ (memory : Address → ℕ) (layout : Layout) (t : ℕ) (running : Bool)
         → Goes (BirthLocal x h) found (local_word t 1) [] (birth t h x (kind_of_word (memory (KindOf x))))
     -- ---- a look at an object's kind
 
+    -- the kind word never changes, once the object is born
     KindRead : (x found : ℕ)
         → Goes (KindLoad x) found found [] []
     -- ---- locks
@@ -58,10 +61,12 @@ module _ (memory : Address → ℕ) (layout : Layout) (t : ℕ) (running : Bool)
     -- another thread has locked the list: the thread may try again
     LockHeld : (x found : ℕ) → found ≢ free_word
         → Goes (LockGate x) found found [] []
+    -- the gate is free: any thread may lock the list
     Unlocks : (x found : ℕ)
         → Goes (UnlockGate x) found free_word [] []
     -- ---- cells
 
+    -- the list keeps its reference, and the word stays while the thread has the list locked and changes no cell
     CellRead : (x cell found : ℕ)
         → Goes (CellLoad x cell) found found [] []
     -- ---- a cell of a locked list
@@ -75,6 +80,7 @@ module _ (memory : Address → ℕ) (layout : Layout) (t : ℕ) (running : Bool)
     -- the thread has it lent, for a call of the host
     ResourceLent : (x found : ℕ)
         → Goes (LendSlot x) found 0 [] []
+    -- the host's call has ended, and the resource is back in its slot
     ResourceReturned : (x found : ℕ)
         → Goes (ReturnSlot x) found 1 [] []
     -- ---- a new reference
@@ -95,22 +101,28 @@ module _ (memory : Address → ℕ) (layout : Layout) (t : ℕ) (running : Bool)
     OtherRetains : (x : ℕ) (h : Holding) (found : ℕ)
         → is_immortal_word found ≡ false → counts_locally t running found ≡ false
         → Goes (RetainLoad x h) found found (RetainAdd x h ∷ []) []
+    -- the owner counts one reference more, by a plain store
     LocalRaised : (x : ℕ) (h : Holding) (word found : ℕ)
         → Goes (RetainStore x h word) found (word + 1) [] (gain t h x)
+    -- one reference more is added to the shared count, by one atomic step
     SharedRaised : (x : ℕ) (h : Holding) (found : ℕ)
         → Goes (RetainAdd x h) found (found + one_shared) [] (gain t h x)
     -- ---- the start of a release: from here on the reference is in flight
 
+    -- an immortal object isn't counted
     ReleasesImmortal : (x : ℕ) (h : Holding) (found : ℕ) → is_immortal_word found ≡ true
         → Goes (ReleaseLoad x h) found found [] (put_in_flight t h x ++ lose t x)
+    -- the running owner counts in the local word next
     OwnerReleases : (x : ℕ) (h : Holding) (found : ℕ)
         → is_immortal_word found ≡ false → counts_locally t running found ≡ true
         → Goes (ReleaseLoad x h) found found (ReleaseStore x found ∷ []) (put_in_flight t h x)
+    -- any other thread, or an owner that no longer runs, counts in the shared word next
     OtherReleases : (x : ℕ) (h : Holding) (found : ℕ)
         → is_immortal_word found ≡ false → counts_locally t running found ≡ false
         → Goes (ReleaseLoad x h) found found (SharedLoad x Own ∷ []) (put_in_flight t h x)
     -- ---- the owner's release
 
+    -- the owner counts one reference less, and has others left
     LocalLowered : (x word found : ℕ) → local_part word ≢ 1
         → Goes (ReleaseStore x word) found (word - 1) [] (lose t x)
     -- the last local reference: the shared word decides what becomes of the object
@@ -124,11 +136,13 @@ module _ (memory : Address → ℕ) (layout : Layout) (t : ℕ) (running : Bool)
         → Goes (DecideAtZero x) found found (MergeSwap x Own ∷ []) []
     -- ---- another thread's release
 
+    -- count and state together decide what the exchange stores, if the word is still the same
     SharedRead : (x : ℕ) (reason : Reason) (found : ℕ)
         → Goes (SharedLoad x reason) found found (SharedExchange x reason found ∷ []) []
     -- (0, default): the thread hands its reference to the owner's queue, and so asks the owner to merge
     Queues : (x : ℕ) (reason : Reason) (word : ℕ) → word ≡ fresh_word
         → Goes (SharedExchange x reason word) word (word + queued_bits) (SetMark x ∷ []) (given_up t reason x)
+    -- the shared count loses one reference
     Decrements : (x : ℕ) (reason : Reason) (word : ℕ) → word ≢ fresh_word → word - one_shared ≢ dead_word
         → Goes (SharedExchange x reason word) word (word - one_shared) [] (given_up t reason x)
     -- merged, and the last reference of all: this thread deallocates the object
@@ -139,6 +153,7 @@ module _ (memory : Address → ℕ) (layout : Layout) (t : ℕ) (running : Bool)
         → Goes (SharedExchange x reason word) found found (SharedLoad x reason ∷ []) []
     -- ---- the queue of objects to be merged
 
+    -- the object is in its owner's queue: the thread looks next whether the owner still runs
     Marked : (x found : ℕ)
         → Goes (SetMark x) found 1 (Look x ∷ []) []
     -- the owner runs: it will find the mark
@@ -147,13 +162,16 @@ module _ (memory : Address → ℕ) (layout : Layout) (t : ℕ) (running : Bool)
     -- the owner is exiting or has exited: the thread that queued the object takes the mark back
     OwnerExits : (x found : ℕ) → found ≢ 1
         → Goes (Look x) found found (TakeMark x ∷ []) []
+    -- the mark was set: the thread merges the object, and then releases the reference that the queue held
     MarkTakenBack : (x found : ℕ) → found ≡ 1
         → Goes (TakeMark x) found 0 (MergeSwap x Handed ∷ []) []
     -- the owner has taken the mark first
     MarkGone : (x found : ℕ) → found ≢ 1
         → Goes (TakeMark x) found 0 [] []
+    -- a running owner, between two calls, finds the mark set, and merges the object
     MarkClaimed : (x found : ℕ) → found ≡ 1
         → Goes (ClaimMark x) found 0 (MergeSwap x Handed ∷ Settle ∷ []) []
+    -- the mark was clear
     NothingToClaim : (x found : ℕ) → found ≢ 1
         → Goes (ClaimMark x) found 0 (Settle ∷ []) []
     -- ---- a merge: the local count moves into the shared word, and nobody owns the object any more
@@ -161,17 +179,22 @@ module _ (memory : Address → ℕ) (layout : Layout) (t : ℕ) (running : Bool)
     -- the object is merged already: the thread does what it wanted the merge for
     NobodysCount : (x : ℕ) (reason : Reason) (found : ℕ) → found ≡ 0
         → Goes (MergeSwap x reason) found 0 (once_merged x reason) []
+    -- owner and count leave the local word in one step, and the thread carries the count
     LocalTakenOut : (x : ℕ) (reason : Reason) (found : ℕ) → found ≢ 0
         → Goes (MergeSwap x reason) found 0 (MergeLoad x (local_part found) reason ∷ []) []
+    -- the exchange adds the carried count, if the word is still the same
     MergeRead : (x carried : ℕ) (reason : Reason) (found : ℕ)
         → Goes (MergeLoad x carried reason) found found (MergeExchange x carried found reason ∷ []) []
+    -- the shared count has all references from then on, and nobody owns the object
     Merges : (x carried word : ℕ) → merged_word word carried ≢ dead_word
         → Goes (MergeExchange x carried word Own) word (merged_word word carried) [] []
+    -- no reference is left: the owner deallocates the object
     MergesToZero : (x carried word : ℕ) → merged_word word carried ≡ dead_word
         → Goes (MergeExchange x carried word Own) word (merged_word word carried) (Die x ∷ []) []
     -- the count still has the reference that the queue held: the thread releases it next
     MergesForHanded : (x carried word : ℕ)
         → Goes (MergeExchange x carried word Handed) word (merged_word word carried) (SharedLoad x Handed ∷ []) []
+    -- the compare-exchange fails, because another thread has changed the word: the thread retries
     MergeLost : (x carried word : ℕ) (reason : Reason) (found : ℕ) → found ≢ word
         → Goes (MergeExchange x carried word reason) found found (MergeLoad x carried reason ∷ []) []
     -- ---- deallocation
@@ -179,6 +202,7 @@ module _ (memory : Address → ℕ) (layout : Layout) (t : ℕ) (running : Bool)
     -- the dying object becomes the head of the thread's dying chain
     Chained : (x found : ℕ)
         → Goes (Die x) found (dying_word t head) [] []
+    -- the head of the chain is deallocated next, and then the rest of the chain
     ChainRead : (found : ℕ)
         → Goes Settle found found (SettleKind (head - 1) ∷ Settle ∷ []) []
     -- a file or a socket has a resource to close
@@ -191,21 +215,28 @@ module _ (memory : Address → ℕ) (layout : Layout) (t : ℕ) (running : Bool)
     CellEmptied : (x cell cells found : ℕ)
         → Goes (SettleCell x cell cells) found 0 (release_found found ++ cells_from x (cell + 1) cells)
         (take_out t x cell found)
+    -- no other thread finds the resource while the host closes it
     SlotEmptied : (x found : ℕ)
         → Goes (TakeSlot x) found 0 (CloseResource x ∷ []) []
+    -- the host has closed the resource, also if it reports a fault
     ResourceClosed : (x found : ℕ)
         → Goes (CloseResource x) found (found + 1) (SettleEnd x ∷ []) []
+    -- the object is closed, and no duty follows: so it is closed once
     Closes : (x found : ℕ)
         → Goes (SettleEnd x) found closed_word [] (Finalise x ∷ [])
     -- ---- a thread's exit: it announces the exit, and only then scans its marks
 
+    -- whoever sets a mark from then on finds that the owner no longer runs
     SaysLeaving : (first rows found : ℕ)
         → Goes (Leave first rows) found 2 (Scan first rows ∷ Finish ∷ []) []
+    -- the object is merged, the reference that the queue held released, and what dies deallocated, before the next row
     ScanFindsMark : (index rows found : ℕ) → found ≡ 1
         → Goes (Scan index rows) found 0
         (MergeSwap (row_at layout t index) Handed ∷ Settle ∷ Scan (index + 1) (rows - 1) ∷ []) []
+    -- the mark was clear: the thread goes on to its next row
     ScanFindsNone : (index rows found : ℕ) → found ≢ 1
         → Goes (Scan index rows) found 0 (Settle ∷ Scan (index + 1) (rows - 1) ∷ []) []
+    -- the thread takes no further step
     SaysGone : (found : ℕ)
         → Goes Finish found 3 [] []
 

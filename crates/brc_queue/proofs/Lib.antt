@@ -1,4 +1,2 @@
-mod Posting
-mod Posted
 mod Scanning
 mod Exits

@@ -9,10 +9,11 @@ use Rattle.brc_model.specs.Layout.{row_at}
 use Rattle.brc_model.specs.Duties.{ready, claimed}
 use Rattle.brc_table.specs.declared.view.View.{View}
 use Rattle.brc_table.specs.Views.{did, done, claiming}
-use Rattle.brc_free.specs.Works.{Keeps, HasWorked, claimed_left}
+use Rattle.brc_heap.specs.Steps.{Keeps}
+use Rattle.brc_free.specs.Works.{HasWorked, claimed_left}
 use Rattle.brc_queue.specs.Scans.{scan_left}
-use Rattle.brc_free.proofs.FirstDuties.{merge_swap_first}
-use Rattle.brc_free.proofs.Working.{keeps_beside, keeps_then, did_keeps, worked_first, worked_on, worked_then}
+use Rattle.brc_heap.proofs.Stepping.{plain_first, keeps_then, did_keeps}
+use Rattle.brc_free.proofs.Working.{keeps_beside, worked_first, worked_on, worked_then}
 
 -- ---- a claim
 
@@ -100,7 +101,7 @@ pub scanned_settled : (v u w : View) (x : ℕ) (cs : List HostCall) (rest : List
 scanned_settled v u w x cs rest at settled =
     worked_then v u w [] cs (MergeSwap x Handed ∷ Settle ∷ rest) rest at
     (subst (λ (ds : List Duty). HasWorked u cs (claimed_left ds) w)
-    (at.agenda ∙ merge_swap_first u.head x Handed (Settle ∷ rest)) settled)
+    (at.agenda ∙ plain_first u.head (MergeSwap x Handed) (Settle ∷ rest) refl) settled)
 
 -- ---- all rows
 

@@ -5,7 +5,7 @@ ghost use Rattle.brc_host.specs.HostCounts.{raised};
 ghost use Rattle.brc_host.specs.HostCalls.{HostCall, HasAnswered, close_faults};
 ghost use Rattle.brc_table.specs.Hands.{IsOf};
 ghost use Rattle.brc_table.specs.Calls.{IsFree};
-ghost use Rattle.brc_free.specs.Works.{Keeps};
+ghost use Rattle.brc_heap.specs.Steps.{Keeps};
 ghost use Rattle.brc_queue.specs.Scans.{Claims, LooksThrough};
 
 use crate::queue::{QUEUED, Queue};

@@ -1,15 +1,20 @@
 //! Putting an object into its owner's queue, and looking after it.
 
-ghost use Rattle.std.specs.Prelude.{◌≡◌, [], ◌∷◌, ℕ};
+ghost use Rattle.std.specs.Prelude.{◌≡◌, List, [], ◌∷◌, ◌++◌, ℕ};
+ghost use Rattle.brc_model.specs.declared.duty.Duty.{Duty};
 ghost use Rattle.brc_model.specs.declared.duty.Duty.TheVariants.{SetMark, Look};
-ghost use Rattle.brc_table.specs.Views.{work_about};
+ghost use Rattle.brc_table.specs.Turns.{MayGoOn, turned_to};
+ghost use Rattle.brc_table.specs.Views.{done, work_about};
 ghost use Rattle.brc_table.specs.Hands.{IsOf};
 ghost use Rattle.brc_table.specs.Calls.{CanAct};
 ghost use Rattle.brc_heap.specs.Calls.{Leaves};
-ghost use Rattle.brc_heap.specs.Marks.{look_answer};
-ghost use Rattle.brc_queue.specs.Calls.{marked, looked, look_left};
+ghost use Rattle.brc_heap.specs.Marks.{look_answer, look_left, looked_after};
+ghost use Rattle.brc_heap.specs.Steps.{HasStepped};
+ghost use Rattle.brc_heap.specs.Tries.{MarksNext, LooksNext};
+ghost use Rattle.brc_queue.specs.Calls.{marked, looked};
 
-use brc_heap::{Hand, Heap, Looked};
+use brc_heap::{Hand, Heap, Looked, Work};
+use brc_model::Duty;
 use std::marker::Model;
 
 /// What the thread word of a running thread says.
@@ -53,20 +58,27 @@ impl<'h, T: Drop> Queue<'h, T> {
         ensures left { Leaves row (Look row ∷ []) hand.old.view hand.new.view }
         ensures references { hand.new.view.references ≡ hand.old.view.references }
     {
-        self.mark_steps(hand, row);
+        self.set_mark(hand, row, Work::Aside);
     }
 
-    /// Makes the step of `mark`.
-    fn mark_steps(&self, hand: &mut Hand<T>, row: u32)
+    /// Sets the mark of an object: the work of `mark`, which may come next, with other duties behind it.
+    #[inline(always)]
+    pub(crate) fn set_mark(&self, hand: &mut Hand<T>, row: u32, work: Work)
         requires table { IsOf self.now hand.old }
-        requires acts { CanAct hand.old.view }
-        requires duty { work_about row hand.old.view ≡ SetMark row ∷ [] }
+        requires may { MayGoOn work hand.old.view }
+        requires duty { MarksNext row (turned_to work hand.old.view row).agenda }
         ensures table { hand.new.table ≡ hand.old.table }
         ensures carried { hand.new.carried ≡ hand.old.carried }
         ensures slots { hand.new.slots ≡ hand.old.slots }
-        ensures events { hand.new.view ≡ marked hand.old.view row }
+        ensures events { hand.new.view ≡ done (turned_to work hand.old.view row) 0 }
+        ensures left { (rest : List Duty) → (turned_to work hand.old.view row).agenda ≡ SetMark row ∷ rest
+            → HasStepped (turned_to work hand.old.view row) (Look row ∷ rest) hand.new.view }
     {
-        self.heap.words().mark_store(hand, row);
+        // `Marked` (PEP 703, Biased Reference Counting: the object is added to its owner's queue): the mark is set before
+        // the look, because an owner that leaves in between may have scanned the mark by then (`post_without_look`).
+        self.heap
+            .words()
+            .go_on(hand, work, Duty::SetMark { row });
     }
 
     /// Looks after an object whose mark the hand has set. An owner that runs will find the mark. If the owner is
@@ -84,30 +96,53 @@ impl<'h, T: Drop> Queue<'h, T> {
         ensures left { Leaves row (look_left row result) hand.old.view hand.new.view }
         ensures references { hand.new.view.references ≡ hand.old.view.references }
     {
-        self.look_steps(hand, row)
+        self.look_after(hand, row, Work::Aside)
     }
 
-    /// Makes the steps of `look`.
-    fn look_steps(&self, hand: &mut Hand<T>, row: u32) -> Looked
+    /// Looks after an object: the work of `look`, which may come next, with other duties behind it.
+    #[inline(always)]
+    pub(crate) fn look_after(&self, hand: &mut Hand<T>, row: u32, work: Work) -> Looked
         requires table { IsOf self.now hand.old }
-        requires acts { CanAct hand.old.view }
-        requires duty { work_about row hand.old.view ≡ Look row ∷ [] }
+        requires may { MayGoOn work hand.old.view }
+        requires duty { LooksNext row (turned_to work hand.old.view row).agenda }
         ensures table { hand.new.table ≡ hand.old.table }
         ensures carried { hand.new.carried ≡ hand.old.carried }
         ensures slots { hand.new.slots ≡ hand.old.slots }
         ensures events { (said : ℕ) × (found : ℕ) × (result ≡ look_answer said found)
-            × (hand.new.view ≡ looked hand.old.view row said found) }
+            × (hand.new.view ≡ looked_after (turned_to work hand.old.view row) said found) }
+        ensures left { (rest : List Duty) → (turned_to work hand.old.view row).agenda ≡ Look row ∷ rest
+            → HasStepped (turned_to work hand.old.view row) (look_left row result ++ rest) hand.new.view }
     {
-        let words = self.heap.words();
-        let said = words.thread_load(hand, row);
-        if said == RUNNING {
+        if self.owner_says(hand, row, work) == RUNNING {
             return Looked::Left;
         }
-        let found = words.mark_take(hand, row);
+        // `MarkTakenBack`, `MarkGone`: a swap, because the owner's exit may take the mark at the same time, and only one
+        // may merge the object (`claim_of_a_taken_mark`).
+        let found = self.heap.words().step(hand, Duty::TakeMark { row });
         if found == QUEUED {
             Looked::Claimed
         } else {
             Looked::Left
+        }
+    }
+
+    /// Returns what the word of the thread of the object's block says.
+    #[inline(always)]
+    fn owner_says(&self, hand: &mut Hand<T>, row: u32, work: Work) -> u64
+        requires table { IsOf self.now hand.old }
+        requires may { MayGoOn work hand.old.view }
+        requires duty { LooksNext row (turned_to work hand.old.view row).agenda }
+        ensures table { hand.new.table ≡ hand.old.table }
+        ensures carried { hand.new.carried ≡ hand.old.carried }
+        ensures slots { hand.new.slots ≡ hand.old.slots }
+        ensures view { hand.new.view ≡ done (turned_to work hand.old.view row) result }
+    {
+        let words = self.heap.words();
+        // `OwnerRuns`, `OwnerExits` (PEP 703, Biased Reference Counting: an exiting thread merges the objects in its
+        // queue): an owner says that it leaves, and only then scans its marks.
+        match work {
+            Work::Next => words.thread_load_next(hand, row),
+            Work::Aside => words.thread_load(hand, row),
         }
     }
 

@@ -1,22 +1,26 @@
 -- The duty that comes next: where its word is, and what its step leaves of the thread.
-use Rattle.std.proofs.Common.{◌≡◌, ℕ, zero, suc, ◌-◌, ◌<◌, ◌^◌, ◌⊎◌, Bool, true, List, [], ◌∷◌, inl, inr, refl, sym, ap, ◌∙◌, subst, arith}
-use Rattle.std.proofs.lemmas.Bool.{eq-eqb}
+use Rattle.std.proofs.Common.{◌≡◌, ℕ, zero, suc, ◌+◌, ◌-◌, ◌<◌, ◌^◌, ◌⊎◌, Bool, true, List, [], ◌∷◌, inl, inr, refl, sym, ap, ◌∙◌, subst, arith, cond}
+use Rattle.std.proofs.lemmas.Bool.{eq-eqb, ne_eqb}
 use Rattle.brc_model.specs.declared.duty.Duty.{Duty}
 use Rattle.brc_model.specs.declared.duty.Duty.TheVariants.{Look, Die, Settle, SettleCell, TakeSlot, CloseResource, Leave, Scan, Finish, BirthSlot, LockGate, CellLoad, CellSwap, LendSlot, ReturnSlot}
 use Rattle.brc_model.specs.declared.layout.Layout.{Layout}
 use Rattle.brc_model.specs.Counting.{IsPlainLayout}
 use Rattle.brc_model.specs.Duties.{address_of, new_head}
 use Rattle.brc_model.specs.Layout.{block_of, block_size, row_count}
-use Rattle.brc_model.specs.Within.{Suits}
+use Rattle.brc_model.specs.Within.{IsThere, Suits}
 use Rattle.brc_model.specs.declared.address.Address.{Address}
+use Rattle.brc_model.specs.declared.address.Address.TheVariants.{Cell, Slot, Resource, ThreadWord}
 use Rattle.brc_model.specs.Machine.{status_by, used_by}
 use Rattle.brc_model.specs.OpenWork.{is_about}
 use Rattle.brc_model.specs.SlotLaws.{SlotUse, use_of}
 use Rattle.brc_model.specs.Stores.{Overwrites}
-use Rattle.brc_table.specs.declared.access.Access.{Access}
-use Rattle.brc_table.specs.declared.access.Access.TheVariants.{Store}
+use Rattle.brc_effect.specs.declared.access.Access.{Access}
+use Rattle.brc_effect.specs.declared.access.Access.TheVariants.{Store}
 use Rattle.brc_table.specs.declared.view.View.{View}
-use Rattle.brc_table.specs.Accesses.{HasAccess, HasCell, HasChain, HasNextRow, HasUsedRow, IfStored, IsNext, row_of}
+use Rattle.brc_effect.specs.Accesses.{IfStored}
+use Rattle.brc_effect.specs.Effects.{IsIndexed}
+use Rattle.brc_effect.proofs.Indices.{indexed}
+use Rattle.brc_table.specs.Accesses.{HasAccess, HasCell, HasChain, HasNextRow, HasUsedRow, IsNext, row_of}
 use Rattle.brc_table.specs.DutySteps.{OverwritesFirst, said}
 use Rattle.brc_table.specs.Rule.{reading}
 use Rattle.brc_table.specs.Places.{HasWord, IsObjectWord, IsTableWord}
@@ -186,3 +190,31 @@ pub work_row_there : (v : View) (x : ℕ) (d : Duty) → RowsAreThere v → IsNe
     → x < row_count v.layout
 work_row_there v x d rows next =
     let c = coming d (work_about x v) next in work_there v x c.first c.rest rows c.is
+
+-- A word of an object says what it is, and so does one of a thread that is started.
+says_itself : (a : Address) (before : ℕ) → ((t : ℕ) → a ≡ ThreadWord t → 0 < before) → reading a before ≡ before
+says_itself (ThreadWord t) before started =
+    ap (λ (b : Bool). cond b 1 before) (ne_eqb before 0 (λ same. omega (arith, started t refl, same)))
+says_itself _ before started = refl
+
+-- A store knows what its word says.
+pub stored_says : (layout : Layout) (t head : ℕ) (d : Duty) (access : Access)
+    → ((l : Layout) (at : ℕ) → IfStored access (λ b. address_of l t head d ≡ ThreadWord at → 0 < b))
+    → IfStored access (λ b. reading (address_of layout t head d) b ≡ b)
+stored_says layout t head d (Store word b) started =
+    says_itself (address_of layout t head d) b (λ at is. started layout at is)
+stored_says layout t head d _ started = tt
+
+-- The address of a word of the table is there in the model.
+in_table : (layout : Layout) (a : Address) → HasWord layout a → IsThere (row_count layout) (1 + layout.workers) a
+in_table layout (Slot x) there = absurd there
+in_table layout (Resource x) there = absurd there
+in_table layout (Cell x i) there = there
+in_table layout _ there = there
+
+-- The index that the duty names is small, if its word is there.
+pub index_small : (layout : Layout) (t head : ℕ) (d : Duty) → IsPlainLayout layout
+    → HasWord layout (address_of layout t head d) → IsIndexed d
+index_small layout t head d plain there =
+    indexed layout t head (row_count layout) (1 + layout.workers) d (omega (arith, rows_few layout plain))
+    (in_table layout (address_of layout t head d) there)

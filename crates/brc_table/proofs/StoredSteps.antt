@@ -1,11 +1,11 @@
 -- A step that is a store is allowed as any step is: the hand knows the value that it overwrites.
 use Rattle.std.proofs.Common.{◌≡◌, ℕ, Option, subst, ◌∙◌}
 use Rattle.atomic_table.specs.Table.{State, Me, Allows, carried_after}
-use Rattle.brc_table.specs.declared.access.Access.{Access}
-use Rattle.brc_table.specs.declared.access.Access.TheVariants.{Store}
+use Rattle.brc_effect.specs.declared.access.Access.{Access}
+use Rattle.brc_effect.specs.declared.access.Access.TheVariants.{Store}
 use Rattle.brc_table.specs.declared.view.View.{View}
 use Rattle.brc_table.specs.Plays.{overwritten}
-use Rattle.brc_table.specs.Accesses.{IfStored, left_by}
+use Rattle.brc_effect.specs.Accesses.{IfStored, left_by}
 use Rattle.brc_table.specs.DutySteps.{OverwritesFirst, Steps, StepsBy, StepsStored}
 
 pub stored_allowed : {T : Type 0} (holds : State (Option T) View → Type 0) (slots id index : ℕ)

@@ -1,28 +1,10 @@
--- The one operation on a word by which each duty is done.
-use Rattle.std.specs.Prelude.{◌≡◌, ℕ, ◌+◌, ◌<◌, ◌%◌, ◌^◌, ◌==◌, List, [], ◌∷◌}
-use prog.Atomic.{either}
+-- The duties that the table's one step call does, and what comes next.
+use Rattle.std.specs.Prelude.{◌≡◌, ℕ, ◌+◌, ◌<◌, ◌^◌, List, [], ◌∷◌}
 use Rattle.brc_model.specs.declared.duty.Duty.{Duty}
 use Rattle.brc_model.specs.declared.duty.Duty.TheVariants.{RetainLoad, RetainStore, RetainAdd, ReleaseLoad, ReleaseStore, DecideAtZero, SharedLoad, SharedExchange, SetMark, Look, TakeMark, MergeSwap, MergeLoad, MergeExchange, Die, Settle, SettleKind, SettleCell, TakeSlot, CloseResource, SettleEnd, Leave, Scan, ClaimMark, BirthKind, BirthSlot, BirthLocal, KindLoad, LockGate, UnlockGate, CellLoad, CellSwap, LendSlot, ReturnSlot}
 use Rattle.brc_model.specs.declared.duty.Holding.TheVariants.{AsCaller}
 use Rattle.brc_model.specs.declared.duty.Reason.TheVariants.{Own}
 use Rattle.brc_model.specs.Limits.{cell_limit}
-use Rattle.brc_table.specs.declared.access.Access.{Access}
-use Rattle.brc_table.specs.declared.access.Access.TheVariants.{Load, Store, Add, Swap, Exchange}
-
--- ---- operations
-
--- the value that the operation leaves of the one that it finds
-abbrev pub left_by : Access → ℕ → ℕ
-left_by Load found = found
-left_by (Store word before) found = word
-left_by (Add more) found = (found + more) % 2 ^ 64
-left_by (Swap word) found = word
-left_by (Exchange old new) found = either (found == old) new found
-
--- If the operation is a store, this holds of the value that it overwrites.
-abbrev pub IfStored : Access → (ℕ → Type 0) → Type 0
-IfStored (Store word before) P = P before
-IfStored _ P = Unit {0}
 
 -- ---- duties
 

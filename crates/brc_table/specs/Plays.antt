@@ -10,6 +10,7 @@ use Rattle.brc_model.specs.Layout.{none_row, row_count}
 use Rattle.brc_model.specs.Machine.{is_running}
 use Rattle.brc_model.specs.Within.{Suits, FindsOwner}
 use Rattle.brc_word.specs.Words.{half, free_word, locked_word, merged_word, dead_word}
+use Rattle.brc_effect.specs.Accesses.{known_before}
 use Rattle.brc_table.specs.declared.view.View.{View}
 use Rattle.brc_table.specs.Seen.{has_seen_kind, cell_seen}
 use Rattle.brc_table.specs.Hands.{MayChange}
@@ -39,13 +40,8 @@ FindsKnown v _ found = Unit {0}
 
 -- the value that the thread's first duty overwrites, if it is a store
 abbrev pub overwritten_by : ℕ → List Duty → ℕ
-overwritten_by t (RetainStore x h w ∷ rest) = w
-overwritten_by t (ReleaseStore x w ∷ rest) = w
-overwritten_by t (Die x ∷ rest) = free_word
-overwritten_by t (Leave i n ∷ rest) = status_word Running
-overwritten_by t (Finish ∷ rest) = status_word Leaving
-overwritten_by t (UnlockGate x ∷ rest) = locked_word t
-overwritten_by t _ = 0
+overwritten_by t [] = 0
+overwritten_by t (d ∷ rest) = known_before t d
 
 -- the same of a hand
 abbrev pub overwritten : View → ℕ

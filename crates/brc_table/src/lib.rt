@@ -2,7 +2,7 @@
 //! which threads change them, one atomic step at a time.
 #![tactic(auto)]
 
-mod access;
+mod after;
 mod births;
 mod carried;
 mod cells;

@@ -1,8 +1,9 @@
 //! Where each word of the table is.
 
 ghost use Rattle.std.specs.Prelude.{◌≡◌, ◌<◌};
-ghost use Rattle.brc_model.specs.Limits.{cell_limit};
-ghost use Rattle.brc_table.specs.Places.{in_tile, cell_place};
+ghost use Rattle.brc_table.specs.Places.{in_tile, cell_place, place};
+
+use brc_model::Address;
 
 /// The words of a cache line of 64 bytes.
 pub(crate) const LINE: usize = 8;
@@ -43,9 +44,25 @@ pub(crate) fn in_line(line: usize, row: u32) -> usize
 
 /// Returns the place of a cell. The cells of a row are a cache line.
 pub(crate) fn in_cell(row: u32, cell: u32) -> usize
-    requires { cell < cell_limit }
     ensures { result ≡ cell_place row cell }
 {
     let row = row as usize;
     FRONT + TILE * (row / LINE) + LINE * (CELLS + row % LINE) + cell as usize
+}
+
+/// Returns the place of the word at the address. A slot and a resource have no word.
+#[inline(always)]
+pub(crate) fn place_at(address: Address) -> usize
+    ensures { result ≡ place address }
+{
+    match address {
+        Address::Local { row } => in_line(LOCAL, row),
+        Address::Shared { row } => in_line(SHARED, row),
+        Address::Gate { row } => in_line(GATE, row),
+        Address::KindOf { row } => in_line(KIND, row),
+        Address::Mark { row } => in_line(MARK, row),
+        Address::Cell { row, cell } => in_cell(row, cell),
+        Address::ThreadWord { thread } => thread as usize,
+        Address::Slot { .. } | Address::Resource { .. } => 0,
+    }
 }

@@ -1,4 +1,5 @@
-//! One step of a hand, of any duty that has an operation (`access`). The duty has to come next in the hand's view.
+//! One step of a hand, of any duty whose word is in the table. What the duty does to its word is said by
+//! `brc_effect::access_of`. The duty has to come next in the hand's view.
 
 ghost use Rattle.std.specs.Prelude.{◌≡◌, ◌≢◌, ◌<◌, ℕ, Option, [], ◌∷◌};
 ghost use Rattle.atomic_table.specs.Table.{State, Allows};
@@ -14,19 +15,22 @@ ghost use Rattle.brc_table.specs.Plays.{SuitsFirst, FirstFindsOwner, FindsKnown,
 ghost use Rattle.brc_table.specs.Uses.{first_due, held_after};
 ghost use Rattle.brc_table.specs.Turns.{MayGoOn, turned_to};
 ghost use Rattle.brc_table.specs.DutySteps.{DueSlot, OverwritesFirst, StepsBy, said};
-ghost use Rattle.brc_table.specs.Accesses.{HasAccess, HasCell, HasChain, HasUsedRow, IfStored, IsNext, left_by, row_of};
+ghost use Rattle.brc_effect.specs.Accesses.{IfStored, left_by};
+ghost use Rattle.brc_table.specs.Accesses.{HasAccess, HasCell, HasChain, HasUsedRow, IsNext, row_of};
 ghost use Rattle.brc_table.specs.Begins.{Becomes, KeepsThread};
 ghost use Rattle.brc_table.specs.Hands.{IsOf};
 ghost use Rattle.brc_table.specs.Calls.{CanAct};
 
-use crate::access::{Access, access_of, head_after, place_of, runs_after, said_by, used_after};
+use crate::after::{head_after, runs_after, said_by, used_after};
 use crate::hand::Hand;
 use crate::model_laws::model_laws;
+use crate::place::place_at;
 use crate::rule::{Begins, Stepped, SteppedStored};
 use crate::view::View;
 use crate::words::Words;
 use crate::work::Work;
 use atomic_table::Seat;
+use brc_effect::{Access, access_of, address_of};
 use brc_model::{Duty, work_is_put_aside, work_is_taken_back};
 use std::marker::Brand;
 
@@ -147,7 +151,8 @@ impl<T: Drop> Words<T> {
         self.layout_is_plain();
         self.words_are_there();
         hand.rows_are_there();
-        let index = place_of(*duty, hand.thread, hand.head, self.layout);
+        let address = address_of(self.layout, hand.thread, hand.head, *duty);
+        let index = place_at(address);
         let access = access_of(*duty, hand.thread, hand.head);
         let word = self.operate::<B>(&mut hand.seat, index, access);
         let found = said_by(*duty, word);

@@ -8,16 +8,16 @@ ghost use Rattle.brc_word.specs.Header.{IsCount, IsSharedWord, total, at_zero, a
 ghost use Rattle.brc_word.specs.Words.{biased_part, phase_part, bias, fresh_word, dead_word, released_word};
 ghost use Rattle.brc_word.specs.Words.{merged_word};
 
-use crate::shared::{merge_word, pack, unpack};
-
 /// A count of one in the word: the state has the two bits below.
 const ONE_COUNT: u64 = 4;
 /// The state queued, in the two bits.
 const QUEUED: u64 = 2;
+/// The state merged, in the two bits.
+const MERGED: u64 = 3;
 /// The word of count 0 and state default.
 const FRESH: u64 = 1 << 42;
 /// The word of count 0 and state merged.
-const DEAD: u64 = FRESH + 3;
+const DEAD: u64 = FRESH + MERGED;
 
 /// Returns the shared word after a shared retain: an atomic add, which keeps the state (PEP 703, Biased Reference
 /// Counting).
@@ -32,36 +32,40 @@ pub fn shared_with_one_more(word: u64) -> u64
 
 /// Returns the shared word after a release by a thread that isn't the running owner: at count 0 and state default the
 /// object is queued for its owner to merge, and otherwise one is subtracted (PEP 703, Biased Reference Counting).
+///
+/// It is computed before the exchange that stores it, when nothing is known of the word: at the least count the
+/// subtraction wraps.
 pub fn released(word: u64) -> u64
-    requires fits { biased_part word < 2 * bias }
-    requires used { phase_part word ≢ 1 }
-    requires counted { 1 ≤ biased_part word }
-    ensures word { result ≡ released_word word }
+    ensures word { 1 ≤ biased_part word → biased_part word < 2 * bias → result ≡ released_word word }
     ensures queued { IsSharedWord word at_zero
         → IsSharedWord result (after_choice SharedChoice.Queue at_zero) }
     ensures less { (shared : Shared) → IsCount shared.count → IsSharedWord word shared → shared ≢ at_zero
+        → 1 ≤ biased_part word
         → IsSharedWord result (after_choice SharedChoice.Subtract shared) }
 {
     // An exchange waits for this word, so it is computed from the word alone, without a jump on its state.
     if is_fresh(word) {
-        word + QUEUED
+        word.wrapping_add(QUEUED)
     } else {
-        word - ONE_COUNT
+        word.wrapping_sub(ONE_COUNT)
     }
 }
 
 /// Returns the shared word after a merge, which adds the local count `carried` and sets the state to merged (PEP 703,
 /// Biased Reference Counting).
+///
+/// It is computed before the exchange that stores it, when nothing is known of the word: past the greatest count the
+/// sum wraps.
 pub fn merged(word: u64, carried: u32) -> u64
-    requires fits { biased_part word < 2 * bias }
-    requires used { phase_part word ≢ 1 }
-    requires total { biased_part word + carried < 2 * bias }
-    ensures word { result ≡ merged_word word carried }
+    ensures word { biased_part word + carried < 2 * bias → result ≡ merged_word word carried }
     ensures header { (shared : Shared) → IsCount shared.count → IsSharedWord word shared
+        → biased_part word + carried < 2 * bias
         → IsSharedWord result (record { count = total carried shared.count; phase = Phase.Merged }) }
 {
-    let shared = unpack(word).unwrap();
-    pack(merge_word(shared, carried))
+    (word / ONE_COUNT)
+        .wrapping_add(u64::from(carried))
+        .wrapping_mul(ONE_COUNT)
+        .wrapping_add(MERGED)
 }
 
 /// Returns whether the shared word is that of a new object: count 0 and state default.

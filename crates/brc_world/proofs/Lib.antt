@@ -1,7 +1,6 @@
 pub mod Stopping
 pub mod Calling
 pub mod Storing
-pub mod Indices
 pub mod Dispatching
 pub mod Acting
 pub mod Peeking

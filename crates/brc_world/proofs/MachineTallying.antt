@@ -24,7 +24,7 @@ use Rattle.brc_world.specs.Tallies.{used_of, is_born, is_closed_row, rows_born, 
 use Rattle.brc_world.specs.Tallies.{left_in, tally_of}
 use Rattle.brc_world.specs.MachineTallies.{IsMachineOf, is_left, objects_left, left_object, machine_tally}
 use Rattle.brc_world.proofs.Tallying.{parts}
-use Rattle.brc_world.proofs.Indices.{block_there, counted_above}
+use Rattle.brc_effect.proofs.Indices.{block_there, counted_above}
 use Rattle.brc_model.specs.Layout.{row_count, block_of, index_of, is_immortal_row}
 
 -- ---- tests

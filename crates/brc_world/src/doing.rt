@@ -15,7 +15,6 @@ ghost use Rattle.brc_world.specs.Actors.{actor_of, context_in, found_by, actor_d
 ghost use Rattle.brc_check.specs.Tables.{states_of};
 ghost use Rattle.brc_world.specs.Starts.{let_in, answered, did_of, CanAnswer};
 
-use crate::address::address_of;
 use crate::agenda::{pass_over, push};
 use crate::did::Did;
 use crate::dispatch::{Start, first_duty};
@@ -26,7 +25,7 @@ use crate::no_memory::NoMemory;
 use crate::question::answer;
 use crate::thread::{Mode, ROOM, Thread, owned_rows};
 use brc_check::Checked;
-use brc_effect::Doer;
+use brc_effect::{Doer, access_of, address_of};
 use brc_effect::rows::{block_of, index_of};
 use brc_effect::states::FREE;
 use brc_lang::Function;
@@ -64,13 +63,15 @@ pub fn do_duty(
 {
     let all = memory.rows() as u32;
     let address = address_of(layout, number, thread.head, *duty);
+    let access = access_of(*duty, number, thread.head);
     let found = memory.load(address);
+    let left = access.leaves(found);
     let by = doer(layout, thread, number, all);
     let effect = by.effect(*duty, found);
     thread.change(effect.change);
     push(&mut thread.agenda, effect.next);
     thread.head = effect.head;
-    memory.store(address, effect.word);
+    memory.store(address, left);
     pass_over(&mut thread.agenda, effect.head);
     found
 }

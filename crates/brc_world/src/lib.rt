@@ -2,7 +2,6 @@
 //! one word at most.
 #![tactic(auto)]
 
-mod address;
 mod agenda;
 mod did;
 mod dispatch;

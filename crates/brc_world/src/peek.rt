@@ -11,9 +11,8 @@ ghost use Rattle.brc_world.specs.Sights.{is_leave, is_scan, leaves_next, exit_pa
 ghost use Rattle.brc_world.specs.Storage.{word_in};
 ghost use Rattle.brc_check.specs.Tables.{states_of};
 
-use crate::address::address_of;
 use crate::dispatch::{Start, first_duty};
-use crate::doing::{doer, may_claim, stops};
+use crate::doing::{may_claim, stops};
 use crate::event::{Event, ExitPart, Part, Sight};
 use crate::memory::Memory;
 use crate::no_memory::NoMemory;
@@ -22,6 +21,7 @@ use crate::tally::kind_numbered;
 use crate::thread::{Mode, Thread};
 use crate::world::exit_of;
 use brc_check::Checked;
+use brc_effect::{access_of, address_of};
 use brc_lang::{Function, Kind};
 use brc_model::{Address, Choice, Duty, Layout, Status};
 use brc_word::kind_number;
@@ -147,16 +147,14 @@ fn duty_event(memory: &Memory, layout: Layout, number: u8, thread: &Thread, duty
         (actor_of thread.now) duty.now }
     ensures { result ≡ duty_event layout number (word_in memory.now) (actor_of thread.now) duty.now }
 {
-    let all = memory.rows() as u32;
     let address = address_of(layout, number, thread.head, *duty);
+    let access = access_of(*duty, number, thread.head);
     let found = memory.load(address);
-    let by = doer(layout, thread, number, all);
-    let effect = by.effect(*duty, found);
     Event::Does {
         duty: *duty,
         address,
         found,
-        left: effect.word,
+        left: access.leaves(found),
     }
 }
 

@@ -7,9 +7,8 @@ ghost use Rattle.brc_model.specs.Limits.{worker_limit};
 ghost use Rattle.brc_effect.specs.Effects.{IsEffect};
 
 use super::{Change, Doer, Effect, Next};
-use crate::states::{FILE, FULL, SOCK};
+use crate::kinds::has_resource;
 use brc_model::{Duty, Holding};
-use brc_word::{kind_number, local_word};
 
 impl Doer {
     /// Stores the kind word, which says what the object is (`birth_kind_skipped`): the first step of a birth. A file or
@@ -19,11 +18,10 @@ impl Doer {
     pub(super) fn birth_kind(self, row: u32, holding: Holding, word: u64) -> Effect
         ensures { (found : ℕ) → IsEffect self (duties.BirthKind row holding word) found result }
     {
-        let kind = kind_number(word);
-        if kind == FILE || kind == SOCK {
-            self.leaves(word, Next::One(Duty::BirthSlot { row, holding }))
+        if has_resource(word) {
+            self.then(Next::One(Duty::BirthSlot { row, holding }))
         } else {
-            self.leaves(word, Next::One(Duty::BirthLocal { row, holding }))
+            self.then(Next::One(Duty::BirthLocal { row, holding }))
         }
     }
 
@@ -32,7 +30,7 @@ impl Doer {
     pub(super) fn birth_slot(self, row: u32, holding: Holding) -> Effect
         ensures { (found : ℕ) → IsEffect self (duties.BirthSlot row holding) found result }
     {
-        self.leaves(FULL, Next::One(Duty::BirthLocal { row, holding }))
+        self.then(Next::One(Duty::BirthLocal { row, holding }))
     }
 
     /// Stores the local word, and so ends the birth: the thread owns the object and counts its own reference. (PEP 703,
@@ -40,14 +38,13 @@ impl Doer {
     /// thread's next birth takes another (`birth_reuses_a_row`). Rule `Born`.
     #[inline(always)]
     pub(super) fn birth_local(self) -> Effect
-        requires known { self.number ≤ worker_limit }
         requires room { self.used + 1 < 2 ^ 32 }
         ensures { (row : ℕ) (holding : Holding) (found : ℕ)
             → IsEffect self (duties.BirthLocal row holding) found result }
     {
         Effect {
             change: Change::Uses(self.used + 1),
-            ..self.leaves(local_word(Some(self.number), 1), Next::Nothing)
+            ..self.then(Next::Nothing)
         }
     }
 }

@@ -7,23 +7,21 @@ ghost use Rattle.brc_model.specs.Limits.{worker_limit, cell_limit};
 ghost use Rattle.brc_effect.specs.Effects.{IsEffect};
 
 use super::{Doer, Effect, Next};
-use crate::states::{FILE, LIST, SOCK};
+use crate::kinds::{cells_of, has_resource};
 use brc_model::Duty;
-use brc_word::{closed, dying, kind_argument, kind_number, next_of_dying};
+use brc_word::next_of_dying;
 
 impl Doer {
-    /// Stores in the gate which thread closes the object, once no reference is left. The word links the object into
-    /// that thread's dying chain, in front of the old head (`die_without_chain`). So the deallocation of nested objects
-    /// needs no recursion. Rule `Chained`.
+    /// The object is the new head of the thread's dying chain: its gate links it to the old one. So the deallocation of
+    /// nested objects needs no recursion. Rule `Chained`.
     #[inline(always)]
     pub(super) fn die(self, row: u32) -> Effect
-        requires known { self.number ≤ worker_limit }
-        requires numbered { row < self.rows }
+        requires { row < self.rows }
         ensures { (found : ℕ) → IsEffect self (duties.Die row) found result }
     {
         Effect {
             head: row + 1,
-            ..self.leaves(dying(self.number, self.head), Next::Nothing)
+            ..self.then(Next::Nothing)
         }
     }
 
@@ -36,7 +34,7 @@ impl Doer {
         let row = self.head.saturating_sub(1);
         Effect {
             head: next_of_dying(found),
-            ..self.leaves(found, Next::Two(Duty::SettleKind { row }, Duty::Settle))
+            ..self.then(Next::Two(Duty::SettleKind { row }, Duty::Settle))
         }
     }
 
@@ -46,13 +44,10 @@ impl Doer {
     pub(super) fn settle_kind(self, row: u32, found: u64) -> Effect
         ensures { IsEffect self (duties.SettleKind row) found result }
     {
-        let kind = kind_number(found);
-        if kind == FILE || kind == SOCK {
-            self.leaves(found, Next::One(Duty::TakeSlot { row }))
-        } else if kind == LIST {
-            self.leaves(found, Next::One(cell_or_end(row, 0, kind_argument(found))))
+        if has_resource(found) {
+            self.then(Next::One(Duty::TakeSlot { row }))
         } else {
-            self.leaves(found, Next::One(Duty::SettleEnd { row }))
+            self.then(Next::One(cell_or_end(row, 0, cells_of(found))))
         }
     }
 
@@ -66,10 +61,10 @@ impl Doer {
     {
         let then = cell_or_end(row, cell + 1, cells);
         if found == 0 {
-            return self.leaves(0, Next::One(then));
+            return self.then(Next::One(then));
         }
         let row = (found - 1) as u32;
-        self.leaves(0, Next::Release { row, then })
+        self.then(Next::Release { row, then })
     }
 
     /// Takes the resource out of its slot, so that no other thread finds it there while the host closes it. The host's
@@ -78,26 +73,16 @@ impl Doer {
     pub(super) fn take_slot(self, row: u32) -> Effect
         ensures { (found : ℕ) → IsEffect self (duties.TakeSlot row) found result }
     {
-        self.leaves(0, Next::One(Duty::CloseResource { row }))
+        self.then(Next::One(Duty::CloseResource { row }))
     }
 
     /// Lets the host close the resource, and counts that (`close_uncounted`). The resource is closed from then on, even
     /// if the host reports a fault, so the thread goes on to close the object. Rule `ResourceClosed`.
     #[inline(always)]
-    pub(super) fn close_resource(self, row: u32, found: u64) -> Effect
-        requires open { found ≡ 0 }
-        ensures { IsEffect self (duties.CloseResource row) found result }
+    pub(super) fn close_resource(self, row: u32) -> Effect
+        ensures { (found : ℕ) → IsEffect self (duties.CloseResource row) found result }
     {
-        self.leaves(found + 1, Next::One(Duty::SettleEnd { row }))
-    }
-
-    /// Stores in the gate that the object is closed (`settle_end_left_dying`). No duty follows, so it is closed once.
-    /// Rule `Closes`.
-    #[inline(always)]
-    pub(super) fn settle_end(self) -> Effect
-        ensures { (row found : ℕ) → IsEffect self (duties.SettleEnd row) found result }
-    {
-        self.leaves(closed(), Next::Nothing)
+        self.then(Next::One(Duty::SettleEnd { row }))
     }
 }
 

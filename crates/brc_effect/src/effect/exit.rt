@@ -6,8 +6,8 @@ ghost use Rattle.brc_effect.specs.Effects.{IsEffect};
 
 use super::release::handed_merge;
 use super::{Change, Doer, Effect, Next};
+use crate::outcomes::{Looked, taken};
 use crate::rows::row_at;
-use crate::states::{GONE, LEAVING, SET};
 use brc_model::{Duty, Status};
 
 impl Doer {
@@ -20,7 +20,7 @@ impl Doer {
     {
         Effect {
             change: Change::Becomes(Status::Leaving),
-            ..self.leaves(LEAVING, Next::Two(Duty::Scan { index, rows }, Duty::Finish))
+            ..self.then(Next::Two(Duty::Scan { index, rows }, Duty::Finish))
         }
     }
 
@@ -38,10 +38,10 @@ impl Doer {
             index: index + 1,
             rows: rows.saturating_sub(1),
         };
-        if found == SET {
-            self.leaves(0, Next::Three(handed_merge(row), Duty::Settle, then))
+        if let Looked::Claimed = taken(found) {
+            self.then(Next::Three(handed_merge(row), Duty::Settle, then))
         } else {
-            self.leaves(0, Next::Two(Duty::Settle, then))
+            self.then(Next::Two(Duty::Settle, then))
         }
     }
 
@@ -52,7 +52,7 @@ impl Doer {
     {
         Effect {
             change: Change::Becomes(Status::Gone),
-            ..self.leaves(GONE, Next::Nothing)
+            ..self.then(Next::Nothing)
         }
     }
 
@@ -63,10 +63,10 @@ impl Doer {
     pub(super) fn claim_mark(self, row: u32, found: u64) -> Effect
         ensures { IsEffect self (duties.ClaimMark row) found result }
     {
-        if found == SET {
-            self.leaves(0, Next::Two(handed_merge(row), Duty::Settle))
+        if let Looked::Claimed = taken(found) {
+            self.then(Next::Two(handed_merge(row), Duty::Settle))
         } else {
-            self.leaves(0, Next::One(Duty::Settle))
+            self.then(Next::One(Duty::Settle))
         }
     }
 }

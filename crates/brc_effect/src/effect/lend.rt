@@ -22,7 +22,7 @@ impl Doer {
         };
         Effect {
             change,
-            ..self.leaves(0, Next::Nothing)
+            ..self.then(Next::Nothing)
         }
     }
 
@@ -35,7 +35,7 @@ impl Doer {
     {
         Effect {
             change: Change::Lends(None),
-            ..self.leaves(FULL, Next::Nothing)
+            ..self.then(Next::Nothing)
         }
     }
 }

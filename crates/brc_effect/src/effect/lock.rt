@@ -7,7 +7,6 @@ ghost use Rattle.brc_effect.specs.Effects.{IsEffect};
 
 use super::{Change, Doer, Effect, Next};
 use crate::states::FREE;
-use brc_word::locked;
 
 impl Doer {
     /// Compare-exchanges the gate: if it is free, the thread's number is stored in it, and the thread has locked the
@@ -16,16 +15,15 @@ impl Doer {
     /// (`lock_taken_twice`). Rules `Locks` and `LockHeld`.
     #[inline(always)]
     pub(super) fn lock_gate(self, row: u32, found: u64) -> Effect
-        requires known { self.number ≤ worker_limit }
         ensures { IsEffect self (duties.LockGate row) found result }
     {
         if found == FREE {
             Effect {
                 change: Change::Locks(Some(row)),
-                ..self.leaves(locked(self.number), Next::Nothing)
+                ..self.then(Next::Nothing)
             }
         } else {
-            self.leaves(found, Next::Nothing)
+            self.then(Next::Nothing)
         }
     }
 
@@ -38,7 +36,7 @@ impl Doer {
     {
         Effect {
             change: Change::Locks(None),
-            ..self.leaves(FREE, Next::Nothing)
+            ..self.then(Next::Nothing)
         }
     }
 }

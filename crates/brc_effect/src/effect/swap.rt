@@ -14,19 +14,18 @@ impl Doer {
     /// then on (`another_item_stored`). What it held is released next (`old_item_kept`), and not before: while the cell
     /// named the old item, that item had to live. Rule `ItemStored`.
     #[inline(always)]
-    pub(super) fn cell_swap(self, item: u32, found: u64) -> Effect
+    pub(super) fn cell_swap(self, found: u64) -> Effect
         requires row { found ≤ self.rows }
-        ensures { (row cell : ℕ) (holding : Holding)
+        ensures { (row cell item : ℕ) (holding : Holding)
             → IsEffect self (duties.CellSwap row cell item holding) found result }
     {
-        let word = u64::from(item) + 1;
         if found == 0 {
-            return self.leaves(word, Next::Nothing);
+            return self.then(Next::Nothing);
         }
         let old = Duty::ReleaseLoad {
             row: (found - 1) as u32,
             holding: Holding::InFlight,
         };
-        self.leaves(word, Next::One(old))
+        self.then(Next::One(old))
     }
 }

@@ -260,18 +260,17 @@ only_none layout x no_lists immortal =
 
 -- ---- used rows
 
--- An actor's number is main's or a worker's.
-pub thread_there : (p : Accounts) (n : ℕ) (m : Machine) (t : ℕ) (a : Actor) → CoreInvariant p n m
-    → slice_get m.actors t ≡ Some a → t ≤ m.layout.workers
-thread_there p n m t a core found =
-    omega (arith, slice_get_within m.actors t a found, core.threads, core.workers)
+module _ {p : Accounts} {n : ℕ} {m : Machine} where
+  -- An actor's number is main's or a worker's.
+  pub thread_there : (t : ℕ) (a : Actor) → CoreInvariant p n m → slice_get m.actors t ≡ Some a → t ≤ m.layout.workers
+  thread_there t a core found = omega (arith, slice_get_within m.actors t a found, core.threads, core.workers)
 
--- A row that a thread has used is in that thread's block.
-pub used_block : (p : Accounts) (n : ℕ) (m : Machine) (t : ℕ) (a : Actor) (i : ℕ) → CoreInvariant p n m
-    → slice_get m.actors t ≡ Some a → i < a.used → block_of m.layout (row_at m.layout t i) ≡ t
-used_block p n m t a i core found low =
-    let few = (core.uses t a found).few in
-    block_at m.layout t i (thread_there p n m t a core found) (omega (arith, low, few))
+  -- A row that a thread has used is in that thread's block.
+  pub used_block : (t : ℕ) (a : Actor) (i : ℕ) → CoreInvariant p n m → slice_get m.actors t ≡ Some a → i < a.used
+      → block_of m.layout (row_at m.layout t i) ≡ t
+  used_block t a i core found low =
+      let few = (core.uses t a found).few in
+      block_at m.layout t i (thread_there t a core found) (omega (arith, low, few))
 
 -- The thread of the row's block exists and has used the row. `born_used` shows this of each born row.
 pub record IsUsed (m : Machine) (x : ℕ) : Type 0 where
@@ -279,49 +278,47 @@ pub record IsUsed (m : Machine) (x : ℕ) : Type 0 where
   pub found : slice_get m.actors (block_of m.layout x) ≡ Some by
   pub low : index_of m.layout (block_of m.layout x) x < by.used
 
-pub born_used : (p : Accounts) (n : ℕ) (m : Machine) (x : ℕ) → CoreInvariant p n m → (m.life x ≢ Unborn) → IsUsed m x
-born_used p n m x core born =
-    let t = block_of m.layout x in
-    let within = block_within m.layout x core.some_rows in
-    let a = get_or m.actors t (idle_actor 0) in
-    let found = slice_get-get_or m.actors t (idle_actor 0) (omega (arith, within, core.threads, core.workers)) in
-    elim (cases_lt (index_of m.layout t x) a.used) [
-      | inl low ↦ record { by = a; found = found; low = low }
-      | inr past ↦ absurd (born ((core.uses t a found).unborn x refl past))
-    ]
+module _ {p : Accounts} {n : ℕ} {m : Machine} where
+  pub born_used : (x : ℕ) → CoreInvariant p n m → (m.life x ≢ Unborn) → IsUsed m x
+  born_used x core born =
+      let t = block_of m.layout x in
+      let within = block_within m.layout x core.some_rows in
+      let a = get_or m.actors t (idle_actor 0) in
+      let found = slice_get-get_or m.actors t (idle_actor 0) (omega (arith, within, core.threads, core.workers)) in
+      elim (cases_lt (index_of m.layout t x) a.used) [
+        | inl low ↦ record { by = a; found = found; low = low }
+        | inr past ↦ absurd (born ((core.uses t a found).unborn x refl past))
+      ]
 
--- A row that a thread has used exists. The row is given by its index.
-pub used_low : (p : Accounts) (n : ℕ) (m : Machine) (t : ℕ) (a : Actor) (i : ℕ) → CoreInvariant p n m
-    → slice_get m.actors t ≡ Some a → i < a.used → row_at m.layout t i < row_count m.layout
-used_low p n m t a i core found low =
-    let few = (core.uses t a found).few in
-    row_within m.layout t i (thread_there p n m t a core found) (omega (arith, low, few))
+  -- A row that a thread has used exists. The row is given by its index.
+  pub used_low : (t : ℕ) (a : Actor) (i : ℕ) → CoreInvariant p n m → slice_get m.actors t ≡ Some a → i < a.used
+      → row_at m.layout t i < row_count m.layout
+  used_low t a i core found low =
+      let few = (core.uses t a found).few in
+      row_within m.layout t i (thread_there t a core found) (omega (arith, low, few))
 
--- A row that a thread has used exists. The row is given by its number.
-pub used_row : (p : Accounts) (n : ℕ) (m : Machine) (t : ℕ) (a : Actor) (x : ℕ) → CoreInvariant p n m
-    → slice_get m.actors t ≡ Some a → block_of m.layout x ≡ t → index_of m.layout t x < a.used
-    → x < row_count m.layout
-used_row p n m t a x core found block low =
-    subst (λ (y : ℕ). y < row_count m.layout) (row_back m.layout t x block)
-    (used_low p n m t a (index_of m.layout t x) core found low)
+  -- A row that a thread has used exists. The row is given by its number.
+  pub used_row : (t : ℕ) (a : Actor) (x : ℕ) → CoreInvariant p n m → slice_get m.actors t ≡ Some a
+      → block_of m.layout x ≡ t → index_of m.layout t x < a.used → x < row_count m.layout
+  used_row t a x core found block low =
+      subst (λ (y : ℕ). y < row_count m.layout) (row_back m.layout t x block)
+      (used_low t a (index_of m.layout t x) core found low)
 
-pub born_within : (p : Accounts) (n : ℕ) (m : Machine) (x : ℕ) → CoreInvariant p n m → (m.life x ≢ Unborn)
-    → x < row_count m.layout
-born_within p n m x core born =
-    let used = born_used p n m x core born in
-    let t = block_of m.layout x in
-    used_row p n m t used.by x core used.found refl used.low
+  pub born_within : (x : ℕ) → CoreInvariant p n m → (m.life x ≢ Unborn) → x < row_count m.layout
+  born_within x core born =
+      let used = born_used x core born in
+      let t = block_of m.layout x in
+      used_row t used.by x core used.found refl used.low
 
--- A bound on the number of all rows.
-pub rows_low : (p : Accounts) (n : ℕ) (m : Machine) → CoreInvariant p n m → row_count m.layout ≤ total_limit
-rows_low p n m core =
-    let most : m.layout.workers * m.layout.rows ≤ worker_limit * row_limit =
-    mul-le-mul {n₂ = worker_limit} {m₂ = row_limit} (omega (arith, core.few_threads, core.workers)) core.few_rows in
-    omega (arith, most, core.few_immortals)
+  -- A bound on the number of all rows.
+  pub rows_low : CoreInvariant p n m → row_count m.layout ≤ total_limit
+  rows_low core =
+      let most : m.layout.workers * m.layout.rows ≤ worker_limit * row_limit =
+      mul-le-mul {n₂ = worker_limit} {m₂ = row_limit} (omega (arith, core.few_threads, core.workers)) core.few_rows in
+      omega (arith, most, core.few_immortals)
 
-pub born_low : (p : Accounts) (n : ℕ) (m : Machine) (x : ℕ) → CoreInvariant p n m → (m.life x ≢ Unborn)
-    → x < total_limit
-born_low p n m x core born = omega (arith, born_within p n m x core born, rows_low p n m core)
+  pub born_low : (x : ℕ) → CoreInvariant p n m → (m.life x ≢ Unborn) → x < total_limit
+  born_low x core born = omega (arith, born_within x core born, rows_low core)
 
 -- ---- the row that is born next
 
@@ -344,8 +341,7 @@ pub next_unborn : (p : Accounts) (n : ℕ) (m : Machine) (t : ℕ) (a : Actor) (
 next_unborn p n m t a x core found next =
     (core.uses t a found).unborn x (next_block m t a x next) (omega (arith, next_index m t a x next))
 
-pub next_within : (p : Accounts) (n : ℕ) (m : Machine) (t : ℕ) (a : Actor) → CoreInvariant p n m
-    → slice_get m.actors t ≡ Some a
-    → a.used < block_size m.layout t → row_at m.layout t a.used < row_count m.layout
-next_within p n m t a core found room =
-    row_within m.layout t a.used (thread_there p n m t a core found) room
+module _ {p : Accounts} {n : ℕ} {m : Machine} where
+  pub next_within : (t : ℕ) (a : Actor) → CoreInvariant p n m → slice_get m.actors t ≡ Some a
+      → a.used < block_size m.layout t → row_at m.layout t a.used < row_count m.layout
+  next_within t a core found room = row_within m.layout t a.used (thread_there t a core found) room

@@ -31,11 +31,9 @@ slice_get-set_same (y ∷ ys) (suc i) x h = slice_get-set_same ys i x (omega ari
 
 pub slice_get-set_other : {A : Type 0} (xs : List A) (i j : ℕ) (x : A) → j ≢ i
     → slice_get (set xs i x) j ≡ slice_get xs j
-slice_get-set_other [] i j x ne = refl
 slice_get-set_other (y ∷ ys) zero zero x ne = absurd (ne refl)
-slice_get-set_other (y ∷ ys) zero (suc j) x ne = refl
-slice_get-set_other (y ∷ ys) (suc i) zero x ne = refl
 slice_get-set_other (y ∷ ys) (suc i) (suc j) x ne = slice_get-set_other ys i j x (λ e. ne (ap suc e))
+slice_get-set_other _ _ _ x ne = cc
 
 -- Writing the element that is already there leaves the list unchanged.
 pub set_found : {A : Type 0} (xs : List A) (i : ℕ) (x : A) → slice_get xs i ≡ Some x → set xs i x ≡ xs

@@ -5,7 +5,7 @@ use Rattle.std.proofs.lemmas.Bool.{eqb-true, eq-eqb, ne_eqb}
 use Rattle.brc_model.specs.declared.address.Address.{Address}
 use Rattle.brc_model.specs.declared.address.Address.TheVariants.{Local, Shared, Gate, KindOf, Mark, Cell, Slot, Resource, ThreadWord}
 use Rattle.brc_model.specs.declared.duty.Duty.{Duty}
-use Rattle.brc_model.specs.declared.duty.Duty.TheVariants.{RetainLoad, RetainStore, RetainAdd, ReleaseLoad, ReleaseStore, DecideAtZero, SharedLoad, SharedExchange, MergeSwap, MergeLoad, MergeExchange, BirthLocal}
+use Rattle.brc_model.specs.declared.duty.Duty.TheVariants.{RetainLoad, RetainAdd}
 use Rattle.brc_model.specs.declared.layout.Layout.{Layout}
 use Rattle.brc_model.specs.Duties.{address_of}
 use Rattle.brc_model.specs.OpenWork.{is_about}
@@ -76,19 +76,9 @@ apart_thread x y ne = ne_eqb x y ne
 pub other_local : (layout : Layout) (t head : ℕ) (d : Duty) (x : ℕ) → is_about x d ≡ false
     → same_address (address_of layout t head d) (Local x) ≡ false
 other_local layout t head (RetainLoad y h) x e = e
-other_local layout t head (RetainStore y h w) x e = e
-other_local layout t head (ReleaseLoad y h) x e = e
-other_local layout t head (ReleaseStore y w) x e = e
-other_local layout t head (MergeSwap y r) x e = e
-other_local layout t head (BirthLocal y h) x e = e
-other_local layout t head d x e = refl
+other_local layout t head _ x e = cc
 
 pub other_shared : (layout : Layout) (t head : ℕ) (d : Duty) (x : ℕ) → is_about x d ≡ false
     → same_address (address_of layout t head d) (Shared x) ≡ false
 other_shared layout t head (RetainAdd y h) x e = e
-other_shared layout t head (DecideAtZero y) x e = e
-other_shared layout t head (SharedLoad y r) x e = e
-other_shared layout t head (SharedExchange y r w) x e = e
-other_shared layout t head (MergeLoad y c r) x e = e
-other_shared layout t head (MergeExchange y c w r) x e = e
-other_shared layout t head d x e = refl
+other_shared layout t head _ x e = cc

@@ -1,5 +1,5 @@
 -- What a thread does at an event with any choice fits the thread: its next step, a claim, or a stop.
-use Rattle.std.proofs.Common.{◌≡◌, ℕ, true, List, [], ◌∷◌, Option, Some, refl, sym, ap, ◌∙◌, subst, arith, suc, zero, None}
+use Rattle.std.proofs.Common.{◌≡◌, ℕ, true, List, [], ◌∷◌, Option, Some, refl, sym, ap, ◌∙◌, subst, arith, suc, None}
 use Rattle.std.specs.Prelude.{slice_get, map}
 use Rattle.brc_lang.specs.declared.module.Module.{Module}
 use Rattle.brc_model.specs.Threads.{code_of}
@@ -7,7 +7,7 @@ use Rattle.brc_model.specs.declared.duty.Duty.{Duty}
 use Rattle.brc_model.specs.declared.duty.Duty.TheVariants.{ClaimMark}
 use Rattle.brc_model.specs.declared.actor.Status.{Status}
 use Rattle.brc_model.specs.declared.actor.Place.{Place}
-use Rattle.brc_model.specs.declared.actor.Place.TheVariants.{Idle, InCall, Inside, Stopping, Exiting}
+use Rattle.brc_model.specs.declared.actor.Place.TheVariants.{Idle, InCall}
 use Rattle.brc_model.specs.declared.thread.Choice.{Choice}
 use Rattle.brc_model.specs.declared.thread.Choice.TheVariants.{Ok, Fault, Claim, Stop}
 use Rattle.brc_model.specs.Actions.{StepActor, Skip, may_claim, action_of, is_before_instruction, may_stop, stop_action, stop_in_call, stopping, row_locked, owned_rows, none_of}
@@ -52,19 +52,17 @@ claim_fits p n m t a row whole found may =
     let at : AtRest c n (counting m) t a.actor =
     record { core = core; found = there; agenda = claims.agenda; running = claims.running } in
     let sits : Sits (counting m) t a.actor (ClaimMark row ∷ []) (c t) =
-    claim_sits c n (counting m) t a.actor row at (whole.coded t a found).alone
+    claim_sits row at (whole.coded t a found).alone
     (idle_unlocked (code_of (slice_get p.functions a.function)) claims.left a.place a.actor.locked (c t)
     (whole.coded t a found).says claims.idle) claims.block in
     record {
       account = c t;
       says = (whole.coded t a found).says;
-      departs =
-          ap (λ (s : Status). exits s (ClaimMark row ∷ [])) claims.running ∙ sym (ap is_departing claims.idle);
+      departs = ap (λ (s : Status). exits s (ClaimMark row ∷ [])) claims.running ∙ sym (ap is_departing claims.idle);
       lent = (whole.coded t a found).lent;
-      doing = sits_down c n (counting m) t a.actor (ClaimMark row) [] (c t) whole.kept at sits tt;
+      doing = sits_down (ClaimMark row) [] (c t) whole.kept at sits tt;
       small = λ _ _. (
-        row_small (row_count m.layout) row (ClaimMark row)
-            (used_row c n (counting m) t a.actor row core there claims.block claims.low)
+        row_small (row_count m.layout) row (ClaimMark row) (used_row t a.actor row core there claims.block claims.low)
             (λ y. refl) (omega arith),
         tt,
       );
@@ -88,7 +86,6 @@ stop_at : (p : Module) (n : ℕ) (m : StepMachine) (t : ℕ) (a : StepActor) (pl
     → PlaceFits (code_of (slice_get p.functions a.function)) m.abstract.references t [] a.actor.locked place
     → a.actor.lent ≡ lent_at (code_of (slice_get p.functions a.function)) place
     → ActionFits p whole.accounts n m t a (stop_action (m.states a.function) place)
-stop_at p n m t a (Idle zero) whole found at is before fits lent = absurd cc
 stop_at p n m t a (Idle (suc left)) whole found at is before fits lent =
     silent_fits p n m t a [] (Idle 0) whole found at
     (record { moves_fit = Stays; placed = fits; stays = idle_stays 0 }) lent
@@ -105,9 +102,7 @@ stop_at p n m t a (InCall context at variables) whole found rest is before fits 
     (silent_fits p n m t a [] (stopping lock calls) whole found rest
     (stop_taken code (scene_of (counting m) t a.actor) context at variables s fits.1 fits.2 fits.3)
     (stopping_decides (λ (next : Place). a.actor.lent ≡ lent_at code next) lock calls lent lent))
-stop_at p n m t a (Inside context at variables stage) whole found rest is before fits lent = absurd cc
-stop_at p n m t a (Stopping lock calls) whole found rest is before fits lent = absurd cc
-stop_at p n m t a Exiting whole found rest is before fits lent = absurd cc
+stop_at p n m t a _ whole found _ is before fits lent = cc
 
 stop_fits : (p : Module) (n : ℕ) (m : StepMachine) (t : ℕ) (a : StepActor) → (whole : CodeInvariant p n m)
     → slice_get m.actors t ≡ Some a → may_stop a ≡ true

@@ -50,7 +50,7 @@ use Rattle.brc_model.proofs.Keeping.Replaced.{with_account_itself}
 use Rattle.brc_model.proofs.Dispatch.Begun.{starts_settled, follows_plain}
 use Rattle.brc_model.proofs.Dispatch.TakenSits.{taken_sits, rests, dispatch_fits}
 use Rattle.brc_model.proofs.Dispatch.Counting.{its_found}
-use Rattle.brc_model.proofs.Stepping.Neutral.{found_by}
+use Rattle.brc_model.proofs.Stepping.FitsAfter.{found_by}
 use Rattle.brc_model.proofs.Keeping.Kept.{Doing, sits_down}
 use Rattle.brc_model.proofs.Keeping.CodeInvariant.{CodeInvariant}
 use Rattle.brc_model.proofs.Basics.Blocks.{next_within}
@@ -146,40 +146,37 @@ duty_fits p n m t a d rest whole found alive is =
 
 -- ---- the duty is dispatched
 
-backs_small : (p : Accounts) (n : ℕ) (m : Machine) (t row : ℕ) (a : Actor) (d : Duty) → CoreInvariant p n m
-    → Backs (scene_of m t a) row → ((y : ℕ) → is_about y d ≡ (row == y)) → cells_named d ≤ cell_limit
-    → IsSmall (row_count m.layout) d
-backs_small p n m t row a d core (ByOwn by some) about few =
-    row_small (row_count m.layout) row d
-    (referenced_small p n m row core (backed_referenced p n m t a row core (ByReference by some))) about few
-backs_small p n m t row a d core (ByList list cell has holds) about few =
-    row_small (row_count m.layout) row d
-    (referenced_small p n m row core (backed_referenced p n m t a row core (ByItem list cell has holds))) about few
+module _ {p : Accounts} {n : ℕ} {m : Machine} where
+  backs_small : (t row : ℕ) (a : Actor) (d : Duty) → CoreInvariant p n m → Backs (scene_of m t a) row
+      → ((y : ℕ) → is_about y d ≡ (row == y)) → cells_named d ≤ cell_limit → IsSmall (row_count m.layout) d
+  backs_small t row a d core (ByOwn by some) about few =
+      row_small (row_count m.layout) row d
+      (referenced_small row core (backed_referenced p n m t a row core (ByReference by some))) about few
+  backs_small t row a d core (ByList list cell has holds) about few =
+      row_small (row_count m.layout) row d
+      (referenced_small row core (backed_referenced p n m t a row core (ByItem list cell has holds))) about few
 
-pub starts_small : (p : Accounts) (n : ℕ) (m : Machine) (t : ℕ) (a : Actor) (d : Duty) (rest : List Duty)
-    → CoreInvariant p n m → HasFewCells m → slice_get m.actors t ≡ Some a → Starts (scene_of m t a) d rest
-    → IsSmall (row_count m.layout) d
-starts_small p n m t a d rest core few found (Gives row h behind some) =
-    row_small (row_count m.layout) row d (referenced_small p n m row core some) (λ y. refl) (omega arith)
-starts_small p n m t a d rest core few found (Takes row h behind backs) =
-    backs_small p n m t row a d core backs (λ y. refl) (omega arith)
-starts_small p n m t a d rest core few found (Bears h w room below said) =
-    row_small (row_count m.layout) (row_at m.layout t a.used) d (next_within p n m t a core found room) (λ y. refl)
-    below
-starts_small p n m t a d rest core few found (Asks row backs) =
-    backs_small p n m t row a d core backs (λ y. refl) (omega arith)
-starts_small p n m t a d rest core few found (Locks row backs counted none) =
-    backs_small p n m t row a d core backs (λ y. refl) (omega arith)
-starts_small p n m t a d rest core few found (Unlocks row backs has none) =
-    backs_small p n m t row a d core backs (λ y. refl) (omega arith)
-starts_small p n m t a d rest core few found (Loads row i backs has within) =
-    backs_small p n m t row a d core backs (λ y. refl) (omega (arith, within, few row))
-starts_small p n m t a d rest core few found (Swaps row i item h behind backs has within some) =
-    backs_small p n m t row a d core backs (λ y. refl) (omega (arith, within, few row))
-starts_small p n m t a d rest core few found (Lends row backs has none some) =
-    backs_small p n m t row a d core backs (λ y. refl) (omega arith)
-starts_small p n m t a d rest core few found (Returns row backs lent) =
-    backs_small p n m t row a d core backs (λ y. refl) (omega arith)
+  pub starts_small : (t : ℕ) (a : Actor) (d : Duty) (rest : List Duty) → CoreInvariant p n m → HasFewCells m
+      → slice_get m.actors t ≡ Some a → Starts (scene_of m t a) d rest → IsSmall (row_count m.layout) d
+  starts_small t a d rest core few found (Gives row h behind some) =
+      row_small (row_count m.layout) row d (referenced_small row core some) (λ y. refl) (omega arith)
+  starts_small t a d rest core few found (Takes row h behind backs) =
+      backs_small t row a d core backs (λ y. refl) (omega arith)
+  starts_small t a d rest core few found (Bears h w room below said) =
+      row_small (row_count m.layout) (row_at m.layout t a.used) d (next_within t a core found room) (λ y. refl) below
+  starts_small t a d rest core few found (Asks row backs) = backs_small t row a d core backs (λ y. refl) (omega arith)
+  starts_small t a d rest core few found (Locks row backs counted none) =
+      backs_small t row a d core backs (λ y. refl) (omega arith)
+  starts_small t a d rest core few found (Unlocks row backs has none) =
+      backs_small t row a d core backs (λ y. refl) (omega arith)
+  starts_small t a d rest core few found (Loads row i backs has within) =
+      backs_small t row a d core backs (λ y. refl) (omega (arith, within, few row))
+  starts_small t a d rest core few found (Swaps row i item h behind backs has within some) =
+      backs_small t row a d core backs (λ y. refl) (omega (arith, within, few row))
+  starts_small t a d rest core few found (Lends row backs has none some) =
+      backs_small t row a d core backs (λ y. refl) (omega arith)
+  starts_small t a d rest core few found (Returns row backs lent) =
+      backs_small t row a d core backs (λ y. refl) (omega arith)
 
 follows_small : (k : ℕ) (layout : Layout) (t used : ℕ) (place : Place) (rest : List Duty)
     → Follows layout t used place rest
@@ -211,20 +208,21 @@ place_held code bag t x locked (Stopping lock calls) fits is =
     (holds.0, omega (arith, fits.3.each holds.0 x, one))
 place_held code bag t x locked Exiting fits is = absurd (none_some x (sym fits.0 ∙ is))
 
-silent_locks : (p : Accounts) (n : ℕ) (m : Machine) (t : ℕ) (a : Actor) (bag : List Reference) (code : List Instr)
-    (place : Place) (account : Account)
-    → AtRest p n m t a → a.aside ≡ [] → PlaceFits code bag t [] a.locked place → HoldsAlone bag t account []
-    → LocksFit account m t (sitting a [])
-silent_locks p n m t a bag code place account at alone fits holds x is =
-    let old = (at.core.each t a at.found).0.locks x is in
-    let has = place_held code bag t x a.locked place fits is in
-    let none : sum_by (λ d. one_if (lacks d has.0 x)) a.aside ≡ 0 = ap (sum_by (λ d. one_if (lacks d has.0 x))) alone in
-    record {
-      counted = old.counted;
-      by = has.0;
-      held_so = omega (arith, holds.each has.0 x, has.1, none);
-      gate = old.gate;
-    }
+module _ {p : Accounts} {n : ℕ} {m : Machine} {t : ℕ} {a : Actor} where
+  silent_locks : (bag : List Reference) (code : List Instr) (place : Place) (account : Account) → AtRest p n m t a
+      → a.aside ≡ [] → PlaceFits code bag t [] a.locked place → HoldsAlone bag t account []
+      → LocksFit account m t (sitting a [])
+  silent_locks bag code place account at alone fits holds x is =
+      let old = (at.core.each t a at.found).0.locks x is in
+      let has = place_held code bag t x a.locked place fits is in
+      let none : sum_by (λ d. one_if (lacks d has.0 x)) a.aside ≡ 0 =
+      ap (sum_by (λ d. one_if (lacks d has.0 x))) alone in
+      record {
+        counted = old.counted;
+        by = has.0;
+        held_so = omega (arith, holds.each has.0 x, has.1, none);
+        gate = old.gate;
+      }
 
 pub silent_fits : (p : Module) (n : ℕ) (m : StepMachine) (t : ℕ) (a : StepActor) (moves : List Move) (place : Place)
     → (whole : CodeInvariant p n m) → slice_get m.actors t ≡ Some a
@@ -248,9 +246,7 @@ silent_fits p n m t a moves place whole found at taken lent =
         moves_fit = taken.moves_fit;
         holds = placed.holds;
         bounded = says_bounded m.layout code place a.actor.locked placed.account placed.says;
-        locks =
-            silent_locks whole.accounts n (counting m) t a.actor bag code place placed.account at own.alone
-            taken.placed placed.holds;
+        locks = silent_locks bag code place placed.account at own.alone taken.placed placed.holds;
       };
     }
 
@@ -285,7 +281,7 @@ taken_fits p n m t a (Does d rest place) whole found at taken lent =
     let own = whole.coded t a found in
     let here = taken_sits p c n (counting m) t a word there d rest at own.alone begun in
     let doing =
-    sits_down c n (counting m) t a.actor d rest here.account whole.kept at here.sits
+    sits_down d rest here.account whole.kept at here.sits
     (starts_settled (scene_of (counting m) t a.actor) a.actor.head there d rest begun.starts begun.follows) in
     record {
       account = here.account;
@@ -294,7 +290,7 @@ taken_fits p n m t a (Does d rest place) whole found at taken lent =
       lent = lent word (finds_full (with_account c t here.account) n m t a d rest doing);
       doing = doing;
       small = λ few _. (
-        starts_small c n (counting m) t a.actor d rest at.core few at.found begun.starts,
+        starts_small t a.actor d rest at.core few at.found begun.starts,
         follows_small (row_count m.layout) m.layout t a.actor.used there rest begun.follows,
       );
       plain = follows_plain m.layout t a.actor.used there rest begun.follows;

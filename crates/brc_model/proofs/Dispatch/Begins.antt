@@ -1,5 +1,5 @@
 -- The condition under which a thread takes up work: its new agenda fits the place where it then is.
-use Rattle.std.proofs.Common.{◌≡◌, ◌≢◌, ℕ, ◌+◌, ◌<◌, Bool, true, false, List, [], ◌∷◌, ◌++◌, inl, inr, length, Option, None, Some, refl, sym, ap, ◌∙◌, subst, arith, ◌≤◌}
+use Rattle.std.proofs.Common.{◌≡◌, ◌≢◌, ℕ, ◌+◌, ◌<◌, Bool, true, false, List, [], ◌∷◌, ◌++◌, inl, inr, length, Option, None, Some, refl, sym, ap, ◌∙◌, subst, arith, ◌≤◌, cond}
 use Rattle.std.specs.Prelude.{◌==◌, ◌&&◌, slice_set, slice_get}
 use Rattle.std.proofs.lemmas.Bool.{eq-eqb}
 use Rattle.std.proofs.lemmas.Bool.Decides.{eqb_tells}
@@ -204,18 +204,19 @@ in_call_stays context at variables e = cc
 abbrev naming : Slot → Option ℕ → ℕ → ℕ
 naming slot row object = one_if (is_owned slot && names row object)
 
--- A variable of the call isn't one at another depth.
-off_depth : (call : Activation) (to depth v row object : ℕ) → (depth == call.depth) ≡ false
-    → one_if (same_holding (ByVariable call.depth to) (ByVariable depth v) && (row == object)) ≡ 0
-off_depth call to depth v row object apart =
-    ap (λ (b : Bool). one_if ((b && (to == v)) && (row == object))) (flip_eqb call.depth depth ∙ apart)
+-- The number, if the reference is held by the call's variable.
+abbrev of_this : Activation → ℕ → Holding → ℕ → ℕ
+of_this call to k n = cond (same_holding (ByVariable call.depth to) k) n 0
+
+-- At another depth no variable is the call's.
+off_depth : (call : Activation) (to depth v n : ℕ) → (depth == call.depth) ≡ false
+    → of_this call to (ByVariable depth v) n ≡ 0
+off_depth call to depth v n apart =
+    ap (λ (b : Bool). cond (b && (to == v)) n 0) (flip_eqb call.depth depth ∙ apart)
 
 -- At its own depth two variables of the call are the same if their numbers are.
-on_depth : (call : Activation) (to v row object : ℕ)
-    → one_if (same_holding (ByVariable call.depth to) (ByVariable call.depth v) && (row == object))
-    ≡ one_if ((to == v) && (row == object))
-on_depth call to v row object =
-    ap (λ (b : Bool). one_if ((b && (to == v)) && (row == object))) (eq-eqb call.depth call.depth refl)
+on_depth : (call : Activation) (to v n : ℕ) → of_this call to (ByVariable call.depth v) n ≡ cond (to == v) n 0
+on_depth call to v n = ap (λ (b : Bool). cond (b && (to == v)) n 0) (eq-eqb call.depth call.depth refl)
 
 -- At another depth a call's variables and states make no difference.
 same_outside : (call : Activation) (s after : State) (variables rows : List (Option ℕ)) (depth v object : ℕ)
@@ -225,6 +226,82 @@ same_outside : (call : Activation) (s after : State) (variables rows : List (Opt
 same_outside call s after variables rows depth v object apart =
     other_depth call s variables depth v object apart ∙ sym (other_depth call after rows depth v object apart)
 
+-- What the thread is to hold changes by what the variable owned before and owns now.
+changed_held : (bag : List Reference) (t : ℕ) (call : Activation) (s : State) (variables : List (Option ℕ)) (to : ℕ)
+    (slot : Slot) (row : Option ℕ) → to < length s.slots → Holds bag t (of_variables call s variables) → (k : Holding)
+    (object : ℕ)
+    → held (reference_of t k object) bag
+    + of_this call to k (naming slot (row_of (slice_set variables to row) to) object)
+    ≡ one_if (of_variables call (put s to slot) (slice_set variables to row) k object)
+    + of_this call to k (naming (slot_of s to) (row_of variables to) object)
+changed_held bag t call s variables to slot row in_slots holds AsCaller object =
+    omega (arith, holds.each AsCaller object)
+changed_held bag t call s variables to slot row in_slots holds InFlight object =
+    omega (arith, holds.each InFlight object)
+changed_held bag t call s variables to slot row in_slots holds (ByVariable depth v) object =
+    let after = put s to slot in
+    let rows = slice_set variables to row in
+    let gained = naming slot (row_of rows to) object in
+    let lost = naming (slot_of s to) (row_of variables to) object in
+    by_depth call
+    (λ k. held (reference_of t k object) bag + of_this call to k gained
+    ≡ one_if (of_variables call after rows k object) + of_this call to k lost)
+    (λ w.
+    let now : held (reference_of t (ByVariable call.depth w) object) bag
+    ≡ naming (slot_of s w) (row_of variables w) object =
+    holds.each (ByVariable call.depth w) object ∙ ap one_if (own_depth call s variables w object) in
+    let now_left : one_if (of_variables call after rows (ByVariable call.depth w) object)
+    ≡ naming (slot_of after w) (row_of rows w) object =
+    ap one_if (own_depth call after rows w object) in
+    elim (eqb_tells to w) [
+      | inl this ↦
+          let more = on_depth call to w gained ∙ ap (λ (b : Bool). cond b gained 0) this.0 in
+          let less = on_depth call to w lost ∙ ap (λ (b : Bool). cond b lost 0) this.0 in
+          let before : naming (slot_of s w) (row_of variables w) object ≡ lost =
+          subst (λ (x : ℕ). naming (slot_of s x) (row_of variables x) object ≡ lost) this.1 refl in
+          let said : naming (slot_of after w) (row_of rows w) object ≡ gained =
+          subst (λ (x : ℕ). naming (slot_of after x) (row_of rows x) object ≡ gained) this.1
+          (ap (λ (x : Slot). naming x (row_of rows to) object) (slot_of-put_same s to slot in_slots)) in
+          omega (arith, now, now_left, more, less, before, said)
+      | inr other ↦
+          let more = on_depth call to w gained ∙ ap (λ (b : Bool). cond b gained 0) other.0 in
+          let less = on_depth call to w lost ∙ ap (λ (b : Bool). cond b lost 0) other.0 in
+          let apart : w ≢ to = λ e. other.1 (sym e) in
+          let said : naming (slot_of after w) (row_of rows w) object
+          ≡ naming (slot_of s w) (row_of variables w) object =
+          ap (λ (x : Slot). naming x (row_of rows w) object) (slot_of-put_other s to w slot apart)
+          ∙ ap (λ (x : Option ℕ). naming (slot_of s w) x object) (row_of-set_other variables to w row apart) in
+          omega (arith, now, now_left, more, less, said)
+    ])
+    (λ d w apart.
+    omega (
+      arith,
+      holds.each (ByVariable d w) object,
+      off_depth call to d w gained apart,
+      off_depth call to d w lost apart,
+      ap one_if (same_outside call s after variables rows d w object apart),
+    ))
+    depth v
+
+this_one : (b c : Bool) → cond b (one_if c) 0 ≡ one_if (b && c)
+this_one true c = refl
+this_one false c = refl
+
+this_none : (b : Bool) (n : ℕ) → n ≡ 0 → cond b n 0 ≡ 0
+this_none true n none = none
+this_none false n none = refl
+
+-- A variable that owns nothing names nothing.
+names_none : (slot : Slot) (row : Option ℕ) (object : ℕ) → is_owned slot ≡ false → naming slot row object ≡ 0
+names_none slot row object free = ap (λ (b : Bool). one_if (b && names row object)) free
+
+-- A variable that owns an object names it.
+names_one : (slot : Slot) (o : Option ℕ) (row object : ℕ) → is_owned slot ≡ true → o ≡ Some row
+    → naming slot o object ≡ one_if (row == object)
+names_one slot o row object owned is =
+    ap (λ (b : Bool). one_if (b && names o object)) owned ∙ ap (λ (x : Option ℕ). one_if (names x object)) is
+    ∙ ap one_if (flip_eqb object row)
+
 -- Naming an object by an owning variable adds one reference to what the thread is to hold. The bag doesn't have it yet.
 pub newref_held : (bag : List Reference) (t : ℕ) (call : Activation) (s : State) (variables : List (Option ℕ))
     (to row : ℕ) (slot : Slot)
@@ -233,56 +310,17 @@ pub newref_held : (bag : List Reference) (t : ℕ) (call : Activation) (s : Stat
     → (k : Holding) (object : ℕ)
     → held (reference_of t k object) bag + one_if (same_holding (ByVariable call.depth to) k && (row == object))
     ≡ one_if (of_variables call (put s to slot) (slice_set variables to (Some row)) k object) + 0
-newref_held bag t call s variables to row slot in_slots in_rows free owned holds AsCaller object =
-    omega (arith, holds.each AsCaller object)
-newref_held bag t call s variables to row slot in_slots in_rows free owned holds InFlight object =
-    omega (arith, holds.each InFlight object)
-newref_held bag t call s variables to row slot in_slots in_rows free owned holds (ByVariable depth v) object =
-    let after = put s to slot in
+newref_held bag t call s variables to row slot in_slots in_rows free owned holds k object =
     let rows = slice_set variables to (Some row) in
-    by_depth call
-    (λ k. held (reference_of t k object) bag + one_if (same_holding (ByVariable call.depth to) k && (row == object))
-    ≡ one_if (of_variables call after rows k object) + 0)
-    (λ w.
-    let now : held (reference_of t (ByVariable call.depth w) object) bag
-    ≡ naming (slot_of s w) (row_of variables w) object =
-    holds.each (ByVariable call.depth w) object ∙ ap one_if (own_depth call s variables w object) in
-    let now_left : one_if (of_variables call after rows (ByVariable call.depth w) object)
-    ≡ naming (slot_of after w) (row_of rows w) object =
-    ap one_if (own_depth call after rows w object) in
-    let more = on_depth call to w row object in
-    elim (eqb_tells to w) [
-      | inl this ↦
-          let none : naming (slot_of s w) (row_of variables w) object ≡ 0 =
-          subst (λ (x : ℕ). naming (slot_of s x) (row_of variables x) object ≡ 0) this.1
-          (ap (λ (b : Bool). one_if (b && names (row_of variables to) object)) free) in
-          let one : one_if ((to == w) && (row == object)) ≡ one_if (row == object) =
-          ap (λ (b : Bool). one_if (b && (row == object))) this.0 in
-          let said : naming (slot_of after w) (row_of rows w) object ≡ one_if (object == row) =
-          subst (λ (x : ℕ). naming (slot_of after x) (row_of rows x) object ≡ one_if (object == row)) this.1
-          (ap (λ (x : Slot). naming x (row_of rows to) object) (slot_of-put_same s to slot in_slots)
-          ∙ ap (λ (b : Bool). one_if (b && names (row_of rows to) object)) owned
-          ∙ ap (λ (x : Option ℕ). one_if (names x object)) (row_of-set_same variables to (Some row) in_rows)) in
-          let flipped : one_if (object == row) ≡ one_if (row == object) = ap one_if (flip_eqb object row) in
-          omega (arith, now, now_left, more, none, one, said, flipped)
-      | inr other ↦
-          let none : one_if ((to == w) && (row == object)) ≡ 0 =
-          ap (λ (b : Bool). one_if (b && (row == object))) other.0 in
-          let apart : w ≢ to = λ e. other.1 (sym e) in
-          let said : naming (slot_of after w) (row_of rows w) object
-          ≡ naming (slot_of s w) (row_of variables w) object =
-          ap (λ (x : Slot). naming x (row_of rows w) object) (slot_of-put_other s to w slot apart)
-          ∙ ap (λ (x : Option ℕ). naming (slot_of s w) x object) (row_of-set_other variables to w (Some row) apart) in
-          omega (arith, now, now_left, more, none, said)
-    ])
-    (λ d w apart.
     omega (
       arith,
-      holds.each (ByVariable d w) object,
-      off_depth call to d w row object apart,
-      ap one_if (same_outside call s after variables rows d w object apart),
-    ))
-    depth v
+      changed_held bag t call s variables to slot (Some row) in_slots holds k object,
+      ap (of_this call to k) (names_one slot (row_of rows to) row object owned
+          (row_of-set_same variables to (Some row) in_rows)),
+      this_one (same_holding (ByVariable call.depth to) k) (row == object),
+      this_none (same_holding (ByVariable call.depth to) k) _
+          (names_none (slot_of s to) (row_of variables to) object free),
+    )
 
 -- Emptying an owning variable takes one reference from what the thread is to hold. The bag still has it.
 pub emptied_held : (bag : List Reference) (t : ℕ) (call : Activation) (s : State) (variables : List (Option ℕ))
@@ -293,56 +331,14 @@ pub emptied_held : (bag : List Reference) (t : ℕ) (call : Activation) (s : Sta
     → held (reference_of t k object) bag + 0
     ≡ one_if (of_variables call (put s from Empty) (slice_set variables from None) k object)
     + one_if (same_holding (ByVariable call.depth from) k && (row == object))
-emptied_held bag t call s variables from row in_slots owned is holds AsCaller object =
-    omega (arith, holds.each AsCaller object)
-emptied_held bag t call s variables from row in_slots owned is holds InFlight object =
-    omega (arith, holds.each InFlight object)
-emptied_held bag t call s variables from row in_slots owned is holds (ByVariable depth v) object =
-    let after = put s from Empty in
-    let rows = slice_set variables from None in
-    by_depth call
-    (λ k. held (reference_of t k object) bag + 0
-    ≡ one_if (of_variables call after rows k object)
-    + one_if (same_holding (ByVariable call.depth from) k && (row == object)))
-    (λ w.
-    let now : held (reference_of t (ByVariable call.depth w) object) bag
-    ≡ naming (slot_of s w) (row_of variables w) object =
-    holds.each (ByVariable call.depth w) object ∙ ap one_if (own_depth call s variables w object) in
-    let now_left : one_if (of_variables call after rows (ByVariable call.depth w) object)
-    ≡ naming (slot_of after w) (row_of rows w) object =
-    ap one_if (own_depth call after rows w object) in
-    let more = on_depth call from w row object in
-    elim (eqb_tells from w) [
-      | inl this ↦
-          let before : naming (slot_of s w) (row_of variables w) object ≡ one_if (object == row) =
-          subst (λ (x : ℕ). naming (slot_of s x) (row_of variables x) object ≡ one_if (object == row)) this.1
-          (ap (λ (b : Bool). one_if (b && names (row_of variables from) object)) owned
-          ∙ ap (λ (o : Option ℕ). one_if (names o object)) is) in
-          let one : one_if ((from == w) && (row == object)) ≡ one_if (row == object) =
-          ap (λ (b : Bool). one_if (b && (row == object))) this.0 in
-          let said : naming (slot_of after w) (row_of rows w) object ≡ 0 =
-          subst (λ (x : ℕ). naming (slot_of after x) (row_of rows x) object ≡ 0) this.1
-          (ap (λ (x : Slot). naming x (row_of rows from) object) (slot_of-put_same s from Empty in_slots)) in
-          let flipped : one_if (object == row) ≡ one_if (row == object) = ap one_if (flip_eqb object row) in
-          omega (arith, now, now_left, more, before, one, said, flipped)
-      | inr other ↦
-          let none : one_if ((from == w) && (row == object)) ≡ 0 =
-          ap (λ (b : Bool). one_if (b && (row == object))) other.0 in
-          let apart : w ≢ from = λ e. other.1 (sym e) in
-          let said : naming (slot_of after w) (row_of rows w) object
-          ≡ naming (slot_of s w) (row_of variables w) object =
-          ap (λ (x : Slot). naming x (row_of rows w) object) (slot_of-put_other s from w Empty apart)
-          ∙ ap (λ (x : Option ℕ). naming (slot_of s w) x object) (row_of-set_other variables from w None apart) in
-          omega (arith, now, now_left, more, none, said)
-    ])
-    (λ d w apart.
+emptied_held bag t call s variables from row in_slots owned is holds k object =
     omega (
       arith,
-      holds.each (ByVariable d w) object,
-      off_depth call from d w row object apart,
-      ap one_if (same_outside call s after variables rows d w object apart),
-    ))
-    depth v
+      changed_held bag t call s variables from Empty None in_slots holds k object,
+      this_none (same_holding (ByVariable call.depth from) k) 0 refl,
+      ap (of_this call from k) (names_one (slot_of s from) (row_of variables from) row object owned is),
+      this_one (same_holding (ByVariable call.depth from) k) (row == object),
+    )
 
 -- A variable that owns nothing and comes to name an object that it doesn't own, or none, doesn't change what the thread
 -- is to hold.
@@ -353,37 +349,15 @@ pub unowned_held : (bag : List Reference) (t : ℕ) (call : Activation) (s : Sta
     → (k : Holding) (object : ℕ)
     → held (reference_of t k object) bag
     ≡ one_if (of_variables call (put s to slot) (slice_set variables to row) k object)
-unowned_held bag t call s variables to slot row in_slots free none holds AsCaller object = holds.each AsCaller object
-unowned_held bag t call s variables to slot row in_slots free none holds InFlight object = holds.each InFlight object
-unowned_held bag t call s variables to slot row in_slots free none holds (ByVariable depth v) object =
-    let after = put s to slot in
+unowned_held bag t call s variables to slot row in_slots free none holds k object =
     let rows = slice_set variables to row in
-    by_depth call
-    (λ k. held (reference_of t k object) bag ≡ one_if (of_variables call after rows k object))
-    (λ w.
-    let now : held (reference_of t (ByVariable call.depth w) object) bag
-    ≡ naming (slot_of s w) (row_of variables w) object =
-    holds.each (ByVariable call.depth w) object ∙ ap one_if (own_depth call s variables w object) in
-    let now_left : one_if (of_variables call after rows (ByVariable call.depth w) object)
-    ≡ naming (slot_of after w) (row_of rows w) object =
-    ap one_if (own_depth call after rows w object) in
-    let said : naming (slot_of s w) (row_of variables w) object ≡ naming (slot_of after w) (row_of rows w) object =
-    elim (eqb_tells to w) [
-      | inl this ↦
-          subst (λ (x : ℕ). naming (slot_of s x) (row_of variables x) object
-          ≡ naming (slot_of after x) (row_of rows x) object) this.1
-          (ap (λ (b : Bool). one_if (b && names (row_of variables to) object)) free
-          ∙ sym (ap (λ (x : Slot). naming x (row_of rows to) object) (slot_of-put_same s to slot in_slots)
-          ∙ ap (λ (b : Bool). one_if (b && names (row_of rows to) object)) none))
-      | inr other ↦
-          let apart : w ≢ to = λ e. other.1 (sym e) in
-          sym (ap (λ (x : Slot). naming x (row_of rows w) object) (slot_of-put_other s to w slot apart)
-          ∙ ap (λ (x : Option ℕ). naming (slot_of s w) x object) (row_of-set_other variables to w row apart))
-    ] in
-    now ∙ said ∙ sym now_left)
-    (λ d w apart.
-    holds.each (ByVariable d w) object ∙ ap one_if (same_outside call s after variables rows d w object apart))
-    depth v
+    omega (
+      arith,
+      changed_held bag t call s variables to slot row in_slots holds k object,
+      this_none (same_holding (ByVariable call.depth to) k) _ (names_none slot (row_of rows to) object none),
+      this_none (same_holding (ByVariable call.depth to) k) _
+          (names_none (slot_of s to) (row_of variables to) object free),
+    )
 
 -- So it is if the variable becomes empty.
 pub cleared_held : (bag : List Reference) (t : ℕ) (call : Activation) (s : State) (variables : List (Option ℕ))

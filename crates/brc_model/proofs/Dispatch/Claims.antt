@@ -5,7 +5,7 @@ use Rattle.std.proofs.lemmas.Bool.{cases_Bool, and_parts, eqb-true, ltb-true}
 use Rattle.std.proofs.lemmas.List.{nil_from_length}
 use Rattle.brc_model.specs.declared.actor.Status.TheVariants.{Running, Gone}
 use Rattle.brc_model.specs.declared.actor.Place.{Place}
-use Rattle.brc_model.specs.declared.actor.Place.TheVariants.{Idle, InCall, Inside, Stopping, Exiting}
+use Rattle.brc_model.specs.declared.actor.Place.TheVariants.{Idle}
 use Rattle.brc_model.specs.Actions.{StepActor, is_idle, may_claim, is_before_instruction, may_stop}
 use Rattle.brc_model.proofs.Stepping.Retains.{running_is}
 use Rattle.brc_model.specs.declared.layout.Layout.{Layout}
@@ -22,10 +22,7 @@ pub record IsClaimer (layout : Layout) (t : ℕ) (a : StepActor) (row : ℕ) : T
 
 idle_is : (place : Place) → is_idle place ≡ true → (left : ℕ) × (place ≡ Idle left)
 idle_is (Idle left) e = (left, refl)
-idle_is (InCall context at variables) e = absurd cc
-idle_is (Inside context at variables stage) e = absurd cc
-idle_is (Stopping lock calls) e = absurd cc
-idle_is Exiting e = absurd cc
+idle_is _ e = cc
 
 pub claimer : (layout : Layout) (t : ℕ) (a : StepActor) (row : ℕ) → may_claim layout t a row ≡ true
     → IsClaimer layout t a row

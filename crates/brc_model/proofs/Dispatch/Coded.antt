@@ -89,17 +89,11 @@ is_departing Exiting = true
 
 pub departing_is : (place : Place) → is_departing place ≡ true → place ≡ Exiting
 departing_is (Idle left) e = absurd cc
-departing_is (InCall context at variables) e = absurd cc
-departing_is (Inside context at variables stage) e = absurd cc
-departing_is (Stopping lock calls) e = absurd cc
-departing_is Exiting e = refl
+departing_is _ e = cc
 
 pub stays_elsewhere : (place : Place) → place ≢ Exiting → is_departing place ≡ false
-stays_elsewhere (Idle left) stays = refl
-stays_elsewhere (InCall context at variables) stays = refl
-stays_elsewhere (Inside context at variables stage) stays = refl
-stays_elsewhere (Stopping lock calls) stays = refl
 stays_elsewhere Exiting stays = absurd (stays refl)
+stays_elsewhere _ stays = cc
 
 pub record InCode (p : Module) (a : StepActor) (account : Account) : Type 0 where
   -- Code does one piece of work at a time.
@@ -213,27 +207,15 @@ fits_with code bag t agenda locked Exiting lacks extra fits =
 pub exited_none : (code : List Instr) (place : Place) (locked : Option ℕ) (account : Account)
     → PlaceSays code place locked account
     → place ≡ Exiting → HoldsNone account
-exited_none code (Idle left) locked account says e k object =
-    absurd (let wrong : Idle left ≡ Exiting = e in cc)
-exited_none code (InCall context at variables) locked account says e k object =
-    absurd (let wrong : InCall context at variables ≡ Exiting = e in cc)
-exited_none code (Inside context at variables stage) locked account says e k object =
-    absurd (let wrong : Inside context at variables stage ≡ Exiting = e in cc)
-exited_none code (Stopping lock calls) locked account says e k object =
-    absurd (let wrong : Stopping lock calls ≡ Exiting = e in cc)
 exited_none code Exiting locked account says e k object = ap (λ (c : Account). c k object) says.1
+exited_none code _ locked account says e k object = cc
 
 -- A thread outside its calls has locked nothing.
 pub idle_unlocked : (code : List Instr) (left : ℕ) (place : Place) (locked : Option ℕ) (account : Account)
     → PlaceSays code place locked account → place ≡ Idle left → locked ≡ None
 idle_unlocked code left (Idle other) locked account says e = says.0
-idle_unlocked code left (InCall other at variables) locked account says e =
-    absurd (let wrong : InCall other at variables ≡ Idle left = e in cc)
-idle_unlocked code left (Inside other at variables stage) locked account says e =
-    absurd (let wrong : Inside other at variables stage ≡ Idle left = e in cc)
-idle_unlocked code left (Stopping lock calls) locked account says e =
-    absurd (let wrong : Stopping lock calls ≡ Idle left = e in cc)
 idle_unlocked code left Exiting locked account says e = says.0
+idle_unlocked code left _ locked account says e = cc
 
 -- ---- how much the thread holds
 

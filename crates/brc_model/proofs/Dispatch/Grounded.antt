@@ -121,9 +121,7 @@ grounded-with_kind call s rows x k in_slots old v =
 
 kind_owned : (slot : Slot) (k : Kind) → is_owned (with_kind slot k) ≡ is_owned slot
 kind_owned Empty k = refl
-kind_owned (Owned old) k = refl
-kind_owned (Caller old) k = refl
-kind_owned (Locked old) k = refl
+kind_owned _ k = cc
 
 slot-with_kind : (s : State) (x v : ℕ) (k : Kind) → x < length s.slots
     → is_owned (slot_of (put s x (with_kind (slot_of s x) k)) v) ≡ is_owned (slot_of s v)
@@ -169,9 +167,7 @@ grounded-without call s rows old v =
 
 without_owned : (slot : Slot) → is_owned (without_item slot) ≡ is_owned slot
 without_owned Empty = refl
-without_owned (Owned k) = refl
-without_owned (Caller k) = refl
-without_owned (Locked k) = refl
+without_owned _ = cc
 
 -- A variable that borrows from the locked list owns nothing, so the thread is to hold what it held.
 pub says-without : (call : Activation) (s : State) (variables : List (Option ℕ)) (h : Holding) (object : ℕ)
@@ -207,9 +203,7 @@ named_row call (Locked k) row some grounded = grounded
 -- A slot that is neither empty nor borrowed owns its reference.
 pub owned_slot : (slot : Slot) → is_empty slot ≡ false → is_borrowed slot ≡ false → is_owned slot ≡ true
 owned_slot Empty e b = absurd cc
-owned_slot (Owned k) e b = refl
-owned_slot (Caller k) e b = absurd cc
-owned_slot (Locked k) e b = absurd cc
+owned_slot _ e b = cc
 
 pub owned_row : (call : Activation) (slot : Slot) (row : Option ℕ) → is_owned slot ≡ true → IsGrounded call slot row
     → (r : ℕ) × (row ≡ Some r)

@@ -56,9 +56,7 @@ guards-put s variables x slot row (Some c) locked free guards =
 
 kind_kept : (slot : Slot) (k : Kind) → is_kept (with_kind slot k) ≡ is_kept slot
 kind_kept Empty k = refl
-kind_kept (Owned old) k = refl
-kind_kept (Caller old) k = refl
-kind_kept (Locked old) k = refl
+kind_kept _ k = cc
 
 kept-with_kind : (s : State) (x c : ℕ) (k : Kind) → x < length s.slots
     → is_kept (slot_of (put s x (with_kind (slot_of s x) k)) c) ≡ is_kept (slot_of s c)
@@ -81,9 +79,7 @@ guards-with_kind s variables x k (Some c) locked in_slots guards =
 
 without_kept : (slot : Slot) → is_kept slot ≡ true → is_kept (without_item slot) ≡ true
 without_kept Empty kept = absurd cc
-without_kept (Owned k) kept = refl
-without_kept (Caller k) kept = refl
-without_kept (Locked k) kept = absurd cc
+without_kept _ kept = cc
 
 -- The variables that borrow from the locked list become empty.
 pub guards-without : (s : State) (variables : List (Option ℕ)) (o locked : Option ℕ) → Guards s variables o locked

@@ -13,7 +13,7 @@ use Rattle.brc_model.specs.declared.actor.Stage.TheVariants.{InRange, Found, Ret
 use Rattle.brc_model.specs.declared.address.Address.{Address}
 use Rattle.brc_model.specs.declared.address.Address.TheVariants.{KindOf, Cell}
 use Rattle.brc_model.specs.declared.slot.Slot.{Slot}
-use Rattle.brc_model.specs.declared.slot.Slot.TheVariants.{Empty, Owned, Caller, Locked}
+use Rattle.brc_model.specs.declared.slot.Slot.TheVariants.{Empty}
 use Rattle.brc_model.specs.declared.slot.State.{State}
 use Rattle.brc_model.specs.Slots.{slot_of, with_kind, put, without_item, without_items, entry}
 use Rattle.brc_model.specs.Threads.{row_of, entry_variables}
@@ -105,9 +105,7 @@ needs_none memory locked slot row free y borrows is = absurd (false≢true (sym 
 
 kind_borrows : (slot : Slot) (k : Kind) → borrows_item (with_kind slot k) ≡ borrows_item slot
 kind_borrows Empty k = refl
-kind_borrows (Owned old) k = refl
-kind_borrows (Caller old) k = refl
-kind_borrows (Locked old) k = refl
+kind_borrows _ k = cc
 
 -- A variable's kind becomes known.
 pub items_with_kind : (memory : Address → ℕ) (locked : Option ℕ) (s : State) (rows : List (Option ℕ)) (x : ℕ)
@@ -137,9 +135,7 @@ none_borrowed memory locked s rows none v x borrows is = absurd (false≢true (s
 
 without_item_free : (slot : Slot) → borrows_item (without_item slot) ≡ false
 without_item_free Empty = refl
-without_item_free (Owned k) = refl
-without_item_free (Caller k) = refl
-without_item_free (Locked k) = refl
+without_item_free _ = cc
 
 -- Once the list is unlocked or changed, no variable borrows from it.
 pub without_items_free : (s : State) → BorrowsNone (without_items s)

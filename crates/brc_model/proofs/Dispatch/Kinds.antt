@@ -72,11 +72,7 @@ empty_true words row x is = inl refl
 
 pub numbered_kind : (kind : Kind) → kind_numbered (kind_number kind) ≡ kind
 numbered_kind kinds.Any = refl
-numbered_kind kinds.None = refl
-numbered_kind kinds.Num = refl
-numbered_kind kinds.List = refl
-numbered_kind kinds.File = refl
-numbered_kind kinds.Sock = refl
+numbered_kind _ = cc
 
 pub same_kind_is : (one other : Kind) → same_kind one other ≡ true → one ≡ other
 same_kind_is one other same =

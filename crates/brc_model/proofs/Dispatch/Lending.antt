@@ -6,7 +6,7 @@ use Rattle.brc_model.specs.declared.slot.Exit.TheVariants.{Success, Fault}
 use Rattle.std.proofs.Common.{◌≡◌, ℕ, zero, suc, ◌+◌, List, [], Option, None, Some, ◌∙◌, ap, sym, refl, cond}
 use Rattle.std.specs.Prelude.{◌==◌, slice_get, slice_set, nat_lt}
 use Rattle.brc_lang.specs.declared.module.Instr.{Instr}
-use Rattle.brc_lang.specs.declared.module.Instr.TheVariants.{Num, List as ListObject, NoneObject, Newref, Move as MoveReference, Drop, Lock, Unlock, Borrow, Fetch, Set, Put, Goto, Again, Ret, Fail, As, Open, Connect, Read, Write}
+use Rattle.brc_lang.specs.declared.module.Instr.TheVariants.{Num, List as ListObject, Newref, Move as MoveReference, Drop, Lock, Unlock, Borrow, Fetch, Set, Put, Again, Ret, As, Open, Connect, Read, Write, NoneObject, Goto, Fail}
 use Rattle.brc_word.specs.Words.{free_word}
 use Rattle.brc_model.specs.declared.actor.Place.{Place}
 use Rattle.brc_model.specs.declared.actor.Context.{Context}
@@ -135,7 +135,6 @@ instruction_lent code layout t used before context at variables (Some (Num to va
 instruction_lent code layout t used before context at variables (Some (ListObject to cells otherwise)) lent is none
     back =
     birth_lent code lent layout t used context at variables to (list_word cells) otherwise none
-instruction_lent code layout t used before context at variables (Some (NoneObject to)) lent is none back = none
 instruction_lent code layout t used before context at variables (Some (Newref to from)) lent is none back =
     row_lent code lent (row_of variables from) _ (λ row found full. none)
 instruction_lent code layout t used before context at variables (Some (MoveReference to from)) lent is none back =
@@ -182,12 +181,13 @@ instruction_lent code layout t used before context at variables
     row_lent code lent (row_of variables number) _ (λ row found full. none)
 instruction_lent code layout t used before context at variables (Some (As from kind otherwise)) lent is none back =
     row_lent code lent (row_of variables from) _ (λ row found full. none)
-instruction_lent code layout t used before context at variables (Some (Goto to)) lent is none back = none
 instruction_lent code layout t used before context at variables (Some (Again to times)) lent is none back =
     either (λ (place : Place). lent ≡ lent_at code place) (nat_lt (turns_at context at) times)
     (InCall (turned context at) to variables) (InCall context (at + 1) variables) (λ more. none) none
 instruction_lent code layout t used before context at variables (Some (Ret from)) lent is none back =
     row_lent code lent (row_of variables from) _ (λ row found full. none)
+instruction_lent code layout t used before context at variables (Some (NoneObject to)) lent is none back = none
+instruction_lent code layout t used before context at variables (Some (Goto to)) lent is none back = none
 instruction_lent code layout t used before context at variables (Some Fail) lent is none back = none
 
 inside_lent : (code : List Instr) (layout : Layout) (t used : ℕ) (context : Context) (at : ℕ)

@@ -300,12 +300,10 @@ passed_says rows outer none (ByVariable depth v) object =
 -- Once no call has a reference to give up, the thread holds the root alone.
 pub stopped_says : (calls : List (List (Option ℕ))) → holds_some calls ≡ false → (k : Holding) (object : ℕ)
     → of_stopped calls k object ≡ the_root k object
-stopped_says [] none AsCaller object = refl
-stopped_says [] none InFlight object = refl
-stopped_says [] none (ByVariable depth v) object = refl
 stopped_says (rows ∷ outer) none k object =
     passed_says rows outer (first_false (list_any is_some rows) (holds_some outer) none) k object
     ∙ stopped_says outer (second_false (list_any is_some rows) (holds_some outer) none) k object
+stopped_says _ none _ object = cc
 
 -- ---- how much a stopped thread holds
 

@@ -2,7 +2,6 @@
 use Rattle.std.proofs.Common.{◌≡◌, ◌≢◌, ℕ, false, List, [], ◌∷◌, Some, refl, sym, ap, ◌∙◌, subst, None, Option}
 use Rattle.std.specs.Prelude.{slice_get}
 use Rattle.std.proofs.lemmas.Bool.{false≢true}
-use Rattle.std.proofs.lemmas.List.Sums.{sum_by-cons}
 use Rattle.brc_lang.specs.declared.module.Function.{Function}
 use Rattle.brc_lang.specs.declared.module.Module.{Module}
 use Rattle.brc_model.specs.Threads.{code_of}
@@ -15,10 +14,9 @@ use Rattle.brc_model.specs.declared.actor.Place.TheVariants.{Exiting}
 use Rattle.brc_model.specs.Machine.{Actor, Machine, with_actor, locked_by}
 use Rattle.brc_model.specs.Actions.{StepActor, dispatch, agenda_action}
 use Rattle.brc_model.specs.StepMachine.{StepMachine, counting}
-use Rattle.brc_model.specs.RowInvariant.{waits, carries, merges, decides}
 use Rattle.brc_model.specs.Accounts.{Account, Accounts, HoldsAt}
 use Rattle.brc_model.specs.OpenWork.{Agenda, AgendaFits, has_leave, exits}
-use Rattle.brc_model.specs.Invariant.{looks, CoreInvariant}
+use Rattle.brc_model.specs.Invariant.{CoreInvariant}
 use Rattle.brc_model.proofs.Frame.Aside.{HoldsAlone, alone_holds, alone_fits}
 use Rattle.brc_model.proofs.Dispatch.Begun.{starts_leave, follows_leave, starts_sit}
 use Rattle.brc_model.proofs.Dispatch.Coded.{PlaceSays, InCode, is_departing, departing_is, place_fits, placed_by, exited_none, says_bounded}
@@ -53,36 +51,32 @@ taken_sits p c n m t a found place d rest at alone taken =
       says = placed.says;
       departs = departs;
       sits =
-          starts_sit c n m t a.actor place d rest placed.account at alone placed.holds
+          starts_sit place d rest placed.account at alone placed.holds
           (says_bounded m.layout code place locked placed.account placed.says)
           (λ e. exited_none code place locked placed.account placed.says (departing_is place (sym departs ∙ e)))
           taken.keeps taken.starts taken.follows;
     }
 
--- A thread at rest may take up a claim of a row of its own block.
-pub claim_sits : (p : Accounts) (n : ℕ) (m : Machine) (t : ℕ) (a : Actor) (row : ℕ) → AtRest p n m t a
-    → a.aside ≡ [] → a.locked ≡ None → block_of m.layout row ≡ t → Sits m t a (ClaimMark row ∷ []) (p t)
-claim_sits p n m t a row at alone unlocked mine =
-    let old = (at.core.each t a at.found).0 in
-    let holds : HoldsAt m.abstract.references t (p t) [] a.aside =
-    subst (λ (l : List Duty). HoldsAt m.abstract.references t (p t) l a.aside) at.agenda old.holds in
-    let now = sitting a (ClaimMark row ∷ []) in
-    record {
-      holds = record { each = holds.each };
-      aside = alone_fits (with_actor m t now) t now alone;
-      bounded = old.bounded;
-      exited = λ e. absurd cc;
-      knows = mine;
-      behind = tt;
-      locks = λ x e. absurd (none_some x (sym unlocked ∙ e));
-      fits = refl;
-      hands = λ x. refl;
-      no_waits = λ x. sum_by-cons (waits x) (ClaimMark row) [];
-      no_carries = λ x. sum_by-cons (carries x) (ClaimMark row) [];
-      no_merges = λ x. sum_by-cons (merges x) (ClaimMark row) [];
-      no_decides = λ x. sum_by-cons (decides x) (ClaimMark row) [];
-      no_looks = λ x. sum_by-cons (looks x) (ClaimMark row) [];
-    }
+module _ {p : Accounts} {n : ℕ} {m : Machine} {t : ℕ} {a : Actor} where
+  -- A thread at rest may take up a claim of a row of its own block.
+  pub claim_sits : (row : ℕ) → AtRest p n m t a → a.aside ≡ [] → a.locked ≡ None → block_of m.layout row ≡ t
+      → Sits m t a (ClaimMark row ∷ []) (p t)
+  claim_sits row at alone unlocked mine =
+      let old = (at.core.each t a at.found).0 in
+      let holds : HoldsAt m.abstract.references t (p t) [] a.aside =
+      subst (λ (l : List Duty). HoldsAt m.abstract.references t (p t) l a.aside) at.agenda old.holds in
+      let now = sitting a (ClaimMark row ∷ []) in
+      record {
+        holds = record { each = holds.each };
+        aside = alone_fits (with_actor m t now) t now alone;
+        bounded = old.bounded;
+        exited = λ e. absurd cc;
+        knows = mine;
+        behind = tt;
+        locks = λ x e. absurd (none_some x (sym unlocked ∙ e));
+        fits = refl;
+        light = refl;
+      }
 
 -- ---- a thread at rest
 

@@ -49,203 +49,173 @@ use Rattle.brc_model.proofs.Dispatch.TakingSilent.{none_taken, move_taken, goto_
 use Rattle.brc_model.specs.Layout.{root_row}
 use Rattle.brc_model.proofs.Dispatch.TakingStops.{stopped_unlocks, give_up_taken}
 
-newref_taken : (code : List Instr) (g : Scene) (before : Place) (context : Context) (at : ℕ)
-    (variables : List (Option ℕ))
-    (s : State) (to from : ℕ)
-    → StandsAt code context g before at variables s (Newref to from)
-    → IsTaken code g (dispatch_instruction g.layout g.thread g.used before context at variables
-    (Some (Newref to from)))
-newref_taken code g before context at variables s to from here =
-    let some : is_empty (slot_of s from) ≡ false = first_false _ _ here.met.not_empty in
-    let free : is_owned (slot_of s to) ≡ false = first_false _ _ here.met.free in
-    let live = named_at code context g before at variables s (Newref to from) from here some in
-    let in_slots : to < length s.slots = omega (arith, here.variables.0, here.inside.slots) in
-    let in_rows : to < length variables = omega (arith, here.variables.0, here.inside.rows) in
-    let slot = Owned (kind_of (slot_of s from)) in
-    let next : IsInside (call_of code context) (at + 1) (slice_set variables to (Some live.object)) (put s to slot) =
-    record {
-      is_call = here.inside.is_call;
-      exits = here.inside.exits ++ Success ∷ [];
-      arrived = here.leads Success (at + 1) refl;
-      slots = length-set s.slots to slot ∙ here.inside.slots;
-      rows = length-set variables to (Some live.object) ∙ here.inside.rows;
-      grounded =
-          grounded-put (call_of code context) s variables to slot (Some live.object) in_slots in_rows
-          (live.object, refl) here.inside.grounded;
-    } in
-    let held_now : HoldsAlone g.bag g.thread (once_each
-    (of_variables (call_of code context) (put s to slot) (slice_set variables to
-    (Some live.object))))
-    (RetainLoad live.object (by_variable context to) ∷ []) =
-    record {
-      each = newref_held g.bag g.thread (call_of code context) s variables to live.object slot in_slots in_rows
-          free refl here.holds;
-    }
-    in
-    let taken : (found : ℕ) → Taken code g found (InCall context (at + 1) (slice_set variables to (Some live.object)))
-    (RetainLoad live.object (by_variable context to)) [] = λ found. record {
-      placed = (
-        put s to slot,
-        next,
-        guards-put s variables to slot (Some live.object) s.locked g.locked (first_false _ _ here.met.unlocked)
-            here.guards,
-        held_now,
-      );
-      starts = Takes live.object (by_variable context to) [] live.backs;
-      follows = Nothing (in_call_stays context (at + 1) (slice_set variables to (Some live.object)));
-      keeps = keeps_all code context g before at variables s (Newref to from)
-          (RetainLoad live.object (by_variable context to)) here
-          (λ k object. refl);
-    } in
-    taken_with_row code g live.object (row_of variables from)
-    (λ row. Does (RetainLoad row (by_variable context to)) []
-    (always (InCall context (at + 1) (slice_set variables to (Some row))))) live.is_row taken
+module _ {code : List Instr} {g : Scene} {before : Place} {context : Context} {at : ℕ} {variables : List (Option ℕ)}
+    {s : State} where
+  newref_taken : (to from : ℕ) → StandsAt code context g before at variables s (Newref to from)
+      → IsTaken code g (dispatch_instruction g.layout g.thread g.used before context at variables
+      (Some (Newref to from)))
+  newref_taken to from here =
+      let some : is_empty (slot_of s from) ≡ false = first_false _ _ here.met.not_empty in
+      let free : is_owned (slot_of s to) ≡ false = first_false _ _ here.met.free in
+      let live = named_at code context g before at variables s (Newref to from) from here some in
+      let in_slots : to < length s.slots = omega (arith, here.variables.0, here.inside.slots) in
+      let in_rows : to < length variables = omega (arith, here.variables.0, here.inside.rows) in
+      let slot = Owned (kind_of (slot_of s from)) in
+      let next : IsInside (call_of code context) (at + 1) (slice_set variables to (Some live.object)) (put s to slot) =
+      record {
+        is_call = here.inside.is_call;
+        exits = here.inside.exits ++ Success ∷ [];
+        arrived = here.leads Success (at + 1) refl;
+        slots = length-set s.slots to slot ∙ here.inside.slots;
+        rows = length-set variables to (Some live.object) ∙ here.inside.rows;
+        grounded =
+            grounded-put (call_of code context) s variables to slot (Some live.object) in_slots in_rows
+            (live.object, refl) here.inside.grounded;
+      } in
+      let held_now : HoldsAlone g.bag g.thread
+      (once_each (of_variables (call_of code context) (put s to slot) (slice_set variables to (Some live.object))))
+      (RetainLoad live.object (by_variable context to) ∷ []) =
+      record {
+        each = newref_held g.bag g.thread (call_of code context) s variables to live.object slot in_slots in_rows
+            free refl here.holds;
+      } in
+      let taken : (found : ℕ) → Taken code g found (InCall context (at + 1) (slice_set variables to (Some live.object)))
+      (RetainLoad live.object (by_variable context to)) [] = λ found. record {
+        placed = (
+          put s to slot,
+          next,
+          guards-put s variables to slot (Some live.object) s.locked g.locked (first_false _ _ here.met.unlocked)
+              here.guards,
+          held_now,
+        );
+        starts = Takes live.object (by_variable context to) [] live.backs;
+        follows = Nothing (in_call_stays context (at + 1) (slice_set variables to (Some live.object)));
+        keeps = keeps_all code context g before at variables s (Newref to from)
+            (RetainLoad live.object (by_variable context to)) here (λ k object. refl);
+      } in
+      taken_with_row code g live.object (row_of variables from)
+      (λ row. Does (RetainLoad row (by_variable context to)) []
+      (always (InCall context (at + 1) (slice_set variables to (Some row))))) live.is_row taken
 
-drop_taken : (code : List Instr) (g : Scene) (before : Place) (context : Context) (at : ℕ)
-    (variables : List (Option ℕ))
-    (s : State) (from : ℕ)
-    → StandsAt code context g before at variables s (Drop from)
-    → IsTaken code g (dispatch_instruction g.layout g.thread g.used before context at variables (Some (Drop from)))
-drop_taken code g before context at variables s from here =
-    let owned = owned_slot (slot_of s from) (first_false _ _ here.met.not_empty) (first_false _ _ here.met.owned) in
-    let row = owned_row (call_of code context) (slot_of s from) (row_of variables from) owned
-    (here.inside.grounded from) in
-    let in_slots : from < length s.slots = omega (arith, here.variables, here.inside.slots) in
-    let in_rows : from < length variables = omega (arith, here.variables, here.inside.rows) in
-    let next : IsInside (call_of code context) (at + 1) (slice_set variables from None) (put s from Empty) = record {
-      is_call = here.inside.is_call;
-      exits = here.inside.exits ++ Success ∷ [];
-      arrived = here.leads Success (at + 1) refl;
-      slots = length-set s.slots from Empty ∙ here.inside.slots;
-      rows = length-set variables from None ∙ here.inside.rows;
-      grounded = grounded-put (call_of code context) s variables from Empty None in_slots in_rows tt
-          here.inside.grounded;
-    } in
-    let held_now : HoldsAlone g.bag g.thread (once_each (of_variables (call_of code context) (put s from Empty)
-    (slice_set variables from None)))
-    (ReleaseLoad row.0 (by_variable context from) ∷ Settle ∷ []) =
-    record {
-      each = emptied_held g.bag g.thread (call_of code context) s variables from row.0 in_slots owned row.1
-          here.holds;
-    } in
-    let free : names s.locked from ≡ false = first_false _ _ here.met.unlocked in
-    let taken : (found : ℕ) → Taken code g found (InCall context (at + 1) (slice_set variables from None))
-    (ReleaseLoad row.0 (by_variable context from)) (Settle ∷ []) = λ found. record {
-      placed = (
-        put s from Empty,
-        next,
-        guards-put s variables from Empty None s.locked g.locked free here.guards,
-        held_now,
-      );
-      starts =
-          Gives row.0 (by_variable context from) (Settle ∷ [])
-          (given_referenced g.bag g.thread (call_of code context) s variables from row.0 owned row.1 here.holds);
-      follows = Settles (in_call_stays context (at + 1) (slice_set variables from None));
-      keeps = keeps_given code context g before at variables s (Drop from) row.0 from here free;
-    } in
-    taken_with_row code g row.0 (row_of variables from)
-    (λ r. Does (ReleaseLoad r (by_variable context from)) (Settle ∷ [])
-    (always (InCall context (at + 1) (slice_set variables from None)))) row.1 taken
+  drop_taken : (from : ℕ) → StandsAt code context g before at variables s (Drop from)
+      → IsTaken code g (dispatch_instruction g.layout g.thread g.used before context at variables (Some (Drop from)))
+  drop_taken from here =
+      let owned = owned_slot (slot_of s from) (first_false _ _ here.met.not_empty) (first_false _ _ here.met.owned) in
+      let row = owned_row (call_of code context) (slot_of s from) (row_of variables from) owned
+      (here.inside.grounded from) in
+      let in_slots : from < length s.slots = omega (arith, here.variables, here.inside.slots) in
+      let in_rows : from < length variables = omega (arith, here.variables, here.inside.rows) in
+      let next : IsInside (call_of code context) (at + 1) (slice_set variables from None) (put s from Empty) = record {
+        is_call = here.inside.is_call;
+        exits = here.inside.exits ++ Success ∷ [];
+        arrived = here.leads Success (at + 1) refl;
+        slots = length-set s.slots from Empty ∙ here.inside.slots;
+        rows = length-set variables from None ∙ here.inside.rows;
+        grounded = grounded-put (call_of code context) s variables from Empty None in_slots in_rows tt
+            here.inside.grounded;
+      } in
+      let held_now : HoldsAlone g.bag g.thread (once_each (of_variables (call_of code context) (put s from Empty)
+      (slice_set variables from None)))
+      (ReleaseLoad row.0 (by_variable context from) ∷ Settle ∷ []) =
+      record {
+        each = emptied_held g.bag g.thread (call_of code context) s variables from row.0 in_slots owned row.1
+            here.holds;
+      } in
+      let free : names s.locked from ≡ false = first_false _ _ here.met.unlocked in
+      let taken : (found : ℕ) → Taken code g found (InCall context (at + 1) (slice_set variables from None))
+      (ReleaseLoad row.0 (by_variable context from)) (Settle ∷ []) = λ found. record {
+        placed = (
+          put s from Empty,
+          next,
+          guards-put s variables from Empty None s.locked g.locked free here.guards,
+          held_now,
+        );
+        starts =
+            Gives row.0 (by_variable context from) (Settle ∷ [])
+            (given_referenced g.bag g.thread (call_of code context) s variables from row.0 owned row.1 here.holds);
+        follows = Settles (in_call_stays context (at + 1) (slice_set variables from None));
+        keeps = keeps_given code context g before at variables s (Drop from) row.0 from here free;
+      } in
+      taken_with_row code g row.0 (row_of variables from)
+      (λ r. Does (ReleaseLoad r (by_variable context from)) (Settle ∷ [])
+      (always (InCall context (at + 1) (slice_set variables from None)))) row.1 taken
 
-ret_taken : (code : List Instr) (g : Scene) (before : Place) (context : Context) (at : ℕ)
-    (variables : List (Option ℕ))
-    (s : State) (from : ℕ)
-    → StandsAt code context g before at variables s (Ret from)
-    → IsTaken code g (dispatch_instruction g.layout g.thread g.used before context at variables (Some (Ret from)))
-ret_taken code g before context at variables s from here =
-    let owned = owned_slot (slot_of s from) (first_false _ _ here.met.not_empty) (first_false _ _ here.met.owned) in
-    let row = owned_row (call_of code context) (slot_of s from) (row_of variables from) owned
-    (here.inside.grounded from) in
-    let in_slots : from < length s.slots = omega (arith, here.variables, here.inside.slots) in
-    let none : list_any is_owned (put s from Empty).slots ≡ false = first_false _ _ here.met.none_left in
-    let held_now : HoldsAlone g.bag g.thread (once_each the_root)
-    (ReleaseLoad row.0 (by_variable context from) ∷ Settle ∷ []) =
-    record {
-      each = λ k object.
-          let said : one_if (of_variables (call_of code context) (put s from Empty) (slice_set variables from None) k
-          object)
-          ≡ one_if (the_root k object) =
-          ap one_if (ended_says code context (put s from Empty) (slice_set variables from None) k object none) in
-          omega (
-            arith,
-            emptied_held g.bag g.thread (call_of code context) s variables from row.0 in_slots owned row.1 here.holds k
-                object,
-            said,
-          );
-    } in
-    let free : names s.locked from ≡ false = first_false _ _ here.met.unlocked in
-    let none_locked = guards_none s variables s.locked g.locked (first_false _ _ here.met.no_lock_left) here.guards in
-    let taken : (found : ℕ) → Taken code g found (Idle context.left) (ReleaseLoad row.0 (by_variable context from))
-    (Settle ∷ []) =
-    λ found. record {
-      placed = (none_locked, held_now);
-      starts =
-          Gives row.0 (by_variable context from) (Settle ∷ [])
-          (given_referenced g.bag g.thread (call_of code context) s variables from row.0 owned row.1 here.holds);
-      follows = Settles (idle_stays context.left);
-      keeps = keeps_given code context g before at variables s (Ret from) row.0 from here free;
-    } in
-    taken_with_row code g row.0 (row_of variables from)
-    (λ r. Does (ReleaseLoad r (by_variable context from)) (Settle ∷ []) (always (Idle context.left))) row.1 taken
+  ret_taken : (from : ℕ) → StandsAt code context g before at variables s (Ret from)
+      → IsTaken code g (dispatch_instruction g.layout g.thread g.used before context at variables (Some (Ret from)))
+  ret_taken from here =
+      let owned = owned_slot (slot_of s from) (first_false _ _ here.met.not_empty) (first_false _ _ here.met.owned) in
+      let row = owned_row (call_of code context) (slot_of s from) (row_of variables from) owned
+      (here.inside.grounded from) in
+      let in_slots : from < length s.slots = omega (arith, here.variables, here.inside.slots) in
+      let none : list_any is_owned (put s from Empty).slots ≡ false = first_false _ _ here.met.none_left in
+      let held_now : HoldsAlone g.bag g.thread (once_each the_root)
+      (ReleaseLoad row.0 (by_variable context from) ∷ Settle ∷ []) =
+      record {
+        each = λ k object.
+            let said : one_if (of_variables (call_of code context) (put s from Empty) (slice_set variables from None) k
+            object) ≡ one_if (the_root k object) =
+            ap one_if (ended_says code context (put s from Empty) (slice_set variables from None) k object none) in
+            omega (
+              arith,
+              emptied_held g.bag g.thread (call_of code context) s variables from row.0 in_slots owned row.1 here.holds
+                  k object,
+              said,
+            );
+      } in
+      let free : names s.locked from ≡ false = first_false _ _ here.met.unlocked in
+      let none_locked = guards_none s variables s.locked g.locked (first_false _ _ here.met.no_lock_left) here.guards in
+      let taken : (found : ℕ) → Taken code g found (Idle context.left) (ReleaseLoad row.0 (by_variable context from))
+      (Settle ∷ []) =
+      λ found. record {
+        placed = (none_locked, held_now);
+        starts =
+            Gives row.0 (by_variable context from) (Settle ∷ [])
+            (given_referenced g.bag g.thread (call_of code context) s variables from row.0 owned row.1 here.holds);
+        follows = Settles (idle_stays context.left);
+        keeps = keeps_given code context g before at variables s (Ret from) row.0 from here free;
+      } in
+      taken_with_row code g row.0 (row_of variables from)
+      (λ r. Does (ReleaseLoad r (by_variable context from)) (Settle ∷ []) (always (Idle context.left))) row.1 taken
 
--- ---- each instruction
+  -- ---- each instruction
 
-instruction_taken : (code : List Instr) (g : Scene) (before : Place) (context : Context) (at : ℕ)
-    (variables : List (Option ℕ))
-    (s : State) (i : Instr)
-    → StandsAt code context g before at variables s i
-    → IsTaken code g (dispatch_instruction g.layout g.thread g.used before context at variables (Some i))
-instruction_taken code g before context at variables s (Num to value otherwise) here =
-    num_taken code g before context at variables s to value otherwise here
-instruction_taken code g before context at variables s (ListObject to cells otherwise) here =
-    list_taken code g before context at variables s to cells otherwise here
-instruction_taken code g before context at variables s (NoneObject to) here =
-    none_taken code g before context at variables s to here
-instruction_taken code g before context at variables s (MoveReference to from) here =
-    move_taken code g before context at variables s to from here
-instruction_taken code g before context at variables s (Newref to from) here =
-    newref_taken code g before context at variables s to from here
-instruction_taken code g before context at variables s (Drop from) here =
-    drop_taken code g before context at variables s from here
-instruction_taken code g before context at variables s (Lock object) here =
-    lock_taken code g before context at variables s object here
-instruction_taken code g before context at variables s (Unlock object) here =
-    unlock_taken code g before context at variables s object here
-instruction_taken code g before context at variables s (Borrow to list index otherwise) here =
-    borrow_taken code g before context at variables s to list index otherwise here
-instruction_taken code g before context at variables s (Fetch to list index otherwise) here =
-    fetch_taken code g before context at variables s to list index otherwise here
-instruction_taken code g before context at variables s (Set list index from otherwise) here =
-    set_taken code g before context at variables s list index from otherwise here
-instruction_taken code g before context at variables s (Put list index from otherwise) here =
-    put_taken code g before context at variables s list index from otherwise here
-instruction_taken code g before context at variables s (Open to path mode otherwise) here =
-    open_taken code g context at variables s before to path mode otherwise here
-instruction_taken code g before context at variables s (Connect to peer otherwise) here =
-    connect_taken code g context at variables s before to peer otherwise here
-instruction_taken code g before context at variables s (Read to file most otherwise) here =
-    read_taken code g context at variables s before to file most otherwise here
-instruction_taken code g before context at variables s (Write file number otherwise) here =
-    write_taken code g context at variables s before file number otherwise here
-instruction_taken code g before context at variables s (As from kind otherwise) here =
-    as_taken code g before context at variables s from kind otherwise here
-instruction_taken code g before context at variables s (Ret from) here =
-    ret_taken code g before context at variables s from here
-instruction_taken code g before context at variables s (Goto to) here =
-    goto_taken code g before context at variables s to here
-instruction_taken code g before context at variables s (Again to times) here =
-    again_taken code g before context at variables s to times here
-instruction_taken code g before context at variables s Fail here =
-    let taken : SilentTaken code g [] (Idle context.left) = record {
-      moves_fit = Stays;
-      placed = (
-        guards_none s variables s.locked g.locked (first_false _ _ here.met.no_lock_left) here.guards,
-        holds_at_none g.bag g.thread the_root
-            (holds-ended g.bag g.thread code context s variables (first_false _ _ here.met.none_left) here.holds),
-      );
-      stays = idle_stays context.left;
-    } in
-    taken
+  instruction_taken : (i : Instr) → StandsAt code context g before at variables s i
+      → IsTaken code g (dispatch_instruction g.layout g.thread g.used before context at variables (Some i))
+  instruction_taken (Num to value otherwise) here = num_taken to value otherwise here
+  instruction_taken (ListObject to cells otherwise) here = list_taken to cells otherwise here
+  instruction_taken (NoneObject to) here = none_taken to here
+  instruction_taken (MoveReference to from) here = move_taken to from here
+  instruction_taken (Newref to from) here = newref_taken to from here
+  instruction_taken (Drop from) here = drop_taken from here
+  instruction_taken (Lock object) here = lock_taken object here
+  instruction_taken (Unlock object) here = unlock_taken object here
+  instruction_taken (Borrow to list index otherwise) here = borrow_taken to list index otherwise here
+  instruction_taken (Fetch to list index otherwise) here = fetch_taken to list index otherwise here
+  instruction_taken (Set list index from otherwise) here = set_taken list index from otherwise here
+  instruction_taken (Put list index from otherwise) here = put_taken list index from otherwise here
+  instruction_taken (Open to path mode otherwise) here =
+      open_taken code g context at variables s before to path mode otherwise here
+  instruction_taken (Connect to peer otherwise) here =
+      connect_taken code g context at variables s before to peer otherwise here
+  instruction_taken (Read to file most otherwise) here =
+      read_taken code g context at variables s before to file most otherwise here
+  instruction_taken (Write file number otherwise) here =
+      write_taken code g context at variables s before file number otherwise here
+  instruction_taken (As from kind otherwise) here = as_taken from kind otherwise here
+  instruction_taken (Ret from) here = ret_taken from here
+  instruction_taken (Goto to) here = goto_taken to here
+  instruction_taken (Again to times) here = again_taken to times here
+  instruction_taken Fail here =
+      let taken : SilentTaken code g [] (Idle context.left) = record {
+        moves_fit = Stays;
+        placed = (
+          guards_none s variables s.locked g.locked (first_false _ _ here.met.no_lock_left) here.guards,
+          holds_at_none g.bag g.thread the_root
+              (holds-ended g.bag g.thread code context s variables (first_false _ _ here.met.none_left) here.holds),
+        );
+        stays = idle_stays context.left;
+      } in
+      taken
 
 -- What the thread's words say of kinds and items, at its place and at the beginning of a call; what it has lent, and
 -- whether it has room.
@@ -286,7 +256,7 @@ in_call_taken code g before context at variables s accepted instructions inside 
     } in
     subst (λ (o : Option Instr). IsTaken code g
     (dispatch_instruction g.layout g.thread g.used before context at variables o))
-    (sym on.found) (instruction_taken code g before context at variables s on.here here)
+    (sym on.found) (instruction_taken on.here here)
 
 -- Inside an instruction the state before it still stands.
 inside_call_taken : (code : List Instr) (g : Scene) (context : Context) (at : ℕ) (variables : List (Option ℕ))

@@ -175,48 +175,45 @@ birth_taken code g context at variables s to word otherwise kind here =
     (λ room found. born code g context at variables s to word otherwise kind here room found)
     (not_born code g context at variables s to word otherwise kind here)
 
-pub num_taken : (code : List Instr) (g : Scene) (before : Place) (context : Context) (at : ℕ)
-    (variables : List (Option ℕ))
-    (s : State) (to value otherwise : ℕ)
-    → StandsAt code context g before at variables s (Num to value otherwise)
-    → IsTaken code g
-    (dispatch_instruction g.layout g.thread g.used before context at variables (Some (Num to value otherwise)))
-num_taken code g before context at variables s to value otherwise here =
-    birth_taken code g context at variables s to (number_word value) otherwise kinds.Num (record {
-      inside = here.inside;
-      holds = here.holds;
-      guards = here.guards;
-      unlocked = first_false _ _ here.met.unlocked;
-      keeps = keeps_all code context g before at variables s (Num to value otherwise)
-          (BirthKind (row_at g.layout g.thread g.used) (by_variable context to) (number_word value)) here
-          (λ k object. refl);
-      variable = here.variables.0;
-      free = first_false _ _ here.met.free;
-      few_cells = number_cells value here.variables.1;
-      counted = number_counts value here.variables.1;
-      owned_next = here.leads Success (at + 1) refl;
-      empty_next = here.leads Fault otherwise refl;
-    })
+module _ {code : List Instr} {g : Scene} {before : Place} {context : Context} {at : ℕ} {variables : List (Option ℕ)}
+    {s : State} where
+  pub num_taken : (to value otherwise : ℕ) → StandsAt code context g before at variables s (Num to value otherwise)
+      → IsTaken code g (dispatch_instruction g.layout g.thread g.used before context at variables
+      (Some (Num to value otherwise)))
+  num_taken to value otherwise here =
+      birth_taken code g context at variables s to (number_word value) otherwise kinds.Num (record {
+        inside = here.inside;
+        holds = here.holds;
+        guards = here.guards;
+        unlocked = first_false _ _ here.met.unlocked;
+        keeps = keeps_all code context g before at variables s (Num to value otherwise)
+            (BirthKind (row_at g.layout g.thread g.used) (by_variable context to) (number_word value)) here
+            (λ k object. refl);
+        variable = here.variables.0;
+        free = first_false _ _ here.met.free;
+        few_cells = number_cells value here.variables.1;
+        counted = number_counts value here.variables.1;
+        owned_next = here.leads Success (at + 1) refl;
+        empty_next = here.leads Fault otherwise refl;
+      })
 
-pub list_taken : (code : List Instr) (g : Scene) (before : Place) (context : Context) (at : ℕ)
-    (variables : List (Option ℕ))
-    (s : State) (to cells otherwise : ℕ)
-    → StandsAt code context g before at variables s (ListObject to cells otherwise)
-    → IsTaken code g
-    (dispatch_instruction g.layout g.thread g.used before context at variables (Some (ListObject to cells otherwise)))
-list_taken code g before context at variables s to cells otherwise here =
-    birth_taken code g context at variables s to (list_word cells) otherwise kinds.List (record {
-      inside = here.inside;
-      holds = here.holds;
-      guards = here.guards;
-      unlocked = first_false _ _ here.met.unlocked;
-      keeps = keeps_all code context g before at variables s (ListObject to cells otherwise)
-          (BirthKind (row_at g.layout g.thread g.used) (by_variable context to) (list_word cells)) here
-          (λ k object. refl);
-      variable = here.variables.0;
-      free = first_false _ _ here.met.free;
-      few_cells = list_cells cells here.variables.2;
-      counted = list_counts cells here.variables.2;
-      owned_next = here.leads Success (at + 1) refl;
-      empty_next = here.leads Fault otherwise refl;
-    })
+  pub list_taken : (to cells otherwise : ℕ)
+      → StandsAt code context g before at variables s (ListObject to cells otherwise)
+      → IsTaken code g (dispatch_instruction g.layout g.thread g.used before context at variables
+      (Some (ListObject to cells otherwise)))
+  list_taken to cells otherwise here =
+      birth_taken code g context at variables s to (list_word cells) otherwise kinds.List (record {
+        inside = here.inside;
+        holds = here.holds;
+        guards = here.guards;
+        unlocked = first_false _ _ here.met.unlocked;
+        keeps = keeps_all code context g before at variables s (ListObject to cells otherwise)
+            (BirthKind (row_at g.layout g.thread g.used) (by_variable context to) (list_word cells)) here
+            (λ k object. refl);
+        variable = here.variables.0;
+        free = first_false _ _ here.met.free;
+        few_cells = list_cells cells here.variables.2;
+        counted = list_counts cells here.variables.2;
+        owned_next = here.leads Success (at + 1) refl;
+        empty_next = here.leads Fault otherwise refl;
+      })

@@ -62,36 +62,30 @@ holds_nothing_in_flight bag t call s variables holds =
 
 -- ---- the kind word is loaded
 
--- The thread holds what it held while it loads the list's kind word, wherever it then is.
-asks_first : (code : List Instr) (context : Context) (g : Scene) (before : Place) (at : ℕ)
-    (variables : List (Option ℕ)) (s : State)
-    (i : Instr) (list row found : ℕ) (place : Place)
-    → StandsAt code context g before at variables s i → is_empty (slot_of s list) ≡ false → row_of variables list
-    ≡ Some row
-    → (place ≢ Exiting) → PlaceFits code g.bag g.thread (KindLoad row ∷ []) g.locked place
-    → Taken code g found place (KindLoad row) []
-asks_first code context g before at variables s i list row found place here some is stays fits =
-    let named = named_at code context g before at variables s i list here some in
-    let same : named.object ≡ row = some_is named.object row (sym named.is_row ∙ is) in
-    record {
-      placed = fits;
-      starts = Asks row (subst (λ (x : ℕ). Backs g x) same named.backs);
-      follows = Nothing stays;
-      keeps = keeps_all code context g before at variables s i (KindLoad row) here (λ k object. refl);
-    }
+module _ {code : List Instr} {g : Scene} {before : Place} {context : Context} {at : ℕ} {variables : List (Option ℕ)}
+    {s : State} where
+  -- The thread holds what it held while it loads the list's kind word, wherever it then is.
+  asks_first : (i : Instr) (list row found : ℕ) (place : Place) → StandsAt code context g before at variables s i
+      → is_empty (slot_of s list) ≡ false → row_of variables list ≡ Some row → (place ≢ Exiting)
+      → PlaceFits code g.bag g.thread (KindLoad row ∷ []) g.locked place → Taken code g found place (KindLoad row) []
+  asks_first i list row found place here some is stays fits =
+      let named = named_at code context g before at variables s i list here some in
+      let same : named.object ≡ row = some_is named.object row (sym named.is_row ∙ is) in
+      record {
+        placed = fits;
+        starts = Asks row (subst (λ (x : ℕ). Backs g x) same named.backs);
+        follows = Nothing stays;
+        keeps = keeps_all code context g before at variables s i (KindLoad row) here (λ k object. refl);
+      }
 
--- The place inside the instruction, while the kind word is loaded.
-asks_inside : (code : List Instr) (g : Scene) (before : Place) (context : Context) (at : ℕ)
-    (variables : List (Option ℕ)) (s : State)
-    (i : Instr) (row : ℕ) (stage : Stage)
-    → StandsAt code context g before at variables s i → in_flight (Some i) stage variables ≡ None
-    → has_stage (Some i) stage ≡ true
-    → PlaceFits code g.bag g.thread (KindLoad row ∷ []) g.locked (Inside context at variables stage)
-asks_inside code g before context at variables s i row stage here is staged =
-    let holds = holds_nothing_in_flight g.bag g.thread (call_of code context) s variables here.holds in
-    inside_fits code g.bag g.thread (KindLoad row ∷ []) g.locked context at variables s stage i None here.found is
-    staged
-    here.inside here.guards (record { each = λ k object. omega (arith, holds.each k object) })
+  -- The place inside the instruction, while the kind word is loaded.
+  asks_inside : (i : Instr) (row : ℕ) (stage : Stage) → StandsAt code context g before at variables s i
+      → in_flight (Some i) stage variables ≡ None → has_stage (Some i) stage ≡ true
+      → PlaceFits code g.bag g.thread (KindLoad row ∷ []) g.locked (Inside context at variables stage)
+  asks_inside i row stage here is staged =
+      let holds = holds_nothing_in_flight g.bag g.thread (call_of code context) s variables here.holds in
+      inside_fits code g.bag g.thread (KindLoad row ∷ []) g.locked context at variables s stage i None here.found is
+      staged here.inside here.guards (record { each = λ k object. omega (arith, holds.each k object) })
 
 -- The list has no such cell, so no item comes into the variable.
 asks_empty : (code : List Instr) (g : Scene) (before : Place) (context : Context) (at : ℕ)
@@ -140,115 +134,102 @@ brings_taken code g before context at variables s i to list index otherwise here
     (KindLoad row) [] = λ found.
     either (λ (place : Place). Taken code g found place (KindLoad row) []) (nat_lt index (cells_of found))
     (Inside context at variables InRange) outside
-    (λ within. asks_first code context g before at variables s i list row found (Inside context at variables InRange)
-    here some
-    named.is_row (inside_stays context at variables InRange)
-    (asks_inside code g before context at variables s i row InRange here is staged))
-    (asks_first code context g before at variables s i list row found outside here some named.is_row
+    (λ within. asks_first i list row found (Inside context at variables InRange) here some named.is_row
+    (inside_stays context at variables InRange) (asks_inside i row InRange here is staged))
+    (asks_first i list row found outside here some named.is_row
     (in_call_stays context otherwise (slice_set variables to None))
     (asks_empty code g before context at variables s i row to otherwise here low free unlocked arrived)) in
     taken_with_row code g row (row_of variables list)
     (λ x. Does (KindLoad x) [] (by_range index (Inside context at variables InRange) outside)) named.is_row taken
 
-pub borrow_taken : (code : List Instr) (g : Scene) (before : Place) (context : Context) (at : ℕ)
-    (variables : List (Option ℕ))
-    (s : State) (to list index otherwise : ℕ)
-    → StandsAt code context g before at variables s (Borrow to list index otherwise)
-    → IsTaken code g
-    (dispatch_instruction g.layout g.thread g.used before context at variables (Some (Borrow to list index otherwise)))
-borrow_taken code g before context at variables s to list index otherwise here =
-    brings_taken code g before context at variables s (Borrow to list index otherwise) to list index otherwise here
-    here.variables.0 (first_false _ _ here.met.free) (first_false _ _ here.met.unlocked)
-    (first_false _ _ here.met.not_empty) refl refl (here.leads Fault otherwise refl)
+module _ {code : List Instr} {g : Scene} {before : Place} {context : Context} {at : ℕ} {variables : List (Option ℕ)}
+    {s : State} where
+  pub borrow_taken : (to list index otherwise : ℕ)
+      → StandsAt code context g before at variables s (Borrow to list index otherwise)
+      → IsTaken code g (dispatch_instruction g.layout g.thread g.used before context at variables
+      (Some (Borrow to list index otherwise)))
+  borrow_taken to list index otherwise here =
+      brings_taken code g before context at variables s (Borrow to list index otherwise) to list index otherwise here
+      here.variables.0 (first_false _ _ here.met.free) (first_false _ _ here.met.unlocked)
+      (first_false _ _ here.met.not_empty) refl refl (here.leads Fault otherwise refl)
 
-pub fetch_taken : (code : List Instr) (g : Scene) (before : Place) (context : Context) (at : ℕ)
-    (variables : List (Option ℕ))
-    (s : State) (to list index otherwise : ℕ)
-    → StandsAt code context g before at variables s (Fetch to list index otherwise)
-    → IsTaken code g
-    (dispatch_instruction g.layout g.thread g.used before context at variables (Some (Fetch to list index otherwise)))
-fetch_taken code g before context at variables s to list index otherwise here =
-    brings_taken code g before context at variables s (Fetch to list index otherwise) to list index otherwise here
-    here.variables.0 (first_false _ _ here.met.free) (first_false _ _ here.met.unlocked)
-    (first_false _ _ here.met.not_empty) refl refl (here.leads Fault otherwise refl)
+  pub fetch_taken : (to list index otherwise : ℕ)
+      → StandsAt code context g before at variables s (Fetch to list index otherwise)
+      → IsTaken code g (dispatch_instruction g.layout g.thread g.used before context at variables
+      (Some (Fetch to list index otherwise)))
+  fetch_taken to list index otherwise here =
+      brings_taken code g before context at variables s (Fetch to list index otherwise) to list index otherwise here
+      here.variables.0 (first_false _ _ here.met.free) (first_false _ _ here.met.unlocked)
+      (first_false _ _ here.met.not_empty) refl refl (here.leads Fault otherwise refl)
 
--- ---- an instruction that stores an item
+  -- ---- an instruction that stores an item
 
-pub set_taken : (code : List Instr) (g : Scene) (before : Place) (context : Context) (at : ℕ)
-    (variables : List (Option ℕ))
-    (s : State) (list index from otherwise : ℕ)
-    → StandsAt code context g before at variables s (Set list index from otherwise)
-    → IsTaken code g
-    (dispatch_instruction g.layout g.thread g.used before context at variables (Some (Set list index from otherwise)))
-set_taken code g before context at variables s list index from otherwise here =
-    let i = Set list index from otherwise in
-    let some : is_empty (slot_of s list) ≡ false = first_false _ _ (second_false _ _ here.met.not_empty) in
-    let named = named_at code context g before at variables s i list here some in
-    let row = named.object in
-    let at_stage : (stage : Stage) → in_flight (Some i) stage variables ≡ None → has_stage (Some i) stage ≡ true
-    → (found : ℕ) → Taken code g found (Inside context at variables stage) (KindLoad row) [] = λ stage is staged found.
-    asks_first code context g before at variables s i list row found (Inside context at variables stage) here some
-    named.is_row
-    (inside_stays context at variables stage)
-    (asks_inside code g before context at variables s i row stage here is staged) in
-    let taken : (found : ℕ) → Taken code g found
-    (by_range index (Inside context at variables InRange) (Inside context at variables OutOfRange) found)
-    (KindLoad row) [] = λ found.
-    either (λ (place : Place). Taken code g found place (KindLoad row) []) (nat_lt index (cells_of found))
-    (Inside context at variables InRange) (Inside context at variables OutOfRange)
-    (λ within. at_stage InRange refl refl found) (at_stage OutOfRange refl refl found) in
-    taken_with_row code g row (row_of variables list)
-    (λ x. Does (KindLoad x) []
-    (by_range index (Inside context at variables InRange) (Inside context at variables OutOfRange))) named.is_row
-    taken
+  pub set_taken : (list index from otherwise : ℕ)
+      → StandsAt code context g before at variables s (Set list index from otherwise)
+      → IsTaken code g (dispatch_instruction g.layout g.thread g.used before context at variables
+      (Some (Set list index from otherwise)))
+  set_taken list index from otherwise here =
+      let i = Set list index from otherwise in
+      let some : is_empty (slot_of s list) ≡ false = first_false _ _ (second_false _ _ here.met.not_empty) in
+      let named = named_at code context g before at variables s i list here some in
+      let row = named.object in
+      let at_stage : (stage : Stage) → in_flight (Some i) stage variables ≡ None → has_stage (Some i) stage ≡ true
+      → (found : ℕ) → Taken code g found (Inside context at variables stage) (KindLoad row) [] =
+      λ stage is staged found.
+      asks_first i list row found (Inside context at variables stage) here some named.is_row
+      (inside_stays context at variables stage) (asks_inside i row stage here is staged) in
+      let taken : (found : ℕ) → Taken code g found
+      (by_range index (Inside context at variables InRange) (Inside context at variables OutOfRange) found)
+      (KindLoad row) [] = λ found.
+      either (λ (place : Place). Taken code g found place (KindLoad row) []) (nat_lt index (cells_of found))
+      (Inside context at variables InRange) (Inside context at variables OutOfRange)
+      (λ within. at_stage InRange refl refl found) (at_stage OutOfRange refl refl found) in
+      taken_with_row code g row (row_of variables list)
+      (λ x. Does (KindLoad x) []
+      (by_range index (Inside context at variables InRange) (Inside context at variables OutOfRange))) named.is_row
+      taken
 
-pub put_taken : (code : List Instr) (g : Scene) (before : Place) (context : Context) (at : ℕ)
-    (variables : List (Option ℕ))
-    (s : State) (list index from otherwise : ℕ)
-    → StandsAt code context g before at variables s (Put list index from otherwise)
-    → IsTaken code g
-    (dispatch_instruction g.layout g.thread g.used before context at variables (Some (Put list index from otherwise)))
-put_taken code g before context at variables s list index from otherwise here =
-    let i = Put list index from otherwise in
-    let some : is_empty (slot_of s list) ≡ false = first_false _ _
-    (second_false (is_empty (slot_of s from)) _ here.met.not_empty) in
-    let named = named_at code context g before at variables s i list here some in
-    let row = named.object in
-    let changed = without_items s in
-    let next : IsInside (call_of code context) otherwise variables changed = record {
-      is_call = here.inside.is_call;
-      exits = here.inside.exits ++ Fault ∷ [];
-      arrived = here.leads Fault otherwise refl;
-      slots = length-map s.slots without_item ∙ here.inside.slots;
-      rows = here.inside.rows;
-      grounded = grounded-without (call_of code context) s variables here.inside.grounded;
-    } in
-    let outside : PlaceFits code g.bag g.thread (KindLoad row ∷ []) g.locked (InCall context otherwise variables) = (
-      changed,
-      next,
-      guards-without s variables s.locked g.locked here.guards,
-      record {
-        each = λ k object.
-            omega (
-              arith,
-              here.holds.each k object,
-              ap one_if
-                  (says-without (call_of code context) s variables k object),
-            );
-      },
-    ) in
-    let taken : (found : ℕ) → Taken code g found
-    (by_range index (Inside context at variables InRange) (InCall context otherwise variables) found) (KindLoad row)
-    [] =
-    λ found. either (λ (place : Place). Taken code g found place (KindLoad row) []) (nat_lt index (cells_of found))
-    (Inside context at variables InRange) (InCall context otherwise variables)
-    (λ within. asks_first code context g before at variables s i list row found (Inside context at variables InRange)
-    here some
-    named.is_row (inside_stays context at variables InRange)
-    (asks_inside code g before context at variables s i row InRange here refl refl))
-    (asks_first code context g before at variables s i list row found
-    (InCall context otherwise variables) here some named.is_row
-    (in_call_stays context otherwise variables) outside) in
-    taken_with_row code g row (row_of variables list)
-    (λ x. Does (KindLoad x) []
-    (by_range index (Inside context at variables InRange) (InCall context otherwise variables))) named.is_row taken
+  pub put_taken : (list index from otherwise : ℕ)
+      → StandsAt code context g before at variables s (Put list index from otherwise)
+      → IsTaken code g (dispatch_instruction g.layout g.thread g.used before context at variables
+      (Some (Put list index from otherwise)))
+  put_taken list index from otherwise here =
+      let i = Put list index from otherwise in
+      let some : is_empty (slot_of s list) ≡ false = first_false _ _
+      (second_false (is_empty (slot_of s from)) _ here.met.not_empty) in
+      let named = named_at code context g before at variables s i list here some in
+      let row = named.object in
+      let changed = without_items s in
+      let next : IsInside (call_of code context) otherwise variables changed = record {
+        is_call = here.inside.is_call;
+        exits = here.inside.exits ++ Fault ∷ [];
+        arrived = here.leads Fault otherwise refl;
+        slots = length-map s.slots without_item ∙ here.inside.slots;
+        rows = here.inside.rows;
+        grounded = grounded-without (call_of code context) s variables here.inside.grounded;
+      } in
+      let outside : PlaceFits code g.bag g.thread (KindLoad row ∷ []) g.locked (InCall context otherwise variables) = (
+        changed,
+        next,
+        guards-without s variables s.locked g.locked here.guards,
+        record {
+          each = λ k object.
+              omega (
+                arith,
+                here.holds.each k object,
+                ap one_if (says-without (call_of code context) s variables k object),
+              );
+        },
+      ) in
+      let taken : (found : ℕ)
+      → Taken code g found (by_range index (Inside context at variables InRange) (InCall context otherwise variables)
+      found) (KindLoad row) [] =
+      λ found. either (λ (place : Place). Taken code g found place (KindLoad row) []) (nat_lt index (cells_of found))
+      (Inside context at variables InRange) (InCall context otherwise variables)
+      (λ within. asks_first i list row found (Inside context at variables InRange) here some named.is_row
+      (inside_stays context at variables InRange) (asks_inside i row InRange here refl refl))
+      (asks_first i list row found (InCall context otherwise variables) here some named.is_row
+      (in_call_stays context otherwise variables) outside) in
+      taken_with_row code g row (row_of variables list)
+      (λ x. Does (KindLoad x) []
+      (by_range index (Inside context at variables InRange) (InCall context otherwise variables))) named.is_row taken

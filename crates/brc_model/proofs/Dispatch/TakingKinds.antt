@@ -42,51 +42,51 @@ asks_taken code g context next found variables s row inside guards holds backs k
       keeps = keeps;
     }
 
-pub as_taken : (code : List Instr) (g : Scene) (before : Place) (context : Context) (at : ℕ)
-    (variables : List (Option ℕ)) (s : State) (from : ℕ) (kind : Kind) (otherwise : ℕ)
-    → StandsAt code context g before at variables s (As from kind otherwise)
-    → IsTaken code g
-    (dispatch_instruction g.layout g.thread g.used before context at variables (Some (As from kind otherwise)))
-as_taken code g before context at variables s from kind otherwise here =
-    let some : is_empty (slot_of s from) ≡ false = first_false _ _ here.met.not_empty in
-    let live = named_at code context g before at variables s (As from kind otherwise) from here some in
-    let in_slots : from < length s.slots = omega (arith, here.variables.0, here.inside.slots) in
-    let narrowed = put s from (with_kind (slot_of s from) kind) in
-    let next : IsInside (call_of code context) (at + 1) variables narrowed = record {
-      is_call = here.inside.is_call;
-      exits = here.inside.exits ++ Success ∷ [];
-      arrived = here.leads Success (at + 1) refl;
-      slots = length-set s.slots from (with_kind (slot_of s from) kind) ∙ here.inside.slots;
-      rows = here.inside.rows;
-      grounded = grounded-with_kind (call_of code context) s variables from kind in_slots here.inside.grounded;
-    } in
-    let holds : Holds g.bag g.thread (of_variables (call_of code context) narrowed variables) = record {
-      each = λ h object.
-          here.holds.each h object ∙ ap one_if (says-with_kind (call_of code context) s variables from kind h object
-          in_slots);
-    } in
-    let aside : IsInside (call_of code context) otherwise variables s = record {
-      is_call = here.inside.is_call;
-      exits = here.inside.exits ++ Fault ∷ [];
-      arrived = here.leads Fault otherwise refl;
-      slots = here.inside.slots;
-      rows = here.inside.rows;
-      grounded = here.inside.grounded;
-    } in
-    let keeps =
-    keeps_all code context g before at variables s (As from kind otherwise) (KindLoad live.object) here
-    (λ k object. refl) in
-    let taken : (found : ℕ) → Taken code g found
-    (InCall context (cond (same_kind (kind_of_word found) kind) (at + 1) otherwise) variables)
-    (KindLoad live.object) [] =
-    λ found. either (λ (next : ℕ). Taken code g found (InCall context next variables) (KindLoad live.object) [])
-    (same_kind (kind_of_word found) kind) _ _
-    (λ same.
-    asks_taken code g context (at + 1) found variables narrowed live.object next
-    (guards-with_kind s variables from kind s.locked g.locked in_slots here.guards) holds live.backs keeps)
-    (asks_taken code g context otherwise found variables s live.object aside here.guards here.holds live.backs keeps)
-    in
-    taken_with_row code g live.object (row_of variables from)
-    (λ row. Does (KindLoad row) []
-    (λ found. InCall context (cond (same_kind (kind_of_word found) kind) (at + 1) otherwise) variables))
-    live.is_row taken
+module _ {code : List Instr} {g : Scene} {before : Place} {context : Context} {at : ℕ} {variables : List (Option ℕ)}
+    {s : State} where
+  pub as_taken : (from : ℕ) (kind : Kind) (otherwise : ℕ)
+      → StandsAt code context g before at variables s (As from kind otherwise)
+      → IsTaken code g (dispatch_instruction g.layout g.thread g.used before context at variables
+      (Some (As from kind otherwise)))
+  as_taken from kind otherwise here =
+      let some : is_empty (slot_of s from) ≡ false = first_false _ _ here.met.not_empty in
+      let live = named_at code context g before at variables s (As from kind otherwise) from here some in
+      let in_slots : from < length s.slots = omega (arith, here.variables.0, here.inside.slots) in
+      let narrowed = put s from (with_kind (slot_of s from) kind) in
+      let next : IsInside (call_of code context) (at + 1) variables narrowed = record {
+        is_call = here.inside.is_call;
+        exits = here.inside.exits ++ Success ∷ [];
+        arrived = here.leads Success (at + 1) refl;
+        slots = length-set s.slots from (with_kind (slot_of s from) kind) ∙ here.inside.slots;
+        rows = here.inside.rows;
+        grounded = grounded-with_kind (call_of code context) s variables from kind in_slots here.inside.grounded;
+      } in
+      let holds : Holds g.bag g.thread (of_variables (call_of code context) narrowed variables) = record {
+        each = λ h object.
+            here.holds.each h object ∙ ap one_if (says-with_kind (call_of code context) s variables from kind h object
+            in_slots);
+      } in
+      let aside : IsInside (call_of code context) otherwise variables s = record {
+        is_call = here.inside.is_call;
+        exits = here.inside.exits ++ Fault ∷ [];
+        arrived = here.leads Fault otherwise refl;
+        slots = here.inside.slots;
+        rows = here.inside.rows;
+        grounded = here.inside.grounded;
+      } in
+      let keeps =
+      keeps_all code context g before at variables s (As from kind otherwise) (KindLoad live.object) here
+      (λ k object. refl) in
+      let taken : (found : ℕ)
+      → Taken code g found (InCall context (cond (same_kind (kind_of_word found) kind) (at + 1) otherwise) variables)
+      (KindLoad live.object) [] =
+      λ found. either (λ (next : ℕ). Taken code g found (InCall context next variables) (KindLoad live.object) [])
+      (same_kind (kind_of_word found) kind) _ _ (λ same.
+      asks_taken code g context (at + 1) found variables narrowed live.object next
+      (guards-with_kind s variables from kind s.locked g.locked in_slots here.guards) holds live.backs keeps)
+      (asks_taken code g context otherwise found variables s live.object aside here.guards here.holds live.backs keeps)
+      in
+      taken_with_row code g live.object (row_of variables from)
+      (λ row. Does (KindLoad row) []
+      (λ found. InCall context (cond (same_kind (kind_of_word found) kind) (at + 1) otherwise) variables))
+      live.is_row taken

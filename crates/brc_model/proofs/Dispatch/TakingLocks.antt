@@ -7,7 +7,7 @@ use Rattle.brc_lang.specs.declared.module.Instr.{Instr}
 use Rattle.brc_lang.specs.declared.module.Instr.TheVariants.{Lock, Unlock}
 use Rattle.brc_word.specs.Words.{free_word}
 use Rattle.brc_model.specs.declared.slot.Slot.{Slot}
-use Rattle.brc_model.specs.declared.slot.Slot.TheVariants.{Empty, Owned, Caller, Locked}
+use Rattle.brc_model.specs.declared.slot.Slot.TheVariants.{Locked}
 use Rattle.brc_model.specs.declared.slot.State.{State}
 use Rattle.brc_model.specs.declared.slot.Exit.TheVariants.{Success}
 use Rattle.brc_model.specs.declared.duty.Holding.{Holding}
@@ -35,10 +35,8 @@ use Rattle.brc_model.proofs.Dispatch.Standing.{named_at, keeps_all}
 
 -- A variable that isn't empty keeps its object, since no variable borrows an item while nothing is locked.
 slot_kept : (slot : Slot) → is_empty slot ≡ false → (borrows_item slot ≡ true → ⊥) → is_kept slot ≡ true
-slot_kept Empty some none = absurd cc
-slot_kept (Owned k) some none = refl
-slot_kept (Caller k) some none = refl
 slot_kept (Locked k) some none = absurd (none refl)
+slot_kept _ some none = cc
 
 -- A lock changes nothing of what the thread is to hold.
 says_locked : (call : Activation) (s : State) (variables : List (Option ℕ)) (o : Option ℕ) (h : Holding) (object : ℕ)
@@ -63,102 +61,97 @@ lock_taken_at code g before after row found fits goes back remains =
       | false ↦ (back, remains)
     ]
 
-pub lock_taken : (code : List Instr) (g : Scene) (before : Place) (context : Context) (at : ℕ)
-    (variables : List (Option ℕ))
-    (s : State) (object : ℕ)
-    → StandsAt code context g before at variables s (Lock object)
-    → IsTaken code g (dispatch_instruction g.layout g.thread g.used before context at variables (Some (Lock object)))
-lock_taken code g before context at variables s object here =
-    let some : is_empty (slot_of s object) ≡ false = first_false _ _ here.met.not_empty in
-    let live = named_at code context g before at variables s (Lock object) object here some in
-    let none : g.locked ≡ None =
-    guards_none s variables s.locked g.locked (first_false _ _ here.met.first_lock) here.guards in
-    let no_items : borrows_item (slot_of s object) ≡ true → ⊥ = λ borrows.
-    none_some _ (sym none ∙ (here.items object live.object borrows live.is_row).is_locked) in
-    let can : is_one_of (kind_of (slot_of s object)) lockable ≡ true =
-    not-false _ (first_false _ _ here.met.right_kind) in
-    let locked = with_lock s (Some object) in
-    let next : IsInside (call_of code context) (at + 1) variables locked = record {
-      is_call = here.inside.is_call;
-      exits = here.inside.exits ++ Success ∷ [];
-      arrived = here.leads Success (at + 1) refl;
-      slots = here.inside.slots;
-      rows = here.inside.rows;
-      grounded = here.inside.grounded;
-    } in
-    let held_now : HoldsAlone g.bag g.thread (once_each (of_variables (call_of code context) locked variables))
-    (LockGate live.object ∷ []) =
-    record {
-      each = λ k o. omega (
-        arith,
-        here.holds.each k o,
-        ap one_if
-            (says_locked (call_of code context) s variables (Some object) k o),
-      );
-    }
-    in
-    let goes : PlaceFits code g.bag g.thread (LockGate live.object ∷ []) (Some live.object)
-    (InCall context (at + 1) variables) =
-    (locked, next, (live.object, refl, live.is_row, slot_kept (slot_of s object) some no_items), held_now)
-    in
-    let back = fits_with code g.bag g.thread (LockGate live.object ∷ []) g.locked before (λ k o. refl) (λ k o. refl)
-    here.back in
-    let taken : (found : ℕ) → Taken code g found (cond (found == free_word) (InCall context (at + 1) variables) before)
-    (LockGate live.object) [] = λ found.
-    let placed =
-    lock_taken_at code g before (InCall context (at + 1) variables) live.object found goes
-    (in_call_stays context (at + 1) variables) back here.remains in
-    record {
-      placed = placed.0;
-      starts = Locks live.object live.backs (here.counted live.object
-          (lockable_word (kind_of (slot_of s object)) (words_of g live.object)
-          (here.kinds object live.object live.is_row) can)) none;
-      follows = Nothing placed.1;
-      keeps = λ x is. absurd (let wrong : None ≡ Some x = sym none ∙ is in cc);
-    } in
-    taken_with_row code g live.object (row_of variables object)
-    (λ row. Does (LockGate row) []
-    (λ found. cond (found == free_word) (InCall context (at + 1) variables) before)) live.is_row taken
+module _ {code : List Instr} {g : Scene} {before : Place} {context : Context} {at : ℕ} {variables : List (Option ℕ)}
+    {s : State} where
+  pub lock_taken : (object : ℕ) → StandsAt code context g before at variables s (Lock object)
+      → IsTaken code g (dispatch_instruction g.layout g.thread g.used before context at variables (Some (Lock object)))
+  lock_taken object here =
+      let some : is_empty (slot_of s object) ≡ false = first_false _ _ here.met.not_empty in
+      let live = named_at code context g before at variables s (Lock object) object here some in
+      let none : g.locked ≡ None =
+      guards_none s variables s.locked g.locked (first_false _ _ here.met.first_lock) here.guards in
+      let no_items : borrows_item (slot_of s object) ≡ true → ⊥ = λ borrows.
+      none_some _ (sym none ∙ (here.items object live.object borrows live.is_row).is_locked) in
+      let can : is_one_of (kind_of (slot_of s object)) lockable ≡ true =
+      not-false _ (first_false _ _ here.met.right_kind) in
+      let locked = with_lock s (Some object) in
+      let next : IsInside (call_of code context) (at + 1) variables locked = record {
+        is_call = here.inside.is_call;
+        exits = here.inside.exits ++ Success ∷ [];
+        arrived = here.leads Success (at + 1) refl;
+        slots = here.inside.slots;
+        rows = here.inside.rows;
+        grounded = here.inside.grounded;
+      } in
+      let held_now : HoldsAlone g.bag g.thread (once_each (of_variables (call_of code context) locked variables))
+      (LockGate live.object ∷ []) =
+      record {
+        each = λ k o. omega (
+          arith,
+          here.holds.each k o,
+          ap one_if (says_locked (call_of code context) s variables (Some object) k o),
+        );
+      } in
+      let goes : PlaceFits code g.bag g.thread (LockGate live.object ∷ []) (Some live.object)
+      (InCall context (at + 1) variables) =
+      (locked, next, (live.object, refl, live.is_row, slot_kept (slot_of s object) some no_items), held_now) in
+      let back = fits_with code g.bag g.thread (LockGate live.object ∷ []) g.locked before (λ k o. refl) (λ k o. refl)
+      here.back in
+      let taken : (found : ℕ)
+      → Taken code g found (cond (found == free_word) (InCall context (at + 1) variables) before) (LockGate live.object)
+      [] = λ found.
+      let placed =
+      lock_taken_at code g before (InCall context (at + 1) variables) live.object found goes
+      (in_call_stays context (at + 1) variables) back here.remains in
+      record {
+        placed = placed.0;
+        starts = Locks live.object live.backs (here.counted live.object
+            (lockable_word (kind_of (slot_of s object)) (words_of g live.object)
+            (here.kinds object live.object live.is_row) can)) none;
+        follows = Nothing placed.1;
+        keeps = λ x is. absurd (let wrong : None ≡ Some x = sym none ∙ is in cc);
+      } in
+      taken_with_row code g live.object (row_of variables object)
+      (λ row. Does (LockGate row) []
+      (λ found. cond (found == free_word) (InCall context (at + 1) variables) before)) live.is_row taken
 
--- ---- unlock
+  -- ---- unlock
 
-pub unlock_taken : (code : List Instr) (g : Scene) (before : Place) (context : Context) (at : ℕ)
-    (variables : List (Option ℕ))
-    (s : State) (object : ℕ)
-    → StandsAt code context g before at variables s (Unlock object)
-    → IsTaken code g (dispatch_instruction g.layout g.thread g.used before context at variables (Some (Unlock object)))
-unlock_taken code g before context at variables s object here =
-    let some : is_empty (slot_of s object) ≡ false = first_false _ _ here.met.not_empty in
-    let live = named_at code context g before at variables s (Unlock object) object here some in
-    let this : names s.locked object ≡ true = not-false _ (first_false _ _ here.met.has_lock) in
-    let has : g.locked ≡ Some live.object =
-    guards_row s variables object live.object s.locked g.locked this live.is_row here.guards in
-    let unlocked = with_lock (without_items s) None in
-    let next : IsInside (call_of code context) (at + 1) variables unlocked = record {
-      is_call = here.inside.is_call;
-      exits = here.inside.exits ++ Success ∷ [];
-      arrived = here.leads Success (at + 1) refl;
-      slots = length-map s.slots without_item ∙ here.inside.slots;
-      rows = here.inside.rows;
-      grounded = grounded-without (call_of code context) s variables here.inside.grounded;
-    } in
-    let held_now : HoldsAlone g.bag g.thread (once_each (of_variables (call_of code context) unlocked variables))
-    (UnlockGate live.object ∷ []) =
-    record {
-      each = λ k o.
-          let same : of_variables (call_of code context) s variables k o
-          ≡ of_variables (call_of code context) unlocked variables k o =
-          says-without (call_of code context) s variables k o ∙ says_locked (call_of code context) (without_items s)
-          variables None k o in
-          omega (arith, here.holds.each k o, ap one_if same);
-    } in
-    let taken : (found : ℕ) → Taken code g found (InCall context (at + 1) variables) (UnlockGate live.object) [] =
-    λ found. record {
-      placed = (unlocked, next, refl, held_now);
-      starts = Unlocks live.object live.backs has here.unlent;
-      follows = Nothing (in_call_stays context (at + 1) variables);
-      keeps = keeps_all code context g before at variables s (Unlock object) (UnlockGate live.object) here
-          (λ k o. refl);
-    } in
-    taken_with_row code g live.object (row_of variables object)
-    (λ row. Does (UnlockGate row) [] (always (InCall context (at + 1) variables))) live.is_row taken
+  pub unlock_taken : (object : ℕ) → StandsAt code context g before at variables s (Unlock object)
+      → IsTaken code g (dispatch_instruction g.layout g.thread g.used before context at variables
+      (Some (Unlock object)))
+  unlock_taken object here =
+      let some : is_empty (slot_of s object) ≡ false = first_false _ _ here.met.not_empty in
+      let live = named_at code context g before at variables s (Unlock object) object here some in
+      let this : names s.locked object ≡ true = not-false _ (first_false _ _ here.met.has_lock) in
+      let has : g.locked ≡ Some live.object =
+      guards_row s variables object live.object s.locked g.locked this live.is_row here.guards in
+      let unlocked = with_lock (without_items s) None in
+      let next : IsInside (call_of code context) (at + 1) variables unlocked = record {
+        is_call = here.inside.is_call;
+        exits = here.inside.exits ++ Success ∷ [];
+        arrived = here.leads Success (at + 1) refl;
+        slots = length-map s.slots without_item ∙ here.inside.slots;
+        rows = here.inside.rows;
+        grounded = grounded-without (call_of code context) s variables here.inside.grounded;
+      } in
+      let held_now : HoldsAlone g.bag g.thread (once_each (of_variables (call_of code context) unlocked variables))
+      (UnlockGate live.object ∷ []) =
+      record {
+        each = λ k o.
+            let same : of_variables (call_of code context) s variables k o
+            ≡ of_variables (call_of code context) unlocked variables k o =
+            says-without (call_of code context) s variables k o ∙ says_locked (call_of code context) (without_items s)
+            variables None k o in
+            omega (arith, here.holds.each k o, ap one_if same);
+      } in
+      let taken : (found : ℕ) → Taken code g found (InCall context (at + 1) variables) (UnlockGate live.object) [] =
+      λ found. record {
+        placed = (unlocked, next, refl, held_now);
+        starts = Unlocks live.object live.backs has here.unlent;
+        follows = Nothing (in_call_stays context (at + 1) variables);
+        keeps = keeps_all code context g before at variables s (Unlock object) (UnlockGate live.object) here
+            (λ k o. refl);
+      } in
+      taken_with_row code g live.object (row_of variables object)
+      (λ row. Does (UnlockGate row) [] (always (InCall context (at + 1) variables))) live.is_row taken

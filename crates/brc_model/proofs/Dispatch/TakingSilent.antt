@@ -49,48 +49,48 @@ gained_holds bag t by row says lacks k object =
 
 -- ---- none
 
-pub none_taken : (code : List Instr) (g : Scene) (before : Place) (context : Context) (at : ℕ)
-    (variables : List (Option ℕ))
-    (s : State) (to : ℕ)
-    → StandsAt code context g before at variables s (NoneObject to)
-    → IsTaken code g (dispatch_instruction g.layout g.thread g.used before context at variables (Some (NoneObject to)))
-none_taken code g before context at variables s to here =
-    let slot : Slot = Owned kinds.None in
-    let free : is_owned (slot_of s to) ≡ false = first_false _ _ here.met.free in
-    let in_slots : to < length s.slots = omega (arith, here.variables, here.inside.slots) in
-    let in_rows : to < length variables = omega (arith, here.variables, here.inside.rows) in
-    let next : IsInside (call_of code context) (at + 1) (slice_set variables to (Some none_row)) (put s to slot) =
-    record {
-      is_call = here.inside.is_call;
-      exits = here.inside.exits ++ Success ∷ [];
-      arrived = here.leads Success (at + 1) refl;
-      slots = length-set s.slots to slot ∙ here.inside.slots;
-      rows = length-set variables to (Some none_row) ∙ here.inside.rows;
-      grounded =
-          grounded-put (call_of code context) s variables to slot (Some none_row) in_slots in_rows (none_row, refl)
-          here.inside.grounded;
-    } in
-    let holds : Holds (reference_of g.thread (by_variable context to) none_row ∷ g.bag) g.thread
-    (of_variables (call_of code context) (put s to slot) (slice_set variables to (Some none_row))) =
-    record {
-      each = gained_holds g.bag g.thread (by_variable context to) none_row _
-          (newref_held g.bag g.thread (call_of code context) s variables to none_row slot in_slots in_rows free refl
-          here.holds);
-    } in
-    let taken : SilentTaken code g (gain g.thread (by_variable context to) none_row)
-    (InCall context (at + 1) (slice_set variables to (Some none_row))) =
-    record {
-      moves_fit = GainsNone (by_variable context to);
-      placed = (
-        put s to slot,
-        next,
-        guards-put s variables to slot (Some none_row) s.locked g.locked
-            (first_false _ _ here.met.unlocked) here.guards,
-        holds_at_none _ g.thread _ holds,
-      );
-      stays = in_call_stays context (at + 1) (slice_set variables to (Some none_row));
-    } in
-    taken
+module _ {code : List Instr} {g : Scene} {before : Place} {context : Context} {at : ℕ} {variables : List (Option ℕ)}
+    {s : State} where
+  pub none_taken : (to : ℕ) → StandsAt code context g before at variables s (NoneObject to)
+      → IsTaken code g (dispatch_instruction g.layout g.thread g.used before context at variables
+      (Some (NoneObject to)))
+  none_taken to here =
+      let slot : Slot = Owned kinds.None in
+      let free : is_owned (slot_of s to) ≡ false = first_false _ _ here.met.free in
+      let in_slots : to < length s.slots = omega (arith, here.variables, here.inside.slots) in
+      let in_rows : to < length variables = omega (arith, here.variables, here.inside.rows) in
+      let next : IsInside (call_of code context) (at + 1) (slice_set variables to (Some none_row)) (put s to slot) =
+      record {
+        is_call = here.inside.is_call;
+        exits = here.inside.exits ++ Success ∷ [];
+        arrived = here.leads Success (at + 1) refl;
+        slots = length-set s.slots to slot ∙ here.inside.slots;
+        rows = length-set variables to (Some none_row) ∙ here.inside.rows;
+        grounded =
+            grounded-put (call_of code context) s variables to slot (Some none_row) in_slots in_rows (none_row, refl)
+            here.inside.grounded;
+      } in
+      let holds : Holds (reference_of g.thread (by_variable context to) none_row ∷ g.bag) g.thread
+      (of_variables (call_of code context) (put s to slot) (slice_set variables to (Some none_row))) =
+      record {
+        each = gained_holds g.bag g.thread (by_variable context to) none_row _
+            (newref_held g.bag g.thread (call_of code context) s variables to none_row slot in_slots in_rows free refl
+            here.holds);
+      } in
+      let taken : SilentTaken code g (gain g.thread (by_variable context to) none_row)
+      (InCall context (at + 1) (slice_set variables to (Some none_row))) =
+      record {
+        moves_fit = GainsNone (by_variable context to);
+        placed = (
+          put s to slot,
+          next,
+          guards-put s variables to slot (Some none_row) s.locked g.locked
+              (first_false _ _ here.met.unlocked) here.guards,
+          holds_at_none _ g.thread _ holds,
+        );
+        stays = in_call_stays context (at + 1) (slice_set variables to (Some none_row));
+      } in
+      taken
 
 -- ---- a reference passed on
 
@@ -126,84 +126,81 @@ still_free s from to in_slots free =
       | inr other ↦ ap is_owned (slot_of-put_other s from to Empty other.1) ∙ free
     ]
 
-pub move_taken : (code : List Instr) (g : Scene) (before : Place) (context : Context) (at : ℕ)
-    (variables : List (Option ℕ))
-    (s : State) (to from : ℕ)
-    → StandsAt code context g before at variables s (MoveReference to from)
-    → IsTaken code g
-    (dispatch_instruction g.layout g.thread g.used before context at variables (Some (MoveReference to from)))
-move_taken code g before context at variables s to from here =
-    let owned = owned_slot (slot_of s from) (first_false _ _ here.met.not_empty) (first_false _ _ here.met.owned) in
-    let free : is_owned (slot_of s to) ≡ false = first_false _ _ here.met.free in
-    let row = owned_row (call_of code context) (slot_of s from) (row_of variables from) owned
-    (here.inside.grounded from) in
-    let slot : Slot = Owned (kind_of (slot_of s from)) in
-    let s1 = put s from Empty in
-    let v1 = slice_set variables from None in
-    let r = reference_of g.thread (by_variable context from) row.0 in
-    let in_slots : from < length s.slots = omega (arith, here.variables.1, here.inside.slots) in
-    let in_rows : from < length variables = omega (arith, here.variables.1, here.inside.rows) in
-    let to_slots : to < length s1.slots =
-    omega (arith, here.variables.0, here.inside.slots, length-set s.slots from Empty) in
-    let to_rows : to < length v1 = omega (arith, here.variables.0, here.inside.rows, length-set variables from None) in
-    let grounded = grounded-put (call_of code context) s variables from Empty None in_slots in_rows tt
-    here.inside.grounded in
-    let next : IsInside (call_of code context) (at + 1) (slice_set v1 to (Some row.0)) (put s1 to slot) = record {
-      is_call = here.inside.is_call;
-      exits = here.inside.exits ++ Success ∷ [];
-      arrived = here.leads Success (at + 1) refl;
-      slots = length-set s1.slots to slot ∙ length-set s.slots from Empty ∙ here.inside.slots;
-      rows = length-set v1 to (Some row.0) ∙ length-set variables from None ∙ here.inside.rows;
-      grounded = grounded-put (call_of code context) s1 v1 to slot (Some row.0) to_slots to_rows (row.0, refl) grounded;
-    } in
-    let one : held r g.bag ≡ 1 = owned_has g.bag g.thread (call_of code context) s variables from row.0 owned row.1
-    here.holds in
-    let has = held_has r g.bag (omega (arith, one)) in
-    let fewer = lost_holds g.bag g.thread (call_of code context) s variables from row.0 in_slots owned row.1 here.holds
-    has in
-    let holds : Holds (reference_of g.thread (by_variable context to) row.0 ∷ without r g.bag) g.thread
-    (of_variables (call_of code context) (put s1 to slot) (slice_set v1 to (Some row.0))) =
-    record {
-      each = gained_holds (without r g.bag) g.thread (by_variable context to) row.0 _
-          (newref_held (without r g.bag) g.thread (call_of code context) s1 v1 to row.0 slot to_slots to_rows
-          (still_free s from to in_slots free) refl
-          fewer);
-    } in
-    let from_free : names s.locked from ≡ false = first_false _ _ here.met.unlocked in
-    let to_free : names s.locked to ≡ false = first_false _ _ (second_false _ _ here.met.unlocked) in
-    let guards =
-    guards-put s1 v1 to slot (Some row.0) s.locked g.locked to_free
-    (guards-put s variables from Empty None s.locked g.locked from_free here.guards) in
-    let taken : SilentTaken code g (pass_on g.thread (by_variable context from) (by_variable context to) row.0)
-    (InCall context (at + 1) (slice_set v1 to (Some row.0))) =
-    record {
-      moves_fit = PassesOn (by_variable context from) (by_variable context to) row.0 has;
-      placed = (put s1 to slot, next, guards, holds_at_none _ g.thread _ holds);
-      stays = in_call_stays context (at + 1) (slice_set v1 to (Some row.0));
-    } in
-    taken_with_row code g row.0 (row_of variables from)
-    (λ x. Silent (pass_on g.thread (by_variable context from) (by_variable context to) x)
-    (InCall context (at + 1) (slice_set v1 to (Some x))))
-    row.1 taken
+module _ {code : List Instr} {g : Scene} {before : Place} {context : Context} {at : ℕ} {variables : List (Option ℕ)}
+    {s : State} where
+  pub move_taken : (to from : ℕ) → StandsAt code context g before at variables s (MoveReference to from)
+      → IsTaken code g (dispatch_instruction g.layout g.thread g.used before context at variables
+      (Some (MoveReference to from)))
+  move_taken to from here =
+      let owned = owned_slot (slot_of s from) (first_false _ _ here.met.not_empty) (first_false _ _ here.met.owned) in
+      let free : is_owned (slot_of s to) ≡ false = first_false _ _ here.met.free in
+      let row = owned_row (call_of code context) (slot_of s from) (row_of variables from) owned
+      (here.inside.grounded from) in
+      let slot : Slot = Owned (kind_of (slot_of s from)) in
+      let s1 = put s from Empty in
+      let v1 = slice_set variables from None in
+      let r = reference_of g.thread (by_variable context from) row.0 in
+      let in_slots : from < length s.slots = omega (arith, here.variables.1, here.inside.slots) in
+      let in_rows : from < length variables = omega (arith, here.variables.1, here.inside.rows) in
+      let to_slots : to < length s1.slots =
+      omega (arith, here.variables.0, here.inside.slots, length-set s.slots from Empty) in
+      let to_rows : to < length v1 =
+      omega (arith, here.variables.0, here.inside.rows, length-set variables from None) in
+      let grounded = grounded-put (call_of code context) s variables from Empty None in_slots in_rows tt
+      here.inside.grounded in
+      let next : IsInside (call_of code context) (at + 1) (slice_set v1 to (Some row.0)) (put s1 to slot) = record {
+        is_call = here.inside.is_call;
+        exits = here.inside.exits ++ Success ∷ [];
+        arrived = here.leads Success (at + 1) refl;
+        slots = length-set s1.slots to slot ∙ length-set s.slots from Empty ∙ here.inside.slots;
+        rows = length-set v1 to (Some row.0) ∙ length-set variables from None ∙ here.inside.rows;
+        grounded = grounded-put (call_of code context) s1 v1 to slot (Some row.0) to_slots to_rows (row.0, refl)
+            grounded;
+      } in
+      let one : held r g.bag ≡ 1 = owned_has g.bag g.thread (call_of code context) s variables from row.0 owned row.1
+      here.holds in
+      let has = held_has r g.bag (omega (arith, one)) in
+      let fewer = lost_holds g.bag g.thread (call_of code context) s variables from row.0 in_slots owned row.1
+      here.holds has in
+      let holds : Holds (reference_of g.thread (by_variable context to) row.0 ∷ without r g.bag) g.thread
+      (of_variables (call_of code context) (put s1 to slot) (slice_set v1 to (Some row.0))) =
+      record {
+        each = gained_holds (without r g.bag) g.thread (by_variable context to) row.0 _
+            (newref_held (without r g.bag) g.thread (call_of code context) s1 v1 to row.0 slot to_slots to_rows
+            (still_free s from to in_slots free) refl fewer);
+      } in
+      let from_free : names s.locked from ≡ false = first_false _ _ here.met.unlocked in
+      let to_free : names s.locked to ≡ false = first_false _ _ (second_false _ _ here.met.unlocked) in
+      let guards =
+      guards-put s1 v1 to slot (Some row.0) s.locked g.locked to_free
+      (guards-put s variables from Empty None s.locked g.locked from_free here.guards) in
+      let taken : SilentTaken code g (pass_on g.thread (by_variable context from) (by_variable context to) row.0)
+      (InCall context (at + 1) (slice_set v1 to (Some row.0))) =
+      record {
+        moves_fit = PassesOn (by_variable context from) (by_variable context to) row.0 has;
+        placed = (put s1 to slot, next, guards, holds_at_none _ g.thread _ holds);
+        stays = in_call_stays context (at + 1) (slice_set v1 to (Some row.0));
+      } in
+      taken_with_row code g row.0 (row_of variables from)
+      (λ x. Silent (pass_on g.thread (by_variable context from) (by_variable context to) x)
+      (InCall context (at + 1) (slice_set v1 to (Some x)))) row.1 taken
 
--- ---- a jump
+  -- ---- a jump
 
--- An instruction that changes no variable leads to the point of its exit.
-jump_fits : (code : List Instr) (g : Scene) (before : Place) (context : Context) (at next : ℕ)
-    (variables : List (Option ℕ)) (s : State) (i : Instr) (exit : Exit)
-    → StandsAt code context g before at variables s i
-    → target i exit at ≡ Some next → after i exit s ≡ s
-    → PlaceFits code g.bag g.thread [] g.locked (InCall context next variables)
-jump_fits code g before context at next variables s i exit here to same =
-    let there : IsInside (call_of code context) next variables s = record {
-      is_call = here.inside.is_call;
-      exits = here.inside.exits ++ exit ∷ [];
-      arrived = here.leads exit next to ∙ ap (At next) same;
-      slots = here.inside.slots;
-      rows = here.inside.rows;
-      grounded = here.inside.grounded;
-    } in
-    (s, there, here.guards, holds_at_none g.bag g.thread _ here.holds)
+  -- An instruction that changes no variable leads to the point of its exit.
+  jump_fits : (next : ℕ) (i : Instr) (exit : Exit) → StandsAt code context g before at variables s i
+      → target i exit at ≡ Some next → after i exit s ≡ s
+      → PlaceFits code g.bag g.thread [] g.locked (InCall context next variables)
+  jump_fits next i exit here to same =
+      let there : IsInside (call_of code context) next variables s = record {
+        is_call = here.inside.is_call;
+        exits = here.inside.exits ++ exit ∷ [];
+        arrived = here.leads exit next to ∙ ap (At next) same;
+        slots = here.inside.slots;
+        rows = here.inside.rows;
+        grounded = here.inside.grounded;
+      } in
+      (s, there, here.guards, holds_at_none g.bag g.thread _ here.holds)
 
 jump_taken : (code : List Instr) (g : Scene) (context : Context) (next : ℕ) (variables : List (Option ℕ))
     → PlaceFits code g.bag g.thread [] g.locked (InCall context next variables)
@@ -211,26 +208,18 @@ jump_taken : (code : List Instr) (g : Scene) (context : Context) (next : ℕ) (v
 jump_taken code g context next variables placed =
     record { moves_fit = Stays; placed = placed; stays = in_call_stays context next variables }
 
-pub goto_taken : (code : List Instr) (g : Scene) (before : Place) (context : Context) (at : ℕ)
-    (variables : List (Option ℕ))
-    (s : State) (to : ℕ)
-    → StandsAt code context g before at variables s (Goto to)
-    → IsTaken code g (dispatch_instruction g.layout g.thread g.used before context at variables (Some (Goto to)))
-goto_taken code g before context at variables s to here =
-    jump_taken code g context to variables
-    (jump_fits code g before context at to variables s (Goto to) Success here refl refl)
+module _ {code : List Instr} {g : Scene} {before : Place} {context : Context} {at : ℕ} {variables : List (Option ℕ)}
+    {s : State} where
+  pub goto_taken : (to : ℕ) → StandsAt code context g before at variables s (Goto to)
+      → IsTaken code g (dispatch_instruction g.layout g.thread g.used before context at variables (Some (Goto to)))
+  goto_taken to here = jump_taken code g context to variables (jump_fits to (Goto to) Success here refl refl)
 
--- Counting a turn leaves the calls that are open around this one, and so what the thread holds.
-pub again_taken : (code : List Instr) (g : Scene) (before : Place) (context : Context) (at : ℕ)
-    (variables : List (Option ℕ))
-    (s : State) (to times : ℕ)
-    → StandsAt code context g before at variables s (Again to times)
-    → IsTaken code g
-    (dispatch_instruction g.layout g.thread g.used before context at variables (Some (Again to times)))
-again_taken code g before context at variables s to times here =
-    either (SilentTaken code g []) (nat_lt (turns_at context at) times) (InCall (turned context at) to variables)
-    (InCall context (at + 1) variables)
-    (λ more. jump_taken code g (turned context at) to variables
-    (jump_fits code g before context at to variables s (Again to times) Fault here refl refl))
-    (jump_taken code g context (at + 1) variables
-    (jump_fits code g before context at (at + 1) variables s (Again to times) Success here refl refl))
+  -- Counting a turn leaves the calls that are open around this one, and so what the thread holds.
+  pub again_taken : (to times : ℕ) → StandsAt code context g before at variables s (Again to times)
+      → IsTaken code g (dispatch_instruction g.layout g.thread g.used before context at variables
+      (Some (Again to times)))
+  again_taken to times here =
+      either (SilentTaken code g []) (nat_lt (turns_at context at) times) (InCall (turned context at) to variables)
+      (InCall context (at + 1) variables)
+      (λ more. jump_taken code g (turned context at) to variables (jump_fits to (Again to times) Fault here refl refl))
+      (jump_taken code g context (at + 1) variables (jump_fits (at + 1) (Again to times) Success here refl refl))

@@ -49,28 +49,24 @@ Alive m x = IsAlive (block_of m.layout x) (m.life x) (numbers_of m x)
 pub alive_born : (m : Machine) (x : ℕ) → Alive m x → m.life x ≢ Unborn
 alive_born m x alive unborn = let wrong : Live ≡ Unborn = sym alive.life ∙ unborn in cc
 
-pub alive_referenced : (p : Accounts) (n : ℕ) (m : Machine) (x : ℕ) → CoreInvariant p n m → IsCounted m.layout x
-    → 0 < references_to x m.abstract.references → Alive m x
-alive_referenced p n m x core pos some =
-    alive_by (block_of m.layout x) (m.life x) (numbers_of m x) (core.rows x pos) (omega (arith, some))
+module _ {p : Accounts} {n : ℕ} {m : Machine} where
+  pub alive_referenced : (x : ℕ) → CoreInvariant p n m → IsCounted m.layout x
+      → 0 < references_to x m.abstract.references → Alive m x
+  alive_referenced x core pos some =
+      alive_by (block_of m.layout x) (m.life x) (numbers_of m x) (core.rows x pos) (omega (arith, some))
 
-pub alive_waiting : (p : Accounts) (n : ℕ) (m : Machine) (x : ℕ) → CoreInvariant p n m → IsCounted m.layout x
-    → 0 < weight (waits x) m.actors
-    → Alive m x
-alive_waiting p n m x core pos some =
-    alive_by (block_of m.layout x) (m.life x) (numbers_of m x) (core.rows x pos) (omega (arith, some))
+  pub alive_waiting : (x : ℕ) → CoreInvariant p n m → IsCounted m.layout x → 0 < weight (waits x) m.actors → Alive m x
+  alive_waiting x core pos some =
+      alive_by (block_of m.layout x) (m.life x) (numbers_of m x) (core.rows x pos) (omega (arith, some))
 
-pub alive_deciding : (p : Accounts) (n : ℕ) (m : Machine) (x : ℕ) → CoreInvariant p n m → IsCounted m.layout x
-    → 0 < weight (decides x) m.actors
-    → Alive m x
-alive_deciding p n m x core pos some =
-    alive_by (block_of m.layout x) (m.life x) (numbers_of m x) (core.rows x pos) (omega (arith, some))
+  pub alive_deciding : (x : ℕ) → CoreInvariant p n m → IsCounted m.layout x → 0 < weight (decides x) m.actors
+      → Alive m x
+  alive_deciding x core pos some =
+      alive_by (block_of m.layout x) (m.life x) (numbers_of m x) (core.rows x pos) (omega (arith, some))
 
-pub alive_merging : (p : Accounts) (n : ℕ) (m : Machine) (x : ℕ) → CoreInvariant p n m → IsCounted m.layout x
-    → 0 < weight (merges x) m.actors
-    → Alive m x
-alive_merging p n m x core pos some =
-    alive_by (block_of m.layout x) (m.life x) (numbers_of m x) (core.rows x pos) (omega (arith, some))
+  pub alive_merging : (x : ℕ) → CoreInvariant p n m → IsCounted m.layout x → 0 < weight (merges x) m.actors → Alive m x
+  alive_merging x core pos some =
+      alive_by (block_of m.layout x) (m.life x) (numbers_of m x) (core.rows x pos) (omega (arith, some))
 
 -- An object that something keeps alive for the thread's duty has a reference: the thread's own, or that of a cell.
 pub backed_referenced : (p : Accounts) (n : ℕ) (m : Machine) (t : ℕ) (a : Actor) (x : ℕ) → CoreInvariant p n m
@@ -80,11 +76,11 @@ backed_referenced p n m t a x core (ByReference by some) =
 backed_referenced p n m t a x core (ByItem list i locked word) =
     omega (
       arith,
-      cell_held p n m list i x core (omega (arith, word)),
+      cell_held list i x core (omega (arith, word)),
       held-le-references_to (cell_reference list i x) m.abstract.references,
     )
 
-pub alive_backed : (p : Accounts) (n : ℕ) (m : Machine) (t : ℕ) (a : Actor) (x : ℕ) → CoreInvariant p n m
-    → IsCounted m.layout x → IsBacked m t a x → Alive m x
-alive_backed p n m t a x core pos backed =
-    alive_referenced p n m x core pos (backed_referenced p n m t a x core backed)
+module _ {p : Accounts} {n : ℕ} {m : Machine} where
+  pub alive_backed : (t : ℕ) (a : Actor) (x : ℕ) → CoreInvariant p n m → IsCounted m.layout x → IsBacked m t a x
+      → Alive m x
+  alive_backed t a x core pos backed = alive_referenced x core pos (backed_referenced p n m t a x core backed)

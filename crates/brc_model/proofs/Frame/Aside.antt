@@ -8,7 +8,7 @@ use Rattle.brc_model.specs.declared.duty.Holding.{Holding}
 use Rattle.brc_model.specs.declared.duty.Holding.TheVariants.{InFlight}
 use Rattle.brc_model.specs.declared.duty.Reason.TheVariants.{Own, Handed}
 use Rattle.brc_model.specs.declared.duty.Duty.{Duty}
-use Rattle.brc_model.specs.declared.duty.Duty.TheVariants.{RetainLoad, RetainStore, RetainAdd, ReleaseLoad, ReleaseStore, DecideAtZero, SharedLoad, SharedExchange, SetMark, Look, TakeMark, MergeSwap, MergeLoad, MergeExchange, Die, SettleCell, SettleEnd, BirthKind, BirthSlot, BirthLocal, KindLoad, LockGate, UnlockGate, CellLoad, CellSwap, LendSlot, ReturnSlot}
+use Rattle.brc_model.specs.declared.duty.Duty.TheVariants.{RetainLoad, RetainStore, RetainAdd, ReleaseLoad, ReleaseStore, DecideAtZero, SharedLoad, SharedExchange, SetMark, Look, TakeMark, MergeSwap, MergeLoad, MergeExchange, Die, SettleCell, SettleEnd, BirthKind, BirthSlot, BirthLocal, CellSwap}
 use Rattle.brc_model.specs.AbstractState.{Reference, same_holding}
 use Rattle.brc_model.specs.Machine.{Actor, Machine}
 use Rattle.brc_model.specs.References.{held, one_if, reference_of}
@@ -80,16 +80,7 @@ extra_about d k x piece = omega (arith, extra_gives d k x, gives_about d x piece
 -- A duty that may wait is a piece of work.
 pub waiting_piece : (d : Duty) → may_wait d ≡ true → is_piece d ≡ true
 waiting_piece (Die x) waits = absurd cc
-waiting_piece (BirthKind x h w) waits = absurd cc
-waiting_piece (BirthSlot x h) waits = absurd cc
-waiting_piece (BirthLocal x h) waits = absurd cc
-waiting_piece (KindLoad x) waits = absurd cc
-waiting_piece (LockGate x) waits = absurd cc
-waiting_piece (UnlockGate x) waits = absurd cc
-waiting_piece (CellLoad x i) waits = absurd cc
-waiting_piece (LendSlot x) waits = absurd cc
-waiting_piece (ReturnSlot x) waits = absurd cc
-waiting_piece _ waits = waits
+waiting_piece _ waits = cc
 
 -- The weight counts duties about the row alone, and none that empties a cell or closes a row.
 pub record IsOfRow (x : ℕ) (f : Duty → ℕ) : Type 0 where

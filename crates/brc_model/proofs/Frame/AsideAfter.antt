@@ -13,14 +13,14 @@ use Rattle.brc_model.specs.Accounts.{Accounts}
 use Rattle.brc_model.specs.Knowledge.{is_retain}
 use Rattle.brc_model.specs.OpenWork.{is_about, about_of, is_piece, IsPiece, AllWait, AsideFits}
 use Rattle.brc_model.proofs.Frame.Aside.{alone_fits}
-use Rattle.brc_model.proofs.Stepping.Neutral.{found_by}
+use Rattle.brc_model.proofs.Stepping.FitsAfter.{found_by}
 use Rattle.brc_model.proofs.Stepping.Settled.{ready_none}
-use Rattle.brc_model.proofs.Stepping.Retains.{ready_first}
 use Rattle.brc_model.proofs.Basics.Continuation.{Traits, next_inner, Continuation, Ends, GoesOn, continues}
 use Rattle.brc_model.proofs.Frame.Beside.{beside}
 use Rattle.brc_model.proofs.Frame.Items.{drops_items, drops_alone}
 use Rattle.brc_model.specs.Invariant.{AtDuty}
 use Rattle.brc_model.specs.declared.layout.Layout.{Layout}
+use Rattle.brc_model.proofs.Stepping.Own.{ready_first}
 
 -- ---- what follows a piece of work
 
@@ -66,20 +66,21 @@ keeps_items : (b c : Bool) → (b ≡ true → one_if c ≡ 0) → c ≡ true �
 keeps_items true c none retains = absurd (let one : one_if c ≡ 1 = ap one_if retains in omega (arith, one, none refl))
 keeps_items false c none retains = refl
 
-waits_after : (p : Accounts) (n : ℕ) (m : Machine) (t : ℕ) (a : Actor) (d : Duty) (rest aside : List Duty)
-    → AtDuty p n m t a d rest → is_piece d ≡ true → IsBeside d aside → KeepsRetains d aside → AllWait m t a aside
-    → AllWait (done_by m t a d rest) t (actor_by m.layout t a d rest (found_by m t a d)) aside
-waits_after p n m t a d rest [] here piece apart keeps waits = tt
-waits_after p n m t a d rest (e ∷ es) here piece apart keeps waits =
-    let whole = λ (x : ℕ). sum_by-cons (λ (f : Duty). cond (is_about x f) 1 0) e es in
-    let retains = sum_by-cons (λ (f : Duty). cond (is_retain f) 1 0) e es in (
-      waits.0,
-      beside p n m t a d rest here piece (piece_status a.status d piece) e
-          (λ x this. is_false (is_about x e) (omega (arith, whole x, apart x this))) waits.0
-          (keeps_items (drops_items d) (is_retain e) (λ drops. omega (arith, retains, keeps drops))) waits.1,
-      waits_after p n m t a d rest es here piece (λ x this. omega (arith, whole x, apart x this))
-          (λ drops. omega (arith, retains, keeps drops)) waits.2,
-    )
+module _ {p : Accounts} {n : ℕ} {m : Machine} {t : ℕ} {a : Actor} {d : Duty} {rest : List Duty} where
+  waits_after : (aside : List Duty) → AtDuty p n m t a d rest → is_piece d ≡ true → IsBeside d aside
+      → KeepsRetains d aside → AllWait m t a aside
+      → AllWait (done_by m t a d rest) t (actor_by m.layout t a d rest (found_by m t a d)) aside
+  waits_after [] here piece apart keeps waits = tt
+  waits_after (e ∷ es) here piece apart keeps waits =
+      let whole = λ (x : ℕ). sum_by-cons (λ (f : Duty). cond (is_about x f) 1 0) e es in
+      let retains = sum_by-cons (λ (f : Duty). cond (is_retain f) 1 0) e es in (
+        waits.0,
+        beside d rest here piece (piece_status a.status d piece) e
+            (λ x this. is_false (is_about x e) (omega (arith, whole x, apart x this))) waits.0
+            (keeps_items (drops_items d) (is_retain e) (λ drops. omega (arith, retains, keeps drops))) waits.1,
+        waits_after es here piece (λ x this. omega (arith, whole x, apart x this))
+            (λ drops. omega (arith, retains, keeps drops)) waits.2,
+      )
 
 pieces_after : (p : Accounts) (n : ℕ) (m : Machine) (t : ℕ) (a : Actor) (d : Duty) (rest : List Duty)
     → AtDuty p n m t a d rest → IsPiece (d ∷ rest)
@@ -95,7 +96,7 @@ pieces_after p n m t a d [] here piece =
     (fits.apart x) in
     record {
       waits =
-          waits_after p n m t a d [] a.aside here piece
+          waits_after a.aside here piece
           (λ x this. let one : one_if (is_about x d) ≡ 1 = ap one_if this in omega (arith, apart x, one))
           (drops_alone p n m t a d [] here piece) fits.waits;
       apart = λ x. omega (arith, apart x, on.about x);
@@ -103,12 +104,12 @@ pieces_after p n m t a d [] here piece =
     }
 pieces_after p n m t a d (e ∷ rest) here piece = absurd piece
 
--- After a thread's own step the duties that it has put aside still fit.
-pub aside_after : (p : Accounts) (n : ℕ) (m : Machine) (t : ℕ) (a : Actor) (d : Duty) (rest : List Duty)
-    → AtDuty p n m t a d rest
-    → AsideFits (done_by m t a d rest) t (actor_by m.layout t a d rest (found_by m t a d))
-aside_after p n m t a d rest here =
-    elim (here.core.each t a here.found).2.pieces [
-      | inl none ↦ alone_fits (done_by m t a d rest) t (actor_by m.layout t a d rest (found_by m t a d)) none
-      | inr piece ↦ pieces_after p n m t a d rest here (subst IsPiece here.agenda piece)
-    ]
+module _ {p : Accounts} {n : ℕ} {m : Machine} {t : ℕ} {a : Actor} {d : Duty} {rest : List Duty} where
+  -- After a thread's own step the duties that it has put aside still fit.
+  pub aside_after : AtDuty p n m t a d rest
+      → AsideFits (done_by m t a d rest) t (actor_by m.layout t a d rest (found_by m t a d))
+  aside_after here =
+      elim (here.core.each t a here.found).2.pieces [
+        | inl none ↦ alone_fits (done_by m t a d rest) t (actor_by m.layout t a d rest (found_by m t a d)) none
+        | inr piece ↦ pieces_after p n m t a d rest here (subst IsPiece here.agenda piece)
+      ]

@@ -21,7 +21,7 @@ use Rattle.brc_model.proofs.Basics.Moves.{IsOfOther, effects_elsewhere, moved_ke
 use Rattle.brc_model.proofs.Frame.Items.{drops_items, own_list_kept}
 use Rattle.brc_model.proofs.Frame.Leaves.{stopped_left}
 use Rattle.brc_model.proofs.Frame.Lives.{born_left, next_of}
-use Rattle.brc_model.proofs.Stepping.Neutral.{found_by}
+use Rattle.brc_model.proofs.Stepping.FitsAfter.{found_by}
 use Rattle.brc_model.specs.Invariant.{AtDuty}
 
 -- ---- moves of references to other objects
@@ -55,7 +55,7 @@ piece_no_cell (SettleCell y j k) piece x i = absurd cc
 piece_no_cell (CellSwap y j z h) piece x i = absurd cc
 piece_no_cell _ piece x i = refl
 
-module _ (p : Accounts) (n : ℕ) (m : Machine) (t : ℕ) (a : Actor) where
+module _ {p : Accounts} {n : ℕ} {m : Machine} {t : ℕ} {a : Actor} where
   -- A step leaves what a duty about another row relies on.
   pub leaves_beside : (d : Duty) (rest : List Duty) (x : ℕ) → AtDuty p n m t a d rest
       → is_piece d ≡ true → status_by a.status d ≡ a.status → is_about x d ≡ false

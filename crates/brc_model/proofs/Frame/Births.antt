@@ -29,31 +29,31 @@ module _ (p : Accounts) (n : ℕ) (m : Machine) (t u : ℕ) (a b : Actor) where
 
   locked_born : (d : Duty) (rest : List Duty) (y : ℕ) → AtDuty p n m t a d rest → a.locked ≡ Some y
       → m.life y ≢ Unborn
-  locked_born d rest y here locked = alive_born m y (locked_alive p n m t a y here.core here.found locked)
+  locked_born d rest y here locked = alive_born m y (locked_alive t a y here.core here.found locked)
 
   kind_left : (d : Duty) (rest : List Duty) (x : ℕ) → AtDuty p n m t a d rest → u ≢ t → IsNext m u b x
       → (done_by m t a d rest).memory (KindOf x) ≡ m.memory (KindOf x)
   kind_left (SettleKind y) rest x here ne next = written_load m.memory (KindOf y) (KindOf x)
   kind_left (KindLoad y) rest x here ne next = written_load m.memory (KindOf y) (KindOf x)
   kind_left (BirthKind y h w) rest x here ne next =
-      let mine = (head_of p n m t a (BirthKind y h w) rest here).0 in
+      let mine = (head_of here).0 in
       written_apart m.memory (KindOf y) (KindOf x) w (ne_eqb y x (next_apart y x ne mine next))
   kind_left _ rest x here ne next = refl
 
   slot_left : (d : Duty) (rest : List Duty) (x : ℕ) → AtDuty p n m t a d rest → u ≢ t → IsNext m u b x
       → m.life x ≡ Unborn → (done_by m t a d rest).memory (Slot x) ≡ m.memory (Slot x)
   slot_left (TakeSlot y) rest x here ne next unborn =
-      let dies = (head_of p n m t a (TakeSlot y) rest here).1 in
+      let dies = (head_of here).1 in
       written_apart m.memory (Slot y) (Slot x) 0 (ne_eqb y x (born_apart y x unborn (dying_born y dies)))
   slot_left (BirthSlot y h) rest x here ne next unborn =
-      let mine = (head_of p n m t a (BirthSlot y h) rest here).0 in
+      let mine = (head_of here).0 in
       written_apart m.memory (Slot y) (Slot x) 1 (ne_eqb y x (next_apart y x ne mine next))
   slot_left (LendSlot y) rest x here ne next unborn =
-      let locked = (head_of p n m t a (LendSlot y) rest here).1 in
+      let locked = (head_of here).1 in
       written_apart m.memory (Slot y) (Slot x) 0
       (ne_eqb y x (born_apart y x unborn (locked_born (LendSlot y) rest y here locked)))
   slot_left (ReturnSlot y) rest x here ne next unborn =
-      let locked = (here.core.each t a here.found).0.lent y (head_of p n m t a (ReturnSlot y) rest here) in
+      let locked = (here.core.each t a here.found).0.lent y (head_of here) in
       written_apart m.memory (Slot y) (Slot x) 1
       (ne_eqb y x (born_apart y x unborn (locked_born (ReturnSlot y) rest y here locked)))
   slot_left _ rest x here ne next unborn = refl

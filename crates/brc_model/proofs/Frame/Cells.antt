@@ -78,32 +78,31 @@ not_filled x i y j none =
       | false ↦ λ e. refl
     ] refl
 
--- A step fills no cell but a live list's: the list that the thread has locked.
-pub dead_unfilled : (p : Accounts) (n : ℕ) (m : Machine) (t : ℕ) (a : Actor) (d : Duty) (rest : List Duty) (x i : ℕ)
-    → AtDuty p n m t a d rest → (m.life x ≡ Live → ⊥) → fills_cell x i d ≡ false
-dead_unfilled p n m t a (CellSwap y j z h) rest x i here dead =
-    let locked = (head_of p n m t a (CellSwap y j z h) rest here).0 in
-    not_filled x i y j (λ lists cells.
-    dead (ap m.life (sym lists) ∙ (locked_alive p n m t a y here.core here.found locked).life))
-dead_unfilled p n m t a _ rest x i here dead = refl
+module _ {p : Accounts} {n : ℕ} {m : Machine} {t : ℕ} {a : Actor} {rest : List Duty} where
+  -- A step fills no cell but a live list's: the list that the thread has locked.
+  pub dead_unfilled : (d : Duty) (x i : ℕ) → AtDuty p n m t a d rest → (m.life x ≡ Live → ⊥) → fills_cell x i d ≡ false
+  dead_unfilled (CellSwap y j z h) x i here dead =
+      let locked = (head_of here).0 in
+      not_filled x i y j (λ lists cells.
+      dead (ap m.life (sym lists) ∙ (locked_alive t a y here.core here.found locked).life))
+  dead_unfilled _ x i here dead = refl
 
--- It fills no cell past the list's number of cells.
-pub past_unfilled : (p : Accounts) (n : ℕ) (m : Machine) (t : ℕ) (a : Actor) (d : Duty) (rest : List Duty) (x i : ℕ)
-    → AtDuty p n m t a d rest → cells_of (m.memory (KindOf x)) ≤ i → fills_cell x i d ≡ false
-past_unfilled p n m t a (CellSwap y j z h) rest x i here past =
-    let low = (head_of p n m t a (CellSwap y j z h) rest here).1 in
-    not_filled x i y j (λ lists cells.
-    let same : cells_of (m.memory (KindOf y)) ≡ cells_of (m.memory (KindOf x)) =
-    ap (λ (w : ℕ). cells_of (m.memory (KindOf w))) lists in
-    absurd (omega (arith, low, past, same, cells)))
-past_unfilled p n m t a _ rest x i here past = refl
+  -- It fills no cell past the list's number of cells.
+  pub past_unfilled : (d : Duty) (x i : ℕ) → AtDuty p n m t a d rest → cells_of (m.memory (KindOf x)) ≤ i
+      → fills_cell x i d ≡ false
+  past_unfilled (CellSwap y j z h) x i here past =
+      let low = (head_of here).1 in
+      not_filled x i y j (λ lists cells.
+      let same : cells_of (m.memory (KindOf y)) ≡ cells_of (m.memory (KindOf x)) =
+      ap (λ (w : ℕ). cells_of (m.memory (KindOf w))) lists in
+      absurd (omega (arith, low, past, same, cells)))
+  past_unfilled _ x i here past = refl
 
--- So an empty cell of a row that isn't live stays empty.
-pub stays_empty : (p : Accounts) (n : ℕ) (m : Machine) (t : ℕ) (a : Actor) (d : Duty) (rest : List Duty) (x i : ℕ)
-    → AtDuty p n m t a d rest → (m.life x ≡ Live → ⊥) → m.memory (Cell x i) ≡ 0
-    → memory_after m t a d (Cell x i) ≡ 0
-stays_empty p n m t a d rest x i here dead empty =
-    still_empty m t a d x i (dead_unfilled p n m t a d rest x i here dead) empty
+module _ {p : Accounts} {n : ℕ} {m : Machine} {t : ℕ} {a : Actor} {d : Duty} {rest : List Duty} where
+  -- So an empty cell of a row that isn't live stays empty.
+  pub stays_empty : (x i : ℕ) → AtDuty p n m t a d rest → (m.life x ≡ Live → ⊥) → m.memory (Cell x i) ≡ 0
+      → memory_after m t a d (Cell x i) ≡ 0
+  stays_empty x i here dead empty = still_empty m t a d x i (dead_unfilled d x i here dead) empty
 
 -- ---- references
 
@@ -120,11 +119,11 @@ taken_references p t x i (suc y) z has =
       references_to-without z r p.references (held_has r p.references (has y refl)),
     )
 
--- The bag has the reference that goes into a cell.
-pub stolen_held : (p : Accounts) (n : ℕ) (m : Machine) (t : ℕ) (a : Actor) (x i y : ℕ) (h : Holding) (rest : List Duty)
-    → AtDuty p n m t a (CellSwap x i y h) rest → 0 < held (reference_of t h y) m.abstract.references
-stolen_held p n m t a x i y h rest here =
-    gives_held p n m t a (CellSwap x i y h) rest h y here (rw (same_holding-refl h, eq-eqb y y refl) refl) refl
+module _ {p : Accounts} {n : ℕ} {m : Machine} {t : ℕ} {a : Actor} {rest : List Duty} where
+  -- The bag has the reference that goes into a cell.
+  pub stolen_held : (x i y : ℕ) (h : Holding) → AtDuty p n m t a (CellSwap x i y h) rest
+      → 0 < held (reference_of t h y) m.abstract.references
+  stolen_held x i y h here = gives_held h y here (rw (same_holding-refl h, eq-eqb y y refl) refl) refl
 
 -- the abstract state after a reference of the thread goes into a cell
 abbrev pub filled : AbstractState → ℕ → Holding → ℕ → ℕ → ℕ → AbstractState

@@ -7,7 +7,7 @@ use Rattle.brc_model.specs.References.{held, one_if, word_holds, cell_reference}
 use Rattle.brc_model.specs.Accounts.{Accounts}
 use Rattle.brc_model.specs.Invariant.{CoreInvariant}
 
-pub cell_held : (p : Accounts) (n : ℕ) (m : Machine) (x i y : ℕ) → CoreInvariant p n m → m.memory (Cell x i) ≡ suc y
-    → held (cell_reference x i y) m.abstract.references ≡ 1
-cell_held p n m x i y core is =
-    core.cells_hold x i y ∙ ap (λ (w : ℕ). word_holds w y) is ∙ ap one_if (eq-eqb y y refl)
+module _ {p : Accounts} {n : ℕ} {m : Machine} where
+  pub cell_held : (x i y : ℕ) → CoreInvariant p n m → m.memory (Cell x i) ≡ suc y
+      → held (cell_reference x i y) m.abstract.references ≡ 1
+  cell_held x i y core is = core.cells_hold x i y ∙ ap (λ (w : ℕ). word_holds w y) is ∙ ap one_if (eq-eqb y y refl)

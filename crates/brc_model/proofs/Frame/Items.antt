@@ -36,7 +36,7 @@ module _ (p : Accounts) (n : ℕ) (m : Machine) (t : ℕ) (a : Actor) where
   word_stays (SettleKind y) rest x here born = written_load m.memory (KindOf y) (KindOf x)
   word_stays (KindLoad y) rest x here born = written_load m.memory (KindOf y) (KindOf x)
   word_stays (BirthKind y h w) rest x here born =
-      let next = (head_of p n m t a (BirthKind y h w) rest here).0 in
+      let next = (head_of here).0 in
       let apart : y ≡ x → ⊥ = λ e. born (ap m.life (sym e) ∙ next_unborn p n m t a y here.core here.found next) in
       written_apart m.memory (KindOf y) (KindOf x) w (ne_eqb y x apart)
   word_stays _ rest x here born = refl
@@ -47,7 +47,7 @@ module _ (p : Accounts) (n : ℕ) (m : Machine) (t : ℕ) (a : Actor) where
   settled_apart : (y j k : ℕ) (rest : List Duty) (x i : ℕ) → AtDuty p n m t a (SettleCell y j k) rest → Alive m x
       → (done_by m t a (SettleCell y j k) rest).memory (Cell x i) ≡ m.memory (Cell x i)
   settled_apart y j k rest x i here alive =
-      let dies = (head_of p n m t a (SettleCell y j k) rest here).1 in
+      let dies = (head_of here).1 in
       written_apart m.memory (Cell y j) (Cell x i) 0
       (ap (λ (b : Bool). b && (j == i)) (ne_eqb y x (alive_apart m t x y dies alive)))
 
@@ -64,7 +64,7 @@ module _ (p : Accounts) (n : ℕ) (m : Machine) (t : ℕ) (a : Actor) where
       → AtDuty p n m t a (CellSwap y j z h) rest → u ≢ t → slice_get m.actors u ≡ Some b → b.locked ≡ Some x
       → (done_by m t a (CellSwap y j z h) rest).memory (Cell x i) ≡ m.memory (Cell x i)
   swapped_apart y j z h rest u x i b here ne found e =
-      let mine = (head_of p n m t a (CellSwap y j z h) rest here).0 in
+      let mine = (head_of here).0 in
       let apart : y ≡ x → ⊥ = λ same. ne (one_locker u x b here.core here.found found e
       (subst (λ (w : ℕ). a.locked ≡ Some w) same mine)) in
       written_apart m.memory (Cell y j) (Cell x i) (z + 1) (ap (λ (b : Bool). b && (j == i)) (ne_eqb y x apart))
@@ -74,7 +74,7 @@ module _ (p : Accounts) (n : ℕ) (m : Machine) (t : ℕ) (a : Actor) where
       → slice_get m.actors u ≡ Some b → b.locked ≡ Some x
       → (done_by m t a d rest).memory (Cell x i) ≡ m.memory (Cell x i)
   items_left (SettleCell y j k) rest here u x i b ne found e =
-      settled_apart y j k rest x i here (locked_alive p n m u b x here.core found e)
+      settled_apart y j k rest x i here (locked_alive u b x here.core found e)
   items_left (CellLoad y j) rest here u x i b ne found e = written_load m.memory (Cell y j) (Cell x i)
   items_left (CellSwap y j z h) rest here u x i b ne found e =
       swapped_apart y j z h rest u x i b here ne found e
@@ -84,7 +84,7 @@ module _ (p : Accounts) (n : ℕ) (m : Machine) (t : ℕ) (a : Actor) where
   pub own_items_left : (d : Duty) (rest : List Duty) → AtDuty p n m t a d rest → drops_items d ≡ false → (x i : ℕ)
       → a.locked ≡ Some x → (done_by m t a d rest).memory (Cell x i) ≡ m.memory (Cell x i)
   own_items_left (SettleCell y j k) rest here keeps x i e =
-      settled_apart y j k rest x i here (locked_alive p n m t a x here.core here.found e)
+      settled_apart y j k rest x i here (locked_alive t a x here.core here.found e)
   own_items_left (CellLoad y j) rest here keeps x i e = written_load m.memory (Cell y j) (Cell x i)
   own_items_left (CellSwap y j z h) rest here keeps x i e = absurd cc
   own_items_left _ rest here keeps x i e = refl
@@ -95,7 +95,7 @@ module _ (p : Accounts) (n : ℕ) (m : Machine) (t : ℕ) (a : Actor) where
   pub lists_left : (d : Duty) (rest : List Duty) → AtDuty p n m t a d rest → (u x : ℕ) (b : Actor) → u ≢ t
       → slice_get m.actors u ≡ Some b → b.locked ≡ Some x → LeavesList m (done_by m t a d rest) x
   lists_left d rest here u x b ne found e = record {
-    kind = word_stays d rest x here (alive_born m x (locked_alive p n m u b x here.core found e));
+    kind = word_stays d rest x here (alive_born m x (locked_alive u b x here.core found e));
     cells = λ i. items_left d rest here u x i b ne found e;
   }
 
@@ -103,8 +103,7 @@ module _ (p : Accounts) (n : ℕ) (m : Machine) (t : ℕ) (a : Actor) where
   still_locked : (d : Duty) (rest : List Duty) (x : ℕ) → AtDuty p n m t a d rest → drops_items d ≡ false
       → a.locked ≡ Some x
       → (actor_by m.layout t a d rest (m.memory (address_of m.layout t a.head d))).locked ≡ Some x
-  still_locked (LockGate y) rest x here keeps e =
-      absurd (none_some x (sym (head_of p n m t a (LockGate y) rest here).2 ∙ e))
+  still_locked (LockGate y) rest x here keeps e = absurd (none_some x (sym (head_of here).2 ∙ e))
   still_locked (UnlockGate y) rest x here keeps e = absurd cc
   still_locked _ rest x here keeps e = e
 
@@ -114,7 +113,7 @@ module _ (p : Accounts) (n : ℕ) (m : Machine) (t : ℕ) (a : Actor) where
   own_list_kept d rest here keeps x e = (
     still_locked d rest x here keeps e,
     record {
-      kind = word_stays d rest x here (alive_born m x (locked_alive p n m t a x here.core here.found e));
+      kind = word_stays d rest x here (alive_born m x (locked_alive t a x here.core here.found e));
       cells = λ i. own_items_left d rest here keeps x i e;
     },
   )
@@ -124,6 +123,6 @@ module _ (p : Accounts) (n : ℕ) (m : Machine) (t : ℕ) (a : Actor) where
   -- No retain is put aside when the thread drops items beside what is put aside.
   pub drops_alone : (d : Duty) (rest : List Duty) → AtDuty p n m t a d rest → is_piece d ≡ true → drops_items d ≡ true
       → HasNoRetainAside a
-  drops_alone (UnlockGate y) rest here piece drops = (head_of p n m t a (UnlockGate y) rest here).3
+  drops_alone (UnlockGate y) rest here piece drops = (head_of here).3
   drops_alone (CellSwap y j z h) rest here piece drops = absurd cc
   drops_alone _ rest here piece drops = absurd cc

@@ -16,34 +16,32 @@ use Rattle.brc_model.proofs.Frame.Leaves.{head_of}
 abbrev pub StoredStay : (ℕ → ℕ) → (ℕ → ℕ) → Type 0
 StoredStay words new = (x : ℕ) → (words x ≡ 0) ⊎ (new x ≡ words x)
 
--- The row of a birth that is about to store its kind word has none yet.
-blank_kind : (p : Accounts) (n : ℕ) (m : Machine) (t : ℕ) (a : Actor) (y : ℕ) (h : Holding) (w : ℕ) (rest : List Duty)
-    → AtDuty p n m t a (BirthKind y h w) rest → m.memory (KindOf y) ≡ 0
-blank_kind p n m t a y h w rest here =
-    let next = (head_of p n m t a (BirthKind y h w) rest here).0 in
-    let index = next_index m t a y next in
-    (here.core.blanks t a here.found).kinds y (next_block m t a y next) (omega (arith, index))
-    (ap (λ (l : List Duty). kind_stored l y) here.agenda)
+module _ {p : Accounts} {n : ℕ} {m : Machine} {t : ℕ} {a : Actor} {rest : List Duty} where
+  -- The row of a birth that is about to store its kind word has none yet.
+  blank_kind : (y : ℕ) (h : Holding) (w : ℕ) → AtDuty p n m t a (BirthKind y h w) rest → m.memory (KindOf y) ≡ 0
+  blank_kind y h w here =
+      let next = (head_of here).0 in
+      let index = next_index m t a y next in
+      (here.core.blanks t a here.found).kinds y (next_block m t a y next) (omega (arith, index))
+      (ap (λ (l : List Duty). kind_stored l y) here.agenda)
 
--- A step stores a kind word in a row that has none.
-pub stored_at_duty : (p : Accounts) (n : ℕ) (m : Machine) (t : ℕ) (a : Actor) (d : Duty) (rest : List Duty)
-    → AtDuty p n m t a d rest
-    → StoredStay (λ x. m.memory (KindOf x)) (λ x. (done_by m t a d rest).memory (KindOf x))
-stored_at_duty p n m t a (SettleKind y) rest here = λ x. inr (written_load m.memory (KindOf y) (KindOf x))
-stored_at_duty p n m t a (KindLoad y) rest here = λ x. inr (written_load m.memory (KindOf y) (KindOf x))
-stored_at_duty p n m t a (BirthKind y h w) rest here = λ x.
-    elim (eqb_tells y x) [
-      | inl same ↦
-          inl (subst (λ (z : ℕ). m.memory (KindOf z) ≡ 0) same.1 (blank_kind p n m t a y h w rest here))
-      | inr other ↦ inr (written_apart m.memory (KindOf y) (KindOf x) w other.0)
-    ]
-stored_at_duty p n m t a _ rest here = λ x. inr refl
+  -- A step stores a kind word in a row that has none.
+  pub stored_at_duty : (d : Duty) → AtDuty p n m t a d rest
+      → StoredStay (λ x. m.memory (KindOf x)) (λ x. (done_by m t a d rest).memory (KindOf x))
+  stored_at_duty (SettleKind y) here = λ x. inr (written_load m.memory (KindOf y) (KindOf x))
+  stored_at_duty (KindLoad y) here = λ x. inr (written_load m.memory (KindOf y) (KindOf x))
+  stored_at_duty (BirthKind y h w) here = λ x.
+      elim (eqb_tells y x) [
+        | inl same ↦ inl (subst (λ (z : ℕ). m.memory (KindOf z) ≡ 0) same.1 (blank_kind y h w here))
+        | inr other ↦ inr (written_apart m.memory (KindOf y) (KindOf x) w other.0)
+      ]
+  stored_at_duty _ here = λ x. inr refl
 
--- So a kind word that is stored stays.
-pub kind_stays : (p : Accounts) (n : ℕ) (m : Machine) (t : ℕ) (a : Actor) (d : Duty) (rest : List Duty) (x : ℕ)
-    → AtDuty p n m t a d rest → (m.memory (KindOf x) ≡ 0 → ⊥)
-    → (done_by m t a d rest).memory (KindOf x) ≡ m.memory (KindOf x)
-kind_stays p n m t a d rest x here some = elim (stored_at_duty p n m t a d rest here x) [
-  | inl none ↦ absurd (some none)
-  | inr same ↦ same
-]
+module _ {p : Accounts} {n : ℕ} {m : Machine} {t : ℕ} {a : Actor} {d : Duty} {rest : List Duty} where
+  -- So a kind word that is stored stays.
+  pub kind_stays : (x : ℕ) → AtDuty p n m t a d rest → (m.memory (KindOf x) ≡ 0 → ⊥)
+      → (done_by m t a d rest).memory (KindOf x) ≡ m.memory (KindOf x)
+  kind_stays x here some = elim (stored_at_duty d here x) [
+    | inl none ↦ absurd (some none)
+    | inr same ↦ same
+  ]

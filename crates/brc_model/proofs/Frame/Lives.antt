@@ -39,14 +39,12 @@ next_dies d next y _ dies = absurd (none_some y dies)
 
 -- ---- rows that begin to die are live
 
-may_die_alive : (p : Accounts) (n : ℕ) (m : Machine) (t : ℕ) (a : Actor) (d : Duty) (rest : List Duty) (y : ℕ)
-    → AtDuty p n m t a d rest → MayDie d y → Alive m y
-may_die_alive p n m t a (DecideAtZero x) rest y here is = subst (Alive m) is (decide_alive p n m t a x rest here)
-may_die_alive p n m t a (SharedExchange x r w) rest y here is =
-    subst (Alive m) is (exchange_alive p n m t a x w r rest here)
-may_die_alive p n m t a (MergeExchange x c w r) rest y here is =
-    subst (Alive m) is (merge_alive p n m t a x c w r rest here)
-may_die_alive p n m t a _ rest y here is = absurd is
+module _ {p : Accounts} {n : ℕ} {m : Machine} {t : ℕ} {a : Actor} {rest : List Duty} where
+  may_die_alive : (d : Duty) (y : ℕ) → AtDuty p n m t a d rest → MayDie d y → Alive m y
+  may_die_alive (DecideAtZero x) y here is = subst (Alive m) is (decide_alive x here)
+  may_die_alive (SharedExchange x r w) y here is = subst (Alive m) is (exchange_alive x w r here)
+  may_die_alive (MergeExchange x c w r) y here is = subst (Alive m) is (merge_alive x c w r here)
+  may_die_alive _ y here is = absurd is
 
 abbrev pub next_of : Machine → ℕ → Actor → Duty → List Duty
 next_of m t a d = continuation m.layout t (is_running a.status) a.head d (m.memory (address_of m.layout t a.head d))
@@ -57,11 +55,10 @@ next_may_die m t a d y dies =
     next_dies d (next_of m t a d) y
     (continues m.layout t (is_running a.status) a.head d (m.memory (address_of m.layout t a.head d))) dies
 
--- A row that a step makes die was live before it.
-pub dying_was_alive : (p : Accounts) (n : ℕ) (m : Machine) (t : ℕ) (a : Actor) (d : Duty) (rest : List Duty) (y : ℕ)
-    → AtDuty p n m t a d rest → dies_next (next_of m t a d) ≡ Some y → Alive m y
-dying_was_alive p n m t a d rest y here e =
-    may_die_alive p n m t a d rest y here (next_may_die m t a d y e)
+module _ {p : Accounts} {n : ℕ} {m : Machine} {t : ℕ} {a : Actor} {d : Duty} {rest : List Duty} where
+  -- A row that a step makes die was live before it.
+  pub dying_was_alive : (y : ℕ) → AtDuty p n m t a d rest → dies_next (next_of m t a d) ≡ Some y → Alive m y
+  dying_was_alive y here e = may_die_alive d y here (next_may_die m t a d y e)
 
 -- ---- life after a step
 
@@ -79,34 +76,33 @@ changes_life life (Some y) state u x now was =
       | inr other ↦ ap (λ (b : Bool). dies_by (cond b state (life x)) u) other.0
     ]
 
-ended_mine : (p : Accounts) (n : ℕ) (m : Machine) (t : ℕ) (a : Actor) (d : Duty) (rest : List Duty) (u y : ℕ)
-    → AtDuty p n m t a d rest → u ≢ t → ended_row d ≡ Some y → dies_by (m.life y) u ≡ false
-ended_mine p n m t a (SettleEnd x) rest u y here ne e =
-    let mine : m.life y ≡ Dying t = ap m.life (sym (some_is x y e)) ∙ (head_of p n m t a (SettleEnd x) rest here).1 in
-    ap (λ (l : Life). dies_by l u) mine ∙ ne_eqb t u (λ q. ne (sym q))
-ended_mine p n m t a _ rest u y here ne e = absurd (none_some y e)
+module _ {p : Accounts} {n : ℕ} {m : Machine} {t : ℕ} {a : Actor} {rest : List Duty} where
+  ended_mine : (d : Duty) (u y : ℕ) → AtDuty p n m t a d rest → u ≢ t → ended_row d ≡ Some y
+      → dies_by (m.life y) u ≡ false
+  ended_mine (SettleEnd x) u y here ne e =
+      let mine : m.life y ≡ Dying t = ap m.life (sym (some_is x y e)) ∙ (head_of here).1 in
+      ap (λ (l : Life). dies_by l u) mine ∙ ne_eqb t u (λ q. ne (sym q))
+  ended_mine _ u y here ne e = absurd (none_some y e)
 
-born_was : (p : Accounts) (n : ℕ) (m : Machine) (t : ℕ) (a : Actor) (d : Duty) (rest : List Duty) (y : ℕ)
-    → AtDuty p n m t a d rest → born_row d ≡ Some y → m.life y ≡ Unborn
-born_was p n m t a (BirthLocal x h) rest y here e =
-    ap m.life (sym (some_is x y e))
-    ∙ next_unborn p n m t a x here.core here.found (head_of p n m t a (BirthLocal x h) rest here).0
-born_was p n m t a _ rest y here e = absurd (none_some y e)
+  born_was : (d : Duty) (y : ℕ) → AtDuty p n m t a d rest → born_row d ≡ Some y → m.life y ≡ Unborn
+  born_was (BirthLocal x h) y here e =
+      ap m.life (sym (some_is x y e)) ∙ next_unborn p n m t a x here.core here.found (head_of here).0
+  born_was _ y here e = absurd (none_some y e)
 
-lives_left : (p : Accounts) (n : ℕ) (m : Machine) (t : ℕ) (a : Actor) (d : Duty) (rest : List Duty)
-    → AtDuty p n m t a d rest → (u x : ℕ) → u ≢ t
-    → dies_by (life_by m.life t d (next_of m t a d) x) u ≡ dies_by (m.life x) u
-lives_left p n m t a d rest here u x ne =
-    let dying = with_life m.life (dies_next (next_of m t a d)) (Dying t) in
-    let closed = with_life dying (ended_row d) Closed in
-    let first =
-    λ (z : ℕ). changes_life m.life (dies_next (next_of m t a d)) (Dying t) u z (ne_eqb t u (λ e. ne (sym e)))
-    (λ y e. ap (λ (l : Life). dies_by l u) (dying_was_alive p n m t a d rest y here e).life) in
-    let second =
-    λ (z : ℕ). changes_life dying (ended_row d) Closed u z refl
-    (λ y e. first y ∙ ended_mine p n m t a d rest u y here ne e) ∙ first z in
-    changes_life closed (born_row d) Live u x refl
-    (λ y e. second y ∙ ap (λ (l : Life). dies_by l u) (born_was p n m t a d rest y here e)) ∙ second x
+module _ {p : Accounts} {n : ℕ} {m : Machine} {t : ℕ} {a : Actor} {d : Duty} {rest : List Duty} where
+  lives_left : AtDuty p n m t a d rest → (u x : ℕ) → u ≢ t
+      → dies_by (life_by m.life t d (next_of m t a d) x) u ≡ dies_by (m.life x) u
+  lives_left here u x ne =
+      let dying = with_life m.life (dies_next (next_of m t a d)) (Dying t) in
+      let closed = with_life dying (ended_row d) Closed in
+      let first =
+      λ (z : ℕ). changes_life m.life (dies_next (next_of m t a d)) (Dying t) u z (ne_eqb t u (λ e. ne (sym e)))
+      (λ y e. ap (λ (l : Life). dies_by l u) (dying_was_alive y here e).life) in
+      let second =
+      λ (z : ℕ). changes_life dying (ended_row d) Closed u z refl
+      (λ y e. first y ∙ ended_mine d u y here ne e) ∙ first z in
+      changes_life closed (born_row d) Live u x refl
+      (λ y e. second y ∙ ap (λ (l : Life). dies_by l u) (born_was d y here e)) ∙ second x
 
 -- A row that was born is still born after its life changes to one that isn't `Unborn`.
 born_through : (life : ℕ → Life) (o : Option ℕ) (state : Life) (x : ℕ) → state ≢ Unborn → life x ≢ Unborn
@@ -129,20 +125,21 @@ born_left life t d next x was =
 
 -- ---- kinds
 
--- A kind word that names a counted kind still does after a step: a birth stores such kinds alone.
-kinds_left : (p : Accounts) (n : ℕ) (m : Machine) (t : ℕ) (a : Actor) (d : Duty) (rest : List Duty)
-    → AtDuty p n m t a d rest → (x : ℕ) → HasCountedKind m.memory x → HasCountedKind (done_by m t a d rest).memory x
-kinds_left p n m t a (SettleKind y) rest here x was =
-    ap (λ (w : ℕ). is_counted_kind (kind_of_word w)) (written_load m.memory (KindOf y) (KindOf x)) ∙ was
-kinds_left p n m t a (KindLoad y) rest here x was =
-    ap (λ (w : ℕ). is_counted_kind (kind_of_word w)) (written_load m.memory (KindOf y) (KindOf x)) ∙ was
-kinds_left p n m t a (BirthKind y h w) rest here x was =
-    let said = (head_of p n m t a (BirthKind y h w) rest here).2 in
-    elim (y == x) as (λ b. is_counted_kind (kind_of_word (cond b w (m.memory (KindOf x)))) ≡ true) [
-      | true ↦ said
-      | false ↦ was
-    ]
-kinds_left p n m t a _ rest here x was = was
+module _ {p : Accounts} {n : ℕ} {m : Machine} {t : ℕ} {a : Actor} {rest : List Duty} where
+  -- A kind word that names a counted kind still does after a step: a birth stores such kinds alone.
+  kinds_left : (d : Duty) → AtDuty p n m t a d rest → (x : ℕ) → HasCountedKind m.memory x
+      → HasCountedKind (done_by m t a d rest).memory x
+  kinds_left (SettleKind y) here x was =
+      ap (λ (w : ℕ). is_counted_kind (kind_of_word w)) (written_load m.memory (KindOf y) (KindOf x)) ∙ was
+  kinds_left (KindLoad y) here x was =
+      ap (λ (w : ℕ). is_counted_kind (kind_of_word w)) (written_load m.memory (KindOf y) (KindOf x)) ∙ was
+  kinds_left (BirthKind y h w) here x was =
+      let said = (head_of here).2 in
+      elim (y == x) as (λ b. is_counted_kind (kind_of_word (cond b w (m.memory (KindOf x)))) ≡ true) [
+        | true ↦ said
+        | false ↦ was
+      ]
+  kinds_left _ here x was = was
 
 -- ---- everything that other threads rely on
 
@@ -150,25 +147,26 @@ dying_unlive : (l : Life) (u : ℕ) → dies_by l u ≡ true → l ≡ Live → 
 dying_unlive l u dies lives =
     absurd (false≢true (sym (ap (λ (k : Life). dies_by k u) lives) ∙ dies))
 
--- A thread's step leaves what the other threads rely on.
-pub leaves_others : (p : Accounts) (n : ℕ) (m : Machine) (t : ℕ) (a : Actor) (d : Duty) (rest : List Duty)
-    → AtDuty p n m t a d rest → LeavesOthers m (done_by m t a d rest) t
-leaves_others p n m t a d rest here = record {
-  layout = refl;
-  bag = λ u k object ne. moves_apart m.memory m.abstract u t k object d (m.memory (address_of m.layout t a.head d)) ne;
-  locals = λ u x b ne found owns. locals_left p n m t a d rest here u x b ne found owns;
-  merged = λ x was. merged_left p n m t a d rest here x was;
-  stopped = λ u was. stopped_left m t a d u was;
-  words = λ u ne. words_left m t a d u ne;
-  gates = λ u x ne dies. gates_left p n m t a d rest here u x ne dies;
-  locks = λ u x b ne found e. locks_left p n m t a d rest here u x b ne found e;
-  lists = λ u x b ne found e. lists_left p n m t a d rest here u x b ne found e;
-  cells = λ u x i ne dies was.
-      stays_empty p n m t a d rest x i here (dying_unlive (m.life x) u dies) was;
-  kinds = λ x was. kinds_left p n m t a d rest here x was;
-  lives = λ u x ne. lives_left p n m t a d rest here u x ne;
-  born = λ x was. born_left m.life t d (next_of m t a d) x was;
-  stored = λ x some. kind_stays p n m t a d rest x here some;
-  words_born = λ x born. word_stays p n m t a d rest x here born;
-  births = λ u x b ne found next. births_left p n m t u a b d rest x here ne found next;
-}
+module _ {p : Accounts} {n : ℕ} {m : Machine} {t : ℕ} {a : Actor} {d : Duty} {rest : List Duty} where
+  -- A thread's step leaves what the other threads rely on.
+  pub leaves_others : AtDuty p n m t a d rest → LeavesOthers m (done_by m t a d rest) t
+  leaves_others here = record {
+    layout = refl;
+    bag = λ u k object ne. moves_apart m.memory m.abstract u t k object d (m.memory (address_of m.layout t a.head d))
+        ne;
+    locals = λ u x b ne found owns. locals_left d here u x b ne found owns;
+    merged = λ x was. merged_left d here x was;
+    stopped = λ u was. stopped_left m t a d u was;
+    words = λ u ne. words_left m t a d u ne;
+    gates = λ u x ne dies. gates_left d here u x ne dies;
+    locks = λ u x b ne found e. locks_left d here u x b ne found e;
+    lists = λ u x b ne found e. lists_left p n m t a d rest here u x b ne found e;
+    cells = λ u x i ne dies was.
+        stays_empty x i here (dying_unlive (m.life x) u dies) was;
+    kinds = λ x was. kinds_left d here x was;
+    lives = λ u x ne. lives_left here u x ne;
+    born = λ x was. born_left m.life t d (next_of m t a d) x was;
+    stored = λ x some. kind_stays x here some;
+    words_born = λ x born. word_stays p n m t a d rest x here born;
+    births = λ u x b ne found next. births_left p n m t u a b d rest x here ne found next;
+  }

@@ -11,7 +11,7 @@ use Rattle.brc_model.specs.declared.duty.Duty.{Duty}
 use Rattle.brc_model.specs.declared.duty.Duty.TheVariants.{Die, Settle, SettleKind, SettleCell, TakeSlot, CloseResource, SettleEnd, Leave, Scan, Finish, ClaimMark, BirthKind, BirthSlot, BirthLocal, KindLoad, LockGate, UnlockGate, CellLoad, CellSwap, LendSlot, ReturnSlot}
 use Rattle.brc_model.specs.declared.address.Address.{Address}
 use Rattle.brc_model.specs.declared.address.Address.TheVariants.{Local, Shared, Gate, KindOf, Cell, Slot, ThreadWord}
-use Rattle.brc_model.specs.Machine.{Actor, Life, Unborn, Live, Dying, Closed, Machine}
+use Rattle.brc_model.specs.Machine.{Actor, Life, Unborn, Dying, Machine}
 use Rattle.brc_model.specs.Duties.{cells_of, has_resource, resources_of}
 use Rattle.brc_model.specs.References.{held, one_if, reference_of}
 use Rattle.brc_model.specs.OpenWork.{AllWait, AsideFits, AgendaFits, Linked, dies_by, ChainFits}
@@ -80,10 +80,8 @@ pub dying_is : (l : Life) (u : ℕ) → l ≡ Dying u → dies_by l u ≡ true
 dying_is l u is = ap (λ (k : Life). dies_by k u) is ∙ eq-eqb u u refl
 
 pub is_dying : (l : Life) (u : ℕ) → dies_by l u ≡ true → l ≡ Dying u
-is_dying Unborn u e = absurd cc
-is_dying Live u e = absurd cc
 is_dying (Dying v) u e = ap Dying (eqb-true v u e)
-is_dying Closed u e = absurd cc
+is_dying _ u e = cc
 
 pub life_kept : (m new : Machine) (t u x : ℕ) → LeavesOthers m new t → u ≢ t → m.life x ≡ Dying u → new.life x ≡ Dying u
 life_kept m new t u x leaves ne is = is_dying (new.life x) u (leaves.lives u x ne ∙ dying_is (m.life x) u is)

@@ -1,6 +1,6 @@
 -- A ready thread that has put nothing aside begins what it does in one go: to settle, to claim a mark, or to leave. And
 -- a ready thread asks for an object's kind.
-use Rattle.std.proofs.Common.{◌≡◌, ℕ, ◌<◌, Bool, cond, true, false, [], ◌∷◌, inl, inr, refl, ap, subst, arith}
+use Rattle.std.proofs.Common.{◌≡◌, ℕ, ◌<◌, true, false, [], ◌∷◌, inl, inr, refl, ap, subst, arith}
 use Rattle.std.specs.Prelude.{◌⊎◌, count_by}
 use Rattle.std.proofs.lemmas.Bool.{false≢true}
 use Rattle.brc_model.specs.declared.duty.Holding.{Holding}
@@ -10,12 +10,11 @@ use Rattle.brc_model.specs.declared.actor.Status.TheVariants.{Running}
 use Rattle.brc_model.specs.Layout.{row_count}
 use Rattle.brc_model.specs.Machine.{Actor, Life, Machine, with_actor}
 use Rattle.brc_model.specs.References.{one_if}
-use Rattle.brc_model.specs.RowInvariant.{waits, carries, merges, decides}
 use Rattle.brc_model.specs.Accounts.{Account, Accounts, lacks, extra, HoldsNone}
 use Rattle.brc_model.specs.Knowledge.{MayLook, HeadFits}
-use Rattle.brc_model.specs.OpenWork.{dies_by, is_about, is_finalising, has_leave, Agenda, IsSettled}
+use Rattle.brc_model.specs.OpenWork.{dies_by, is_about, has_leave, Agenda, IsSettled}
 use Rattle.brc_model.specs.Gates.{LocksFit}
-use Rattle.brc_model.specs.Invariant.{looks, CoreInvariant, Invariant}
+use Rattle.brc_model.specs.Invariant.{CoreInvariant, Invariant}
 use Rattle.brc_model.specs.Ranges.{IsSmall}
 use Rattle.brc_model.specs.Counting.{Counts, working, IsReady, HasNoneAbout, IsAtHand}
 use Rattle.brc_model.specs.CountingLaws.{SettlesBegin, ClaimsBegin, ExitsBegin, IsFirstOfChain, KindsAreAsked, ChainsAreThere}
@@ -28,7 +27,8 @@ use Rattle.brc_model.proofs.Keeping.Replaced.{with_account_itself}
 use Rattle.brc_model.proofs.Keeping.Sits.{Sits}
 use Rattle.brc_model.proofs.Keeping.Kept.{kept_sits}
 use Rattle.brc_model.proofs.Keeping.WorkAside.{working_ranges}
-use Rattle.brc_model.proofs.Keeping.WorkBegins.{ready_rests, ready_holds, at_hand_backed, backed_row, backed_still, BeginsWork, one_weight, one_makes, work_begins}
+use Rattle.brc_model.proofs.Keeping.WorkBegins.{ready_rests, ready_holds, at_hand_backed, backed_row, backed_still, one_makes, work_begins, one_light}
+use Rattle.brc_model.proofs.Keeping.Weightless.{weighs_any}
 
 -- ---- chains
 
@@ -39,11 +39,11 @@ chains_there p n m t a counts found =
     let core = counts.kept.core in
     let chain = (core.each t a found).0.chain in
     record {
-      head = head_small p n m t a core found;
-      first = λ x first. first_chained p n m t a x core found first;
+      head = head_small t a core found;
+      first = λ x first. first_chained t a x core found first;
       locked = λ x is.
           let none : one_if (dies_by (m.life x) t) ≡ 0 =
-          ap (λ (l : Life). one_if (dies_by l t)) (locked_alive p n m t a x core found is).life in
+          ap (λ (l : Life). one_if (dies_by l t)) (locked_alive t a x core found is).life in
           record {
             later = λ first.
                 omega (
@@ -62,12 +62,7 @@ chains_there p n m t a counts found =
 pub record BeginsAlone (d : Duty) : Type 0 where
   pub lacks : (k : Holding) (object : ℕ) → lacks d k object ≡ false
   pub extra : (k : Holding) (object : ℕ) → extra d k object ≡ false
-  pub hands : (y : ℕ) → is_finalising d y ≡ false
-  pub waits : (y : ℕ) → waits y d ≡ 0
-  pub carries : (y : ℕ) → carries y d ≡ 0
-  pub merges : (y : ℕ) → merges y d ≡ 0
-  pub decides : (y : ℕ) → decides y d ≡ 0
-  pub looks : (y : ℕ) → looks y d ≡ 0
+  pub light : weighs_any d ≡ false
 
 -- What the thread has to show besides.
 pub record TakesAlone (p : Accounts) (m : Machine) (t : ℕ) (a : Actor) (d : Duty) : Type 0 where
@@ -91,96 +86,54 @@ same_locks account m t a d locks none y e =
       gate = it.gate;
     }
 
--- A ready thread that has put nothing aside takes up such a duty.
-pub alone_begins : (p : Accounts) (n : ℕ) (m : Machine) (t : ℕ) (a : Actor) (d : Duty) → Counts p n m
-    → IsReady m t a → a.aside ≡ [] → TakesAlone p m t a d
-    → Counts p n (with_actor m t (working a (d ∷ []) a.aside))
-alone_begins p n m t a d counts ready none new =
-    let core = counts.kept.core in
-    let begins = new.begins in
-    let old = core.each t a ready.found in
-    let sits : Sits m t a (d ∷ []) (p t) = record {
-      holds = record {
-        each = λ k object.
-            omega (
-              arith,
-              (ready_holds p n m t a core ready).each k object,
-              ap one_if (begins.lacks k object),
-              ap one_if (begins.extra k object),
-            );
-      };
-      bounded = old.0.bounded;
-      exited = λ e. (new.exited e, none);
-      aside = record {
-        waits = still_wait m t a (d ∷ []) a.aside a.aside old.2.waits;
-        apart = λ y.
-            let empty : count_by (is_about y) a.aside ≡ 0 = ap (count_by (is_about y)) none in
-            omega (arith, empty, one_if_low (is_about y d));
-        pieces = inl none;
-      };
-      knows = new.knows;
-      behind = tt;
-      locks = same_locks (p t) m t a d old.0.locks begins.lacks;
-      fits = new.fits;
-      hands = λ y. ap (λ (b : Bool). cond b 1 0) (begins.hands y);
-      no_waits = λ y. one_weight (waits y) d (begins.waits y);
-      no_carries = λ y. one_weight (carries y) d (begins.carries y);
-      no_merges = λ y. one_weight (merges y) d (begins.merges y);
-      no_decides = λ y. one_weight (decides y) d (begins.decides y);
-      no_looks = λ y. one_weight (looks y) d (begins.looks y);
-    } in
-    record {
-      kept =
-          subst (λ (q : Accounts). Invariant q n (with_actor m t (working a (d ∷ []) a.aside)))
-          (with_account_itself p t)
-          (kept_sits p n m t a (d ∷ []) (p t) counts.kept (ready_rests p n m t a core ready) sits new.settled);
-      ranges =
-          working_ranges n m t a (d ∷ []) a.aside counts.ranges ready.found (new.small, tt)
-          (counts.ranges.aside t a ready.found);
-      no_flight = counts.no_flight;
-    }
-
-settle_begins : BeginsAlone Settle
-settle_begins = record {
-  lacks = λ k object. refl;
-  extra = λ k object. refl;
-  hands = λ y. refl;
-  waits = λ y. refl;
-  carries = λ y. refl;
-  merges = λ y. refl;
-  decides = λ y. refl;
-  looks = λ y. refl;
-}
-
-claim_begins : (x : ℕ) → BeginsAlone (ClaimMark x)
-claim_begins x = record {
-  lacks = λ k object. refl;
-  extra = λ k object. refl;
-  hands = λ y. refl;
-  waits = λ y. refl;
-  carries = λ y. refl;
-  merges = λ y. refl;
-  decides = λ y. refl;
-  looks = λ y. refl;
-}
-
-leave_begins : (i k : ℕ) → BeginsAlone (Leave i k)
-leave_begins i k = record {
-  lacks = λ k object. refl;
-  extra = λ k object. refl;
-  hands = λ y. refl;
-  waits = λ y. refl;
-  carries = λ y. refl;
-  merges = λ y. refl;
-  decides = λ y. refl;
-  looks = λ y. refl;
-}
+module _ {p : Accounts} {n : ℕ} {m : Machine} {t : ℕ} {a : Actor} where
+  -- A ready thread that has put nothing aside takes up such a duty.
+  pub alone_begins : (d : Duty) → Counts p n m → IsReady m t a → a.aside ≡ [] → TakesAlone p m t a d
+      → Counts p n (with_actor m t (working a (d ∷ []) a.aside))
+  alone_begins d counts ready none new =
+      let core = counts.kept.core in
+      let begins = new.begins in
+      let old = core.each t a ready.found in
+      let sits : Sits m t a (d ∷ []) (p t) = record {
+        holds = record {
+          each = λ k object.
+              omega (
+                arith,
+                (ready_holds core ready).each k object,
+                ap one_if (begins.lacks k object),
+                ap one_if (begins.extra k object),
+              );
+        };
+        bounded = old.0.bounded;
+        exited = λ e. (new.exited e, none);
+        aside = record {
+          waits = still_wait m t a (d ∷ []) a.aside a.aside old.2.waits;
+          apart = λ y.
+              let empty : count_by (is_about y) a.aside ≡ 0 = ap (count_by (is_about y)) none in
+              omega (arith, empty, one_if_low (is_about y d));
+          pieces = inl none;
+        };
+        knows = new.knows;
+        behind = tt;
+        locks = same_locks (p t) m t a d old.0.locks begins.lacks;
+        fits = new.fits;
+        light = one_light d begins.light;
+      } in
+      record {
+        kept =
+            subst (λ (q : Accounts). Invariant q n (with_actor m t (working a (d ∷ []) a.aside)))
+            (with_account_itself p t) (kept_sits (d ∷ []) (p t) counts.kept (ready_rests core ready) sits new.settled);
+        ranges =
+            working_ranges n m t a (d ∷ []) a.aside counts.ranges ready.found (new.small, tt)
+            (counts.ranges.aside t a ready.found);
+        no_flight = counts.no_flight;
+      }
 
 -- The invariant and the ranges hold after a ready thread begins to settle its chain.
 pub settles_begin : SettlesBegin
 settles_begin p n m t a counts ready none some =
-    alone_begins p n m t a Settle counts ready none (record {
-      begins = settle_begins;
+    alone_begins Settle counts ready none (record {
+      begins = record { lacks = λ k object. refl; extra = λ k object. refl; light = refl };
       exited = λ e. absurd (false≢true e);
       knows = some;
       fits = refl;
@@ -191,8 +144,8 @@ settles_begin p n m t a counts ready none some =
 -- The invariant and the ranges hold after a ready thread begins to claim the mark of a row of its block.
 pub claims_begin : ClaimsBegin
 claims_begin p n m t a x counts ready none own there =
-    alone_begins p n m t a (ClaimMark x) counts ready none (record {
-      begins = claim_begins x;
+    alone_begins (ClaimMark x) counts ready none (record {
+      begins = record { lacks = λ k object. refl; extra = λ k object. refl; light = refl };
       exited = λ e. absurd (false≢true e);
       knows = own;
       fits = refl;
@@ -203,8 +156,8 @@ claims_begin p n m t a x counts ready none own there =
 -- The invariant and the ranges hold after a ready thread that holds nothing begins to leave.
 pub exits_begin : ExitsBegin
 exits_begin p n m t a counts ready none empty holds =
-    alone_begins p n m t a (Leave 0 a.used) counts ready none (record {
-      begins = leave_begins 0 a.used;
+    alone_begins (Leave 0 a.used) counts ready none (record {
+      begins = record { lacks = λ k object. refl; extra = λ k object. refl; light = refl };
       exited = λ e. holds;
       knows = tt;
       fits = (refl, refl, refl);
@@ -214,32 +167,17 @@ exits_begin p n m t a counts ready none empty holds =
 
 -- ---- a look at a kind
 
-kind_load_begins : (x : ℕ) → BeginsWork x (KindLoad x)
-kind_load_begins x = record {
-  about = λ y. refl;
-  piece = refl;
-  fits = λ used. refl;
-  stays = refl;
-  settled = λ head. tt;
-  hands = λ y. refl;
-  waits = λ y. refl;
-  carries = λ y. refl;
-  merges = λ y. refl;
-  decides = λ y. refl;
-  looks = λ y. refl;
-}
+module _ {p : Accounts} {n : ℕ} {m : Machine} {t : ℕ} {a : Actor} where
+  -- The thread may look at the object for whose kind it asks.
+  asked_looks : (x : ℕ) → CoreInvariant p n m → IsReady m t a → HasNoneAbout a x
+      → IsAtHand (p t) m a x ⊎ IsFirstOfChain a x → MayLook m t a x
+  asked_looks x core ready alone (inl at_hand) = inl (at_hand_backed x core ready alone at_hand)
+  asked_looks x core ready alone (inr first) = inr (first_chained t a x core ready.found first)
 
--- The thread may look at the object for whose kind it asks.
-asked_looks : (p : Accounts) (n : ℕ) (m : Machine) (t : ℕ) (a : Actor) (x : ℕ) → CoreInvariant p n m → IsReady m t a
-    → HasNoneAbout a x → IsAtHand (p t) m a x ⊎ IsFirstOfChain a x → MayLook m t a x
-asked_looks p n m t a x core ready alone (inl at_hand) = inl (at_hand_backed p n m t a x core ready alone at_hand)
-asked_looks p n m t a x core ready alone (inr first) = inr (first_chained p n m t a x core ready.found first)
-
-asked_row : (p : Accounts) (n : ℕ) (m : Machine) (t : ℕ) (a : Actor) (x : ℕ) → CoreInvariant p n m → IsReady m t a
-    → HasNoneAbout a x → IsAtHand (p t) m a x ⊎ IsFirstOfChain a x → x < row_count m.layout
-asked_row p n m t a x core ready alone (inl at_hand) =
-    backed_row p n m t a x core (at_hand_backed p n m t a x core ready alone at_hand)
-asked_row p n m t a x core ready alone (inr first) = first_row p n m t a x core ready.found first
+  asked_row : (x : ℕ) → CoreInvariant p n m → IsReady m t a → HasNoneAbout a x
+      → IsAtHand (p t) m a x ⊎ IsFirstOfChain a x → x < row_count m.layout
+  asked_row x core ready alone (inl at_hand) = backed_row t a x core (at_hand_backed x core ready alone at_hand)
+  asked_row x core ready alone (inr first) = first_row t a x core ready.found first
 
 -- New work leaves what the thread may look at.
 pub looks_still : (m : Machine) (t : ℕ) (a : Actor) (x : ℕ) (d : Duty) → MayLook m t a x
@@ -252,18 +190,16 @@ looks_still m t a x d (inr chained) = inr chained
 pub kinds_asked : KindsAreAsked
 kinds_asked p n m t a x counts ready alone asks =
     let core = counts.kept.core in
-    let holds = ready_holds p n m t a core ready in
-    let looks = asked_looks p n m t a x core ready alone asks in
+    let holds = ready_holds core ready in
+    let looks = asked_looks x core ready alone asks in
     subst (λ (q : Accounts). Counts q n (with_actor m t (working a (KindLoad x ∷ []) a.aside)))
-    (with_account_itself p t)
-    (work_begins p n m t a x (KindLoad x) (p t) counts ready alone (record {
-      begins = kind_load_begins x;
+    (with_account_itself p t) (work_begins x (KindLoad x) (p t) counts ready alone (record {
+      begins = record { about = λ y. refl; piece = refl; light = refl };
       no_flight = counts.no_flight t;
       holds = λ k object. omega (arith, holds.each k object);
       bounded = (core.each t a ready.found).0.bounded;
       locks = same_locks (p t) m t a (KindLoad x) (core.each t a ready.found).0.locks (λ k y. refl);
       knows = looks_still m t a x (KindLoad x) looks;
       small =
-          row_small (row_count m.layout) x (KindLoad x) (asked_row p n m t a x core ready alone asks) (λ y. refl)
-          (omega arith);
+          row_small (row_count m.layout) x (KindLoad x) (asked_row x core ready alone asks) (λ y. refl) (omega arith);
     }))

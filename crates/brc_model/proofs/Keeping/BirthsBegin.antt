@@ -17,35 +17,21 @@ use Rattle.brc_model.specs.CountingLaws.{BirthsBegin}
 use Rattle.brc_model.proofs.Basics.Bag.{held-le-references_to}
 use Rattle.brc_model.proofs.Basics.Blocks.{thread_there, next_counted, next_unborn, next_within}
 use Rattle.brc_model.proofs.Limits.Ranges.{row_small}
-use Rattle.brc_model.proofs.Keeping.WorkBegins.{ready_holds, none_about_held, BeginsWork, more_bounded, work_begins, one_makes}
+use Rattle.brc_model.proofs.Keeping.WorkBegins.{ready_holds, none_about_held, work_begins, one_makes}
 use Rattle.brc_model.proofs.Keeping.NextRows.{unborn_alone}
+use Rattle.brc_model.proofs.Keeping.OneReference.{bounded_more}
 
--- A birth can begin a piece of work.
-birth_begins : (x word : ℕ) → BeginsWork x (BirthKind x AsCaller word)
-birth_begins x word = record {
-  about = λ y. refl;
-  piece = refl;
-  fits = λ used. refl;
-  stays = refl;
-  settled = λ head. tt;
-  hands = λ y. refl;
-  waits = λ y. refl;
-  carries = λ y. refl;
-  merges = λ y. refl;
-  decides = λ y. refl;
-  looks = λ y. refl;
-}
-
--- A ready thread holds no reference to an object that isn't born.
-unborn_held : (p : Accounts) (n : ℕ) (m : Machine) (t : ℕ) (a : Actor) (x : ℕ) → CoreInvariant p n m → IsReady m t a
-    → IsUnborn (numbers_of m x) → HasNoneAbout a x → p t AsCaller x ≡ 0
-unborn_held p n m t a x core ready row alone =
-    omega (
-      arith,
-      none_about_held p n m t a x AsCaller core ready alone,
-      held-le-references_to (reference_of t AsCaller x) m.abstract.references,
-      row.references,
-    )
+module _ {p : Accounts} {n : ℕ} {m : Machine} {t : ℕ} {a : Actor} where
+  -- A ready thread holds no reference to an object that isn't born.
+  unborn_held : (x : ℕ) → CoreInvariant p n m → IsReady m t a → IsUnborn (numbers_of m x) → HasNoneAbout a x
+      → p t AsCaller x ≡ 0
+  unborn_held x core ready row alone =
+      omega (
+        arith,
+        none_about_held x AsCaller core ready alone,
+        held-le-references_to (reference_of t AsCaller x) m.abstract.references,
+        row.references,
+      )
 
 -- The invariant and the ranges hold after a ready worker begins a birth.
 pub births_begin : BirthsBegin
@@ -57,7 +43,7 @@ births_begin p n m t a word counts ready worker has_room counted_kind few =
     record {
       running = ready.running;
       worker = worker;
-      there = thread_there p n m t a core ready.found;
+      there = thread_there t a core ready.found;
       row = refl;
       room = room;
     } in
@@ -65,19 +51,18 @@ births_begin p n m t a word counts ready worker has_room counted_kind few =
     let unborn = next_unborn p n m t a x core ready.found next in
     let row : IsUnborn (numbers_of m x) =
     subst (λ (l : Life). RowInvariant (block_of m.layout x) l (numbers_of m x)) unborn (core.rows x counted) in
-    let alone = unborn_alone p n m t a x core ready counted unborn in
-    let none = unborn_held p n m t a x core ready row alone in
-    let holds = ready_holds p n m t a core ready in
+    let alone = unborn_alone x core ready counted unborn in
+    let none = unborn_held x core ready row alone in
+    let holds = ready_holds core ready in
     let bounded = (core.each t a ready.found).0.bounded in
-    work_begins p n m t a x (BirthKind x AsCaller word) (with_one_more (p t) AsCaller x) counts ready alone (record {
-      begins = birth_begins x word;
+    work_begins x (BirthKind x AsCaller word) (with_one_more (p t) AsCaller x) counts ready alone (record {
+      begins = record { about = λ y. refl; piece = refl; light = refl };
       no_flight = λ object. omega (arith, counts.no_flight t object);
       holds = λ k object. omega (arith, holds.each k object);
-      bounded = more_bounded m.layout (p t) x bounded (λ c. omega (arith, none));
+      bounded = bounded_more m.layout (p t) x bounded (λ c. omega (arith, none));
       locks =
           more_locks (p t) m t a (working a (BirthKind x AsCaller word ∷ []) a.aside) x
-          (core.each t a ready.found).0.locks refl
-          (λ k y. omega (arith, one_makes k y (BirthKind x AsCaller word)));
+          (core.each t a ready.found).0.locks refl (λ k y. omega (arith, one_makes k y (BirthKind x AsCaller word)));
       knows = (
         record {
           running = next.running;
@@ -90,6 +75,6 @@ births_begin p n m t a word counts ready worker has_room counted_kind few =
         counted_kind,
       );
       small =
-          row_small (row_count m.layout) x (BirthKind x AsCaller word) (next_within p n m t a core ready.found room)
+          row_small (row_count m.layout) x (BirthKind x AsCaller word) (next_within t a core ready.found room)
           (λ y. refl) few;
     })

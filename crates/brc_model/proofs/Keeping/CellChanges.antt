@@ -106,13 +106,13 @@ module _ (p : Accounts) (n : ℕ) (m : Machine) (t : ℕ) (a : Actor) (x i word 
   no_other_lock u y b ne found e (inl locked) same =
       ne (one_locker p n m t a u y b core ready.found found e (subst (λ (z : ℕ). a.locked ≡ Some z) same locked))
   no_other_lock u y b ne found e (inr chained) same =
-      let alive = locked_alive p n m u b y core found e in
+      let alive = locked_alive u b y core found e in
       let wrong : Live ≡ Dying t = sym alive.life ∙ (ap m.life (sym same) ∙ chained.0) in
       absurd cc
 
   no_other_chain : (u y : ℕ) → u ≢ t → dies_by (m.life y) u ≡ true → GuardsCells m t a x → x ≡ y → ⊥
   no_other_chain u y ne dies (inl locked) same =
-      living_clash m u y x (locked_alive p n m t a x core ready.found locked) dies same
+      living_clash m u y x (locked_alive t a x core ready.found locked) dies same
   no_other_chain u y ne dies (inr chained) same =
       let wrong : Dying u ≡ Dying t = sym (is_dying (m.life y) u dies) ∙ (ap m.life (sym same) ∙ chained.0) in
       let threads : u ≡ t = cc in
@@ -121,7 +121,7 @@ module _ (p : Accounts) (n : ℕ) (m : Machine) (t : ℕ) (a : Actor) (x i word 
   -- The cell of a list that lives, or that the thread has chained, may have any word.
   cell_fits : GuardsCells m t a x → CellFits (m.life x) word
   cell_fits (inl locked) =
-      subst (λ (l : Life). CellFits l word) (sym (locked_alive p n m t a x core ready.found locked).life) tt
+      subst (λ (l : Life). CellFits l word) (sym (locked_alive t a x core ready.found locked).life) tt
   cell_fits (inr chained) = subst (λ (l : Life). CellFits l word) (sym chained.0) tt
 
   leaves : LeavesOthers m new t
@@ -295,20 +295,20 @@ module _ (p : Accounts) (n : ℕ) (m : Machine) (t : ℕ) (a : Actor) (x i word 
     resources = core.resources;
   }
 
--- So the counting machine of running threads keeps what it has.
-pub counts_changed : (p : Accounts) (n : ℕ) (m : Machine) (t : ℕ) (a : Actor) (x i word : ℕ) (bag : List Reference)
-    (account : Account) → Counts p n m → IsReady m t a → ChangesCell m t a x i word bag account
-    → ((object : ℕ) → account InFlight object ≡ 0)
-    → Counts (with_account p t account) n (changed m x i word bag)
-counts_changed p n m t a x i word bag account counts ready change flight = record {
-  kept = record {
-    core = changed_core p n m t a x i word bag account counts.kept.core ready change;
-    settled = counts.kept.settled;
-  };
-  ranges = record {
-    kinds = counts.ranges.kinds;
-    each = counts.ranges.each;
-    aside = counts.ranges.aside;
-  };
-  no_flight = flight_with p t account counts.no_flight flight;
-}
+module _ {p : Accounts} {n : ℕ} {m : Machine} {t : ℕ} {a : Actor} where
+  -- So the counting machine of running threads keeps what it has.
+  pub counts_changed : (x i word : ℕ) (bag : List Reference) (account : Account) → Counts p n m → IsReady m t a
+      → ChangesCell m t a x i word bag account → ((object : ℕ) → account InFlight object ≡ 0)
+      → Counts (with_account p t account) n (changed m x i word bag)
+  counts_changed x i word bag account counts ready change flight = record {
+    kept = record {
+      core = changed_core p n m t a x i word bag account counts.kept.core ready change;
+      settled = counts.kept.settled;
+    };
+    ranges = record {
+      kinds = counts.ranges.kinds;
+      each = counts.ranges.each;
+      aside = counts.ranges.aside;
+    };
+    no_flight = flight_with p t account counts.no_flight flight;
+  }

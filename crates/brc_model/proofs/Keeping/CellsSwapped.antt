@@ -26,9 +26,8 @@ use Rattle.brc_model.proofs.Frame.Cells.{same_cell}
 use Rattle.brc_model.proofs.Frame.CellsHeld.{cell_held}
 use Rattle.brc_model.proofs.Stepping.Locked.{making_none}
 use Rattle.brc_model.proofs.Keeping.Locks.{more_locks, less_locks}
-use Rattle.brc_model.proofs.Keeping.OneReference.{account_held, held_elsewhere, holds_less, holds_more, bounded_less}
+use Rattle.brc_model.proofs.Keeping.OneReference.{account_held, held_elsewhere, holds_less, holds_more, bounded_less, bounded_more}
 use Rattle.brc_model.proofs.Keeping.Replaced.{with_account_itself, with_account_same}
-use Rattle.brc_model.proofs.Keeping.WorkBegins.{more_bounded}
 use Rattle.brc_model.proofs.Keeping.CellChanges.{changed, counts_changed}
 use Rattle.brc_model.proofs.Keeping.FirstOfChain.{first_chained}
 
@@ -48,7 +47,7 @@ module _ (p : Accounts) (n : ℕ) (m : Machine) (t : ℕ) (a : Actor) (x i y : �
   taken = reference_of t AsCaller y ∷ without out m.abstract.references
 
   has_item : m.memory (Cell x i) ≡ suc y → list_any (same out) m.abstract.references ≡ true
-  has_item is = held_has out m.abstract.references (omega (arith, cell_held p n m x i y counts.kept.core is))
+  has_item is = held_has out m.abstract.references (omega (arith, cell_held x i y counts.kept.core is))
 
   pub item_taken : m.memory (Cell x i) ≡ suc y → HasRoomFor m.layout (p t) (suc y)
       → Counts (with_account p t (with_one_more (p t) AsCaller y)) n (changed m x i 0 taken)
@@ -57,7 +56,7 @@ module _ (p : Accounts) (n : ℕ) (m : Machine) (t : ℕ) (a : Actor) (x i y : �
       let has = has_item is in
       let old = (counts.kept.core.each t a ready.found).0 in
       let mine = reference_of t AsCaller y in
-      counts_changed p n m t a x i 0 taken (with_one_more (p t) AsCaller y) counts ready (record {
+      counts_changed x i 0 taken (with_one_more (p t) AsCaller y) counts ready (record {
         guards = guards;
         retains = retains;
         within = λ past. refl;
@@ -90,7 +89,7 @@ module _ (p : Accounts) (n : ℕ) (m : Machine) (t : ℕ) (a : Actor) (x i y : �
                     held-without_apart (reference_of t k object) out bag refl,
                   );
             });
-        bounded = more_bounded m.layout (p t) y old.bounded room;
+        bounded = bounded_more m.layout (p t) y old.bounded room;
         locks = more_locks (p t) m t a a y old.locks refl (λ k z. omega arith);
         keeps = λ z k some.
             let r = reference_of t k z in
@@ -109,7 +108,7 @@ module _ (p : Accounts) (n : ℕ) (m : Machine) (t : ℕ) (a : Actor) (x i y : �
       let old = (counts.kept.core.each t a ready.found) in
       let mine = reference_of t AsCaller y in
       let has = account_held bag t (p t) a AsCaller y old.0.holds may.0 may.1 in
-      counts_changed p n m t a x i (suc y) put (with_one_less (p t) AsCaller y) counts ready (record {
+      counts_changed x i (suc y) put (with_one_less (p t) AsCaller y) counts ready (record {
         guards = guards;
         retains = retains;
         within = λ past. absurd (omega (arith, past, low));
@@ -142,7 +141,8 @@ module _ (p : Accounts) (n : ℕ) (m : Machine) (t : ℕ) (a : Actor) (x i y : �
             };
         bounded = bounded_less m.layout (p t) y old.0.bounded;
         locks =
-            less_locks (p t) m t a a y old.0.locks refl (λ k z. omega arith) (making_none a AsCaller y old.1 may.0) may.2;
+            less_locks (p t) m t a a y old.0.locks refl (λ k z. omega arith) (making_none a AsCaller y old.1 may.0)
+            may.2;
         keeps = λ z k some.
             let r = reference_of t k z in
             let none : one_if (same r out) ≡ 0 = refl in
@@ -169,7 +169,8 @@ twice_written : (memory : Address → ℕ) (b : Address) (v w : ℕ)
 twice_written memory b v w = fun_ext (λ c. elim (cases_Bool (same_address b c)) [
   | inl same ↦
       ap (λ (e : Bool). cond e w (written memory b v c)) same ∙ sym (ap (λ (e : Bool). cond e w (memory c)) same)
-  | inr apart ↦ ap (λ (e : Bool). cond e w (cond e v (memory c))) apart ∙ sym (ap (λ (e : Bool). cond e w (memory c)) apart)
+  | inr apart ↦ ap (λ (e : Bool). cond e w (cond e v (memory c))) apart ∙ sym
+      (ap (λ (e : Bool). cond e w (memory c)) apart)
 ])
 
 twice_accounted : (p : Accounts) (t : ℕ) (one other : Account)
@@ -191,20 +192,21 @@ emptied m t x i w = record {
   life = m.life;
 }
 
-taken_any : (p : Accounts) (n : ℕ) (m : Machine) (t : ℕ) (a : Actor) (x i w : ℕ) → Counts p n m → IsReady m t a
-    → GuardsCells m t a x → HasNoRetainAside a → m.memory (Cell x i) ≡ w → HasRoomFor m.layout (p t) w
-    → Counts (with_account p t (with_item (p t) w)) n (emptied m t x i w)
-taken_any p n m t a x i zero counts ready guards retains is room =
-    subst (λ (q : Accounts). Counts q n (emptied m t x i 0)) (sym (with_account_itself p t))
-    (subst (λ (memory : Address → ℕ). Counts p n (record {
-      layout = m.layout;
-      memory = memory;
-      actors = m.actors;
-      abstract = m.abstract;
-      life = m.life;
-    })) (sym (same_memory m.memory x i is)) counts)
-taken_any p n m t a x i (suc y) counts ready guards retains is room =
-    item_taken p n m t a x i y counts ready guards retains is room
+module _ {p : Accounts} {n : ℕ} {m : Machine} {t : ℕ} {a : Actor} where
+  taken_any : (x i w : ℕ) → Counts p n m → IsReady m t a → GuardsCells m t a x → HasNoRetainAside a
+      → m.memory (Cell x i) ≡ w → HasRoomFor m.layout (p t) w
+      → Counts (with_account p t (with_item (p t) w)) n (emptied m t x i w)
+  taken_any x i zero counts ready guards retains is room =
+      subst (λ (q : Accounts). Counts q n (emptied m t x i 0)) (sym (with_account_itself p t))
+      (subst (λ (memory : Address → ℕ). Counts p n (record {
+        layout = m.layout;
+        memory = memory;
+        actors = m.actors;
+        abstract = m.abstract;
+        life = m.life;
+      })) (sym (same_memory m.memory x i is)) counts)
+  taken_any x i (suc y) counts ready guards retains is room =
+      item_taken p n m t a x i y counts ready guards retains is room
 
 -- the machine after the item of the word is put into the cell
 abbrev filled : Machine → ℕ → ℕ → ℕ → ℕ → Machine
@@ -216,20 +218,21 @@ filled m t x i w = record {
   life = m.life;
 }
 
-put_any : (p : Accounts) (n : ℕ) (m : Machine) (t : ℕ) (a : Actor) (x i w : ℕ) → Counts p n m → IsReady m t a
-    → GuardsCells m t a x → HasNoRetainAside a → m.memory (Cell x i) ≡ 0 → i < cells_of (m.memory (KindOf x))
-    → MayPut (p t) a w → Counts (with_account p t (without_item (p t) w)) n (filled m t x i w)
-put_any p n m t a x i zero counts ready guards retains is low may =
-    subst (λ (q : Accounts). Counts q n (filled m t x i 0)) (sym (with_account_itself p t))
-    (subst (λ (memory : Address → ℕ). Counts p n (record {
-      layout = m.layout;
-      memory = memory;
-      actors = m.actors;
-      abstract = m.abstract;
-      life = m.life;
-    })) (sym (same_memory m.memory x i is)) counts)
-put_any p n m t a x i (suc y) counts ready guards retains is low may =
-    item_put p n m t a x i y counts ready guards retains is low may
+module _ {p : Accounts} {n : ℕ} {m : Machine} {t : ℕ} {a : Actor} where
+  put_any : (x i w : ℕ) → Counts p n m → IsReady m t a → GuardsCells m t a x → HasNoRetainAside a
+      → m.memory (Cell x i) ≡ 0 → i < cells_of (m.memory (KindOf x)) → MayPut (p t) a w
+      → Counts (with_account p t (without_item (p t) w)) n (filled m t x i w)
+  put_any x i zero counts ready guards retains is low may =
+      subst (λ (q : Accounts). Counts q n (filled m t x i 0)) (sym (with_account_itself p t))
+      (subst (λ (memory : Address → ℕ). Counts p n (record {
+        layout = m.layout;
+        memory = memory;
+        actors = m.actors;
+        abstract = m.abstract;
+        life = m.life;
+      })) (sym (same_memory m.memory x i is)) counts)
+  put_any x i (suc y) counts ready guards retains is low may =
+      item_put p n m t a x i y counts ready guards retains is low may
 
 -- ---- both
 
@@ -250,25 +253,26 @@ still_may_put account a (suc z) (suc y) may = (
   λ e. omega (arith, may.2 e),
 )
 
--- The thread guards the cells of the list that it has locked, and of the first object of its chain.
-swap_guards : (p : Accounts) (n : ℕ) (m : Machine) (t : ℕ) (a : Actor) (x : ℕ) → CoreInvariant p n m → IsReady m t a
-    → (a.locked ≡ Some x) ⊎ IsFirstOfChain a x → GuardsCells m t a x
-swap_guards p n m t a x core ready (inl locked) = inl locked
-swap_guards p n m t a x core ready (inr first) = inr (first_chained p n m t a x core ready.found first)
+module _ {p : Accounts} {n : ℕ} {m : Machine} {t : ℕ} {a : Actor} where
+  -- The thread guards the cells of the list that it has locked, and of the first object of its chain.
+  swap_guards : (x : ℕ) → CoreInvariant p n m → IsReady m t a → (a.locked ≡ Some x) ⊎ IsFirstOfChain a x
+      → GuardsCells m t a x
+  swap_guards x core ready (inl locked) = inl locked
+  swap_guards x core ready (inr first) = inr (first_chained t a x core ready.found first)
 
 pub cells_are_swapped : CellsAreSwapped
 cells_are_swapped p n m t a x i word counts ready may_swap retains low may room =
-    let guards = swap_guards p n m t a x counts.kept.core ready may_swap in
+    let guards = swap_guards x counts.kept.core ready may_swap in
     let found = m.memory (Cell x i) in
     let more = with_item (p t) found in
     let q = with_account p t more in
     let mid = emptied m t x i found in
-    let first : Counts q n mid = taken_any p n m t a x i found counts ready guards retains refl room in
+    let first : Counts q n mid = taken_any x i found counts ready guards retains refl room in
     let ready_still : IsReady mid t a =
     record { found = ready.found; running = ready.running; agenda = ready.agenda } in
     let own : more ≡ q t = with_account_same p t more in
     let second : Counts (with_account q t (without_item (q t) word)) n (filled mid t x i word) =
-    put_any q n mid t a x i word first ready_still (still_guards m t a x i found guards) retains
+    put_any x i word first ready_still (still_guards m t a x i found guards) retains
     (written_here m.memory (Cell x i) 0) low
     (subst (λ (c : Account). MayPut c a word) own (still_may_put (p t) a found word may)) in
     let accounts : with_account q t (without_item (q t) word) ≡ with_account p t (without_item more word) =

@@ -12,7 +12,7 @@ use Rattle.brc_model.specs.Actions.{StepActor, Action, Skip, Stuck, Silent, Call
 use Rattle.brc_model.specs.StepMachine.{StepMachine, counting, of_thread, at_place, step_actor, silent_by, machine_by, next_machine, machine_after}
 use Rattle.brc_model.specs.Events.{is_bad_action, chooses_unfit, is_bad_event}
 use Rattle.brc_model.proofs.Basics.Lists.{written_actor}
-use Rattle.brc_model.proofs.Stepping.Neutral.{found_by}
+use Rattle.brc_model.proofs.Stepping.FitsAfter.{found_by}
 use Rattle.brc_model.proofs.Stepping.UnderWay.{exits_still}
 use Rattle.brc_model.proofs.Keeping.Sits.{sitting, taken_up_step}
 use Rattle.brc_model.specs.Counting.{with_account}
@@ -45,7 +45,7 @@ silent_keeps p n m t a moves place whole found fits kinds items rooms =
     let new = with_account c t fits.account in
     let own = whole.coded t a found in
     let here : Invariant new n (silenced (counting m) t a.actor moves) = record {
-      core = silent_core c n (counting m) t a.actor moves fits.account fits.at fits.sits;
+      core = silent_core moves fits.account fits.at fits.sits;
       settled =
           λ u b is. written_actor (λ w x. IsSettled x.head x.agenda) (counting m).actors t a.actor
           (sitting a.actor []) fits.at.found tt whole.kept.settled u b is;
@@ -66,9 +66,7 @@ silent_keeps p n m t a moves place whole found fits kinds items rooms =
         items = items;
         rooms = rooms;
         coded =
-            coded_set p c m.actors t a (at_place a place) fits.account
-            found
-            (record {
+            coded_set p c m.actors t a (at_place a place) fits.account found (record {
               alone = own.alone;
               plain = own.plain;
               accepted = own.accepted;
@@ -93,7 +91,7 @@ action_keeps p n m t a exit (Silent moves place) whole found fits kinds items ro
 action_keeps p n m t a exit (Calls row place) whole found fits kinds items rooms =
     let quiet = (silent_keeps p n m t a [] (place exit) whole found (fits.silent exit)
     (record { named = kinds.named; known = kinds.known }) items rooms).1 in (
-      lent_free whole.accounts n (counting m) t a.actor row whole.kept.core (its_found m t a found) fits.uses,
+      lent_free t a.actor row whole.kept.core (its_found m t a found) fits.uses,
       record {
         accounts = quiet.accounts;
         kept = quiet.kept;
@@ -128,15 +126,13 @@ action_keeps p n m t a exit (Does d rest place) whole found fits kinds items roo
         items = items;
         rooms = rooms;
         coded =
-            coded_set p c m.actors t a (step_actor m.layout t a d rest (place word) word) fits.account found
-            (record {
+            coded_set p c m.actors t a (step_actor m.layout t a d rest (place word) word) fits.account found (record {
               alone = own.alone;
               plain = plain_after m.layout t a.actor d rest word fits.plain;
               accepted = own.accepted;
               instructions = own.instructions;
               says = fits.says;
-              departs =
-                  exits_still new n (with_actor (counting m) t now) t now d rest word at ∙ fits.departs;
+              departs = exits_still word at ∙ fits.departs;
               lent = fits.lent;
             }) whole.coded;
       },

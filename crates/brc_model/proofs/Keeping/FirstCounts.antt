@@ -29,7 +29,7 @@ use Rattle.brc_model.specs.AbstractState.{is_among}
 use Rattle.brc_model.specs.Limits.{row_limit, worker_limit, cell_limit}
 use Rattle.brc_model.proofs.Basics.Bag.{one_if_low}
 use Rattle.brc_model.specs.declared.layout.Layout.{Layout}
-use Rattle.brc_model.specs.Layout.{row_count, root_row, front_rows, block_of, block_size, index_of, IsCounted}
+use Rattle.brc_model.specs.Layout.{root_row, front_rows, block_of, block_size, index_of, IsCounted}
 
 -- ---- the machine
 

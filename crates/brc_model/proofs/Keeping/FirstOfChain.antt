@@ -34,29 +34,28 @@ first_word memory t head x (y ∷ ys) linked first =
     let same : y ≡ x = omega (arith, linked.0, first) in
     subst (λ (z : ℕ). IsDyingWord t (memory (Gate z))) same (linked.1.0, linked.1.1, linked.1.2)
 
-pub first_chained : (p : Accounts) (n : ℕ) (m : Machine) (t : ℕ) (a : Actor) (x : ℕ) → CoreInvariant p n m
-    → slice_get m.actors t ≡ Some a → IsFirstOfChain a x → HasChained m t x
-first_chained p n m t a x core found first =
-    let chain = (core.each t a found).0.chain in (
-      is_dying (m.life x) t
-          (one_if_true _ (omega (
-            arith,
-            chain.once x,
-            first_counts m.memory t a.head x chain.chained chain.linked first,
-          ))),
-      first_word m.memory t a.head x chain.chained chain.linked first,
-    )
+module _ {p : Accounts} {n : ℕ} {m : Machine} where
+  pub first_chained : (t : ℕ) (a : Actor) (x : ℕ) → CoreInvariant p n m → slice_get m.actors t ≡ Some a
+      → IsFirstOfChain a x → HasChained m t x
+  first_chained t a x core found first =
+      let chain = (core.each t a found).0.chain in (
+        is_dying (m.life x) t (one_if_true _ (omega (
+          arith,
+          chain.once x,
+          first_counts m.memory t a.head x chain.chained chain.linked first,
+        ))),
+        first_word m.memory t a.head x chain.chained chain.linked first,
+      )
 
--- What a thread has chained is counted: immortal objects live.
-pub chained_counted : (p : Accounts) (n : ℕ) (m : Machine) (t x : ℕ) → CoreInvariant p n m → HasChained m t x
-    → IsCounted m.layout x
-chained_counted p n m t x core chained = elim (cases_Bool (is_immortal_row m.layout x)) [
-  | inl immortal ↦
-      let wrong : Live ≡ Dying t = sym (core.immortals_live x immortal) ∙ chained.0 in
-      absurd cc
-  | inr counted ↦ counted
-]
+  -- What a thread has chained is counted: immortal objects live.
+  pub chained_counted : (t x : ℕ) → CoreInvariant p n m → HasChained m t x → IsCounted m.layout x
+  chained_counted t x core chained = elim (cases_Bool (is_immortal_row m.layout x)) [
+    | inl immortal ↦
+        let wrong : Live ≡ Dying t = sym (core.immortals_live x immortal) ∙ chained.0 in
+        absurd cc
+    | inr counted ↦ counted
+  ]
 
-pub first_row : (p : Accounts) (n : ℕ) (m : Machine) (t : ℕ) (a : Actor) (x : ℕ) → CoreInvariant p n m
-    → slice_get m.actors t ≡ Some a → IsFirstOfChain a x → x < row_count m.layout
-first_row p n m t a x core found first = omega (arith, head_small p n m t a core found, first)
+  pub first_row : (t : ℕ) (a : Actor) (x : ℕ) → CoreInvariant p n m → slice_get m.actors t ≡ Some a → IsFirstOfChain a x
+      → x < row_count m.layout
+  first_row t a x core found first = omega (arith, head_small t a core found, first)

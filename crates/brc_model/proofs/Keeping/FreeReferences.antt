@@ -30,7 +30,7 @@ use Rattle.brc_model.proofs.Frame.Known.{LeavesRow, known_kept}
 use Rattle.brc_model.proofs.Frame.Others.{LeavesOthers, each_fits}
 use Rattle.brc_model.proofs.Stepping.Counts.{same_is}
 use Rattle.brc_model.proofs.Keeping.Replaced.{flight_with, with_account_same, with_account_other}
-use Rattle.brc_model.proofs.Keeping.WorkBegins.{more_bounded}
+use Rattle.brc_model.proofs.Keeping.OneReference.{bounded_more}
 
 -- the machine with one reference more, which the thread holds as the caller
 abbrev gained : Machine → ℕ → ℕ → Machine
@@ -127,109 +127,106 @@ still_wait m t a x (d ∷ ds) none waits = (
   still_wait m t a x ds (omega (arith, none, sum_by-cons (λ (e : Duty). cond (is_about x e) 1 0) d ds)) waits.2,
 )
 
--- The thread fits with its new account.
-own_fits : (p : Accounts) (n : ℕ) (m : Machine) (t : ℕ) (a : Actor) (x : ℕ) → CoreInvariant p n m → IsReady m t a
-    → HasNoneAbout a x → is_immortal_row m.layout x ≡ true
-    → Fits (with_one_more (p t) AsCaller x) (gained m t x) t a
-own_fits p n m t a x core ready alone immortal =
-    let bag = m.abstract.references in
-    let fits = core.each t a ready.found in
-    let old = fits.0 in
-    let ends : exits a.status a.agenda ≡ false =
-    ap (λ (s : Status). exits s a.agenda) ready.running ∙ ap (exits Running) ready.agenda in (
-      record {
-        word = old.word;
-        holds = record {
-          each = λ k object.
-              let r = reference_of t k object in
-              let one = ap one_if (same_is t x AsCaller k object) in
-              omega (arith, old.holds.each k object, held-cons r (reference_of t AsCaller x) bag, one);
-        };
-        bounded =
-            more_bounded m.layout (p t) x old.bounded (λ counted. absurd (false≢true (sym counted ∙ immortal)));
-        exited = λ e. absurd (false≢true (sym ends ∙ e));
-        head_fits = subst (HeadOf (gained m t x) t a) (sym ready.agenda) tt;
-        behind = subst (BehindOf (gained m t x) t) (sym ready.agenda) tt;
-        chain = record { chained = old.chain.chained; linked = old.chain.linked; once = old.chain.once };
-        locks = more_locks (p t) m t a a x old.locks refl (λ k y. omega arith);
-        lent = old.lent;
-      },
-      fits.1,
-      record {
-        waits = still_wait m t a x a.aside (omega (arith, alone)) fits.2.waits;
-        apart = fits.2.apart;
-        pieces = fits.2.pieces;
-      },
-    )
+module _ {p : Accounts} {n : ℕ} {m : Machine} {t : ℕ} {a : Actor} where
+  -- The thread fits with its new account.
+  own_fits : (x : ℕ) → CoreInvariant p n m → IsReady m t a → HasNoneAbout a x → is_immortal_row m.layout x ≡ true
+      → Fits (with_one_more (p t) AsCaller x) (gained m t x) t a
+  own_fits x core ready alone immortal =
+      let bag = m.abstract.references in
+      let fits = core.each t a ready.found in
+      let old = fits.0 in
+      let ends : exits a.status a.agenda ≡ false =
+      ap (λ (s : Status). exits s a.agenda) ready.running ∙ ap (exits Running) ready.agenda in (
+        record {
+          word = old.word;
+          holds = record {
+            each = λ k object.
+                let r = reference_of t k object in
+                let one = ap one_if (same_is t x AsCaller k object) in
+                omega (arith, old.holds.each k object, held-cons r (reference_of t AsCaller x) bag, one);
+          };
+          bounded = bounded_more m.layout (p t) x old.bounded (λ counted. absurd (false≢true (sym counted ∙ immortal)));
+          exited = λ e. absurd (false≢true (sym ends ∙ e));
+          head_fits = subst (HeadOf (gained m t x) t a) (sym ready.agenda) tt;
+          behind = subst (BehindOf (gained m t x) t) (sym ready.agenda) tt;
+          chain = record { chained = old.chain.chained; linked = old.chain.linked; once = old.chain.once };
+          locks = more_locks (p t) m t a a x old.locks refl (λ k y. omega arith);
+          lent = old.lent;
+        },
+        fits.1,
+        record {
+          waits = still_wait m t a x a.aside (omega (arith, alone)) fits.2.waits;
+          apart = fits.2.apart;
+          pieces = fits.2.pieces;
+        },
+      )
 
--- ---- the whole
+  -- ---- the whole
 
--- So does every thread.
-each_still : (p : Accounts) (n : ℕ) (m : Machine) (t : ℕ) (a : Actor) (x : ℕ) → CoreInvariant p n m → IsReady m t a
-    → HasNoneAbout a x → is_immortal_row m.layout x ≡ true → (u : ℕ) (b : Actor) → slice_get m.actors u ≡ Some b
-    → Fits (with_account p t (with_one_more (p t) AsCaller x) u) (gained m t x) u b
-each_still p n m t a x core ready alone immortal =
-    let new = gained m t x in
-    let account = with_one_more (p t) AsCaller x in
-    let accounts = with_account p t account in
-    subst (λ (l : List Actor). (u : ℕ) (b : Actor) → slice_get l u ≡ Some b → Fits (accounts u) new u b)
-    (set_found m.actors t a ready.found)
-    (each_fits p accounts m new t a a ready.found (leaves m t x) (with_account_other p t account)
-    (subst (λ (c : Account). Fits c new t a) (with_account_same p t account)
-    (own_fits p n m t a x core ready alone immortal)) core.each)
+  -- So does every thread.
+  each_still : (x : ℕ) → CoreInvariant p n m → IsReady m t a → HasNoneAbout a x → is_immortal_row m.layout x ≡ true
+      → (u : ℕ) (b : Actor) → slice_get m.actors u ≡ Some b
+      → Fits (with_account p t (with_one_more (p t) AsCaller x) u) (gained m t x) u b
+  each_still x core ready alone immortal =
+      let new = gained m t x in
+      let account = with_one_more (p t) AsCaller x in
+      let accounts = with_account p t account in
+      subst (λ (l : List Actor). (u : ℕ) (b : Actor) → slice_get l u ≡ Some b → Fits (accounts u) new u b)
+      (set_found m.actors t a ready.found)
+      (each_fits p accounts m new t a a ready.found (leaves m t x) (with_account_other p t account)
+      (subst (λ (c : Account). Fits c new t a) (with_account_same p t account)
+      (own_fits x core ready alone immortal)) core.each)
 
--- The core invariant holds with the new reference.
-gained_core : (p : Accounts) (n : ℕ) (m : Machine) (t : ℕ) (a : Actor) (x : ℕ) → CoreInvariant p n m → IsReady m t a
-    → HasNoneAbout a x → is_immortal_row m.layout x ≡ true
-    → CoreInvariant (with_account p t (with_one_more (p t) AsCaller x)) n (gained m t x)
-gained_core p n m t a x core ready alone immortal = record {
-  threads = core.threads;
-  workers = core.workers;
-  some_rows = core.some_rows;
-  few_threads = core.few_threads;
-  few_rows = core.few_rows;
-  few_cells = core.few_cells;
-  few_immortals = core.few_immortals;
-  rows = λ y counted.
-      subst (λ (k : Numbers). RowInvariant (block_of m.layout y) (m.life y) k)
-      (same_numbers m t x y immortal counted) (core.rows y counted);
-  marks = λ y. elim (core.marks y) [
-    | inl none ↦ inl none
-    | inr set ↦ inr (set.0, set.1, still_watched m t x y set.2)
-  ];
-  each = each_still p n m t a x core ready alone immortal;
-  beyond = λ u past k object.
-      let within = slice_get_within m.actors t a ready.found in
-      moved_aside m.abstract (reference_of u k object) (gain t AsCaller x)
-      (other_thread u t k AsCaller (λ e. absurd (omega (arith, within, core.threads, past, e))), tt)
-      ∙ core.beyond u past k object;
-  gates = core.gates;
-  dying = core.dying;
-  cells = core.cells;
-  cells_end = core.cells_end;
-  uses = core.uses;
-  blanks = core.blanks;
-  cells_hold = λ y i object.
-      moved_aside m.abstract (cell_reference y i object) (gain t AsCaller x) (refl, tt)
-      ∙ core.cells_hold y i object;
-  immortals_live = core.immortals_live;
-  born_is = core.born_is;
-  born_has = core.born_has;
-  born_once = core.born_once;
-  closed_is = core.closed_is;
-  closed_has = core.closed_has;
-  once = core.once;
-  kinds = core.kinds;
-  kind_words = core.kind_words;
-  immortal_words = core.immortal_words;
-  resources = core.resources;
-}
+  -- The core invariant holds with the new reference.
+  gained_core : (x : ℕ) → CoreInvariant p n m → IsReady m t a → HasNoneAbout a x → is_immortal_row m.layout x ≡ true
+      → CoreInvariant (with_account p t (with_one_more (p t) AsCaller x)) n (gained m t x)
+  gained_core x core ready alone immortal = record {
+    threads = core.threads;
+    workers = core.workers;
+    some_rows = core.some_rows;
+    few_threads = core.few_threads;
+    few_rows = core.few_rows;
+    few_cells = core.few_cells;
+    few_immortals = core.few_immortals;
+    rows = λ y counted.
+        subst (λ (k : Numbers). RowInvariant (block_of m.layout y) (m.life y) k)
+        (same_numbers m t x y immortal counted) (core.rows y counted);
+    marks = λ y. elim (core.marks y) [
+      | inl none ↦ inl none
+      | inr set ↦ inr (set.0, set.1, still_watched m t x y set.2)
+    ];
+    each = each_still x core ready alone immortal;
+    beyond = λ u past k object.
+        let within = slice_get_within m.actors t a ready.found in
+        moved_aside m.abstract (reference_of u k object) (gain t AsCaller x)
+        (other_thread u t k AsCaller (λ e. absurd (omega (arith, within, core.threads, past, e))), tt)
+        ∙ core.beyond u past k object;
+    gates = core.gates;
+    dying = core.dying;
+    cells = core.cells;
+    cells_end = core.cells_end;
+    uses = core.uses;
+    blanks = core.blanks;
+    cells_hold = λ y i object.
+        moved_aside m.abstract (cell_reference y i object) (gain t AsCaller x) (refl, tt) ∙ core.cells_hold y i object;
+    immortals_live = core.immortals_live;
+    born_is = core.born_is;
+    born_has = core.born_has;
+    born_once = core.born_once;
+    closed_is = core.closed_is;
+    closed_has = core.closed_has;
+    once = core.once;
+    kinds = core.kinds;
+    kind_words = core.kind_words;
+    immortal_words = core.immortal_words;
+    resources = core.resources;
+  }
 
 -- The invariant and the ranges hold after a ready thread gains a reference to an immortal object.
 pub immortals_are_free : ImmortalsAreFree
 immortals_are_free p n m t a x counts ready alone immortal = record {
   kept = record {
-    core = gained_core p n m t a x counts.kept.core ready alone immortal;
+    core = gained_core x counts.kept.core ready alone immortal;
     settled = counts.kept.settled;
   };
   ranges = record {

@@ -79,9 +79,11 @@ module _ (p : Accounts) (n : ℕ) (m : Machine) (t u : ℕ) (a b : Actor) (x : �
       moved_fits m (give_up t x) t a x (λ k y other. held_elsewhere bag t AsCaller x k y has other) (p t) account old
       hands.giver_free giver_stays (holds_less bag t (p t) a.agenda a.aside AsCaller x old.0.holds has hands.some)
       (bounded_less m.layout (p t) x old.0.bounded)
-      (less_locks (p t) m t a a x old.0.locks refl (λ k y. omega arith) (making_none a AsCaller x old.1 hands.giver_free)
+      (less_locks (p t) m t a a x old.0.locks refl (λ k y. omega arith)
+      (making_none a AsCaller x old.1 hands.giver_free)
       hands.may) in
-      each_moved p m t a account (give_up t x) hands.giver (λ w k ne. (other_thread w t k AsCaller ne, tt)) own core.each
+      each_moved p m t a account (give_up t x) hands.giver (λ w k ne. (other_thread w t k AsCaller ne, tt)) own
+      core.each
 
   each_handed : (w : ℕ) (c : Actor) → slice_get m.actors w ≡ Some c → Fits (after_taking w) handed w c
   each_handed =
@@ -93,7 +95,7 @@ module _ (p : Accounts) (n : ℕ) (m : Machine) (t u : ℕ) (a b : Actor) (x : �
       let own : Fits account handed u b =
       moved_fits given (gain u AsCaller x) u b x (λ k y other. held_besides bag u AsCaller x k y other) (p u) account
       old hands.taker_free hands.taker_stays (holds_more bag u (p u) b.agenda b.aside AsCaller x old.0.holds)
-      (bounded_more m.layout (p u) x old.0.bounded hands.room)
+      (bounded_more m.layout (p u) x old.0.bounded (λ counted. hands.room))
       (more_locks (p u) given u b b x old.0.locks refl (λ k y. omega arith)) in
       each_moved after_giving given u b account (gain u AsCaller x) hands.taker
       (λ w k ne. (other_thread w u k AsCaller ne, tt)) own each_given

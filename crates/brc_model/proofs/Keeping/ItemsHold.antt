@@ -23,7 +23,7 @@ use Rattle.brc_model.specs.StepMachine.{StepMachine, counting, of_thread, at_pla
 use Rattle.brc_model.specs.KnownKinds.{kind_words}
 use Rattle.brc_model.specs.Items.{KnowsItems, ItemsAreThere}
 use Rattle.brc_model.proofs.Basics.Lists.{some_is, slice_get-map, slice_get-set_other, written_others}
-use Rattle.brc_model.proofs.Stepping.Neutral.{found_by}
+use Rattle.brc_model.proofs.Stepping.FitsAfter.{found_by}
 use Rattle.brc_model.proofs.Frame.Kinds.{StoredStay}
 use Rattle.brc_model.proofs.Frame.Items.{drops_items, items_left, own_items_left}
 use Rattle.brc_model.proofs.Dispatch.Grounded.{AreInstructions}

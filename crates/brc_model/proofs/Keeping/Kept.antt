@@ -1,12 +1,12 @@
 -- The theorem in two parts: doing a thread's next duty isn't bad and keeps the invariant; taking up work keeps the
 -- invariant if the work meets its condition. The invariant doesn't say what the threads run, so the step world and the
 -- running threads both use it.
-use Rattle.std.proofs.Common.{◌≡◌, ℕ, false, List, ◌∷◌, Some, refl, sym, ◌∙◌, subst, inl, inr}
+use Rattle.std.proofs.Common.{◌≡◌, ℕ, false, List, ◌∷◌, Some, refl, sym, ◌∙◌, subst, inl, inr, []}
 use Rattle.std.specs.Prelude.{slice_get}
 use Rattle.std.proofs.lemmas.Option.{slice_get_within}
 use Rattle.brc_model.specs.declared.duty.Reason.TheVariants.{Own, Handed}
 use Rattle.brc_model.specs.declared.duty.Duty.{Duty}
-use Rattle.brc_model.specs.declared.duty.Duty.TheVariants.{RetainLoad, RetainStore, RetainAdd, ReleaseLoad, ReleaseStore, DecideAtZero, SharedLoad, SharedExchange, SetMark, Look, TakeMark, MergeSwap, MergeLoad, MergeExchange, Die, Settle, SettleKind, SettleCell, TakeSlot, CloseResource, SettleEnd, Leave, Scan, Finish, ClaimMark, BirthKind, BirthSlot, BirthLocal, KindLoad, LockGate, UnlockGate, CellLoad, CellSwap, LendSlot, ReturnSlot}
+use Rattle.brc_model.specs.declared.duty.Duty.TheVariants.{RetainLoad, RetainStore, RetainAdd, ReleaseLoad, ReleaseStore, DecideAtZero, SharedLoad, SharedExchange, SetMark, Look, TakeMark, MergeSwap, MergeLoad, MergeExchange, Die, Settle, SettleKind, SettleCell, TakeSlot, CloseResource, SettleEnd, Leave, Scan, Finish, ClaimMark, BirthKind, BirthSlot, BirthLocal, CellSwap}
 use Rattle.brc_model.specs.declared.actor.Status.TheVariants.{Running, Gone}
 use Rattle.brc_model.specs.Machine.{Actor, Machine, actor_by, done_by, with_actor}
 use Rattle.brc_model.specs.BadDuties.{is_bad_duty}
@@ -14,9 +14,9 @@ use Rattle.brc_model.proofs.Basics.Lists.{slice_get-set_same, written_actor}
 use Rattle.brc_model.specs.Accounts.{Account, Accounts}
 use Rattle.brc_model.specs.Invariant.{AtDuty, Invariant}
 use Rattle.brc_model.specs.OpenWork.{IsSettled}
-use Rattle.brc_model.proofs.Stepping.Neutral.{ThreadFits, found_by}
+use Rattle.brc_model.proofs.Stepping.FitsAfter.{found_by, agenda_here, FitsAfter, NotGone}
 use Rattle.brc_model.proofs.Stepping.Retains.{thread_after_retain_counted}
-use Rattle.brc_model.proofs.Stepping.Releases.{thread_after_kind_load, thread_after_retain_store, thread_after_retain_add, thread_after_release_counted, release_held, thread_after_release_store, thread_after_decide_at_zero, thread_after_lock_gate, thread_after_unlock_gate, thread_after_cell_load, thread_after_lend_slot, thread_after_return_slot}
+use Rattle.brc_model.proofs.Stepping.Releases.{thread_after_retain_store, thread_after_retain_add, thread_after_release_counted, release_held, thread_after_release_store, thread_after_decide_at_zero}
 use Rattle.brc_model.proofs.Stepping.SharedWords.{thread_after_shared_load, thread_after_shared_exchange}
 use Rattle.brc_model.proofs.Stepping.Merges.{thread_after_set_mark, thread_after_look, thread_after_take_mark, thread_after_merge_swap_own, thread_after_merge_swap_handed, thread_after_merge_load, thread_after_merge_exchange}
 use Rattle.brc_model.proofs.Stepping.Chains.{thread_after_die, thread_after_settle, thread_after_settle_end}
@@ -33,77 +33,57 @@ use Rattle.brc_model.proofs.Stepping.Births.{thread_after_birth_kind, thread_aft
 use Rattle.brc_model.proofs.Stepping.Nones.{thread_after_retain_immortal, thread_after_release_immortal}
 use Rattle.std.proofs.lemmas.Bool.{cases_Bool}
 use Rattle.brc_model.specs.Layout.{is_immortal_row}
+use Rattle.brc_model.proofs.Stepping.Steps.{own_done}
+use Rattle.brc_model.proofs.Stepping.Counts.{held_same}
 
 -- ---- doing a duty
 
-thread_after_duty : (p : Accounts) (n : ℕ) (m : Machine) (t : ℕ) (a : Actor) (d : Duty) (rest : List Duty)
-    → AtDuty p n m t a d rest → (a.status ≡ Gone → ⊥) → IsSettled a.head (d ∷ rest)
-    → ThreadFits p (done_by m t a d rest) t (actor_by m.layout t a d rest (found_by m t a d))
-thread_after_duty p n m t a (RetainLoad x h) rest here alive settled =
-    elim (cases_Bool (is_immortal_row m.layout x)) [
-      | inl immortal ↦ thread_after_retain_immortal p n m t a x h rest here immortal alive
-      | inr counted ↦ thread_after_retain_counted p n m t a x h rest counted here alive
-    ]
-thread_after_duty p n m t a (RetainStore x h w) rest here alive settled =
-    thread_after_retain_store p n m t a x h w rest here alive
-thread_after_duty p n m t a (RetainAdd x h) rest here alive settled =
-    thread_after_retain_add p n m t a x h rest here alive
-thread_after_duty p n m t a (ReleaseLoad x h) rest here alive settled =
-    elim (cases_Bool (is_immortal_row m.layout x)) [
-      | inl immortal ↦
-          thread_after_release_immortal p n m t a x h rest here immortal alive (release_held p n m t a x h rest here)
-      | inr counted ↦ thread_after_release_counted p n m t a x h rest counted here alive
-    ]
-thread_after_duty p n m t a (ReleaseStore x w) rest here alive settled =
-    thread_after_release_store p n m t a x w rest here alive
-thread_after_duty p n m t a (DecideAtZero x) rest here alive settled =
-    thread_after_decide_at_zero p n m t a x rest here alive
-thread_after_duty p n m t a (SharedLoad x r) rest here alive settled =
-    thread_after_shared_load p n m t a x r rest here alive
-thread_after_duty p n m t a (SharedExchange x r w) rest here alive settled =
-    thread_after_shared_exchange p n m t a x r w rest here alive
-thread_after_duty p n m t a (SetMark x) rest here alive settled = thread_after_set_mark p n m t a x rest here alive
-thread_after_duty p n m t a (Look x) rest here alive settled = thread_after_look p n m t a x rest here alive
-thread_after_duty p n m t a (TakeMark x) rest here alive settled = thread_after_take_mark p n m t a x rest here alive
-thread_after_duty p n m t a (MergeSwap x Own) rest here alive settled =
-    thread_after_merge_swap_own p n m t a x rest here alive
-thread_after_duty p n m t a (MergeSwap x Handed) rest here alive settled =
-    thread_after_merge_swap_handed p n m t a x rest here alive
-thread_after_duty p n m t a (MergeLoad x c r) rest here alive settled =
-    thread_after_merge_load p n m t a x c r rest here alive
-thread_after_duty p n m t a (MergeExchange x c w r) rest here alive settled =
-    thread_after_merge_exchange p n m t a x c w r rest here alive
-thread_after_duty p n m t a (Die x) rest here alive settled = thread_after_die p n m t a x rest here alive
-thread_after_duty p n m t a Settle rest here alive settled = thread_after_settle p n m t a rest here alive
-thread_after_duty p n m t a (SettleKind x) rest here alive settled =
-    thread_after_settle_kind p n m t a x rest here alive
-thread_after_duty p n m t a (SettleCell x i k) rest here alive settled =
-    thread_after_settle_cell p n m t a x i k rest here alive
-thread_after_duty p n m t a (TakeSlot x) rest here alive settled = thread_after_take_slot p n m t a x rest here alive
-thread_after_duty p n m t a (CloseResource x) rest here alive settled =
-    thread_after_close_resource p n m t a x rest here alive
-thread_after_duty p n m t a (SettleEnd x) rest here alive settled = thread_after_settle_end p n m t a x rest here alive
-thread_after_duty p n m t a (Leave x k) rest here alive settled = thread_after_leave p n m t a x k rest here alive
-thread_after_duty p n m t a (Scan x k) rest here alive settled = thread_after_scan p n m t a x k rest here alive
-thread_after_duty p n m t a Finish rest here alive settled = thread_after_finish p n m t a rest here alive settled.0
-thread_after_duty p n m t a (ClaimMark x) rest here alive settled = thread_after_claim_mark p n m t a x rest here alive
-thread_after_duty p n m t a (BirthKind x h w) rest here alive settled =
-    thread_after_birth_kind p n m t a x h w rest here alive
-thread_after_duty p n m t a (BirthSlot x h) rest here alive settled =
-    thread_after_birth_slot p n m t a x h rest here alive
-thread_after_duty p n m t a (BirthLocal x h) rest here alive settled =
-    thread_after_birth_local p n m t a x h rest here alive
-thread_after_duty p n m t a (KindLoad x) rest here alive settled = thread_after_kind_load p n m t a x rest here alive
-thread_after_duty p n m t a (LockGate x) rest here alive settled = thread_after_lock_gate p n m t a x rest here alive
-thread_after_duty p n m t a (UnlockGate x) rest here alive settled =
-    thread_after_unlock_gate p n m t a x rest here alive
-thread_after_duty p n m t a (CellLoad x i) rest here alive settled =
-    thread_after_cell_load p n m t a x i rest here alive
-thread_after_duty p n m t a (CellSwap x i y h) rest here alive settled =
-    thread_after_cell_swap p n m t a x i y h rest here alive
-thread_after_duty p n m t a (LendSlot x) rest here alive settled = thread_after_lend_slot p n m t a x rest here alive
-thread_after_duty p n m t a (ReturnSlot x) rest here alive settled =
-    thread_after_return_slot p n m t a x rest here alive
+module _ {p : Accounts} {n : ℕ} {m : Machine} {t : ℕ} {a : Actor} {rest : List Duty} where
+  thread_after_duty : (d : Duty) → AtDuty p n m t a d rest → NotGone a → IsSettled a.head (d ∷ rest)
+      → FitsAfter p m t a d rest
+  thread_after_duty (RetainLoad x h) here alive settled =
+      elim (cases_Bool (is_immortal_row m.layout x)) [
+        | inl immortal ↦ thread_after_retain_immortal x h here immortal alive
+        | inr counted ↦ thread_after_retain_counted x h counted here alive
+      ]
+  thread_after_duty (RetainStore x h w) here alive settled = thread_after_retain_store x h w here alive
+  thread_after_duty (RetainAdd x h) here alive settled = thread_after_retain_add x h here alive
+  thread_after_duty (ReleaseLoad x h) here alive settled =
+      elim (cases_Bool (is_immortal_row m.layout x)) [
+        | inl immortal ↦ thread_after_release_immortal x h here immortal alive (release_held x h here)
+        | inr counted ↦ thread_after_release_counted x h counted here alive
+      ]
+  thread_after_duty (ReleaseStore x w) here alive settled = thread_after_release_store x w here alive
+  thread_after_duty (DecideAtZero x) here alive settled = thread_after_decide_at_zero x here alive
+  thread_after_duty (SharedLoad x r) here alive settled = thread_after_shared_load x r here alive
+  thread_after_duty (SharedExchange x r w) here alive settled = thread_after_shared_exchange x r w here alive
+  thread_after_duty (SetMark x) here alive settled = thread_after_set_mark x here alive
+  thread_after_duty (Look x) here alive settled = thread_after_look x here alive
+  thread_after_duty (TakeMark x) here alive settled = thread_after_take_mark x here alive
+  thread_after_duty (MergeSwap x Own) here alive settled = thread_after_merge_swap_own x here alive
+  thread_after_duty (MergeSwap x Handed) here alive settled = thread_after_merge_swap_handed x here alive
+  thread_after_duty (MergeLoad x c r) here alive settled = thread_after_merge_load x c r here alive
+  thread_after_duty (MergeExchange x c w r) here alive settled = thread_after_merge_exchange x c w r here alive
+  thread_after_duty (Die x) here alive settled = thread_after_die x here alive
+  thread_after_duty Settle here alive settled = thread_after_settle here alive
+  thread_after_duty (SettleKind x) here alive settled = thread_after_settle_kind x here alive
+  thread_after_duty (SettleCell x i k) here alive settled = thread_after_settle_cell x i k here alive
+  thread_after_duty (TakeSlot x) here alive settled = thread_after_take_slot x here alive
+  thread_after_duty (CloseResource x) here alive settled = thread_after_close_resource x here alive
+  thread_after_duty (SettleEnd x) here alive settled = thread_after_settle_end x here alive
+  thread_after_duty (Leave x k) here alive settled = thread_after_leave p n m t a x k rest here alive
+  thread_after_duty (Scan x k) here alive settled = thread_after_scan x k here alive
+  thread_after_duty Finish here alive settled = thread_after_finish p n m t a rest here alive settled.0
+  thread_after_duty (ClaimMark x) here alive settled = thread_after_claim_mark x here alive
+  thread_after_duty (BirthKind x h w) here alive settled = thread_after_birth_kind x h w here alive
+  thread_after_duty (BirthSlot x h) here alive settled = thread_after_birth_slot x h here alive
+  thread_after_duty (BirthLocal x h) here alive settled = thread_after_birth_local p n m t a x h rest here alive
+  thread_after_duty (CellSwap x i y h) here alive settled = thread_after_cell_swap x i y h here alive
+  -- `KindRead`, `Locks`, `LockHeld`, `Unlocks`, `CellRead`, `ResourceLent` and `ResourceReturned`: nothing follows the
+  -- duty, and no reference moves.
+  thread_after_duty d here alive settled =
+      own_done here alive refl refl (agenda_here here alive)
+      (held_same m.abstract.references t (d ∷ rest) [] (λ k o. refl) (λ k o. refl))
 
 -- What `duty_kept` needs: the invariant holds, and the thread isn't gone and has the duty next.
 pub record Doing (p : Accounts) (n : ℕ) (m : Machine) (t : ℕ) (a : Actor) (d : Duty) (rest : List Duty) : Type 0 where
@@ -120,11 +100,11 @@ duty_kept p n m t a d rest doing =
     record { core = doing.kept.core; found = doing.found; agenda = doing.agenda } in
     let settled : IsSettled a.head (d ∷ rest) =
     subst (IsSettled a.head) doing.agenda (doing.kept.settled t a doing.found) in (
-      duty_not_bad p n m t a d rest here,
+      duty_not_bad here,
       record {
         core =
-            keeps_by p n m t a d rest here doing.alive (thread_after_duty p n m t a d rest here doing.alive settled)
-            (λ x. marks_after p n m t a d rest here doing.alive x);
+            keeps_by here doing.alive (thread_after_duty d here doing.alive settled)
+            (λ x. marks_after d here doing.alive x);
         settled =
             λ u b is. written_actor (λ w c. IsSettled c.head c.agenda) m.actors t a
             (actor_by m.layout t a d rest (found_by m t a d)) doing.found
@@ -134,30 +114,28 @@ duty_kept p n m t a d rest doing =
 
 -- ---- taking up work
 
--- The second part of the theorem: taking up work that meets its condition keeps the invariant.
-pub kept_sits : (p : Accounts) (n : ℕ) (m : Machine) (t : ℕ) (a : Actor) (agenda : List Duty)
-    (account : Account)
-    → Invariant p n m → AtRest p n m t a → Sits m t a agenda account → IsSettled a.head agenda
-    → Invariant (with_account p t account) n (with_actor m t (sitting a agenda))
-kept_sits p n m t a agenda account kept rest sits settled = record {
-  core = sits_core p n m t a agenda account rest sits;
-  settled =
-      λ u b is. written_actor (λ w c. IsSettled c.head c.agenda) m.actors t a (sitting a agenda) rest.found
-      settled kept.settled u b is;
-}
+module _ {p : Accounts} {n : ℕ} {m : Machine} {t : ℕ} {a : Actor} where
+  -- The second part of the theorem: taking up work that meets its condition keeps the invariant.
+  pub kept_sits : (agenda : List Duty) (account : Account) → Invariant p n m → AtRest p n m t a
+      → Sits m t a agenda account → IsSettled a.head agenda
+      → Invariant (with_account p t account) n (with_actor m t (sitting a agenda))
+  kept_sits agenda account kept rest sits settled = record {
+    core = sits_core agenda account rest sits;
+    settled =
+        λ u b is. written_actor (λ w c. IsSettled c.head c.agenda) m.actors t a (sitting a agenda) rest.found
+        settled kept.settled u b is;
+  }
 
--- A thread that has taken up duties is ready to do the first of them.
-pub sits_down : (p : Accounts) (n : ℕ) (m : Machine) (t : ℕ) (a : Actor) (d : Duty) (rest : List Duty)
-    (account : Account)
-    → Invariant p n m → AtRest p n m t a → Sits m t a (d ∷ rest) account → IsSettled a.head (d ∷ rest)
-    → Doing (with_account p t account) n (with_actor m t (sitting a (d ∷ rest))) t (sitting a (d ∷ rest)) d
-    rest
-sits_down p n m t a d rest account kept at sits settled = record {
-  kept = kept_sits p n m t a (d ∷ rest) account kept at sits settled;
-  found = slice_get-set_same m.actors t (sitting a (d ∷ rest)) (slice_get_within m.actors t a at.found);
-  agenda = refl;
-  alive = λ e. let wrong : Running ≡ Gone = sym at.running ∙ e in absurd cc;
-}
+  -- A thread that has taken up duties is ready to do the first of them.
+  pub sits_down : (d : Duty) (rest : List Duty) (account : Account) → Invariant p n m → AtRest p n m t a
+      → Sits m t a (d ∷ rest) account → IsSettled a.head (d ∷ rest)
+      → Doing (with_account p t account) n (with_actor m t (sitting a (d ∷ rest))) t (sitting a (d ∷ rest)) d rest
+  sits_down d rest account kept at sits settled = record {
+    kept = kept_sits (d ∷ rest) account kept at sits settled;
+    found = slice_get-set_same m.actors t (sitting a (d ∷ rest)) (slice_get_within m.actors t a at.found);
+    agenda = refl;
+    alive = λ e. let wrong : Running ≡ Gone = sym at.running ∙ e in absurd cc;
+  }
 
 -- Taking up duties and doing the first of them at once isn't bad and keeps the invariant.
 pub taken_up : (p : Accounts) (n : ℕ) (m : Machine) (t : ℕ) (a : Actor) (d : Duty) (rest : List Duty)
@@ -168,5 +146,5 @@ taken_up p n m t a d rest account kept at sits settled =
     let now = sitting a (d ∷ rest) in
     let done =
     duty_kept (with_account p t account) n (with_actor m t now) t now d rest
-    (sits_down p n m t a d rest account kept at sits settled) in
+    (sits_down d rest account kept at sits settled) in
     (done.0, subst (Invariant (with_account p t account) n) (taken_up_step m t a d rest) done.1)

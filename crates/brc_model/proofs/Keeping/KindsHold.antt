@@ -22,7 +22,7 @@ use Rattle.brc_model.proofs.Dispatch.Grounded.{AreInstructions}
 use Rattle.brc_model.proofs.Keeping.CodeInvariant.{CodeInvariant}
 use Rattle.brc_model.proofs.Dispatch.Coded.{PlaceSays}
 use Rattle.brc_model.proofs.Basics.Written.{written_here, written_load}
-use Rattle.brc_model.proofs.Stepping.Neutral.{found_by}
+use Rattle.brc_model.proofs.Stepping.FitsAfter.{found_by}
 use Rattle.brc_model.proofs.Frame.Kinds.{StoredStay, stored_at_duty}
 use Rattle.brc_model.proofs.Dispatch.Kinds.{knows_still, named_stay}
 use Rattle.brc_model.proofs.Dispatch.KindsLeft.{SeesKind, Leaves}
@@ -60,7 +60,7 @@ stays_shown n = record {
   stays = λ p t m kept x. inr refl;
   sits = λ t m new a agenda found shown x. shown x;
   moves = λ p t m a moves kept found silent x. inr refl;
-  does = λ p t m a d rest doing. stored_at_duty p n m t a d rest (at_duty doing);
+  does = λ p t m a d rest doing. stored_at_duty d (at_duty doing);
 }
 
 pub thread_stored : (p : Module) (n : ℕ) (m : StepMachine) (t : ℕ) (choice : Choice) (o : Option StepActor)

@@ -23,118 +23,57 @@ use Rattle.brc_model.proofs.Keeping.FirstOfChain.{first_chained, chained_counted
 
 -- ---- work that makes and gives up no reference
 
-pub record BeginsLook (x : ℕ) (d : Duty) : Type 0 where
-  pub work : BeginsWork x d
-  pub lacks : (k : Holding) (y : ℕ) → lacks d k y ≡ false
-  pub extra : (k : Holding) (y : ℕ) → extra d k y ≡ false
+module _ {p : Accounts} {n : ℕ} {m : Machine} {t : ℕ} {a : Actor} where
+  -- A ready thread takes up such work about an object that has a row.
+  look_begins : (x : ℕ) (d : Duty) → Counts p n m → IsReady m t a → HasNoneAbout a x → x < row_count m.layout
+      → BeginsWork x d → ((k : Holding) (y : ℕ) → lacks d k y ≡ false)
+      → ((k : Holding) (y : ℕ) → extra d k y ≡ false) → cells_named d ≤ cell_limit
+      → HeadFits (with_actor m t (working a (d ∷ []) a.aside)) t (working a (d ∷ []) a.aside) d []
+      → Counts p n (with_actor m t (working a (d ∷ []) a.aside))
+  look_begins x d counts ready alone there begins no_lack no_extra few knows =
+      let core = counts.kept.core in
+      let holds = ready_holds core ready in
+      subst (λ (q : Accounts). Counts q n (with_actor m t (working a (d ∷ []) a.aside))) (with_account_itself p t)
+      (work_begins x d (p t) counts ready alone (record {
+        begins = begins;
+        no_flight = counts.no_flight t;
+        holds = λ k object.
+            omega (
+              arith,
+              holds.each k object,
+              ap one_if (no_lack k object),
+              ap one_if (no_extra k object),
+            );
+        bounded = (core.each t a ready.found).0.bounded;
+        locks = same_locks (p t) m t a d (core.each t a ready.found).0.locks no_lack;
+        knows = knows;
+        small = row_small (row_count m.layout) x d there begins.about few;
+      }))
 
--- A ready thread takes up such work about an object that has a row.
-look_begins : (p : Accounts) (n : ℕ) (m : Machine) (t : ℕ) (a : Actor) (x : ℕ) (d : Duty) → Counts p n m
-    → IsReady m t a → HasNoneAbout a x → x < row_count m.layout → BeginsLook x d → cells_named d ≤ cell_limit
-    → HeadFits (with_actor m t (working a (d ∷ []) a.aside)) t (working a (d ∷ []) a.aside) d []
-    → Counts p n (with_actor m t (working a (d ∷ []) a.aside))
-look_begins p n m t a x d counts ready alone there begins few knows =
-    let core = counts.kept.core in
-    let holds = ready_holds p n m t a core ready in
-    subst (λ (q : Accounts). Counts q n (with_actor m t (working a (d ∷ []) a.aside))) (with_account_itself p t)
-    (work_begins p n m t a x d (p t) counts ready alone (record {
-      begins = begins.work;
-      no_flight = counts.no_flight t;
-      holds = λ k object.
-          omega (
-            arith,
-            holds.each k object,
-            ap one_if (begins.lacks k object),
-            ap one_if (begins.extra k object),
-          );
-      bounded = (core.each t a ready.found).0.bounded;
-      locks = same_locks (p t) m t a d (core.each t a ready.found).0.locks begins.lacks;
-      knows = knows;
-      small = row_small (row_count m.layout) x d there begins.work.about few;
-    }))
-
--- A reference that the thread holds as the caller backs the object, while new work begins.
-held_backs : (p : Accounts) (n : ℕ) (m : Machine) (t : ℕ) (a : Actor) (x : ℕ) (d : Duty) → CoreInvariant p n m
-    → IsReady m t a → HasNoneAbout a x → 1 ≤ p t AsCaller x
-    → IsBacked (with_actor m t (working a (d ∷ []) a.aside)) t (working a (d ∷ []) a.aside) x
-held_backs p n m t a x d core ready alone some =
-    backed_still m t a x d
-    (ByReference AsCaller (omega (arith, none_about_held p n m t a x AsCaller core ready alone, some)))
+  -- A reference that the thread holds as the caller backs the object, while new work begins.
+  held_backs : (x : ℕ) (d : Duty) → CoreInvariant p n m → IsReady m t a → HasNoneAbout a x → 1 ≤ p t AsCaller x
+      → IsBacked (with_actor m t (working a (d ∷ []) a.aside)) t (working a (d ∷ []) a.aside) x
+  held_backs x d core ready alone some =
+      backed_still m t a x d (ByReference AsCaller (omega (arith, none_about_held x AsCaller core ready alone, some)))
 
 -- ---- locks and cells
-
-lock_looks : (x : ℕ) → BeginsLook x (LockGate x)
-lock_looks x = record {
-  work = record {
-    about = λ y. refl;
-    piece = refl;
-    fits = λ used. refl;
-    stays = refl;
-    settled = λ head. tt;
-    hands = λ y. refl;
-    waits = λ y. refl;
-    carries = λ y. refl;
-    merges = λ y. refl;
-    decides = λ y. refl;
-    looks = λ y. refl;
-  };
-  lacks = λ k y. refl;
-  extra = λ k y. refl;
-}
-
-unlock_looks : (x : ℕ) → BeginsLook x (UnlockGate x)
-unlock_looks x = record {
-  work = record {
-    about = λ y. refl;
-    piece = refl;
-    fits = λ used. refl;
-    stays = refl;
-    settled = λ head. tt;
-    hands = λ y. refl;
-    waits = λ y. refl;
-    carries = λ y. refl;
-    merges = λ y. refl;
-    decides = λ y. refl;
-    looks = λ y. refl;
-  };
-  lacks = λ k y. refl;
-  extra = λ k y. refl;
-}
-
-cell_looks : (x i : ℕ) → BeginsLook x (CellLoad x i)
-cell_looks x i = record {
-  work = record {
-    about = λ y. refl;
-    piece = refl;
-    fits = λ used. refl;
-    stays = refl;
-    settled = λ head. tt;
-    hands = λ y. refl;
-    waits = λ y. refl;
-    carries = λ y. refl;
-    merges = λ y. refl;
-    decides = λ y. refl;
-    looks = λ y. refl;
-  };
-  lacks = λ k y. refl;
-  extra = λ k y. refl;
-}
 
 -- The invariant and the ranges hold after a ready thread begins to lock an object that it holds.
 pub locks_begin : LocksBegin
 locks_begin p n m t a x counts ready alone counted some unlocked =
     let core = counts.kept.core in
-    look_begins p n m t a x (LockGate x) counts ready alone (held_row p n m t a x core ready alone some) (lock_looks x)
-    (omega arith) (counted, held_backs p n m t a x (LockGate x) core ready alone some, unlocked)
+    look_begins x (LockGate x) counts ready alone (held_row x core ready alone some)
+    (record { about = λ y. refl; piece = refl; light = refl }) (λ k y. refl) (λ k y. refl) (omega arith)
+    (counted, held_backs x (LockGate x) core ready alone some, unlocked)
 
 -- The invariant and the ranges hold after a ready thread begins to unlock the object that it has locked.
 pub unlocks_begin : UnlocksBegin
 unlocks_begin p n m t a x counts ready alone some locked none lent =
     let core = counts.kept.core in
-    look_begins p n m t a x (UnlockGate x) counts ready alone (held_row p n m t a x core ready alone some)
-    (unlock_looks x) (omega arith) (
+    look_begins x (UnlockGate x) counts ready alone (held_row x core ready alone some)
+    (record { about = λ y. refl; piece = refl; light = refl }) (λ k y. refl) (λ k y. refl) (omega arith) (
       ((core.each t a ready.found).0.locks x locked).counted,
-      held_backs p n m t a x (UnlockGate x) core ready alone some,
+      held_backs x (UnlockGate x) core ready alone some,
       locked,
       none,
       lent,
@@ -147,22 +86,23 @@ record LoadsCells (m : Machine) (t : ℕ) (a : Actor) (x : ℕ) : Type 0 where
   pub counted : IsCounted m.layout x
   pub there : x < row_count m.layout
 
-loads_cells : (p : Accounts) (n : ℕ) (m : Machine) (t : ℕ) (a : Actor) (x : ℕ) → CoreInvariant p n m → IsReady m t a
-    → HasNoneAbout a x → ((1 ≤ p t AsCaller x) × (a.locked ≡ Some x)) ⊎ IsFirstOfChain a x → LoadsCells m t a x
-loads_cells p n m t a x core ready alone (inl (some, locked)) = record {
-  looks = inl (ByReference AsCaller (omega (arith, none_about_held p n m t a x AsCaller core ready alone, some)));
-  guards = inl locked;
-  counted = ((core.each t a ready.found).0.locks x locked).counted;
-  there = held_row p n m t a x core ready alone some;
-}
-loads_cells p n m t a x core ready alone (inr first) =
-    let chained = first_chained p n m t a x core ready.found first in
-    record {
-      looks = inr chained;
-      guards = inr chained;
-      counted = chained_counted p n m t x core chained;
-      there = first_row p n m t a x core ready.found first;
-    }
+module _ {p : Accounts} {n : ℕ} {m : Machine} {t : ℕ} {a : Actor} where
+  loads_cells : (x : ℕ) → CoreInvariant p n m → IsReady m t a → HasNoneAbout a x
+      → ((1 ≤ p t AsCaller x) × (a.locked ≡ Some x)) ⊎ IsFirstOfChain a x → LoadsCells m t a x
+  loads_cells x core ready alone (inl (some, locked)) = record {
+    looks = inl (ByReference AsCaller (omega (arith, none_about_held x AsCaller core ready alone, some)));
+    guards = inl locked;
+    counted = ((core.each t a ready.found).0.locks x locked).counted;
+    there = held_row x core ready alone some;
+  }
+  loads_cells x core ready alone (inr first) =
+      let chained = first_chained t a x core ready.found first in
+      record {
+        looks = inr chained;
+        guards = inr chained;
+        counted = chained_counted t x core chained;
+        there = first_row t a x core ready.found first;
+      }
 
 guards_still : (m : Machine) (t : ℕ) (a : Actor) (x : ℕ) (d : Duty) → GuardsCells m t a x
     → GuardsCells (with_actor m t (working a (d ∷ []) a.aside)) t (working a (d ∷ []) a.aside) x
@@ -174,7 +114,7 @@ guards_still m t a x d (inr chained) = inr chained
 pub cell_loads_begin : CellLoadsBegin
 cell_loads_begin p n m t a x i counts ready alone loads low =
     let core = counts.kept.core in
-    let it = loads_cells p n m t a x core ready alone loads in
-    look_begins p n m t a x (CellLoad x i) counts ready alone it.there (cell_looks x i)
-    (omega (arith, low, counts.ranges.kinds x))
+    let it = loads_cells x core ready alone loads in
+    look_begins x (CellLoad x i) counts ready alone it.there (record { about = λ y. refl; piece = refl; light = refl })
+    (λ k y. refl) (λ k y. refl) (omega (arith, low, counts.ranges.kinds x))
     (it.counted, looks_still m t a x (CellLoad x i) it.looks, guards_still m t a x (CellLoad x i) it.guards, low)

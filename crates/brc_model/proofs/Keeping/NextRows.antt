@@ -161,40 +161,40 @@ none_waits_about m t a x (d ∷ ds) blank adds few waits =
           omega (arith, all, none, rest)
     ] refl
 
--- None of a ready thread's open work is about a counted row that isn't born.
-pub unborn_alone : (p : Accounts) (n : ℕ) (m : Machine) (t : ℕ) (a : Actor) (x : ℕ) → CoreInvariant p n m
-    → IsReady m t a → IsCounted m.layout x → m.life x ≡ Unborn → HasNoneAbout a x
-unborn_alone p n m t a x core ready counted unborn =
-    let fits = (core.each t a ready.found).2 in
-    let holds = ready_holds p n m t a core ready in
-    let row : IsUnborn (numbers_of m x) =
-    subst (λ (l : Life). RowInvariant (block_of m.layout x) l (numbers_of m x)) unborn (core.rows x counted) in
-    let blank : IsBlank m x = record {
-      life = unborn;
-      local = row.local;
-      references = row.references;
-      cells = λ list i word.
-          absurd (omega (
-            arith,
-            cell_held p n m list i x core (omega (arith, word)),
-            held-le-references_to (cell_reference list i x) m.abstract.references,
-            row.references,
-          ));
-    } in
-    let adds : AddsNone x a.aside = record {
-      gives = λ k. omega (
+module _ {p : Accounts} {n : ℕ} {m : Machine} {t : ℕ} {a : Actor} where
+  -- None of a ready thread's open work is about a counted row that isn't born.
+  pub unborn_alone : (x : ℕ) → CoreInvariant p n m → IsReady m t a → IsCounted m.layout x → m.life x ≡ Unborn
+      → HasNoneAbout a x
+  unborn_alone x core ready counted unborn =
+      let fits = (core.each t a ready.found).2 in
+      let holds = ready_holds core ready in
+      let row : IsUnborn (numbers_of m x) =
+      subst (λ (l : Life). RowInvariant (block_of m.layout x) l (numbers_of m x)) unborn (core.rows x counted) in
+      let blank : IsBlank m x = record {
+        life = unborn;
+        local = row.local;
+        references = row.references;
+        cells = λ list i word.
+            absurd (omega (
+              arith,
+              cell_held list i x core (omega (arith, word)),
+              held-le-references_to (cell_reference list i x) m.abstract.references,
+              row.references,
+            ));
+      } in
+      let adds : AddsNone x a.aside = record {
+        gives = λ k. omega (
+          arith,
+          holds.each k x,
+          held-le-references_to (reference_of t k x) m.abstract.references,
+          row.references,
+        );
+        waits = omega (arith, agenda_weight-le (waits x) m.actors t a ready.found, row.waiting);
+        merges = omega (arith, agenda_weight-le (merges x) m.actors t a ready.found, row.merging);
+      } in
+      let first : one_if (about_of x a.agenda) ≡ 0 = ap (λ (l : List Duty). one_if (about_of x l)) ready.agenda in
+      omega (
         arith,
-        holds.each k x,
-        held-le-references_to (reference_of t k x) m.abstract.references,
-        row.references,
-      );
-      waits = omega (arith, agenda_weight-le (waits x) m.actors t a ready.found, row.waiting);
-      merges = omega (arith, agenda_weight-le (merges x) m.actors t a ready.found, row.merging);
-    } in
-    let first : one_if (about_of x a.agenda) ≡ 0 =
-    ap (λ (l : List Duty). one_if (about_of x l)) ready.agenda in
-    omega (
-      arith,
-      first,
-      none_waits_about m t a x a.aside blank adds (omega (arith, fits.apart x)) fits.waits,
-    )
+        first,
+        none_waits_about m t a x a.aside blank adds (omega (arith, fits.apart x)) fits.waits,
+      )

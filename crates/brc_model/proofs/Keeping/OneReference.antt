@@ -14,9 +14,10 @@ use Rattle.brc_model.specs.Machine.{Actor}
 use Rattle.brc_model.specs.Accounts.{Account, HoldsAt, IsBounded, most_lent, lacks_of}
 use Rattle.brc_model.specs.OpenWork.{about_of}
 use Rattle.brc_model.specs.Counting.{HasNoneAbout, with_one_less, with_one_more}
-use Rattle.brc_model.proofs.Basics.Bag.{eqb_swapped, same_holding-true, same_holding-swapped, held_has, held-cons, held-without}
+use Rattle.brc_model.proofs.Basics.Bag.{eqb_swapped, same_holding-true, same_holding-swapped, held_has, held-cons, held-without, one_if_low}
 use Rattle.brc_model.proofs.Basics.Lists.{and_first, and_second}
 use Rattle.brc_model.proofs.Frame.Aside.{lacks_about, lacks_counted}
+use Rattle.brc_model.specs.Layout.{IsCounted}
 
 -- Two references of one thread are the same if their ways of holding and their objects are.
 same_own : (t : ℕ) (h k : Holding) (x object : ℕ)
@@ -118,18 +119,20 @@ bounded_less layout account x bounded = record {
   in_flight = λ object. omega (arith, bounded.in_flight object);
 }
 
+-- With one reference more, a thread still holds at most `most_lent` to a counted object.
 pub bounded_more : (layout : Layout) (account : Account) (x : ℕ) → IsBounded layout account
-    → account AsCaller x < most_lent → IsBounded layout (with_one_more account AsCaller x)
-bounded_more layout account x bounded room = record {
+    → (IsCounted layout x → account AsCaller x < most_lent) → IsBounded layout (with_one_more account AsCaller x)
+bounded_more layout account x bounded few = record {
   by_variable = λ depth v object. omega (arith, bounded.by_variable depth v object);
   sixteen = λ depth v object past. omega (arith, bounded.sixteen depth v object past);
   shallow = λ depth v object deep. omega (arith, bounded.shallow depth v object deep);
   lent = λ object counted. elim (eqb_tells x object) [
-    | inl this ↦
-        let one : one_if (x == object) ≡ 1 = ap one_if this.0 in
-        omega (arith, one, subst (λ (y : ℕ). account AsCaller y < most_lent) this.1 room)
-    | inr apart ↦
-        let none : one_if (x == object) ≡ 0 = ap one_if apart.0 in omega (arith, none, bounded.lent object counted)
+    | inl same ↦
+        let low = subst (λ (y : ℕ). IsCounted layout y → account AsCaller y < most_lent) same.1 few counted in
+        omega (arith, low, one_if_low (x == object))
+    | inr other ↦
+        let none : one_if (x == object) ≡ 0 = ap one_if other.0 in
+        omega (arith, bounded.lent object counted, none)
   ];
   in_flight = λ object. omega (arith, bounded.in_flight object);
 }

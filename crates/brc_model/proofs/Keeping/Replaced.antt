@@ -152,51 +152,51 @@ nothing_changes m t b = record {
   births = λ u x c ne found next. (refl, refl);
 }
 
-pub replaced_core : (p : Accounts) (n : ℕ) (m : Machine) (t : ℕ) (a b : Actor) (account : Account) → CoreInvariant p n m
-    → slice_get m.actors t ≡ Some a → Replaces m t a b account
-    → CoreInvariant (with_account p t account) n (with_actor m t b)
-replaced_core p n m t a b account core found new = record {
-  threads = length-set m.actors t b ∙ core.threads;
-  some_rows = core.some_rows;
-  few_threads = core.few_threads;
-  few_rows = core.few_rows;
-  workers = core.workers;
-  few_cells = core.few_cells;
-  few_immortals = core.few_immortals;
-  rows =
-      λ x pos. subst (λ (k : Numbers). RowInvariant (block_of m.layout x) (m.life x) k)
-      (same_numbers m t a b account x found new) (core.rows x pos);
-  marks = λ x. elim (core.marks x) [
-    | inl none ↦ inl none
-    | inr set ↦ inr (set.0, set.1, still_watched m t a b account x found new set.2)
-  ];
-  each =
-      each_fits p (with_account p t account) m (with_actor m t b) t a b found (nothing_changes m t b)
-      (with_account_other p t account)
-      (subst (λ (c : Account). Fits c (with_actor m t b) t b) (with_account_same p t account) new.fits) core.each;
-  beyond = core.beyond;
-  gates = λ x. gate_fits_kept m.actors t a b found x (m.memory (Gate x)) (m.life x) new.locked (core.gates x);
-  dying = core.dying;
-  cells = core.cells;
-  cells_end = core.cells_end;
-  uses =
-      λ u c is. written_actor (λ w q. UsesFit m.layout m.life w q.used) m.actors t a b found
-      (subst (UsesFit m.layout m.life t) (sym new.used) (core.uses t a found)) core.uses u c is;
-  blanks =
-      λ u c is. written_actor (λ w q. BlankFits m.layout m.memory w q.used q.agenda) m.actors t a b found new.blanks
-      core.blanks u c is;
-  cells_hold = core.cells_hold;
-  immortals_live = core.immortals_live;
-  born_is = core.born_is;
-  born_has = core.born_has;
-  born_once = core.born_once;
-  closed_is = core.closed_is;
-  closed_has = core.closed_has;
-  once = core.once;
-  kinds = core.kinds;
-  kind_words = core.kind_words;
-  immortal_words = core.immortal_words;
-  resources = λ x.
-      subst (ResourcesFit (m.life x))
-      (same_resources m t a b x found new.lent (λ f few. new.finalises x f few)) (core.resources x);
-}
+module _ {p : Accounts} {n : ℕ} {m : Machine} where
+  pub replaced_core : (t : ℕ) (a b : Actor) (account : Account) → CoreInvariant p n m → slice_get m.actors t ≡ Some a
+      → Replaces m t a b account → CoreInvariant (with_account p t account) n (with_actor m t b)
+  replaced_core t a b account core found new = record {
+    threads = length-set m.actors t b ∙ core.threads;
+    some_rows = core.some_rows;
+    few_threads = core.few_threads;
+    few_rows = core.few_rows;
+    workers = core.workers;
+    few_cells = core.few_cells;
+    few_immortals = core.few_immortals;
+    rows =
+        λ x pos. subst (λ (k : Numbers). RowInvariant (block_of m.layout x) (m.life x) k)
+        (same_numbers m t a b account x found new) (core.rows x pos);
+    marks = λ x. elim (core.marks x) [
+      | inl none ↦ inl none
+      | inr set ↦ inr (set.0, set.1, still_watched m t a b account x found new set.2)
+    ];
+    each =
+        each_fits p (with_account p t account) m (with_actor m t b) t a b found (nothing_changes m t b)
+        (with_account_other p t account)
+        (subst (λ (c : Account). Fits c (with_actor m t b) t b) (with_account_same p t account) new.fits) core.each;
+    beyond = core.beyond;
+    gates = λ x. gate_fits_kept m.actors t a b found x (m.memory (Gate x)) (m.life x) new.locked (core.gates x);
+    dying = core.dying;
+    cells = core.cells;
+    cells_end = core.cells_end;
+    uses =
+        λ u c is. written_actor (λ w q. UsesFit m.layout m.life w q.used) m.actors t a b found
+        (subst (UsesFit m.layout m.life t) (sym new.used) (core.uses t a found)) core.uses u c is;
+    blanks =
+        λ u c is. written_actor (λ w q. BlankFits m.layout m.memory w q.used q.agenda) m.actors t a b found new.blanks
+        core.blanks u c is;
+    cells_hold = core.cells_hold;
+    immortals_live = core.immortals_live;
+    born_is = core.born_is;
+    born_has = core.born_has;
+    born_once = core.born_once;
+    closed_is = core.closed_is;
+    closed_has = core.closed_has;
+    once = core.once;
+    kinds = core.kinds;
+    kind_words = core.kind_words;
+    immortal_words = core.immortal_words;
+    resources = λ x.
+        subst (ResourcesFit (m.life x))
+        (same_resources m t a b x found new.lent (λ f few. new.finalises x f few)) (core.resources x);
+  }

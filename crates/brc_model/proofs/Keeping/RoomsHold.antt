@@ -15,7 +15,7 @@ use Rattle.brc_model.specs.Duties.{ready}
 use Rattle.brc_model.specs.Actions.{StepActor, Action, Skip, Stuck, Silent, Calls, Does, exit_of, action_of}
 use Rattle.brc_model.specs.StepMachine.{StepMachine, counting, of_thread, at_place, step_actor, machine_by, first_machine, main_actor, worker_actor}
 use Rattle.brc_model.proofs.Basics.Lists.{some_is, slice_get-map, written_actor}
-use Rattle.brc_model.proofs.Stepping.Neutral.{found_by}
+use Rattle.brc_model.proofs.Stepping.FitsAfter.{found_by}
 use Rattle.brc_model.proofs.Dispatch.Rooms.{HasRoom, RoomFits, RoomsFit, FollowsRoom, action_room}
 use Rattle.brc_model.proofs.Dispatch.Actions.{ActionFits, action_fits}
 use Rattle.brc_model.proofs.Keeping.CodeInvariant.{CodeInvariant}

@@ -93,45 +93,45 @@ silent_aside bag h t _ (PassesOn from to x has) other = ((other from, other to),
 abbrev pub silenced : Machine → ℕ → Actor → List Move → Machine
 silenced m t a moves = with_moves (with_actor m t (sitting a [])) moves
 
-same_numbers : (p : Accounts) (n : ℕ) (m : Machine) (t : ℕ) (a : Actor) (moves : List Move) (x : ℕ)
-    → AtRest p n m t a → SilentMoves m.abstract.references t moves → IsCounted m.layout x
-    → numbers_of m x ≡ numbers_of (silenced m t a moves) x
-same_numbers p n m t a moves x rest silent pos =
-    let r = silent_references m.abstract t x moves silent (counted_above m.layout x pos) in
-    let w : weight (waits x) m.actors ≡ weight (waits x) (slice_set m.actors t (sitting a [])) =
-    sym (same_weight (waits x) m.actors t a [] rest.found rest.agenda refl) in
-    let c : weight (carries x) m.actors ≡ weight (carries x) (slice_set m.actors t (sitting a [])) =
-    sym (same_weight (carries x) m.actors t a [] rest.found rest.agenda refl) in
-    let g : weight (merges x) m.actors ≡ weight (merges x) (slice_set m.actors t (sitting a [])) =
-    sym (same_weight (merges x) m.actors t a [] rest.found rest.agenda refl) in
-    let d : weight (decides x) m.actors ≡ weight (decides x) (slice_set m.actors t (sitting a [])) =
-    sym (same_weight (decides x) m.actors t a [] rest.found rest.agenda refl) in
-    λ i. record {
-      local = (numbers_of m x).local;
-      shared = (numbers_of m x).shared;
-      mark = (numbers_of m x).mark;
-      references = r i;
-      waiting = w i;
-      carried = c i;
-      merging = g i;
-      deciding = d i;
-    }
+module _ {p : Accounts} {n : ℕ} {m : Machine} {t : ℕ} {a : Actor} where
+  same_numbers : (moves : List Move) (x : ℕ) → AtRest p n m t a → SilentMoves m.abstract.references t moves
+      → IsCounted m.layout x → numbers_of m x ≡ numbers_of (silenced m t a moves) x
+  same_numbers moves x rest silent pos =
+      let r = silent_references m.abstract t x moves silent (counted_above m.layout x pos) in
+      let w : weight (waits x) m.actors ≡ weight (waits x) (slice_set m.actors t (sitting a [])) =
+      sym (same_weight (waits x) m.actors t a [] rest.found rest.agenda refl) in
+      let c : weight (carries x) m.actors ≡ weight (carries x) (slice_set m.actors t (sitting a [])) =
+      sym (same_weight (carries x) m.actors t a [] rest.found rest.agenda refl) in
+      let g : weight (merges x) m.actors ≡ weight (merges x) (slice_set m.actors t (sitting a [])) =
+      sym (same_weight (merges x) m.actors t a [] rest.found rest.agenda refl) in
+      let d : weight (decides x) m.actors ≡ weight (decides x) (slice_set m.actors t (sitting a [])) =
+      sym (same_weight (decides x) m.actors t a [] rest.found rest.agenda refl) in
+      λ i. record {
+        local = (numbers_of m x).local;
+        shared = (numbers_of m x).shared;
+        mark = (numbers_of m x).mark;
+        references = r i;
+        waiting = w i;
+        carried = c i;
+        merging = g i;
+        deciding = d i;
+      }
 
-still_watched : (p : Accounts) (n : ℕ) (m : Machine) (t : ℕ) (a : Actor) (moves : List Move) (x : ℕ)
-    → AtRest p n m t a → IsWatched m x → IsWatched (silenced m t a moves) x
-still_watched p n m t a moves x rest (ByRunning one) = ByRunning one
-still_watched p n m t a moves x rest (ByExit b found scanned) =
-    elim (eqb_tells (block_of m.layout x) t) [
-      | inl same ↦
-          let this : b ≡ a = some_is b a (sym found ∙ ap (slice_get m.actors) same.1 ∙ rest.found) in
-          let i = index_of m.layout (block_of m.layout x) x in
-          let none : scans i b.agenda ≡ false = ap (λ (c : Actor). scans i c.agenda) this ∙ ap (scans i) rest.agenda in
-          absurd (false≢true (sym none ∙ scanned))
-      | inr apart ↦
-          ByExit b (slice_get-set_other m.actors t (block_of m.layout x) (sitting a []) apart.1 ∙ found) scanned
-    ]
-still_watched p n m t a moves x rest (ByLook some) =
-    ByLook (omega (arith, some, same_weight (looks x) m.actors t a [] rest.found rest.agenda refl))
+  still_watched : (moves : List Move) (x : ℕ) → AtRest p n m t a → IsWatched m x → IsWatched (silenced m t a moves) x
+  still_watched moves x rest (ByRunning one) = ByRunning one
+  still_watched moves x rest (ByExit b found scanned) =
+      elim (eqb_tells (block_of m.layout x) t) [
+        | inl same ↦
+            let this : b ≡ a = some_is b a (sym found ∙ ap (slice_get m.actors) same.1 ∙ rest.found) in
+            let i = index_of m.layout (block_of m.layout x) x in
+            let none : scans i b.agenda ≡ false =
+            ap (λ (c : Actor). scans i c.agenda) this ∙ ap (scans i) rest.agenda in
+            absurd (false≢true (sym none ∙ scanned))
+        | inr apart ↦
+            ByExit b (slice_get-set_other m.actors t (block_of m.layout x) (sitting a []) apart.1 ∙ found) scanned
+      ]
+  still_watched moves x rest (ByLook some) =
+      ByLook (omega (arith, some, same_weight (looks x) m.actors t a [] rest.found rest.agenda refl))
 
 leaves : (m : Machine) (t : ℕ) (a : Actor) (moves : List Move) → SilentMoves m.abstract.references t moves
     → LeavesOthers m (silenced m t a moves) t
@@ -165,99 +165,95 @@ pub record SilentSits (m : Machine) (t : ℕ) (a : Actor) (moves : List Move) (a
   pub bounded : IsBounded m.layout account
   pub locks : LocksFit account m t (sitting a [])
 
-thread_after_duty : (p : Accounts) (n : ℕ) (m : Machine) (t : ℕ) (a : Actor) (moves : List Move)
-    (account : Account)
-    → AtRest p n m t a → SilentSits m t a moves account
-    → Fits account (silenced m t a moves) t (sitting a [])
-thread_after_duty p n m t a moves account rest taken =
-    let old = (rest.core.each t a rest.found).0 in
-    let chain = subst (λ (l : List Duty). ChainFits m t a.head l) rest.agenda old.chain in (
-      record {
-        word = old.word;
-        holds =
-            subst (λ (l : List Reference). HoldsAt l t account [] a.aside)
-            (sym (silent_bag m.abstract t moves taken.moves_fit))
-            (holds_alone (bag_after m.abstract.references moves) t account [] a.aside taken.alone taken.holds);
-        bounded = taken.bounded;
-        exited = λ e. absurd (false≢true (sym (ap (λ (s : Status). exits s []) rest.running) ∙ e));
-        head_fits = tt;
-        behind = tt;
-        chain = record { chained = chain.chained; linked = chain.linked; once = chain.once };
-        locks = taken.locks;
-        lent = old.lent;
-      },
-      subst (λ (s : Status). AgendaFits (sitting a []) s) (sym rest.running) refl,
-      alone_fits (silenced m t a moves) t (sitting a []) taken.alone,
-    )
+module _ {p : Accounts} {n : ℕ} {m : Machine} {t : ℕ} {a : Actor} where
+  thread_after_duty : (moves : List Move) (account : Account) → AtRest p n m t a → SilentSits m t a moves account
+      → Fits account (silenced m t a moves) t (sitting a [])
+  thread_after_duty moves account rest taken =
+      let old = (rest.core.each t a rest.found).0 in
+      let chain = subst (λ (l : List Duty). ChainFits m t a.head l) rest.agenda old.chain in (
+        record {
+          word = old.word;
+          holds =
+              subst (λ (l : List Reference). HoldsAt l t account [] a.aside)
+              (sym (silent_bag m.abstract t moves taken.moves_fit))
+              (holds_alone (bag_after m.abstract.references moves) t account [] a.aside taken.alone taken.holds);
+          bounded = taken.bounded;
+          exited = λ e. absurd (false≢true (sym (ap (λ (s : Status). exits s []) rest.running) ∙ e));
+          head_fits = tt;
+          behind = tt;
+          chain = record { chained = chain.chained; linked = chain.linked; once = chain.once };
+          locks = taken.locks;
+          lent = old.lent;
+        },
+        subst (λ (s : Status). AgendaFits (sitting a []) s) (sym rest.running) refl,
+        alone_fits (silenced m t a moves) t (sitting a []) taken.alone,
+      )
 
--- A silent step that meets its condition keeps the core invariant.
-pub silent_core : (p : Accounts) (n : ℕ) (m : Machine) (t : ℕ) (a : Actor) (moves : List Move)
-    (account : Account)
-    → AtRest p n m t a → SilentSits m t a moves account
-    → CoreInvariant (with_account p t account) n (silenced m t a moves)
-silent_core p n m t a moves account rest taken =
-    let silent = taken.moves_fit in
-    let within : t < n = omega (arith, slice_get_within m.actors t a rest.found, rest.core.threads) in
-    let born = silent_born m.abstract t moves silent in
-    let closed = silent_closed m.abstract t moves silent in
-    record {
-      threads = length-set m.actors t (sitting a []) ∙ rest.core.threads;
-      some_rows = rest.core.some_rows;
-      few_threads = rest.core.few_threads;
-      few_rows = rest.core.few_rows;
-      workers = rest.core.workers;
-      few_cells = rest.core.few_cells;
-      few_immortals = rest.core.few_immortals;
-      rows =
-          λ x pos. subst (λ (k : Numbers). RowInvariant (block_of m.layout x) (m.life x) k)
-          (same_numbers p n m t a moves x rest silent pos) (rest.core.rows x pos);
-      marks = λ x. elim (rest.core.marks x) [
-        | inl none ↦ inl none
-        | inr set ↦ inr (set.0, set.1, still_watched p n m t a moves x rest set.2)
-      ];
-      each =
-          let now = sitting a [] in
-          let own = thread_after_duty p n m t a moves account rest taken in
-          each_fits p (with_account p t account) m (silenced m t a moves) t a now rest.found
-          (leaves m t a moves silent) (with_account_other p t account)
-          (subst (λ (c : Account). Fits c (silenced m t a moves) t now) (with_account_same p t account) own)
-          rest.core.each;
-      beyond = λ u past k object.
-          moved_aside m.abstract (reference_of u k object) moves
-          (silent_aside m.abstract.references (ByThread u k) t moves silent
-          (λ h. other_thread u t k h (λ e. absurd (omega (arith, within, past, e)))))
-          ∙ rest.core.beyond u past k object;
-      gates =
-          λ x. gate_fits_kept m.actors t a (sitting a []) rest.found x (m.memory (Gate x)) (m.life x) refl
-          (rest.core.gates x);
-      dying = rest.core.dying;
-      cells = rest.core.cells;
-      cells_end = rest.core.cells_end;
-      cells_hold =
-          λ x i object. moved_aside m.abstract (cell_reference x i object) moves
-          (silent_aside m.abstract.references (cell_reference x i object).holder t moves silent (λ h. refl))
-          ∙ rest.core.cells_hold x i object;
-      uses =
-          λ u b is. written_actor (λ w c. UsesFit m.layout m.life w c.used) m.actors t a (sitting a []) rest.found
-          (rest.core.uses t a rest.found) rest.core.uses u b is;
-      blanks =
-          λ u b is. written_actor (λ w c. BlankFits m.layout m.memory w c.used c.agenda) m.actors t a
-          (sitting a [])
-          rest.found (rest_blanks p n m t a [] rest) rest.core.blanks u b is;
-      immortals_live = rest.core.immortals_live;
-      born_is = λ x is. rest.core.born_is x (sym (ap (is_among x) born) ∙ is);
-      born_has = λ x above is. ap (is_among x) born ∙ rest.core.born_has x above is;
-      born_once = subst (λ (l : List ℕ). (x : ℕ) → count_by (λ y. y == x) l ≤ 1) (sym born) rest.core.born_once;
-      closed_is = λ x is. rest.core.closed_is x (sym (ap (is_among x) closed) ∙ is);
-      closed_has = λ x is. ap (is_among x) closed ∙ rest.core.closed_has x is;
-      once = subst (λ (l : List ℕ). AllPairs (λ x y. x ≢ y) l) (sym closed) rest.core.once;
-      kinds = λ x born.
-          rest.core.kinds x born ∙ ap (λ (k : ℕ → Kind). kind_number (k x))
-          (sym (silent_kinds m.abstract t moves silent));
-      kind_words = rest.core.kind_words;
-      immortal_words = rest.core.immortal_words;
-      resources = λ x.
-          subst (ResourcesFit (m.life x))
-          (same_resources m t a (sitting a []) x rest.found refl (λ f few.
-          let none : sum_by f a.agenda ≡ 0 = ap (sum_by f) rest.agenda in omega (arith, none))) (rest.core.resources x);
-    }
+  -- A silent step that meets its condition keeps the core invariant.
+  pub silent_core : (moves : List Move) (account : Account) → AtRest p n m t a → SilentSits m t a moves account
+      → CoreInvariant (with_account p t account) n (silenced m t a moves)
+  silent_core moves account rest taken =
+      let silent = taken.moves_fit in
+      let within : t < n = omega (arith, slice_get_within m.actors t a rest.found, rest.core.threads) in
+      let born = silent_born m.abstract t moves silent in
+      let closed = silent_closed m.abstract t moves silent in
+      record {
+        threads = length-set m.actors t (sitting a []) ∙ rest.core.threads;
+        some_rows = rest.core.some_rows;
+        few_threads = rest.core.few_threads;
+        few_rows = rest.core.few_rows;
+        workers = rest.core.workers;
+        few_cells = rest.core.few_cells;
+        few_immortals = rest.core.few_immortals;
+        rows =
+            λ x pos. subst (λ (k : Numbers). RowInvariant (block_of m.layout x) (m.life x) k)
+            (same_numbers moves x rest silent pos) (rest.core.rows x pos);
+        marks = λ x. elim (rest.core.marks x) [
+          | inl none ↦ inl none
+          | inr set ↦ inr (set.0, set.1, still_watched moves x rest set.2)
+        ];
+        each =
+            let now = sitting a [] in
+            let own = thread_after_duty moves account rest taken in
+            each_fits p (with_account p t account) m (silenced m t a moves) t a now rest.found
+            (leaves m t a moves silent) (with_account_other p t account)
+            (subst (λ (c : Account). Fits c (silenced m t a moves) t now) (with_account_same p t account) own)
+            rest.core.each;
+        beyond = λ u past k object.
+            moved_aside m.abstract (reference_of u k object) moves
+            (silent_aside m.abstract.references (ByThread u k) t moves silent
+            (λ h. other_thread u t k h (λ e. absurd (omega (arith, within, past, e)))))
+            ∙ rest.core.beyond u past k object;
+        gates =
+            λ x. gate_fits_kept m.actors t a (sitting a []) rest.found x (m.memory (Gate x)) (m.life x) refl
+            (rest.core.gates x);
+        dying = rest.core.dying;
+        cells = rest.core.cells;
+        cells_end = rest.core.cells_end;
+        cells_hold =
+            λ x i object. moved_aside m.abstract (cell_reference x i object) moves
+            (silent_aside m.abstract.references (cell_reference x i object).holder t moves silent (λ h. refl))
+            ∙ rest.core.cells_hold x i object;
+        uses =
+            λ u b is. written_actor (λ w c. UsesFit m.layout m.life w c.used) m.actors t a (sitting a []) rest.found
+            (rest.core.uses t a rest.found) rest.core.uses u b is;
+        blanks =
+            λ u b is. written_actor (λ w c. BlankFits m.layout m.memory w c.used c.agenda) m.actors t a (sitting a [])
+            rest.found (rest_blanks [] rest) rest.core.blanks u b is;
+        immortals_live = rest.core.immortals_live;
+        born_is = λ x is. rest.core.born_is x (sym (ap (is_among x) born) ∙ is);
+        born_has = λ x above is. ap (is_among x) born ∙ rest.core.born_has x above is;
+        born_once = subst (λ (l : List ℕ). (x : ℕ) → count_by (λ y. y == x) l ≤ 1) (sym born) rest.core.born_once;
+        closed_is = λ x is. rest.core.closed_is x (sym (ap (is_among x) closed) ∙ is);
+        closed_has = λ x is. ap (is_among x) closed ∙ rest.core.closed_has x is;
+        once = subst (λ (l : List ℕ). AllPairs (λ x y. x ≢ y) l) (sym closed) rest.core.once;
+        kinds = λ x born.
+            rest.core.kinds x born ∙ ap (λ (k : ℕ → Kind). kind_number (k x))
+            (sym (silent_kinds m.abstract t moves silent));
+        kind_words = rest.core.kind_words;
+        immortal_words = rest.core.immortal_words;
+        resources = λ x.
+            subst (ResourcesFit (m.life x)) (same_resources m t a (sitting a []) x rest.found refl (λ f few.
+            let none : sum_by f a.agenda ≡ 0 = ap (sum_by f) rest.agenda in omega (arith, none)))
+            (rest.core.resources x);
+      }

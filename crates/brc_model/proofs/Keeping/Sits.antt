@@ -1,5 +1,5 @@
 -- A thread at rest takes up duties, and the core invariant holds with its new agenda.
-use Rattle.std.proofs.Common.{◌≡◌, ℕ, true, List, [], ◌∷◌, Some, refl, sym, ap, ◌∙◌, subst, arith}
+use Rattle.std.proofs.Common.{◌≡◌, ℕ, true, List, [], ◌∷◌, Some, refl, sym, ap, ◌∙◌, subst, arith, false}
 use Rattle.std.specs.Prelude.{slice_get, slice_set, sum_by}
 use Rattle.std.proofs.lemmas.Bool.{false≢true}
 use Rattle.std.proofs.lemmas.List.{set-set}
@@ -18,6 +18,8 @@ use Rattle.brc_model.proofs.Objects.Weights.{weight-set}
 use Rattle.brc_model.proofs.Objects.Finalisers.{list_weight}
 use Rattle.brc_model.specs.Counting.{with_account}
 use Rattle.brc_model.proofs.Keeping.Replaced.{replaced_core}
+use Rattle.brc_model.proofs.Keeping.Weightless.{weighs_any, weightless}
+use Rattle.std.specs.List.{list_any}
 
 -- The thread with another agenda.
 abbrev pub sitting : Actor → List Duty → Actor
@@ -43,12 +45,7 @@ pub record Sits (m : Machine) (t : ℕ) (a : Actor) (agenda : List Duty) (accoun
   pub behind : BehindOf (with_actor m t (sitting a agenda)) t agenda
   pub locks : LocksFit account m t (sitting a agenda)
   pub fits : Agenda a.used Running agenda
-  pub hands : (x : ℕ) → finalised agenda x ≡ 0
-  pub no_waits : (x : ℕ) → sum_by (waits x) agenda ≡ 0
-  pub no_carries : (x : ℕ) → sum_by (carries x) agenda ≡ 0
-  pub no_merges : (x : ℕ) → sum_by (merges x) agenda ≡ 0
-  pub no_decides : (x : ℕ) → sum_by (decides x) agenda ≡ 0
-  pub no_looks : (x : ℕ) → sum_by (looks x) agenda ≡ 0
+  pub light : list_any weighs_any agenda ≡ false
 
 -- The thread runs and has nothing to do.
 pub record AtRest (p : Accounts) (n : ℕ) (m : Machine) (t : ℕ) (a : Actor) : Type 0 where
@@ -64,44 +61,42 @@ same_weight f actors t a agenda found none weightless =
     let before : sum_by f a.agenda ≡ 0 = ap (sum_by f) none in
     omega (arith, weight-set f actors t a (sitting a agenda) found, before, weightless)
 
-sitting_fits : (p : Accounts) (n : ℕ) (m : Machine) (t : ℕ) (a : Actor) (agenda : List Duty)
-    (account : Account)
-    → AtRest p n m t a → Sits m t a agenda account
-    → Fits account (with_actor m t (sitting a agenda)) t (sitting a agenda)
-sitting_fits p n m t a agenda account rest sits =
-    let old = (rest.core.each t a rest.found).0 in
-    let none : (x : ℕ) → finalised a.agenda x ≡ finalised agenda x =
-    λ x. ap (λ (l : List Duty). finalised l x) rest.agenda ∙ sym (sits.hands x) in (
-      record {
-        word = old.word;
-        holds = sits.holds;
-        bounded = sits.bounded;
-        exited = λ e. sits.exited (sym (ap (λ (s : Status). exits s agenda) rest.running) ∙ e);
-        head_fits = sits.knows;
-        behind = sits.behind;
-        chain =
-            record {
-              chained = old.chain.chained;
-              linked = old.chain.linked;
-              once = λ x. omega (arith, old.chain.once x, none x);
-            };
-        locks = sits.locks;
-        lent = old.lent;
-      },
-      subst (λ (s : Status). AgendaFits (sitting a agenda) s) (sym rest.running) sits.fits,
-      sits.aside,
-    )
+module _ {p : Accounts} {n : ℕ} {m : Machine} {t : ℕ} {a : Actor} where
+  sitting_fits : (agenda : List Duty) (account : Account) → AtRest p n m t a → Sits m t a agenda account
+      → Fits account (with_actor m t (sitting a agenda)) t (sitting a agenda)
+  sitting_fits agenda account rest sits =
+      let old = (rest.core.each t a rest.found).0 in
+      let none : (x : ℕ) → finalised a.agenda x ≡ finalised agenda x =
+      λ x. ap (λ (l : List Duty). finalised l x) rest.agenda ∙ sym (weightless x agenda sits.light).hands in (
+        record {
+          word = old.word;
+          holds = sits.holds;
+          bounded = sits.bounded;
+          exited = λ e. sits.exited (sym (ap (λ (s : Status). exits s agenda) rest.running) ∙ e);
+          head_fits = sits.knows;
+          behind = sits.behind;
+          chain =
+              record {
+                chained = old.chain.chained;
+                linked = old.chain.linked;
+                once = λ x. omega (arith, old.chain.once x, none x);
+              };
+          locks = sits.locks;
+          lent = old.lent;
+        },
+        subst (λ (s : Status). AgendaFits (sitting a agenda) s) (sym rest.running) sits.fits,
+        sits.aside,
+      )
 
--- All unused rows of a thread at rest are blank, whatever it takes up.
-pub rest_blanks : (p : Accounts) (n : ℕ) (m : Machine) (t : ℕ) (a : Actor) (agenda : List Duty)
-    → AtRest p n m t a → BlankFits m.layout m.memory t a.used agenda
-rest_blanks p n m t a agenda rest =
-    let old : BlankFits m.layout m.memory t a.used [] =
-    subst (λ (l : List Duty). BlankFits m.layout m.memory t a.used l) rest.agenda (rest.core.blanks t a rest.found) in
-    record {
-      kinds = λ x block past none. old.kinds x block past refl;
-      slots = λ x block past none. old.slots x block past refl;
-    }
+  -- All unused rows of a thread at rest are blank, whatever it takes up.
+  pub rest_blanks : (agenda : List Duty) → AtRest p n m t a → BlankFits m.layout m.memory t a.used agenda
+  rest_blanks agenda rest =
+      let old : BlankFits m.layout m.memory t a.used [] =
+      subst (λ (l : List Duty). BlankFits m.layout m.memory t a.used l) rest.agenda (rest.core.blanks t a rest.found) in
+      record {
+        kinds = λ x block past none. old.kinds x block past refl;
+        slots = λ x block past none. old.slots x block past refl;
+      }
 
 -- The work that a thread takes up weighs nothing, so the thread weighs what it weighed before.
 taken_weight : (f : Duty → ℕ) (a : Actor) (agenda : List Duty) → a.agenda ≡ [] → sum_by f agenda ≡ 0
@@ -109,27 +104,27 @@ taken_weight : (f : Duty → ℕ) (a : Actor) (agenda : List Duty) → a.agenda 
 taken_weight f a agenda none weightless =
     let before : sum_by f a.agenda ≡ 0 = ap (sum_by f) none in omega (arith, before, weightless)
 
--- Taking up work that meets its condition keeps the core invariant.
-pub sits_core : (p : Accounts) (n : ℕ) (m : Machine) (t : ℕ) (a : Actor) (agenda : List Duty)
-    (account : Account)
-    → AtRest p n m t a → Sits m t a agenda account
-    → CoreInvariant (with_account p t account) n (with_actor m t (sitting a agenda))
-sits_core p n m t a agenda account rest sits =
-    replaced_core p n m t a (sitting a agenda) account rest.core rest.found (record {
-      fits = sitting_fits p n m t a agenda account rest sits;
-      used = refl;
-      locked = refl;
-      lent = refl;
-      blanks = rest_blanks p n m t a agenda rest;
-      waits = λ x. taken_weight (waits x) a agenda rest.agenda (sits.no_waits x);
-      carries = λ x. taken_weight (carries x) a agenda rest.agenda (sits.no_carries x);
-      merges = λ x. taken_weight (merges x) a agenda rest.agenda (sits.no_merges x);
-      decides = λ x. taken_weight (decides x) a agenda rest.agenda (sits.no_decides x);
-      looks = λ x. taken_weight (looks x) a agenda rest.agenda (sits.no_looks x);
-      finalises = λ x f few.
-          taken_weight f a agenda rest.agenda (omega (arith, list_weight x f few agenda, sits.hands x));
-      scans = λ x scanned. absurd (false≢true (sym (ap (scans x) rest.agenda) ∙ scanned));
-    })
+module _ {p : Accounts} {n : ℕ} {m : Machine} {t : ℕ} {a : Actor} where
+  -- Taking up work that meets its condition keeps the core invariant.
+  pub sits_core : (agenda : List Duty) (account : Account) → AtRest p n m t a → Sits m t a agenda account
+      → CoreInvariant (with_account p t account) n (with_actor m t (sitting a agenda))
+  sits_core agenda account rest sits =
+      let none = λ (x : ℕ). weightless x agenda sits.light in
+      replaced_core t a (sitting a agenda) account rest.core rest.found (record {
+        fits = sitting_fits agenda account rest sits;
+        used = refl;
+        locked = refl;
+        lent = refl;
+        blanks = rest_blanks agenda rest;
+        waits = λ x. taken_weight (waits x) a agenda rest.agenda (none x).apart.waiting;
+        carries = λ x. taken_weight (carries x) a agenda rest.agenda (none x).apart.carried;
+        merges = λ x. taken_weight (merges x) a agenda rest.agenda (none x).apart.merging;
+        decides = λ x. taken_weight (decides x) a agenda rest.agenda (none x).apart.deciding;
+        looks = λ x. taken_weight (looks x) a agenda rest.agenda (none x).looks;
+        finalises = λ x f few.
+            taken_weight f a agenda rest.agenda (omega (arith, list_weight x f few agenda, (none x).hands));
+        scans = λ x scanned. absurd (false≢true (sym (ap (scans x) rest.agenda) ∙ scanned));
+      })
 
 -- ---- taking up a duty and doing it is one step
 

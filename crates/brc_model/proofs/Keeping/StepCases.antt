@@ -35,10 +35,10 @@ pub record ShowsSteps (Q : ℕ → Machine → Machine → Type 0) (n : ℕ) : T
   pub does : (p : Accounts) (t : ℕ) (m : Machine) (a : Actor) (d : Duty) (rest : List Duty) → Doing p n m t a d rest
       → Q t m (done_by m t a d rest)
 
--- The premise of the lemmas about one duty.
-pub at_duty : {p : Accounts} {n : ℕ} {m : Machine} {t : ℕ} {a : Actor} {d : Duty} {rest : List Duty}
-    → Doing p n m t a d rest → AtDuty p n m t a d rest
-at_duty doing = record { core = doing.kept.core; found = doing.found; agenda = doing.agenda }
+module _ {p : Accounts} {n : ℕ} {m : Machine} {t : ℕ} {a : Actor} {d : Duty} {rest : List Duty} where
+  -- The premise of the lemmas about one duty.
+  pub at_duty : Doing p n m t a d rest → AtDuty p n m t a d rest
+  at_duty doing = record { core = doing.kept.core; found = doing.found; agenda = doing.agenda }
 
 action_shows : {Q : ℕ → Machine → Machine → Type 0} {p : Module} {n : ℕ} → ShowsSteps Q n
     → (m : StepMachine) (t : ℕ) (a : StepActor) (exit : Exit) (x : Action) → (whole : CodeInvariant p n m)

@@ -31,9 +31,8 @@ work_put_aside p n m t a d counts found is waits =
     let small : AreSmall (row_count m.layout) (d ∷ []) =
     subst (AreSmall (row_count m.layout)) is (counts.ranges.each t a found) in
     record {
-      kept = put_aside p n m t a d counts.kept found is waits;
-      ranges =
-          working_ranges n m t a [] (d ∷ a.aside) counts.ranges found tt (small.0, counts.ranges.aside t a found);
+      kept = put_aside t a d counts.kept found is waits;
+      ranges = working_ranges n m t a [] (d ∷ a.aside) counts.ranges found tt (small.0, counts.ranges.aside t a found);
       no_flight = counts.no_flight;
     }
 
@@ -51,8 +50,7 @@ work_taken_back p n m t a before after d counts found none is =
     split_small (row_count m.layout) before after d
     (subst (AreSmall (row_count m.layout)) is (counts.ranges.aside t a found)) in
     record {
-      kept = take_back p n m t a before after d counts.kept found none is;
-      ranges =
-          working_ranges n m t a (d ∷ []) (before ++ after) counts.ranges found (small.0, tt) small.1;
+      kept = take_back t a before after d counts.kept found none is;
+      ranges = working_ranges n m t a (d ∷ []) (before ++ after) counts.ranges found (small.0, tt) small.1;
       no_flight = counts.no_flight;
     }

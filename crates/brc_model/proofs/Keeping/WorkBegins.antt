@@ -1,25 +1,23 @@
 -- A ready thread begins to retain an object, or to release one, while other duties are put aside.
-use Rattle.std.proofs.Common.{◌≡◌, ℕ, ◌+◌, ◌<◌, ◌≤◌, Bool, cond, true, false, List, [], ◌∷◌, inl, inr, refl, sym, ap, ◌∙◌, subst, arith}
-use Rattle.std.specs.Prelude.{◌==◌, ◌&&◌, count_by, sum_by}
+use Rattle.std.proofs.Common.{◌≡◌, ℕ, ◌+◌, ◌<◌, ◌≤◌, Bool, true, false, List, [], ◌∷◌, inl, inr, refl, sym, ap, ◌∙◌, subst, arith}
+use Rattle.std.specs.Prelude.{◌==◌, ◌&&◌, count_by, sum_by, ◌||◌}
 use Rattle.std.proofs.lemmas.Bool.{false≢true}
 use Rattle.std.proofs.lemmas.Bool.Decides.{eqb_tells}
 use Rattle.std.proofs.lemmas.List.Sums.{sum_by-cons}
 use Rattle.brc_model.specs.declared.duty.Holding.{Holding}
 use Rattle.brc_model.specs.declared.duty.Holding.TheVariants.{ByVariable, AsCaller, InFlight}
 use Rattle.brc_model.specs.declared.duty.Duty.{Duty}
-use Rattle.brc_model.specs.declared.duty.Duty.TheVariants.{RetainLoad, ReleaseLoad}
+use Rattle.brc_model.specs.declared.duty.Duty.TheVariants.{RetainLoad, ReleaseLoad, Settle, Leave, Scan, Finish}
 use Rattle.brc_model.specs.declared.actor.Status.TheVariants.{Running}
-use Rattle.brc_model.specs.declared.layout.Layout.{Layout}
 use Rattle.brc_model.specs.AbstractState.{same_holding}
-use Rattle.brc_model.specs.Layout.{row_count, IsCounted}
+use Rattle.brc_model.specs.Layout.{row_count}
 use Rattle.brc_model.specs.Machine.{Actor, Machine, with_actor}
 use Rattle.brc_model.specs.References.{held, one_if, reference_of}
-use Rattle.brc_model.specs.RowInvariant.{waits, carries, merges, decides}
-use Rattle.brc_model.specs.Accounts.{Account, Accounts, extra, lacks, extra_aside, lacks_aside, HoldsAt, most_lent, IsBounded}
+use Rattle.brc_model.specs.Accounts.{Account, Accounts, extra, lacks, extra_aside, lacks_aside, HoldsAt, IsBounded}
 use Rattle.brc_model.specs.Knowledge.{IsBacked, ByReference, ByItem, HeadFits}
-use Rattle.brc_model.specs.OpenWork.{is_about, is_piece, is_finalising, has_leave, Agenda, IsSettled}
+use Rattle.brc_model.specs.OpenWork.{is_about, is_piece, has_leave, Agenda, IsSettled}
 use Rattle.brc_model.specs.Gates.{LocksFit}
-use Rattle.brc_model.specs.Invariant.{looks, CoreInvariant}
+use Rattle.brc_model.specs.Invariant.{CoreInvariant}
 use Rattle.brc_model.specs.Ranges.{IsSmall}
 use Rattle.brc_model.specs.Counting.{Counts, with_account, with_one_more, with_one_less, working, IsReady, HasNoneAbout, IsAtHand}
 use Rattle.brc_model.proofs.Keeping.Locks.{more_locks, less_locks}
@@ -33,58 +31,58 @@ use Rattle.brc_model.proofs.Keeping.Replaced.{flight_with}
 use Rattle.brc_model.proofs.Keeping.Sits.{AtRest, Sits}
 use Rattle.brc_model.proofs.Keeping.Kept.{kept_sits}
 use Rattle.brc_model.proofs.Keeping.WorkAside.{working_ranges}
+use Rattle.brc_model.proofs.Keeping.Weightless.{weighs_any}
+use Rattle.std.specs.List.{list_any}
+use Rattle.brc_model.proofs.Keeping.OneReference.{bounded_more, bounded_less}
 
 -- ---- a ready thread
 
--- A ready thread is at rest, whatever it has put aside.
-pub ready_rests : (p : Accounts) (n : ℕ) (m : Machine) (t : ℕ) (a : Actor) → CoreInvariant p n m → IsReady m t a
-    → AtRest p n m t a
-ready_rests p n m t a core ready =
-    record { core = core; found = ready.found; agenda = ready.agenda; running = ready.running }
+module _ {p : Accounts} {n : ℕ} {m : Machine} {t : ℕ} {a : Actor} where
+  -- A ready thread is at rest, whatever it has put aside.
+  pub ready_rests : CoreInvariant p n m → IsReady m t a → AtRest p n m t a
+  ready_rests core ready = record { core = core; found = ready.found; agenda = ready.agenda; running = ready.running }
 
--- A ready thread's account and the bag differ by the duties put aside alone.
-pub ready_holds : (p : Accounts) (n : ℕ) (m : Machine) (t : ℕ) (a : Actor) → CoreInvariant p n m → IsReady m t a
-    → HoldsAt m.abstract.references t (p t) [] a.aside
-ready_holds p n m t a core ready =
-    subst (λ (l : List Duty). HoldsAt m.abstract.references t (p t) l a.aside) ready.agenda
-    (core.each t a ready.found).0.holds
+  -- A ready thread's account and the bag differ by the duties put aside alone.
+  pub ready_holds : CoreInvariant p n m → IsReady m t a → HoldsAt m.abstract.references t (p t) [] a.aside
+  ready_holds core ready =
+      subst (λ (l : List Duty). HoldsAt m.abstract.references t (p t) l a.aside) ready.agenda
+      (core.each t a ready.found).0.holds
 
--- The bag has what the account says of an object that no open work is about.
-pub none_about_held : (p : Accounts) (n : ℕ) (m : Machine) (t : ℕ) (a : Actor) (x : ℕ) (k : Holding)
-    → CoreInvariant p n m → IsReady m t a → HasNoneAbout a x
-    → held (reference_of t k x) m.abstract.references ≡ p t k x
-none_about_held p n m t a x k core ready alone =
-    omega (
-      arith,
-      (ready_holds p n m t a core ready).each k x,
-      lacks_counted a.aside k x,
-      extra_counted a.aside k x,
-      gives_counted m t a a.aside x (core.each t a ready.found).2.waits,
-      alone,
-    )
+  -- The bag has what the account says of an object that no open work is about.
+  pub none_about_held : (x : ℕ) (k : Holding) → CoreInvariant p n m → IsReady m t a → HasNoneAbout a x
+      → held (reference_of t k x) m.abstract.references ≡ p t k x
+  none_about_held x k core ready alone =
+      omega (
+        arith,
+        (ready_holds core ready).each k x,
+        lacks_counted a.aside k x,
+        extra_counted a.aside k x,
+        gives_counted m t a a.aside x (core.each t a ready.found).2.waits,
+        alone,
+      )
 
--- An object that the thread holds as the caller has a row.
-pub held_row : (p : Accounts) (n : ℕ) (m : Machine) (t : ℕ) (a : Actor) (x : ℕ) → CoreInvariant p n m → IsReady m t a
-    → HasNoneAbout a x → 1 ≤ p t AsCaller x → x < row_count m.layout
-held_row p n m t a x core ready alone some =
-    referenced_small p n m x core (omega (
-      arith,
-      none_about_held p n m t a x AsCaller core ready alone,
-      held-le-references_to (reference_of t AsCaller x) m.abstract.references,
-      some,
-    ))
+  -- An object that the thread holds as the caller has a row.
+  pub held_row : (x : ℕ) → CoreInvariant p n m → IsReady m t a → HasNoneAbout a x → 1 ≤ p t AsCaller x
+      → x < row_count m.layout
+  held_row x core ready alone some =
+      referenced_small x core (omega (
+        arith,
+        none_about_held x AsCaller core ready alone,
+        held-le-references_to (reference_of t AsCaller x) m.abstract.references,
+        some,
+      ))
 
--- An object that the thread holds as the caller, or may borrow, is backed.
-pub at_hand_backed : (p : Accounts) (n : ℕ) (m : Machine) (t : ℕ) (a : Actor) (x : ℕ) → CoreInvariant p n m
-    → IsReady m t a → HasNoneAbout a x → IsAtHand (p t) m a x → IsBacked m t a x
-at_hand_backed p n m t a x core ready alone (inl some) =
-    ByReference AsCaller (omega (arith, none_about_held p n m t a x AsCaller core ready alone, some))
-at_hand_backed p n m t a x core ready alone (inr item) = ByItem item.list item.cell item.locked item.word
+  -- An object that the thread holds as the caller, or may borrow, is backed.
+  pub at_hand_backed : (x : ℕ) → CoreInvariant p n m → IsReady m t a → HasNoneAbout a x → IsAtHand (p t) m a x
+      → IsBacked m t a x
+  at_hand_backed x core ready alone (inl some) =
+      ByReference AsCaller (omega (arith, none_about_held x AsCaller core ready alone, some))
+  at_hand_backed x core ready alone (inr item) = ByItem item.list item.cell item.locked item.word
 
--- A backed object has a row.
-pub backed_row : (p : Accounts) (n : ℕ) (m : Machine) (t : ℕ) (a : Actor) (x : ℕ) → CoreInvariant p n m
-    → IsBacked m t a x → x < row_count m.layout
-backed_row p n m t a x core backed = referenced_small p n m x core (backed_referenced p n m t a x core backed)
+module _ {p : Accounts} {n : ℕ} {m : Machine} where
+  -- A backed object has a row.
+  pub backed_row : (t : ℕ) (a : Actor) (x : ℕ) → CoreInvariant p n m → IsBacked m t a x → x < row_count m.layout
+  backed_row t a x core backed = referenced_small x core (backed_referenced p n m t a x core backed)
 
 -- New work leaves what backs an object.
 pub backed_still : (m : Machine) (t : ℕ) (a : Actor) (x : ℕ) (d : Duty) → IsBacked m t a x
@@ -98,15 +96,7 @@ backed_still m t a x d (ByItem list cell locked word) = ByItem list cell locked 
 pub record BeginsWork (x : ℕ) (d : Duty) : Type 0 where
   pub about : (y : ℕ) → is_about y d ≡ (x == y)
   pub piece : is_piece d ≡ true
-  pub fits : (used : ℕ) → Agenda used Running (d ∷ [])
-  pub stays : has_leave (d ∷ []) ≡ false
-  pub settled : (head : ℕ) → IsSettled head (d ∷ [])
-  pub hands : (y : ℕ) → is_finalising d y ≡ false
-  pub waits : (y : ℕ) → waits y d ≡ 0
-  pub carries : (y : ℕ) → carries y d ≡ 0
-  pub merges : (y : ℕ) → merges y d ≡ 0
-  pub decides : (y : ℕ) → decides y d ≡ 0
-  pub looks : (y : ℕ) → looks y d ≡ 0
+  pub light : weighs_any d ≡ false
 
 -- What the new work has to show, with the thread's account from then on.
 pub record TakesUp (m : Machine) (t : ℕ) (a : Actor) (x : ℕ) (d : Duty) (account : Account) : Type 0 where
@@ -135,78 +125,56 @@ apart_from a x d begins alone few y =
           omega (arith, this, none, few y)
     ]
 
--- The weight of an agenda of one duty that weighs nothing.
-pub one_weight : (f : Duty → ℕ) (d : Duty) → f d ≡ 0 → sum_by f (d ∷ []) ≡ 0
-one_weight f d none = omega (arith, sum_by-cons f d [], none)
+-- A piece of work fits any thread that runs. It is no exit, and any chain fits it.
+record PieceFits (d : Duty) : Type 0 where
+  fits : (used : ℕ) → Agenda used Running (d ∷ [])
+  stays : has_leave (d ∷ []) ≡ false
+  settled : (head : ℕ) → IsSettled head (d ∷ [])
 
--- A ready thread takes up work about a row that none of its open work is about.
-pub work_begins : (p : Accounts) (n : ℕ) (m : Machine) (t : ℕ) (a : Actor) (x : ℕ) (d : Duty) (account : Account)
-    → Counts p n m → IsReady m t a → HasNoneAbout a x → TakesUp m t a x d account
-    → Counts (with_account p t account) n (with_actor m t (working a (d ∷ []) a.aside))
-work_begins p n m t a x d account counts ready alone new =
-    let core = counts.kept.core in
-    let begins = new.begins in
-    let old = (core.each t a ready.found).2 in
-    let sits : Sits m t a (d ∷ []) account = record {
-      holds = record { each = new.holds };
-      bounded = new.bounded;
-      exited = λ e. absurd (false≢true (sym begins.stays ∙ e));
-      aside = record {
-        waits = still_wait m t a (d ∷ []) a.aside a.aside old.waits;
-        apart = apart_from a x d begins alone (λ y. omega (arith, old.apart y));
-        pieces = inr begins.piece;
-      };
-      knows = new.knows;
-      behind = tt;
-      locks = new.locks;
-      fits = begins.fits a.used;
-      hands = λ y. ap (λ (b : Bool). cond b 1 0) (begins.hands y);
-      no_waits = λ y. one_weight (waits y) d (begins.waits y);
-      no_carries = λ y. one_weight (carries y) d (begins.carries y);
-      no_merges = λ y. one_weight (merges y) d (begins.merges y);
-      no_decides = λ y. one_weight (decides y) d (begins.decides y);
-      no_looks = λ y. one_weight (looks y) d (begins.looks y);
-    } in
-    record {
-      kept =
-          kept_sits p n m t a (d ∷ []) account counts.kept (ready_rests p n m t a core ready) sits
-          (begins.settled a.head);
-      ranges =
-          working_ranges n m t a (d ∷ []) a.aside counts.ranges ready.found (new.small, tt)
-          (counts.ranges.aside t a ready.found);
-      no_flight = flight_with p t account counts.no_flight new.no_flight;
-    }
+piece_fits : (d : Duty) → is_piece d ≡ true → PieceFits d
+piece_fits Settle piece = absurd cc
+piece_fits (Leave i n) piece = absurd cc
+piece_fits (Scan i n) piece = absurd cc
+piece_fits Finish piece = absurd cc
+piece_fits _ piece = record { fits = λ used. refl; stays = refl; settled = λ head. tt }
+
+-- An agenda of one duty that weighs nothing.
+pub one_light : (d : Duty) → weighs_any d ≡ false → list_any weighs_any (d ∷ []) ≡ false
+one_light d light = ap (λ (b : Bool). b || false) light
+
+module _ {p : Accounts} {n : ℕ} {m : Machine} {t : ℕ} {a : Actor} where
+  -- A ready thread takes up work about a row that none of its open work is about.
+  pub work_begins : (x : ℕ) (d : Duty) (account : Account) → Counts p n m → IsReady m t a → HasNoneAbout a x
+      → TakesUp m t a x d account → Counts (with_account p t account) n (with_actor m t (working a (d ∷ []) a.aside))
+  work_begins x d account counts ready alone new =
+      let core = counts.kept.core in
+      let begins = new.begins in
+      let piece = piece_fits d begins.piece in
+      let old = (core.each t a ready.found).2 in
+      let sits : Sits m t a (d ∷ []) account = record {
+        holds = record { each = new.holds };
+        bounded = new.bounded;
+        exited = λ e. absurd (false≢true (sym piece.stays ∙ e));
+        aside = record {
+          waits = still_wait m t a (d ∷ []) a.aside a.aside old.waits;
+          apart = apart_from a x d begins alone (λ y. omega (arith, old.apart y));
+          pieces = inr begins.piece;
+        };
+        knows = new.knows;
+        behind = tt;
+        locks = new.locks;
+        fits = piece.fits a.used;
+        light = one_light d begins.light;
+      } in
+      record {
+        kept = kept_sits (d ∷ []) account counts.kept (ready_rests core ready) sits (piece.settled a.head);
+        ranges =
+            working_ranges n m t a (d ∷ []) a.aside counts.ranges ready.found (new.small, tt)
+            (counts.ranges.aside t a ready.found);
+        no_flight = flight_with p t account counts.no_flight new.no_flight;
+      }
 
 -- ---- accounts
-
--- With one reference more, a thread still holds at most `most_lent` to a counted object.
-pub more_bounded : (layout : Layout) (account : Account) (x : ℕ) → IsBounded layout account
-    → (IsCounted layout x → account AsCaller x < most_lent) → IsBounded layout (with_one_more account AsCaller x)
-more_bounded layout account x bounded few = record {
-  by_variable = λ depth v object. omega (arith, bounded.by_variable depth v object);
-  sixteen = λ depth v object past. omega (arith, bounded.sixteen depth v object past);
-  shallow = λ depth v object deep. omega (arith, bounded.shallow depth v object deep);
-  lent = λ object counted. elim (eqb_tells x object) [
-    | inl same ↦
-        let low = subst (λ (y : ℕ). IsCounted layout y → account AsCaller y < most_lent) same.1 few counted in
-        omega (arith, low, one_if_low (x == object))
-    | inr other ↦
-        let none : one_if (x == object) ≡ 0 = ap one_if other.0 in
-        omega (arith, bounded.lent object counted, none)
-  ];
-  in_flight = λ object. omega (arith, bounded.in_flight object);
-}
-
--- With one reference less, a thread holds no more than before.
-less_bounded : (layout : Layout) (account : Account) (x : ℕ) → IsBounded layout account
-    → IsBounded layout (with_one_less account AsCaller x)
-less_bounded layout account x bounded = record {
-  by_variable = λ depth v object. omega (arith, bounded.by_variable depth v object);
-  sixteen = λ depth v object past. omega (arith, bounded.sixteen depth v object past);
-  shallow = λ depth v object deep. omega (arith, bounded.shallow depth v object deep);
-  lent = λ object counted. omega (arith, bounded.lent object counted);
-  in_flight = λ object. omega (arith, bounded.in_flight object);
-}
 
 -- The account has the reference that it loses.
 has_one : (account : Account) (x : ℕ) (k : Holding) (object : ℕ) → 1 ≤ account AsCaller x
@@ -228,55 +196,24 @@ pub one_makes : (k : Holding) (y : ℕ) (d : Duty)
     → sum_by (λ (e : Duty). one_if (lacks e k y)) (d ∷ []) ≡ one_if (lacks d k y) + 0
 one_makes k y d = sum_by-cons (λ (e : Duty). one_if (lacks e k y)) d []
 
--- A retain can begin a piece of work, and so can a release.
-retain_begins : (x : ℕ) → BeginsWork x (RetainLoad x AsCaller)
-retain_begins x = record {
-  about = λ y. refl;
-  piece = refl;
-  fits = λ used. refl;
-  stays = refl;
-  settled = λ head. tt;
-  hands = λ y. refl;
-  waits = λ y. refl;
-  carries = λ y. refl;
-  merges = λ y. refl;
-  decides = λ y. refl;
-  looks = λ y. refl;
-}
-
-release_begins : (x : ℕ) → BeginsWork x (ReleaseLoad x AsCaller)
-release_begins x = record {
-  about = λ y. refl;
-  piece = refl;
-  fits = λ used. refl;
-  stays = refl;
-  settled = λ head. tt;
-  hands = λ y. refl;
-  waits = λ y. refl;
-  carries = λ y. refl;
-  merges = λ y. refl;
-  decides = λ y. refl;
-  looks = λ y. refl;
-}
-
 -- The invariant and the ranges hold after a ready thread begins to retain an object that it holds or may borrow.
 pub retains_begin : RetainsBegin
 retains_begin p n m t a x counts ready alone at_hand few =
     let core = counts.kept.core in
-    let holds = ready_holds p n m t a core ready in
+    let holds = ready_holds core ready in
     let bounded = (core.each t a ready.found).0.bounded in
-    let backed = at_hand_backed p n m t a x core ready alone at_hand in
-    work_begins p n m t a x (RetainLoad x AsCaller) (with_one_more (p t) AsCaller x) counts ready alone (record {
-      begins = retain_begins x;
+    let backed = at_hand_backed x core ready alone at_hand in
+    work_begins x (RetainLoad x AsCaller) (with_one_more (p t) AsCaller x) counts ready alone (record {
+      begins = record { about = λ y. refl; piece = refl; light = refl };
       no_flight = λ object. omega (arith, counts.no_flight t object);
       holds = λ k object. omega (arith, holds.each k object);
-      bounded = more_bounded m.layout (p t) x bounded few;
+      bounded = bounded_more m.layout (p t) x bounded few;
       locks =
           more_locks (p t) m t a (working a (RetainLoad x AsCaller ∷ []) a.aside) x (core.each t a ready.found).0.locks
           refl (λ k y. omega (arith, one_makes k y (RetainLoad x AsCaller)));
       knows = backed_still m t a x (RetainLoad x AsCaller) backed;
       small =
-          row_small (row_count m.layout) x (RetainLoad x AsCaller) (backed_row p n m t a x core backed)
+          row_small (row_count m.layout) x (RetainLoad x AsCaller) (backed_row t a x core backed)
           (λ y. refl) (omega arith);
     })
 
@@ -284,17 +221,16 @@ retains_begin p n m t a x counts ready alone at_hand few =
 pub releases_begin : ReleasesBegin
 releases_begin p n m t a x counts ready alone some may =
     let core = counts.kept.core in
-    let holds = ready_holds p n m t a core ready in
+    let holds = ready_holds core ready in
     let bounded = (core.each t a ready.found).0.bounded in
-    work_begins p n m t a x (ReleaseLoad x AsCaller) (with_one_less (p t) AsCaller x) counts ready alone (record {
-      begins = release_begins x;
+    work_begins x (ReleaseLoad x AsCaller) (with_one_less (p t) AsCaller x) counts ready alone (record {
+      begins = record { about = λ y. refl; piece = refl; light = refl };
       no_flight = λ object. omega (arith, counts.no_flight t object);
       holds = λ k object. omega (arith, holds.each k object, has_one (p t) x k object some);
-      bounded = less_bounded m.layout (p t) x bounded;
+      bounded = bounded_less m.layout (p t) x bounded;
       locks =
           less_locks (p t) m t a (working a (ReleaseLoad x AsCaller ∷ []) a.aside) x (core.each t a ready.found).0.locks
-          refl (λ k y. omega (arith, one_makes k y (ReleaseLoad x AsCaller)))
-          (omega (
+          refl (λ k y. omega (arith, one_makes k y (ReleaseLoad x AsCaller))) (omega (
             arith,
             one_makes AsCaller x (ReleaseLoad x AsCaller),
             lacks_counted a.aside AsCaller x,
@@ -302,6 +238,6 @@ releases_begin p n m t a x counts ready alone some may =
           )) may;
       knows = tt;
       small =
-          row_small (row_count m.layout) x (ReleaseLoad x AsCaller) (held_row p n m t a x core ready alone some)
+          row_small (row_count m.layout) x (ReleaseLoad x AsCaller) (held_row x core ready alone some)
           (λ y. refl) (omega arith);
     })

@@ -9,7 +9,6 @@ use Rattle.brc_model.specs.declared.duty.Duty.{Duty}
 use Rattle.brc_model.specs.declared.duty.Duty.TheVariants.{RetainStore, RetainAdd, ReleaseLoad, ReleaseStore, SharedLoad, SharedExchange, MergeLoad, MergeExchange, SettleCell, CellLoad, CellSwap, TakeSlot, CloseResource, LendSlot, ReturnSlot}
 use Rattle.brc_model.specs.declared.address.Address.TheVariants.{Local, Shared, Cell}
 use Rattle.brc_model.specs.Duties.{address_of, counts_locally}
-use Rattle.brc_model.specs.declared.actor.Status.TheVariants.{Gone}
 use Rattle.brc_model.specs.Machine.{Actor, Machine, is_running}
 use Rattle.brc_model.specs.Within.{Suits}
 use Rattle.brc_model.specs.RowInvariant.{carries, weight, Numbers, Phased, IsDefault, IsQueued, InOwned, InSwapped, InMerged, IsLive}
@@ -33,6 +32,7 @@ use Rattle.brc_model.specs.Ranges.{HasFewCells}
 use Rattle.brc_model.specs.Limits.{thread_limit, cell_limit, total_limit}
 use Rattle.std.proofs.lemmas.Bool.{cases_Bool}
 use Rattle.brc_model.specs.Layout.{row_count, block_of, is_immortal_row, IsCounted}
+use Rattle.brc_model.proofs.Stepping.FitsAfter.{NotGone}
 
 -- ---- the shared word of a live row
 
@@ -60,106 +60,106 @@ record NearBias (m : Machine) (x : ℕ) : Type 0 where
   some : 1 ≤ biased_part (m.memory (Shared x))
   state : phase_part (m.memory (Shared x)) ≢ 1
 
--- A live row with counts is counted, since an immortal row's local word is the immortal one.
-alive_counted : (p : Accounts) (n : ℕ) (m : Machine) (x : ℕ) → CoreInvariant p n m → Alive m x → IsCounted m.layout x
-alive_counted p n m x core alive = elim (cases_Bool (is_immortal_row m.layout x)) [
-  | inl immortal ↦
-      let word = core.immortal_words x immortal in
-      absurd (elim alive.live.mode [
-        | InOwned o ↦ omega (arith, o.low, word)
-        | InSwapped s ↦ omega (arith, s.local, word)
-        | InMerged s ↦ omega (arith, s.local, word)
-      ])
-  | inr counted ↦ counted
-]
+module _ {p : Accounts} {n : ℕ} {m : Machine} where
+  -- A live row with counts is counted, since an immortal row's local word is the immortal one.
+  alive_counted : (x : ℕ) → CoreInvariant p n m → Alive m x → IsCounted m.layout x
+  alive_counted x core alive = elim (cases_Bool (is_immortal_row m.layout x)) [
+    | inl immortal ↦
+        let word = core.immortal_words x immortal in
+        absurd (elim alive.live.mode [
+          | InOwned o ↦ omega (arith, o.low, word)
+          | InSwapped s ↦ omega (arith, s.local, word)
+          | InMerged s ↦ omega (arith, s.local, word)
+        ])
+    | inr counted ↦ counted
+  ]
 
-near_bias : (p : Accounts) (n : ℕ) (m : Machine) (x : ℕ) → CoreInvariant p n m → IsFew n m → Alive m x
-    → NearBias m x
-near_bias p n m x core few alive =
-    let says = live_few (block_of m.layout x) (numbers_of m x) alive.live in
-    record {
-      high =
-          omega (
-            arith,
-            alive.live.sum,
-            says.0,
-            references_few p n m x core few.cells (alive_counted p n m x core alive),
-            few.threads,
-          );
-      some = shared_range (block_of m.layout x) (numbers_of m x) alive.live;
-      state = says.1;
-    }
+  near_bias : (x : ℕ) → CoreInvariant p n m → IsFew n m → Alive m x → NearBias m x
+  near_bias x core few alive =
+      let says = live_few (block_of m.layout x) (numbers_of m x) alive.live in
+      record {
+        high =
+            omega (
+              arith,
+              alive.live.sum,
+              says.0,
+              references_few x core few.cells (alive_counted x core alive),
+              few.threads,
+            );
+        some = shared_range (block_of m.layout x) (numbers_of m x) alive.live;
+        state = says.1;
+      }
 
 -- ---- the word that a duty finds
 
-release_suits : (p : Accounts) (n : ℕ) (m : Machine) (t : ℕ) (a : Actor) (x : ℕ) (h : Holding) (rest : List Duty)
-    → AtDuty p n m t a (ReleaseLoad x h) rest → (a.status ≡ Gone → ⊥)
-    → is_running a.status ≡ true → owner_part (m.memory (Local x)) ≡ t + 1 → 1 ≤ local_part (m.memory (Local x))
-release_suits p n m t a x h rest here alive runs owner = elim (cases_Bool (is_immortal_row m.layout x)) [
-  | inl immortal ↦ omega (arith, here.core.immortal_words x immortal)
-  | inr counted ↦
-      let living = release_alive p n m t a x h rest counted here in
-      let counts : counts_locally t (is_running a.status) (m.memory (Local x)) ≡ true =
-      ap (λ (b : Bool). b && (owner_part (m.memory (Local x)) == t + 1)) runs
-      ∙ eq-eqb (owner_part (m.memory (Local x))) (t + 1) owner in
-      count_above p n m t x a here.core here.found (counts_owner m t a x counts living)
-      (weight_here p n m t x a (ReleaseLoad x h) rest here (eq-eqb x x refl) refl) living
-]
+module _ {p : Accounts} {n : ℕ} {m : Machine} {t : ℕ} {a : Actor} {rest : List Duty} where
+  release_suits : (x : ℕ) (h : Holding) → AtDuty p n m t a (ReleaseLoad x h) rest → NotGone a
+      → is_running a.status ≡ true → owner_part (m.memory (Local x)) ≡ t + 1 → 1 ≤ local_part (m.memory (Local x))
+  release_suits x h here alive runs owner = elim (cases_Bool (is_immortal_row m.layout x)) [
+    | inl immortal ↦ omega (arith, here.core.immortal_words x immortal)
+    | inr counted ↦
+        let living = release_alive x h counted here in
+        let counts : counts_locally t (is_running a.status) (m.memory (Local x)) ≡ true =
+        ap (λ (b : Bool). b && (owner_part (m.memory (Local x)) == t + 1)) runs
+        ∙ eq-eqb (owner_part (m.memory (Local x))) (t + 1) owner in
+        count_above t x a here.core here.found (counts_owner m t a x counts living)
+        (weight_here x here (eq-eqb x x refl) refl) living
+  ]
 
 -- A cell's word is at most the number of all rows.
 cell_low : (word rows : ℕ) → ((y : ℕ) → word ≡ suc y → y < rows) → word ≤ rows
 cell_low zero rows low = omega arith
 cell_low (suc y) rows low = omega (arith, low y refl)
 
-pub duty_suits : (p : Accounts) (n : ℕ) (m : Machine) (t : ℕ) (a : Actor) (d : Duty) (rest : List Duty)
-    → AtDuty p n m t a d rest → (a.status ≡ Gone → ⊥) → IsFew n m
-    → Suits t (is_running a.status) (row_count m.layout) d (m.memory (address_of m.layout t a.head d))
-duty_suits p n m t a (RetainStore x h w) rest here alive few =
-    let (pos, backed, owns, same, some, low) = head_of p n m t a (RetainStore x h w) rest here in low
-duty_suits p n m t a (RetainAdd x h) rest here alive few =
-    let fits = head_of p n m t a (RetainAdd x h) rest here in
-    let near = near_bias p n m x here.core few (alive_backed p n m t a x here.core fits.0 fits.1) in
-    (record { low = omega (arith, near.high); state = near.state }, omega (arith, near.high))
-duty_suits p n m t a (ReleaseLoad x h) rest here alive few = release_suits p n m t a x h rest here alive
-duty_suits p n m t a (ReleaseStore x w) rest here alive few = (head_of p n m t a (ReleaseStore x w) rest here).3
-duty_suits p n m t a (SharedLoad x r) rest here alive few =
-    let near = near_bias p n m x here.core few (load_alive p n m t a x r rest here) in
-    (record { low = omega (arith, near.high); state = near.state }, near.some)
-duty_suits p n m t a (SharedExchange x r w) rest here alive few = λ same.
-    let near = near_bias p n m x here.core few (exchange_alive p n m t a x w r rest here) in
-    let word : biased_part (m.memory (Shared x)) ≡ biased_part w = ap biased_part same in (
-      record { low = omega (arith, near.high, word); state = λ e. near.state (ap phase_part same ∙ e) },
-      omega (arith, near.some, word),
-    )
-duty_suits p n m t a (MergeLoad x c r) rest here alive few =
-    let near = near_bias p n m x here.core few (merge_load_alive p n m t a x c r rest here) in (
-      (head_of p n m t a (MergeLoad x c r) rest here).1,
-      record { low = omega (arith, near.high); state = near.state },
-      omega (arith, near.high, carried_at_load p n m t a x c r rest here),
-    )
-duty_suits p n m t a (MergeExchange x c w r) rest here alive few = (
-  (head_of p n m t a (MergeExchange x c w r) rest here).1,
-  λ same.
-      let near = near_bias p n m x here.core few (merge_alive p n m t a x c w r rest here) in
+module _ {p : Accounts} {n : ℕ} {m : Machine} {t : ℕ} {a : Actor} {rest : List Duty} where
+  pub duty_suits : (d : Duty) → AtDuty p n m t a d rest → NotGone a → IsFew n m
+      → Suits t (is_running a.status) (row_count m.layout) d (m.memory (address_of m.layout t a.head d))
+  duty_suits (RetainStore x h w) here alive few =
+      let (pos, backed, owns, same, some, low) = head_of here in low
+  duty_suits (RetainAdd x h) here alive few =
+      let fits = head_of here in
+      let near = near_bias x here.core few (alive_backed t a x here.core fits.0 fits.1) in
+      (record { low = omega (arith, near.high); state = near.state }, omega (arith, near.high))
+  duty_suits (ReleaseLoad x h) here alive few = release_suits x h here alive
+  duty_suits (ReleaseStore x w) here alive few = (head_of here).3
+  duty_suits (SharedLoad x r) here alive few =
+      let near = near_bias x here.core few (load_alive x r here) in
+      (record { low = omega (arith, near.high); state = near.state }, near.some)
+  duty_suits (SharedExchange x r w) here alive few = λ same.
+      let near = near_bias x here.core few (exchange_alive x w r here) in
       let word : biased_part (m.memory (Shared x)) ≡ biased_part w = ap biased_part same in (
         record { low = omega (arith, near.high, word); state = λ e. near.state (ap phase_part same ∙ e) },
-        omega (arith, near.high, word, carried_is p n m t a x c w r rest here),
-      ),
-)
-duty_suits p n m t a (SettleCell x i k) rest here alive few =
-    cell_low (m.memory (Cell x i)) (row_count m.layout) (λ y is. cell_small p n m x i y here.core is)
-duty_suits p n m t a (CellLoad x i) rest here alive few =
-    cell_low (m.memory (Cell x i)) (row_count m.layout) (λ y is. cell_small p n m x i y here.core is)
-duty_suits p n m t a (CellSwap x i y h) rest here alive few = (
-  referenced_small p n m y here.core (omega (
-    arith,
-    stolen_held p n m t a x i y h rest here,
-    held-le-references_to (reference_of t h y) m.abstract.references,
-  )),
-  cell_low (m.memory (Cell x i)) (row_count m.layout) (λ z is. cell_small p n m x i z here.core is),
-)
-duty_suits p n m t a (TakeSlot x) rest here alive few = taking_finds p n m t a x rest here
-duty_suits p n m t a (CloseResource x) rest here alive few = closing_finds p n m t a x rest here
-duty_suits p n m t a (LendSlot x) rest here alive few = lending_finds p n m t a x rest here
-duty_suits p n m t a (ReturnSlot x) rest here alive few = returning_finds p n m t a x rest here
-duty_suits p n m t a _ rest here alive few = tt
+        omega (arith, near.some, word),
+      )
+  duty_suits (MergeLoad x c r) here alive few =
+      let near = near_bias x here.core few (merge_load_alive x c r here) in (
+        (head_of here).1,
+        record { low = omega (arith, near.high); state = near.state },
+        omega (arith, near.high, carried_at_load x c r here),
+      )
+  duty_suits (MergeExchange x c w r) here alive few = (
+    (head_of here).1,
+    λ same.
+        let near = near_bias x here.core few (merge_alive x c w r here) in
+        let word : biased_part (m.memory (Shared x)) ≡ biased_part w = ap biased_part same in (
+          record { low = omega (arith, near.high, word); state = λ e. near.state (ap phase_part same ∙ e) },
+          omega (arith, near.high, word, carried_is x c w r here),
+        ),
+  )
+  duty_suits (SettleCell x i k) here alive few =
+      cell_low (m.memory (Cell x i)) (row_count m.layout) (λ y is. cell_small x i y here.core is)
+  duty_suits (CellLoad x i) here alive few =
+      cell_low (m.memory (Cell x i)) (row_count m.layout) (λ y is. cell_small x i y here.core is)
+  duty_suits (CellSwap x i y h) here alive few = (
+    referenced_small y here.core (omega (
+      arith,
+      stolen_held x i y h here,
+      held-le-references_to (reference_of t h y) m.abstract.references,
+    )),
+    cell_low (m.memory (Cell x i)) (row_count m.layout) (λ z is. cell_small x i z here.core is),
+  )
+  duty_suits (TakeSlot x) here alive few = taking_finds p n m t a x rest here
+  duty_suits (CloseResource x) here alive few = closing_finds p n m t a x rest here
+  duty_suits (LendSlot x) here alive few = lending_finds p n m t a x rest here
+  duty_suits (ReturnSlot x) here alive few = returning_finds p n m t a x rest here
+  duty_suits _ here alive few = tt

@@ -166,9 +166,7 @@ cells_in x rows (q ∷ bag) none =
 -- A cell outside the machine's rows is empty, since no row outside was born.
 empty_by : (l : Life) (word : ℕ) → l ≡ Unborn → CellFits l word → word ≡ 0
 empty_by Unborn word is fits = fits
-empty_by Live word is fits = absurd cc
-empty_by (Dying t) word is fits = absurd cc
-empty_by Closed word is fits = fits
+empty_by _ word is fits = cc
 
 unborn_by : (l : Life) → (l ≡ Unborn) ⊎ (l ≢ Unborn)
 unborn_by Unborn = inl refl
@@ -176,21 +174,21 @@ unborn_by Live = inr (λ e. absurd cc)
 unborn_by (Dying t) = inr (λ e. absurd cc)
 unborn_by Closed = inr (λ e. absurd cc)
 
-pub no_others : (p : Accounts) (n : ℕ) (m : Machine) (x : ℕ) → Counts p n m
-    → HasNoOthers x (row_count m.layout) m.abstract.references
-no_others p n m x counts y i past =
-    let core = counts.kept.core in
-    let empty : m.memory (Cell y i) ≡ 0 = elim past [
-      | inl row ↦ elim (unborn_by (m.life y)) [
-        | inl unborn ↦ empty_by (m.life y) (m.memory (Cell y i)) unborn (core.cells y i)
-        | inr born ↦ absurd (omega (arith, born_within p n m y core born, row))
-      ]
-      | inr cell ↦ core.cells_end y i (omega (arith, counts.ranges.kinds y, cell))
-    ] in
-    core.cells_hold y i x ∙ ap (λ (w : ℕ). word_holds w x) empty
+module _ {p : Accounts} {n : ℕ} {m : Machine} where
+  pub no_others : (x : ℕ) → Counts p n m → HasNoOthers x (row_count m.layout) m.abstract.references
+  no_others x counts y i past =
+      let core = counts.kept.core in
+      let empty : m.memory (Cell y i) ≡ 0 = elim past [
+        | inl row ↦ elim (unborn_by (m.life y)) [
+          | inl unborn ↦ empty_by (m.life y) (m.memory (Cell y i)) unborn (core.cells y i)
+          | inr born ↦ absurd (omega (arith, born_within y core born, row))
+        ]
+        | inr cell ↦ core.cells_end y i (omega (arith, counts.ranges.kinds y, cell))
+      ] in
+      core.cells_hold y i x ∙ ap (λ (w : ℕ). word_holds w x) empty
 
 pub cells_hold : CellsHold
 cells_hold p n m x counts =
-    cells_in x (row_count m.layout) m.abstract.references (no_others p n m x counts)
+    cells_in x (row_count m.layout) m.abstract.references (no_others x counts)
     ∙ cells_each (λ y i. held (cell_reference y i x) m.abstract.references)
     (λ y i. word_holds (m.memory (Cell y i)) x) (row_count m.layout) (λ y i. counts.kept.core.cells_hold y i x)

@@ -122,106 +122,107 @@ word_holds_one : (w object : ℕ) → word_holds w object ≤ 1
 word_holds_one zero object = omega arith
 word_holds_one (suc y) object = one_if_low (y == object)
 
-within_most : (p : Accounts) (n : ℕ) (m : Machine) (h : Holder) (object : ℕ) → CoreInvariant p n m
-    → IsCounted m.layout object
-    → held (record { holder = h; object = object }) m.abstract.references ≤ most_by h
-within_most p n m (ByCell x i) object core counted =
-    omega (arith, core.cells_hold x i object, word_holds_one (m.memory (Cell x i)) object)
-within_most p n m (ByThread t k) object core counted =
-    elim (slice_get_cases m.actors t).1 [
-      | inl found ↦
-          let a = found.0 in
-          let fits = core.each t a found.2 in
-          let extra = extra_counted (opened a.agenda a.aside) k object in
-          omega (
-            arith,
-            fits.0.holds.each k object,
-            extra,
-            opened_extra object k a.agenda a.aside,
-            opened_gives object a.agenda a.aside,
-            gives_one m t a object fits.2,
-            account_most m.layout (p t) t k object fits.0.bounded counted,
-          )
-      | inr past ↦ omega (arith, core.beyond t (omega (arith, past.0, core.threads)) k object)
-    ]
+module _ {p : Accounts} {n : ℕ} {m : Machine} where
+  within_most : (h : Holder) (object : ℕ) → CoreInvariant p n m → IsCounted m.layout object
+      → held (record { holder = h; object = object }) m.abstract.references ≤ most_by h
+  within_most (ByCell x i) object core counted =
+      omega (arith, core.cells_hold x i object, word_holds_one (m.memory (Cell x i)) object)
+  within_most (ByThread t k) object core counted =
+      elim (slice_get_cases m.actors t).1 [
+        | inl found ↦
+            let a = found.0 in
+            let fits = core.each t a found.2 in
+            let extra = extra_counted (opened a.agenda a.aside) k object in
+            omega (
+              arith,
+              fits.0.holds.each k object,
+              extra,
+              opened_extra object k a.agenda a.aside,
+              opened_gives object a.agenda a.aside,
+              gives_one m t a object fits.2,
+              account_most m.layout (p t) t k object fits.0.bounded counted,
+            )
+        | inr past ↦ omega (arith, core.beyond t (omega (arith, past.0, core.threads)) k object)
+      ]
 
-thread_way : (p : Accounts) (n : ℕ) (m : Machine) (t : ℕ) (k : Holding) (object : ℕ) → CoreInvariant p n m
-    → 0 < held (reference_of t k object) m.abstract.references
-    → list_any (same (reference_of t k object)) (ways (own_way m object) object n) ≡ true
-thread_way p n m t k object core some =
-    let r = reference_of t k object in
-    elim (slice_get_cases m.actors t).1 [
-      | inl found ↦
-          let a = found.0 in
-          let fits = core.each t a found.2 in
-          let within : t < n = omega (arith, found.1, core.threads) in
-          let all = opened a.agenda a.aside in
-          let given = opened_gives object a.agenda a.aside in
-          let extra = opened_extra object k a.agenda a.aside in
-          let at_thread : list_any (same r) (ways (own_way m object) object (suc t)) ≡ true =
-          elim (eqb_tells (count_by (λ d. Rattle.brc_model.specs.Accounts.extra d k object) all) 0) [
-            | inl none ↦
-                let said : 0 < p t k object = omega (arith, fits.0.holds.each k object, some, none.1, extra) in
-                among_low (own_way m object) object t k (account_low m.layout (p t) k object fits.0.bounded said)
-            | inr more ↦
-                let own : own_way m object t ≡ given_in object all =
-                ap (λ (o : Option Actor). given_in object (opened_by o)) found.2 in
-                among_own (own_way m object) object t k
-                (given_as object all k (omega (arith, given, gives_one m t a object fits.2)) (omega (arith, more.1))
-                ∙ sym own)
-          ] in
-          among_all (own_way m object) r object t n within at_thread
-      | inr past ↦ absurd (omega (arith, core.beyond t (omega (arith, past.0, core.threads)) k object, some))
-    ]
+  thread_way : (t : ℕ) (k : Holding) (object : ℕ) → CoreInvariant p n m
+      → 0 < held (reference_of t k object) m.abstract.references
+      → list_any (same (reference_of t k object)) (ways (own_way m object) object n) ≡ true
+  thread_way t k object core some =
+      let r = reference_of t k object in
+      elim (slice_get_cases m.actors t).1 [
+        | inl found ↦
+            let a = found.0 in
+            let fits = core.each t a found.2 in
+            let within : t < n = omega (arith, found.1, core.threads) in
+            let all = opened a.agenda a.aside in
+            let given = opened_gives object a.agenda a.aside in
+            let extra = opened_extra object k a.agenda a.aside in
+            let at_thread : list_any (same r) (ways (own_way m object) object (suc t)) ≡ true =
+            elim (eqb_tells (count_by (λ d. Rattle.brc_model.specs.Accounts.extra d k object) all) 0) [
+              | inl none ↦
+                  let said : 0 < p t k object = omega (arith, fits.0.holds.each k object, some, none.1, extra) in
+                  among_low (own_way m object) object t k (account_low m.layout (p t) k object fits.0.bounded said)
+              | inr more ↦
+                  let own : own_way m object t ≡ given_in object all =
+                  ap (λ (o : Option Actor). given_in object (opened_by o)) found.2 in
+                  among_own (own_way m object) object t k
+                  (given_as object all k (omega (arith, given, gives_one m t a object fits.2)) (omega (arith, more.1))
+                  ∙ sym own)
+            ] in
+            among_all (own_way m object) r object t n within at_thread
+        | inr past ↦ absurd (omega (arith, core.beyond t (omega (arith, past.0, core.threads)) k object, some))
+      ]
 
--- A cell that holds an object is one of the few cells of a row that there is.
-cell_there : (p : Accounts) (n : ℕ) (m : Machine) (y i object : ℕ) → CoreInvariant p n m → HasFewCells m
-    → 0 < held (cell_reference y i object) m.abstract.references → (y < row_count m.layout) × (i < cell_limit)
-cell_there p n m y i object core few some =
-    let full : m.memory (Cell y i) ≡ 0 → ⊥ = λ empty.
-    let none : word_holds (m.memory (Cell y i)) object ≡ 0 = ap (λ (w : ℕ). word_holds w object) empty in
-    absurd (omega (arith, core.cells_hold y i object, none, some)) in (
-      born_within p n m y core
-          (λ unborn. full (subst (λ (l : Life). CellFits l (m.memory (Cell y i))) unborn (core.cells y i))),
-      elim (cases_lt i cell_limit) [
-        | inl low ↦ low
-        | inr past ↦ absurd (full (core.cells_end y i (omega (arith, past, few y))))
-      ],
-    )
+  -- A cell that holds an object is one of the few cells of a row that there is.
+  cell_there : (y i object : ℕ) → CoreInvariant p n m → HasFewCells m
+      → 0 < held (cell_reference y i object) m.abstract.references → (y < row_count m.layout) × (i < cell_limit)
+  cell_there y i object core few some =
+      let full : m.memory (Cell y i) ≡ 0 → ⊥ = λ empty.
+      let none : word_holds (m.memory (Cell y i)) object ≡ 0 = ap (λ (w : ℕ). word_holds w object) empty in
+      absurd (omega (arith, core.cells_hold y i object, none, some)) in (
+        born_within y core
+            (λ unborn. full (subst (λ (l : Life). CellFits l (m.memory (Cell y i))) unborn (core.cells y i))),
+        elim (cases_lt i cell_limit) [
+          | inl low ↦ low
+          | inr past ↦ absurd (full (core.cells_end y i (omega (arith, past, few y))))
+        ],
+      )
 
 -- the ways in which the object may be held
 abbrev keys_of : Machine → ℕ → ℕ → List Reference
 keys_of m object n = cell_ways object (row_count m.layout) (ways (own_way m object) object n)
 
-held_way : (p : Accounts) (n : ℕ) (m : Machine) (h : Holder) (object : ℕ) → CoreInvariant p n m → HasFewCells m
-    → 0 < held (record { holder = h; object = object }) m.abstract.references
-    → list_any (same (record { holder = h; object = object })) (keys_of m object n) ≡ true
-held_way p n m (ByCell y i) object core few some =
-    let there = cell_there p n m y i object core few some in
-    among_cells object y i (row_count m.layout) (ways (own_way m object) object n) there.0 there.1
-held_way p n m (ByThread t k) object core few some =
-    among_cells_tail (reference_of t k object) object (row_count m.layout) (ways (own_way m object) object n)
-    (thread_way p n m t k object core some)
+module _ {p : Accounts} {n : ℕ} {m : Machine} where
+  held_way : (h : Holder) (object : ℕ) → CoreInvariant p n m → HasFewCells m
+      → 0 < held (record { holder = h; object = object }) m.abstract.references
+      → list_any (same (record { holder = h; object = object })) (keys_of m object n) ≡ true
+  held_way (ByCell y i) object core few some =
+      let there = cell_there y i object core few some in
+      among_cells object y i (row_count m.layout) (ways (own_way m object) object n) there.0 there.1
+  held_way (ByThread t k) object core few some =
+      among_cells_tail (reference_of t k object) object (row_count m.layout) (ways (own_way m object) object n)
+      (thread_way t k object core some)
 
--- ---- all references to an object
+  -- ---- all references to an object
 
--- A counted object has at most `most_each` references for each thread, and one for each cell.
-pub references_few : (p : Accounts) (n : ℕ) (m : Machine) (x : ℕ) → CoreInvariant p n m → HasFewCells m
-    → IsCounted m.layout x → references_to x m.abstract.references ≤ most_each * n + cell_limit * total_limit
-references_few p n m x core few counted =
-    let keys = keys_of m x n in
-    let covers : Covers keys m.abstract.references x =
-    record {
-      each = λ r is some. subst (λ (y : ℕ). list_any (same r) (keys_of m y n) ≡ true) is
-          (held_way p n m r.holder r.object core few some);
-    } in
-    omega (
-      arith,
-      covered keys m.abstract.references x covers,
-      sum_below (λ (r : Reference). held r m.abstract.references) most_held x keys
-          (cell_ways_are_of x (row_count m.layout) (ways (own_way m x) x n) (ways_are_of (own_way m x) x n))
-          (λ r is. within_most p n m r.holder r.object core (subst (IsCounted m.layout) (sym is) counted)),
-      most_of_cells x (row_count m.layout) (ways (own_way m x) x n),
-      most_of_ways (own_way m x) x n,
-      rows_low p n m core,
-    )
+  -- A counted object has at most `most_each` references for each thread, and one for each cell.
+  pub references_few : (x : ℕ) → CoreInvariant p n m → HasFewCells m → IsCounted m.layout x
+      → references_to x m.abstract.references ≤ most_each * n + cell_limit * total_limit
+  references_few x core few counted =
+      let keys = keys_of m x n in
+      let covers : Covers keys m.abstract.references x =
+      record {
+        each = λ r is some. subst (λ (y : ℕ). list_any (same r) (keys_of m y n) ≡ true) is
+            (held_way r.holder r.object core few some);
+      } in
+      omega (
+        arith,
+        covered keys m.abstract.references x covers,
+        sum_below (λ (r : Reference). held r m.abstract.references) most_held x keys
+            (cell_ways_are_of x (row_count m.layout) (ways (own_way m x) x n) (ways_are_of (own_way m x) x n))
+            (λ r is. within_most r.holder r.object core (subst (IsCounted m.layout) (sym is) counted)),
+        most_of_cells x (row_count m.layout) (ways (own_way m x) x n),
+        most_of_ways (own_way m x) x n,
+        rows_low core,
+      )

@@ -133,59 +133,54 @@ ready_small k head (d ∷ rest) small = ready_step k head d rest small (ready_sm
 
 -- ---- rows
 
-pub referenced_small : (p : Accounts) (n : ℕ) (m : Machine) (x : ℕ) → CoreInvariant p n m
-    → 0 < references_to x m.abstract.references
-    → x < row_count m.layout
-referenced_small p n m x core some = born_within p n m x core (λ unborn.
-    elim (cases_Bool (is_immortal_row m.layout x)) [
-      | inl immortal ↦ let wrong : Live ≡ Unborn = sym (core.immortals_live x immortal) ∙ unborn in cc
-      | inr counted ↦
-          let row =
-          subst (λ (l : Life). RowInvariant (block_of m.layout x) l (numbers_of m x)) unborn (core.rows x counted) in
-          absurd (omega (arith, row.references, some))
-    ])
+module _ {p : Accounts} {n : ℕ} {m : Machine} where
+  pub referenced_small : (x : ℕ) → CoreInvariant p n m → 0 < references_to x m.abstract.references
+      → x < row_count m.layout
+  referenced_small x core some = born_within x core (λ unborn.
+      elim (cases_Bool (is_immortal_row m.layout x)) [
+        | inl immortal ↦ let wrong : Live ≡ Unborn = sym (core.immortals_live x immortal) ∙ unborn in cc
+        | inr counted ↦
+            let row =
+            subst (λ (l : Life). RowInvariant (block_of m.layout x) l (numbers_of m x)) unborn (core.rows x counted) in
+            absurd (omega (arith, row.references, some))
+      ])
 
-pub marked_small : (p : Accounts) (n : ℕ) (m : Machine) (x : ℕ) → CoreInvariant p n m → m.memory (Mark x) ≡ 1
-    → x < row_count m.layout
-marked_small p n m x core set = born_within p n m x core (marked_born p n m x core set)
+  pub marked_small : (x : ℕ) → CoreInvariant p n m → m.memory (Mark x) ≡ 1 → x < row_count m.layout
+  marked_small x core set = born_within x core (marked_born x core set)
 
--- The head of a chain is at most the number of all rows.
-pub head_small : (p : Accounts) (n : ℕ) (m : Machine) (t : ℕ) (a : Actor) → CoreInvariant p n m
-    → slice_get m.actors t ≡ Some a
-    → a.head ≤ row_count m.layout
-head_small p n m t a core found =
-    let chain = (core.each t a found).0.chain in
-    elim chain.chained as (λ l. chain.chained ≡ l → Linked m.memory t a.head l → a.head ≤ row_count m.layout) [
-      | [] ↦ λ e linked. omega (arith, linked)
-      | x ∷ xs ↦ λ e linked.
-          let here : one_if (x == x) ≡ 1 = ap one_if (eq-eqb x x refl) in
-          let count : count_by (λ y. y == x) chain.chained ≡ one_if (x == x) + count_by (λ y. y == x) xs =
-          ap (count_by (λ y. y == x)) e ∙ sum_by-cons (λ (y : ℕ). cond (y == x) 1 0) x xs in
-          let born : m.life x ≡ Unborn → ⊥ = λ unborn.
-          let none : one_if (dies_by (m.life x) t) ≡ 0 = ap (λ (l : Life). one_if (dies_by l t)) unborn in
-          absurd (omega (arith, chain.once x, here, count, none)) in
-          omega (arith, linked.0, born_within p n m x core born)
-    ] refl chain.linked
+  -- The head of a chain is at most the number of all rows.
+  pub head_small : (t : ℕ) (a : Actor) → CoreInvariant p n m → slice_get m.actors t ≡ Some a
+      → a.head ≤ row_count m.layout
+  head_small t a core found =
+      let chain = (core.each t a found).0.chain in
+      elim chain.chained as (λ l. chain.chained ≡ l → Linked m.memory t a.head l → a.head ≤ row_count m.layout) [
+        | [] ↦ λ e linked. omega (arith, linked)
+        | x ∷ xs ↦ λ e linked.
+            let here : one_if (x == x) ≡ 1 = ap one_if (eq-eqb x x refl) in
+            let count : count_by (λ y. y == x) chain.chained ≡ one_if (x == x) + count_by (λ y. y == x) xs =
+            ap (count_by (λ y. y == x)) e ∙ sum_by-cons (λ (y : ℕ). cond (y == x) 1 0) x xs in
+            let born : m.life x ≡ Unborn → ⊥ = λ unborn.
+            let none : one_if (dies_by (m.life x) t) ≡ 0 = ap (λ (l : Life). one_if (dies_by l t)) unborn in
+            absurd (omega (arith, chain.once x, here, count, none)) in
+            omega (arith, linked.0, born_within x core born)
+      ] refl chain.linked
 
--- A cell names a row that there is.
-pub cell_small : (p : Accounts) (n : ℕ) (m : Machine) (x i y : ℕ) → CoreInvariant p n m → m.memory (Cell x i) ≡ suc y
-    → y < row_count m.layout
-cell_small p n m x i y core is =
-    let r = cell_reference x i y in
-    referenced_small p n m y core
-    (omega (arith, cell_held p n m x i y core is, held-le-references_to r m.abstract.references))
+  -- A cell names a row that there is.
+  pub cell_small : (x i y : ℕ) → CoreInvariant p n m → m.memory (Cell x i) ≡ suc y → y < row_count m.layout
+  cell_small x i y core is =
+      let r = cell_reference x i y in
+      referenced_small y core (omega (arith, cell_held x i y core is, held-le-references_to r m.abstract.references))
 
--- ---- machines
+  -- ---- machines
 
-finds_small : (p : Accounts) (n : ℕ) (m : Machine) (t : ℕ) (a : Actor) (d : Duty) → CoreInvariant p n m → Ranges n m
-    → a.head ≤ row_count m.layout → FindsSmall (row_count m.layout) m.layout t a.head d
-    (m.memory (address_of m.layout t a.head d))
-finds_small p n m t a Settle core ranges head = omega (arith, head)
-finds_small p n m t a (SettleKind x) core ranges head = ranges.kinds x
-finds_small p n m t a (SettleCell x i k) core ranges head = λ y is. cell_small p n m x i y core is
-finds_small p n m t a (CellSwap x i y h) core ranges head = λ z is. cell_small p n m x i z core is
-finds_small p n m t a (Scan i k) core ranges head = λ set. marked_small p n m (row_at m.layout t i) core set
-finds_small p n m t a _ core ranges head = tt
+  finds_small : (t : ℕ) (a : Actor) (d : Duty) → CoreInvariant p n m → Ranges n m → a.head ≤ row_count m.layout
+      → FindsSmall (row_count m.layout) m.layout t a.head d (m.memory (address_of m.layout t a.head d))
+  finds_small t a Settle core ranges head = omega (arith, head)
+  finds_small t a (SettleKind x) core ranges head = ranges.kinds x
+  finds_small t a (SettleCell x i k) core ranges head = λ y is. cell_small x i y core is
+  finds_small t a (CellSwap x i y h) core ranges head = λ z is. cell_small x i z core is
+  finds_small t a (Scan i k) core ranges head = λ set. marked_small (row_at m.layout t i) core set
+  finds_small t a _ core ranges head = tt
 
 -- No step makes a kind word of more than eight cells.
 kinds_left : (m : Machine) (t : ℕ) (a : Actor) (d : Duty) (k : ℕ) (x : ℕ) → IsSmall k d
@@ -203,26 +198,24 @@ kinds_left m t a (BirthKind y h w) k x small was =
     ]
 kinds_left m t a _ k x small was = was
 
--- Doing a small duty keeps the ranges. `b` is the thread as the machine has it, and `a` the thread that has taken the
--- duty up.
-pub duty_ranges : (p : Accounts) (n : ℕ) (m : Machine) (t : ℕ) (b a : Actor) (d : Duty) (rest : List Duty)
-    → CoreInvariant p n m
-    → Ranges n m → slice_get m.actors t ≡ Some b → a.head ≤ row_count m.layout
-    → AreSmall (row_count m.layout) (d ∷ rest) → AreSmall (row_count m.layout) a.aside
-    → Ranges n (done_by m t a d rest)
-duty_ranges p n m t b a d rest core ranges found head small waiting =
-    let word = m.memory (address_of m.layout t a.head d) in
-    let next =
-    next_small (row_count m.layout) d (continuation m.layout t (is_running a.status) a.head d word)
-    (continues m.layout t (is_running a.status) a.head d word) small.0
-    (finds_small p n m t a d core ranges head) in
-    record {
-      kinds = λ x. kinds_left m t a d (row_count m.layout) x small.0 (ranges.kinds x);
-      each = written_actor (λ u c. AreSmall (row_count m.layout) c.agenda) m.actors t b
-          (actor_by m.layout t a d rest word) found
-          (ready_small (row_count m.layout) _ (continuation m.layout t (is_running a.status) a.head d word ++ rest)
-          (both_small (row_count m.layout) (continuation m.layout t (is_running a.status) a.head d word) rest next
-          small.1)) ranges.each;
-      aside = written_actor (λ u c. AreSmall (row_count m.layout) c.aside) m.actors t b
-          (actor_by m.layout t a d rest word) found waiting ranges.aside;
-    }
+module _ {p : Accounts} {n : ℕ} {m : Machine} where
+  -- Doing a small duty keeps the ranges. `b` is the thread as the machine has it, and `a` the thread that has taken the
+  -- duty up.
+  pub duty_ranges : (t : ℕ) (b a : Actor) (d : Duty) (rest : List Duty) → CoreInvariant p n m → Ranges n m
+      → slice_get m.actors t ≡ Some b → a.head ≤ row_count m.layout → AreSmall (row_count m.layout) (d ∷ rest)
+      → AreSmall (row_count m.layout) a.aside → Ranges n (done_by m t a d rest)
+  duty_ranges t b a d rest core ranges found head small waiting =
+      let word = m.memory (address_of m.layout t a.head d) in
+      let next =
+      next_small (row_count m.layout) d (continuation m.layout t (is_running a.status) a.head d word)
+      (continues m.layout t (is_running a.status) a.head d word) small.0 (finds_small t a d core ranges head) in
+      record {
+        kinds = λ x. kinds_left m t a d (row_count m.layout) x small.0 (ranges.kinds x);
+        each = written_actor (λ u c. AreSmall (row_count m.layout) c.agenda) m.actors t b
+            (actor_by m.layout t a d rest word) found
+            (ready_small (row_count m.layout) _ (continuation m.layout t (is_running a.status) a.head d word ++ rest)
+            (both_small (row_count m.layout) (continuation m.layout t (is_running a.status) a.head d word) rest next
+            small.1)) ranges.each;
+        aside = written_actor (λ u c. AreSmall (row_count m.layout) c.aside) m.actors t b
+            (actor_by m.layout t a d rest word) found waiting ranges.aside;
+      }

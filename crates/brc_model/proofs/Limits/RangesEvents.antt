@@ -51,10 +51,8 @@ action_ranges p n m t a exit (Does d rest place) whole ranges found fits =
     let there = its_found m t a found in
     let core = whole.kept.core in
     subst (Ranges n) (counting_done m t a exit d rest place)
-    (duty_ranges whole.accounts n (counting m) t a.actor a.actor d rest core ranges there
-    (head_small whole.accounts n (counting m) t a.actor core there)
-    (fits.small ranges.kinds (ranges.each t a.actor there))
-    (ranges.aside t a.actor there))
+    (duty_ranges t a.actor a.actor d rest core ranges there (head_small t a.actor core there)
+    (fits.small ranges.kinds (ranges.each t a.actor there)) (ranges.aside t a.actor there))
 
 thread_ranges : (p : Module) (n : ℕ) (m : StepMachine) (t : ℕ) (choice : Choice) (o : Option StepActor)
     → CodeInvariant p n m

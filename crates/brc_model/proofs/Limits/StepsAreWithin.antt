@@ -7,7 +7,6 @@ use Rattle.std.proofs.lemmas.Option.{slice_get_within}
 use Rattle.brc_lang.specs.declared.module.Module.{Module}
 use Rattle.brc_model.specs.declared.duty.Duty.{Duty}
 use Rattle.brc_model.specs.declared.duty.Duty.TheVariants.{RetainLoad, ReleaseLoad, Look, Settle, SettleCell, Leave, Scan, Finish, CellLoad, CellSwap}
-use Rattle.brc_model.specs.declared.actor.Status.TheVariants.{Gone}
 use Rattle.brc_model.specs.declared.address.Address.TheVariants.{Local}
 use Rattle.brc_word.specs.Words.{owner_part}
 use Rattle.brc_model.specs.declared.actor.Place.{Place}
@@ -26,9 +25,8 @@ use Rattle.brc_model.proofs.Stepping.Stores.{overwritten}
 use Rattle.brc_model.proofs.Frame.Alive.{alive_backed}
 use Rattle.brc_model.proofs.Stepping.Releases.{release_alive}
 use Rattle.brc_model.proofs.Frame.Leaves.{head_of}
-use Rattle.brc_model.proofs.Stepping.Neutral.{agenda_here, found_by}
+use Rattle.brc_model.proofs.Stepping.FitsAfter.{agenda_here, found_by, NotGone}
 use Rattle.brc_model.proofs.Keeping.Sits.{sitting}
-use Rattle.brc_model.specs.Counting.{with_account}
 use Rattle.brc_model.proofs.Keeping.Kept.{Doing}
 use Rattle.brc_model.proofs.Dispatch.Actions.{DutyFits, ActionFits, action_fits}
 use Rattle.brc_model.proofs.Promises.Safe.{first_code_invariant}
@@ -45,39 +43,37 @@ use Rattle.brc_model.specs.Layout.{row_count, block_of, block_size, is_immortal_
 
 -- ---- the word exists
 
-duty_there : (p : Accounts) (n : ℕ) (m : Machine) (t : ℕ) (a : Actor) (d : Duty) (rest : List Duty)
-    → AtDuty p n m t a d rest → (a.status ≡ Gone → ⊥) → IsSmall (row_count m.layout) d
-    → IsThere (row_count m.layout) (length m.actors) (address_of m.layout t a.head d)
-duty_there p n m t a (Look x) rest here alive small =
-    omega (arith, block_within m.layout x here.core.some_rows, here.core.threads, here.core.workers)
-duty_there p n m t a Settle rest here alive small = omega (arith, head_small p n m t a here.core here.found)
-duty_there p n m t a (SettleCell x i c) rest here alive small =
-    let (pos, dies, more, gate, empty, none) = head_of p n m t a (SettleCell x i c) rest here in
-    (small.row x (eq-eqb x x refl), omega (arith, more, small.cells))
-duty_there p n m t a (CellLoad x i) rest here alive small =
-    (small.row x (eq-eqb x x refl), omega (arith, small.cells))
-duty_there p n m t a (CellSwap x i y h) rest here alive small =
-    (small.row x (eq-eqb x x refl), omega (arith, small.cells))
-duty_there p n m t a (Leave x c) rest here alive small = slice_get_within m.actors t a here.found
-duty_there p n m t a (Scan x c) rest here alive small =
-    let fits = agenda_here p n m t a (Scan x c) rest here alive in
-    let some = head_of p n m t a (Scan x c) rest here in
-    used_low p n m t a x here.core here.found (omega (arith, fits.1, some))
-duty_there p n m t a Finish rest here alive small = slice_get_within m.actors t a here.found
-duty_there p n m t a _ rest here alive small = small.row _ (eq-eqb _ _ refl)
+module _ {p : Accounts} {n : ℕ} {m : Machine} {t : ℕ} {a : Actor} {rest : List Duty} where
+  duty_there : (d : Duty) → AtDuty p n m t a d rest → NotGone a → IsSmall (row_count m.layout) d
+      → IsThere (row_count m.layout) (length m.actors) (address_of m.layout t a.head d)
+  duty_there (Look x) here alive small =
+      omega (arith, block_within m.layout x here.core.some_rows, here.core.threads, here.core.workers)
+  duty_there Settle here alive small = omega (arith, head_small t a here.core here.found)
+  duty_there (SettleCell x i c) here alive small =
+      let (pos, dies, more, gate, empty, none) = head_of here in
+      (small.row x (eq-eqb x x refl), omega (arith, more, small.cells))
+  duty_there (CellLoad x i) here alive small = (small.row x (eq-eqb x x refl), omega (arith, small.cells))
+  duty_there (CellSwap x i y h) here alive small = (small.row x (eq-eqb x x refl), omega (arith, small.cells))
+  duty_there (Leave x c) here alive small = slice_get_within m.actors t a here.found
+  duty_there (Scan x c) here alive small =
+      let fits = agenda_here here alive in
+      let some = head_of here in
+      used_low t a x here.core here.found (omega (arith, fits.1, some))
+  duty_there Finish here alive small = slice_get_within m.actors t a here.found
+  duty_there _ here alive small = small.row _ (eq-eqb _ _ refl)
 
 -- ---- used rows
 
-used_within : (p : Accounts) (n : ℕ) (m : Machine) (t : ℕ) (a : Actor) (used : ℕ) → CoreInvariant p n m
-    → slice_get m.actors t ≡ Some a → used ≤ block_size m.layout t → used ≤ row_count m.layout
-used_within p n m t a used core found few =
-    omega (arith, few, size_within m.layout t (thread_there p n m t a core found))
+module _ {p : Accounts} {n : ℕ} {m : Machine} where
+  used_within : (t : ℕ) (a : Actor) (used : ℕ) → CoreInvariant p n m → slice_get m.actors t ≡ Some a
+      → used ≤ block_size m.layout t → used ≤ row_count m.layout
+  used_within t a used core found few = omega (arith, few, size_within m.layout t (thread_there t a core found))
 
-duty_used : (p : Accounts) (n : ℕ) (m : Machine) (t : ℕ) (a : Actor) (d : Duty) (rest : List Duty)
-    → AtDuty p n m t a d rest → used_by a.used d ≤ row_count m.layout
-duty_used p n m t a d rest here =
-    let after = own_uses p n m t a d rest here in
-    used_within p n m t a (used_by a.used d) here.core here.found after.few
+module _ {p : Accounts} {n : ℕ} {m : Machine} {t : ℕ} {a : Actor} {d : Duty} {rest : List Duty} where
+  duty_used : AtDuty p n m t a d rest → used_by a.used d ≤ row_count m.layout
+  duty_used here =
+      let after = own_uses here in
+      used_within t a (used_by a.used d) here.core here.found after.few
 
 -- ---- one duty
 
@@ -90,47 +86,49 @@ row_owner owner k live = elim live.mode [
   | InMerged s ↦ inl (omega (arith, s.local))
 ]
 
--- A live row has no owner, or the thread of its block owns it; immortal rows are main's.
-pub live_owner : (p : Accounts) (n : ℕ) (m : Machine) (x : ℕ) → CoreInvariant p n m → m.life x ≡ Live
-    → (owner_part (m.memory (Local x)) ≡ 0) ⊎ (owner_part (m.memory (Local x)) ≡ block_of m.layout x + 1)
-live_owner p n m x core live = elim (cases_Bool (is_immortal_row m.layout x)) [
-  | inl immortal ↦ inr (omega (arith, core.immortal_words x immortal, immortal_block m.layout x immortal))
-  | inr counted ↦
-      row_owner (block_of m.layout x) (numbers_of m x)
-      (subst (λ (l : Life). RowInvariant (block_of m.layout x) l (numbers_of m x)) live (core.rows x counted))
-]
+module _ {p : Accounts} {n : ℕ} {m : Machine} where
+  -- A live row has no owner, or the thread of its block owns it; immortal rows are main's.
+  pub live_owner : (x : ℕ) → CoreInvariant p n m → m.life x ≡ Live
+      → (owner_part (m.memory (Local x)) ≡ 0) ⊎ (owner_part (m.memory (Local x)) ≡ block_of m.layout x + 1)
+  live_owner x core live = elim (cases_Bool (is_immortal_row m.layout x)) [
+    | inl immortal ↦ inr (omega (arith, core.immortal_words x immortal, immortal_block m.layout x immortal))
+    | inr counted ↦
+        row_owner (block_of m.layout x) (numbers_of m x)
+        (subst (λ (l : Life). RowInvariant (block_of m.layout x) l (numbers_of m x)) live (core.rows x counted))
+  ]
 
--- The row of a load of a local word is live, so the word names no owner, or the thread of the row's block.
-finds_owner : (p : Accounts) (n : ℕ) (m : Machine) (t : ℕ) (a : Actor) (d : Duty) (rest : List Duty)
-    → AtDuty p n m t a d rest → FindsOwner m.layout d (m.memory (address_of m.layout t a.head d))
-finds_owner p n m t a (RetainLoad x h) rest here =
-    live_owner p n m x here.core (elim (cases_Bool (is_immortal_row m.layout x)) [
-      | inl immortal ↦ here.core.immortals_live x immortal
-      | inr counted ↦ (alive_backed p n m t a x here.core counted (head_of p n m t a (RetainLoad x h) rest here)).life
-    ])
-finds_owner p n m t a (ReleaseLoad x h) rest here =
-    live_owner p n m x here.core (elim (cases_Bool (is_immortal_row m.layout x)) [
-      | inl immortal ↦ here.core.immortals_live x immortal
-      | inr counted ↦ (release_alive p n m t a x h rest counted here).life
-    ])
-finds_owner p n m t a _ rest here = tt
+module _ {p : Accounts} {n : ℕ} {m : Machine} {t : ℕ} {a : Actor} {rest : List Duty} where
+  -- The row of a load of a local word is live, so the word names no owner, or the thread of the row's block.
+  finds_owner : (d : Duty) → AtDuty p n m t a d rest → FindsOwner m.layout d (m.memory (address_of m.layout t a.head d))
+  finds_owner (RetainLoad x h) here =
+      live_owner x here.core (elim (cases_Bool (is_immortal_row m.layout x)) [
+        | inl immortal ↦ here.core.immortals_live x immortal
+        | inr counted ↦ (alive_backed t a x here.core counted (head_of here)).life
+      ])
+  finds_owner (ReleaseLoad x h) here =
+      live_owner x here.core (elim (cases_Bool (is_immortal_row m.layout x)) [
+        | inl immortal ↦ here.core.immortals_live x immortal
+        | inr counted ↦ (release_alive x h counted here).life
+      ])
+  finds_owner _ here = tt
 
--- A thread's next duty can rely on what `DutyWithin` says.
-pub duty_within : (p : Accounts) (n : ℕ) (m : Machine) (t : ℕ) (a : Actor) (d : Duty) (rest : List Duty)
-    → Doing p n m t a d rest → IsSmall (row_count m.layout) d → IsFew n m → DutyWithin n m t a d
-duty_within p n m t a d rest doing small few =
-    let core = doing.kept.core in
-    let here : AtDuty p n m t a d rest = record { core = core; found = doing.found; agenda = doing.agenda } in
-    record {
-      there =
-          subst (λ (l : ℕ). IsThere (row_count m.layout) l (address_of m.layout t a.head d)) core.threads
-          (duty_there p n m t a d rest here doing.alive small);
-      head = head_small p n m t a core doing.found;
-      used = duty_used p n m t a d rest here;
-      suits = duty_suits p n m t a d rest here doing.alive few;
-      overwrites = overwritten p n m t a d rest here;
-      owner = finds_owner p n m t a d rest here;
-    }
+module _ {p : Accounts} {n : ℕ} {m : Machine} {t : ℕ} {a : Actor} where
+  -- A thread's next duty can rely on what `DutyWithin` says.
+  pub duty_within : (d : Duty) (rest : List Duty) → Doing p n m t a d rest → IsSmall (row_count m.layout) d → IsFew n m
+      → DutyWithin n m t a d
+  duty_within d rest doing small few =
+      let core = doing.kept.core in
+      let here : AtDuty p n m t a d rest = record { core = core; found = doing.found; agenda = doing.agenda } in
+      record {
+        there =
+            subst (λ (l : ℕ). IsThere (row_count m.layout) l (address_of m.layout t a.head d)) core.threads
+            (duty_there d here doing.alive small);
+        head = head_small t a core doing.found;
+        used = duty_used here;
+        suits = duty_suits d here doing.alive few;
+        overwrites = overwritten d here;
+        owner = finds_owner d here;
+      }
 
 -- The world has `n` threads.
 threads_in : (p : Module) (n : ℕ) (m : StepMachine) → CodeInvariant p n m → n ≡ length m.actors
@@ -145,7 +143,7 @@ does_within : (p : Module) (n : ℕ) (m : StepMachine) (t : ℕ) (a : StepActor)
 does_within p n m t a d rest place bounded few found fits =
     let now = sitting a.actor (d ∷ rest) in
     let within : DutyWithin n (with_actor (counting m) t now) t now d =
-    duty_within (with_account bounded.whole.accounts t fits.account) n (with_actor (counting m) t now) t now d rest
+    duty_within d rest
     fits.doing (fits.small bounded.ranges.kinds (bounded.ranges.each t a.actor (its_found m t a found))).0
     (record { threads = few; cells = bounded.ranges.kinds }) in
     let long = threads_in p n m bounded.whole in
@@ -222,7 +220,7 @@ few_in_all p w r =
     let m = machine_after (first_machine p r.states r.rows r.calls) r.events in
     let same : row_count w.layout ≡ row_count m.layout = ap (λ (v : World). row_count v.layout) r.reached in
     let whole = (reached_bounded p w r).whole in
-    omega (arith, same, rows_low whole.accounts (1 + length r.calls) (counting m) whole.kept.core)
+    omega (arith, same, rows_low whole.kept.core)
 
 pub workers_are : (p : Module) (w : World) → IsReachable p w → length w.actors ≡ 1 + w.layout.workers
 workers_are p w r =

@@ -15,7 +15,7 @@ use Rattle.brc_model.proofs.Basics.Written.{zero_written, written_load}
 use Rattle.brc_model.proofs.Basics.Blocks.{next_block, next_index}
 use Rattle.brc_model.proofs.Frame.Alive.{alive_born}
 use Rattle.brc_model.proofs.Frame.Leaves.{head_of, locked_alive}
-use Rattle.brc_model.proofs.Stepping.Neutral.{found_by, memory_by}
+use Rattle.brc_model.proofs.Stepping.FitsAfter.{found_by, memory_by}
 use Rattle.brc_model.specs.Accounts.{Accounts}
 use Rattle.brc_model.specs.Knowledge.{IsNext}
 use Rattle.brc_model.specs.Invariant.{AtDuty, kind_stored, slot_stored, BlankFits}
@@ -26,6 +26,31 @@ use Rattle.brc_model.specs.Layout.{block_of, index_of}
 -- A word that is 0 stays 0 if the step stores another word.
 still_zero : (b : Bool) (v word : ℕ) → b ≡ false → word ≡ 0 → cond b v word ≡ 0
 still_zero b v word apart zero_before = ap (λ (c : Bool). cond c v word) apart ∙ zero_before
+
+-- Says whether the duty stores the row's kind, and whether it fills the row's slot.
+abbrev bears_kind : Duty → ℕ → Bool
+bears_kind (BirthKind y h w) x = y == x
+bears_kind _ x = false
+
+abbrev fills_slot : Duty → ℕ → Bool
+fills_slot (BirthSlot y h) x = y == x
+fills_slot (ReturnSlot y) x = y == x
+fills_slot _ x = false
+
+kind_zero : (m : Machine) (t : ℕ) (a : Actor) (d : Duty) (x : ℕ) → bears_kind d x ≡ false → m.memory (KindOf x) ≡ 0
+    → memory_by m t a d (KindOf x) ≡ 0
+kind_zero m t a (BirthKind y h w) x apart was = still_zero (y == x) w (m.memory (KindOf x)) apart was
+kind_zero m t a (SettleKind y) x apart was = written_load m.memory (KindOf y) (KindOf x) ∙ was
+kind_zero m t a (KindLoad y) x apart was = written_load m.memory (KindOf y) (KindOf x) ∙ was
+kind_zero m t a _ x apart was = was
+
+slot_zero : (m : Machine) (t : ℕ) (a : Actor) (d : Duty) (x : ℕ) → fills_slot d x ≡ false → m.memory (Slot x) ≡ 0
+    → memory_by m t a d (Slot x) ≡ 0
+slot_zero m t a (BirthSlot y h) x apart was = still_zero (y == x) 1 (m.memory (Slot x)) apart was
+slot_zero m t a (ReturnSlot y) x apart was = still_zero (y == x) 1 (m.memory (Slot x)) apart was
+slot_zero m t a (TakeSlot y) x apart was = zero_written (y == x) (m.memory (Slot x)) was
+slot_zero m t a (LendSlot y) x apart was = zero_written (y == x) (m.memory (Slot x)) was
+slot_zero m t a _ x apart was = was
 
 -- After the step on the kind word, the agenda says that the birth has stored it. After the step on the slot, the agenda
 -- says so of both.
@@ -46,11 +71,11 @@ slot_stored_after_slot : (head y : ℕ) (h : Holding) (rest : List Duty) (x : �
 slot_stored_after_slot zero y h rest x = refl
 slot_stored_after_slot (suc head) y h rest x = refl
 
--- The thread's unused rows are blank when it is about to do the duty.
-pub blanks_here : (p : Accounts) (n : ℕ) (m : Machine) (t : ℕ) (a : Actor) (d : Duty) (rest : List Duty)
-    → AtDuty p n m t a d rest → BlankFits m.layout m.memory t a.used (d ∷ rest)
-blanks_here p n m t a d rest here =
-    subst (λ (l : List Duty). BlankFits m.layout m.memory t a.used l) here.agenda (here.core.blanks t a here.found)
+module _ {p : Accounts} {n : ℕ} {m : Machine} {t : ℕ} {a : Actor} {d : Duty} {rest : List Duty} where
+  -- The thread's unused rows are blank when it is about to do the duty.
+  pub blanks_here : AtDuty p n m t a d rest → BlankFits m.layout m.memory t a.used (d ∷ rest)
+  blanks_here here =
+      subst (λ (l : List Duty). BlankFits m.layout m.memory t a.used l) here.agenda (here.core.blanks t a here.found)
 
 -- The row that the birth makes isn't one of the rows that are unused after it.
 born_apart : (m : Machine) (t : ℕ) (a : Actor) (y x : ℕ) → IsNext m t a y → a.used + 1 ≤ index_of m.layout t x
@@ -59,82 +84,57 @@ born_apart m t a y x next past =
     ne_eqb y x (λ e. let same : index_of m.layout t y ≡ index_of m.layout t x = ap (index_of m.layout t) e in absurd
     (omega (arith, next_index m t a y next, past, same)))
 
--- The row whose resource a thread has lent isn't one of the unused rows.
-lent_used : (p : Accounts) (n : ℕ) (m : Machine) (t u : ℕ) (a b : Actor) (y x : ℕ) (rest : List Duty)
-    → AtDuty p n m t a (ReturnSlot y) rest → slice_get m.actors u ≡ Some b → block_of m.layout x ≡ u
-    → b.used ≤ index_of m.layout u x → (y == x) ≡ false
-lent_used p n m t u a b y x rest here found block past =
-    let lent = head_of p n m t a (ReturnSlot y) rest here in
-    let locked = (here.core.each t a here.found).0.lent y lent in
-    let born = alive_born m y (locked_alive p n m t a y here.core here.found locked) in
-    ne_eqb y x (λ e. born (ap m.life e ∙ (here.core.uses u b found).unborn x block past))
+module _ {p : Accounts} {n : ℕ} {m : Machine} {t : ℕ} {a : Actor} {rest : List Duty} where
+  -- The row whose resource a thread has lent isn't one of the unused rows.
+  lent_used : (u : ℕ) (b : Actor) (y x : ℕ) → AtDuty p n m t a (ReturnSlot y) rest → slice_get m.actors u ≡ Some b
+      → block_of m.layout x ≡ u → b.used ≤ index_of m.layout u x → (y == x) ≡ false
+  lent_used u b y x here found block past =
+      let lent = head_of here in
+      let locked = (here.core.each t a here.found).0.lent y lent in
+      let born = alive_born m y (locked_alive t a y here.core here.found locked) in
+      ne_eqb y x (λ e. born (ap m.life e ∙ (here.core.uses u b found).unborn x block past))
 
-own_blanks : (p : Accounts) (n : ℕ) (m : Machine) (t : ℕ) (a : Actor) (d : Duty) (rest : List Duty)
-    → AtDuty p n m t a d rest
-    → BlankFits m.layout (memory_by m t a d) t (used_by a.used d)
-    (actor_by m.layout t a d rest (found_by m t a d)).agenda
-own_blanks p n m t a (BirthKind y h w) rest here =
-    let old = blanks_here p n m t a (BirthKind y h w) rest here in
-    record {
-      kinds = λ x block past none.
-          still_zero (y == x) w (m.memory (KindOf x))
-          (sym (kind_stored_after_kind (has_resource w) a.head y h rest x) ∙ none)
-          (old.kinds x block past refl);
-      slots = λ x block past none. old.slots x block past refl;
-    }
-own_blanks p n m t a (BirthSlot y h) rest here =
-    let old = blanks_here p n m t a (BirthSlot y h) rest here in
-    record {
-      kinds = λ x block past none. old.kinds x block past (sym (kind_stored_after_slot a.head y h rest x) ∙ none);
-      slots = λ x block past none.
-          still_zero (y == x) 1 (m.memory (Slot x)) (sym (slot_stored_after_slot a.head y h rest x) ∙ none)
-          (old.slots x block past refl);
-    }
-own_blanks p n m t a (BirthLocal y h) rest here =
-    let old = blanks_here p n m t a (BirthLocal y h) rest here in
-    let next = (head_of p n m t a (BirthLocal y h) rest here).0 in
-    record {
-      kinds = λ x block past none. old.kinds x block (omega (arith, past)) (born_apart m t a y x next past);
-      slots = λ x block past none. old.slots x block (omega (arith, past)) (born_apart m t a y x next past);
-    }
-own_blanks p n m t a (SettleKind y) rest here =
-    let old = blanks_here p n m t a (SettleKind y) rest here in
-    record {
-      kinds = λ x block past none. written_load m.memory (KindOf y) (KindOf x) ∙ old.kinds x block past refl;
-      slots = λ x block past none. old.slots x block past refl;
-    }
-own_blanks p n m t a (KindLoad y) rest here =
-    let old = blanks_here p n m t a (KindLoad y) rest here in
-    record {
-      kinds = λ x block past none. written_load m.memory (KindOf y) (KindOf x) ∙ old.kinds x block past refl;
-      slots = λ x block past none. old.slots x block past refl;
-    }
-own_blanks p n m t a (TakeSlot y) rest here =
-    let old = blanks_here p n m t a (TakeSlot y) rest here in
-    record {
-      kinds = λ x block past none. old.kinds x block past refl;
-      slots = λ x block past none. zero_written (y == x) (m.memory (Slot x)) (old.slots x block past refl);
-    }
-own_blanks p n m t a (LendSlot y) rest here =
-    let old = blanks_here p n m t a (LendSlot y) rest here in
-    record {
-      kinds = λ x block past none. old.kinds x block past refl;
-      slots = λ x block past none. zero_written (y == x) (m.memory (Slot x)) (old.slots x block past refl);
-    }
-own_blanks p n m t a (ReturnSlot y) rest here =
-    let old = blanks_here p n m t a (ReturnSlot y) rest here in
-    record {
-      kinds = λ x block past none. old.kinds x block past refl;
-      slots = λ x block past none.
-          still_zero (y == x) 1 (m.memory (Slot x)) (lent_used p n m t t a a y x rest here here.found block past)
-          (old.slots x block past refl);
-    }
-own_blanks p n m t a d rest here =
-    let old = blanks_here p n m t a d rest here in
-    record {
-      kinds = λ x block past none. old.kinds x block past refl;
-      slots = λ x block past none. old.slots x block past refl;
-    }
+  own_blanks : (d : Duty) → AtDuty p n m t a d rest
+      → BlankFits m.layout (memory_by m t a d) t (used_by a.used d)
+      (actor_by m.layout t a d rest (found_by m t a d)).agenda
+  own_blanks (BirthKind y h w) here =
+      let d : Duty = BirthKind y h w in
+      let old = blanks_here here in
+      record {
+        kinds = λ x block past none.
+            kind_zero m t a d x (sym (kind_stored_after_kind (has_resource w) a.head y h rest x) ∙ none)
+            (old.kinds x block past refl);
+        slots = λ x block past none. old.slots x block past refl;
+      }
+  own_blanks (BirthSlot y h) here =
+      let d : Duty = BirthSlot y h in
+      let old = blanks_here here in
+      record {
+        kinds = λ x block past none. old.kinds x block past (sym (kind_stored_after_slot a.head y h rest x) ∙ none);
+        slots = λ x block past none.
+            slot_zero m t a d x (sym (slot_stored_after_slot a.head y h rest x) ∙ none) (old.slots x block past refl);
+      }
+  own_blanks (BirthLocal y h) here =
+      let old = blanks_here here in
+      let next = (head_of here).0 in
+      record {
+        kinds = λ x block past none. old.kinds x block (omega (arith, past)) (born_apart m t a y x next past);
+        slots = λ x block past none. old.slots x block (omega (arith, past)) (born_apart m t a y x next past);
+      }
+  own_blanks (ReturnSlot y) here =
+      let old = blanks_here here in
+      record {
+        kinds = λ x block past none. old.kinds x block past refl;
+        slots = λ x block past none.
+            slot_zero m t a (ReturnSlot y) x (lent_used t a y x here here.found block past)
+            (old.slots x block past refl);
+      }
+  own_blanks d here =
+      let old = blanks_here here in
+      record {
+        kinds = λ x block past none. kind_zero m t a d x refl (old.kinds x block past refl);
+        slots = λ x block past none. slot_zero m t a d x refl (old.slots x block past refl);
+      }
 
 -- ---- the other threads
 
@@ -144,80 +144,44 @@ block_apart : (m : Machine) (t u : ℕ) (a : Actor) (y x : ℕ) → u ≢ t → 
 block_apart m t u a y x ne next block =
     ne_eqb y x (λ e. ne (sym block ∙ ap (block_of m.layout) (sym e) ∙ next_block m t a y next))
 
-others_blanks : (p : Accounts) (n : ℕ) (m : Machine) (t : ℕ) (a : Actor) (d : Duty) (rest : List Duty) (u : ℕ)
-    (b : Actor)
-    → AtDuty p n m t a d rest → u ≢ t → slice_get m.actors u ≡ Some b
-    → BlankFits m.layout (memory_by m t a d) u b.used b.agenda
-others_blanks p n m t a (BirthKind y h w) rest u b here ne found =
-    let old = here.core.blanks u b found in
-    let next = (head_of p n m t a (BirthKind y h w) rest here).0 in
-    record {
-      kinds = λ x block past none.
-          still_zero (y == x) w (m.memory (KindOf x)) (block_apart m t u a y x ne next block)
-          (old.kinds x block past none);
-      slots = old.slots;
-    }
-others_blanks p n m t a (BirthSlot y h) rest u b here ne found =
-    let old = here.core.blanks u b found in
-    let next = (head_of p n m t a (BirthSlot y h) rest here).0 in
-    record {
-      kinds = old.kinds;
-      slots = λ x block past none.
-          still_zero (y == x) 1 (m.memory (Slot x)) (block_apart m t u a y x ne next block)
-          (old.slots x block past none);
-    }
-others_blanks p n m t a (SettleKind y) rest u b here ne found =
-    let old = here.core.blanks u b found in
-    record {
-      kinds = λ x block past none. written_load m.memory (KindOf y) (KindOf x) ∙ old.kinds x block past none;
-      slots = old.slots;
-    }
-others_blanks p n m t a (KindLoad y) rest u b here ne found =
-    let old = here.core.blanks u b found in
-    record {
-      kinds = λ x block past none. written_load m.memory (KindOf y) (KindOf x) ∙ old.kinds x block past none;
-      slots = old.slots;
-    }
-others_blanks p n m t a (TakeSlot y) rest u b here ne found =
-    let old = here.core.blanks u b found in
-    record {
-      kinds = old.kinds;
-      slots = λ x block past none. zero_written (y == x) (m.memory (Slot x)) (old.slots x block past none);
-    }
-others_blanks p n m t a (LendSlot y) rest u b here ne found =
-    let old = here.core.blanks u b found in
-    record {
-      kinds = old.kinds;
-      slots = λ x block past none. zero_written (y == x) (m.memory (Slot x)) (old.slots x block past none);
-    }
-others_blanks p n m t a (ReturnSlot y) rest u b here ne found =
-    let old = here.core.blanks u b found in
-    record {
-      kinds = old.kinds;
-      slots = λ x block past none.
-          still_zero (y == x) 1 (m.memory (Slot x)) (lent_used p n m t u a b y x rest here found block past)
-          (old.slots x block past none);
-    }
-others_blanks p n m t a _ rest u b here ne found =
-    let old = here.core.blanks u b found in
-    record { kinds = old.kinds; slots = old.slots }
+module _ {p : Accounts} {n : ℕ} {m : Machine} {t : ℕ} {a : Actor} {rest : List Duty} where
+  -- The duty stores neither the kind of another thread's unused row nor its slot.
+  others_apart : (d : Duty) (u : ℕ) (b : Actor) (x : ℕ) → AtDuty p n m t a d rest → u ≢ t
+      → slice_get m.actors u ≡ Some b → block_of m.layout x ≡ u → b.used ≤ index_of m.layout u x
+      → (bears_kind d x ≡ false) × (fills_slot d x ≡ false)
+  others_apart (BirthKind y h w) u b x here ne found block past =
+      (block_apart m t u a y x ne (head_of here).0 block, refl)
+  others_apart (BirthSlot y h) u b x here ne found block past =
+      (refl, block_apart m t u a y x ne (head_of here).0 block)
+  others_apart (ReturnSlot y) u b x here ne found block past = (refl, lent_used u b y x here found block past)
+  others_apart _ u b x here ne found block past = (refl, refl)
 
--- After a thread's step the unused rows of every thread's block are blank.
-pub blanks_after : (p : Accounts) (n : ℕ) (m : Machine) (t : ℕ) (a : Actor) (d : Duty) (rest : List Duty)
-    → AtDuty p n m t a d rest → (u : ℕ) (b : Actor) → slice_get (done_by m t a d rest).actors u ≡ Some b
-    → BlankFits m.layout (memory_by m t a d) u b.used b.agenda
-blanks_after p n m t a d rest here u b is =
-    let after = actor_by m.layout t a d rest (found_by m t a d) in
-    elim (eqb_tells u t) [
-      | inl same ↦
-          let written_is : Some after ≡ Some b =
-          sym (ap (slice_get (slice_set m.actors t after)) same.1
-          ∙ slice_get-set_same m.actors t after (slice_get_within m.actors t a here.found)) ∙ is in
-          let own : BlankFits m.layout (memory_by m t a d) u after.used after.agenda =
-          subst (λ (w : ℕ). BlankFits m.layout (memory_by m t a d) w after.used after.agenda) (sym same.1)
-          (own_blanks p n m t a d rest here) in
-          subst (λ (c : Actor). BlankFits m.layout (memory_by m t a d) u c.used c.agenda)
-          (some_is after b written_is) own
-      | inr apart ↦
-          others_blanks p n m t a d rest u b here apart.1 (sym (slice_get-set_other m.actors t u after apart.1) ∙ is)
-    ]
+  others_blanks : (d : Duty) (u : ℕ) (b : Actor) → AtDuty p n m t a d rest → u ≢ t → slice_get m.actors u ≡ Some b
+      → BlankFits m.layout (memory_by m t a d) u b.used b.agenda
+  others_blanks d u b here ne found =
+      let old = here.core.blanks u b found in
+      record {
+        kinds = λ x block past none.
+            kind_zero m t a d x (others_apart d u b x here ne found block past).0 (old.kinds x block past none);
+        slots = λ x block past none.
+            slot_zero m t a d x (others_apart d u b x here ne found block past).1 (old.slots x block past none);
+      }
+
+module _ {p : Accounts} {n : ℕ} {m : Machine} {t : ℕ} {a : Actor} {d : Duty} {rest : List Duty} where
+  -- After a thread's step the unused rows of every thread's block are blank.
+  pub blanks_after : AtDuty p n m t a d rest → (u : ℕ) (b : Actor) → slice_get (done_by m t a d rest).actors u ≡ Some b
+      → BlankFits m.layout (memory_by m t a d) u b.used b.agenda
+  blanks_after here u b is =
+      let after = actor_by m.layout t a d rest (found_by m t a d) in
+      elim (eqb_tells u t) [
+        | inl same ↦
+            let written_is : Some after ≡ Some b =
+            sym (ap (slice_get (slice_set m.actors t after)) same.1
+            ∙ slice_get-set_same m.actors t after (slice_get_within m.actors t a here.found)) ∙ is in
+            let own : BlankFits m.layout (memory_by m t a d) u after.used after.agenda =
+            subst (λ (w : ℕ). BlankFits m.layout (memory_by m t a d) w after.used after.agenda) (sym same.1)
+            (own_blanks d here) in
+            subst (λ (c : Actor). BlankFits m.layout (memory_by m t a d) u c.used c.agenda)
+            (some_is after b written_is) own
+        | inr apart ↦ others_blanks d u b here apart.1 (sym (slice_get-set_other m.actors t u after apart.1) ∙ is)
+      ]

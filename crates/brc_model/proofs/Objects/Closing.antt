@@ -38,17 +38,13 @@ effect_keeps d mv none _ = tt
 
 -- ---- rows whose lives change
 
-may_die_positive : (p : Accounts) (n : ℕ) (m : Machine) (t : ℕ) (a : Actor) (d : Duty) (rest : List Duty) (y : ℕ)
-    → AtDuty p n m t a d rest → MayDie d y → IsCounted m.layout y
-may_die_positive p n m t a (DecideAtZero x) rest y here is =
-    subst (λ (z : ℕ). IsCounted m.layout z) is (head_of p n m t a (DecideAtZero x) rest here).0
-may_die_positive p n m t a (SharedExchange x Own w) rest y here is =
-    subst (λ (z : ℕ). IsCounted m.layout z) is (head_of p n m t a (SharedExchange x Own w) rest here)
-may_die_positive p n m t a (SharedExchange x Handed w) rest y here is =
-    subst (λ (z : ℕ). IsCounted m.layout z) is (head_of p n m t a (SharedExchange x Handed w) rest here).0
-may_die_positive p n m t a (MergeExchange x c w r) rest y here is =
-    subst (λ (z : ℕ). IsCounted m.layout z) is (head_of p n m t a (MergeExchange x c w r) rest here).0
-may_die_positive p n m t a _ rest y here is = absurd is
+module _ {p : Accounts} {n : ℕ} {m : Machine} {t : ℕ} {a : Actor} {rest : List Duty} where
+  may_die_positive : (d : Duty) (y : ℕ) → AtDuty p n m t a d rest → MayDie d y → IsCounted m.layout y
+  may_die_positive (DecideAtZero x) y here is = subst (λ (z : ℕ). IsCounted m.layout z) is (head_of here).0
+  may_die_positive (SharedExchange x Own w) y here is = subst (λ (z : ℕ). IsCounted m.layout z) is (head_of here)
+  may_die_positive (SharedExchange x Handed w) y here is = subst (λ (z : ℕ). IsCounted m.layout z) is (head_of here).0
+  may_die_positive (MergeExchange x c w r) y here is = subst (λ (z : ℕ). IsCounted m.layout z) is (head_of here).0
+  may_die_positive _ y here is = absurd is
 
 -- A row's life after a step of thread `t`: it is unchanged; or the row was live and begins to die by this thread; or
 -- the row was dying by this thread and is closed; or the row is born.
@@ -65,55 +61,52 @@ ended_kills_none : (m : Machine) (t : ℕ) (a : Actor) (d : Duty) (y : ℕ) → 
 ended_kills_none m t a (SettleEnd x) y e = refl
 ended_kills_none m t a _ y e = absurd (none_some y e)
 
-ended_dying : (p : Accounts) (n : ℕ) (m : Machine) (t : ℕ) (a : Actor) (d : Duty) (rest : List Duty) (y : ℕ)
-    → AtDuty p n m t a d rest → ended_row d ≡ Some y → (IsCounted m.layout y) × (m.life y ≡ Dying t)
-ended_dying p n m t a (SettleEnd x) rest y here e =
-    let fits = head_of p n m t a (SettleEnd x) rest here in
-    let this : x ≡ y = some_is x y e in
-    (subst (λ (z : ℕ). IsCounted m.layout z) this fits.0, ap m.life (sym this) ∙ fits.1)
-ended_dying p n m t a _ rest y here e = absurd (none_some y e)
+module _ {p : Accounts} {n : ℕ} {m : Machine} {t : ℕ} {a : Actor} {rest : List Duty} where
+  ended_dying : (d : Duty) (y : ℕ) → AtDuty p n m t a d rest → ended_row d ≡ Some y
+      → (IsCounted m.layout y) × (m.life y ≡ Dying t)
+  ended_dying (SettleEnd x) y here e =
+      let fits = head_of here in
+      let this : x ≡ y = some_is x y e in
+      (subst (λ (z : ℕ). IsCounted m.layout z) this fits.0, ap m.life (sym this) ∙ fits.1)
+  ended_dying _ y here e = absurd (none_some y e)
 
-life_with : (p : Accounts) (n : ℕ) (m : Machine) (t : ℕ) (a : Actor) (d : Duty) (rest : List Duty) (x : ℕ)
-    (dies ended : Option ℕ)
-    → AtDuty p n m t a d rest → dies_next (next_of m t a d) ≡ dies → ended_row d ≡ ended
-    → LifeStep m t d x (with_life (with_life m.life dies (Dying t)) ended Closed x)
-life_with p n m t a d rest x None None here dies ended = GoesOn refl (λ e. none_some x (sym ended ∙ e))
-life_with p n m t a d rest x None (Some y) here dies ended =
-    elim (eqb_tells y x) [
-      | inl same ↦
-          let was = ended_dying p n m t a d rest y here ended in
-          IsClosed (ap (λ (b : Bool). cond b Closed (m.life x)) same.0) (ap m.life (sym same.1) ∙ was.1)
-          (subst (λ (z : ℕ). IsCounted m.layout z) same.1 was.0) (ended ∙ ap Some same.1)
-      | inr other ↦
-          GoesOn (ap (λ (b : Bool). cond b Closed (m.life x)) other.0) (λ e. other.1 (some_is y x (sym ended ∙ e)))
-    ]
-life_with p n m t a d rest x (Some y) None here dies ended =
-    elim (eqb_tells y x) [
-      | inl same ↦
-          let alive = dying_was_alive p n m t a d rest y here dies in
-          let positive =
-          may_die_positive p n m t a d rest y here (next_may_die m t a d y dies) in
-          BeginsToDie (ap (λ (b : Bool). cond b (Dying t) (m.life x)) same.0) (ap m.life (sym same.1) ∙ alive.life)
-          (subst (λ (z : ℕ). IsCounted m.layout z) same.1 positive) ended
-      | inr other ↦ GoesOn (ap (λ (b : Bool). cond b (Dying t) (m.life x)) other.0) (λ e. none_some x (sym ended ∙ e))
-    ]
-life_with p n m t a d rest x (Some y) (Some z) here dies ended =
-    absurd (none_some y (sym (ended_kills_none m t a d z ended) ∙ dies))
+module _ {p : Accounts} {n : ℕ} {m : Machine} {t : ℕ} {a : Actor} {d : Duty} {rest : List Duty} where
+  life_with : (x : ℕ) (dies ended : Option ℕ) → AtDuty p n m t a d rest → dies_next (next_of m t a d) ≡ dies
+      → ended_row d ≡ ended → LifeStep m t d x (with_life (with_life m.life dies (Dying t)) ended Closed x)
+  life_with x None None here dies ended = GoesOn refl (λ e. none_some x (sym ended ∙ e))
+  life_with x None (Some y) here dies ended =
+      elim (eqb_tells y x) [
+        | inl same ↦
+            let was = ended_dying d y here ended in
+            IsClosed (ap (λ (b : Bool). cond b Closed (m.life x)) same.0) (ap m.life (sym same.1) ∙ was.1)
+            (subst (λ (z : ℕ). IsCounted m.layout z) same.1 was.0) (ended ∙ ap Some same.1)
+        | inr other ↦
+            GoesOn (ap (λ (b : Bool). cond b Closed (m.life x)) other.0) (λ e. other.1 (some_is y x (sym ended ∙ e)))
+      ]
+  life_with x (Some y) None here dies ended =
+      elim (eqb_tells y x) [
+        | inl same ↦
+            let alive = dying_was_alive y here dies in
+            let positive = may_die_positive d y here (next_may_die m t a d y dies) in
+            BeginsToDie (ap (λ (b : Bool). cond b (Dying t) (m.life x)) same.0) (ap m.life (sym same.1) ∙ alive.life)
+            (subst (λ (z : ℕ). IsCounted m.layout z) same.1 positive) ended
+        | inr other ↦ GoesOn (ap (λ (b : Bool). cond b (Dying t) (m.life x)) other.0) (λ e. none_some x (sym ended ∙ e))
+      ]
+  life_with x (Some y) (Some z) here dies ended = absurd (none_some y (sym (ended_kills_none m t a d z ended) ∙ dies))
 
--- Every step changes a row's life in one of these four ways.
-pub life_step : (p : Accounts) (n : ℕ) (m : Machine) (t : ℕ) (a : Actor) (d : Duty) (rest : List Duty) (x : ℕ)
-    → AtDuty p n m t a d rest → LifeStep m t d x ((done_by m t a d rest).life x)
-life_step p n m t a (BirthLocal y h) rest x here =
-    let next : IsNext m t a y = (head_of p n m t a (BirthLocal y h) rest here).0 in
-    elim (eqb_tells y x) [
-      | inl same ↦
-          IsBorn (ap (λ (b : Bool). cond b Live (m.life x)) same.0)
-          (ap m.life (sym same.1) ∙ next_unborn p n m t a y here.core here.found next)
-          (subst (λ (z : ℕ). IsCounted m.layout z) same.1 (next_counted m t a y next)) (ap Some same.1) refl
-      | inr other ↦ GoesOn (ap (λ (b : Bool). cond b Live (m.life x)) other.0) (λ e. none_some x e)
-    ]
-life_step p n m t a d rest x here =
-    life_with p n m t a d rest x (dies_next (next_of m t a d)) (ended_row d) here refl refl
+module _ {p : Accounts} {n : ℕ} {m : Machine} {t : ℕ} {a : Actor} {rest : List Duty} where
+  -- Every step changes a row's life in one of these four ways.
+  pub life_step : (d : Duty) (x : ℕ) → AtDuty p n m t a d rest → LifeStep m t d x ((done_by m t a d rest).life x)
+  life_step (BirthLocal y h) x here =
+      let next : IsNext m t a y = (head_of here).0 in
+      elim (eqb_tells y x) [
+        | inl same ↦
+            IsBorn (ap (λ (b : Bool). cond b Live (m.life x)) same.0)
+            (ap m.life (sym same.1) ∙ next_unborn p n m t a y here.core here.found next)
+            (subst (λ (z : ℕ). IsCounted m.layout z) same.1 (next_counted m t a y next)) (ap Some same.1) refl
+        | inr other ↦ GoesOn (ap (λ (b : Bool). cond b Live (m.life x)) other.0) (λ e. none_some x e)
+      ]
+  life_step d x here = life_with x (dies_next (next_of m t a d)) (ended_row d) here refl refl
 
 -- ---- the list of closed rows after a step
 

@@ -5,7 +5,7 @@ use Rattle.std.specs.Prelude.{slice_get, slice_set, sum_by}
 use Rattle.std.proofs.lemmas.Bool.{ne_eqb}
 use Rattle.std.proofs.lemmas.List.Sums.{sum_by-cons}
 use Rattle.brc_model.specs.declared.duty.Duty.{Duty}
-use Rattle.brc_model.specs.declared.duty.Duty.TheVariants.{Die, SettleKind, SettleCell, TakeSlot, CloseResource, SettleEnd}
+use Rattle.brc_model.specs.declared.duty.Duty.TheVariants.{Die}
 use Rattle.brc_model.specs.Machine.{Actor, Life, Dying, Machine, idle_actor}
 use Rattle.brc_model.specs.References.{one_if}
 use Rattle.brc_model.specs.RowInvariant.{agenda_weight, weight}
@@ -29,12 +29,7 @@ list_weight x f few (d ∷ ds) =
 
 waiting_finalises : (d : Duty) (x : ℕ) → may_wait d ≡ true → is_finalising d x ≡ false
 waiting_finalises (Die y) x waits = absurd cc
-waiting_finalises (SettleKind y) x waits = absurd cc
-waiting_finalises (SettleCell y i n) x waits = absurd cc
-waiting_finalises (TakeSlot y) x waits = absurd cc
-waiting_finalises (CloseResource y) x waits = absurd cc
-waiting_finalises (SettleEnd y) x waits = absurd cc
-waiting_finalises _ x waits = refl
+waiting_finalises _ x waits = cc
 
 -- The duties that a thread has put aside finalise nothing.
 pub waiting_weight : (x : ℕ) (f : Duty → ℕ) (m : Machine) (t : ℕ) (a : Actor) (ds : List Duty) → Finalises x f

@@ -15,7 +15,7 @@ use Rattle.brc_model.specs.Moves.{reference_effects}
 use Rattle.brc_model.proofs.Basics.Blocks.{next_unborn}
 use Rattle.brc_model.proofs.Frame.Items.{word_stays}
 use Rattle.brc_model.proofs.Frame.Leaves.{head_of}
-use Rattle.brc_model.proofs.Stepping.Neutral.{found_by, memory_by}
+use Rattle.brc_model.proofs.Stepping.FitsAfter.{found_by, memory_by}
 use Rattle.brc_model.proofs.Basics.Moves.{moved_keeps}
 use Rattle.brc_model.proofs.Objects.UsesAfter.{BearsNone, moves_none, before_or_now}
 use Rattle.brc_model.proofs.Basics.Lists.{some_is}
@@ -59,42 +59,40 @@ same_kinds m t d found none =
     moved_keeps (λ p. p.kinds) BearsNone move_kinds m.abstract (reference_effects m.memory t d found)
     (moves_none m.memory t d found none)
 
--- No step changes the kind of a born row.
-kind_stays : (p : Accounts) (n : ℕ) (m : Machine) (t : ℕ) (a : Actor) (d : Duty) (rest : List Duty) (x : ℕ)
-    → AtDuty p n m t a d rest → m.life x ≢ Unborn → (done_by m t a d rest).abstract.kinds x ≡ m.abstract.kinds x
-kind_stays p n m t a (BirthLocal y h) rest x here born =
-    let next = (head_of p n m t a (BirthLocal y h) rest here).0 in
-    let apart : y ≡ x → ⊥ = λ e. born (ap m.life (sym e) ∙ next_unborn p n m t a y here.core here.found next) in
-    ap (λ (b : Bool). cond b (kind_of_word (m.memory (KindOf y))) (m.abstract.kinds x)) (ne_eqb y x apart)
-kind_stays p n m t a d rest x here born = ap (λ (k : ℕ → Kind). k x) (same_kinds m t d (found_by m t a d) refl)
+module _ {p : Accounts} {n : ℕ} {m : Machine} {t : ℕ} {a : Actor} {rest : List Duty} where
+  -- No step changes the kind of a born row.
+  kind_stays : (d : Duty) (x : ℕ) → AtDuty p n m t a d rest → m.life x ≢ Unborn
+      → (done_by m t a d rest).abstract.kinds x ≡ m.abstract.kinds x
+  kind_stays (BirthLocal y h) x here born =
+      let next = (head_of here).0 in
+      let apart : y ≡ x → ⊥ = λ e. born (ap m.life (sym e) ∙ next_unborn p n m t a y here.core here.found next) in
+      ap (λ (b : Bool). cond b (kind_of_word (m.memory (KindOf y))) (m.abstract.kinds x)) (ne_eqb y x apart)
+  kind_stays d x here born = ap (λ (k : ℕ → Kind). k x) (same_kinds m t d (found_by m t a d) refl)
 
--- A row that this step gives birth to is of the kind that its kind word names.
-kind_is_said : (p : Accounts) (n : ℕ) (m : Machine) (t : ℕ) (a : Actor) (d : Duty) (rest : List Duty) (x : ℕ)
-    → AtDuty p n m t a d rest → born_row d ≡ Some x
-    → kind_part (memory_by m t a d (KindOf x)) ≡ kind_number ((done_by m t a d rest).abstract.kinds x)
-kind_is_said p n m t a (BirthLocal y h) rest x here is =
-    let same : y ≡ x = some_is y x is in
-    let said = (head_of p n m t a (BirthLocal y h) rest here).2 in
-    let word : ℕ = m.memory (KindOf y) in
-    let kind : (done_by m t a (BirthLocal y h) rest).abstract.kinds x ≡ kind_of_word word =
-    ap (λ (b : Bool). cond b (kind_of_word word) (m.abstract.kinds x)) (eq-eqb y x same) in
-    ap (λ (z : ℕ). kind_part (m.memory (KindOf z))) (sym same)
-    ∙ counted_number (kind_part word) said
-    ∙ ap kind_number (sym kind)
-kind_is_said p n m t a _ rest x here is = absurd (let wrong : None ≡ Some x = is in cc)
+  -- A row that this step gives birth to is of the kind that its kind word names.
+  kind_is_said : (d : Duty) (x : ℕ) → AtDuty p n m t a d rest → born_row d ≡ Some x
+      → kind_part (memory_by m t a d (KindOf x)) ≡ kind_number ((done_by m t a d rest).abstract.kinds x)
+  kind_is_said (BirthLocal y h) x here is =
+      let same : y ≡ x = some_is y x is in
+      let said = (head_of here).2 in
+      let word : ℕ = m.memory (KindOf y) in
+      let kind : (done_by m t a (BirthLocal y h) rest).abstract.kinds x ≡ kind_of_word word =
+      ap (λ (b : Bool). cond b (kind_of_word word) (m.abstract.kinds x)) (eq-eqb y x same) in
+      ap (λ (z : ℕ). kind_part (m.memory (KindOf z))) (sym same) ∙ counted_number (kind_part word) said ∙ ap kind_number
+      (sym kind)
+  kind_is_said _ x here is = absurd (let wrong : None ≡ Some x = is in cc)
 
--- After a thread's step the kind word of each born row names its kind.
-pub kinds_after : (p : Accounts) (n : ℕ) (m : Machine) (t : ℕ) (a : Actor) (d : Duty) (rest : List Duty)
-    → AtDuty p n m t a d rest → (x : ℕ) → (done_by m t a d rest).life x ≢ Unborn
-    → kind_part ((done_by m t a d rest).memory (KindOf x)) ≡ kind_number ((done_by m t a d rest).abstract.kinds x)
-kinds_after p n m t a d rest here x born =
-    elim (before_or_now p n m t a d rest x here born) [
-      | inl was ↦
-          ap kind_part (word_stays p n m t a d rest x here was)
-          ∙ here.core.kinds x was
-          ∙ ap kind_number (sym (kind_stays p n m t a d rest x here was))
-      | inr now ↦ kind_is_said p n m t a d rest x here now
-    ]
+module _ {p : Accounts} {n : ℕ} {m : Machine} {t : ℕ} {a : Actor} {d : Duty} {rest : List Duty} where
+  -- After a thread's step the kind word of each born row names its kind.
+  pub kinds_after : AtDuty p n m t a d rest → (x : ℕ) → (done_by m t a d rest).life x ≢ Unborn
+      → kind_part ((done_by m t a d rest).memory (KindOf x)) ≡ kind_number ((done_by m t a d rest).abstract.kinds x)
+  kinds_after here x born =
+      elim (before_or_now x here born) [
+        | inl was ↦
+            ap kind_part (word_stays p n m t a d rest x here was) ∙ here.core.kinds x was ∙ ap kind_number
+            (sym (kind_stays d x here was))
+        | inr now ↦ kind_is_said d x here now
+      ]
 
 -- The kind word of a row that this step gives birth to isn't 0.
 counted_word : (word : ℕ) → is_counted_kind (kind_of_word word) ≡ true → 0 < word
@@ -106,20 +104,19 @@ counted_word word said = elim (eqb_tells word 0) [
   | inr some ↦ omega (arith, some.1)
 ]
 
-word_is_said : (p : Accounts) (n : ℕ) (m : Machine) (t : ℕ) (a : Actor) (d : Duty) (rest : List Duty) (x : ℕ)
-    → AtDuty p n m t a d rest → born_row d ≡ Some x → 0 < memory_by m t a d (KindOf x)
-word_is_said p n m t a (BirthLocal y h) rest x here is =
-    let same : y ≡ x = some_is y x is in
-    subst (λ (z : ℕ). 0 < m.memory (KindOf z)) same
-    (counted_word (m.memory (KindOf y)) (head_of p n m t a (BirthLocal y h) rest here).2)
-word_is_said p n m t a _ rest x here is = absurd (let wrong : None ≡ Some x = is in cc)
+module _ {p : Accounts} {n : ℕ} {m : Machine} {t : ℕ} {a : Actor} {rest : List Duty} where
+  word_is_said : (d : Duty) (x : ℕ) → AtDuty p n m t a d rest → born_row d ≡ Some x → 0 < memory_by m t a d (KindOf x)
+  word_is_said (BirthLocal y h) x here is =
+      let same : y ≡ x = some_is y x is in
+      subst (λ (z : ℕ). 0 < m.memory (KindOf z)) same (counted_word (m.memory (KindOf y)) (head_of here).2)
+  word_is_said _ x here is = absurd (let wrong : None ≡ Some x = is in cc)
 
--- After a thread's step the kind word of no born row is 0.
-pub kind_words_after : (p : Accounts) (n : ℕ) (m : Machine) (t : ℕ) (a : Actor) (d : Duty) (rest : List Duty)
-    → AtDuty p n m t a d rest → (x : ℕ) → (done_by m t a d rest).life x ≢ Unborn
-    → 0 < (done_by m t a d rest).memory (KindOf x)
-kind_words_after p n m t a d rest here x born =
-    elim (before_or_now p n m t a d rest x here born) [
-      | inl was ↦ omega (arith, word_stays p n m t a d rest x here was, here.core.kind_words x was)
-      | inr now ↦ word_is_said p n m t a d rest x here now
-    ]
+module _ {p : Accounts} {n : ℕ} {m : Machine} {t : ℕ} {a : Actor} {d : Duty} {rest : List Duty} where
+  -- After a thread's step the kind word of no born row is 0.
+  pub kind_words_after : AtDuty p n m t a d rest → (x : ℕ) → (done_by m t a d rest).life x ≢ Unborn
+      → 0 < (done_by m t a d rest).memory (KindOf x)
+  kind_words_after here x born =
+      elim (before_or_now x here born) [
+        | inl was ↦ omega (arith, word_stays p n m t a d rest x here was, here.core.kind_words x was)
+        | inr now ↦ word_is_said d x here now
+      ]

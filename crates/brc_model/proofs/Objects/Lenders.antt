@@ -44,12 +44,11 @@ lends-le x actors t a is =
 module _ (p : Accounts) (n : ℕ) (m : Machine) (x : ℕ) where
   -- The resource of a row that doesn't live isn't lent.
   pub none_lent : CoreInvariant p n m → m.life x ≢ Live → lenders x m.actors ≡ 0
-  none_lent core dead =
-      sum_zero (lends x) m.actors (λ u b found.
+  none_lent core dead = sum_zero (lends x) m.actors (λ u b found.
       elim (names b.lent x) as (λ c. names b.lent x ≡ c → one_if c ≡ 0) [
         | true ↦ λ e.
             let locked = (core.each u b found).0.lent x (names_is b.lent x e) in
-            absurd (dead (locked_alive p n m u b x core found locked).life)
+            absurd (dead (locked_alive u b x core found locked).life)
         | false ↦ λ e. refl
       ] refl)
 

@@ -15,7 +15,7 @@ use Rattle.brc_model.proofs.Objects.ResourcesElsewhere.{moves_resource, elsewher
 use Rattle.brc_model.proofs.Objects.ResourcesLent.{after_lend, after_return}
 use Rattle.brc_model.proofs.Objects.ResourcesSettled.{after_take, after_close, after_end, after_cell, after_kind}
 
-module _ (p : Accounts) (n : ℕ) (m : Machine) (t : ℕ) (a : Actor) where
+module _ {p : Accounts} {n : ℕ} {m : Machine} {t : ℕ} {a : Actor} where
   -- ---- a birth
 
   -- The row isn't born yet, and its resource isn't closed.
@@ -23,7 +23,7 @@ module _ (p : Accounts) (n : ℕ) (m : Machine) (t : ℕ) (a : Actor) where
       → ResourcesFit ((done_by m t a (BirthSlot x h) rest).life x)
       (resources_at (done_by m t a (BirthSlot x h) rest) x)
   after_birth_slot x h rest here =
-      let next = (head_of p n m t a (BirthSlot x h) rest here).0 in
+      let next = (head_of here).0 in
       let unborn = next_unborn p n m t a x here.core here.found next in
       let fit : ResourcesFit Unborn (resources_at m x) =
       subst (λ (l : Life). ResourcesFit l (resources_at m x)) unborn (here.core.resources x) in

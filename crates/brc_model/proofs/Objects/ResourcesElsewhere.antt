@@ -17,7 +17,7 @@ use Rattle.brc_model.proofs.Basics.Lists.{some_is, none_some, either}
 use Rattle.brc_model.proofs.Basics.Written.{written_apart}
 use Rattle.brc_model.proofs.Frame.Items.{word_stays}
 use Rattle.brc_model.proofs.Frame.Leaves.{head_of}
-use Rattle.brc_model.proofs.Stepping.Neutral.{found_by, memory_by}
+use Rattle.brc_model.proofs.Stepping.FitsAfter.{found_by, memory_by}
 use Rattle.brc_model.proofs.Objects.Closing.{GoesOn, BeginsToDie, IsClosed, IsBorn, life_step}
 use Rattle.brc_model.proofs.Objects.Finalisers.{unfinalised}
 use Rattle.brc_model.proofs.Objects.Lenders.{none_named, lenders-set, none_lent}
@@ -83,18 +83,11 @@ moves_resource _ x = false
 
 no_settling : (d : Duty) (x : ℕ) → moves_resource d x ≡ false → settles_row d x ≡ false
 no_settling (SettleKind y) x e = e
-no_settling (SettleCell y i n) x e = e
-no_settling (TakeSlot y) x e = e
-no_settling (CloseResource y) x e = e
-no_settling (SettleEnd y) x e = e
-no_settling _ x e = refl
+no_settling _ x e = cc
 
 no_step : (d : Duty) (x : ℕ) → moves_resource d x ≡ false → settles d x ≡ false
 no_step (SettleCell y i n) x e = e
-no_step (TakeSlot y) x e = e
-no_step (CloseResource y) x e = e
-no_step (SettleEnd y) x e = e
-no_step _ x e = refl
+no_step _ x e = cc
 
 module _ (p : Accounts) (n : ℕ) (m : Machine) (t : ℕ) (a : Actor) where
   slot_same : (d : Duty) (x : ℕ) → moves_resource d x ≡ false → memory_by m t a d (Slot x) ≡ m.memory (Slot x)
@@ -115,11 +108,11 @@ module _ (p : Accounts) (n : ℕ) (m : Machine) (t : ℕ) (a : Actor) where
   lends_same : (d : Duty) (rest : List Duty) (x : ℕ) → AtDuty p n m t a d rest → moves_resource d x ≡ false
       → lends x (actor_by m.layout t a d rest (found_by m t a d)) ≡ lends x a
   lends_same (LendSlot y) rest x here e =
-      let none = none_named a.lent x (head_of p n m t a (LendSlot y) rest here).2 in
+      let none = none_named a.lent x (head_of here).2 in
       either (λ (o : Option ℕ). one_if (names o x) ≡ one_if (names a.lent x)) (m.memory (Slot y) == 1) (Some y) a.lent
       (λ found. turned y x e ∙ sym none) refl
   lends_same (ReturnSlot y) rest x here e =
-      let lent : a.lent ≡ Some y = head_of p n m t a (ReturnSlot y) rest here in
+      let lent : a.lent ≡ Some y = head_of here in
       sym (ap (λ (o : Option ℕ). one_if (names o x)) lent ∙ turned y x e)
   lends_same _ rest x here e = refl
 
@@ -160,8 +153,7 @@ module _ (p : Accounts) (n : ℕ) (m : Machine) (t : ℕ) (a : Actor) where
   born_slot : (d : Duty) (rest : List Duty) (x : ℕ) → AtDuty p n m t a d rest → born_row d ≡ Some x
       → m.memory (Slot x) ≡ resources_of (memory_by m t a d (KindOf x))
   born_slot (BirthLocal y h) rest x here born =
-      subst (λ (z : ℕ). m.memory (Slot z) ≡ resources_of (m.memory (KindOf z))) (some_is y x born)
-      (head_of p n m t a (BirthLocal y h) rest here).3
+      subst (λ (z : ℕ). m.memory (Slot z) ≡ resources_of (m.memory (KindOf z))) (some_is y x born) (head_of here).3
   born_slot _ rest x here born = absurd (none_some x born)
 
   is_born : (d : Duty) (rest : List Duty) (x : ℕ) → AtDuty p n m t a d rest → moves_resource d x ≡ false
@@ -190,11 +182,10 @@ module _ (p : Accounts) (n : ℕ) (m : Machine) (t : ℕ) (a : Actor) where
       let old = resources_at m x in
       let new = resources_at (done_by m t a d rest) x in
       let P : Life → Type 0 = λ l. ResourcesFit l new in
-      elim (life_step p n m t a d rest x here) [
+      elim (life_step d x here) [
         | GoesOn now other ↦
             subst P (sym now) (same_fits (m.life x) old new (same_numbers d rest x here e) (here.core.resources x))
         | BeginsToDie now lives counted none ↦ subst P (sym now) (begins_settling d rest x here e lives)
-        | IsClosed now dying counted ended ↦
-            absurd (let wrong : false ≡ true = sym e ∙ ended_settles d x ended in cc)
+        | IsClosed now dying counted ended ↦ absurd (let wrong : false ≡ true = sym e ∙ ended_settles d x ended in cc)
         | IsBorn now unborn counted born none ↦ subst P (sym now) (is_born d rest x here e unborn born)
       ]

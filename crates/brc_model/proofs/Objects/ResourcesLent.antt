@@ -14,7 +14,7 @@ use Rattle.brc_model.specs.Invariant.{AtDuty, CoreInvariant}
 use Rattle.brc_model.specs.Resources.{closing, resources_at, ResourcesFit}
 use Rattle.brc_model.proofs.Basics.Written.{written_here}
 use Rattle.brc_model.proofs.Frame.Leaves.{head_of, locked_alive}
-use Rattle.brc_model.proofs.Stepping.Neutral.{found_by}
+use Rattle.brc_model.proofs.Stepping.FitsAfter.{found_by}
 use Rattle.brc_model.proofs.Objects.Finalisers.{unfinalised}
 use Rattle.brc_model.proofs.Objects.Lenders.{is_named, none_named, lenders-set, lends-le, locker_alone}
 use Rattle.brc_model.proofs.Objects.SettlingWeights.{settles, settles_row, finalises, of_closing, settling_kept}
@@ -30,13 +30,12 @@ module _ (p : Accounts) (n : ℕ) (m : Machine) (t : ℕ) (a : Actor) where
   -- A thread that is about to lend a resource finds it in its slot.
   pub lending_finds : (x : ℕ) (rest : List Duty) → AtDuty p n m t a (LendSlot x) rest → m.memory (Slot x) ≡ 1
   lending_finds x rest here =
-      let head = head_of p n m t a (LendSlot x) rest here in
-      let lives = (locked_alive p n m t a x here.core here.found head.1).life in
+      let head = head_of here in
+      let lives = (locked_alive t a x here.core here.found head.1).life in
       let fit : ResourcesFit Live (resources_at m x) =
       subst (λ (l : Life). ResourcesFit l (resources_at m x)) lives (here.core.resources x) in
       let none : (u : ℕ) → dies_by (m.life x) u ≡ false = λ u. ap (λ (l : Life). dies_by l u) lives in
-      let none_closing =
-      unfinalised p n m x (closing x) (finalises x (closing x) (of_closing x)) here.core none in
+      let none_closing = unfinalised p n m x (closing x) (finalises x (closing x) (of_closing x)) here.core none in
       let not_lent = locker_alone p n m x t a here.core here.found head.1 head.2 in
       let one : resources_of (m.memory (KindOf x)) ≡ 1 = ap (λ (b : Bool). cond b 1 0) head.3 in
       omega (arith, fit.0, fit.1, none_closing, not_lent, one)
@@ -46,7 +45,7 @@ module _ (p : Accounts) (n : ℕ) (m : Machine) (t : ℕ) (a : Actor) where
       → m.memory (Slot x) ≡ 0
   lent_leaves_none x core found lent =
       let locked = (core.each t a found).0.lent x lent in
-      let lives = (locked_alive p n m t a x core found locked).life in
+      let lives = (locked_alive t a x core found locked).life in
       let fit : ResourcesFit Live (resources_at m x) =
       subst (λ (l : Life). ResourcesFit l (resources_at m x)) lives (core.resources x) in
       omega (
@@ -59,16 +58,15 @@ module _ (p : Accounts) (n : ℕ) (m : Machine) (t : ℕ) (a : Actor) where
 
   -- A thread that returns a resource finds the slot empty.
   pub returning_finds : (x : ℕ) (rest : List Duty) → AtDuty p n m t a (ReturnSlot x) rest → m.memory (Slot x) ≡ 0
-  returning_finds x rest here =
-      lent_leaves_none x here.core here.found (head_of p n m t a (ReturnSlot x) rest here)
+  returning_finds x rest here = lent_leaves_none x here.core here.found (head_of here)
 
   pub after_lend : (x : ℕ) (rest : List Duty) → AtDuty p n m t a (LendSlot x) rest
       → ResourcesFit ((done_by m t a (LendSlot x) rest).life x) (resources_at (done_by m t a (LendSlot x) rest) x)
   after_lend x rest here =
       let d : Duty = LendSlot x in
       let new = resources_at (done_by m t a d rest) x in
-      let head = head_of p n m t a d rest here in
-      let lives = (locked_alive p n m t a x here.core here.found head.1).life in
+      let head = head_of here in
+      let lives = (locked_alive t a x here.core here.found head.1).life in
       let fit : ResourcesFit Live (resources_at m x) =
       subst (λ (l : Life). ResourcesFit l (resources_at m x)) lives (here.core.resources x) in
       let after = actor_by m.layout t a d rest (found_by m t a d) in
@@ -93,9 +91,9 @@ module _ (p : Accounts) (n : ℕ) (m : Machine) (t : ℕ) (a : Actor) where
   after_return x rest here =
       let d : Duty = ReturnSlot x in
       let new = resources_at (done_by m t a d rest) x in
-      let lent = head_of p n m t a d rest here in
+      let lent = head_of here in
       let locked = (here.core.each t a here.found).0.lent x lent in
-      let lives = (locked_alive p n m t a x here.core here.found locked).life in
+      let lives = (locked_alive t a x here.core here.found locked).life in
       let fit : ResourcesFit Live (resources_at m x) =
       subst (λ (l : Life). ResourcesFit l (resources_at m x)) lives (here.core.resources x) in
       let after = actor_by m.layout t a d rest (found_by m t a d) in

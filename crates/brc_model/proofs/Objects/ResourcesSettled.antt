@@ -18,7 +18,7 @@ use Rattle.brc_model.proofs.Basics.Written.{written_here}
 use Rattle.brc_model.proofs.Frame.Items.{word_stays}
 use Rattle.brc_model.proofs.Frame.Leaves.{head_of}
 use Rattle.brc_model.proofs.Frame.Lives.{next_of}
-use Rattle.brc_model.proofs.Stepping.Neutral.{found_by, memory_by}
+use Rattle.brc_model.proofs.Stepping.FitsAfter.{found_by, memory_by}
 use Rattle.brc_model.proofs.Objects.Closing.{GoesOn, BeginsToDie, IsClosed, IsBorn, life_step}
 use Rattle.brc_model.proofs.Objects.Finalisers.{finalised_alone}
 use Rattle.brc_model.proofs.Objects.Lenders.{lenders-set, none_lent}
@@ -46,7 +46,7 @@ module _ (p : Accounts) (n : ℕ) (m : Machine) (t : ℕ) (a : Actor) where
   still_dies : (d : Duty) (rest : List Duty) (x : ℕ) → AtDuty p n m t a d rest → ended_row d ≡ None
       → m.life x ≡ Dying t → (done_by m t a d rest).life x ≡ Dying t
   still_dies d rest x here none dies =
-      elim (life_step p n m t a d rest x here) [
+      elim (life_step d x here) [
         | GoesOn now other ↦ now ∙ dies
         | BeginsToDie now lives counted other ↦ now
         | IsClosed now dying counted ended ↦ absurd (none_some x (sym none ∙ ended))
@@ -57,14 +57,14 @@ module _ (p : Accounts) (n : ℕ) (m : Machine) (t : ℕ) (a : Actor) where
   pub taking_finds : (x : ℕ) (rest : List Duty) → AtDuty p n m t a (TakeSlot x) rest → m.memory (Slot x) ≡ 1
   taking_finds x rest here =
       let d : Duty = TakeSlot x in
-      let dies = (head_of p n m t a d rest here).1 in
+      let dies = (head_of here).1 in
       let fit = settling d rest x here dies in
       let this = eq-eqb x x refl in
       let none_closing =
       finalised_alone p n m x (closing x) (finalises x (closing x) (of_closing x)) t a d rest here this dies in
       let none_ending =
       finalised_alone p n m x (ending x) (finalises x (ending x) (of_ending x)) t a d rest here this dies in
-      let one = (head_of p n m t a d rest here).4 in
+      let one = (head_of here).4 in
       let shut = fit.unclosed none_ending in
       omega (arith, fit.placed, one, shut, none_closing, none_lent p n m x here.core (dying_unlive x dies))
 
@@ -73,7 +73,7 @@ module _ (p : Accounts) (n : ℕ) (m : Machine) (t : ℕ) (a : Actor) where
       → m.memory (Resource x) ≡ 0
   closing_finds x rest here =
       let d : Duty = CloseResource x in
-      let dies = (head_of p n m t a d rest here).1 in
+      let dies = (head_of here).1 in
       let fit = settling d rest x here dies in
       let this = eq-eqb x x refl in
       let closes =
@@ -85,7 +85,7 @@ module _ (p : Accounts) (n : ℕ) (m : Machine) (t : ℕ) (a : Actor) where
   after_take x rest here =
       let d : Duty = TakeSlot x in
       let next : List Duty = CloseResource x ∷ [] in
-      let dies = (head_of p n m t a d rest here).1 in
+      let dies = (head_of here).1 in
       let fit = settling d rest x here dies in
       let this = eq-eqb x x refl in
       let after = actor_by m.layout t a d rest (found_by m t a d) in
@@ -120,7 +120,7 @@ module _ (p : Accounts) (n : ℕ) (m : Machine) (t : ℕ) (a : Actor) where
   after_close x rest here =
       let d : Duty = CloseResource x in
       let next : List Duty = SettleEnd x ∷ [] in
-      let dies = (head_of p n m t a d rest here).1 in
+      let dies = (head_of here).1 in
       let fit = settling d rest x here dies in
       let this = eq-eqb x x refl in
       let after = actor_by m.layout t a d rest (found_by m t a d) in
@@ -146,12 +146,11 @@ module _ (p : Accounts) (n : ℕ) (m : Machine) (t : ℕ) (a : Actor) where
       → ResourcesFit ((done_by m t a (SettleEnd x) rest).life x) (resources_at (done_by m t a (SettleEnd x) rest) x)
   after_end x rest here =
       let d : Duty = SettleEnd x in
-      let dies = (head_of p n m t a d rest here).1 in
+      let dies = (head_of here).1 in
       let fit = settling d rest x here dies in
       let this = eq-eqb x x refl in
       let after = actor_by m.layout t a d rest (found_by m t a d) in
-      let was =
-      finalised_alone p n m x (ending x) (finalises x (ending x) (of_ending x)) t a d rest here this dies in
+      let was = finalised_alone p n m x (ending x) (finalises x (ending x) (of_ending x)) t a d rest here this dies in
       let shut = fit.shut (omega (arith, was, one_here x)) in
       let lent = lenders-set x m.actors t a after here.found in
       let closes = settling_stepped x (closing x) (of_closing x) p n m t a d rest [] here refl in
@@ -207,7 +206,7 @@ module _ (p : Accounts) (n : ℕ) (m : Machine) (t : ℕ) (a : Actor) where
       (resources_at (done_by m t a (SettleCell x i k) rest) x)
   after_cell x i k rest here =
       let d : Duty = SettleCell x i k in
-      let fits = head_of p n m t a d rest here in
+      let fits = head_of here in
       settles_on d rest x here fits.1 refl refl refl refl refl refl
       (released_light x (closing x) (of_closing x) (m.memory (Cell x i)) (cells_from x (i + 1) k)
       ∙ cells_weigh (closing x) x (i + 1) k refl refl) (λ some. fits.5)
@@ -217,12 +216,11 @@ module _ (p : Accounts) (n : ℕ) (m : Machine) (t : ℕ) (a : Actor) where
   after_kind x rest here =
       let d : Duty = SettleKind x in
       let word = m.memory (KindOf x) in
-      let dies = (head_of p n m t a d rest here).1 in
+      let dies = (head_of here).1 in
       let cells : List Duty = cells_from x 0 (cells_of word) in
       elim (cases_Bool (has_resource word)) [
         | inl some ↦
-            let next : next_of m t a d ≡ TakeSlot x ∷ [] =
-            ap (λ (b : Bool). cond b (TakeSlot x ∷ []) cells) some in
+            let next : next_of m t a d ≡ TakeSlot x ∷ [] = ap (λ (b : Bool). cond b (TakeSlot x ∷ []) cells) some in
             let ends : sum_by (ending x) (next_of m t a d) ≡ 0 =
             ap (sum_by (ending x)) next ∙ sum_by-cons (ending x) (TakeSlot x) [] in
             settles_on d rest x here dies refl refl refl refl refl refl
@@ -232,6 +230,5 @@ module _ (p : Accounts) (n : ℕ) (m : Machine) (t : ℕ) (a : Actor) where
             let next : next_of m t a d ≡ cells = ap (λ (b : Bool). cond b (TakeSlot x ∷ []) cells) none in
             let zero_here : resources_of word ≡ 0 = ap (λ (b : Bool). cond b 1 0) none in
             settles_on d rest x here dies refl refl refl refl refl refl
-            (ap (sum_by (closing x)) next ∙ cells_weigh (closing x) x 0 (cells_of word) refl refl)
-            (λ more. zero_here)
+            (ap (sum_by (closing x)) next ∙ cells_weigh (closing x) x 0 (cells_of word) refl refl) (λ more. zero_here)
       ]

@@ -2,7 +2,7 @@
 use Rattle.std.proofs.Common.{◌≡◌, ◌≢◌, ℕ, ◌+◌, ◌-◌, ◌≤◌, refl, ◌∙◌, arith}
 use Rattle.brc_word.specs.Words.{local_part, biased_part, phase_part, bias, dead_word, merged_word}
 use Rattle.brc_model.specs.RowInvariant.{Numbers, IsDefault, IsQueued, AtZero, AboveZero, InOwned, InSwapped, InMerged, IsLive, IsDead}
-use Rattle.brc_model.proofs.Objects.RowSteps.{shared_down, shared_merged, shared_range}
+use Rattle.brc_model.proofs.Objects.RowSteps.{shared_down, shared_merged, shared_range, merged_only, mode_kept}
 
 -- ---- the handed reference of a merged object
 
@@ -10,59 +10,38 @@ use Rattle.brc_model.proofs.Objects.RowSteps.{shared_down, shared_merged, shared
 pub handed_lost : (owner : ℕ) (n : Numbers) → IsLive owner n → phase_part n.shared ≡ 3 → n.shared - 4 ≢ dead_word
     → 1 ≤ n.waiting
     → IsLive owner (record n { shared = n.shared - 4; waiting = n.waiting - 1 })
-handed_lost owner n live phase alive some = let down = shared_down n.shared (shared_range owner n live) in record {
-  sum = omega (arith, live.sum, down.0, some);
-  mode = elim live.mode [
-    | InOwned m ↦
-        elim m.phased [
-          | IsDefault p w b ↦ absurd (omega (arith, p, phase))
-          | IsQueued p w ↦ absurd (omega (arith, p, phase))
-        ]
-    | InSwapped m ↦
-        elim m.phased [
-          | IsDefault p w b ↦ absurd (omega (arith, p, phase))
-          | IsQueued p w ↦ absurd (omega (arith, p, phase))
-        ]
-    | InMerged m ↦ InMerged (record {
-      local = m.local;
-      merging = m.merging;
-      carried = m.carried;
-      deciding = m.deciding;
-      phase = down.1 ∙ m.phase;
-      counted = omega (arith, down.0, down.1, m.phase, m.counted, alive);
-      awaits = omega (arith, m.awaits, some);
-    })
-  ];
-}
+handed_lost owner n live phase alive some =
+    let down = shared_down n.shared (shared_range owner n live) in
+    let m = merged_only owner n live phase in
+    record {
+      sum = omega (arith, live.sum, down.0, some);
+      mode = InMerged (record {
+        local = m.local;
+        merging = m.merging;
+        carried = m.carried;
+        deciding = m.deciding;
+        phase = down.1 ∙ m.phase;
+        counted = omega (arith, down.0, down.1, m.phase, m.counted, alive);
+        awaits = omega (arith, m.awaits, some);
+      });
+    }
 
 -- `DecrementsToZero`, for a handed reference: it was the last one.
 pub handed_dies : (owner : ℕ) (n : Numbers) → IsLive owner n → n.shared - 4 ≡ dead_word → 1 ≤ n.waiting
     → IsDead (record n { shared = n.shared - 4; waiting = n.waiting - 1 })
 handed_dies owner n live dead some =
-    let phase : phase_part n.shared ≡ 3 = omega (arith, dead) in
+    let m = merged_only owner n live (omega (arith, dead)) in
     let count : biased_part n.shared ≡ bias + 1 = omega (arith, dead) in
-    elim live.mode [
-      | InOwned m ↦
-          elim m.phased [
-            | IsDefault p w b ↦ absurd (omega (arith, p, phase))
-            | IsQueued p w ↦ absurd (omega (arith, p, phase))
-          ]
-      | InSwapped m ↦
-          elim m.phased [
-            | IsDefault p w b ↦ absurd (omega (arith, p, phase))
-            | IsQueued p w ↦ absurd (omega (arith, p, phase))
-          ]
-      | InMerged m ↦ record {
-        local = omega (arith, m.local);
-        shared = omega (arith, dead);
-        mark = omega (arith, live.sum, m.local, count, m.carried, some);
-        references = omega (arith, live.sum, m.local, count, m.carried, some);
-        waiting = omega (arith, live.sum, m.local, count, m.carried, some);
-        carried = m.carried;
-        merging = m.merging;
-        deciding = m.deciding;
-      }
-    ]
+    record {
+      local = omega (arith, m.local);
+      shared = omega (arith, dead);
+      mark = omega (arith, live.sum, m.local, count, m.carried, some);
+      references = omega (arith, live.sum, m.local, count, m.carried, some);
+      waiting = omega (arith, live.sum, m.local, count, m.carried, some);
+      carried = m.carried;
+      merging = m.merging;
+      deciding = m.deciding;
+    }
 
 -- ---- a pending decrement moves between a duty and the mark
 
@@ -70,32 +49,10 @@ same_awaiting : (owner : ℕ) (n : Numbers) (mark waiting : ℕ) → mark + wait
     → IsLive owner (record n { mark = mark; waiting = waiting })
 same_awaiting owner n mark waiting same live = record {
   sum = omega (arith, live.sum, same);
-  mode = elim live.mode [
-    | InOwned m ↦ InOwned (record {
-      owned = m.owned;
-      low = m.low;
-      merging = m.merging;
-      carried = m.carried;
-      decided = elim m.decided [ AtZero z d ↦ AtZero z d | AboveZero z d ↦ AboveZero z d ];
-      phased = elim m.phased [ IsDefault p w b ↦ IsDefault p (same ∙ w) b | IsQueued p w ↦ IsQueued p (same ∙ w) ];
-    })
-    | InSwapped m ↦ InSwapped (record {
-      local = m.local;
-      merging = m.merging;
-      carried = m.carried;
-      deciding = m.deciding;
-      phased = elim m.phased [ IsDefault p w b ↦ IsDefault p (same ∙ w) b | IsQueued p w ↦ IsQueued p (same ∙ w) ];
-    })
-    | InMerged m ↦ InMerged (record {
-      local = m.local;
-      merging = m.merging;
-      carried = m.carried;
-      deciding = m.deciding;
-      phase = m.phase;
-      counted = m.counted;
-      awaits = omega (arith, same, m.awaits);
-    })
-  ];
+  mode = mode_kept owner n n.shared mark n.references waiting (λ phased. elim phased [
+    | IsDefault p w b ↦ IsDefault p (same ∙ w) b
+    | IsQueued p w ↦ IsQueued p (same ∙ w)
+  ]) (λ m. (m.phase, m.counted, omega (arith, same, m.awaits))) live.mode;
 }
 
 pub awaits_low : (owner : ℕ) (n : Numbers) → IsLive owner n → n.mark + n.waiting ≤ 1

@@ -1,7 +1,7 @@
 -- Each step that changes a row's counts keeps the row's invariant.
 use Rattle.std.proofs.Common.{◌≡◌, ◌≢◌, ℕ, ◌+◌, ◌-◌, ◌<◌, ◌≤◌, ◌∙◌, arith}
 use Rattle.brc_word.specs.Words.{most_local, owner_part, local_part, biased_part, phase_part, bias, fresh_word, dead_word, merged_word}
-use Rattle.brc_model.specs.RowInvariant.{Numbers, IsDefault, IsQueued, AtZero, AboveZero, InOwned, InSwapped, InMerged, IsLive, IsDead}
+use Rattle.brc_model.specs.RowInvariant.{Numbers, IsDefault, IsQueued, AtZero, AboveZero, InOwned, InSwapped, InMerged, IsLive, IsDead, IsOwned, IsMerged, Phased, Mode}
 
 -- ---- words
 
@@ -23,73 +23,122 @@ shared_down w some = (omega arith, omega arith)
 pub shared_merged : (w c : ℕ) → (biased_part (merged_word w c) ≡ biased_part w + c) × (phase_part (merged_word w c) ≡ 3)
 shared_merged w c = (omega arith, omega arith)
 
+-- ---- modes
+
+-- A row with a local count is in its owner's hands.
+owned_only : (owner : ℕ) (n : Numbers) → IsLive owner n → 1 ≤ local_part n.local → IsOwned owner n
+owned_only owner n live some = elim live.mode [
+  | InOwned m ↦ m
+  | InSwapped m ↦ absurd (omega (arith, m.local, some))
+  | InMerged m ↦ absurd (omega (arith, m.local, some))
+]
+
+not_merged : (n : Numbers) → Phased n → phase_part n.shared ≡ 3 → ⊥
+not_merged n (IsDefault p w b) phase = absurd (omega (arith, p, phase))
+not_merged n (IsQueued p w) phase = absurd (omega (arith, p, phase))
+
+-- The shared word says that the row is merged.
+pub merged_only : (owner : ℕ) (n : Numbers) → IsLive owner n → phase_part n.shared ≡ 3 → IsMerged n
+merged_only owner n live phase = elim live.mode [
+  | InOwned m ↦ absurd (not_merged n m.phased phase)
+  | InSwapped m ↦ absurd (not_merged n m.phased phase)
+  | InMerged m ↦ m
+]
+
+-- A step that leaves the local word leaves the mode too, if the new shared word and the pending decrements fit it.
+pub mode_kept : (owner : ℕ) (n : Numbers) (shared mark references waiting : ℕ)
+    → (Phased n → Phased (record n { shared = shared; mark = mark; references = references; waiting = waiting }))
+    → (IsMerged n → (phase_part shared ≡ 3) × (bias + 1 ≤ biased_part shared) × (mark + waiting ≤ 1)) → Mode owner n
+    → Mode owner (record n { shared = shared; mark = mark; references = references; waiting = waiting })
+mode_kept owner n shared mark references waiting phased merged (InOwned m) = InOwned (record {
+  owned = m.owned;
+  low = m.low;
+  merging = m.merging;
+  carried = m.carried;
+  decided = elim m.decided [ AtZero z d ↦ AtZero z d | AboveZero z d ↦ AboveZero z d ];
+  phased = phased m.phased;
+})
+mode_kept owner n shared mark references waiting phased merged (InSwapped m) = InSwapped (record {
+  local = m.local;
+  merging = m.merging;
+  carried = m.carried;
+  deciding = m.deciding;
+  phased = phased m.phased;
+})
+mode_kept owner n shared mark references waiting phased merged (InMerged m) = InMerged (record {
+  local = m.local;
+  merging = m.merging;
+  carried = m.carried;
+  deciding = m.deciding;
+  phase = (merged m).0;
+  counted = (merged m).1;
+  awaits = (merged m).2;
+})
+
 -- ---- the running owner's steps
 
 -- `LocalRaised`: the owner raises its local count.
 pub local_up : (owner : ℕ) (n : Numbers) → IsLive owner n → 1 ≤ local_part n.local → local_part n.local < most_local
     → IsLive owner (record n { local = n.local + 1; references = n.references + 1 })
-local_up owner n live some low = let up = owner_up n.local low in record {
-  sum = omega (arith, live.sum, up.1);
-  mode = elim live.mode [
-    | InOwned m ↦ InOwned (record {
-      owned = up.0 ∙ m.owned;
-      low = omega (arith, up.1);
-      merging = m.merging;
-      carried = m.carried;
-      decided = elim m.decided [
-        | AtZero z d ↦ absurd (omega (arith, z, some))
-        | AboveZero z d ↦ AboveZero (omega (arith, up.1)) d
-      ];
-      phased = elim m.phased [ IsDefault p w b ↦ IsDefault p w b | IsQueued p w ↦ IsQueued p w ];
-    })
-    | InSwapped m ↦ absurd (omega (arith, m.local, some))
-    | InMerged m ↦ absurd (omega (arith, m.local, some))
-  ];
-}
+local_up owner n live some low =
+    let up = owner_up n.local low in
+    let m = owned_only owner n live some in
+    record {
+      sum = omega (arith, live.sum, up.1);
+      mode = InOwned (record {
+        owned = up.0 ∙ m.owned;
+        low = omega (arith, up.1);
+        merging = m.merging;
+        carried = m.carried;
+        decided = elim m.decided [
+          | AtZero z d ↦ absurd (omega (arith, z, some))
+          | AboveZero z d ↦ AboveZero (omega (arith, up.1)) d
+        ];
+        phased = elim m.phased [ IsDefault p w b ↦ IsDefault p w b | IsQueued p w ↦ IsQueued p w ];
+      });
+    }
 
 -- `LocalLowered`: the owner lowers a local count above 1.
 pub local_down : (owner : ℕ) (n : Numbers) → IsLive owner n → 2 ≤ local_part n.local → 1 ≤ n.references
     → IsLive owner (record n { local = n.local - 1; references = n.references - 1 })
-local_down owner n live some referenced = let down = owner_down n.local (omega (arith, some)) in record {
-  sum = omega (arith, live.sum, down.1, referenced);
-  mode = elim live.mode [
-    | InOwned m ↦ InOwned (record {
-      owned = down.0 ∙ m.owned;
-      low = omega (arith, down.1, m.low);
-      merging = m.merging;
-      carried = m.carried;
-      decided = elim m.decided [
-        | AtZero z d ↦ absurd (omega (arith, z, some))
-        | AboveZero z d ↦ AboveZero (omega (arith, down.1, some)) d
-      ];
-      phased = elim m.phased [ IsDefault p w b ↦ IsDefault p w b | IsQueued p w ↦ IsQueued p w ];
-    })
-    | InSwapped m ↦ absurd (omega (arith, m.local, some))
-    | InMerged m ↦ absurd (omega (arith, m.local, some))
-  ];
-}
+local_down owner n live some referenced =
+    let down = owner_down n.local (omega (arith, some)) in
+    let m = owned_only owner n live (omega (arith, some)) in
+    record {
+      sum = omega (arith, live.sum, down.1, referenced);
+      mode = InOwned (record {
+        owned = down.0 ∙ m.owned;
+        low = omega (arith, down.1, m.low);
+        merging = m.merging;
+        carried = m.carried;
+        decided = elim m.decided [
+          | AtZero z d ↦ absurd (omega (arith, z, some))
+          | AboveZero z d ↦ AboveZero (omega (arith, down.1, some)) d
+        ];
+        phased = elim m.phased [ IsDefault p w b ↦ IsDefault p w b | IsQueued p w ↦ IsQueued p w ];
+      });
+    }
 
 -- `LocalReachesZero`: the owner lowers a local count of 1, and decides from then on.
 pub local_to_zero : (owner : ℕ) (n : Numbers) → IsLive owner n → local_part n.local ≡ 1 → 1 ≤ n.references
     → IsLive owner (record n { local = n.local - 1; references = n.references - 1; deciding = n.deciding + 1 })
-local_to_zero owner n live one referenced = let down = owner_down n.local (omega (arith, one)) in record {
-  sum = omega (arith, live.sum, down.1, referenced);
-  mode = elim live.mode [
-    | InOwned m ↦ InOwned (record {
-      owned = down.0 ∙ m.owned;
-      low = omega (arith, down.1, m.low);
-      merging = m.merging;
-      carried = m.carried;
-      decided = elim m.decided [
-        | AtZero z d ↦ absurd (omega (arith, z, one))
-        | AboveZero z d ↦ AtZero (omega (arith, down.1, one)) (omega (arith, d))
-      ];
-      phased = elim m.phased [ IsDefault p w b ↦ IsDefault p w b | IsQueued p w ↦ IsQueued p w ];
-    })
-    | InSwapped m ↦ absurd (omega (arith, m.local, one))
-    | InMerged m ↦ absurd (omega (arith, m.local, one))
-  ];
-}
+local_to_zero owner n live one referenced =
+    let down = owner_down n.local (omega (arith, one)) in
+    let m = owned_only owner n live (omega (arith, one)) in
+    record {
+      sum = omega (arith, live.sum, down.1, referenced);
+      mode = InOwned (record {
+        owned = down.0 ∙ m.owned;
+        low = omega (arith, down.1, m.low);
+        merging = m.merging;
+        carried = m.carried;
+        decided = elim m.decided [
+          | AtZero z d ↦ absurd (omega (arith, z, one))
+          | AboveZero z d ↦ AtZero (omega (arith, down.1, one)) (omega (arith, d))
+        ];
+        phased = elim m.phased [ IsDefault p w b ↦ IsDefault p w b | IsQueued p w ↦ IsQueued p w ];
+      });
+    }
 
 -- `NothingShared`: if the owner's local count is 0 and the shared word is (0, default), the object has no reference.
 pub zero_dies : (owner : ℕ) (n : Numbers) → IsLive owner n → local_part n.local ≡ 0 → 1 ≤ n.deciding
@@ -132,41 +181,15 @@ shared_range owner n live =
 -- `SharedRaised`: a thread raises the shared count.
 pub shared_gained : (owner : ℕ) (n : Numbers) → IsLive owner n
     → IsLive owner (record n { shared = n.shared + 4; references = n.references + 1 })
-shared_gained owner n live = let up = shared_up n.shared in record {
-  sum = omega (arith, live.sum, up.0);
-  mode = elim live.mode [
-    | InOwned m ↦ InOwned (record {
-      owned = m.owned;
-      low = m.low;
-      merging = m.merging;
-      carried = m.carried;
-      decided = elim m.decided [ AtZero z d ↦ AtZero z d | AboveZero z d ↦ AboveZero z d ];
-      phased = elim m.phased [
+shared_gained owner n live =
+    let up = shared_up n.shared in
+    record {
+      sum = omega (arith, live.sum, up.0);
+      mode = mode_kept owner n (n.shared + 4) n.mark (n.references + 1) n.waiting (λ phased. elim phased [
         | IsDefault p w b ↦ IsDefault (up.1 ∙ p) w (omega (arith, up.0, b))
         | IsQueued p w ↦ IsQueued (up.1 ∙ p) w
-      ];
-    })
-    | InSwapped m ↦ InSwapped (record {
-      local = m.local;
-      merging = m.merging;
-      carried = m.carried;
-      deciding = m.deciding;
-      phased = elim m.phased [
-        | IsDefault p w b ↦ IsDefault (up.1 ∙ p) w (omega (arith, up.0, b))
-        | IsQueued p w ↦ IsQueued (up.1 ∙ p) w
-      ];
-    })
-    | InMerged m ↦ InMerged (record {
-      local = m.local;
-      merging = m.merging;
-      carried = m.carried;
-      deciding = m.deciding;
-      phase = up.1 ∙ m.phase;
-      counted = omega (arith, up.0, m.counted);
-      awaits = m.awaits;
-    })
-  ];
-}
+      ]) (λ m. (up.1 ∙ m.phase, omega (arith, up.0, m.counted), m.awaits)) live.mode;
+    }
 
 -- `Queues`: a release that finds (0, default) queues the object, and its decrement is pending from then on.
 pub shared_queued : (owner : ℕ) (n : Numbers) → IsLive owner n → n.shared ≡ fresh_word → 1 ≤ n.references
@@ -176,30 +199,10 @@ shared_queued owner n live fresh referenced =
     (omega (arith, fresh), omega (arith, fresh)) in
     record {
       sum = omega (arith, live.sum, parts.0, referenced);
-      mode = elim live.mode [
-        | InOwned m ↦ InOwned (record {
-          owned = m.owned;
-          low = m.low;
-          merging = m.merging;
-          carried = m.carried;
-          decided = elim m.decided [ AtZero z d ↦ AtZero z d | AboveZero z d ↦ AboveZero z d ];
-          phased = elim m.phased [
-            | IsDefault p w b ↦ IsQueued parts.1 (omega (arith, w))
-            | IsQueued p w ↦ absurd (omega (arith, p, fresh))
-          ];
-        })
-        | InSwapped m ↦ InSwapped (record {
-          local = m.local;
-          merging = m.merging;
-          carried = m.carried;
-          deciding = m.deciding;
-          phased = elim m.phased [
-            | IsDefault p w b ↦ IsQueued parts.1 (omega (arith, w))
-            | IsQueued p w ↦ absurd (omega (arith, p, fresh))
-          ];
-        })
-        | InMerged m ↦ absurd (omega (arith, m.phase, fresh))
-      ];
+      mode = mode_kept owner n (n.shared + 2) n.mark (n.references - 1) (n.waiting + 1) (λ phased. elim phased [
+        | IsDefault p w b ↦ IsQueued parts.1 (omega (arith, w))
+        | IsQueued p w ↦ absurd (omega (arith, p, fresh))
+      ]) (λ m. absurd (omega (arith, m.phase, fresh))) live.mode;
     }
 
 -- `Decrements`: a release that finds any other shared word lowers its count, and the object lives on unless it is
@@ -208,67 +211,28 @@ pub shared_lost : (owner : ℕ) (n : Numbers) → IsLive owner n → n.shared �
     → 1 ≤ n.references
     → IsLive owner (record n { shared = n.shared - 4; references = n.references - 1 })
 shared_lost owner n live other alive referenced =
-    let down = shared_down n.shared (shared_range owner n live) in record {
+    let down = shared_down n.shared (shared_range owner n live) in
+    record {
       sum = omega (arith, live.sum, down.0, referenced);
-      mode = elim live.mode [
-        | InOwned m ↦ InOwned (record {
-          owned = m.owned;
-          low = m.low;
-          merging = m.merging;
-          carried = m.carried;
-          decided = elim m.decided [ AtZero z d ↦ AtZero z d | AboveZero z d ↦ AboveZero z d ];
-          phased = elim m.phased [
-            | IsDefault p w b ↦ IsDefault (down.1 ∙ p) w (omega (arith, down.0, b, p, other))
-            | IsQueued p w ↦ IsQueued (down.1 ∙ p) w
-          ];
-        })
-        | InSwapped m ↦ InSwapped (record {
-          local = m.local;
-          merging = m.merging;
-          carried = m.carried;
-          deciding = m.deciding;
-          phased = elim m.phased [
-            | IsDefault p w b ↦ IsDefault (down.1 ∙ p) w (omega (arith, down.0, b, p, other))
-            | IsQueued p w ↦ IsQueued (down.1 ∙ p) w
-          ];
-        })
-        | InMerged m ↦ InMerged (record {
-          local = m.local;
-          merging = m.merging;
-          carried = m.carried;
-          deciding = m.deciding;
-          phase = down.1 ∙ m.phase;
-          counted = omega (arith, down.0, down.1, m.phase, m.counted, alive);
-          awaits = m.awaits;
-        })
-      ];
+      mode = mode_kept owner n (n.shared - 4) n.mark (n.references - 1) n.waiting (λ phased. elim phased [
+        | IsDefault p w b ↦ IsDefault (down.1 ∙ p) w (omega (arith, down.0, b, p, other))
+        | IsQueued p w ↦ IsQueued (down.1 ∙ p) w
+      ]) (λ m. (down.1 ∙ m.phase, omega (arith, down.0, down.1, m.phase, m.counted, alive), m.awaits)) live.mode;
     }
 
 -- `DecrementsToZero`: a release that takes the count of a merged object to 0 gives up the last reference.
 pub shared_dies : (owner : ℕ) (n : Numbers) → IsLive owner n → n.shared - 4 ≡ dead_word → 1 ≤ n.references
     → IsDead (record n { shared = n.shared - 4; references = n.references - 1 })
 shared_dies owner n live dead referenced =
-    let phase : phase_part n.shared ≡ 3 = omega (arith, dead) in
+    let m = merged_only owner n live (omega (arith, dead)) in
     let count : biased_part n.shared ≡ bias + 1 = omega (arith, dead) in
-    elim live.mode [
-      | InOwned m ↦
-          elim m.phased [
-            | IsDefault p w b ↦ absurd (omega (arith, p, phase))
-            | IsQueued p w ↦ absurd (omega (arith, p, phase))
-          ]
-      | InSwapped m ↦
-          elim m.phased [
-            | IsDefault p w b ↦ absurd (omega (arith, p, phase))
-            | IsQueued p w ↦ absurd (omega (arith, p, phase))
-          ]
-      | InMerged m ↦ record {
-        local = omega (arith, m.local);
-        shared = omega (arith, dead);
-        mark = omega (arith, live.sum, m.local, count, m.carried, referenced);
-        references = omega (arith, live.sum, m.local, count, m.carried, referenced);
-        waiting = omega (arith, live.sum, m.local, count, m.carried, referenced);
-        carried = m.carried;
-        merging = m.merging;
-        deciding = m.deciding;
-      }
-    ]
+    record {
+      local = omega (arith, m.local);
+      shared = omega (arith, dead);
+      mark = omega (arith, live.sum, m.local, count, m.carried, referenced);
+      references = omega (arith, live.sum, m.local, count, m.carried, referenced);
+      waiting = omega (arith, live.sum, m.local, count, m.carried, referenced);
+      carried = m.carried;
+      merging = m.merging;
+      deciding = m.deciding;
+    }

@@ -4,79 +4,83 @@ use Rattle.std.specs.Prelude.{slice_get}
 use Rattle.std.proofs.lemmas.Bool.Decides.{eqb_tells}
 use Rattle.brc_model.specs.declared.duty.Reason.TheVariants.{Own, Handed}
 use Rattle.brc_model.specs.declared.duty.Duty.{Duty}
-use Rattle.brc_model.specs.declared.duty.Duty.TheVariants.{RetainLoad, RetainStore, RetainAdd, ReleaseLoad, ReleaseStore, DecideAtZero, SharedLoad, SharedExchange, SetMark, Look, TakeMark, MergeSwap, MergeLoad, MergeExchange, Die, Settle, SettleKind, SettleCell, TakeSlot, CloseResource, SettleEnd, Leave, Scan, Finish, ClaimMark, BirthKind, BirthSlot, BirthLocal, KindLoad, LockGate, UnlockGate, CellLoad, CellSwap, LendSlot, ReturnSlot}
-use Rattle.brc_model.specs.declared.actor.Status.TheVariants.{Gone}
+use Rattle.brc_model.specs.declared.duty.Duty.TheVariants.{RetainLoad, RetainStore, RetainAdd, ReleaseLoad, ReleaseStore, DecideAtZero, SharedLoad, SharedExchange, SetMark, Look, TakeMark, MergeSwap, MergeLoad, MergeExchange, Settle, SettleKind, SettleCell, SettleEnd, Leave, Scan, Finish, ClaimMark, BirthKind, BirthLocal, CellSwap}
 use Rattle.brc_model.specs.Machine.{Actor, Machine, done_by}
 use Rattle.brc_model.specs.RowInvariant.{RowInvariant}
 use Rattle.brc_model.specs.Accounts.{Accounts}
 use Rattle.brc_model.specs.Invariant.{AtDuty, CoreInvariant, numbers_of}
-use Rattle.brc_model.proofs.Objects.RowsAfterStep.{KeepsRow}
+use Rattle.brc_model.proofs.Objects.RowsAfterStep.{KeepsRow, following, row_stays}
 use Rattle.brc_model.proofs.Objects.RowsAfterElsewhere.{subject, row_elsewhere}
-use Rattle.brc_model.proofs.Objects.RowsAfterLocal.{row_after_kind_load, row_after_lock_gate, row_after_unlock_gate, row_after_cell_load, row_after_retain_load, row_after_retain_store, row_after_retain_add, row_after_release_load, row_after_release_store, row_after_decide_at_zero, row_after_cell_swap, row_after_lend_slot, row_after_return_slot}
+use Rattle.brc_model.proofs.Objects.RowsAfterLocal.{row_after_retain_load, row_after_retain_store, row_after_retain_add, row_after_release_load, row_after_release_store, row_after_decide_at_zero, row_after_cell_swap}
 use Rattle.brc_model.proofs.Objects.RowsAfterShared.{row_after_shared_load, row_after_own_exchange, row_after_handed_exchange}
-use Rattle.brc_model.proofs.Objects.RowsAfterMarks.{row_after_set_mark, row_after_look, row_after_take_mark, row_after_scan, row_after_claim_mark, row_after_die, row_after_settle_kind, row_after_settle_cell, row_after_take_slot, row_after_close_resource, row_after_settle_end}
-use Rattle.brc_model.proofs.Objects.RowsAfterBirths.{row_after_birth_kind, row_after_birth_slot, row_after_birth_local}
+use Rattle.brc_model.proofs.Objects.RowsAfterMarks.{row_after_set_mark, row_after_look, row_after_take_mark, row_after_scan, row_after_claim_mark, row_after_settle_kind, row_after_settle_cell, row_after_settle_end}
+use Rattle.brc_model.proofs.Objects.RowsAfterBirths.{row_after_birth_kind, row_after_birth_local}
 use Rattle.brc_model.proofs.Objects.RowsAfterMerge.{row_after_own_swap, row_after_handed_swap, row_after_merge_load, row_after_merge_exchange}
 use Rattle.brc_model.proofs.Basics.Blocks.{immortal_apart}
 use Rattle.brc_model.specs.declared.layout.Layout.{Layout}
 use Rattle.brc_model.specs.Layout.{none_row, block_of, IsCounted}
+use Rattle.brc_model.proofs.Stepping.FitsAfter.{NotGone}
 
 none_counted : (layout : Layout) → IsCounted layout none_row → ⊥
 none_counted layout counted = immortal_apart layout none_row none_row counted refl refl
 
--- A duty keeps the invariant of the row that it is about.
-own_row : (p : Accounts) (n : ℕ) (m : Machine) (t : ℕ) (a : Actor) (d : Duty) (rest : List Duty)
-    → AtDuty p n m t a d rest
-    → IsCounted m.layout (subject m.layout t d) → KeepsRow m t a d rest (subject m.layout t d)
-own_row p n m t a (RetainLoad y h) rest s some = row_after_retain_load some s
-own_row p n m t a (RetainStore y h w) rest s some = row_after_retain_store s
-own_row p n m t a (RetainAdd y h) rest s some = row_after_retain_add s
-own_row p n m t a (ReleaseLoad y h) rest s some = row_after_release_load some s
-own_row p n m t a (ReleaseStore y w) rest s some = row_after_release_store s
-own_row p n m t a (DecideAtZero y) rest s some = row_after_decide_at_zero s
-own_row p n m t a (SharedLoad y r) rest s some = row_after_shared_load some s
-own_row p n m t a (SharedExchange y Own w) rest s some = row_after_own_exchange s
-own_row p n m t a (SharedExchange y Handed w) rest s some = row_after_handed_exchange s
-own_row p n m t a (SetMark y) rest s some = row_after_set_mark s
-own_row p n m t a (Look y) rest s some = row_after_look s
-own_row p n m t a (TakeMark y) rest s some = row_after_take_mark s
-own_row p n m t a (MergeSwap y Own) rest s some = row_after_own_swap s
-own_row p n m t a (MergeSwap y Handed) rest s some = row_after_handed_swap s
-own_row p n m t a (MergeLoad y c r) rest s some = row_after_merge_load s
-own_row p n m t a (MergeExchange y c w r) rest s some = row_after_merge_exchange s
-own_row p n m t a (Die y) rest s some = row_after_die some s
-own_row p n m t a Settle rest s some = absurd (none_counted m.layout some)
-own_row p n m t a (SettleKind y) rest s some = row_after_settle_kind some s
-own_row p n m t a (SettleCell y i cells) rest s some = row_after_settle_cell some s
-own_row p n m t a (TakeSlot y) rest s some = row_after_take_slot some s
-own_row p n m t a (CloseResource y) rest s some = row_after_close_resource some s
-own_row p n m t a (SettleEnd y) rest s some = row_after_settle_end s
-own_row p n m t a (Leave y left) rest s some = absurd (none_counted m.layout some)
-own_row p n m t a (Scan y left) rest s some = row_after_scan some s
-own_row p n m t a Finish rest s some = absurd (none_counted m.layout some)
-own_row p n m t a (ClaimMark y) rest s some = row_after_claim_mark some s
-own_row p n m t a (BirthKind y h w) rest s some = row_after_birth_kind some s
-own_row p n m t a (BirthSlot y h) rest s some = row_after_birth_slot some s
-own_row p n m t a (BirthLocal y h) rest s some = row_after_birth_local s
-own_row p n m t a (KindLoad y) rest s some = row_after_kind_load some s
-own_row p n m t a (LockGate y) rest s some = row_after_lock_gate some s
-own_row p n m t a (UnlockGate y) rest s some = row_after_unlock_gate some s
-own_row p n m t a (CellLoad y i) rest s some = row_after_cell_load some s
-own_row p n m t a (CellSwap y i z h) rest s some = row_after_cell_swap some s
-own_row p n m t a (LendSlot y) rest s some = row_after_lend_slot some s
-own_row p n m t a (ReturnSlot y) rest s some = row_after_return_slot some s
+module _ {p : Accounts} {n : ℕ} {m : Machine} {t : ℕ} {a : Actor} {rest : List Duty} where
+  -- A duty keeps the invariant of the row that it is about.
+  own_row : (d : Duty) → AtDuty p n m t a d rest → IsCounted m.layout (subject m.layout t d)
+      → KeepsRow m t a d rest (subject m.layout t d)
+  own_row (RetainLoad y h) s some = row_after_retain_load some s
+  own_row (RetainStore y h w) s some = row_after_retain_store s
+  own_row (RetainAdd y h) s some = row_after_retain_add s
+  own_row (ReleaseLoad y h) s some = row_after_release_load some s
+  own_row (ReleaseStore y w) s some = row_after_release_store s
+  own_row (DecideAtZero y) s some = row_after_decide_at_zero s
+  own_row (SharedLoad y r) s some = row_after_shared_load some s
+  own_row (SharedExchange y Own w) s some = row_after_own_exchange s
+  own_row (SharedExchange y Handed w) s some = row_after_handed_exchange s
+  own_row (SetMark y) s some = row_after_set_mark s
+  own_row (Look y) s some = row_after_look s
+  own_row (TakeMark y) s some = row_after_take_mark s
+  own_row (MergeSwap y Own) s some = row_after_own_swap s
+  own_row (MergeSwap y Handed) s some = row_after_handed_swap s
+  own_row (MergeLoad y c r) s some = row_after_merge_load s
+  own_row (MergeExchange y c w r) s some = row_after_merge_exchange s
+  own_row Settle s some = absurd (none_counted m.layout some)
+  own_row (SettleKind y) s some = row_after_settle_kind some s
+  own_row (SettleCell y i cells) s some = row_after_settle_cell some s
+  own_row (SettleEnd y) s some = row_after_settle_end s
+  own_row (Leave y left) s some = absurd (none_counted m.layout some)
+  own_row (Scan y left) s some = row_after_scan some s
+  own_row Finish s some = absurd (none_counted m.layout some)
+  own_row (ClaimMark y) s some = row_after_claim_mark some s
+  own_row (BirthKind y h w) s some = row_after_birth_kind some s
+  own_row (BirthLocal y h) s some = row_after_birth_local s
+  own_row (CellSwap y i z h) s some = row_after_cell_swap some s
+  -- `SlotFilled`, `Chained`, `SlotEmptied`, `ResourceClosed`, `KindRead`, `Locks`, `LockHeld`, `Unlocks`, `CellRead`,
+  -- `ResourceLent` and `ResourceReturned`: the step changes neither what the row counts nor what any duty weighs.
+  own_row d s some =
+      row_stays {next = following m t a d} {x = subject m.layout t d} s some (record {
+        follows = refl;
+        lives = refl;
+        local = refl;
+        shared = refl;
+        mark = refl;
+        references = refl;
+        waiting = refl;
+        carried = refl;
+        merging = refl;
+        deciding = refl;
+      })
 
--- A thread's next duty keeps the invariant of every counted row.
-pub rows_after : (p : Accounts) (n : ℕ) (m : Machine) (t : ℕ) (a : Actor) (d : Duty) (rest : List Duty)
-    → CoreInvariant p n m
-    → slice_get m.actors t ≡ Some a → a.agenda ≡ d ∷ rest → (a.status ≡ Gone → ⊥)
-    → (x : ℕ) → IsCounted m.layout x
-    → RowInvariant (block_of m.layout x) ((done_by m t a d rest).life x) (numbers_of (done_by m t a d rest) x)
-rows_after p n m t a d rest core actor agenda runs x some =
-    let s : AtDuty p n m t a d rest = record { core = core; found = actor; agenda = agenda } in
-    elim (eqb_tells (subject m.layout t d) x) [
-      | inl same ↦
-          subst (λ (z : ℕ). KeepsRow m t a d rest z) same.1
-          (own_row p n m t a d rest s (subst (IsCounted m.layout) (sym same.1) some))
-      | inr other ↦ row_elsewhere s x some other.0
-    ]
+module _ {p : Accounts} {n : ℕ} {m : Machine} where
+  -- A thread's next duty keeps the invariant of every counted row.
+  pub rows_after : (t : ℕ) (a : Actor) (d : Duty) (rest : List Duty) → CoreInvariant p n m
+      → slice_get m.actors t ≡ Some a → a.agenda ≡ d ∷ rest → NotGone a → (x : ℕ) → IsCounted m.layout x
+      → RowInvariant (block_of m.layout x) ((done_by m t a d rest).life x) (numbers_of (done_by m t a d rest) x)
+  rows_after t a d rest core actor agenda runs x some =
+      let s : AtDuty p n m t a d rest = record { core = core; found = actor; agenda = agenda } in
+      elim (eqb_tells (subject m.layout t d) x) [
+        | inl same ↦
+            subst (λ (z : ℕ). KeepsRow m t a d rest z) same.1
+            (own_row d s (subst (IsCounted m.layout) (sym same.1) some))
+        | inr other ↦ row_elsewhere s x some other.0
+      ]

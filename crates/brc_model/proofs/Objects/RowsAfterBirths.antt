@@ -15,41 +15,22 @@ use Rattle.brc_model.specs.Accounts.{Accounts}
 use Rattle.brc_model.specs.Knowledge.{IsNext}
 use Rattle.brc_model.specs.Invariant.{AtDuty, numbers_of}
 use Rattle.brc_model.proofs.Objects.RowsAfterOwn.{own, one_own, written_here, row_apart}
-use Rattle.brc_model.proofs.Objects.RowsAfterStep.{KeepsRow, head_fits_of, weighed, row_becomes, row_stays}
+use Rattle.brc_model.proofs.Objects.RowsAfterStep.{KeepsRow, head_fits_of, weighed, row_becomes}
 use Rattle.brc_model.proofs.Objects.RowsAfterElsewhere.{apart_if, all_light}
 use Rattle.brc_model.proofs.Basics.Blocks.{next_counted, next_unborn, next_block}
 use Rattle.brc_model.specs.Layout.{block_of, IsCounted}
 
--- ---- the kind word and the slot
+-- ---- the kind word
 
--- The row's invariant holds after `KindOfResource` and `KindOfOther`.
-pub row_after_birth_kind : {p : Accounts} {n : ℕ} {m : Machine} {t : ℕ} {a : Actor} {y : ℕ} {h : Holding} {w : ℕ}
-    {rest : List Duty}
-    → IsCounted m.layout y → AtDuty p n m t a (BirthKind y h w) rest → KeepsRow m t a (BirthKind y h w) rest y
-row_after_birth_kind {y = y} {h = h} {w = w} some s =
-    let slot = all_light y (BirthSlot y h ∷ []) refl in
-    let local = all_light y (BirthLocal y h ∷ []) refl in
-    row_apart s y some refl (apart_if (has_resource w) slot local) (λ life state. refl)
-    (record { local = refl; shared = refl; mark = refl; references = refl })
-
--- The row's invariant holds after `SlotFilled`.
-pub row_after_birth_slot : {p : Accounts} {n : ℕ} {m : Machine} {t : ℕ} {a : Actor} {y : ℕ} {h : Holding}
-    {rest : List Duty}
-    → IsCounted m.layout y → AtDuty p n m t a (BirthSlot y h) rest → KeepsRow m t a (BirthSlot y h) rest y
-row_after_birth_slot {y = y} {h = h} some s =
-    row_stays {next = BirthLocal y h ∷ []} {x = y} s some
-    (record {
-      follows = refl;
-      lives = refl;
-      local = refl;
-      shared = refl;
-      mark = refl;
-      references = refl;
-      waiting = refl;
-      carried = refl;
-      merging = refl;
-      deciding = refl;
-    })
+module _ {p : Accounts} {n : ℕ} {m : Machine} {t : ℕ} {a : Actor} {rest : List Duty} where
+  -- The row's invariant holds after `KindOfResource` and `KindOfOther`.
+  pub row_after_birth_kind : {y : ℕ} {h : Holding} {w : ℕ} → IsCounted m.layout y
+      → AtDuty p n m t a (BirthKind y h w) rest → KeepsRow m t a (BirthKind y h w) rest y
+  row_after_birth_kind {y = y} {h = h} {w = w} some s =
+      let slot = all_light y (BirthSlot y h ∷ []) refl in
+      let local = all_light y (BirthLocal y h ∷ []) refl in
+      row_apart s y some refl (apart_if (has_resource w) slot local) (λ life state. refl)
+      (record { local = refl; shared = refl; mark = refl; references = refl })
 
 -- ---- the local word
 
@@ -70,30 +51,30 @@ born_live owner k low unborn = record {
   });
 }
 
--- The row's invariant holds after `Born`.
-pub row_after_birth_local : {p : Accounts} {n : ℕ} {m : Machine} {t : ℕ} {a : Actor} {y : ℕ} {h : Holding}
-    {rest : List Duty}
-    → AtDuty p n m t a (BirthLocal y h) rest → KeepsRow m t a (BirthLocal y h) rest y
-row_after_birth_local {p = p} {n = n} {m = m} {t = t} {a = a} {y = y} {h = h} {rest = rest} s =
-    let next : IsNext m t a y = (head_fits_of s).0 in
-    let k = numbers_of m y in
-    let weights = weighed s [] refl y in
-    let one = one_own y in
-    let above = next_counted m t a y next in
-    let block = next_block m t a y next in
-    let within = slice_get_within m.actors t a s.found in
-    let unborn : IsUnborn k =
-    subst (λ (l : Life). RowInvariant (block_of m.layout y) l k) (next_unborn p n m t a y s.core s.found next)
-    (s.core.rows y above) in
-    row_becomes m t a (BirthLocal y h) rest y [] refl Live (ap (λ (b : Bool). cond b Live (m.life y)) (own y))
-    (record k { local = local_word t 1; references = k.references + 1 }) (record {
-      local = sym (written_here m.memory (Local y) (local_word t 1) (own y));
-      shared = refl;
-      mark = refl;
-      references = omega (arith, references_to-cons y (reference_of t h y) m.abstract.references, one);
-      waiting = omega (arith, weights.waiting);
-      carried = omega (arith, weights.carried);
-      merging = omega (arith, weights.merging);
-      deciding = omega (arith, weights.deciding);
-    }) (subst (λ (o : ℕ). IsLive o (record k { local = local_word t 1; references = k.references + 1 })) (sym block)
-    (born_live t k (omega (arith, within, s.core.threads, s.core.few_threads)) unborn))
+module _ {p : Accounts} {n : ℕ} {m : Machine} {t : ℕ} {a : Actor} {rest : List Duty} where
+  -- The row's invariant holds after `Born`.
+  pub row_after_birth_local : {y : ℕ} {h : Holding} → AtDuty p n m t a (BirthLocal y h) rest
+      → KeepsRow m t a (BirthLocal y h) rest y
+  row_after_birth_local {y = y} {h = h} s =
+      let next : IsNext m t a y = (head_fits_of s).0 in
+      let k = numbers_of m y in
+      let weights = weighed s [] refl y in
+      let one = one_own y in
+      let above = next_counted m t a y next in
+      let block = next_block m t a y next in
+      let within = slice_get_within m.actors t a s.found in
+      let unborn : IsUnborn k =
+      subst (λ (l : Life). RowInvariant (block_of m.layout y) l k) (next_unborn p n m t a y s.core s.found next)
+      (s.core.rows y above) in
+      row_becomes m t a (BirthLocal y h) rest y [] refl Live (ap (λ (b : Bool). cond b Live (m.life y)) (own y))
+      (record k { local = local_word t 1; references = k.references + 1 }) (record {
+        local = sym (written_here m.memory (Local y) (local_word t 1) (own y));
+        shared = refl;
+        mark = refl;
+        references = omega (arith, references_to-cons y (reference_of t h y) m.abstract.references, one);
+        waiting = omega (arith, weights.waiting);
+        carried = omega (arith, weights.carried);
+        merging = omega (arith, weights.merging);
+        deciding = omega (arith, weights.deciding);
+      }) (subst (λ (o : ℕ). IsLive o (record k { local = local_word t 1; references = k.references + 1 })) (sym block)
+      (born_live t k (omega (arith, within, s.core.threads, s.core.few_threads)) unborn))

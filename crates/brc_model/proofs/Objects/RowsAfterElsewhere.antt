@@ -72,10 +72,7 @@ subject layout t (ReturnSlot x) = x
 other_mark : (layout : Layout) (t head : ℕ) (d : Duty) (x : ℕ) → (subject layout t d == x) ≡ false
     → same_address (address_of layout t head d) (Mark x) ≡ false
 other_mark layout t head (SetMark y) x e = e
-other_mark layout t head (TakeMark y) x e = e
-other_mark layout t head (Scan i n) x e = e
-other_mark layout t head (ClaimMark y) x e = e
-other_mark layout t head d x e = refl
+other_mark layout t head _ x e = cc
 
 -- ---- references
 
@@ -184,16 +181,9 @@ weighs (Die x) = true
 weighs _ = false
 
 pub light_apart : (x : ℕ) (d : Duty) → weighs d ≡ false → IsApart x d
-light_apart x (DecideAtZero y) light = absurd cc
 light_apart x (SharedLoad y Handed) light = absurd cc
 light_apart x (SharedExchange y Handed w) light = absurd cc
-light_apart x (SetMark y) light = absurd cc
-light_apart x (MergeSwap y r) light = absurd cc
-light_apart x (MergeLoad y c r) light = absurd cc
-light_apart x (MergeExchange y c w r) light = absurd cc
-light_apart x (Die y) light = absurd cc
-light_apart x _ light =
-    record { waiting = refl; carried = refl; merging = refl; deciding = refl; lives = λ life state. refl }
+light_apart x _ light = record { waiting = cc; carried = cc; merging = cc; deciding = cc; lives = λ life state. cc }
 
 pub all_light : (x : ℕ) (ds : List Duty) → list_any weighs ds ≡ false → AreApart x ds
 all_light x [] light = none_apart x
@@ -204,10 +194,7 @@ all_light x (d ∷ ds) light =
 -- A duty's subject is the row that it is about.
 not_about : (layout : Layout) (t x : ℕ) (d : Duty) → (subject layout t d == x) ≡ false → is_about x d ≡ false
 not_about layout t x Settle e = refl
-not_about layout t x (Leave i n) e = refl
-not_about layout t x (Scan i n) e = refl
-not_about layout t x Finish e = refl
-not_about layout t x _ e = e
+not_about layout t x _ e = cc
 
 led_apart : {found : ℕ} (layout : Layout) (t x : ℕ) (d e : Duty) → Leads found d e → (subject layout t d == x) ≡ false
     → AreApart x (e ∷ [])
@@ -244,21 +231,20 @@ found_apart x (suc y) = all_light x (ReleaseLoad y InFlight ∷ []) refl
 
 -- ---- the row is unchanged
 
--- An object that the duty isn't about has as many references as before.
-references_elsewhere : (p : Accounts) (n : ℕ) (m : Machine) (t : ℕ) (a : Actor) (d : Duty) (rest : List Duty) (x : ℕ)
-    → AtDuty p n m t a d rest → is_about x d ≡ false
-    → references_to x (moved m.abstract (reference_effects m.memory t d (found_by m t a d))).references
-    ≡ references_to x m.abstract.references
-references_elsewhere p n m t a (SettleCell y i k) rest x here other =
-    taken_references m.abstract t y i (m.memory (Cell y i)) x
-    (λ z is. omega (arith, cell_held p n m y i z here.core is))
-references_elsewhere p n m t a (CellSwap y i z h) rest x here other =
-    swapped_references m.abstract t z y i (m.memory (Cell y i)) x h (stolen_held p n m t a y i z h rest here)
-    (λ v is. omega (arith, cell_held p n m y i v here.core is))
-references_elsewhere p n m t a d rest x here other =
-    moved_keeps (λ q. references_to x q.references) (IsOfOther x) (λ q mv apart. sym (move_elsewhere x q mv apart))
-    m.abstract (reference_effects m.memory t d (found_by m t a d))
-    (effects_elsewhere m.memory t d (found_by m t a d) x other (λ y i. refl))
+module _ {p : Accounts} {n : ℕ} {m : Machine} {t : ℕ} {a : Actor} {rest : List Duty} where
+  -- An object that the duty isn't about has as many references as before.
+  references_elsewhere : (d : Duty) (x : ℕ) → AtDuty p n m t a d rest → is_about x d ≡ false
+      → references_to x (moved m.abstract (reference_effects m.memory t d (found_by m t a d))).references
+      ≡ references_to x m.abstract.references
+  references_elsewhere (SettleCell y i k) x here other =
+      taken_references m.abstract t y i (m.memory (Cell y i)) x (λ z is. omega (arith, cell_held y i z here.core is))
+  references_elsewhere (CellSwap y i z h) x here other =
+      swapped_references m.abstract t z y i (m.memory (Cell y i)) x h (stolen_held y i z h here)
+      (λ v is. omega (arith, cell_held y i v here.core is))
+  references_elsewhere d x here other =
+      moved_keeps (λ q. references_to x q.references) (IsOfOther x) (λ q mv apart. sym (move_elsewhere x q mv apart))
+      m.abstract (reference_effects m.memory t d (found_by m t a d))
+      (effects_elsewhere m.memory t d (found_by m t a d) x other (λ y i. refl))
 
 not_ended : (layout : Layout) (t x : ℕ) (d : Duty) → (subject layout t d == x) ≡ false
     → (life : ℕ → Life) (state : Life)
@@ -271,27 +257,27 @@ not_born : (layout : Layout) (t x : ℕ) (d : Duty) → (subject layout t d == x
 not_born layout t x (BirthLocal y h) e life state = ap (λ (b : Bool). cond b state (life x)) e
 not_born layout t x d e life state = refl
 
-pub row_elsewhere : {p : Accounts} {n : ℕ} {m : Machine} {t : ℕ} {a : Actor} {d : Duty} {rest : List Duty}
-    → AtDuty p n m t a d rest → (x : ℕ) → IsCounted m.layout x → (subject m.layout t d == x) ≡ false
-    → KeepsRow m t a d rest x
-row_elsewhere {p = p} {n = n} {m = m} {t = t} {a = a} {d = d} {rest = rest} s x some e =
-    let found = found_by m t a d in
-    let at = address_of m.layout t a.head d in
-    let left = new_word t a.head d found in
-    let shape = continues m.layout t (is_running a.status) a.head d found in
-    let next = next_apart x d (following m t a d) shape e in
-    let about = not_about m.layout t x d e in
-    let this = other_apart x d about in
-    let q : RowStays m t a d rest x (following m t a d) = record {
-      follows = refl;
-      lives = not_born m.layout t x d e _ _ ∙ not_ended m.layout t x d e _ _ ∙ next.lives m.life _;
-      local = sym (written_apart m.memory at (Local x) left (other_local m.layout t a.head d x about));
-      shared = sym (written_apart m.memory at (Shared x) left (other_shared m.layout t a.head d x about));
-      mark = sym (written_apart m.memory at (Mark x) left (other_mark m.layout t a.head d x e));
-      references = sym (references_elsewhere p n m t a d rest x s about);
-      waiting = next.waiting ∙ sym this.waiting;
-      carried = next.carried ∙ sym this.carried;
-      merging = next.merging ∙ sym this.merging;
-      deciding = next.deciding ∙ sym this.deciding;
-    } in
-    row_stays s some q
+module _ {p : Accounts} {n : ℕ} {m : Machine} {t : ℕ} {a : Actor} {d : Duty} {rest : List Duty} where
+  pub row_elsewhere : AtDuty p n m t a d rest → (x : ℕ) → IsCounted m.layout x → (subject m.layout t d == x) ≡ false
+      → KeepsRow m t a d rest x
+  row_elsewhere s x some e =
+      let found = found_by m t a d in
+      let at = address_of m.layout t a.head d in
+      let left = new_word t a.head d found in
+      let shape = continues m.layout t (is_running a.status) a.head d found in
+      let next = next_apart x d (following m t a d) shape e in
+      let about = not_about m.layout t x d e in
+      let this = other_apart x d about in
+      let q : RowStays m t a d rest x (following m t a d) = record {
+        follows = refl;
+        lives = not_born m.layout t x d e _ _ ∙ not_ended m.layout t x d e _ _ ∙ next.lives m.life _;
+        local = sym (written_apart m.memory at (Local x) left (other_local m.layout t a.head d x about));
+        shared = sym (written_apart m.memory at (Shared x) left (other_shared m.layout t a.head d x about));
+        mark = sym (written_apart m.memory at (Mark x) left (other_mark m.layout t a.head d x e));
+        references = sym (references_elsewhere d x s about);
+        waiting = next.waiting ∙ sym this.waiting;
+        carried = next.carried ∙ sym this.carried;
+        merging = next.merging ∙ sym this.merging;
+        deciding = next.deciding ∙ sym this.deciding;
+      } in
+      row_stays s some q

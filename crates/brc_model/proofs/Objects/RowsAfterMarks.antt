@@ -1,11 +1,11 @@
--- The steps that set, look at and take marks, and those that finalise a row, keep the row's invariant.
+-- The steps that set, look at and take marks, and those that empty and close a row, keep the row's invariant.
 use Rattle.std.proofs.Common.{◌≡◌, ℕ, ◌+◌, ◌-◌, ◌≤◌, Bool, true, false, cond, List, [], ◌∷◌, ◌++◌, refl, sym, ap, ◌∙◌, subst, arith, inl, inr}
 use Rattle.std.specs.Prelude.{◌==◌}
 use Rattle.std.proofs.lemmas.List.Sums.{sum_by-append}
 use Rattle.brc_model.specs.AbstractState.{references_to}
 use Rattle.brc_model.specs.declared.duty.Reason.TheVariants.{Handed}
 use Rattle.brc_model.specs.declared.duty.Duty.{Duty}
-use Rattle.brc_model.specs.declared.duty.Duty.TheVariants.{SetMark, Look, TakeMark, MergeSwap, Die, Settle, SettleKind, SettleCell, TakeSlot, CloseResource, SettleEnd, Scan, ClaimMark}
+use Rattle.brc_model.specs.declared.duty.Duty.TheVariants.{SetMark, Look, TakeMark, MergeSwap, Settle, SettleKind, SettleCell, TakeSlot, SettleEnd, Scan, ClaimMark}
 use Rattle.brc_model.specs.declared.address.Address.TheVariants.{Local, Shared, Mark, Cell, KindOf}
 use Rattle.brc_model.specs.Duties.{claimed, has_resource, cells_of, cells_from}
 use Rattle.brc_model.specs.Machine.{Life, Live, Dying, Closed, Actor, Machine, with_life, dies_next, life_by, done_by}
@@ -22,36 +22,35 @@ use Rattle.brc_model.specs.Layout.{block_of, row_at, IsCounted}
 
 -- ---- a mark is set
 
--- The row's invariant holds after `Marked`.
-pub row_after_set_mark : {p : Accounts} {n : ℕ} {m : Machine} {t : ℕ} {a : Actor} {y : ℕ} {rest : List Duty}
-    → AtDuty p n m t a (SetMark y) rest → KeepsRow m t a (SetMark y) rest y
-row_after_set_mark {m = m} {t = t} {a = a} {y = y} {rest = rest} s =
-    let some : IsCounted m.layout y = head_fits_of s in
-    let k = numbers_of m y in
-    let weights = weighed s (Look y ∷ []) refl y in
-    let one = one_own y in
-    let awaits : 1 ≤ k.waiting = omega (arith, weights.waiting, one) in
-    let lives = lives_so s y some (omega (arith, awaits)) in
-    row_becomes m t a (SetMark y) rest y (Look y ∷ []) refl Live lives.is_live
-    (record k { mark = 1; waiting = k.waiting - 1 }) (record {
-      local = refl;
-      shared = refl;
-      mark = sym (written_here m.memory (Mark y) 1 (own y));
-      references = refl;
-      waiting = omega (arith, weights.waiting, one);
-      carried = omega (arith, weights.carried);
-      merging = omega (arith, weights.merging);
-      deciding = omega (arith, weights.deciding);
-    }) (mark_set (block_of m.layout y) k lives.invariant awaits)
+module _ {p : Accounts} {n : ℕ} {m : Machine} {t : ℕ} {a : Actor} {rest : List Duty} where
+  -- The row's invariant holds after `Marked`.
+  pub row_after_set_mark : {y : ℕ} → AtDuty p n m t a (SetMark y) rest → KeepsRow m t a (SetMark y) rest y
+  row_after_set_mark {y = y} s =
+      let some : IsCounted m.layout y = head_fits_of s in
+      let k = numbers_of m y in
+      let weights = weighed s (Look y ∷ []) refl y in
+      let one = one_own y in
+      let awaits : 1 ≤ k.waiting = omega (arith, weights.waiting, one) in
+      let lives = lives_so s y some (omega (arith, awaits)) in
+      row_becomes m t a (SetMark y) rest y (Look y ∷ []) refl Live lives.is_live
+      (record k { mark = 1; waiting = k.waiting - 1 }) (record {
+        local = refl;
+        shared = refl;
+        mark = sym (written_here m.memory (Mark y) 1 (own y));
+        references = refl;
+        waiting = omega (arith, weights.waiting, one);
+        carried = omega (arith, weights.carried);
+        merging = omega (arith, weights.merging);
+        deciding = omega (arith, weights.deciding);
+      }) (mark_set (block_of m.layout y) k lives.invariant awaits)
 
--- The row's invariant holds after `OwnerRuns` and `OwnerExits`.
-pub row_after_look : {p : Accounts} {n : ℕ} {m : Machine} {t : ℕ} {a : Actor} {y : ℕ} {rest : List Duty}
-    → AtDuty p n m t a (Look y) rest → KeepsRow m t a (Look y) rest y
-row_after_look {m = m} {y = y} s =
-    let some : IsCounted m.layout y = (head_fits_of s).0 in
-    let next = apart_if _ (none_apart y) (all_light y (TakeMark y ∷ []) refl) in
-    row_apart s y some refl next (λ life state. refl)
-    (record { local = refl; shared = refl; mark = refl; references = refl })
+  -- The row's invariant holds after `OwnerRuns` and `OwnerExits`.
+  pub row_after_look : {y : ℕ} → AtDuty p n m t a (Look y) rest → KeepsRow m t a (Look y) rest y
+  row_after_look {y = y} s =
+      let some : IsCounted m.layout y = (head_fits_of s).0 in
+      let next = apart_if _ (none_apart y) (all_light y (TakeMark y ∷ []) refl) in
+      row_apart s y some refl next (λ life state. refl)
+      (record { local = refl; shared = refl; mark = refl; references = refl })
 
 -- ---- a mark is taken
 
@@ -68,245 +67,183 @@ pub record Takes (m : Machine) (t : ℕ) (a : Actor) (d : Duty) (rest : List Dut
     pub mark : (done_by m t a d rest).memory (Mark y) ≡ 0
     pub references : references_to y m.abstract.references ≡ references_to y (done_by m t a d rest).abstract.references
 
--- `MarkGone`, `ScanFindsNone` and `NothingToClaim`: if the mark wasn't set, the row is unchanged.
-takes_none : {p : Accounts} {n : ℕ} {m : Machine} {t : ℕ} {a : Actor} {d : Duty} {rest tail : List Duty} {y : ℕ}
-    → AtDuty p n m t a d rest → IsCounted m.layout y → Takes m t a d rest y tail → m.memory (Mark y) ≡ 0
-    → KeepsRow m t a d rest y
-takes_none {m = m} {t = t} {a = a} {d = d} {rest = rest} {tail = tail} {y = y} s some takes unset =
-    let follows : following m t a d ≡ tail = takes.follows ∙ ap (λ (w : ℕ). claimed y w ++ tail) unset in
-    row_stays {next = tail} {x = y} s some (record {
-      follows = follows;
-      lives = takes.lives tail ∙ takes.others.lives m.life (Dying t);
-      local = takes.local;
-      shared = takes.shared;
-      mark = unset ∙ sym takes.mark;
-      references = takes.references;
-      waiting = takes.others.waiting ∙ sym takes.this.waiting;
-      carried = takes.others.carried ∙ sym takes.this.carried;
-      merging = takes.others.merging ∙ sym takes.this.merging;
-      deciding = takes.others.deciding ∙ sym takes.this.deciding;
-    })
+module _ {p : Accounts} {n : ℕ} {m : Machine} {t : ℕ} {a : Actor} {d : Duty} {rest : List Duty} where
+  -- `MarkGone`, `ScanFindsNone` and `NothingToClaim`: if the mark wasn't set, the row is unchanged.
+  takes_none : {tail : List Duty} {y : ℕ} → AtDuty p n m t a d rest → IsCounted m.layout y → Takes m t a d rest y tail
+      → m.memory (Mark y) ≡ 0 → KeepsRow m t a d rest y
+  takes_none {tail = tail} {y = y} s some takes unset =
+      let follows : following m t a d ≡ tail = takes.follows ∙ ap (λ (w : ℕ). claimed y w ++ tail) unset in
+      row_stays {next = tail} {x = y} s some (record {
+        follows = follows;
+        lives = takes.lives tail ∙ takes.others.lives m.life (Dying t);
+        local = takes.local;
+        shared = takes.shared;
+        mark = unset ∙ sym takes.mark;
+        references = takes.references;
+        waiting = takes.others.waiting ∙ sym takes.this.waiting;
+        carried = takes.others.carried ∙ sym takes.this.carried;
+        merging = takes.others.merging ∙ sym takes.this.merging;
+        deciding = takes.others.deciding ∙ sym takes.this.deciding;
+      })
 
 abbrev hands : ℕ → List Duty
 hands y = MergeSwap y Handed ∷ []
 
--- `MarkTakenBack`, `ScanFindsMark` and `MarkClaimed`: if the mark was set, its pending decrement goes over to the duty
--- that merges the object.
-takes_one : {p : Accounts} {n : ℕ} {m : Machine} {t : ℕ} {a : Actor} {d : Duty} {rest tail : List Duty} {y : ℕ}
-    → AtDuty p n m t a d rest → IsCounted m.layout y → Takes m t a d rest y tail → m.memory (Mark y) ≡ 1
-    → KeepsRow m t a d rest y
-takes_one {m = m} {t = t} {a = a} {d = d} {rest = rest} {tail = tail} {y = y} s some takes set =
-    let k = numbers_of m y in
-    let follows : following m t a d ≡ hands y ++ tail = takes.follows ∙ ap (λ (w : ℕ). claimed y w ++ tail) set in
-    let weights = weighed s (hands y ++ tail) follows y in
-    let lives = lives_so s y some (omega (arith, set)) in
-    let one = one_own y in
-    row_becomes m t a d rest y (hands y ++ tail) follows Live (takes.lives (hands y ++ tail) ∙ lives.is_live)
-    (record k { mark = 0; waiting = k.waiting + 1 }) (record {
-      local = takes.local;
-      shared = takes.shared;
-      mark = sym takes.mark;
-      references = takes.references;
-      waiting =
-          omega (
-            arith,
-            weights.waiting,
-            one,
-            takes.this.waiting,
-            takes.others.waiting,
-            sum_by-append (waits y) (hands y) tail,
-          );
-      carried =
-          omega (
-            arith,
-            weights.carried,
-            takes.this.carried,
-            takes.others.carried,
-            sum_by-append (carries y) (hands y) tail,
-          );
-      merging =
-          omega (
-            arith,
-            weights.merging,
-            takes.this.merging,
-            takes.others.merging,
-            sum_by-append (merges y) (hands y) tail,
-          );
-      deciding =
-          omega (
-            arith,
-            weights.deciding,
-            takes.this.deciding,
-            takes.others.deciding,
-            sum_by-append (decides y) (hands y) tail,
-          );
-    }) (mark_taken (block_of m.layout y) k lives.invariant set)
+module _ {p : Accounts} {n : ℕ} {m : Machine} {t : ℕ} {a : Actor} {d : Duty} {rest : List Duty} where
+  -- `MarkTakenBack`, `ScanFindsMark` and `MarkClaimed`: if the mark was set, its pending decrement goes over to the
+  -- duty that merges the object.
+  takes_one : {tail : List Duty} {y : ℕ} → AtDuty p n m t a d rest → IsCounted m.layout y → Takes m t a d rest y tail
+      → m.memory (Mark y) ≡ 1 → KeepsRow m t a d rest y
+  takes_one {tail = tail} {y = y} s some takes set =
+      let k = numbers_of m y in
+      let follows : following m t a d ≡ hands y ++ tail = takes.follows ∙ ap (λ (w : ℕ). claimed y w ++ tail) set in
+      let weights = weighed s (hands y ++ tail) follows y in
+      let lives = lives_so s y some (omega (arith, set)) in
+      let one = one_own y in
+      row_becomes m t a d rest y (hands y ++ tail) follows Live (takes.lives (hands y ++ tail) ∙ lives.is_live)
+      (record k { mark = 0; waiting = k.waiting + 1 }) (record {
+        local = takes.local;
+        shared = takes.shared;
+        mark = sym takes.mark;
+        references = takes.references;
+        waiting =
+            omega (
+              arith,
+              weights.waiting,
+              one,
+              takes.this.waiting,
+              takes.others.waiting,
+              sum_by-append (waits y) (hands y) tail,
+            );
+        carried =
+            omega (
+              arith,
+              weights.carried,
+              takes.this.carried,
+              takes.others.carried,
+              sum_by-append (carries y) (hands y) tail,
+            );
+        merging =
+            omega (
+              arith,
+              weights.merging,
+              takes.this.merging,
+              takes.others.merging,
+              sum_by-append (merges y) (hands y) tail,
+            );
+        deciding =
+            omega (
+              arith,
+              weights.deciding,
+              takes.this.deciding,
+              takes.others.deciding,
+              sum_by-append (decides y) (hands y) tail,
+            );
+      }) (mark_taken (block_of m.layout y) k lives.invariant set)
 
-row_after_taking : {p : Accounts} {n : ℕ} {m : Machine} {t : ℕ} {a : Actor} {d : Duty} {rest tail : List Duty} {y : ℕ}
-    → AtDuty p n m t a d rest → IsCounted m.layout y → Takes m t a d rest y tail → KeepsRow m t a d rest y
-row_after_taking {y = y} s some takes =
-    elim (s.core.marks y) [
-      | inl unset ↦ takes_none s some takes unset
-      | inr set ↦ takes_one s some takes set.0
-    ]
+  row_after_taking : {tail : List Duty} {y : ℕ} → AtDuty p n m t a d rest → IsCounted m.layout y
+      → Takes m t a d rest y tail → KeepsRow m t a d rest y
+  row_after_taking {y = y} s some takes =
+      elim (s.core.marks y) [
+        | inl unset ↦ takes_none s some takes unset
+        | inr set ↦ takes_one s some takes set.0
+      ]
 
--- The row's invariant holds after `MarkTakenBack` and `MarkGone`.
-pub row_after_take_mark : {p : Accounts} {n : ℕ} {m : Machine} {t : ℕ} {a : Actor} {y : ℕ} {rest : List Duty}
-    → AtDuty p n m t a (TakeMark y) rest → KeepsRow m t a (TakeMark y) rest y
-row_after_take_mark {m = m} {t = t} {a = a} {y = y} {rest = rest} s =
-    let takes : Takes m t a (TakeMark y) rest y [] = record {
-      follows = elim (m.memory (Mark y) == 1) as (λ b. cond b (hands y) [] ≡ cond b (hands y) [] ++ []) [
-        | true ↦ refl
-        | false ↦ refl
-      ];
-      this = light_apart y (TakeMark y) refl;
-      others = none_apart y;
-      lives = λ next. refl;
-      local = refl;
-      shared = refl;
-      mark = written_here m.memory (Mark y) 0 (own y);
-      references = refl;
-    } in
-    row_after_taking s (head_fits_of s).0 takes
+module _ {p : Accounts} {n : ℕ} {m : Machine} {t : ℕ} {a : Actor} {rest : List Duty} where
+  -- The row's invariant holds after `MarkTakenBack` and `MarkGone`.
+  pub row_after_take_mark : {y : ℕ} → AtDuty p n m t a (TakeMark y) rest → KeepsRow m t a (TakeMark y) rest y
+  row_after_take_mark {y = y} s =
+      let takes : Takes m t a (TakeMark y) rest y [] = record {
+        follows = elim (m.memory (Mark y) == 1) as (λ b. cond b (hands y) [] ≡ cond b (hands y) [] ++ []) [
+          | true ↦ refl
+          | false ↦ refl
+        ];
+        this = light_apart y (TakeMark y) refl;
+        others = none_apart y;
+        lives = λ next. refl;
+        local = refl;
+        shared = refl;
+        mark = written_here m.memory (Mark y) 0 (own y);
+        references = refl;
+      } in
+      row_after_taking s (head_fits_of s).0 takes
 
--- The row's invariant holds after `ScanFindsMark` and `ScanFindsNone`.
-pub row_after_scan : {p : Accounts} {n : ℕ} {m : Machine} {t : ℕ} {a : Actor} {i left : ℕ} {rest : List Duty}
-    → IsCounted m.layout (row_at m.layout t i)
-    → AtDuty p n m t a (Scan i left) rest → KeepsRow m t a (Scan i left) rest (row_at m.layout t i)
-row_after_scan {m = m} {t = t} {a = a} {i = i} {left = left} {rest = rest} some s =
-    let y = row_at m.layout t i in
-    let takes : Takes m t a (Scan i left) rest y (Settle ∷ Scan (i + 1) (left - 1) ∷ []) = record {
-      follows = refl;
-      this = light_apart y (Scan i left) refl;
-      others = all_light y (Settle ∷ Scan (i + 1) (left - 1) ∷ []) refl;
-      lives = λ next. refl;
-      local = refl;
-      shared = refl;
-      mark = written_here m.memory (Mark y) 0 (own y);
-      references = refl;
-    } in
-    row_after_taking s some takes
+  -- The row's invariant holds after `ScanFindsMark` and `ScanFindsNone`.
+  pub row_after_scan : {i left : ℕ} → IsCounted m.layout (row_at m.layout t i) → AtDuty p n m t a (Scan i left) rest
+      → KeepsRow m t a (Scan i left) rest (row_at m.layout t i)
+  row_after_scan {i = i} {left = left} some s =
+      let y = row_at m.layout t i in
+      let takes : Takes m t a (Scan i left) rest y (Settle ∷ Scan (i + 1) (left - 1) ∷ []) = record {
+        follows = refl;
+        this = light_apart y (Scan i left) refl;
+        others = all_light y (Settle ∷ Scan (i + 1) (left - 1) ∷ []) refl;
+        lives = λ next. refl;
+        local = refl;
+        shared = refl;
+        mark = written_here m.memory (Mark y) 0 (own y);
+        references = refl;
+      } in
+      row_after_taking s some takes
 
--- The row's invariant holds after `MarkClaimed` and `NothingToClaim`.
-pub row_after_claim_mark : {p : Accounts} {n : ℕ} {m : Machine} {t : ℕ} {a : Actor} {y : ℕ} {rest : List Duty}
-    → IsCounted m.layout y
-    → AtDuty p n m t a (ClaimMark y) rest → KeepsRow m t a (ClaimMark y) rest y
-row_after_claim_mark {m = m} {t = t} {a = a} {y = y} {rest = rest} some s =
-    let takes : Takes m t a (ClaimMark y) rest y (Settle ∷ []) = record {
-      follows = refl;
-      this = light_apart y (ClaimMark y) refl;
-      others = all_light y (Settle ∷ []) refl;
-      lives = λ next. refl;
-      local = refl;
-      shared = refl;
-      mark = written_here m.memory (Mark y) 0 (own y);
-      references = refl;
-    } in
-    row_after_taking s some takes
+  -- The row's invariant holds after `MarkClaimed` and `NothingToClaim`.
+  pub row_after_claim_mark : {y : ℕ} → IsCounted m.layout y → AtDuty p n m t a (ClaimMark y) rest
+      → KeepsRow m t a (ClaimMark y) rest y
+  row_after_claim_mark {y = y} some s =
+      let takes : Takes m t a (ClaimMark y) rest y (Settle ∷ []) = record {
+        follows = refl;
+        this = light_apart y (ClaimMark y) refl;
+        others = all_light y (Settle ∷ []) refl;
+        lives = λ next. refl;
+        local = refl;
+        shared = refl;
+        mark = written_here m.memory (Mark y) 0 (own y);
+        references = refl;
+      } in
+      row_after_taking s some takes
 
--- ---- deallocation
+  -- ---- deallocation
 
--- The row's invariant holds after `Chained`.
-pub row_after_die : {p : Accounts} {n : ℕ} {m : Machine} {t : ℕ} {a : Actor} {y : ℕ} {rest : List Duty}
-    → IsCounted m.layout y
-    → AtDuty p n m t a (Die y) rest → KeepsRow m t a (Die y) rest y
-row_after_die {y = y} some s =
-    row_stays {next = []} {x = y} s some
-    (record {
-      follows = refl;
-      lives = refl;
-      local = refl;
-      shared = refl;
-      mark = refl;
-      references = refl;
-      waiting = refl;
-      carried = refl;
-      merging = refl;
-      deciding = refl;
-    })
+  -- The row's invariant holds after `DyingResource` and `DyingCells`.
+  pub row_after_settle_kind : {y : ℕ} → IsCounted m.layout y → AtDuty p n m t a (SettleKind y) rest
+      → KeepsRow m t a (SettleKind y) rest y
+  row_after_settle_kind {y = y} some s =
+      let word = m.memory (KindOf y) in
+      let next =
+      apart_if (has_resource word) (all_light y (TakeSlot y ∷ []) refl) (cells_apart y y 0 (cells_of word)) in
+      row_apart s y some refl next (λ life state. refl)
+      (record { local = refl; shared = refl; mark = refl; references = refl })
 
--- The row's invariant holds after `DyingResource` and `DyingCells`.
-pub row_after_settle_kind : {p : Accounts} {n : ℕ} {m : Machine} {t : ℕ} {a : Actor} {y : ℕ} {rest : List Duty}
-    → IsCounted m.layout y
-    → AtDuty p n m t a (SettleKind y) rest → KeepsRow m t a (SettleKind y) rest y
-row_after_settle_kind {m = m} {y = y} some s =
-    let word = m.memory (KindOf y) in
-    let next =
-    apart_if (has_resource word) (all_light y (TakeSlot y ∷ []) refl) (cells_apart y y 0 (cells_of word)) in
-    row_apart s y some refl next (λ life state. refl)
-    (record { local = refl; shared = refl; mark = refl; references = refl })
+  -- The row's invariant holds after `CellEmptied`.
+  pub row_after_settle_cell : {y i cells : ℕ} → IsCounted m.layout y → AtDuty p n m t a (SettleCell y i cells) rest
+      → KeepsRow m t a (SettleCell y i cells) rest y
+  row_after_settle_cell {y = y} {i = i} {cells = cells} some s =
+      row_apart s y some refl (released_apart y (m.memory (Cell y i)) (cells_from y (i + 1) cells)
+      (cells_apart y y (i + 1) cells)) (λ life state. refl)
+      (record {
+        local = refl;
+        shared = refl;
+        mark = refl;
+        references =
+            sym (taken_references m.abstract t y i (m.memory (Cell y i)) y
+            (λ z is. omega (arith, cell_held y i z s.core is)));
+      })
 
--- The row's invariant holds after `CellEmptied`.
-pub row_after_settle_cell : {p : Accounts} {n : ℕ} {m : Machine} {t : ℕ} {a : Actor} {y i cells : ℕ} {rest : List
-    Duty} → IsCounted m.layout y
-    → AtDuty p n m t a (SettleCell y i cells) rest → KeepsRow m t a (SettleCell y i cells) rest y
-row_after_settle_cell {m = m} {t = t} {y = y} {i = i} {cells = cells} some s =
-    row_apart s y some refl (released_apart y (m.memory (Cell y i)) (cells_from y (i + 1) cells)
-    (cells_apart y y (i + 1) cells)) (λ life state. refl)
-    (record {
-      local = refl;
-      shared = refl;
-      mark = refl;
-      references =
-          sym (taken_references m.abstract t y i (m.memory (Cell y i)) y
-          (λ z is. omega (arith, cell_held _ _ m y i z s.core is)));
-    })
-
--- The row's invariant holds after `SlotEmptied`.
-pub row_after_take_slot : {p : Accounts} {n : ℕ} {m : Machine} {t : ℕ} {a : Actor} {y : ℕ} {rest : List Duty}
-    → IsCounted m.layout y
-    → AtDuty p n m t a (TakeSlot y) rest → KeepsRow m t a (TakeSlot y) rest y
-row_after_take_slot {y = y} some s =
-    row_stays {next = CloseResource y ∷ []} {x = y} s some
-    (record {
-      follows = refl;
-      lives = refl;
-      local = refl;
-      shared = refl;
-      mark = refl;
-      references = refl;
-      waiting = refl;
-      carried = refl;
-      merging = refl;
-      deciding = refl;
-    })
-
--- The row's invariant holds after `ResourceClosed`.
-pub row_after_close_resource : {p : Accounts} {n : ℕ} {m : Machine} {t : ℕ} {a : Actor} {y : ℕ} {rest : List Duty}
-    → IsCounted m.layout y
-    → AtDuty p n m t a (CloseResource y) rest → KeepsRow m t a (CloseResource y) rest y
-row_after_close_resource {y = y} some s =
-    row_stays {next = SettleEnd y ∷ []} {x = y} s some
-    (record {
-      follows = refl;
-      lives = refl;
-      local = refl;
-      shared = refl;
-      mark = refl;
-      references = refl;
-      waiting = refl;
-      carried = refl;
-      merging = refl;
-      deciding = refl;
-    })
-
--- `Closes`: a dying row is closed, and still counts nothing.
-pub row_after_settle_end : {p : Accounts} {n : ℕ} {m : Machine} {t : ℕ} {a : Actor} {y : ℕ} {rest : List Duty}
-    → AtDuty p n m t a (SettleEnd y) rest → KeepsRow m t a (SettleEnd y) rest y
-row_after_settle_end {m = m} {t = t} {a = a} {y = y} {rest = rest} s =
-    let fits = head_fits_of s in
-    let k = numbers_of m y in
-    let weights = weighed s [] refl y in
-    let dead : RowInvariant (block_of m.layout y) (Dying t) k =
-    subst (λ (l : Life). RowInvariant (block_of m.layout y) l k) fits.1 (s.core.rows y fits.0) in
-    row_becomes m t a (SettleEnd y) rest y [] refl Closed (ap (λ (b : Bool). cond b Closed (m.life y)) (own y)) k
-    (record {
-      local = refl;
-      shared = refl;
-      mark = refl;
-      references = refl;
-      waiting = omega (arith, weights.waiting);
-      carried = omega (arith, weights.carried);
-      merging = omega (arith, weights.merging);
-      deciding = omega (arith, weights.deciding);
-    }) dead
+  -- `Closes`: a dying row is closed, and still counts nothing.
+  pub row_after_settle_end : {y : ℕ} → AtDuty p n m t a (SettleEnd y) rest → KeepsRow m t a (SettleEnd y) rest y
+  row_after_settle_end {y = y} s =
+      let fits = head_fits_of s in
+      let k = numbers_of m y in
+      let weights = weighed s [] refl y in
+      let dead : RowInvariant (block_of m.layout y) (Dying t) k =
+      subst (λ (l : Life). RowInvariant (block_of m.layout y) l k) fits.1 (s.core.rows y fits.0) in
+      row_becomes m t a (SettleEnd y) rest y [] refl Closed (ap (λ (b : Bool). cond b Closed (m.life y)) (own y)) k
+      (record {
+        local = refl;
+        shared = refl;
+        mark = refl;
+        references = refl;
+        waiting = omega (arith, weights.waiting);
+        carried = omega (arith, weights.carried);
+        merging = omega (arith, weights.merging);
+        deciding = omega (arith, weights.deciding);
+      }) dead

@@ -35,15 +35,15 @@ written_here memory at word this = ap (λ (same : Bool). cond same word (memory 
 
 -- ---- references of the thread
 
--- The bag has the reference that a duty gives up.
-pub gives_up : {p : Accounts} {n : ℕ} {m : Machine} {t : ℕ} {a : Actor} {d : Duty} {rest : List Duty}
-    → AtDuty p n m t a d rest → (k : Holding) (object : ℕ) → extra d k object ≡ true → lacks d k object ≡ false
-    → 0 < held (reference_of t k object) m.abstract.references
-gives_up {p = p} {m = m} {t = t} {a = a} s k object more less =
-    let fits = s.core.each t a s.found in
-    extra_held m t (p t) a k object fits.0.holds fits.2
-    (ap (λ (ds : List Duty). extra_of ds k object) s.agenda ∙ more)
-    (ap (λ (ds : List Duty). lacks_of ds k object) s.agenda ∙ less)
+module _ {p : Accounts} {n : ℕ} {m : Machine} {t : ℕ} {a : Actor} {d : Duty} {rest : List Duty} where
+  -- The bag has the reference that a duty gives up.
+  pub gives_up : AtDuty p n m t a d rest → (k : Holding) (object : ℕ) → extra d k object ≡ true
+      → lacks d k object ≡ false → 0 < held (reference_of t k object) m.abstract.references
+  gives_up s k object more less =
+      let fits = s.core.each t a s.found in
+      extra_held m t (p t) a k object fits.0.holds fits.2
+      (ap (λ (ds : List Duty). extra_of ds k object) s.agenda ∙ more)
+      (ap (λ (ds : List Duty). lacks_of ds k object) s.agenda ∙ less)
 
 -- The bag has the reference, and has one reference less to its object without it.
 pub record IsLost (bag : List Reference) (r : Reference) : Type 0 where
@@ -63,19 +63,15 @@ is_lost bag r some =
 
 -- ---- live rows
 
-pub lives_so : {p : Accounts} {n : ℕ} {m : Machine} {t : ℕ} {a : Actor} {d : Duty} {rest : List Duty}
-    → AtDuty p n m t a d rest → (y : ℕ) → IsCounted m.layout y
-    → 1 ≤ (numbers_of m y).references + (numbers_of m y).mark + (numbers_of m y).waiting + (numbers_of m y).merging
-    + (numbers_of m y).deciding
-    → Lives (block_of m.layout y) (m.life y) (numbers_of m y)
-lives_so {m = m} s y some counted =
-    row_lives (block_of m.layout y) (m.life y) (numbers_of m y) (s.core.rows y some) counted
+module _ {p : Accounts} {n : ℕ} {m : Machine} {t : ℕ} {a : Actor} {d : Duty} {rest : List Duty} where
+  pub lives_so : AtDuty p n m t a d rest → (y : ℕ) → IsCounted m.layout y
+      → 1 ≤ (numbers_of m y).references + (numbers_of m y).mark + (numbers_of m y).waiting + (numbers_of m y).merging
+      + (numbers_of m y).deciding → Lives (block_of m.layout y) (m.life y) (numbers_of m y)
+  lives_so s y some counted = row_lives (block_of m.layout y) (m.life y) (numbers_of m y) (s.core.rows y some) counted
 
-pub lives_backed : {p : Accounts} {n : ℕ} {m : Machine} {t : ℕ} {a : Actor} {d : Duty} {rest : List Duty}
-    → AtDuty p n m t a d rest → (y : ℕ) → IsCounted m.layout y → IsBacked m t a y
-    → Lives (block_of m.layout y) (m.life y) (numbers_of m y)
-lives_backed {p = p} {n = n} {m = m} {t = t} {a = a} s y some backed =
-    lives_so s y some (omega (arith, backed_referenced p n m t a y s.core backed))
+  pub lives_backed : AtDuty p n m t a d rest → (y : ℕ) → IsCounted m.layout y → IsBacked m t a y
+      → Lives (block_of m.layout y) (m.life y) (numbers_of m y)
+  lives_backed s y some backed = lives_so s y some (omega (arith, backed_referenced p n m t a y s.core backed))
 
 -- A live counted row isn't immortal.
 pub counted_word : (owner : ℕ) (n : Numbers) → IsLive owner n → is_immortal_word n.local ≡ false
@@ -95,22 +91,23 @@ pub record KeepsWords (m after : Machine) (x : ℕ) : Type 0 where
   pub mark : m.memory (Mark x) ≡ after.memory (Mark x)
   pub references : references_to x m.abstract.references ≡ references_to x after.abstract.references
 
-pub row_apart : {p : Accounts} {n : ℕ} {m : Machine} {t : ℕ} {a : Actor} {d : Duty} {rest : List Duty}
-    → AtDuty p n m t a d rest → (x : ℕ) → IsCounted m.layout x → weighs d ≡ false → AreApart x (following m t a d)
-    → ((life : ℕ → Life) (state : Life) → with_life (with_life life (ended_row d) state) (born_row d) Live x ≡ life x)
-    → KeepsWords m (done_by m t a d rest) x → KeepsRow m t a d rest x
-row_apart {m = m} {t = t} {a = a} {d = d} {rest = rest} s x some light next ends words =
-    let this = light_apart x d light in
-    let q : RowStays m t a d rest x (following m t a d) = record {
-      follows = refl;
-      lives = ends _ _ ∙ next.lives m.life _;
-      local = words.local;
-      shared = words.shared;
-      mark = words.mark;
-      references = words.references;
-      waiting = next.waiting ∙ sym this.waiting;
-      carried = next.carried ∙ sym this.carried;
-      merging = next.merging ∙ sym this.merging;
-      deciding = next.deciding ∙ sym this.deciding;
-    } in
-    row_stays s some q
+module _ {p : Accounts} {n : ℕ} {m : Machine} {t : ℕ} {a : Actor} {d : Duty} {rest : List Duty} where
+  pub row_apart : AtDuty p n m t a d rest → (x : ℕ) → IsCounted m.layout x → weighs d ≡ false
+      → AreApart x (following m t a d)
+      → ((life : ℕ → Life) (state : Life) → with_life (with_life life (ended_row d) state) (born_row d) Live x ≡ life x)
+      → KeepsWords m (done_by m t a d rest) x → KeepsRow m t a d rest x
+  row_apart s x some light next ends words =
+      let this = light_apart x d light in
+      let q : RowStays m t a d rest x (following m t a d) = record {
+        follows = refl;
+        lives = ends _ _ ∙ next.lives m.life _;
+        local = words.local;
+        shared = words.shared;
+        mark = words.mark;
+        references = words.references;
+        waiting = next.waiting ∙ sym this.waiting;
+        carried = next.carried ∙ sym this.carried;
+        merging = next.merging ∙ sym this.merging;
+        deciding = next.deciding ∙ sym this.deciding;
+      } in
+      row_stays s some q

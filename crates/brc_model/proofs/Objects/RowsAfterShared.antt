@@ -28,24 +28,24 @@ same_waits : (x y : ℕ) (r : Reason) (w : ℕ) → waits x (SharedLoad y r) ≡
 same_waits x y Own w = refl
 same_waits x y Handed w = refl
 
--- The row's invariant holds after `SharedRead`.
-pub row_after_shared_load : {p : Accounts} {n : ℕ} {m : Machine} {t : ℕ} {a : Actor} {y : ℕ} {r : Reason}
-    {rest : List Duty}
-    → IsCounted m.layout y → AtDuty p n m t a (SharedLoad y r) rest → KeepsRow m t a (SharedLoad y r) rest y
-row_after_shared_load {m = m} {y = y} {r = r} some s =
-    let found = m.memory (Shared y) in
-    row_stays {next = SharedExchange y r found ∷ []} {x = y} s some (record {
-      follows = refl;
-      lives = refl;
-      local = refl;
-      shared = sym (written_here m.memory (Shared y) found (own y));
-      mark = refl;
-      references = refl;
-      waiting = omega (arith, same_waits y y r found);
-      carried = refl;
-      merging = refl;
-      deciding = refl;
-    })
+module _ {p : Accounts} {n : ℕ} {m : Machine} {t : ℕ} {a : Actor} {rest : List Duty} where
+  -- The row's invariant holds after `SharedRead`.
+  pub row_after_shared_load : {y : ℕ} {r : Reason} → IsCounted m.layout y → AtDuty p n m t a (SharedLoad y r) rest
+      → KeepsRow m t a (SharedLoad y r) rest y
+  row_after_shared_load {y = y} {r = r} some s =
+      let found = m.memory (Shared y) in
+      row_stays {next = SharedExchange y r found ∷ []} {x = y} s some (record {
+        follows = refl;
+        lives = refl;
+        local = refl;
+        shared = sym (written_here m.memory (Shared y) found (own y));
+        mark = refl;
+        references = refl;
+        waiting = omega (arith, same_waits y y r found);
+        carried = refl;
+        merging = refl;
+        deciding = refl;
+      })
 
 -- ---- the exchange
 
@@ -64,24 +64,24 @@ exchange_moves memory t y Own w found p e =
     sym (ap (λ (b : Bool). references_to y (moved p (cond b (lose t y) [])).references) e)
 exchange_moves memory t y Handed w found p e = refl
 
--- `ExchangeLost`: if the compare-exchange fails, the thread loads the word again, and the row is unchanged.
-row_after_lost_exchange : {p : Accounts} {n : ℕ} {m : Machine} {t : ℕ} {a : Actor} {y : ℕ} {r : Reason} {w : ℕ}
-    {rest : List Duty}
-    → IsCounted m.layout y → AtDuty p n m t a (SharedExchange y r w) rest
-    → (m.memory (Shared y) == w) ≡ false → KeepsRow m t a (SharedExchange y r w) rest y
-row_after_lost_exchange {m = m} {t = t} {y = y} {r = r} {w = w} some s other =
-    row_stays {next = SharedLoad y r ∷ []} {x = y} s some (record {
-      follows = rw other refl;
-      lives = refl;
-      local = refl;
-      shared = sym (exchanged m.memory y w false other);
-      mark = refl;
-      references = exchange_moves m.memory t y r w (m.memory (Shared y)) m.abstract other;
-      waiting = omega (arith, same_waits y y r w);
-      carried = refl;
-      merging = refl;
-      deciding = refl;
-    })
+module _ {p : Accounts} {n : ℕ} {m : Machine} {t : ℕ} {a : Actor} {rest : List Duty} where
+  -- `ExchangeLost`: if the compare-exchange fails, the thread loads the word again, and the row is unchanged.
+  row_after_lost_exchange : {y : ℕ} {r : Reason} {w : ℕ} → IsCounted m.layout y
+      → AtDuty p n m t a (SharedExchange y r w) rest → (m.memory (Shared y) == w) ≡ false
+      → KeepsRow m t a (SharedExchange y r w) rest y
+  row_after_lost_exchange {y = y} {r = r} {w = w} some s other =
+      row_stays {next = SharedLoad y r ∷ []} {x = y} s some (record {
+        follows = rw other refl;
+        lives = refl;
+        local = refl;
+        shared = sym (exchanged m.memory y w false other);
+        mark = refl;
+        references = exchange_moves m.memory t y r w (m.memory (Shared y)) m.abstract other;
+        waiting = omega (arith, same_waits y y r w);
+        carried = refl;
+        merging = refl;
+        deciding = refl;
+      })
 
 -- ---- the thread's own reference
 
@@ -91,167 +91,161 @@ own_moves : (memory : Address → ℕ) (t y w found : ℕ) (p : AbstractState) �
     ≡ references_to y (moved p (lose t y)).references
 own_moves memory t y w found p e = ap (λ (b : Bool). references_to y (moved p (cond b (lose t y) [])).references) e
 
--- `Queues`, for the thread's own reference.
-own_queues : {p : Accounts} {n : ℕ} {m : Machine} {t : ℕ} {a : Actor} {y w : ℕ} {rest : List Duty}
-    → AtDuty p n m t a (SharedExchange y Own w) rest
-    → (m.memory (Shared y) == w) ≡ true → m.memory (Shared y) ≡ w → (w == fresh_word) ≡ true → w ≡ fresh_word
-    → KeepsRow m t a (SharedExchange y Own w) rest y
-own_queues {m = m} {t = t} {a = a} {y = y} {w = w} {rest = rest} s test same is_fresh fresh =
-    let some : IsCounted m.layout y = head_fits_of s in
-    let k = numbers_of m y in
-    let lost =
-    is_lost m.abstract.references (reference_of t InFlight y) (gives_up s InFlight y (rw (own y) refl) refl) in
-    let lives = lives_so s y some (omega (arith, lost.before)) in
-    let weights = weighed s (SetMark y ∷ []) (rw (test, is_fresh) refl) y in
-    let left : released_word w ≡ w + 2 = ap (λ (b : Bool). cond b (w + 2) (w - 4)) is_fresh in
-    let one = one_own y in
-    row_becomes m t a (SharedExchange y Own w) rest y (SetMark y ∷ []) (rw (test, is_fresh) refl) Live lives.is_live
-    (record k { shared = k.shared + 2; references = k.references - 1; waiting = k.waiting + 1 }) (record {
-      local = refl;
-      shared = omega (arith, exchanged m.memory y w true test, left, same);
-      mark = refl;
-      references = omega (arith, own_moves m.memory t y w (m.memory (Shared y)) m.abstract test, lost.less);
-      waiting = omega (arith, weights.waiting, one);
-      carried = omega (arith, weights.carried);
-      merging = omega (arith, weights.merging);
-      deciding = omega (arith, weights.deciding);
-    }) (shared_queued (block_of m.layout y) k lives.invariant (same ∙ fresh) lost.before)
+module _ {p : Accounts} {n : ℕ} {m : Machine} {t : ℕ} {a : Actor} {rest : List Duty} where
+  -- `Queues`, for the thread's own reference.
+  own_queues : {y w : ℕ} → AtDuty p n m t a (SharedExchange y Own w) rest → (m.memory (Shared y) == w) ≡ true
+      → m.memory (Shared y) ≡ w → (w == fresh_word) ≡ true → w ≡ fresh_word
+      → KeepsRow m t a (SharedExchange y Own w) rest y
+  own_queues {y = y} {w = w} s test same is_fresh fresh =
+      let some : IsCounted m.layout y = head_fits_of s in
+      let k = numbers_of m y in
+      let lost =
+      is_lost m.abstract.references (reference_of t InFlight y) (gives_up s InFlight y (rw (own y) refl) refl) in
+      let lives = lives_so s y some (omega (arith, lost.before)) in
+      let weights = weighed s (SetMark y ∷ []) (rw (test, is_fresh) refl) y in
+      let left : released_word w ≡ w + 2 = ap (λ (b : Bool). cond b (w + 2) (w - 4)) is_fresh in
+      let one = one_own y in
+      row_becomes m t a (SharedExchange y Own w) rest y (SetMark y ∷ []) (rw (test, is_fresh) refl) Live lives.is_live
+      (record k { shared = k.shared + 2; references = k.references - 1; waiting = k.waiting + 1 }) (record {
+        local = refl;
+        shared = omega (arith, exchanged m.memory y w true test, left, same);
+        mark = refl;
+        references = omega (arith, own_moves m.memory t y w (m.memory (Shared y)) m.abstract test, lost.less);
+        waiting = omega (arith, weights.waiting, one);
+        carried = omega (arith, weights.carried);
+        merging = omega (arith, weights.merging);
+        deciding = omega (arith, weights.deciding);
+      }) (shared_queued (block_of m.layout y) k lives.invariant (same ∙ fresh) lost.before)
 
--- `DecrementsToZero`, for the thread's own reference.
-own_dies : {p : Accounts} {n : ℕ} {m : Machine} {t : ℕ} {a : Actor} {y w : ℕ} {rest : List Duty}
-    → AtDuty p n m t a (SharedExchange y Own w) rest
-    → (m.memory (Shared y) == w) ≡ true → m.memory (Shared y) ≡ w → (w == fresh_word) ≡ false
-    → (w - 4 == dead_word) ≡ true → w - 4 ≡ dead_word → KeepsRow m t a (SharedExchange y Own w) rest y
-own_dies {m = m} {t = t} {a = a} {y = y} {w = w} {rest = rest} s test same other is_dead dead =
-    let some : IsCounted m.layout y = head_fits_of s in
-    let k = numbers_of m y in
-    let lost =
-    is_lost m.abstract.references (reference_of t InFlight y) (gives_up s InFlight y (rw (own y) refl) refl) in
-    let lives = lives_so s y some (omega (arith, lost.before)) in
-    let weights = weighed s (Die y ∷ []) (rw (test, other, is_dead) refl) y in
-    let left : released_word w ≡ w - 4 = ap (λ (b : Bool). cond b (w + 2) (w - 4)) other in
-    row_becomes m t a (SharedExchange y Own w) rest y (Die y ∷ []) (rw (test, other, is_dead) refl) (Dying t)
-    (ap (λ (b : Bool). cond b (Dying t) (m.life y)) (own y))
-    (record k { shared = k.shared - 4; references = k.references - 1 }) (record {
-      local = refl;
-      shared = omega (arith, exchanged m.memory y w true test, left, same);
-      mark = refl;
-      references = omega (arith, own_moves m.memory t y w (m.memory (Shared y)) m.abstract test, lost.less);
-      waiting = omega (arith, weights.waiting);
-      carried = omega (arith, weights.carried);
-      merging = omega (arith, weights.merging);
-      deciding = omega (arith, weights.deciding);
-    }) (shared_dies (block_of m.layout y) k lives.invariant (omega (arith, same, dead)) lost.before)
+  -- `DecrementsToZero`, for the thread's own reference.
+  own_dies : {y w : ℕ} → AtDuty p n m t a (SharedExchange y Own w) rest → (m.memory (Shared y) == w) ≡ true
+      → m.memory (Shared y) ≡ w → (w == fresh_word) ≡ false → (w - 4 == dead_word) ≡ true → w - 4 ≡ dead_word
+      → KeepsRow m t a (SharedExchange y Own w) rest y
+  own_dies {y = y} {w = w} s test same other is_dead dead =
+      let some : IsCounted m.layout y = head_fits_of s in
+      let k = numbers_of m y in
+      let lost =
+      is_lost m.abstract.references (reference_of t InFlight y) (gives_up s InFlight y (rw (own y) refl) refl) in
+      let lives = lives_so s y some (omega (arith, lost.before)) in
+      let weights = weighed s (Die y ∷ []) (rw (test, other, is_dead) refl) y in
+      let left : released_word w ≡ w - 4 = ap (λ (b : Bool). cond b (w + 2) (w - 4)) other in
+      row_becomes m t a (SharedExchange y Own w) rest y (Die y ∷ []) (rw (test, other, is_dead) refl) (Dying t)
+      (ap (λ (b : Bool). cond b (Dying t) (m.life y)) (own y))
+      (record k { shared = k.shared - 4; references = k.references - 1 }) (record {
+        local = refl;
+        shared = omega (arith, exchanged m.memory y w true test, left, same);
+        mark = refl;
+        references = omega (arith, own_moves m.memory t y w (m.memory (Shared y)) m.abstract test, lost.less);
+        waiting = omega (arith, weights.waiting);
+        carried = omega (arith, weights.carried);
+        merging = omega (arith, weights.merging);
+        deciding = omega (arith, weights.deciding);
+      }) (shared_dies (block_of m.layout y) k lives.invariant (omega (arith, same, dead)) lost.before)
 
--- `Decrements`, for the thread's own reference.
-own_loses : {p : Accounts} {n : ℕ} {m : Machine} {t : ℕ} {a : Actor} {y w : ℕ} {rest : List Duty}
-    → AtDuty p n m t a (SharedExchange y Own w) rest
-    → (m.memory (Shared y) == w) ≡ true → m.memory (Shared y) ≡ w → (w == fresh_word) ≡ false → w ≢ fresh_word
-    → (w - 4 == dead_word) ≡ false → w - 4 ≢ dead_word
-    → KeepsRow m t a (SharedExchange y Own w) rest y
-own_loses {m = m} {t = t} {a = a} {y = y} {w = w} {rest = rest} s test same other isnt_fresh alive isnt_dead =
-    let some : IsCounted m.layout y = head_fits_of s in
-    let k = numbers_of m y in
-    let lost =
-    is_lost m.abstract.references (reference_of t InFlight y) (gives_up s InFlight y (rw (own y) refl) refl) in
-    let lives = lives_so s y some (omega (arith, lost.before)) in
-    let weights = weighed s [] (rw (test, other, alive) refl) y in
-    let left : released_word w ≡ w - 4 = ap (λ (b : Bool). cond b (w + 2) (w - 4)) other in
-    row_becomes m t a (SharedExchange y Own w) rest y [] (rw (test, other, alive) refl) Live lives.is_live
-    (record k { shared = k.shared - 4; references = k.references - 1 }) (record {
-      local = refl;
-      shared = omega (arith, exchanged m.memory y w true test, left, same);
-      mark = refl;
-      references = omega (arith, own_moves m.memory t y w (m.memory (Shared y)) m.abstract test, lost.less);
-      waiting = omega (arith, weights.waiting);
-      carried = omega (arith, weights.carried);
-      merging = omega (arith, weights.merging);
-      deciding = omega (arith, weights.deciding);
-    }) (shared_lost (block_of m.layout y) k lives.invariant (λ e. isnt_fresh (sym same ∙ e))
-    (λ e. isnt_dead (ap (λ (v : ℕ). v - 4) (sym same) ∙ e)) lost.before)
+  -- `Decrements`, for the thread's own reference.
+  own_loses : {y w : ℕ} → AtDuty p n m t a (SharedExchange y Own w) rest → (m.memory (Shared y) == w) ≡ true
+      → m.memory (Shared y) ≡ w → (w == fresh_word) ≡ false → w ≢ fresh_word → (w - 4 == dead_word) ≡ false
+      → w - 4 ≢ dead_word → KeepsRow m t a (SharedExchange y Own w) rest y
+  own_loses {y = y} {w = w} s test same other isnt_fresh alive isnt_dead =
+      let some : IsCounted m.layout y = head_fits_of s in
+      let k = numbers_of m y in
+      let lost =
+      is_lost m.abstract.references (reference_of t InFlight y) (gives_up s InFlight y (rw (own y) refl) refl) in
+      let lives = lives_so s y some (omega (arith, lost.before)) in
+      let weights = weighed s [] (rw (test, other, alive) refl) y in
+      let left : released_word w ≡ w - 4 = ap (λ (b : Bool). cond b (w + 2) (w - 4)) other in
+      row_becomes m t a (SharedExchange y Own w) rest y [] (rw (test, other, alive) refl) Live lives.is_live
+      (record k { shared = k.shared - 4; references = k.references - 1 }) (record {
+        local = refl;
+        shared = omega (arith, exchanged m.memory y w true test, left, same);
+        mark = refl;
+        references = omega (arith, own_moves m.memory t y w (m.memory (Shared y)) m.abstract test, lost.less);
+        waiting = omega (arith, weights.waiting);
+        carried = omega (arith, weights.carried);
+        merging = omega (arith, weights.merging);
+        deciding = omega (arith, weights.deciding);
+      }) (shared_lost (block_of m.layout y) k lives.invariant (λ e. isnt_fresh (sym same ∙ e))
+      (λ e. isnt_dead (ap (λ (v : ℕ). v - 4) (sym same) ∙ e)) lost.before)
 
--- The row's invariant holds after `Queues`, `Decrements`, `DecrementsToZero` and `ExchangeLost`.
-pub row_after_own_exchange : {p : Accounts} {n : ℕ} {m : Machine} {t : ℕ} {a : Actor} {y w : ℕ} {rest : List Duty}
-    → AtDuty p n m t a (SharedExchange y Own w) rest → KeepsRow m t a (SharedExchange y Own w) rest y
-row_after_own_exchange {m = m} {y = y} {w = w} s =
-    elim (eqb_tells (m.memory (Shared y)) w) [
-      | inr other ↦ row_after_lost_exchange (head_fits_of s) s other.0
-      | inl same ↦ elim (eqb_tells w fresh_word) [
-        | inl fresh ↦ own_queues s same.0 same.1 fresh.0 fresh.1
-        | inr other ↦ elim (eqb_tells (w - 4) dead_word) [
-          | inl dead ↦ own_dies s same.0 same.1 other.0 dead.0 dead.1
-          | inr alive ↦ own_loses s same.0 same.1 other.0 other.1 alive.0 alive.1
+  -- The row's invariant holds after `Queues`, `Decrements`, `DecrementsToZero` and `ExchangeLost`.
+  pub row_after_own_exchange : {y w : ℕ} → AtDuty p n m t a (SharedExchange y Own w) rest
+      → KeepsRow m t a (SharedExchange y Own w) rest y
+  row_after_own_exchange {y = y} {w = w} s =
+      elim (eqb_tells (m.memory (Shared y)) w) [
+        | inr other ↦ row_after_lost_exchange (head_fits_of s) s other.0
+        | inl same ↦ elim (eqb_tells w fresh_word) [
+          | inl fresh ↦ own_queues s same.0 same.1 fresh.0 fresh.1
+          | inr other ↦ elim (eqb_tells (w - 4) dead_word) [
+            | inl dead ↦ own_dies s same.0 same.1 other.0 dead.0 dead.1
+            | inr alive ↦ own_loses s same.0 same.1 other.0 other.1 alive.0 alive.1
+          ]
         ]
       ]
-    ]
 
--- ---- the handed reference of a claimed mark
+  -- ---- the handed reference of a claimed mark
 
--- `DecrementsToZero`, for a handed reference.
-handed_ends : {p : Accounts} {n : ℕ} {m : Machine} {t : ℕ} {a : Actor} {y w : ℕ} {rest : List Duty}
-    → AtDuty p n m t a (SharedExchange y Handed w) rest
-    → (m.memory (Shared y) == w) ≡ true → m.memory (Shared y) ≡ w → (w == fresh_word) ≡ false
-    → (w - 4 == dead_word) ≡ true → w - 4 ≡ dead_word → KeepsRow m t a (SharedExchange y Handed w) rest y
-handed_ends {m = m} {t = t} {a = a} {y = y} {w = w} {rest = rest} s test same other is_dead dead =
-    let fits = head_fits_of s in
-    let k = numbers_of m y in
-    let weights = weighed s (Die y ∷ []) (rw (test, other, is_dead) refl) y in
-    let one = one_own y in
-    let awaits : 1 ≤ k.waiting = omega (arith, weights.waiting, one) in
-    let lives = lives_so s y fits.0 (omega (arith, awaits)) in
-    let left : released_word w ≡ w - 4 = ap (λ (b : Bool). cond b (w + 2) (w - 4)) other in
-    row_becomes m t a (SharedExchange y Handed w) rest y (Die y ∷ []) (rw (test, other, is_dead) refl) (Dying t)
-    (ap (λ (b : Bool). cond b (Dying t) (m.life y)) (own y))
-    (record k { shared = k.shared - 4; waiting = k.waiting - 1 }) (record {
-      local = refl;
-      shared = omega (arith, exchanged m.memory y w true test, left, same);
-      mark = refl;
-      references = refl;
-      waiting = omega (arith, weights.waiting, one);
-      carried = omega (arith, weights.carried);
-      merging = omega (arith, weights.merging);
-      deciding = omega (arith, weights.deciding);
-    }) (handed_dies (block_of m.layout y) k lives.invariant (omega (arith, same, dead)) awaits)
+  -- `DecrementsToZero`, for a handed reference.
+  handed_ends : {y w : ℕ} → AtDuty p n m t a (SharedExchange y Handed w) rest → (m.memory (Shared y) == w) ≡ true
+      → m.memory (Shared y) ≡ w → (w == fresh_word) ≡ false → (w - 4 == dead_word) ≡ true → w - 4 ≡ dead_word
+      → KeepsRow m t a (SharedExchange y Handed w) rest y
+  handed_ends {y = y} {w = w} s test same other is_dead dead =
+      let fits = head_fits_of s in
+      let k = numbers_of m y in
+      let weights = weighed s (Die y ∷ []) (rw (test, other, is_dead) refl) y in
+      let one = one_own y in
+      let awaits : 1 ≤ k.waiting = omega (arith, weights.waiting, one) in
+      let lives = lives_so s y fits.0 (omega (arith, awaits)) in
+      let left : released_word w ≡ w - 4 = ap (λ (b : Bool). cond b (w + 2) (w - 4)) other in
+      row_becomes m t a (SharedExchange y Handed w) rest y (Die y ∷ []) (rw (test, other, is_dead) refl) (Dying t)
+      (ap (λ (b : Bool). cond b (Dying t) (m.life y)) (own y))
+      (record k { shared = k.shared - 4; waiting = k.waiting - 1 }) (record {
+        local = refl;
+        shared = omega (arith, exchanged m.memory y w true test, left, same);
+        mark = refl;
+        references = refl;
+        waiting = omega (arith, weights.waiting, one);
+        carried = omega (arith, weights.carried);
+        merging = omega (arith, weights.merging);
+        deciding = omega (arith, weights.deciding);
+      }) (handed_dies (block_of m.layout y) k lives.invariant (omega (arith, same, dead)) awaits)
 
--- `Decrements`, for a handed reference.
-handed_stays : {p : Accounts} {n : ℕ} {m : Machine} {t : ℕ} {a : Actor} {y w : ℕ} {rest : List Duty}
-    → AtDuty p n m t a (SharedExchange y Handed w) rest
-    → (m.memory (Shared y) == w) ≡ true → m.memory (Shared y) ≡ w → (w == fresh_word) ≡ false
-    → (w - 4 == dead_word) ≡ false → w - 4 ≢ dead_word → KeepsRow m t a (SharedExchange y Handed w) rest y
-handed_stays {m = m} {t = t} {a = a} {y = y} {w = w} {rest = rest} s test same other alive isnt_dead =
-    let fits = head_fits_of s in
-    let k = numbers_of m y in
-    let weights = weighed s [] (rw (test, other, alive) refl) y in
-    let one = one_own y in
-    let awaits : 1 ≤ k.waiting = omega (arith, weights.waiting, one) in
-    let lives = lives_so s y fits.0 (omega (arith, awaits)) in
-    let left : released_word w ≡ w - 4 = ap (λ (b : Bool). cond b (w + 2) (w - 4)) other in
-    row_becomes m t a (SharedExchange y Handed w) rest y [] (rw (test, other, alive) refl) Live lives.is_live
-    (record k { shared = k.shared - 4; waiting = k.waiting - 1 }) (record {
-      local = refl;
-      shared = omega (arith, exchanged m.memory y w true test, left, same);
-      mark = refl;
-      references = refl;
-      waiting = omega (arith, weights.waiting, one);
-      carried = omega (arith, weights.carried);
-      merging = omega (arith, weights.merging);
-      deciding = omega (arith, weights.deciding);
-    }) (handed_lost (block_of m.layout y) k lives.invariant fits.1
-    (λ e. isnt_dead (ap (λ (v : ℕ). v - 4) (sym same) ∙ e))
-    awaits)
+  -- `Decrements`, for a handed reference.
+  handed_stays : {y w : ℕ} → AtDuty p n m t a (SharedExchange y Handed w) rest → (m.memory (Shared y) == w) ≡ true
+      → m.memory (Shared y) ≡ w → (w == fresh_word) ≡ false → (w - 4 == dead_word) ≡ false → w - 4 ≢ dead_word
+      → KeepsRow m t a (SharedExchange y Handed w) rest y
+  handed_stays {y = y} {w = w} s test same other alive isnt_dead =
+      let fits = head_fits_of s in
+      let k = numbers_of m y in
+      let weights = weighed s [] (rw (test, other, alive) refl) y in
+      let one = one_own y in
+      let awaits : 1 ≤ k.waiting = omega (arith, weights.waiting, one) in
+      let lives = lives_so s y fits.0 (omega (arith, awaits)) in
+      let left : released_word w ≡ w - 4 = ap (λ (b : Bool). cond b (w + 2) (w - 4)) other in
+      row_becomes m t a (SharedExchange y Handed w) rest y [] (rw (test, other, alive) refl) Live lives.is_live
+      (record k { shared = k.shared - 4; waiting = k.waiting - 1 }) (record {
+        local = refl;
+        shared = omega (arith, exchanged m.memory y w true test, left, same);
+        mark = refl;
+        references = refl;
+        waiting = omega (arith, weights.waiting, one);
+        carried = omega (arith, weights.carried);
+        merging = omega (arith, weights.merging);
+        deciding = omega (arith, weights.deciding);
+      }) (handed_lost (block_of m.layout y) k lives.invariant fits.1
+      (λ e. isnt_dead (ap (λ (v : ℕ). v - 4) (sym same) ∙ e)) awaits)
 
--- The row's invariant holds after `Decrements`, `DecrementsToZero` and `ExchangeLost`, for a handed reference.
-pub row_after_handed_exchange : {p : Accounts} {n : ℕ} {m : Machine} {t : ℕ} {a : Actor} {y w : ℕ} {rest : List Duty}
-    → AtDuty p n m t a (SharedExchange y Handed w) rest → KeepsRow m t a (SharedExchange y Handed w) rest y
-row_after_handed_exchange {m = m} {y = y} {w = w} s =
-    let fits = head_fits_of s in
-    elim (eqb_tells (m.memory (Shared y)) w) [
-      | inr other ↦ row_after_lost_exchange fits.0 s other.0
-      | inl same ↦ elim (eqb_tells w fresh_word) [
-        | inl fresh ↦ absurd (omega (arith, fits.1, same.1, fresh.1))
-        | inr other ↦ elim (eqb_tells (w - 4) dead_word) [
-          | inl dead ↦ handed_ends s same.0 same.1 other.0 dead.0 dead.1
-          | inr alive ↦ handed_stays s same.0 same.1 other.0 alive.0 alive.1
+  -- The row's invariant holds after `Decrements`, `DecrementsToZero` and `ExchangeLost`, for a handed reference.
+  pub row_after_handed_exchange : {y w : ℕ} → AtDuty p n m t a (SharedExchange y Handed w) rest
+      → KeepsRow m t a (SharedExchange y Handed w) rest y
+  row_after_handed_exchange {y = y} {w = w} s =
+      let fits = head_fits_of s in
+      elim (eqb_tells (m.memory (Shared y)) w) [
+        | inr other ↦ row_after_lost_exchange fits.0 s other.0
+        | inl same ↦ elim (eqb_tells w fresh_word) [
+          | inl fresh ↦ absurd (omega (arith, fits.1, same.1, fresh.1))
+          | inr other ↦ elim (eqb_tells (w - 4) dead_word) [
+            | inl dead ↦ handed_ends s same.0 same.1 other.0 dead.0 dead.1
+            | inr alive ↦ handed_stays s same.0 same.1 other.0 alive.0 alive.1
+          ]
         ]
       ]
-    ]

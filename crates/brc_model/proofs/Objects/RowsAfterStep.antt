@@ -13,10 +13,9 @@ use Rattle.brc_model.specs.Knowledge.{HeadFits, HeadOf}
 use Rattle.brc_model.proofs.Objects.Weights.{Weighed, weighed_after}
 use Rattle.brc_model.specs.Layout.{block_of, IsCounted}
 
-pub head_fits_of : {p : Accounts} {n : ℕ} {m : Machine} {t : ℕ} {a : Actor} {d : Duty} {rest : List Duty}
-    → AtDuty p n m t a d rest → HeadFits m t a d rest
-head_fits_of {m = m} {t = t} {a = a} s =
-    subst (λ (ds : List Duty). HeadOf m t a ds) s.agenda (s.core.each t a s.found).0.head_fits
+module _ {p : Accounts} {n : ℕ} {m : Machine} {t : ℕ} {a : Actor} {d : Duty} {rest : List Duty} where
+  pub head_fits_of : AtDuty p n m t a d rest → HeadFits m t a d rest
+  head_fits_of s = subst (λ (ds : List Duty). HeadOf m t a ds) s.agenda (s.core.each t a s.found).0.head_fits
 
 -- The word that the duty finds.
 abbrev pub found_by : Machine → ℕ → Actor → Duty → ℕ
@@ -30,11 +29,10 @@ abbrev pub KeepsRow : Machine → ℕ → Actor → Duty → List Duty → ℕ �
 KeepsRow m t a d rest x =
     RowInvariant (block_of m.layout x) ((done_by m t a d rest).life x) (numbers_of (done_by m t a d rest) x)
 
-pub weighed : {p : Accounts} {n : ℕ} {m : Machine} {t : ℕ} {a : Actor} {d : Duty} {rest : List Duty}
-    → AtDuty p n m t a d rest → (next : List Duty) → following m t a d ≡ next → (x : ℕ)
-    → Weighed m (done_by m t a d rest) x d next
-weighed {m = m} {t = t} {a = a} {d = d} {rest = rest} s next follows x =
-    weighed_after m t a d rest next s.found s.agenda follows x
+module _ {p : Accounts} {n : ℕ} {m : Machine} {t : ℕ} {a : Actor} {d : Duty} {rest : List Duty} where
+  pub weighed : AtDuty p n m t a d rest → (next : List Duty) → following m t a d ≡ next → (x : ℕ)
+      → Weighed m (done_by m t a d rest) x d next
+  weighed s next follows x = weighed_after m t a d rest next s.found s.agenda follows x
 
 -- ---- the numbers after the step
 
@@ -86,20 +84,21 @@ pub record RowStays (m : Machine) (t : ℕ) (a : Actor) (d : Duty) (rest : List 
     pub merging : sum_by (merges x) next ≡ merges x d
     pub deciding : sum_by (decides x) next ≡ decides x d
 
-pub row_stays : {p : Accounts} {n : ℕ} {m : Machine} {t : ℕ} {a : Actor} {d : Duty} {rest next : List Duty} {x : ℕ}
-    → AtDuty p n m t a d rest → IsCounted m.layout x → RowStays m t a d rest x next → KeepsRow m t a d rest x
-row_stays {m = m} {t = t} {a = a} {d = d} {rest = rest} {next = next} {x = x} s some q =
-    let w = weighed s next q.follows x in
-    row_becomes m t a d rest x next q.follows (m.life x) q.lives (numbers_of m x) (record {
-      local = q.local;
-      shared = q.shared;
-      mark = q.mark;
-      references = q.references;
-      waiting = omega (arith, w.waiting, q.waiting);
-      carried = omega (arith, w.carried, q.carried);
-      merging = omega (arith, w.merging, q.merging);
-      deciding = omega (arith, w.deciding, q.deciding);
-    }) (s.core.rows x some)
+module _ {p : Accounts} {n : ℕ} {m : Machine} {t : ℕ} {a : Actor} {d : Duty} {rest : List Duty} where
+  pub row_stays : {next : List Duty} {x : ℕ} → AtDuty p n m t a d rest → IsCounted m.layout x
+      → RowStays m t a d rest x next → KeepsRow m t a d rest x
+  row_stays {next = next} {x = x} s some q =
+      let w = weighed s next q.follows x in
+      row_becomes m t a d rest x next q.follows (m.life x) q.lives (numbers_of m x) (record {
+        local = q.local;
+        shared = q.shared;
+        mark = q.mark;
+        references = q.references;
+        waiting = omega (arith, w.waiting, q.waiting);
+        carried = omega (arith, w.carried, q.carried);
+        merging = omega (arith, w.merging, q.merging);
+        deciding = omega (arith, w.deciding, q.deciding);
+      }) (s.core.rows x some)
 
 -- ---- a counted row is live
 

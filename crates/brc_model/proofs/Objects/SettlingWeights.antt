@@ -17,7 +17,7 @@ use Rattle.brc_model.specs.OpenWork.{is_finalising, is_piece}
 use Rattle.brc_model.specs.Invariant.{AtDuty}
 use Rattle.brc_model.specs.Resources.{closing, ending}
 use Rattle.brc_model.proofs.Basics.Bag.{one_if_low}
-use Rattle.brc_model.proofs.Basics.Continuation.{Continuation, Ends, Finishes, GoesOn, Frees, FreesOld, SettlesRow, Claims, ClaimsNone, Exits, Scans, ScansNone, Traits, continues}
+use Rattle.brc_model.proofs.Basics.Continuation.{Continuation, GoesOn, Traits, continues}
 use Rattle.brc_model.proofs.Basics.Lists.{either}
 use Rattle.brc_model.proofs.Frame.Lives.{next_of}
 use Rattle.brc_model.proofs.Objects.Weights.{IsLight, weight-stepped}
@@ -50,10 +50,7 @@ pub record IsOfSettling (x : ℕ) (f : Duty → ℕ) : Type 0 where
 
 settles_finalises : (d : Duty) (x : ℕ) → settles d x ≡ true → is_finalising d x ≡ true
 settles_finalises (SettleCell y i n) x e = e
-settles_finalises (TakeSlot y) x e = e
-settles_finalises (CloseResource y) x e = e
-settles_finalises (SettleEnd y) x e = e
-settles_finalises _ x e = absurd cc
+settles_finalises _ x e = cc
 
 pub finalises : (x : ℕ) (f : Duty → ℕ) → IsOfSettling x f → Finalises x f
 finalises x f of d =
@@ -98,10 +95,7 @@ of_ending x = record {
 
 piece_settles : (d : Duty) (x : ℕ) → is_piece d ≡ true → settles d x ≡ false
 piece_settles (SettleCell y i n) x piece = absurd cc
-piece_settles (TakeSlot y) x piece = absurd cc
-piece_settles (CloseResource y) x piece = absurd cc
-piece_settles (SettleEnd y) x piece = absurd cc
-piece_settles _ x piece = refl
+piece_settles _ x piece = cc
 
 module _ (x : ℕ) (f : Duty → ℕ) (of : IsOfSettling x f) where
   one_light : (d : Duty) → settles d x ≡ false → sum_by f (d ∷ []) ≡ 0
@@ -110,18 +104,9 @@ module _ (x : ℕ) (f : Duty → ℕ) (of : IsOfSettling x f) where
   -- After a piece of work comes one.
   piece_next : {layout : Layout} {t head found : ℕ} (d : Duty) (next : List Duty)
       → Continuation layout t head found d next → is_piece d ≡ true → sum_by f next ≡ 0
-  piece_next d next (Ends inner) piece = refl
-  piece_next d next Finishes piece = refl
   piece_next d next (GoesOn e leads) piece =
       one_light e (piece_settles e x (ap (λ (s : Traits). s.piece) leads.same ∙ piece))
-  piece_next d next (Frees y i k z e set leads) piece = absurd cc
-  piece_next d next (FreesOld y i w z h set) piece = absurd cc
-  piece_next d next SettlesRow piece = absurd cc
-  piece_next d next (Claims y set) piece = absurd cc
-  piece_next d next (ClaimsNone y) piece = absurd cc
-  piece_next d next (Exits i k) piece = absurd cc
-  piece_next d next (Scans i k set) piece = absurd cc
-  piece_next d next (ScansNone i k) piece = absurd cc
+  piece_next d next _ piece = cc
 
   pub cells_light : (y i n : ℕ) → (y == x) ≡ false → sum_by f (cells_from y i n) ≡ 0
   cells_light y i n apart =

@@ -1,5 +1,5 @@
 -- What the agendas of all threads weigh after one thread's step.
-use Rattle.std.proofs.Common.{◌≡◌, ℕ, zero, suc, ◌+◌, ◌≤◌, true, false, cond, List, [], ◌∷◌, ◌++◌, Some, get_or, refl, ap, ◌∙◌, arith}
+use Rattle.std.proofs.Common.{◌≡◌, ℕ, zero, ◌+◌, ◌≤◌, true, false, cond, List, [], ◌∷◌, ◌++◌, Some, get_or, refl, ap, ◌∙◌, arith}
 use Rattle.std.specs.Prelude.{◌==◌, sum_by, slice_get, slice_set}
 use Rattle.std.proofs.lemmas.Option.{slice_get_within, get_or_from_slice_get}
 use Rattle.std.proofs.lemmas.List.Sums.{sum_by-cons, sum_by-append, sum_by-set, get_or-le-sum_by}
@@ -21,13 +21,10 @@ without_weight : (f : Duty → ℕ) (d : Duty) (ds : List Duty) → f d ≡ 0 �
 without_weight f d ds none = omega (arith, sum_by-cons f d ds, none)
 
 pub sum_by-ready : (f : Duty → ℕ) → IsLight f → (head : ℕ) (ds : List Duty) → sum_by f (ready head ds) ≡ sum_by f ds
-sum_by-ready f light head [] = refl
 sum_by-ready f light zero (Settle ∷ rest) = sum_by-ready f light zero rest ∙ without_weight f Settle rest light.settle
-sum_by-ready f light (suc head) (Settle ∷ rest) = refl
 sum_by-ready f light head (Scan x zero ∷ rest) =
     sum_by-ready f light head rest ∙ without_weight f (Scan x zero) rest (light.scan x zero)
-sum_by-ready f light head (Scan x (suc n) ∷ rest) = refl
-sum_by-ready f light head (d ∷ rest) = refl
+sum_by-ready f light _ _ = cc
 
 -- ---- one agenda changes
 

@@ -3,9 +3,9 @@ use Rattle.std.proofs.Common.{◌≡◌, ◌≢◌, ℕ, zero, suc, ◌+◌, ◌
 use Rattle.brc_model.specs.declared.duty.Duty.{Duty}
 use Rattle.brc_model.specs.declared.duty.Duty.TheVariants.{Settle, SettleKind, Scan}
 use Rattle.brc_model.specs.Duties.{continuation, ready}
-use Rattle.brc_model.proofs.Stepping.Retains.{ready_first}
 use Rattle.brc_model.proofs.Basics.Continuation.{Continuation, GoesOn, Frees, FreesOld, SettlesRow, Claims, ClaimsNone, Exits, Scans, ScansNone, continues}
 use Rattle.brc_model.specs.declared.layout.Layout.{Layout}
+use Rattle.brc_model.proofs.Stepping.Own.{ready_first}
 
 -- Skipping duties makes an agenda no longer.
 ready_length : (head : ℕ) (agenda : List Duty) → length (ready head agenda) ≤ length agenda

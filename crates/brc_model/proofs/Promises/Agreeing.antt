@@ -122,50 +122,49 @@ has_duty : (m : Machine) (f : Duty → ℕ) (is_such : Duty → Bool) → ((d : 
 has_duty m f is_such only it =
     record { actor = it.which; found = it.found; listed = is_open f is_such only it.which it.some }
 
--- The thread that decides about a row is the row's owner.
-owner_decides : (p : Accounts) (n : ℕ) (m : Machine) (x : ℕ) → CoreInvariant p n m → weight (decides x) m.actors ≡ 1
-    → OwnerHas m x (decides_or_merges x)
-owner_decides p n m x core one =
-    let it = some_weighs (decides x) m.actors (omega (arith, one)) in
-    let owns = decider_owns p n m it.who x it.which core it.found it.some in
-    (it.who, owns.owner, has_duty m (decides x) (decides_or_merges x) (decides_only x) it)
+module _ {p : Accounts} {n : ℕ} {m : Machine} where
+  -- The thread that decides about a row is the row's owner.
+  owner_decides : (x : ℕ) → CoreInvariant p n m → weight (decides x) m.actors ≡ 1 → OwnerHas m x (decides_or_merges x)
+  owner_decides x core one =
+      let it = some_weighs (decides x) m.actors (omega (arith, one)) in
+      let owns = decider_owns it.who x it.which core it.found it.some in
+      (it.who, owns.owner, has_duty m (decides x) (decides_or_merges x) (decides_only x) it)
 
-default_local : (p : Accounts) (n : ℕ) (m : Machine) (x : ℕ) → CoreInvariant p n m
-    → LocalSays (block_of m.layout x) (numbers_of m x) → IsCountedLocally m x ⊎ SomeThreadHas m (decides_or_merges x)
-default_local p n m x core (CountsIt owned some) = inl (record { owner = owned; counted = some })
-default_local p n m x core (IsDecided one) = let owner = owner_decides p n m x core one in inr (owner.0, owner.2)
-default_local p n m x core (IsCarried one) =
-    let it = some_weighs (merges x) m.actors (omega (arith, one)) in
-    inr (it.who, has_duty m (merges x) (decides_or_merges x) (merges_only x) it)
+  default_local : (x : ℕ) → CoreInvariant p n m → LocalSays (block_of m.layout x) (numbers_of m x)
+      → IsCountedLocally m x ⊎ SomeThreadHas m (decides_or_merges x)
+  default_local x core (CountsIt owned some) = inl (record { owner = owned; counted = some })
+  default_local x core (IsDecided one) = let owner = owner_decides x core one in inr (owner.0, owner.2)
+  default_local x core (IsCarried one) =
+      let it = some_weighs (merges x) m.actors (omega (arith, one)) in
+      inr (it.who, has_duty m (merges x) (decides_or_merges x) (merges_only x) it)
 
-queued_local : (p : Accounts) (n : ℕ) (m : Machine) (x : ℕ) → CoreInvariant p n m
-    → LocalSays (block_of m.layout x) (numbers_of m x)
-    → IsCountedLocally m x ⊎ OwnerHas m x (decides_or_merges x) ⊎ SomeThreadHas m (has_swapped x)
-queued_local p n m x core (CountsIt owned some) = inl (record { owner = owned; counted = some })
-queued_local p n m x core (IsDecided one) = inr (inl (owner_decides p n m x core one))
-queued_local p n m x core (IsCarried one) =
-    let it = some_weighs (merges x) m.actors (omega (arith, one)) in
-    inr (inr (it.who, has_duty m (merges x) (has_swapped x) (swaps_only x) it))
+  queued_local : (x : ℕ) → CoreInvariant p n m → LocalSays (block_of m.layout x) (numbers_of m x)
+      → IsCountedLocally m x ⊎ OwnerHas m x (decides_or_merges x) ⊎ SomeThreadHas m (has_swapped x)
+  queued_local x core (CountsIt owned some) = inl (record { owner = owned; counted = some })
+  queued_local x core (IsDecided one) = inr (inl (owner_decides x core one))
+  queued_local x core (IsCarried one) =
+      let it = some_weighs (merges x) m.actors (omega (arith, one)) in
+      inr (inr (it.who, has_duty m (merges x) (has_swapped x) (swaps_only x) it))
 
--- ---- every row
+  -- ---- every row
 
--- The counts of each row agree, and each phase implies what it says.
-pub agrees_at : (p : Accounts) (n : ℕ) (m : Machine) (x : ℕ) → CoreInvariant p n m → IsCounted m.layout x → AgreesAt m x
-agrees_at p n m x core pos =
-    let says = row_says (block_of m.layout x) (m.life x) (numbers_of m x) (core.rows x pos) in
-    record {
-      total = omega (arith, says.total);
-      default_none = λ live e. (says.live live).default_none e;
-      default_counts = λ live e. (says.live live).default_counts e;
-      queued_one = λ live e. (says.live live).queued_one e;
-      merged_free = λ live e. (says.live live).merged_free e;
-      merged_counts = λ live e. (says.live live).merged_counts e;
-      phase = λ live. (says.live live).phase;
-      default_local = λ live e.
-          default_local p n m x core ((says.live live).local (λ three. absurd (omega (arith, e, three))));
-      queued_local = λ live e.
-          queued_local p n m x core ((says.live live).local (λ three. absurd (omega (arith, e, three))));
-    }
+  -- The counts of each row agree, and each phase implies what it says.
+  pub agrees_at : (x : ℕ) → CoreInvariant p n m → IsCounted m.layout x → AgreesAt m x
+  agrees_at x core pos =
+      let says = row_says (block_of m.layout x) (m.life x) (numbers_of m x) (core.rows x pos) in
+      record {
+        total = omega (arith, says.total);
+        default_none = λ live e. (says.live live).default_none e;
+        default_counts = λ live e. (says.live live).default_counts e;
+        queued_one = λ live e. (says.live live).queued_one e;
+        merged_free = λ live e. (says.live live).merged_free e;
+        merged_counts = λ live e. (says.live live).merged_counts e;
+        phase = λ live. (says.live live).phase;
+        default_local = λ live e.
+            default_local x core ((says.live live).local (λ three. absurd (omega (arith, e, three))));
+        queued_local = λ live e.
+            queued_local x core ((says.live live).local (λ three. absurd (omega (arith, e, three))));
+      }
 
 free_row : (owner : ℕ) (l : Life) (n : Numbers) → RowInvariant owner l n → (l ≡ Live → ⊥) → (l ≡ Unborn → ⊥) → IsDead n
 free_row owner Unborn n row alive born = absurd (born refl)
@@ -173,10 +172,10 @@ free_row owner Live n row alive born = absurd (alive refl)
 free_row owner (Dying t) n row alive born = row
 free_row owner Closed n row alive born = row
 
--- A dying or closed row has no reference, and no decrement of it is pending.
-pub is_free_of : (p : Accounts) (n : ℕ) (m : Machine) (x : ℕ) → CoreInvariant p n m → IsCounted m.layout x
-    → (m.life x ≡ Live → ⊥)
-    → (m.life x ≡ Unborn → ⊥) → IsFreeOf m x
-is_free_of p n m x core pos alive born =
-    let dead = free_row (block_of m.layout x) (m.life x) (numbers_of m x) (core.rows x pos) alive born in
-    record { references = dead.references; awaiting_none = omega (arith, dead.mark, dead.waiting) }
+module _ {p : Accounts} {n : ℕ} {m : Machine} where
+  -- A dying or closed row has no reference, and no decrement of it is pending.
+  pub is_free_of : (x : ℕ) → CoreInvariant p n m → IsCounted m.layout x → (m.life x ≡ Live → ⊥)
+      → (m.life x ≡ Unborn → ⊥) → IsFreeOf m x
+  is_free_of x core pos alive born =
+      let dead = free_row (block_of m.layout x) (m.life x) (numbers_of m x) (core.rows x pos) alive born in
+      record { references = dead.references; awaiting_none = omega (arith, dead.mark, dead.waiting) }

@@ -46,146 +46,140 @@ pub record IsAtEnd (account : Account) (m : Machine) (t : ℕ) (a : Actor) : Typ
 abbrev pub AreAtEnd : Accounts → Machine → Type 0
 AreAtEnd p m = (t : ℕ) (a : Actor) → slice_get m.actors t ≡ Some a → IsAtEnd (p t) m t a
 
-pub held_by_none : (p : Accounts) (n : ℕ) (m : Machine) (t : ℕ) (k : Holding) (object : ℕ) → CoreInvariant p n m → AreAtEnd p m
-    → held (reference_of t k object) m.abstract.references ≡ 0
-held_by_none p n m t k object core done =
-    elim (slice_get_cases m.actors t).1 [
-      | inl found ↦
-          let a = found.0 in
-          let ended = done t a found.2 in
-          let old = (core.each t a found.2).0 in
-          let agenda : HoldsAt m.abstract.references t (p t) [] a.aside =
-          subst (λ (l : List Duty). HoldsAt m.abstract.references t (p t) l a.aside) ended.agenda old.holds in
-          let holds : HoldsAt m.abstract.references t (p t) [] [] =
-          subst (HoldsAt m.abstract.references t (p t) []) ended.aside agenda in
-          omega (arith, holds.each k object, ended.none k object)
-      | inr past ↦ core.beyond t (omega (arith, past.0, core.threads)) k object
-    ]
+module _ {p : Accounts} {n : ℕ} {m : Machine} where
+  pub held_by_none : (t : ℕ) (k : Holding) (object : ℕ) → CoreInvariant p n m → AreAtEnd p m
+      → held (reference_of t k object) m.abstract.references ≡ 0
+  held_by_none t k object core done =
+      elim (slice_get_cases m.actors t).1 [
+        | inl found ↦
+            let a = found.0 in
+            let ended = done t a found.2 in
+            let old = (core.each t a found.2).0 in
+            let agenda : HoldsAt m.abstract.references t (p t) [] a.aside =
+            subst (λ (l : List Duty). HoldsAt m.abstract.references t (p t) l a.aside) ended.agenda old.holds in
+            let holds : HoldsAt m.abstract.references t (p t) [] [] =
+            subst (HoldsAt m.abstract.references t (p t) []) ended.aside agenda in
+            omega (arith, holds.each k object, ended.none k object)
+        | inr past ↦ core.beyond t (omega (arith, past.0, core.threads)) k object
+      ]
 
--- A list whose cell holds a reference isn't closed.
-cell_open : (p : Accounts) (n : ℕ) (m : Machine) (x i object : ℕ) → CoreInvariant p n m
-    → 0 < held (cell_reference x i object) m.abstract.references → is_among x m.abstract.closed ≡ false
-cell_open p n m x i object core some =
-    elim (cases_Bool (is_among x m.abstract.closed)) [
-      | inl closed ↦
-          let empty : m.memory (Cell x i) ≡ 0 =
-          subst (λ (l : Life). CellFits l (m.memory (Cell x i))) (core.closed_is x closed) (core.cells x i) in
-          let none : word_holds (m.memory (Cell x i)) object ≡ 0 = ap (λ (w : ℕ). word_holds w object) empty in
-          absurd (omega (arith, some, core.cells_hold x i object, none))
-      | inr open_still ↦ open_still
-    ]
+  -- A list whose cell holds a reference isn't closed.
+  cell_open : (x i object : ℕ) → CoreInvariant p n m → 0 < held (cell_reference x i object) m.abstract.references
+      → is_among x m.abstract.closed ≡ false
+  cell_open x i object core some =
+      elim (cases_Bool (is_among x m.abstract.closed)) [
+        | inl closed ↦
+            let empty : m.memory (Cell x i) ≡ 0 =
+            subst (λ (l : Life). CellFits l (m.memory (Cell x i))) (core.closed_is x closed) (core.cells x i) in
+            let none : word_holds (m.memory (Cell x i)) object ≡ 0 = ap (λ (w : ℕ). word_holds w object) empty in
+            absurd (omega (arith, some, core.cells_hold x i object, none))
+        | inr open_still ↦ open_still
+      ]
 
--- Then a cell of an open list holds each reference that is left.
-held_left : (p : Accounts) (n : ℕ) (m : Machine) (h : Holder) (object : ℕ) → CoreInvariant p n m → AreAtEnd p m
-    → 0 < held (record { holder = h; object = object }) m.abstract.references
-    → IsHeldByOpenList m.abstract (record { holder = h; object = object })
-held_left p n m (ByThread t k) object core done some =
-    absurd (omega (arith, some, held_by_none p n m t k object core done))
-held_left p n m (ByCell x i) object core done some =
-    record { list = x; cell = i; holder = refl; not_closed = cell_open p n m x i object core some }
+  -- Then a cell of an open list holds each reference that is left.
+  held_left : (h : Holder) (object : ℕ) → CoreInvariant p n m → AreAtEnd p m
+      → 0 < held (record { holder = h; object = object }) m.abstract.references
+      → IsHeldByOpenList m.abstract (record { holder = h; object = object })
+  held_left (ByThread t k) object core done some = absurd (omega (arith, some, held_by_none t k object core done))
+  held_left (ByCell x i) object core done some =
+      record { list = x; cell = i; holder = refl; not_closed = cell_open x i object core some }
 
-pub left_in_lists : (p : Accounts) (n : ℕ) (m : Machine) → CoreInvariant p n m → AreAtEnd p m
-    → All (IsHeldByOpenList m.abstract) m.abstract.references
-left_in_lists p n m core done =
-    each_held (IsHeldByOpenList m.abstract) m.abstract.references
-    (λ r some. held_left p n m r.holder r.object core done some)
+  pub left_in_lists : CoreInvariant p n m → AreAtEnd p m → All (IsHeldByOpenList m.abstract) m.abstract.references
+  left_in_lists core done =
+      each_held (IsHeldByOpenList m.abstract) m.abstract.references
+      (λ r some. held_left r.holder r.object core done some)
 
-no_weights : (p : Accounts) (n : ℕ) (m : Machine) (f : Duty → ℕ) → CoreInvariant p n m → AreAtEnd p m
-    → weight f m.actors ≡ 0
-no_weights p n m f core done =
-    sum_zero (agenda_weight f) m.actors (λ t a found.
-    let ended = done t a found in
-    let agenda : sum_by f a.agenda ≡ 0 = ap (sum_by f) ended.agenda in
-    let aside : sum_by f a.aside ≡ 0 = ap (sum_by f) ended.aside in
-    omega (arith, agenda, aside))
+  no_weights : (f : Duty → ℕ) → CoreInvariant p n m → AreAtEnd p m → weight f m.actors ≡ 0
+  no_weights f core done = sum_zero (agenda_weight f) m.actors (λ t a found.
+      let ended = done t a found in
+      let agenda : sum_by f a.agenda ≡ 0 = ap (sum_by f) ended.agenda in
+      let aside : sum_by f a.aside ≡ 0 = ap (sum_by f) ended.aside in
+      omega (arith, agenda, aside))
 
--- No mark is set, since no thread would watch it.
-no_mark : (p : Accounts) (n : ℕ) (m : Machine) (x : ℕ) → CoreInvariant p n m → AreAtEnd p m → m.memory (Mark x) ≡ 0
-no_mark p n m x core done =
-    elim (core.marks x) [
-      | inl none ↦ none
-      | inr set ↦
-          elim set.2 [
-            | ByRunning one ↦
-                let used = born_used p n m x core (marked_born p n m x core set.0) in
-                elim (done (block_of m.layout x) used.by used.found).stopped [
-                  | inl stopped ↦ absurd (stopped one)
-                  | inr unused ↦ absurd (omega (arith, used.low, unused))
-                ]
-            | ByExit b found scanned ↦
-                absurd (false≢true
-                (sym (ap (scans (index_of m.layout (block_of m.layout x) x))
-                (done (block_of m.layout x) b found).agenda)
-                ∙ scanned))
-            | ByLook some ↦ absurd (omega (arith, some, no_weights p n m (looks x) core done))
-          ]
-    ]
-
--- A live row has a reference.
-pub live_referenced : (p : Accounts) (n : ℕ) (m : Machine) (x : ℕ) → CoreInvariant p n m → AreAtEnd p m
-    → IsLive (block_of m.layout x) (numbers_of m x) → 0 < references_to x m.abstract.references
-live_referenced p n m x core done live =
-    let mark = no_mark p n m x core done in
-    let waiting = no_weights p n m (waits x) core done in
-    let carried = no_weights p n m (carries x) core done in
-    let merging = no_weights p n m (merges x) core done in
-    let deciding = no_weights p n m (decides x) core done in
-    elim live.mode [
-      | InOwned o ↦
-          elim o.decided [
-            | AtZero z d ↦ absurd (omega (arith, d, deciding))
-            | AboveZero z d ↦ elim o.phased [
-              | IsDefault q w b ↦ omega (arith, live.sum, z, b, mark, waiting)
-              | IsQueued q w ↦ absurd (omega (arith, w, mark, waiting))
+  -- No mark is set, since no thread would watch it.
+  no_mark : (x : ℕ) → CoreInvariant p n m → AreAtEnd p m → m.memory (Mark x) ≡ 0
+  no_mark x core done =
+      elim (core.marks x) [
+        | inl none ↦ none
+        | inr set ↦
+            elim set.2 [
+              | ByRunning one ↦
+                  let used = born_used x core (marked_born x core set.0) in
+                  elim (done (block_of m.layout x) used.by used.found).stopped [
+                    | inl stopped ↦ absurd (stopped one)
+                    | inr unused ↦ absurd (omega (arith, used.low, unused))
+                  ]
+              | ByExit b found scanned ↦
+                  absurd (false≢true (sym
+                  (ap (scans (index_of m.layout (block_of m.layout x) x)) (done (block_of m.layout x) b found).agenda)
+                  ∙ scanned))
+              | ByLook some ↦ absurd (omega (arith, some, no_weights (looks x) core done))
             ]
-          ]
-      | InSwapped s ↦ absurd (omega (arith, s.merging, merging))
-      | InMerged g ↦ omega (arith, live.sum, g.counted, mark, waiting)
-    ]
+      ]
 
--- No row is dying, since every chain is empty.
-pub none_dying : (p : Accounts) (n : ℕ) (m : Machine) (x t : ℕ) → CoreInvariant p n m → AreAtEnd p m → m.life x ≡ Dying t → ⊥
-none_dying p n m x t core done dying =
-    let dies : dies_by (m.life x) t ≡ true = ap (λ (l : Life). dies_by l t) dying ∙ eq-eqb t t refl in
-    elim (slice_get_cases m.actors t).1 [
-      | inl found ↦
-          let ended = done t found.0 found.2 in
-          let chain = (core.each t found.0 found.2).0.chain in
-          let hand : finalised found.0.agenda x ≡ 0 = ap (λ (l : List Duty). finalised l x) ended.agenda in
-          let one : one_if (dies_by (m.life x) t) ≡ 1 = ap one_if dies in
-          elim chain.chained as (λ l. chain.chained ≡ l → Linked m.memory t found.0.head l → ⊥) [
-            | [] ↦ λ e linked.
-                let none : count_by (λ y. y == x) chain.chained ≡ 0 = ap (count_by (λ y. y == x)) e in
-                absurd (omega (arith, chain.once x, hand, one, none))
-            | y ∷ ys ↦ λ e linked. absurd (omega (arith, linked.0, ended.head))
-          ] refl chain.linked
-      | inr past ↦ false≢true (sym (core.dying x t (omega (arith, past.0, core.threads))) ∙ dies)
-    ]
+  -- A live row has a reference.
+  pub live_referenced : (x : ℕ) → CoreInvariant p n m → AreAtEnd p m → IsLive (block_of m.layout x) (numbers_of m x)
+      → 0 < references_to x m.abstract.references
+  live_referenced x core done live =
+      let mark = no_mark x core done in
+      let waiting = no_weights (waits x) core done in
+      let carried = no_weights (carries x) core done in
+      let merging = no_weights (merges x) core done in
+      let deciding = no_weights (decides x) core done in
+      elim live.mode [
+        | InOwned o ↦
+            elim o.decided [
+              | AtZero z d ↦ absurd (omega (arith, d, deciding))
+              | AboveZero z d ↦ elim o.phased [
+                | IsDefault q w b ↦ omega (arith, live.sum, z, b, mark, waiting)
+                | IsQueued q w ↦ absurd (omega (arith, w, mark, waiting))
+              ]
+            ]
+        | InSwapped s ↦ absurd (omega (arith, s.merging, merging))
+        | InMerged g ↦ omega (arith, live.sum, g.counted, mark, waiting)
+      ]
 
--- A born row without references is closed.
-pub born_closed : (p : Accounts) (n : ℕ) (m : Machine) (x : ℕ) (l : Life) → CoreInvariant p n m → AreAtEnd p m
-    → IsCounted m.layout x
-    → references_to x m.abstract.references ≡ 0 → (m.life x ≢ Unborn) → m.life x ≡ l → m.life x ≡ Closed
-born_closed p n m x Unborn core done pos none born is = absurd (born is)
-born_closed p n m x Live core done pos none born is =
-    let live : IsLive (block_of m.layout x) (numbers_of m x) =
-    subst (λ (l : Life). RowInvariant (block_of m.layout x) l (numbers_of m x)) is (core.rows x pos) in
-    absurd (omega (arith, live_referenced p n m x core done live, none))
-born_closed p n m x (Dying t) core done pos none born is = absurd (none_dying p n m x t core done is)
-born_closed p n m x Closed core done pos none born is = is
+  -- No row is dying, since every chain is empty.
+  pub none_dying : (x t : ℕ) → CoreInvariant p n m → AreAtEnd p m → m.life x ≡ Dying t → ⊥
+  none_dying x t core done dying =
+      let dies : dies_by (m.life x) t ≡ true = ap (λ (l : Life). dies_by l t) dying ∙ eq-eqb t t refl in
+      elim (slice_get_cases m.actors t).1 [
+        | inl found ↦
+            let ended = done t found.0 found.2 in
+            let chain = (core.each t found.0 found.2).0.chain in
+            let hand : finalised found.0.agenda x ≡ 0 = ap (λ (l : List Duty). finalised l x) ended.agenda in
+            let one : one_if (dies_by (m.life x) t) ≡ 1 = ap one_if dies in
+            elim chain.chained as (λ l. chain.chained ≡ l → Linked m.memory t found.0.head l → ⊥) [
+              | [] ↦ λ e linked.
+                  let none : count_by (λ y. y == x) chain.chained ≡ 0 = ap (count_by (λ y. y == x)) e in
+                  absurd (omega (arith, chain.once x, hand, one, none))
+              | y ∷ ys ↦ λ e linked. absurd (omega (arith, linked.0, ended.head))
+            ] refl chain.linked
+        | inr past ↦ false≢true (sym (core.dying x t (omega (arith, past.0, core.threads))) ∙ dies)
+      ]
 
--- A closed row was born, and is counted.
-pub closed_born : (p : Accounts) (n : ℕ) (m : Machine) (x : ℕ) → CoreInvariant p n m → m.life x ≡ Closed
-    → (IsCounted m.layout x) × (m.life x ≢ Unborn)
-closed_born p n m x core closed =
-    elim (cases_Bool (is_immortal_row m.layout x)) [
-      | inl immortal ↦ absurd (let wrong : Live ≡ Closed = sym (core.immortals_live x immortal) ∙ closed in cc)
-      | inr counted ↦ (counted, λ e. let wrong : Closed ≡ Unborn = sym closed ∙ e in cc)
-    ]
+  -- A born row without references is closed.
+  pub born_closed : (x : ℕ) (l : Life) → CoreInvariant p n m → AreAtEnd p m → IsCounted m.layout x
+      → references_to x m.abstract.references ≡ 0 → (m.life x ≢ Unborn) → m.life x ≡ l → m.life x ≡ Closed
+  born_closed x Unborn core done pos none born is = absurd (born is)
+  born_closed x Live core done pos none born is =
+      let live : IsLive (block_of m.layout x) (numbers_of m x) =
+      subst (λ (l : Life). RowInvariant (block_of m.layout x) l (numbers_of m x)) is (core.rows x pos) in
+      absurd (omega (arith, live_referenced x core done live, none))
+  born_closed x (Dying t) core done pos none born is = absurd (none_dying x t core done is)
+  born_closed x Closed core done pos none born is = is
 
--- A closed row has no reference.
-pub closed_free : (p : Accounts) (n : ℕ) (m : Machine) (x : ℕ) → CoreInvariant p n m → IsCounted m.layout x
-    → m.life x ≡ Closed → references_to x m.abstract.references ≡ 0
-closed_free p n m x core counted closed =
-    (subst (λ (l : Life). RowInvariant (block_of m.layout x) l (numbers_of m x)) closed
-    (core.rows x counted)).references
+  -- A closed row was born, and is counted.
+  pub closed_born : (x : ℕ) → CoreInvariant p n m → m.life x ≡ Closed → (IsCounted m.layout x) × (m.life x ≢ Unborn)
+  closed_born x core closed =
+      elim (cases_Bool (is_immortal_row m.layout x)) [
+        | inl immortal ↦ absurd (let wrong : Live ≡ Closed = sym (core.immortals_live x immortal) ∙ closed in cc)
+        | inr counted ↦ (counted, λ e. let wrong : Closed ≡ Unborn = sym closed ∙ e in cc)
+      ]
+
+  -- A closed row has no reference.
+  pub closed_free : (x : ℕ) → CoreInvariant p n m → IsCounted m.layout x → m.life x ≡ Closed
+      → references_to x m.abstract.references ≡ 0
+  closed_free x core counted closed =
+      (subst (λ (l : Life). RowInvariant (block_of m.layout x) l (numbers_of m x)) closed
+      (core.rows x counted)).references

@@ -3,7 +3,7 @@ use Rattle.std.proofs.Common.{ℕ, refl}
 use Rattle.brc_lang.specs.declared.module.Module.{Module}
 use Rattle.brc_lang.specs.Grammar.{IsModule}
 use Rattle.brc_model.specs.Paths.{IsAcceptable}
-use Rattle.brc_model.specs.StepMachine.{StepMachine, counting}
+use Rattle.brc_model.specs.StepMachine.{StepMachine}
 use Rattle.brc_model.specs.Progress.{Always, BornOnce, BornListed, BornAreThere, UsedAreBorn, ClosedWereBorn}
 use Rattle.brc_model.proofs.Keeping.CodeInvariant.{CodeInvariant}
 use Rattle.brc_model.proofs.Basics.Blocks.{born_within}
@@ -25,7 +25,7 @@ pub born_listed : (p : Module) → IsModule p → IsAcceptable p → Always Born
 born_listed = always BornListed listed_in
 
 there_in : (p : Module) (n : ℕ) (m : StepMachine) → CodeInvariant p n m → BornAreThere m
-there_in p n m whole = λ x born. born_within whole.accounts n (counting m) x whole.kept.core born
+there_in p n m whole = λ x born. born_within x whole.kept.core born
 
 pub born_are_there : (p : Module) → IsModule p → IsAcceptable p → Always BornAreThere p
 born_are_there = always BornAreThere there_in
@@ -39,7 +39,7 @@ used_are_born = always UsedAreBorn used_in
 
 closed_in : (p : Module) (n : ℕ) (m : StepMachine) → CodeInvariant p n m → ClosedWereBorn m
 closed_in p n m whole = λ x closed.
-    let was = closed_born whole.accounts n (counting m) x whole.kept.core (whole.kept.core.closed_is x closed) in
+    let was = closed_born x whole.kept.core (whole.kept.core.closed_is x closed) in
     whole.kept.core.born_has x was.0 was.1
 
 pub closed_were_born : (p : Module) → IsModule p → IsAcceptable p → Always ClosedWereBorn p

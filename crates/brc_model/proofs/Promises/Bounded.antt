@@ -270,15 +270,13 @@ same_calls code n left is = ap (λ (k : ℕ). k * call_limit code) (some_is n le
 -- In a call a thread can begin what its later calls allow, and the limit once more.
 left_in_call : (code : List Instr) (place : Place) (left : ℕ) → calls_after place ≡ Some left
     → instructions_left code place ≤ left * call_limit code + call_limit code
-left_in_call code (Idle zero) left is = absurd (none_some left is)
 left_in_call code (Idle (suc n)) left is =
     omega (arith, same_calls code n left is)
 left_in_call code (InCall context at variables) left is =
     omega (arith, same_calls code context.left left is, call_bounded code context at)
 left_in_call code (Inside context at variables stage) left is =
     omega (arith, same_calls code context.left left is, call_bounded code context (at + 1))
-left_in_call code (Stopping lock calls) left is = absurd (none_some left is)
-left_in_call code Exiting left is = absurd (none_some left is)
+left_in_call code _ left is = cc
 
 -- As long as it hasn't gone on to the next call, it can still begin what its later calls allow.
 left_after_call : (code : List Instr) (place : Place) (left : ℕ) → IsInOrAfter left place

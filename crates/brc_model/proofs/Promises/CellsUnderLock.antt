@@ -16,7 +16,7 @@ use Rattle.brc_model.specs.Invariant.{AtDuty}
 use Rattle.brc_model.proofs.Basics.Written.{written_load}
 use Rattle.brc_model.proofs.Basics.Lists.{and_first, some_is, slice_get-set_same}
 use Rattle.brc_model.proofs.Frame.Leaves.{head_of}
-use Rattle.brc_model.proofs.Stepping.Neutral.{memory_by}
+use Rattle.brc_model.proofs.Stepping.FitsAfter.{memory_by}
 use Rattle.brc_model.proofs.Keeping.Sits.{sitting}
 use Rattle.brc_model.proofs.Keeping.CodeInvariant.{CodeInvariant}
 use Rattle.brc_model.proofs.Keeping.StepCases.{ShowsSteps, at_duty, event_shows}
@@ -34,17 +34,17 @@ by_row m t x y i j word may =
       | false ↦ λ e other. absurd (other refl)
     ] refl
 
-changed_by : (p : Accounts) (n : ℕ) (m : Machine) (t : ℕ) (a : Actor) (d : Duty) (rest : List Duty) (x i : ℕ)
-    → AtDuty p n m t a d rest → memory_by m t a d (Cell x i) ≢ m.memory (Cell x i) → MayChange m t x
-changed_by p n m t a (SettleCell y j k) rest x i here =
-    let dies = (head_of p n m t a (SettleCell y j k) rest here).1 in
-    by_row m t x y i j 0 (λ same. inr (ap m.life (sym same) ∙ dies))
-changed_by p n m t a (CellSwap y j z h) rest x i here =
-    let locked = (head_of p n m t a (CellSwap y j z h) rest here).0 in
-    by_row m t x y i j (z + 1) (λ same. inl (a, here.found, locked ∙ ap Some same))
-changed_by p n m t a (CellLoad y j) rest x i here =
-    λ other. absurd (other (written_load m.memory (Cell y j) (Cell x i)))
-changed_by p n m t a _ rest x i here = λ other. absurd (other refl)
+module _ {p : Accounts} {n : ℕ} {m : Machine} {t : ℕ} {a : Actor} {rest : List Duty} where
+  changed_by : (d : Duty) (x i : ℕ) → AtDuty p n m t a d rest → memory_by m t a d (Cell x i) ≢ m.memory (Cell x i)
+      → MayChange m t x
+  changed_by (SettleCell y j k) x i here =
+      let dies = (head_of here).1 in
+      by_row m t x y i j 0 (λ same. inr (ap m.life (sym same) ∙ dies))
+  changed_by (CellSwap y j z h) x i here =
+      let locked = (head_of here).0 in
+      by_row m t x y i j (z + 1) (λ same. inl (a, here.found, locked ∙ ap Some same))
+  changed_by (CellLoad y j) x i here = λ other. absurd (other (written_load m.memory (Cell y j) (Cell x i)))
+  changed_by _ x i here = λ other. absurd (other refl)
 
 -- What a thread takes up doesn't change which list it has locked.
 lock_stays : (m : Machine) (t x : ℕ) (a : Actor) (agenda : List Duty) → slice_get m.actors t ≡ Some a
@@ -64,7 +64,7 @@ cells_shown n = record {
     | inr dies ↦ inr dies
   ];
   moves = λ p t m a moves kept found silent x i other. absurd (other refl);
-  does = λ p t m a d rest doing x i. changed_by p n m t a d rest x i (at_duty doing);
+  does = λ p t m a d rest doing x i. changed_by d x i (at_duty doing);
 }
 
 pub cells_under_lock : (p : Module) (n : ℕ) (m : StepMachine) (event : ℕ × Choice) → CodeInvariant p n m

@@ -55,30 +55,29 @@ ClosesSo m new =
     (new.abstract.closed ≡ m.abstract.closed)
     ⊎ ((row : ℕ) × (is_among row m.abstract.closed ≡ false) × (new.abstract.closed ≡ m.abstract.closed ++ row ∷ []))
 
-ends_open : (p : Accounts) (n : ℕ) (m : Machine) (t : ℕ) (a : Actor) (d : Duty) (rest : List Duty) (row : ℕ)
-    → AtDuty p n m t a d rest → ended_row d ≡ Some row → is_among row m.abstract.closed ≡ true → ⊥
-ends_open p n m t a d rest row here ended was =
-    elim (life_step p n m t a d rest row here) [
-      | GoesOn now other ↦ other ended
-      | BeginsToDie now alive positive none ↦ live_not_closed (sym alive ∙ here.core.closed_is row was)
-      | IsClosed now dying positive last ↦ dying_not_closed t (sym dying ∙ here.core.closed_is row was)
-      | IsBorn now unborn above born none ↦ unborn_not_closed (sym unborn ∙ here.core.closed_is row was)
-    ]
+module _ {p : Accounts} {n : ℕ} {m : Machine} {t : ℕ} {a : Actor} {d : Duty} {rest : List Duty} where
+  ends_open : (row : ℕ) → AtDuty p n m t a d rest → ended_row d ≡ Some row → is_among row m.abstract.closed ≡ true → ⊥
+  ends_open row here ended was =
+      elim (life_step d row here) [
+        | GoesOn now other ↦ other ended
+        | BeginsToDie now alive positive none ↦ live_not_closed (sym alive ∙ here.core.closed_is row was)
+        | IsClosed now dying positive last ↦ dying_not_closed t (sym dying ∙ here.core.closed_is row was)
+        | IsBorn now unborn above born none ↦ unborn_not_closed (sym unborn ∙ here.core.closed_is row was)
+      ]
 
-closes_at_duty : (p : Accounts) (n : ℕ) (m : Machine) (t : ℕ) (a : Actor) (d : Duty) (rest : List Duty)
-    → AtDuty p n m t a d rest → ClosesSo m (done_by m t a d rest)
-closes_at_duty p n m t a d rest here =
-    elim (closed_step m t d (m.memory (address_of m.layout t a.head d))) [
-      | SameClosed none same ↦ inl same
-      | OneMore row ended more ↦ inr (row, ne_true _ (ends_open p n m t a d rest row here ended), more)
-    ]
+  closes_at_duty : AtDuty p n m t a d rest → ClosesSo m (done_by m t a d rest)
+  closes_at_duty here =
+      elim (closed_step m t d (m.memory (address_of m.layout t a.head d))) [
+        | SameClosed none same ↦ inl same
+        | OneMore row ended more ↦ inr (row, ne_true _ (ends_open row here ended), more)
+      ]
 
 closes_shown : (n : ℕ) → ShowsSteps (λ t m new. ClosesSo m new) n
 closes_shown n = record {
   stays = λ p t m kept. inl refl;
   sits = λ t m new a agenda found shown. shown;
   moves = λ p t m a moves kept found silent. inl (silent_closed m.abstract t moves silent);
-  does = λ p t m a d rest doing. closes_at_duty p n m t a d rest (at_duty doing);
+  does = λ p t m a d rest doing. closes_at_duty (at_duty doing);
 }
 
 pub closes_anew : (p : Module) (n : ℕ) (m : StepMachine) (event : ℕ × Choice) → CodeInvariant p n m → ClosesAnew m event

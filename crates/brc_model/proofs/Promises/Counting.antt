@@ -32,27 +32,28 @@ use Rattle.brc_model.proofs.Limits.Ranges.{head_small, duty_ranges, referenced_s
 use Rattle.brc_model.proofs.Limits.StepsAreWithin.{duty_within}
 use Rattle.brc_model.proofs.Promises.Agreeing.{agrees_at}
 
--- The premise of the laws about a thread's next duty is that of `duty_kept`.
-doing_next : (p : Accounts) (n : ℕ) (m : Machine) (t : ℕ) (a : Actor) (d : Duty) (rest : List Duty) → Counts p n m
-    → ComesNext m t a d rest → Doing p n m t a d rest
-doing_next p n m t a d rest counts next =
-    record { kept = counts.kept; found = next.found; agenda = next.agenda; alive = next.alive }
+module _ {p : Accounts} {n : ℕ} {m : Machine} {t : ℕ} {a : Actor} where
+  -- The premise of the laws about a thread's next duty is that of `duty_kept`.
+  doing_next : (d : Duty) (rest : List Duty) → Counts p n m → ComesNext m t a d rest → Doing p n m t a d rest
+  doing_next d rest counts next =
+      record { kept = counts.kept; found = next.found; agenda = next.agenda; alive = next.alive }
 
--- The duties of the thread's agenda are small.
-next_small : (p : Accounts) (n : ℕ) (m : Machine) (t : ℕ) (a : Actor) (d : Duty) (rest : List Duty) → Counts p n m
-    → ComesNext m t a d rest → AreSmall (row_count m.layout) (d ∷ rest)
-next_small p n m t a d rest counts next =
-    subst (AreSmall (row_count m.layout)) next.agenda (counts.ranges.each t a next.found)
+module _ {p : Accounts} {n : ℕ} {m : Machine} where
+  -- The duties of the thread's agenda are small.
+  next_small : (t : ℕ) (a : Actor) (d : Duty) (rest : List Duty) → Counts p n m → ComesNext m t a d rest
+      → AreSmall (row_count m.layout) (d ∷ rest)
+  next_small t a d rest counts next =
+      subst (AreSmall (row_count m.layout)) next.agenda (counts.ranges.each t a next.found)
 
 -- Doing a thread's next duty isn't bad, and keeps the invariant.
 pub duties_kept : DutiesAreKept
 duties_kept p n m t a d rest counts next =
-    let kept = duty_kept p n m t a d rest (doing_next p n m t a d rest counts next) in (
+    let kept = duty_kept p n m t a d rest (doing_next d rest counts next) in (
       kept.0,
       record {
         kept = kept.1;
-        ranges = duty_ranges p n m t a a d rest counts.kept.core counts.ranges next.found
-            (head_small p n m t a counts.kept.core next.found) (next_small p n m t a d rest counts next)
+        ranges = duty_ranges t a a d rest counts.kept.core counts.ranges next.found
+            (head_small t a counts.kept.core next.found) (next_small t a d rest counts next)
             (counts.ranges.aside t a next.found);
         no_flight = counts.no_flight;
       },
@@ -61,12 +62,12 @@ duties_kept p n m t a d rest counts next =
 -- A thread's next duty can rely on what `DutyWithin` says.
 pub duties_within : DutiesAreWithin
 duties_within p n m t a d rest counts next =
-    duty_within p n m t a d rest (doing_next p n m t a d rest counts next) (next_small p n m t a d rest counts next).0
+    duty_within d rest (doing_next d rest counts next) (next_small t a d rest counts next).0
     (record { threads = counts.kept.core.few_threads; cells = counts.ranges.kinds })
 
 -- The counts of each counted object that was born agree.
 pub counts_agree : CountsAgree
-counts_agree p n m x counts counted born = agrees_at p n m x counts.kept.core counted
+counts_agree p n m x counts counted born = agrees_at x counts.kept.core counted
 
 -- A row that one of these duties is about is there.
 counted_small : (k : ℕ) (ds : List Duty) (x : ℕ) → AreSmall k ds → 0 < count_by (is_about x) ds → x < k
@@ -93,7 +94,7 @@ accounts_there p n m t a h x counts found holds =
     let each = (core.each t a found).0.holds.each h x in
     let in_bag = held-le-references_to (reference_of t h x) m.abstract.references in
     elim (cases_lt 0 (references_to x m.abstract.references)) [
-      | inl listed ↦ referenced_small p n m x core listed
+      | inl listed ↦ referenced_small x core listed
       | inr none ↦ elim (cases_lt 0 (count_by (is_about x) a.agenda)) [
         | inl next ↦ counted_small (row_count m.layout) a.agenda x (counts.ranges.each t a found) next
         | inr quiet ↦
@@ -102,27 +103,26 @@ accounts_there p n m t a h x counts found holds =
       ]
     ]
 
--- A merge for a handed reference leaves that reference counted: it is still pending, and the merge adds all that was
--- swapped out of the local word.
-pub merge_lives : (p : Accounts) (n : ℕ) (m : Machine) (t : ℕ) (a : Actor) (x c w : ℕ) (rest : List Duty)
-    → CoreInvariant p n m → ComesNext m t a (MergeExchange x c w Handed) rest → m.memory (Shared x) ≡ w
-    → merged_word w c ≢ dead_word
-merge_lives p n m t a x c w rest core next same dead =
-    let here : AtDuty p n m t a (MergeExchange x c w Handed) rest =
-    record { core = core; found = next.found; agenda = next.agenda } in
-    let live = (merge_alive p n m t a x c w Handed rest here).live in
-    let one : one_if (x == x) ≡ 1 = ap one_if (eq-eqb x x refl) in
-    let merging =
-    first_weighs (merges x) m.actors t a (MergeExchange x c w Handed) rest next.found next.agenda in
-    let waiting = first_weighs (waits x) m.actors t a (MergeExchange x c w Handed) rest next.found next.agenda in
-    let local : m.memory (Local x) ≡ 0 = elim live.mode [
-      | InOwned s ↦ absurd (omega (arith, s.merging, merging, one))
-      | InSwapped s ↦ s.local
-      | InMerged s ↦ s.local
-    ] in
-    let carried = carried_is p n m t a x c w Handed rest here in
-    let left = ap biased_part dead in
-    omega (arith, live.sum, waiting, one, local, carried, same, (shared_merged w c).0, left)
+module _ {p : Accounts} {n : ℕ} {m : Machine} where
+  -- A merge for a handed reference leaves that reference counted: it is still pending, and the merge adds all that was
+  -- swapped out of the local word.
+  pub merge_lives : (t : ℕ) (a : Actor) (x c w : ℕ) (rest : List Duty) → CoreInvariant p n m
+      → ComesNext m t a (MergeExchange x c w Handed) rest → m.memory (Shared x) ≡ w → merged_word w c ≢ dead_word
+  merge_lives t a x c w rest core next same dead =
+      let here : AtDuty p n m t a (MergeExchange x c w Handed) rest =
+      record { core = core; found = next.found; agenda = next.agenda } in
+      let live = (merge_alive x c w Handed here).live in
+      let one : one_if (x == x) ≡ 1 = ap one_if (eq-eqb x x refl) in
+      let merging = first_weighs (merges x) m.actors t a (MergeExchange x c w Handed) rest next.found next.agenda in
+      let waiting = first_weighs (waits x) m.actors t a (MergeExchange x c w Handed) rest next.found next.agenda in
+      let local : m.memory (Local x) ≡ 0 = elim live.mode [
+        | InOwned s ↦ absurd (omega (arith, s.merging, merging, one))
+        | InSwapped s ↦ s.local
+        | InMerged s ↦ s.local
+      ] in
+      let carried = carried_is x c w Handed here in
+      let left = ap biased_part dead in
+      omega (arith, live.sum, waiting, one, local, carried, same, (shared_merged w c).0, left)
 
 pub merges_live : HandedMergesLive
-merges_live p n m t a x c w rest counts = merge_lives p n m t a x c w rest counts.kept.core
+merges_live p n m t a x c w rest counts = merge_lives t a x c w rest counts.kept.core

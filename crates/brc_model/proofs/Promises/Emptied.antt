@@ -114,10 +114,7 @@ status_settles functions layout t a Leaving forward e = agenda_settles functions
 -- Where a thread may stop, nothing is behind its agenda.
 stopper_none : (place : Place) → is_before_instruction place ≡ true → behind place ≡ []
 stopper_none (Idle left) before = refl
-stopper_none (InCall context at variables) before = refl
-stopper_none (Inside context at variables stage) before = absurd cc
-stopper_none (Stopping lock calls) before = absurd cc
-stopper_none Exiting before = absurd cc
+stopper_none _ before = cc
 
 -- A thread that has just stopped has an empty chain.
 stopped_behind : (lock : Option ℕ) (calls : List (List (Option ℕ))) → Empties 0 (behind (Stopping lock calls))

@@ -55,13 +55,10 @@ asks_least true agenda e = asks_less false agenda e
 asks_least false agenda e = e
 
 ready_empties : (head : ℕ) (agenda : List Duty) → Empties head agenda → Empties head (ready head agenda)
-ready_empties zero [] e = e
-ready_empties (suc head) [] e = e
 ready_empties zero (Settle ∷ rest) e = ready_empties zero rest e
 ready_empties zero (Scan x zero ∷ rest) e = ready_empties zero rest e
 ready_empties (suc head) (Scan x zero ∷ rest) e = ready_empties (suc head) rest e
-ready_empties zero (_ ∷ rest) e = e
-ready_empties (suc head) (_ ∷ rest) e = e
+ready_empties _ _ e = cc
 
 -- ---- one duty
 

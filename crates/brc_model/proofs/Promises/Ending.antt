@@ -54,15 +54,11 @@ named_by (suc y) x some = let same = eqb-true y x (one_if_true (y == x) some) in
 -- A cell of a row that isn't live is empty.
 closed_is_empty : (l : Life) (word : ℕ) → l ≡ Closed → CellFits l word → word ≡ 0
 closed_is_empty Unborn word is fits = fits
-closed_is_empty Live word is fits = absurd cc
-closed_is_empty (Dying t) word is fits = absurd cc
-closed_is_empty Closed word is fits = fits
+closed_is_empty _ word is fits = cc
 
 unborn_is_empty : (l : Life) (word : ℕ) → l ≡ Unborn → CellFits l word → word ≡ 0
 unborn_is_empty Unborn word is fits = fits
-unborn_is_empty Live word is fits = absurd cc
-unborn_is_empty (Dying t) word is fits = absurd cc
-unborn_is_empty Closed word is fits = fits
+unborn_is_empty _ word is fits = cc
 
 module _ (p : Accounts) (n : ℕ) (m : Machine) (counts : Counts p n m) (ended : HaveEnded p m) where
   core : CoreInvariant p n m
@@ -99,7 +95,7 @@ module _ (p : Accounts) (n : ℕ) (m : Machine) (counts : Counts p n m) (ended :
       → m.memory (Gate x) ≡ closed_word → l ≡ Closed
   closed_life x Unborn is fits closed = absurd (omega (arith, fits, closed))
   closed_life x Live is fits closed = absurd (live_gate x (m.memory (Gate x)) fits closed)
-  closed_life x (Dying t) is fits closed = absurd (none_dying p n m x t core at_end is)
+  closed_life x (Dying t) is fits closed = absurd (none_dying x t core at_end is)
   closed_life x Closed is fits closed = refl
 
   pub is_closed : (x : ℕ) → m.memory (Gate x) ≡ closed_word → m.life x ≡ Closed
@@ -113,7 +109,7 @@ module _ (p : Accounts) (n : ℕ) (m : Machine) (counts : Counts p n m) (ended :
       record {
         list = y;
         cell = i;
-        there = born_within p n m y core (λ unborn.
+        there = born_within y core (λ unborn.
             absurd (omega (arith, names, unborn_is_empty (m.life y) (m.memory (Cell y i)) unborn (core.cells y i))));
         low = elim (cases_lt i (cells_of (m.memory (KindOf y)))) [
           | inl low ↦ omega (arith, low, counts.ranges.kinds y)
@@ -129,13 +125,13 @@ module _ (p : Accounts) (n : ℕ) (m : Machine) (counts : Counts p n m) (ended :
       }
 
   held_in : (x : ℕ) (h : Holder) → 0 < held (record { holder = h; object = x }) m.abstract.references → IsNamed m x
-  held_in x (ByThread t k) has = absurd (omega (arith, has, held_by_none p n m t k x core at_end))
+  held_in x (ByThread t k) has = absurd (omega (arith, has, held_by_none t k x core at_end))
   held_in x (ByCell y i) has = named x y i has
 
   -- So a cell names each live row.
   live_named : (x : ℕ) → IsLive (block_of m.layout x) (numbers_of m x) → IsNamed m x
   live_named x live =
-      let one = some_reference x m.abstract.references (live_referenced p n m x core at_end live) in
+      let one = some_reference x m.abstract.references (live_referenced x core at_end live) in
       held_in x one.holder one.has
 
   -- The kind word of a row that isn't born is 0, and so is its slot.
@@ -159,8 +155,9 @@ module _ (p : Accounts) (n : ℕ) (m : Machine) (counts : Counts p n m) (ended :
       → m.memory (Gate x) ≢ closed_word → IsNamed m x
   left_by x Unborn is counted some open_still = absurd (omega (arith, some, (blank_row x is).0))
   left_by x Live is counted some open_still =
-      live_named x (subst (λ (l : Life). RowInvariant (block_of m.layout x) l (numbers_of m x)) is (core.rows x counted))
-  left_by x (Dying t) is counted some open_still = absurd (none_dying p n m x t core at_end is)
+      live_named x (subst (λ (l : Life). RowInvariant (block_of m.layout x) l (numbers_of m x)) is
+      (core.rows x counted))
+  left_by x (Dying t) is counted some open_still = absurd (none_dying x t core at_end is)
   left_by x Closed is counted some open_still =
       absurd (open_still (subst (λ (l : Life). GateFits m.actors x l (m.memory (Gate x))) is (core.gates x)))
 
@@ -173,7 +170,7 @@ rows_end p n m x counts ended counted there =
           core.kind_words x (λ unborn.
           let wrong : Closed ≡ Unborn = sym (is_closed p n m counts ended x closed) ∙ unborn in cc);
       closed_unnamed = λ closed y i names.
-          let none = closed_free p n m x core counted (is_closed p n m counts ended x closed) in
+          let none = closed_free x core counted (is_closed p n m counts ended x closed) in
           let next : m.memory (Cell y i) ≡ suc x = omega (arith, names) in
           let word : word_holds (m.memory (Cell y i)) x ≡ 1 =
           ap (λ (w : ℕ). word_holds w x) next ∙ ap one_if (eq-eqb x x refl) in

@@ -96,10 +96,6 @@ counts_fit p states rows calls events states_true some most fit =
 -- The exit decides nothing where the thread neither calls the host nor closes a resource.
 action_alike : (m : StepMachine) (t : ℕ) (a : StepActor) (x : Action) → calls_host x ≡ false
     → closes_resource x ≡ false → machine_by m t a FaultExit x ≡ machine_by m t a Success x
-action_alike m t a Skip quiet unclosed = refl
-action_alike m t a Stuck quiet unclosed = refl
-action_alike m t a (Silent moves place) quiet unclosed = refl
-action_alike m t a (Calls row place) quiet unclosed = absurd cc
 action_alike m t a (Does d rest place) quiet unclosed =
     let new = machine_by m t a Success (Does d rest place) in
     let counts : cond (closes d) (counted FaultExit m.close_faults) m.close_faults ≡ m.close_faults =
@@ -119,6 +115,7 @@ action_alike m t a (Does d rest place) quiet unclosed =
       host_faults = new.host_faults;
       close_faults = same i;
     }
+action_alike m t a _ quiet unclosed = cc
 
 thread_alike : (m : StepMachine) (t : ℕ) (o : Option StepActor) → says calls_host m (t, Ok) o ≡ false
     → says closes_resource m (t, Ok) o ≡ false → after m (t, Fault) o ≡ after m (t, Ok) o

@@ -129,54 +129,55 @@ chained_gate memory t head (y ∷ ys) x linked some =
           (omega (arith, some, sum_by-cons (λ (z : ℕ). cond (z == x) 1 0) y ys, apart))
     ] refl
 
-dying_gate : (p : Accounts) (n : ℕ) (m : Machine) (t x : ℕ) → CoreInvariant p n m → t < n → m.life x ≡ Dying t
-    → (m.memory (Gate x) ≡ free_word) ⊎ IsDyingWord t (m.memory (Gate x))
-dying_gate p n m t x core within dies =
-    let a = get_or m.actors t (idle_actor 0) in
-    let found = slice_get-get_or m.actors t (idle_actor 0) (omega (arith, within, core.threads)) in
-    let fits = core.each t a found in
-    elim (eqb_tells (finalised a.agenda x) 0) [
-      | inl none ↦
-          let one : one_if (dies_by (m.life x) t) ≡ 1 = ap one_if (dying_is (m.life x) t dies) in
-          inr (chained_gate m.memory t a.head fits.0.chain.chained x fits.0.chain.linked
-          (omega (arith, fits.0.chain.once x, one, none.1)))
-      | inr more ↦ actor_gate m t a a.status x fits.1 fits.0.head_fits fits.0.behind (omega (arith, more.1))
-    ]
+module _ {p : Accounts} {n : ℕ} {m : Machine} where
+  dying_gate : (t x : ℕ) → CoreInvariant p n m → t < n → m.life x ≡ Dying t
+      → (m.memory (Gate x) ≡ free_word) ⊎ IsDyingWord t (m.memory (Gate x))
+  dying_gate t x core within dies =
+      let a = get_or m.actors t (idle_actor 0) in
+      let found = slice_get-get_or m.actors t (idle_actor 0) (omega (arith, within, core.threads)) in
+      let fits = core.each t a found in
+      elim (eqb_tells (finalised a.agenda x) 0) [
+        | inl none ↦
+            let one : one_if (dies_by (m.life x) t) ≡ 1 = ap one_if (dying_is (m.life x) t dies) in
+            inr (chained_gate m.memory t a.head fits.0.chain.chained x fits.0.chain.linked
+            (omega (arith, fits.0.chain.once x, one, none.1)))
+        | inr more ↦ actor_gate m t a a.status x fits.1 fits.0.head_fits fits.0.behind (omega (arith, more.1))
+      ]
 
--- ---- what a gate says
+  -- ---- what a gate says
 
-dying_within : (p : Accounts) (n : ℕ) (m : Machine) (t x : ℕ) → CoreInvariant p n m → m.life x ≡ Dying t → t < n
-dying_within p n m t x core dies =
-    elim (cases_lt t n) [
-      | inl within ↦ within
-      | inr past ↦ absurd (false≢true (sym (core.dying x t (omega (arith, past))) ∙ dying_is (m.life x) t dies))
-    ]
+  dying_within : (t x : ℕ) → CoreInvariant p n m → m.life x ≡ Dying t → t < n
+  dying_within t x core dies =
+      elim (cases_lt t n) [
+        | inl within ↦ within
+        | inr past ↦ absurd (false≢true (sym (core.dying x t (omega (arith, past))) ∙ dying_is (m.life x) t dies))
+      ]
 
--- The gate of a live row isn't the closed word, since threads are few.
-live_unclosed : (p : Accounts) (n : ℕ) (m : Machine) (x : ℕ) → CoreInvariant p n m
-    → LiveGate m.actors x (m.memory (Gate x)) → m.memory (Gate x) ≢ closed_word
-live_unclosed p n m x core (IsFree free) e = absurd (omega (arith, free, e))
-live_unclosed p n m x core (IsLocked t a found locked says) e =
-    absurd (omega (arith, slice_get_within m.actors t a found, core.threads, core.few_threads, says, e))
+  -- The gate of a live row isn't the closed word, since threads are few.
+  live_unclosed : (x : ℕ) → CoreInvariant p n m → LiveGate m.actors x (m.memory (Gate x))
+      → m.memory (Gate x) ≢ closed_word
+  live_unclosed x core (IsFree free) e = absurd (omega (arith, free, e))
+  live_unclosed x core (IsLocked t a found locked says) e =
+      absurd (omega (arith, slice_get_within m.actors t a found, core.threads, core.few_threads, says, e))
 
--- A row whose gate is the closed word is closed.
-closed_by : (p : Accounts) (n : ℕ) (m : Machine) (x : ℕ) (l : Life) → CoreInvariant p n m → m.life x ≡ l
-    → GateFits m.actors x l (m.memory (Gate x)) → m.memory (Gate x) ≡ closed_word → l ≡ Closed
-closed_by p n m x Unborn core is fits e = absurd (omega (arith, fits, e))
-closed_by p n m x Live core is fits e = absurd (live_unclosed p n m x core fits e)
-closed_by p n m x (Dying t) core is fits e =
-    let within = dying_within p n m t x core is in
-    elim (dying_gate p n m t x core within is) [
-      | inl free ↦ absurd (omega (arith, free, e))
-      | inr word ↦ absurd (dying_low t (m.memory (Gate x)) (omega (arith, within, core.few_threads)) word e)
-    ]
-closed_by p n m x Closed core is fits e = refl
+  -- A row whose gate is the closed word is closed.
+  closed_by : (x : ℕ) (l : Life) → CoreInvariant p n m → m.life x ≡ l → GateFits m.actors x l (m.memory (Gate x))
+      → m.memory (Gate x) ≡ closed_word → l ≡ Closed
+  closed_by x Unborn core is fits e = absurd (omega (arith, fits, e))
+  closed_by x Live core is fits e = absurd (live_unclosed x core fits e)
+  closed_by x (Dying t) core is fits e =
+      let within = dying_within t x core is in
+      elim (dying_gate t x core within is) [
+        | inl free ↦ absurd (omega (arith, free, e))
+        | inr word ↦ absurd (dying_low t (m.memory (Gate x)) (omega (arith, within, core.few_threads)) word e)
+      ]
+  closed_by x Closed core is fits e = refl
 
 tell_in : (p : Module) (n : ℕ) (m : StepMachine) → CodeInvariant p n m → GatesTell m
 tell_in p n m whole =
     let core = whole.kept.core in
     λ x. (
-      λ e. core.closed_has x (closed_by whole.accounts n (counting m) x (m.life x) core refl (core.gates x) e),
+      λ e. core.closed_has x (closed_by x (m.life x) core refl (core.gates x) e),
       λ c. subst (λ (l : Life). GateFits (counting m).actors x l (m.memory (Gate x))) (core.closed_is x c)
           (core.gates x),
     )
@@ -188,7 +189,7 @@ gates_tell = always GatesTell tell_in
 
 used_in : (p : Module) (n : ℕ) (m : StepMachine) → CodeInvariant p n m → BornAreUsed m
 used_in p n m whole = λ x born.
-    let used = born_used whole.accounts n (counting m) x whole.kept.core born in
+    let used = born_used x whole.kept.core born in
     let of = slice_get-map its_actor m.actors (block_of m.layout x) used.by used.found in
     let low : index_of m.layout (block_of m.layout x) x < of.source.actor.used =
     subst (λ (a : Actor). index_of m.layout (block_of m.layout x) x < a.used) (sym of.is_image) used.low in

@@ -33,29 +33,30 @@ use Rattle.brc_model.proofs.Frame.Leaves.{head_of, given_alive, locked_alive}
 use Rattle.brc_model.proofs.Frame.Lives.{leaves_others}
 use Rattle.brc_model.proofs.Frame.Others.{dying_is, is_dying, life_kept}
 use Rattle.brc_model.proofs.Limits.StepsAreWithin.{live_owner}
-use Rattle.brc_model.proofs.Stepping.Neutral.{memory_by}
+use Rattle.brc_model.proofs.Stepping.FitsAfter.{memory_by}
 use Rattle.brc_model.proofs.Promises.MarksWatched.{mark_watched}
 
--- The premise of the lemmas about one duty.
-pub at_next : {p : Accounts} {n : ℕ} {m : Machine} {t : ℕ} {a : Actor} {d : Duty} {rest : List Duty} → Counts p n m
-    → ComesNext m t a d rest → AtDuty p n m t a d rest
-at_next counts next = record { core = counts.kept.core; found = next.found; agenda = next.agenda }
+module _ {p : Accounts} {n : ℕ} {m : Machine} {t : ℕ} {a : Actor} {d : Duty} {rest : List Duty} where
+  -- The premise of the lemmas about one duty.
+  pub at_next : Counts p n m → ComesNext m t a d rest → AtDuty p n m t a d rest
+  at_next counts next = record { core = counts.kept.core; found = next.found; agenda = next.agenda }
 
 -- ---- marks
 
 pub marks_guarded : QueuedMarksAreWatched
-marks_guarded p n m x counts set = mark_watched p n m x counts.kept.core set
+marks_guarded p n m x counts set = mark_watched x counts.kept.core set
 
 -- ---- cells and slots
 
--- The gate of the object that a thread has locked names the thread.
-gate_of : (p : Accounts) (n : ℕ) (m : Machine) (t x : ℕ) → Counts p n m → HasLock m t x → HoldsGate m t x
-gate_of p n m t x counts (a, found, locked) = record {
-  actor = a;
-  found = found;
-  locked = locked;
-  gate = ((counts.kept.core.each t a found).0.locks x locked).gate;
-}
+module _ {p : Accounts} {n : ℕ} {m : Machine} where
+  -- The gate of the object that a thread has locked names the thread.
+  gate_of : (t x : ℕ) → Counts p n m → HasLock m t x → HoldsGate m t x
+  gate_of t x counts (a, found, locked) = record {
+    actor = a;
+    found = found;
+    locked = locked;
+    gate = ((counts.kept.core.each t a found).0.locks x locked).gate;
+  }
 
 abbrev MayEdit : Machine → ℕ → Duty → ℕ → Type 0
 MayEdit m t d x = HasLock m t x ⊎ ((m.life x ≡ Dying t) × (is_finalising d x ≡ true))
@@ -68,115 +69,113 @@ by_cell P m x y i j word may changed = elim (eqb_tells y x) [
   | inr other ↦ absurd (changed (ap (λ (b : Bool). cond (b && (j == i)) word (m.memory (Cell x i))) other.0))
 ]
 
-edited_by : (p : Accounts) (n : ℕ) (m : Machine) (t : ℕ) (a : Actor) (d : Duty) (rest : List Duty) (x i : ℕ)
-    → AtDuty p n m t a d rest → memory_by m t a d (Cell x i) ≢ m.memory (Cell x i) → MayEdit m t d x
-edited_by p n m t a (SettleCell y j k) rest x i here =
-    by_cell (MayEdit m t (SettleCell y j k)) m x y i j 0
-    (inr ((head_of p n m t a (SettleCell y j k) rest here).1, eq-eqb y y refl))
-edited_by p n m t a (CellSwap y j z h) rest x i here =
-    by_cell (MayEdit m t (CellSwap y j z h)) m x y i j (z + 1)
-    (inl (a, here.found, (head_of p n m t a (CellSwap y j z h) rest here).0))
-edited_by p n m t a (CellLoad y j) rest x i here =
-    λ changed. absurd (changed (written_load m.memory (Cell y j) (Cell x i)))
-edited_by p n m t a _ rest x i here = λ changed. absurd (changed refl)
+module _ {p : Accounts} {n : ℕ} {m : Machine} {t : ℕ} {a : Actor} {rest : List Duty} where
+  edited_by : (d : Duty) (x i : ℕ) → AtDuty p n m t a d rest → memory_by m t a d (Cell x i) ≢ m.memory (Cell x i)
+      → MayEdit m t d x
+  edited_by (SettleCell y j k) x i here =
+      by_cell (MayEdit m t (SettleCell y j k)) m x y i j 0 (inr ((head_of here).1, eq-eqb y y refl))
+  edited_by (CellSwap y j z h) x i here =
+      by_cell (MayEdit m t (CellSwap y j z h)) m x y i j (z + 1) (inl (a, here.found, (head_of here).0))
+  edited_by (CellLoad y j) x i here = λ changed. absurd (changed (written_load m.memory (Cell y j) (Cell x i)))
+  edited_by _ x i here = λ changed. absurd (changed refl)
 
 pub cells_guarded : CellsAreGuarded
 cells_guarded p n m t a d rest x i counts next changed =
-    elim (edited_by p n m t a d rest x i (at_next counts next) changed) [
-      | inl lock ↦ inl (gate_of p n m t x counts lock)
+    elim (edited_by d x i (at_next counts next) changed) [
+      | inl lock ↦ inl (gate_of t x counts lock)
       | inr dies ↦ inr dies
     ]
 
--- Two threads don't guard the same cells, and a locked list isn't dying.
-no_other : (p : Accounts) (n : ℕ) (m : Machine) (t u : ℕ) (b : Actor) (d : Duty) (x : ℕ) → Counts p n m
-    → slice_get m.actors u ≡ Some b → u ≢ t → GuardsCells m u b x → MayEdit m t d x → ⊥
-no_other p n m t u b d x counts found apart (inl locked) (inl lock) =
-    let mine = ((counts.kept.core.each u b found).0.locks x locked).gate in
-    let other = (gate_of p n m t x counts lock).gate in
-    apart (omega (arith, mine, other))
-no_other p n m t u b d x counts found apart (inl locked) (inr dies) =
-    let alive = locked_alive p n m u b x counts.kept.core found locked in
-    let wrong : Live ≡ Dying t = sym alive.life ∙ dies.0 in
-    absurd cc
-no_other p n m t u b d x counts found apart (inr chained) (inl (a, at, locked)) =
-    let alive = locked_alive p n m t a x counts.kept.core at locked in
-    let wrong : Live ≡ Dying u = sym alive.life ∙ chained.0 in
-    absurd cc
-no_other p n m t u b d x counts found apart (inr chained) (inr dies) =
-    let both : Dying u ≡ Dying t = sym chained.0 ∙ dies.0 in
-    let same : u ≡ t = cc in
-    apart same
+module _ {p : Accounts} {n : ℕ} {m : Machine} where
+  -- Two threads don't guard the same cells, and a locked list isn't dying.
+  no_other : (t u : ℕ) (b : Actor) (d : Duty) (x : ℕ) → Counts p n m → slice_get m.actors u ≡ Some b → u ≢ t
+      → GuardsCells m u b x → MayEdit m t d x → ⊥
+  no_other t u b d x counts found apart (inl locked) (inl lock) =
+      let mine = ((counts.kept.core.each u b found).0.locks x locked).gate in
+      let other = (gate_of t x counts lock).gate in
+      apart (omega (arith, mine, other))
+  no_other t u b d x counts found apart (inl locked) (inr dies) =
+      let alive = locked_alive u b x counts.kept.core found locked in
+      let wrong : Live ≡ Dying t = sym alive.life ∙ dies.0 in
+      absurd cc
+  no_other t u b d x counts found apart (inr chained) (inl (a, at, locked)) =
+      let alive = locked_alive t a x counts.kept.core at locked in
+      let wrong : Live ≡ Dying u = sym alive.life ∙ chained.0 in
+      absurd cc
+  no_other t u b d x counts found apart (inr chained) (inr dies) =
+      let both : Dying u ≡ Dying t = sym chained.0 ∙ dies.0 in
+      let same : u ≡ t = cc in
+      apart same
 
--- No thread chains a row for another one.
-guarded_before : (p : Accounts) (n : ℕ) (m : Machine) (t : ℕ) (a : Actor) (d : Duty) (rest : List Duty) (u : ℕ)
-    (b : Actor) (x : ℕ) → AtDuty p n m t a d rest → u ≢ t → GuardsCells (done_by m t a d rest) u b x
-    → GuardsCells m u b x
-guarded_before p n m t a d rest u b x here apart (inl locked) = inl locked
-guarded_before p n m t a d rest u b x here apart (inr chained) =
-    let leaves = leaves_others p n m t a d rest here in
-    let dies : dies_by (m.life x) u ≡ true =
-    sym (leaves.lives u x apart) ∙ dying_is ((done_by m t a d rest).life x) u chained.0 in
-    inr (is_dying (m.life x) u dies, subst (IsDyingWord u) (leaves.gates u x apart dies) chained.1)
+module _ {p : Accounts} {n : ℕ} {m : Machine} {t : ℕ} {a : Actor} {d : Duty} {rest : List Duty} where
+  -- No thread chains a row for another one.
+  guarded_before : (u : ℕ) (b : Actor) (x : ℕ) → AtDuty p n m t a d rest → u ≢ t
+      → GuardsCells (done_by m t a d rest) u b x → GuardsCells m u b x
+  guarded_before u b x here apart (inl locked) = inl locked
+  guarded_before u b x here apart (inr chained) =
+      let leaves = leaves_others here in
+      let dies : dies_by (m.life x) u ≡ true =
+      sym (leaves.lives u x apart) ∙ dying_is ((done_by m t a d rest).life x) u chained.0 in
+      inr (is_dying (m.life x) u dies, subst (IsDyingWord u) (leaves.gates u x apart dies) chained.1)
 
--- A gate with a dying word is that of a dying row.
-dying_gate : (p : Accounts) (n : ℕ) (m : Machine) (t : ℕ) (a : Actor) (x : ℕ) → CoreInvariant p n m
-    → slice_get m.actors t ≡ Some a → IsDyingWord t (m.memory (Gate x)) → (w : ℕ) × (m.life x ≡ Dying w)
-dying_gate p n m t a x core found (next, word, low) =
-    let few = slice_get_within m.actors t a found in
-    elim (m.life x) as
-    (λ l. m.life x ≡ l → GateFits m.actors x l (m.memory (Gate x)) → (w : ℕ) × (m.life x ≡ Dying w)) [
-      | Unborn ↦ λ is fits. absurd (omega (arith, fits, word))
-      | Live ↦ λ is fits. elim fits [
-        | IsFree free ↦ absurd (omega (arith, free, word))
-        | IsLocked u b at locked gate ↦
-            absurd (omega (
-              arith,
-              gate,
-              word,
-              slice_get_within m.actors u b at,
-              core.threads,
-              core.few_threads,
-            ))
+module _ {p : Accounts} {n : ℕ} {m : Machine} where
+  -- A gate with a dying word is that of a dying row.
+  dying_gate : (t : ℕ) (a : Actor) (x : ℕ) → CoreInvariant p n m → slice_get m.actors t ≡ Some a
+      → IsDyingWord t (m.memory (Gate x)) → (w : ℕ) × (m.life x ≡ Dying w)
+  dying_gate t a x core found (next, word, low) =
+      let few = slice_get_within m.actors t a found in
+      elim (m.life x) as
+      (λ l. m.life x ≡ l → GateFits m.actors x l (m.memory (Gate x)) → (w : ℕ) × (m.life x ≡ Dying w)) [
+        | Unborn ↦ λ is fits. absurd (omega (arith, fits, word))
+        | Live ↦ λ is fits. elim fits [
+          | IsFree free ↦ absurd (omega (arith, free, word))
+          | IsLocked u b at locked gate ↦
+              absurd (omega (
+                arith,
+                gate,
+                word,
+                slice_get_within m.actors u b at,
+                core.threads,
+                core.few_threads,
+              ))
+        ]
+        | Dying w ↦ λ is fits. (w, is)
+        | Closed ↦ λ is fits. absurd (omega (arith, fits, word, low, few, core.threads, core.few_threads))
+      ] refl (core.gates x)
+
+module _ {p : Accounts} {n : ℕ} {m : Machine} {t : ℕ} {a : Actor} {d : Duty} {rest : List Duty} where
+  -- A thread chains a row by a step on the row's gate.
+  chained_before : (x : ℕ) → AtDuty p n m t a d rest → same_address (address_of m.layout t a.head d) (Gate x) ≡ false
+      → HasChained (done_by m t a d rest) t x → HasChained m t x
+  chained_before x here apart chained =
+      let word : IsDyingWord t (m.memory (Gate x)) =
+      subst (IsDyingWord t)
+      (written_apart m.memory (address_of m.layout t a.head d) (Gate x)
+      (new_word t a.head d (m.memory (address_of m.layout t a.head d))) apart) chained.1 in
+      let dying = dying_gate t a x here.core here.found word in
+      elim (eqb_tells dying.0 t) [
+        | inl same ↦ (dying.1 ∙ ap Dying same.1, word)
+        | inr other ↦
+            let still : (done_by m t a d rest).life x ≡ Dying dying.0 =
+            life_kept m (done_by m t a d rest) t dying.0 x (leaves_others here) other.1 dying.1 in
+            let both : Dying dying.0 ≡ Dying t = sym still ∙ chained.0 in
+            let threads : dying.0 ≡ t = cc in
+            absurd (other.1 threads)
       ]
-      | Dying w ↦ λ is fits. (w, is)
-      | Closed ↦ λ is fits. absurd (omega (arith, fits, word, low, few, core.threads, core.few_threads))
-    ] refl (core.gates x)
-
--- A thread chains a row by a step on the row's gate.
-chained_before : (p : Accounts) (n : ℕ) (m : Machine) (t : ℕ) (a : Actor) (d : Duty) (rest : List Duty) (x : ℕ)
-    → AtDuty p n m t a d rest → same_address (address_of m.layout t a.head d) (Gate x) ≡ false
-    → HasChained (done_by m t a d rest) t x → HasChained m t x
-chained_before p n m t a d rest x here apart chained =
-    let word : IsDyingWord t (m.memory (Gate x)) =
-    subst (IsDyingWord t)
-    (written_apart m.memory (address_of m.layout t a.head d) (Gate x)
-    (new_word t a.head d (m.memory (address_of m.layout t a.head d))) apart) chained.1 in
-    let dying = dying_gate p n m t a x here.core here.found word in
-    elim (eqb_tells dying.0 t) [
-      | inl same ↦ (dying.1 ∙ ap Dying same.1, word)
-      | inr other ↦
-          let still : (done_by m t a d rest).life x ≡ Dying dying.0 =
-          life_kept m (done_by m t a d rest) t dying.0 x (leaves_others p n m t a d rest here) other.1 dying.1 in
-          let both : Dying dying.0 ≡ Dying t = sym still ∙ chained.0 in
-          let threads : dying.0 ≡ t = cc in
-          absurd (other.1 threads)
-    ]
 
 pub cells_stay : GuardedCellsStay
 cells_stay p n m t a d rest counts next =
     let here = at_next counts next in
     record {
       others = λ u b x found apart guards.
-          let before = guarded_before p n m t a d rest u b x here apart guards in (
+          let before = guarded_before u b x here apart guards in (
             before,
             λ i. elim (eqb_tells (memory_by m t a d (Cell x i)) (m.memory (Cell x i))) [
               | inl same ↦ same.1
-              | inr other ↦
-                  absurd (no_other p n m t u b d x counts found apart before
-                  (edited_by p n m t a d rest x i here other.1))
+              | inr other ↦ absurd (no_other t u b d x counts found apart before (edited_by d x i here other.1))
             ],
           );
-      own = λ x apart chained. chained_before p n m t a d rest x here apart chained;
+      own = λ x apart chained. chained_before x here apart chained;
     }
 
 abbrev MayMove : Machine → ℕ → ℕ → Type 0
@@ -190,36 +189,35 @@ by_slot m t x y word may changed = elim (eqb_tells y x) [
   | inr other ↦ absurd (changed (ap (λ (b : Bool). cond b word (m.memory (Slot x))) other.0))
 ]
 
-moved_by : (p : Accounts) (n : ℕ) (m : Machine) (t : ℕ) (a : Actor) (d : Duty) (rest : List Duty) (x : ℕ)
-    → AtDuty p n m t a d rest → memory_by m t a d (Slot x) ≢ m.memory (Slot x) → MayMove m t x
-moved_by p n m t a (TakeSlot y) rest x here =
-    by_slot m t x y 0 (inr (inl (head_of p n m t a (TakeSlot y) rest here).1))
-moved_by p n m t a (BirthSlot y h) rest x here =
-    let next = (head_of p n m t a (BirthSlot y h) rest here).0 in
-    by_slot m t x y 1 (inr (inr (next_unborn p n m t a y here.core here.found next, next_block m t a y next)))
-moved_by p n m t a (LendSlot y) rest x here =
-    by_slot m t x y 0 (inl (a, here.found, (head_of p n m t a (LendSlot y) rest here).1))
-moved_by p n m t a (ReturnSlot y) rest x here =
-    let lent = head_of p n m t a (ReturnSlot y) rest here in
-    by_slot m t x y 1 (inl (a, here.found, (here.core.each t a here.found).0.lent y lent))
-moved_by p n m t a _ rest x here = λ changed. absurd (changed refl)
+module _ {p : Accounts} {n : ℕ} {m : Machine} {t : ℕ} {a : Actor} {rest : List Duty} where
+  moved_by : (d : Duty) (x : ℕ) → AtDuty p n m t a d rest → memory_by m t a d (Slot x) ≢ m.memory (Slot x)
+      → MayMove m t x
+  moved_by (TakeSlot y) x here = by_slot m t x y 0 (inr (inl (head_of here).1))
+  moved_by (BirthSlot y h) x here =
+      let next = (head_of here).0 in
+      by_slot m t x y 1 (inr (inr (next_unborn p n m t a y here.core here.found next, next_block m t a y next)))
+  moved_by (LendSlot y) x here = by_slot m t x y 0 (inl (a, here.found, (head_of here).1))
+  moved_by (ReturnSlot y) x here =
+      let lent = head_of here in
+      by_slot m t x y 1 (inl (a, here.found, (here.core.each t a here.found).0.lent y lent))
+  moved_by _ x here = λ changed. absurd (changed refl)
 
 pub slots_guarded : SlotsAreGuarded
 slots_guarded p n m t a d rest x counts next changed =
-    elim (moved_by p n m t a d rest x (at_next counts next) changed) [
-      | inl lock ↦ inl (gate_of p n m t x counts lock)
+    elim (moved_by d x (at_next counts next) changed) [
+      | inl lock ↦ inl (gate_of t x counts lock)
       | inr other ↦ inr other
     ]
 
 -- ---- local words
 
--- A live row's owner is the thread of its block.
-owner_block : (p : Accounts) (n : ℕ) (m : Machine) (t : ℕ) (a : Actor) (d : Duty) (rest : List Duty) (x : ℕ)
-    → AtDuty p n m t a d rest → Alive m x → OwnsLocally m t a x → t ≡ block_of m.layout x
-owner_block p n m t a d rest x here alive owns = elim (live_owner p n m x here.core alive.life) [
-  | inl nobody ↦ absurd (omega (arith, nobody, owns.owner))
-  | inr block ↦ omega (arith, block, owns.owner)
-]
+module _ {p : Accounts} {n : ℕ} {m : Machine} {t : ℕ} {a : Actor} {d : Duty} {rest : List Duty} where
+  -- A live row's owner is the thread of its block.
+  owner_block : (x : ℕ) → AtDuty p n m t a d rest → Alive m x → OwnsLocally m t a x → t ≡ block_of m.layout x
+  owner_block x here alive owns = elim (live_owner x here.core alive.life) [
+    | inl nobody ↦ absurd (omega (arith, nobody, owns.owner))
+    | inr block ↦ omega (arith, block, owns.owner)
+  ]
 
 abbrev MayCount : Machine → ℕ → ℕ → Type 0
 MayCount m t x = Runs m (block_of m.layout x) → t ≡ block_of m.layout x
@@ -232,49 +230,43 @@ by_local m t x y word may changed = elim (eqb_tells y x) [
   | inr other ↦ absurd (changed (written_apart m.memory (Local y) (Local x) word (apart_local y x other.1)))
 ]
 
--- A thread that runs has the word of a running thread.
-runs_word : (p : Accounts) (n : ℕ) (m : Machine) (t u : ℕ) (a : Actor) (d : Duty) (rest : List Duty)
-    → AtDuty p n m t a d rest → Runs m u → m.memory (ThreadWord u) ≡ 1
-runs_word p n m t u a d rest here (b, found, runs) =
-    (here.core.each u b found).0.word ∙ ap status_word runs
+module _ {p : Accounts} {n : ℕ} {m : Machine} {t : ℕ} {a : Actor} {d : Duty} {rest : List Duty} where
+  -- A thread that runs has the word of a running thread.
+  runs_word : (u : ℕ) → AtDuty p n m t a d rest → Runs m u → m.memory (ThreadWord u) ≡ 1
+  runs_word u here (b, found, runs) = (here.core.each u b found).0.word ∙ ap status_word runs
 
-counted_by : (p : Accounts) (n : ℕ) (m : Machine) (t : ℕ) (a : Actor) (d : Duty) (rest : List Duty) (x : ℕ)
-    → AtDuty p n m t a d rest → memory_by m t a d (Local x) ≢ m.memory (Local x) → MayCount m t x
-counted_by p n m t a (RetainLoad y h) rest x here changed =
-    absurd (changed (written_load m.memory (Local y) (Local x)))
-counted_by p n m t a (ReleaseLoad y h) rest x here changed =
-    absurd (changed (written_load m.memory (Local y) (Local x)))
-counted_by p n m t a (RetainStore y h w) rest x here changed =
-    let fits = head_of p n m t a (RetainStore y h w) rest here in
-    by_local m t x y (w + 1) (λ runs.
-    owner_block p n m t a (RetainStore y h w) rest y here (alive_backed p n m t a y here.core fits.0 fits.1) fits.2)
-    changed
-counted_by p n m t a (ReleaseStore y w) rest x here changed =
-    let fits = head_of p n m t a (ReleaseStore y w) rest here in
-    let alive =
-    given_alive p n m t a (ReleaseStore y w) rest InFlight y here fits.0 (eq-eqb y y refl) refl in
-    by_local m t x y (w - 1) (λ runs. owner_block p n m t a (ReleaseStore y w) rest y here alive fits.1) changed
-counted_by p n m t a (MergeSwap y Own) rest x here changed =
-    let fits = head_of p n m t a (MergeSwap y Own) rest here in
-    let one : one_if (y == y) ≡ 1 = ap one_if (eq-eqb y y refl) in
-    let alive =
-    alive_deciding p n m y here.core fits.0
-    (omega (arith, first_weighs (decides y) m.actors t a (MergeSwap y Own) rest here.found here.agenda, one)) in
-    by_local m t x y 0 (λ runs. owner_block p n m t a (MergeSwap y Own) rest y here alive fits.1) changed
-counted_by p n m t a (MergeSwap y Handed) rest x here changed =
-    by_local m t x y 0 (λ runs. elim (head_of p n m t a (MergeSwap y Handed) rest here).1 [
-      | inl mine ↦ sym mine
-      | inr stopped ↦
-          absurd (stopped (runs_word p n m t (block_of m.layout y) a (MergeSwap y Handed) rest here runs))
-    ]) changed
-counted_by p n m t a (BirthLocal y h) rest x here changed =
-    let next = (head_of p n m t a (BirthLocal y h) rest here).0 in
-    by_local m t x y (local_word t 1) (λ runs. sym (next_block m t a y next)) changed
-counted_by p n m t a _ rest x here changed = absurd (changed refl)
+module _ {p : Accounts} {n : ℕ} {m : Machine} {t : ℕ} {a : Actor} {rest : List Duty} where
+  counted_by : (d : Duty) (x : ℕ) → AtDuty p n m t a d rest → memory_by m t a d (Local x) ≢ m.memory (Local x)
+      → MayCount m t x
+  counted_by (RetainLoad y h) x here changed = absurd (changed (written_load m.memory (Local y) (Local x)))
+  counted_by (ReleaseLoad y h) x here changed = absurd (changed (written_load m.memory (Local y) (Local x)))
+  counted_by (RetainStore y h w) x here changed =
+      let fits = head_of here in
+      by_local m t x y (w + 1) (λ runs.
+      owner_block y here (alive_backed t a y here.core fits.0 fits.1) fits.2) changed
+  counted_by (ReleaseStore y w) x here changed =
+      let fits = head_of here in
+      let alive = given_alive InFlight y here fits.0 (eq-eqb y y refl) refl in
+      by_local m t x y (w - 1) (λ runs. owner_block y here alive fits.1) changed
+  counted_by (MergeSwap y Own) x here changed =
+      let fits = head_of here in
+      let one : one_if (y == y) ≡ 1 = ap one_if (eq-eqb y y refl) in
+      let alive =
+      alive_deciding y here.core fits.0
+      (omega (arith, first_weighs (decides y) m.actors t a (MergeSwap y Own) rest here.found here.agenda, one)) in
+      by_local m t x y 0 (λ runs. owner_block y here alive fits.1) changed
+  counted_by (MergeSwap y Handed) x here changed =
+      by_local m t x y 0 (λ runs. elim (head_of here).1 [
+        | inl mine ↦ sym mine
+        | inr stopped ↦ absurd (stopped (runs_word (block_of m.layout y) here runs))
+      ]) changed
+  counted_by (BirthLocal y h) x here changed =
+      let next = (head_of here).0 in
+      by_local m t x y (local_word t 1) (λ runs. sym (next_block m t a y next)) changed
+  counted_by _ x here changed = absurd (changed refl)
 
 pub owners_alone : OwnersCountAlone
-owners_alone p n m t a d rest x counts next runs changed =
-    counted_by p n m t a d rest x (at_next counts next) changed runs
+owners_alone p n m t a d rest x counts next runs changed = counted_by d x (at_next counts next) changed runs
 
 -- ---- threads that are gone
 

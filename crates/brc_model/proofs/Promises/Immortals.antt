@@ -10,14 +10,14 @@ use Rattle.brc_model.specs.declared.duty.Duty.{Duty}
 use Rattle.brc_model.specs.declared.duty.Duty.TheVariants.{RetainAdd, DecideAtZero, SharedLoad, SharedExchange, MergeLoad, MergeExchange, Die, Settle, SettleKind, SettleEnd, TakeSlot, CloseResource, BirthKind, BirthSlot, KindLoad, LockGate, UnlockGate, SettleCell, CellLoad, CellSwap, LendSlot, ReturnSlot}
 use Rattle.brc_model.specs.declared.address.Address.TheVariants.{Local, Shared, Gate, KindOf, Mark, Slot, Resource, Cell}
 use Rattle.brc_model.specs.Machine.{Actor, Life, Unborn, Live, Dying, Closed, Machine, written}
-use Rattle.brc_model.specs.StepMachine.{StepMachine, counting, next_machine}
+use Rattle.brc_model.specs.StepMachine.{StepMachine, next_machine}
 use Rattle.brc_model.specs.Progress.{StaysAt, ImmortalsStay}
 use Rattle.brc_model.specs.RowInvariant.{Numbers, InOwned, InSwapped, InMerged, RowInvariant}
 use Rattle.brc_model.specs.Accounts.{Accounts}
 use Rattle.brc_model.specs.Invariant.{AtDuty, numbers_of, CoreInvariant}
 use Rattle.brc_model.proofs.Basics.Written.{written_apart, written_load, apart_shared, apart_gate}
 use Rattle.brc_model.proofs.Frame.Leaves.{head_of}
-use Rattle.brc_model.proofs.Stepping.Neutral.{memory_by}
+use Rattle.brc_model.proofs.Stepping.FitsAfter.{memory_by}
 use Rattle.brc_model.proofs.Keeping.CodeInvariant.{CodeInvariant}
 use Rattle.brc_model.proofs.Keeping.CodeEvents.{event_keeps}
 use Rattle.brc_model.proofs.Keeping.StepCases.{ShowsSteps, at_duty, event_shows}
@@ -39,17 +39,18 @@ low_by_life owner Live n row =
 low_by_life owner (Dying t) n row = omega (arith, row.local)
 low_by_life owner Closed n row = omega (arith, row.local)
 
-pub counted_low : (p : Accounts) (n : ℕ) (m : Machine) (x : ℕ) → CoreInvariant p n m → IsCounted m.layout x
-    → local_part (m.memory (Local x)) < immortal_local
-counted_low p n m x core pos = low_by_life (block_of m.layout x) (m.life x) (numbers_of m x) (core.rows x pos)
+module _ {p : Accounts} {n : ℕ} {m : Machine} where
+  pub counted_low : (x : ℕ) → CoreInvariant p n m → IsCounted m.layout x
+      → local_part (m.memory (Local x)) < immortal_local
+  counted_low x core pos = low_by_life (block_of m.layout x) (m.life x) (numbers_of m x) (core.rows x pos)
 
-immortal_is : (p : Accounts) (n : ℕ) (m : Machine) (x : ℕ) → CoreInvariant p n m
-    → is_immortal_word (m.memory (Local x)) ≡ true → is_immortal_row m.layout x ≡ true
-immortal_is p n m x core is =
-    elim (cases_Bool (is_immortal_row m.layout x)) [
-      | inl immortal ↦ immortal
-      | inr counted ↦ absurd (omega (arith, counted_low p n m x core counted, eqb-true _ _ is))
-    ]
+  immortal_is : (x : ℕ) → CoreInvariant p n m → is_immortal_word (m.memory (Local x)) ≡ true
+      → is_immortal_row m.layout x ≡ true
+  immortal_is x core is =
+      elim (cases_Bool (is_immortal_row m.layout x)) [
+        | inl immortal ↦ immortal
+        | inr counted ↦ absurd (omega (arith, counted_low x core counted, eqb-true _ _ is))
+      ]
 
 -- ---- an immortal object's words after a duty
 
@@ -63,84 +64,72 @@ gate_apart : (m : Machine) (y x v : ℕ) → IsCounted m.layout y → is_immorta
 gate_apart m y x v counted immortal =
     written_apart m.memory (Gate y) (Gate x) v (apart_gate y x (immortal_apart m.layout y x counted immortal))
 
-immortal_shared : (p : Accounts) (n : ℕ) (m : Machine) (t : ℕ) (a : Actor) (d : Duty) (rest : List Duty) (x : ℕ)
-    → AtDuty p n m t a d rest → is_immortal_row m.layout x ≡ true → memory_by m t a d (Shared x) ≡ m.memory (Shared x)
-immortal_shared p n m t a (RetainAdd y h) rest x here immortal =
-    shared_apart m y x (m.memory (Shared y) + 4) (head_of p n m t a (RetainAdd y h) rest here).0 immortal
-immortal_shared p n m t a (DecideAtZero y) rest x here immortal = written_load m.memory (Shared y) (Shared x)
-immortal_shared p n m t a (SharedLoad y r) rest x here immortal = written_load m.memory (Shared y) (Shared x)
-immortal_shared p n m t a (SharedExchange y Own w) rest x here immortal =
-    shared_apart m y x _ (head_of p n m t a (SharedExchange y Own w) rest here) immortal
-immortal_shared p n m t a (SharedExchange y Handed w) rest x here immortal =
-    shared_apart m y x _ (head_of p n m t a (SharedExchange y Handed w) rest here).0 immortal
-immortal_shared p n m t a (MergeLoad y c r) rest x here immortal = written_load m.memory (Shared y) (Shared x)
-immortal_shared p n m t a (MergeExchange y c w r) rest x here immortal =
-    shared_apart m y x _ (head_of p n m t a (MergeExchange y c w r) rest here).0 immortal
-immortal_shared p n m t a _ rest x here immortal = refl
+module _ {p : Accounts} {n : ℕ} {m : Machine} {t : ℕ} {a : Actor} {rest : List Duty} where
+  immortal_shared : (d : Duty) (x : ℕ) → AtDuty p n m t a d rest → is_immortal_row m.layout x ≡ true
+      → memory_by m t a d (Shared x) ≡ m.memory (Shared x)
+  immortal_shared (RetainAdd y h) x here immortal =
+      shared_apart m y x (m.memory (Shared y) + 4) (head_of here).0 immortal
+  immortal_shared (DecideAtZero y) x here immortal = written_load m.memory (Shared y) (Shared x)
+  immortal_shared (SharedLoad y r) x here immortal = written_load m.memory (Shared y) (Shared x)
+  immortal_shared (SharedExchange y Own w) x here immortal = shared_apart m y x _ (head_of here) immortal
+  immortal_shared (SharedExchange y Handed w) x here immortal = shared_apart m y x _ (head_of here).0 immortal
+  immortal_shared (MergeLoad y c r) x here immortal = written_load m.memory (Shared y) (Shared x)
+  immortal_shared (MergeExchange y c w r) x here immortal = shared_apart m y x _ (head_of here).0 immortal
+  immortal_shared _ x here immortal = refl
 
-immortal_gate : (p : Accounts) (n : ℕ) (m : Machine) (t : ℕ) (a : Actor) (d : Duty) (rest : List Duty) (x : ℕ)
-    → AtDuty p n m t a d rest → is_immortal_row m.layout x ≡ true → memory_by m t a d (Gate x) ≡ m.memory (Gate x)
-immortal_gate p n m t a (Die y) rest x here immortal =
-    gate_apart m y x (dying_word t a.head) (head_of p n m t a (Die y) rest here).0 immortal
-immortal_gate p n m t a Settle rest x here immortal = written_load m.memory (Gate (a.head - 1)) (Gate x)
-immortal_gate p n m t a (SettleEnd y) rest x here immortal =
-    gate_apart m y x closed_word (head_of p n m t a (SettleEnd y) rest here).0 immortal
-immortal_gate p n m t a (LockGate y) rest x here immortal =
-    gate_apart m y x _ (head_of p n m t a (LockGate y) rest here).0 immortal
-immortal_gate p n m t a (UnlockGate y) rest x here immortal =
-    gate_apart m y x free_word (head_of p n m t a (UnlockGate y) rest here).0 immortal
-immortal_gate p n m t a _ rest x here immortal = refl
+  immortal_gate : (d : Duty) (x : ℕ) → AtDuty p n m t a d rest → is_immortal_row m.layout x ≡ true
+      → memory_by m t a d (Gate x) ≡ m.memory (Gate x)
+  immortal_gate (Die y) x here immortal = gate_apart m y x (dying_word t a.head) (head_of here).0 immortal
+  immortal_gate Settle x here immortal = written_load m.memory (Gate (a.head - 1)) (Gate x)
+  immortal_gate (SettleEnd y) x here immortal = gate_apart m y x closed_word (head_of here).0 immortal
+  immortal_gate (LockGate y) x here immortal = gate_apart m y x _ (head_of here).0 immortal
+  immortal_gate (UnlockGate y) x here immortal = gate_apart m y x free_word (head_of here).0 immortal
+  immortal_gate _ x here immortal = refl
 
-immortal_kind : (p : Accounts) (n : ℕ) (m : Machine) (t : ℕ) (a : Actor) (d : Duty) (rest : List Duty) (x : ℕ)
-    → AtDuty p n m t a d rest → is_immortal_row m.layout x ≡ true → memory_by m t a d (KindOf x) ≡ m.memory (KindOf x)
-immortal_kind p n m t a (SettleKind y) rest x here immortal = written_load m.memory (KindOf y) (KindOf x)
-immortal_kind p n m t a (KindLoad y) rest x here immortal = written_load m.memory (KindOf y) (KindOf x)
-immortal_kind p n m t a (BirthKind y h w) rest x here immortal =
-    written_apart m.memory (KindOf y) (KindOf x) w
-    (ne_eqb y x
-    (immortal_apart m.layout y x (next_counted m t a y (head_of p n m t a (BirthKind y h w) rest here).0) immortal))
-immortal_kind p n m t a _ rest x here immortal = refl
+  immortal_kind : (d : Duty) (x : ℕ) → AtDuty p n m t a d rest → is_immortal_row m.layout x ≡ true
+      → memory_by m t a d (KindOf x) ≡ m.memory (KindOf x)
+  immortal_kind (SettleKind y) x here immortal = written_load m.memory (KindOf y) (KindOf x)
+  immortal_kind (KindLoad y) x here immortal = written_load m.memory (KindOf y) (KindOf x)
+  immortal_kind (BirthKind y h w) x here immortal =
+      written_apart m.memory (KindOf y) (KindOf x) w
+      (ne_eqb y x (immortal_apart m.layout y x (next_counted m t a y (head_of here).0) immortal))
+  immortal_kind _ x here immortal = refl
 
-immortal_slot : (p : Accounts) (n : ℕ) (m : Machine) (t : ℕ) (a : Actor) (d : Duty) (rest : List Duty) (x : ℕ)
-    → AtDuty p n m t a d rest → is_immortal_row m.layout x ≡ true → memory_by m t a d (Slot x) ≡ m.memory (Slot x)
-immortal_slot p n m t a (TakeSlot y) rest x here immortal =
-    written_apart m.memory (Slot y) (Slot x) 0
-    (ne_eqb y x (immortal_apart m.layout y x (head_of p n m t a (TakeSlot y) rest here).0 immortal))
-immortal_slot p n m t a (BirthSlot y h) rest x here immortal =
-    written_apart m.memory (Slot y) (Slot x) 1
-    (ne_eqb y x
-    (immortal_apart m.layout y x (next_counted m t a y (head_of p n m t a (BirthSlot y h) rest here).0) immortal))
-immortal_slot p n m t a (LendSlot y) rest x here immortal =
-    written_apart m.memory (Slot y) (Slot x) 0
-    (ne_eqb y x (immortal_apart m.layout y x (head_of p n m t a (LendSlot y) rest here).0 immortal))
-immortal_slot p n m t a (ReturnSlot y) rest x here immortal =
-    let lent = head_of p n m t a (ReturnSlot y) rest here in
-    let fits = (here.core.each t a here.found).0 in
-    written_apart m.memory (Slot y) (Slot x) 1
-    (ne_eqb y x (immortal_apart m.layout y x (fits.locks y (fits.lent y lent)).counted immortal))
-immortal_slot p n m t a _ rest x here immortal = refl
+  immortal_slot : (d : Duty) (x : ℕ) → AtDuty p n m t a d rest → is_immortal_row m.layout x ≡ true
+      → memory_by m t a d (Slot x) ≡ m.memory (Slot x)
+  immortal_slot (TakeSlot y) x here immortal =
+      written_apart m.memory (Slot y) (Slot x) 0 (ne_eqb y x (immortal_apart m.layout y x (head_of here).0 immortal))
+  immortal_slot (BirthSlot y h) x here immortal =
+      written_apart m.memory (Slot y) (Slot x) 1
+      (ne_eqb y x (immortal_apart m.layout y x (next_counted m t a y (head_of here).0) immortal))
+  immortal_slot (LendSlot y) x here immortal =
+      written_apart m.memory (Slot y) (Slot x) 0 (ne_eqb y x (immortal_apart m.layout y x (head_of here).0 immortal))
+  immortal_slot (ReturnSlot y) x here immortal =
+      let lent = head_of here in
+      let fits = (here.core.each t a here.found).0 in
+      written_apart m.memory (Slot y) (Slot x) 1
+      (ne_eqb y x (immortal_apart m.layout y x (fits.locks y (fits.lent y lent)).counted immortal))
+  immortal_slot _ x here immortal = refl
 
-immortal_resource : (p : Accounts) (n : ℕ) (m : Machine) (t : ℕ) (a : Actor) (d : Duty) (rest : List Duty) (x : ℕ)
-    → AtDuty p n m t a d rest → is_immortal_row m.layout x ≡ true
-    → memory_by m t a d (Resource x) ≡ m.memory (Resource x)
-immortal_resource p n m t a (CloseResource y) rest x here immortal =
-    written_apart m.memory (Resource y) (Resource x) _
-    (ne_eqb y x (immortal_apart m.layout y x (head_of p n m t a (CloseResource y) rest here).0 immortal))
-immortal_resource p n m t a _ rest x here immortal = refl
+  immortal_resource : (d : Duty) (x : ℕ) → AtDuty p n m t a d rest → is_immortal_row m.layout x ≡ true
+      → memory_by m t a d (Resource x) ≡ m.memory (Resource x)
+  immortal_resource (CloseResource y) x here immortal =
+      written_apart m.memory (Resource y) (Resource x) _
+      (ne_eqb y x (immortal_apart m.layout y x (head_of here).0 immortal))
+  immortal_resource _ x here immortal = refl
 
-immortal_cell : (p : Accounts) (n : ℕ) (m : Machine) (t : ℕ) (a : Actor) (d : Duty) (rest : List Duty) (x i : ℕ)
-    → AtDuty p n m t a d rest → is_immortal_row m.layout x ≡ true → memory_by m t a d (Cell x i) ≡ m.memory (Cell x i)
-immortal_cell p n m t a (SettleCell y j k) rest x i here immortal =
-    written_apart m.memory (Cell y j) (Cell x i) 0
-    (ap (λ (b : Bool). b && (j == i)) (ne_eqb y x
-    (immortal_apart m.layout y x (head_of p n m t a (SettleCell y j k) rest here).0 immortal)))
-immortal_cell p n m t a (CellLoad y j) rest x i here immortal = written_load m.memory (Cell y j) (Cell x i)
-immortal_cell p n m t a (CellSwap y j z h) rest x i here immortal =
-    let locked = (head_of p n m t a (CellSwap y j z h) rest here).0 in
-    let counted = ((here.core.each t a here.found).0.locks y locked).counted in
-    written_apart m.memory (Cell y j) (Cell x i) (z + 1)
-    (ap (λ (b : Bool). b && (j == i)) (ne_eqb y x (immortal_apart m.layout y x counted immortal)))
-immortal_cell p n m t a _ rest x i here immortal = refl
+  immortal_cell : (d : Duty) (x i : ℕ) → AtDuty p n m t a d rest → is_immortal_row m.layout x ≡ true
+      → memory_by m t a d (Cell x i) ≡ m.memory (Cell x i)
+  immortal_cell (SettleCell y j k) x i here immortal =
+      written_apart m.memory (Cell y j) (Cell x i) 0
+      (ap (λ (b : Bool). b && (j == i)) (ne_eqb y x (immortal_apart m.layout y x (head_of here).0 immortal)))
+  immortal_cell (CellLoad y j) x i here immortal = written_load m.memory (Cell y j) (Cell x i)
+  immortal_cell (CellSwap y j z h) x i here immortal =
+      let locked = (head_of here).0 in
+      let counted = ((here.core.each t a here.found).0.locks y locked).counted in
+      written_apart m.memory (Cell y j) (Cell x i) (z + 1)
+      (ap (λ (b : Bool). b && (j == i)) (ne_eqb y x (immortal_apart m.layout y x counted immortal)))
+  immortal_cell _ x i here immortal = refl
 
 -- ---- each event
 
@@ -194,23 +183,23 @@ immortals_shown n = record {
       };
   does = λ p t m a d rest doing x immortal. record {
     layout = refl;
-    local = immortal_word_left p n m t a d rest x (at_duty doing) immortal;
-    shared = immortal_shared p n m t a d rest x (at_duty doing) immortal;
-    gate = immortal_gate p n m t a d rest x (at_duty doing) immortal;
-    kind = immortal_kind p n m t a d rest x (at_duty doing) immortal;
-    slot = immortal_slot p n m t a d rest x (at_duty doing) immortal;
-    resource = immortal_resource p n m t a d rest x (at_duty doing) immortal;
-    cells = λ i. immortal_cell p n m t a d rest x i (at_duty doing) immortal;
+    local = immortal_word_left d x (at_duty doing) immortal;
+    shared = immortal_shared d x (at_duty doing) immortal;
+    gate = immortal_gate d x (at_duty doing) immortal;
+    kind = immortal_kind d x (at_duty doing) immortal;
+    slot = immortal_slot d x (at_duty doing) immortal;
+    resource = immortal_resource d x (at_duty doing) immortal;
+    cells = λ i. immortal_cell d x i (at_duty doing) immortal;
   };
 }
 
--- An immortal object's mark is never set.
-immortal_mark : (p : Accounts) (n : ℕ) (m : Machine) (x : ℕ) → CoreInvariant p n m → is_immortal_row m.layout x ≡ true
-    → m.memory (Mark x) ≡ 0
-immortal_mark p n m x core immortal = elim (core.marks x) [
-  | inl none ↦ none
-  | inr set ↦ absurd (immortal_apart m.layout x x set.1 immortal refl)
-]
+module _ {p : Accounts} {n : ℕ} {m : Machine} where
+  -- An immortal object's mark is never set.
+  immortal_mark : (x : ℕ) → CoreInvariant p n m → is_immortal_row m.layout x ≡ true → m.memory (Mark x) ≡ 0
+  immortal_mark x core immortal = elim (core.marks x) [
+    | inl none ↦ none
+    | inr set ↦ absurd (immortal_apart m.layout x x set.1 immortal refl)
+  ]
 
 immortal_stays : (p : Module) (n : ℕ) (m : StepMachine) (event : ℕ × Choice) (x : ℕ) → CodeInvariant p n m
     → is_immortal_row m.layout x ≡ true
@@ -227,12 +216,10 @@ immortal_stays p n m event x whole immortal =
       kind = words.kind;
       slot = words.slot;
       resource = words.resource;
-      mark = immortal_mark new.accounts n (counting (next_machine m event)) x new.kept.core still
-          ∙ sym (immortal_mark whole.accounts n (counting m) x whole.kept.core immortal);
+      mark = immortal_mark x new.kept.core still ∙ sym (immortal_mark x whole.kept.core immortal);
       cells = words.cells;
     }
 
 pub immortals_stay : (p : Module) (n : ℕ) (m : StepMachine) (event : ℕ × Choice) → CodeInvariant p n m
     → ImmortalsStay m event
-immortals_stay p n m event whole =
-    λ x is. immortal_stays p n m event x whole (immortal_is whole.accounts n (counting m) x whole.kept.core is)
+immortals_stay p n m event whole = λ x is. immortal_stays p n m event x whole (immortal_is x whole.kept.core is)

@@ -12,7 +12,7 @@ use Rattle.brc_model.specs.declared.address.Address.TheVariants.{Mark, ThreadWor
 use Rattle.brc_model.specs.declared.actor.Status.{Status}
 use Rattle.brc_model.specs.declared.actor.Status.TheVariants.{Running, Leaving, Gone}
 use Rattle.brc_model.specs.Machine.{Actor, Machine}
-use Rattle.brc_model.specs.StepMachine.{StepMachine, counting, first_machine}
+use Rattle.brc_model.specs.StepMachine.{StepMachine, first_machine}
 use Rattle.brc_model.specs.Progress.{Always}
 use Rattle.brc_model.specs.Watched.{looks_at, scans_over, IsWatched, ByRunning, ByExit, ByLook, MarksWatched}
 use Rattle.brc_model.specs.References.{one_if}
@@ -38,13 +38,14 @@ status_runs Running e = refl
 status_runs Leaving e = absurd (omega (arith, e))
 status_runs Gone e = absurd (omega (arith, e))
 
--- A marked row was born, so the thread of its block exists.
-by_running : (p : Accounts) (n : ℕ) (m : Machine) (x : ℕ) → CoreInvariant p n m → m.memory (Mark x) ≡ 1
-    → m.memory (ThreadWord (block_of m.layout x)) ≡ 1 → IsWatched m x
-by_running p n m x core marked word =
-    let used = born_used p n m x core (marked_born p n m x core marked) in
-    let fits = (core.each (block_of m.layout x) used.by used.found).0 in
-    ByRunning (used.by, used.found, status_runs used.by.status (sym fits.word ∙ word))
+module _ {p : Accounts} {n : ℕ} {m : Machine} where
+  -- A marked row was born, so the thread of its block exists.
+  by_running : (x : ℕ) → CoreInvariant p n m → m.memory (Mark x) ≡ 1 → m.memory (ThreadWord (block_of m.layout x)) ≡ 1
+      → IsWatched m x
+  by_running x core marked word =
+      let used = born_used x core (marked_born x core marked) in
+      let fits = (core.each (block_of m.layout x) used.by used.found).0 in
+      ByRunning (used.by, used.found, status_runs used.by.status (sym fits.word ∙ word))
 
 -- ---- by an exit
 
@@ -93,14 +94,15 @@ exit_scans a Gone x fits low e = let none : false ≡ true = ap (scans x) (sym f
 exit_scans a Running x fits low e = agenda_scans a.used Running x a.agenda fits low e
 exit_scans a Leaving x fits low e = agenda_scans a.used Leaving x a.agenda fits low e
 
-by_exit : (p : Accounts) (n : ℕ) (m : Machine) (x : ℕ) (a : Actor) → CoreInvariant p n m → m.memory (Mark x) ≡ 1
-    → slice_get m.actors (block_of m.layout x) ≡ Some a
-    → scans (index_of m.layout (block_of m.layout x) x) a.agenda ≡ true → IsWatched m x
-by_exit p n m x a core marked found e =
-    let t = block_of m.layout x in
-    let within = marked_within p n m t a x core found marked refl in
-    let shown = exit_scans a a.status (index_of m.layout t x) (core.each t a found).1 within e in
-    ByExit a found shown.0 shown.1
+module _ {p : Accounts} {n : ℕ} {m : Machine} where
+  by_exit : (x : ℕ) (a : Actor) → CoreInvariant p n m → m.memory (Mark x) ≡ 1
+      → slice_get m.actors (block_of m.layout x) ≡ Some a
+      → scans (index_of m.layout (block_of m.layout x) x) a.agenda ≡ true → IsWatched m x
+  by_exit x a core marked found e =
+      let t = block_of m.layout x in
+      let within = marked_within t a x core found marked refl in
+      let shown = exit_scans a a.status (index_of m.layout t x) (core.each t a found).1 within e in
+      ByExit a found shown.0 shown.1
 
 -- ---- by a look
 
@@ -116,23 +118,22 @@ by_look m x weighs =
 
 -- ---- all marks
 
-watched_so : (p : Accounts) (n : ℕ) (m : Machine) (x : ℕ) → CoreInvariant p n m → m.memory (Mark x) ≡ 1
-    → core.IsWatched m x → IsWatched m x
-watched_so p n m x kept marked (core.ByRunning word) = by_running p n m x kept marked word
-watched_so p n m x kept marked (core.ByExit a found e) = by_exit p n m x a kept marked found e
-watched_so p n m x kept marked (core.ByLook weighs) = by_look m x weighs
+module _ {p : Accounts} {n : ℕ} {m : Machine} where
+  watched_so : (x : ℕ) → CoreInvariant p n m → m.memory (Mark x) ≡ 1 → core.IsWatched m x → IsWatched m x
+  watched_so x kept marked (core.ByRunning word) = by_running x kept marked word
+  watched_so x kept marked (core.ByExit a found e) = by_exit x a kept marked found e
+  watched_so x kept marked (core.ByLook weighs) = by_look m x weighs
 
--- A mark that is set is watched, whatever code the threads run.
-pub mark_watched : (p : Accounts) (n : ℕ) (m : Machine) (x : ℕ) → CoreInvariant p n m → m.memory (Mark x) ≢ 0
-    → IsWatched m x
-mark_watched p n m x kept set =
-    elim (kept.marks x) [
-      | inl none ↦ absurd (set none)
-      | inr marked ↦ watched_so p n m x kept marked.0 marked.2
-    ]
+  -- A mark that is set is watched, whatever code the threads run.
+  pub mark_watched : (x : ℕ) → CoreInvariant p n m → m.memory (Mark x) ≢ 0 → IsWatched m x
+  mark_watched x kept set =
+      elim (kept.marks x) [
+        | inl none ↦ absurd (set none)
+        | inr marked ↦ watched_so x kept marked.0 marked.2
+      ]
 
 all_watched : (p : Module) (n : ℕ) (m : StepMachine) → CodeInvariant p n m → MarksWatched m
-all_watched p n m whole = λ x set. mark_watched whole.accounts n (counting m) x whole.kept.core set
+all_watched p n m whole = λ x set. mark_watched x whole.kept.core set
 
 pub marks_watched : (p : Module) → IsModule p → IsAcceptable p → Always MarksWatched p
 marks_watched p fits accepted = λ states rows calls events states_true some most are_calls.

@@ -15,7 +15,7 @@ use Rattle.brc_model.specs.Progress.{Runs, OnlyOwnersCount, OwnersStay}
 use Rattle.brc_model.proofs.Basics.Lists.{some_is, slice_get-set_same, slice_get-set_other}
 use Rattle.brc_model.proofs.Basics.Written.{written_here, written_apart, written_load, apart_local}
 use Rattle.brc_model.proofs.Frame.Leaves.{head_of, locals_left}
-use Rattle.brc_model.proofs.Stepping.Neutral.{memory_by}
+use Rattle.brc_model.proofs.Stepping.FitsAfter.{memory_by}
 use Rattle.brc_model.proofs.Keeping.Sits.{sitting}
 use Rattle.brc_model.proofs.Keeping.CodeInvariant.{CodeInvariant}
 use Rattle.brc_model.proofs.Keeping.StepCases.{ShowsSteps, at_duty, event_shows}
@@ -45,29 +45,29 @@ runs_still m t u a agenda found runs =
       | inr apart ↦ (runs.0, slice_get-set_other m.actors t u now apart.1 ∙ runs.1, runs.2)
     ]
 
-local_left : (p : Accounts) (n : ℕ) (m : Machine) (t : ℕ) (a : Actor) (d : Duty) (rest : List Duty) (x owner : ℕ)
-    → AtDuty p n m t a d rest → owner ≢ t
-    → owner_part (m.memory (Local x)) ≡ owner + 1 → Runs m owner → memory_by m t a d (Local x) ≡ m.memory (Local x)
-local_left p n m t a d rest x owner here ne owns runs =
-    elim (cases_Bool (is_immortal_row m.layout x)) [
-      | inl immortal ↦ immortal_word_left p n m t a d rest x here immortal
-      | inr counted ↦
-          locals_left p n m t a d rest here owner x runs.0 ne runs.1
-          (record { running = runs.2; owner = owns; low = counted_low p n m x here.core counted })
-    ]
+module _ {p : Accounts} {n : ℕ} {m : Machine} {t : ℕ} {a : Actor} {d : Duty} {rest : List Duty} where
+  local_left : (x owner : ℕ) → AtDuty p n m t a d rest → owner ≢ t → owner_part (m.memory (Local x)) ≡ owner + 1
+      → Runs m owner → memory_by m t a d (Local x) ≡ m.memory (Local x)
+  local_left x owner here ne owns runs =
+      elim (cases_Bool (is_immortal_row m.layout x)) [
+        | inl immortal ↦ immortal_word_left d x here immortal
+        | inr counted ↦
+            locals_left d here owner x runs.0 ne runs.1
+            (record { running = runs.2; owner = owns; low = counted_low x here.core counted })
+      ]
 
 abbrev CountsSo : ℕ → Machine → Machine → Type 0
 CountsSo t m new =
     (x owner : ℕ) → owner_part (m.memory (Local x)) ≡ owner + 1 → Runs m owner → new.memory (Local x)
     ≢ m.memory (Local x) → t ≡ owner
 
-counts_at_duty : (p : Accounts) (n : ℕ) (m : Machine) (t : ℕ) (a : Actor) (d : Duty) (rest : List Duty)
-    → AtDuty p n m t a d rest → CountsSo t m (done_by m t a d rest)
-counts_at_duty p n m t a d rest here = λ x owner owns runs changed.
-    elim (eqb_tells t owner) [
-      | inl same ↦ same.1
-      | inr apart ↦ absurd (changed (local_left p n m t a d rest x owner here (λ e. apart.1 (sym e)) owns runs))
-    ]
+module _ {p : Accounts} {n : ℕ} {m : Machine} {t : ℕ} {a : Actor} {d : Duty} {rest : List Duty} where
+  counts_at_duty : AtDuty p n m t a d rest → CountsSo t m (done_by m t a d rest)
+  counts_at_duty here = λ x owner owns runs changed.
+      elim (eqb_tells t owner) [
+        | inl same ↦ same.1
+        | inr apart ↦ absurd (changed (local_left x owner here (λ e. apart.1 (sym e)) owns runs))
+      ]
 
 counts_shown : (n : ℕ) → ShowsSteps CountsSo n
 counts_shown n = record {
@@ -76,7 +76,7 @@ counts_shown n = record {
       λ t m new a agenda found shown x owner owns runs changed. shown x owner owns
       (runs_still m t owner a agenda found runs) changed;
   moves = λ p t m a moves kept found silent x owner owns runs changed. absurd (changed refl);
-  does = λ p t m a d rest doing. counts_at_duty p n m t a d rest (at_duty doing);
+  does = λ p t m a d rest doing. counts_at_duty (at_duty doing);
 }
 
 pub only_owners_count : (p : Module) (n : ℕ) (m : StepMachine) (event : ℕ × Choice) → CodeInvariant p n m
@@ -99,25 +99,23 @@ owned_at m y v x here =
       | inr other ↦ inl (ap owner_part (written_apart m.memory (Local y) (Local x) v (apart_local y x other.1)))
     ]
 
-owned_after : (p : Accounts) (n : ℕ) (m : Machine) (t : ℕ) (a : Actor) (d : Duty) (rest : List Duty) (x : ℕ)
-    → AtDuty p n m t a d rest → m.life x ≢ Unborn → OwnedSo (memory_by m t a d (Local x)) (m.memory (Local x))
-owned_after p n m t a (RetainLoad y h) rest x here born =
-    inl (ap owner_part (written_load m.memory (Local y) (Local x)))
-owned_after p n m t a (ReleaseLoad y h) rest x here born =
-    inl (ap owner_part (written_load m.memory (Local y) (Local x)))
-owned_after p n m t a (RetainStore y h w) rest x here born =
-    let fits = head_of p n m t a (RetainStore y h w) rest here in
-    owned_at m y (w + 1) x (inl (omega (arith, fits.3, fits.5)))
-owned_after p n m t a (ReleaseStore y w) rest x here born =
-    let fits = head_of p n m t a (ReleaseStore y w) rest here in
-    owned_at m y (w - 1) x (inl (omega (arith, fits.2, fits.3)))
-owned_after p n m t a (BirthLocal y h) rest x here born =
-    let apart : y ≡ x
-    → ⊥ = λ e. born (ap m.life (sym e)
-    ∙ next_unborn p n m t a y here.core here.found (head_of p n m t a (BirthLocal y h) rest here).0) in
-    inl (ap owner_part (written_apart m.memory (Local y) (Local x) (local_word t 1) (apart_local y x apart)))
-owned_after p n m t a (MergeSwap y r) rest x here born = owned_at m y 0 x (inr refl)
-owned_after p n m t a _ rest x here born = inl refl
+module _ {p : Accounts} {n : ℕ} {m : Machine} {t : ℕ} {a : Actor} {rest : List Duty} where
+  owned_after : (d : Duty) (x : ℕ) → AtDuty p n m t a d rest → m.life x ≢ Unborn
+      → OwnedSo (memory_by m t a d (Local x)) (m.memory (Local x))
+  owned_after (RetainLoad y h) x here born = inl (ap owner_part (written_load m.memory (Local y) (Local x)))
+  owned_after (ReleaseLoad y h) x here born = inl (ap owner_part (written_load m.memory (Local y) (Local x)))
+  owned_after (RetainStore y h w) x here born =
+      let fits = head_of here in
+      owned_at m y (w + 1) x (inl (omega (arith, fits.3, fits.5)))
+  owned_after (ReleaseStore y w) x here born =
+      let fits = head_of here in
+      owned_at m y (w - 1) x (inl (omega (arith, fits.2, fits.3)))
+  owned_after (BirthLocal y h) x here born =
+      let apart : y ≡ x → ⊥ =
+      λ e. born (ap m.life (sym e) ∙ next_unborn p n m t a y here.core here.found (head_of here).0) in
+      inl (ap owner_part (written_apart m.memory (Local y) (Local x) (local_word t 1) (apart_local y x apart)))
+  owned_after (MergeSwap y r) x here born = owned_at m y 0 x (inr refl)
+  owned_after _ x here born = inl refl
 
 owners_shown : (n : ℕ)
     → ShowsSteps (λ t m new. (x : ℕ) → m.life x ≢ Unborn → OwnedSo (new.memory (Local x)) (m.memory (Local x))) n
@@ -125,7 +123,7 @@ owners_shown n = record {
   stays = λ p t m kept x born. inl refl;
   sits = λ t m new a agenda found shown. shown;
   moves = λ p t m a moves kept found silent x born. inl refl;
-  does = λ p t m a d rest doing x born. owned_after p n m t a d rest x (at_duty doing) born;
+  does = λ p t m a d rest doing x born. owned_after d x (at_duty doing) born;
 }
 
 pub owners_stay : (p : Module) (n : ℕ) (m : StepMachine) (event : ℕ × Choice) → CodeInvariant p n m → OwnersStay m event

@@ -1,6 +1,6 @@
 -- The rules are exactly the steps: each step is the conclusion of some rule, and each rule concludes what a step
 -- computes.
-use Rattle.std.proofs.Common.{◌≡◌, ◌≢◌, ℕ, suc, ◌-◌, ◌<◌, ◌≤◌, Bool, true, false, List, [], ◌⊎◌, inl, inr, refl, sym, subst, arith}
+use Rattle.std.proofs.Common.{◌≡◌, ◌≢◌, ℕ, suc, ◌-◌, ◌<◌, ◌≤◌, Bool, true, false, List, [], inl, inr, refl, sym, subst, arith}
 use Rattle.std.specs.Prelude.{◌==◌, nat_lt}
 use Rattle.std.proofs.lemmas.Bool.Decides.{eqb_tells, leb_tells}
 use Rattle.std.proofs.lemmas.List.{append-nil}
@@ -72,23 +72,10 @@ module _ (memory : Address → ℕ) (layout : Layout) (t : ℕ) (running : Bool)
       record { left_is = refl; next_is = rw is refl; moves_are = refl }
   computed d found left next moves (rules.KindOfOther x h word f is) =
       record { left_is = refl; next_is = rw is refl; moves_are = refl }
-  computed d found left next moves (rules.SlotFilled x h f) =
-      record { left_is = refl; next_is = refl; moves_are = refl }
-  computed d found left next moves (rules.Born x h f) = record { left_is = refl; next_is = refl; moves_are = refl }
-  computed d found left next moves (rules.KindRead x f) = record { left_is = refl; next_is = refl; moves_are = refl }
   computed d found left next moves (rules.Locks x f free) =
       record { left_is = rw free refl; next_is = refl; moves_are = refl }
   computed d found left next moves (rules.LockHeld x f held) =
       record { left_is = rw (other_test f free_word held) refl; next_is = refl; moves_are = refl }
-  computed d found left next moves (rules.Unlocks x f) = record { left_is = refl; next_is = refl; moves_are = refl }
-  computed d found left next moves (rules.ResourceLent x f) =
-      record { left_is = refl; next_is = refl; moves_are = refl }
-  computed d found left next moves (rules.ResourceReturned x f) =
-      record { left_is = refl; next_is = refl; moves_are = refl }
-  computed d found left next moves (rules.CellRead x cell f) =
-      record { left_is = refl; next_is = refl; moves_are = refl }
-  computed d found left next moves (rules.ItemStored x cell item h f) =
-      record { left_is = refl; next_is = refl; moves_are = refl }
   computed d found left next moves (rules.RetainsImmortal x h f is) =
       record { left_is = refl; next_is = rw is refl; moves_are = rw is refl }
   computed d found left next moves (rules.OwnerRetains x h f mortal counts low) =
@@ -99,10 +86,6 @@ module _ (memory : Address → ℕ) (layout : Layout) (t : ℕ) (running : Bool)
       record { left_is = refl; next_is = rw (mortal, counts, more) refl; moves_are = rw mortal refl }
   computed d found left next moves (rules.OtherRetains x h f mortal counts) =
       record { left_is = refl; next_is = rw (mortal, counts) refl; moves_are = rw mortal refl }
-  computed d found left next moves (rules.LocalRaised x h word f) =
-      record { left_is = refl; next_is = refl; moves_are = refl }
-  computed d found left next moves (rules.SharedRaised x h f) =
-      record { left_is = refl; next_is = refl; moves_are = refl }
   computed d found left next moves (rules.ReleasesImmortal x h f is) =
       record { left_is = refl; next_is = rw is refl; moves_are = rw is refl }
   computed d found left next moves (rules.OwnerReleases x h f mortal counts) =
@@ -119,8 +102,6 @@ module _ (memory : Address → ℕ) (layout : Layout) (t : ℕ) (running : Bool)
       record { left_is = refl; next_is = rw (same_test f fresh_word fresh) refl; moves_are = refl }
   computed d found left next moves (rules.WasShared x f other) =
       record { left_is = refl; next_is = rw (other_test f fresh_word other) refl; moves_are = refl }
-  computed d found left next moves (rules.SharedRead x reason f) =
-      record { left_is = refl; next_is = refl; moves_are = refl }
   computed d found left next moves (rules.Queues x reason word fresh) =
       let won = itself word in let first = same_test word fresh_word fresh in
       let moves_are = exchanged_moves x reason word in
@@ -140,7 +121,6 @@ module _ (memory : Address → ℕ) (layout : Layout) (t : ℕ) (running : Bool)
   computed d found left next moves (rules.ExchangeLost x reason word f lost) =
       let missed = other_test f word lost in
       record { left_is = rw missed refl; next_is = rw missed refl; moves_are = lost_moves x reason word f lost }
-  computed d found left next moves (rules.Marked x f) = record { left_is = refl; next_is = refl; moves_are = refl }
   computed d found left next moves (rules.OwnerRuns x f runs) =
       record { left_is = refl; next_is = rw (same_test f 1 runs) refl; moves_are = refl }
   computed d found left next moves (rules.OwnerExits x f exits) =
@@ -157,8 +137,6 @@ module _ (memory : Address → ℕ) (layout : Layout) (t : ℕ) (running : Bool)
       record { left_is = refl; next_is = rw (same_test f 0 nobody) refl; moves_are = refl }
   computed d found left next moves (rules.LocalTakenOut x reason f owned) =
       record { left_is = refl; next_is = rw (other_test f 0 owned) refl; moves_are = refl }
-  computed d found left next moves (rules.MergeRead x carried reason f) =
-      record { left_is = refl; next_is = refl; moves_are = refl }
   computed d found left next moves (rules.Merges x carried word alive) =
       let won = itself word in let lives = other_test (merged_word word carried) dead_word alive in
       record { left_is = rw won refl; next_is = rw (won, lives) refl; moves_are = refl }
@@ -170,26 +148,16 @@ module _ (memory : Address → ℕ) (layout : Layout) (t : ℕ) (running : Bool)
   computed d found left next moves (rules.MergeLost x carried word reason f lost) =
       let missed = other_test f word lost in
       record { left_is = rw missed refl; next_is = rw missed refl; moves_are = refl }
-  computed d found left next moves (rules.Chained x f) = record { left_is = refl; next_is = refl; moves_are = refl }
-  computed d found left next moves (rules.ChainRead f) = record { left_is = refl; next_is = refl; moves_are = refl }
   computed d found left next moves (rules.DyingResource x f is) =
       record { left_is = refl; next_is = rw is refl; moves_are = refl }
   computed d found left next moves (rules.DyingCells x f is) =
       record { left_is = refl; next_is = rw is refl; moves_are = refl }
-  computed d found left next moves (rules.CellEmptied x cell cells f) =
-      record { left_is = refl; next_is = refl; moves_are = refl }
-  computed d found left next moves (rules.SlotEmptied x f) =
-      record { left_is = refl; next_is = refl; moves_are = refl }
-  computed d found left next moves (rules.ResourceClosed x f) =
-      record { left_is = refl; next_is = refl; moves_are = refl }
-  computed d found left next moves (rules.Closes x f) = record { left_is = refl; next_is = refl; moves_are = refl }
-  computed d found left next moves (rules.SaysLeaving first rows f) =
-      record { left_is = refl; next_is = refl; moves_are = refl }
   computed d found left next moves (rules.ScanFindsMark index rows f set) =
       record { left_is = refl; next_is = rw (same_test f 1 set) refl; moves_are = refl }
   computed d found left next moves (rules.ScanFindsNone index rows f none) =
       record { left_is = refl; next_is = rw (other_test f 1 none) refl; moves_are = refl }
-  computed d found left next moves (rules.SaysGone f) = record { left_is = refl; next_is = refl; moves_are = refl }
+  -- the other rules have no condition
+  computed d found left next moves _ = record { left_is = refl; next_is = refl; moves_are = refl }
 
   -- ---- each step goes by a rule
 
@@ -199,149 +167,116 @@ module _ (memory : Address → ℕ) (layout : Layout) (t : ℕ) (running : Bool)
       By d found (new_word t head d found) (continuation layout t running head d found)
       (reference_effects memory t d found)
 
-  applies : (d : Duty) (found left : ℕ) (next : List Duty) (moves : List Move) → By d found left next moves
+  applies : {d : Duty} {found left : ℕ} {next : List Duty} {moves : List Move} → By d found left next moves
       → GoesByRule d found
-  applies d found left next moves rule =
+  applies {d = d} {found = found} {left = left} {next = next} {moves = moves} rule =
       let c = computed d found left next moves rule in
       let word = subst (λ w. By d found w next moves) c.left_is rule in
       let duties = subst (λ ds. By d found (new_word t head d found) ds moves) c.next_is word in
       subst (By d found (new_word t head d found) (continuation layout t running head d found)) c.moves_are duties
 
-  -- A Boolean is true or false.
-  told : (b : Bool) → (b ≡ true) ⊎ (b ≡ false)
-  told true = inl refl
-  told false = inr refl
+  -- One rule applies where the numbers are the same, the other where they differ.
+  by_same : {d : Duty} {found : ℕ} (a b : ℕ) → (a ≡ b → GoesByRule d found) → (a ≢ b → GoesByRule d found)
+      → GoesByRule d found
+  by_same a b if_same if_other = elim (eqb_tells a b) [ inl same ↦ if_same same.1 | inr other ↦ if_other other.1 ]
+
+  -- One rule applies where the test holds, the other where it doesn't.
+  by_whether : {d : Duty} {found : ℕ} (b : Bool) → (b ≡ true → GoesByRule d found) → (b ≡ false → GoesByRule d found)
+      → GoesByRule d found
+  by_whether true holds fails = holds refl
+  by_whether false holds fails = fails refl
 
   owner_by : (x : ℕ) (h : Holding) (found : ℕ) → is_immortal_word found ≡ false → counts_locally t running found ≡ true
       → GoesByRule (RetainLoad x h) found
   owner_by x h found mortal counts =
       elim (leb_tells (suc (local_part found)) most_local) [
-        | inl low ↦ applies _ _ _ _ _ (rules.OwnerRetains x h found mortal counts (omega (arith, low.1)))
-        | inr full ↦ applies _ _ _ _ _ (rules.FullOwnerRetains x h found mortal counts (omega (arith, full.1)))
+        | inl low ↦ applies (rules.OwnerRetains x h found mortal counts (omega (arith, low.1)))
+        | inr full ↦ applies (rules.FullOwnerRetains x h found mortal counts (omega (arith, full.1)))
       ]
 
   counted_by : (x : ℕ) (h : Holding) (found : ℕ) → is_immortal_word found ≡ false → GoesByRule (RetainLoad x h) found
   counted_by x h found mortal =
-      elim (told (counts_locally t running found)) [
-        | inl counts ↦ owner_by x h found mortal counts
-        | inr other ↦ applies _ _ _ _ _ (rules.OtherRetains x h found mortal other)
-      ]
+      by_whether (counts_locally t running found) (λ counts. owner_by x h found mortal counts)
+      (λ other. applies (rules.OtherRetains x h found mortal other))
 
   released_by : (x : ℕ) (h : Holding) (found : ℕ) → is_immortal_word found ≡ false → GoesByRule (ReleaseLoad x h) found
   released_by x h found mortal =
-      elim (told (counts_locally t running found)) [
-        | inl counts ↦ applies _ _ _ _ _ (rules.OwnerReleases x h found mortal counts)
-        | inr other ↦ applies _ _ _ _ _ (rules.OtherReleases x h found mortal other)
-      ]
+      by_whether (counts_locally t running found) (λ counts. applies (rules.OwnerReleases x h found mortal counts))
+      (λ other. applies (rules.OtherReleases x h found mortal other))
 
   exchanged_by : (x : ℕ) (reason : Reason) (word : ℕ) → GoesByRule (SharedExchange x reason word) word
   exchanged_by x reason word =
-      elim (eqb_tells word fresh_word) [
-        | inl fresh ↦ applies _ _ _ _ _ (rules.Queues x reason word fresh.1)
-        | inr other ↦ elim (eqb_tells (word - one_shared) dead_word) [
-          | inl last ↦ applies _ _ _ _ _ (rules.DecrementsToZero x reason word other.1 last.1)
-          | inr more ↦ applies _ _ _ _ _ (rules.Decrements x reason word other.1 more.1)
-        ]
-      ]
+      by_same word fresh_word (λ fresh. applies (rules.Queues x reason word fresh))
+      (λ other. by_same (word - one_shared) dead_word
+      (λ last. applies (rules.DecrementsToZero x reason word other last))
+      (λ more. applies (rules.Decrements x reason word other more)))
 
   merged_by : (x carried word : ℕ) (reason : Reason) → GoesByRule (MergeExchange x carried word reason) word
   merged_by x carried word Own =
-      elim (eqb_tells (merged_word word carried) dead_word) [
-        | inl dead ↦ applies _ _ _ _ _ (rules.MergesToZero x carried word dead.1)
-        | inr alive ↦ applies _ _ _ _ _ (rules.Merges x carried word alive.1)
-      ]
-  merged_by x carried word Handed = applies _ _ _ _ _ (rules.MergesForHanded x carried word)
+      by_same (merged_word word carried) dead_word (λ dead. applies (rules.MergesToZero x carried word dead))
+      (λ alive. applies (rules.Merges x carried word alive))
+  merged_by x carried word Handed = applies (rules.MergesForHanded x carried word)
 
   pub by_rule : (d : Duty) (found : ℕ) → GoesByRule d found
   by_rule (BirthKind x h word) found =
-      elim (told (has_resource word)) [
-        | inl has ↦ applies _ _ _ _ _ (rules.KindOfResource x h word found has)
-        | inr none ↦ applies _ _ _ _ _ (rules.KindOfOther x h word found none)
-      ]
+      by_whether (has_resource word) (λ has. applies (rules.KindOfResource x h word found has))
+      (λ none. applies (rules.KindOfOther x h word found none))
   by_rule (BirthSlot x h) found = rules.SlotFilled x h found
   by_rule (BirthLocal x h) found = rules.Born x h found
   by_rule (KindLoad x) found = rules.KindRead x found
   by_rule (LockGate x) found =
-      elim (eqb_tells found free_word) [
-        | inl free ↦ applies _ _ _ _ _ (rules.Locks x found free.1)
-        | inr held ↦ applies _ _ _ _ _ (rules.LockHeld x found held.1)
-      ]
+      by_same found free_word (λ free. applies (rules.Locks x found free))
+      (λ held. applies (rules.LockHeld x found held))
   by_rule (UnlockGate x) found = rules.Unlocks x found
   by_rule (CellLoad x cell) found = rules.CellRead x cell found
   by_rule (CellSwap x cell item h) found = rules.ItemStored x cell item h found
   by_rule (LendSlot x) found = rules.ResourceLent x found
   by_rule (ReturnSlot x) found = rules.ResourceReturned x found
   by_rule (RetainLoad x h) found =
-      elim (told (is_immortal_word found)) [
-        | inl immortal ↦ applies _ _ _ _ _ (rules.RetainsImmortal x h found immortal)
-        | inr mortal ↦ counted_by x h found mortal
-      ]
+      by_whether (is_immortal_word found) (λ immortal. applies (rules.RetainsImmortal x h found immortal))
+      (λ mortal. counted_by x h found mortal)
   by_rule (RetainStore x h word) found = rules.LocalRaised x h word found
   by_rule (RetainAdd x h) found = rules.SharedRaised x h found
   by_rule (ReleaseLoad x h) found =
-      elim (told (is_immortal_word found)) [
-        | inl immortal ↦ applies _ _ _ _ _ (rules.ReleasesImmortal x h found immortal)
-        | inr mortal ↦ released_by x h found mortal
-      ]
+      by_whether (is_immortal_word found) (λ immortal. applies (rules.ReleasesImmortal x h found immortal))
+      (λ mortal. released_by x h found mortal)
   by_rule (ReleaseStore x word) found =
-      elim (eqb_tells (local_part word) 1) [
-        | inl last ↦ applies _ _ _ _ _ (rules.LocalReachesZero x word found last.1)
-        | inr more ↦ applies _ _ _ _ _ (rules.LocalLowered x word found more.1)
-      ]
+      by_same (local_part word) 1 (λ last. applies (rules.LocalReachesZero x word found last))
+      (λ more. applies (rules.LocalLowered x word found more))
   by_rule (DecideAtZero x) found =
-      elim (eqb_tells found fresh_word) [
-        | inl fresh ↦ applies _ _ _ _ _ (rules.NothingShared x found fresh.1)
-        | inr other ↦ applies _ _ _ _ _ (rules.WasShared x found other.1)
-      ]
+      by_same found fresh_word (λ fresh. applies (rules.NothingShared x found fresh))
+      (λ other. applies (rules.WasShared x found other))
   by_rule (SharedLoad x reason) found = rules.SharedRead x reason found
   by_rule (SharedExchange x reason word) found =
-      elim (eqb_tells found word) [
-        | inl won ↦ subst (GoesByRule (SharedExchange x reason word)) (sym won.1) (exchanged_by x reason word)
-        | inr lost ↦ applies _ _ _ _ _ (rules.ExchangeLost x reason word found lost.1)
-      ]
+      by_same found word (λ won. subst (GoesByRule (SharedExchange x reason word)) (sym won)
+      (exchanged_by x reason word)) (λ lost. applies (rules.ExchangeLost x reason word found lost))
   by_rule (SetMark x) found = rules.Marked x found
   by_rule (Look x) found =
-      elim (eqb_tells found 1) [
-        | inl runs ↦ applies _ _ _ _ _ (rules.OwnerRuns x found runs.1)
-        | inr exits ↦ applies _ _ _ _ _ (rules.OwnerExits x found exits.1)
-      ]
+      by_same found 1 (λ runs. applies (rules.OwnerRuns x found runs))
+      (λ exits. applies (rules.OwnerExits x found exits))
   by_rule (TakeMark x) found =
-      elim (eqb_tells found 1) [
-        | inl set ↦ applies _ _ _ _ _ (rules.MarkTakenBack x found set.1)
-        | inr gone ↦ applies _ _ _ _ _ (rules.MarkGone x found gone.1)
-      ]
+      by_same found 1 (λ set. applies (rules.MarkTakenBack x found set)) (λ gone. applies (rules.MarkGone x found gone))
   by_rule (ClaimMark x) found =
-      elim (eqb_tells found 1) [
-        | inl set ↦ applies _ _ _ _ _ (rules.MarkClaimed x found set.1)
-        | inr none ↦ applies _ _ _ _ _ (rules.NothingToClaim x found none.1)
-      ]
+      by_same found 1 (λ set. applies (rules.MarkClaimed x found set))
+      (λ none. applies (rules.NothingToClaim x found none))
   by_rule (MergeSwap x reason) found =
-      elim (eqb_tells found 0) [
-        | inl nobody ↦ applies _ _ _ _ _ (rules.NobodysCount x reason found nobody.1)
-        | inr owned ↦ applies _ _ _ _ _ (rules.LocalTakenOut x reason found owned.1)
-      ]
+      by_same found 0 (λ nobody. applies (rules.NobodysCount x reason found nobody))
+      (λ owned. applies (rules.LocalTakenOut x reason found owned))
   by_rule (MergeLoad x carried reason) found = rules.MergeRead x carried reason found
   by_rule (MergeExchange x carried word reason) found =
-      elim (eqb_tells found word) [
-        | inl won ↦
-            subst (GoesByRule (MergeExchange x carried word reason)) (sym won.1) (merged_by x carried word reason)
-        | inr lost ↦ applies _ _ _ _ _ (rules.MergeLost x carried word reason found lost.1)
-      ]
+      by_same found word (λ won. subst (GoesByRule (MergeExchange x carried word reason)) (sym won)
+      (merged_by x carried word reason)) (λ lost. applies (rules.MergeLost x carried word reason found lost))
   by_rule (Die x) found = rules.Chained x found
   by_rule Settle found = rules.ChainRead found
   by_rule (SettleKind x) found =
-      elim (told (has_resource found)) [
-        | inl has ↦ applies _ _ _ _ _ (rules.DyingResource x found has)
-        | inr none ↦ applies _ _ _ _ _ (rules.DyingCells x found none)
-      ]
+      by_whether (has_resource found) (λ has. applies (rules.DyingResource x found has))
+      (λ none. applies (rules.DyingCells x found none))
   by_rule (SettleCell x cell cells) found = rules.CellEmptied x cell cells found
   by_rule (TakeSlot x) found = rules.SlotEmptied x found
   by_rule (CloseResource x) found = rules.ResourceClosed x found
   by_rule (SettleEnd x) found = rules.Closes x found
   by_rule (Leave first rows) found = rules.SaysLeaving first rows found
   by_rule (Scan index rows) found =
-      elim (eqb_tells found 1) [
-        | inl set ↦ applies _ _ _ _ _ (rules.ScanFindsMark index rows found set.1)
-        | inr none ↦ applies _ _ _ _ _ (rules.ScanFindsNone index rows found none.1)
-      ]
+      by_same found 1 (λ set. applies (rules.ScanFindsMark index rows found set))
+      (λ none. applies (rules.ScanFindsNone index rows found none))
   by_rule Finish found = rules.SaysGone found

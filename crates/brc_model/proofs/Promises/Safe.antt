@@ -10,7 +10,7 @@ use Rattle.brc_model.specs.declared.address.Address.TheVariants.{ThreadWord}
 use Rattle.brc_model.specs.declared.actor.Status.{Status}
 use Rattle.brc_model.specs.declared.actor.Status.TheVariants.{Running, Leaving, Gone}
 use Rattle.brc_model.specs.Machine.{Actor, Machine}
-use Rattle.brc_model.specs.StepMachine.{StepMachine, counting, first_machine}
+use Rattle.brc_model.specs.StepMachine.{StepMachine, first_machine}
 use Rattle.brc_model.specs.Safety.{AreCalls, has_gone, AllGone, IsSafeNow, Safe}
 use Rattle.brc_model.specs.Accounts.{Accounts}
 use Rattle.brc_model.specs.Invariant.{CoreInvariant}
@@ -34,23 +34,23 @@ gone_is Running e = absurd cc
 gone_is Leaving e = absurd cc
 gone_is Gone e = refl
 
--- A thread that is gone has nothing to do, and holds nothing.
-gone_ends : (p : Accounts) (n : ℕ) (m : Machine) → CoreInvariant p n m → AllGone m → AreAtEnd p m
-gone_ends p n m core done t a found =
-    let status : a.status ≡ Gone =
-    gone_is a.status (list_all_found (λ (b : Actor). has_gone b.status) m.actors t a done found) in
-    let fits : AgendaFits a Gone =
-    subst (λ (s : Status). AgendaFits a s) status (core.each t a found).1 in
-    let old = (core.each t a found).0 in
-    let left = old.exited (ap (λ (s : Status). exits s a.agenda) status) in
-    let word : m.memory (ThreadWord t) ≡ 3 = old.word ∙ ap status_word status in
-    record {
-      agenda = fits.0;
-      aside = left.1;
-      head = fits.1;
-      none = left.0;
-      stopped = inl (λ one. omega (arith, one, word));
-    }
+module _ {p : Accounts} {n : ℕ} {m : Machine} where
+  -- A thread that is gone has nothing to do, and holds nothing.
+  gone_ends : CoreInvariant p n m → AllGone m → AreAtEnd p m
+  gone_ends core done t a found =
+      let status : a.status ≡ Gone =
+      gone_is a.status (list_all_found (λ (b : Actor). has_gone b.status) m.actors t a done found) in
+      let fits : AgendaFits a Gone = subst (λ (s : Status). AgendaFits a s) status (core.each t a found).1 in
+      let old = (core.each t a found).0 in
+      let left = old.exited (ap (λ (s : Status). exits s a.agenda) status) in
+      let word : m.memory (ThreadWord t) ≡ 3 = old.word ∙ ap status_word status in
+      record {
+        agenda = fits.0;
+        aside = left.1;
+        head = fits.1;
+        none = left.0;
+        stopped = inl (λ one. omega (arith, one, word));
+      }
 
 -- ---- the promise
 
@@ -58,25 +58,23 @@ gone_ends p n m core done t a found =
 pub safe_now : (p : Module) (n : ℕ) (m : StepMachine) → CodeInvariant p n m → 0 < n → IsSafeNow m
 safe_now p n m whole some = record {
   none_bad = λ event. (event_keeps p n m event whole).0;
-  agrees = λ x pos. agrees_at whole.accounts n (counting m) x whole.kept.core pos;
+  agrees = λ x pos. agrees_at x whole.kept.core pos;
   kinds = whole.kept.core.kinds;
-  free = λ x pos alive born. is_free_of whole.accounts n (counting m) x whole.kept.core pos alive born;
+  free = λ x pos alive born. is_free_of x whole.kept.core pos alive born;
   closed_once = whole.kept.core.once;
   closed_at_end = λ done x. (
     λ closed.
-        let was = closed_born whole.accounts n (counting m) x whole.kept.core (whole.kept.core.closed_is x closed) in (
+        let was = closed_born x whole.kept.core (whole.kept.core.closed_is x closed) in (
           whole.kept.core.born_has x was.0 was.1,
-          closed_free whole.accounts n (counting m) x whole.kept.core was.0 (whole.kept.core.closed_is x closed),
+          closed_free x whole.kept.core was.0 (whole.kept.core.closed_is x closed),
         ),
     λ born.
         let was = whole.kept.core.born_is x born.0 in
-        whole.kept.core.closed_has x (born_closed whole.accounts n (counting m) x
-        (m.life x) whole.kept.core (gone_ends whole.accounts n (counting m) whole.kept.core done) was.0 born.1 was.1
-        refl),
+        whole.kept.core.closed_has x
+        (born_closed x (m.life x) whole.kept.core (gone_ends whole.kept.core done) was.0 born.1 was.1 refl),
   );
   left_in_lists = λ done.
-      left_in_lists whole.accounts n (counting m) whole.kept.core
-      (gone_ends whole.accounts n (counting m) whole.kept.core done);
+      left_in_lists whole.kept.core (gone_ends whole.kept.core done);
 }
 
 -- Both layers of the invariant hold of the first machine.

@@ -118,7 +118,7 @@ module _ (p : Accounts) (n : ℕ) (m : Machine) (x : ℕ) (core : CoreInvariant 
   -- So a thread in the midst of the row's birth gives birth to the next row of its block.
   bearer : (u : ℕ) (b : Actor) → slice_get m.actors u ≡ Some b → 0 < agenda_weight (bearing x) b → IsNext m u b x
   bearer u b found some =
-      let it = weighing p n m u x b (bearing x) (of_bearing x) core found some in
+      let it = weighing u x b (bearing x) (of_bearing x) core found some in
       bears_next m u x b it.duty it.rest it.knows it.some
 
   -- Nobody gives birth to a row that was born.
@@ -137,7 +137,7 @@ module _ (p : Accounts) (n : ℕ) (m : Machine) (x : ℕ) (core : CoreInvariant 
 
   -- Nobody has locked a row that doesn't live.
   none_locked : (m.life x ≢ Live) → (u : ℕ) (b : Actor) → slice_get m.actors u ≡ Some b → b.locked ≡ Some x → ⊥
-  none_locked dead u b found locked = dead (locked_alive p n m u b x core found locked).life
+  none_locked dead u b found locked = dead (locked_alive u b x core found locked).life
 
 -- ---- the threads that take a slot
 
@@ -146,8 +146,8 @@ module _ (p : Accounts) (n : ℕ) (m : Machine) (t : ℕ) (a : Actor) where
   locking_free : (x : ℕ) (rest : List Duty) → AtDuty p n m t a (LockGate x) rest → m.memory (Gate x) ≡ free_word
       → IsFree m x
   locking_free x rest here free =
-      let fits = head_of p n m t a (LockGate x) rest here in
-      let alive = alive_backed p n m t a x here.core fits.0 fits.1 in
+      let fits = head_of here in
+      let alive = alive_backed t a x here.core fits.0 fits.1 in
       record {
         settled = none_settles p n m x here.core (λ u. ap (λ (l : Life). dies_by l u) alive.life);
         unbegun = none_bears p n m x here.core (alive_born m x alive);
@@ -158,10 +158,9 @@ module _ (p : Accounts) (n : ℕ) (m : Machine) (t : ℕ) (a : Actor) where
   -- A thread that begins a birth does so alone, since the row is in its block.
   birth_free : (x : ℕ) (h : Holding) (w : ℕ) (rest : List Duty) → AtDuty p n m t a (BirthKind x h w) rest → IsFree m x
   birth_free x h w rest here =
-      let next = (head_of p n m t a (BirthKind x h w) rest here).0 in
+      let next = (head_of here).0 in
       let unborn = next_unborn p n m t a x here.core here.found next in
-      let mine : agenda_weight (bearing x) a ≡ 0 =
-      own_weighs p n m t x a (BirthKind x h w) rest (bearing x) here (of_bearing x) (eq-eqb x x refl) in
+      let mine : agenda_weight (bearing x) a ≡ 0 = own_weighs x (bearing x) here (of_bearing x) (eq-eqb x x refl) in
       record {
         settled = none_settles p n m x here.core (λ u. ap (λ (l : Life). dies_by l u) unborn);
         unbegun = sum_zero (agenda_weight (bearing x)) m.actors (λ u b found.
@@ -179,7 +178,7 @@ module _ (p : Accounts) (n : ℕ) (m : Machine) (t : ℕ) (a : Actor) where
   -- A thread that begins to deallocate a row is the only one that finalises it, and does so by this duty alone.
   settling_free : (x : ℕ) (rest : List Duty) → AtDuty p n m t a (SettleKind x) rest → IsFree m x
   settling_free x rest here =
-      let dies = (head_of p n m t a (SettleKind x) rest here).1 in
+      let dies = (head_of here).1 in
       record {
         settled =
             finalised_alone p n m x (settling x) (finalises x (settling x) (of_settling x)) t a (SettleKind x) rest here
@@ -243,7 +242,7 @@ given_is y x e = cc
 pub slots_unlocked : GivenSlotsAreUnlocked
 slots_unlocked p n m t a (UnlockGate y) rest found x counts next gives =
     let here = at_next counts next in
-    let locked : a.locked ≡ Some y = (head_of p n m t a (UnlockGate y) rest here).2 in
+    let locked : a.locked ≡ Some y = (head_of here).2 in
     record {
       left = λ z is. let wrong : None ≡ Some z = is in cc;
       kept = λ z apart is.
@@ -252,7 +251,7 @@ slots_unlocked p n m t a (UnlockGate y) rest found x counts next gives =
     }
 slots_unlocked p n m t a (BirthLocal y h) rest found x counts next gives =
     let here = at_next counts next in
-    let born = (head_of p n m t a (BirthLocal y h) rest here).0 in
+    let born = (head_of here).0 in
     let unborn = next_unborn p n m t a y here.core here.found born in
     lock_left a (BirthLocal y h) found x refl (λ locked.
     none_locked p n m x here.core
@@ -260,7 +259,7 @@ slots_unlocked p n m t a (BirthLocal y h) rest found x counts next gives =
     here.found locked)
 slots_unlocked p n m t a (SettleEnd y) rest found x counts next gives =
     let here = at_next counts next in
-    let dies = (head_of p n m t a (SettleEnd y) rest here).1 in
+    let dies = (head_of here).1 in
     lock_left a (SettleEnd y) found x refl (λ locked.
     none_locked p n m x here.core
     (λ lives. let wrong : Dying t ≡ Live = sym (ap m.life (sym (given_is y x gives)) ∙ dies) ∙ lives in cc) t a
@@ -293,20 +292,20 @@ module _ (p : Accounts) (n : ℕ) (m : Machine) (t : ℕ) (a : Actor) (x : ℕ) 
 pub needed_unlocked : NeededSlotsAreUnlocked
 needed_unlocked p n m t a (BirthSlot y h) rest x counts next needs =
     let here = at_next counts next in
-    unborn_unlocked p n m t a x here.core here.found y (head_of p n m t a (BirthSlot y h) rest here).0 needs
+    unborn_unlocked p n m t a x here.core here.found y (head_of here).0 needs
 needed_unlocked p n m t a (BirthLocal y h) rest x counts next needs =
     let here = at_next counts next in
-    unborn_unlocked p n m t a x here.core here.found y (head_of p n m t a (BirthLocal y h) rest here).0 needs
+    unborn_unlocked p n m t a x here.core here.found y (head_of here).0 needs
 needed_unlocked p n m t a (SettleCell y i k) rest x counts next needs =
     let here = at_next counts next in
-    dying_unlocked p n m t a x here.core here.found y (head_of p n m t a (SettleCell y i k) rest here).1 needs
+    dying_unlocked p n m t a x here.core here.found y (head_of here).1 needs
 needed_unlocked p n m t a (TakeSlot y) rest x counts next needs =
     let here = at_next counts next in
-    dying_unlocked p n m t a x here.core here.found y (head_of p n m t a (TakeSlot y) rest here).1 needs
+    dying_unlocked p n m t a x here.core here.found y (head_of here).1 needs
 needed_unlocked p n m t a (CloseResource y) rest x counts next needs =
     let here = at_next counts next in
-    dying_unlocked p n m t a x here.core here.found y (head_of p n m t a (CloseResource y) rest here).1 needs
+    dying_unlocked p n m t a x here.core here.found y (head_of here).1 needs
 needed_unlocked p n m t a (SettleEnd y) rest x counts next needs =
     let here = at_next counts next in
-    dying_unlocked p n m t a x here.core here.found y (head_of p n m t a (SettleEnd y) rest here).1 needs
+    dying_unlocked p n m t a x here.core here.found y (head_of here).1 needs
 needed_unlocked p n m t a _ rest x counts next needs = absurd cc

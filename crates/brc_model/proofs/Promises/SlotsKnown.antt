@@ -9,7 +9,7 @@ use Rattle.std.proofs.lemmas.Bool.Decides.{eqb_tells}
 use Rattle.brc_word.specs.Words.{closed_word}
 use Rattle.brc_model.specs.declared.duty.Holding.{Holding}
 use Rattle.brc_model.specs.declared.duty.Duty.{Duty}
-use Rattle.brc_model.specs.declared.duty.Duty.TheVariants.{BirthKind, BirthLocal, SettleKind, SettleEnd}
+use Rattle.brc_model.specs.declared.duty.Duty.TheVariants.{BirthKind, SettleKind, SettleEnd}
 use Rattle.brc_model.specs.declared.address.Address.TheVariants.{Gate, KindOf, Slot}
 use Rattle.brc_model.specs.Duties.{resources_of}
 use Rattle.brc_model.specs.Machine.{Actor, Life, Unborn, Live, Dying, Closed, Machine}
@@ -40,9 +40,8 @@ module _ (p : Accounts) (n : ℕ) (m : Machine) (t : ℕ) (a : Actor) where
   unborn_slot : (x : ℕ) (h : Holding) (w : ℕ) (rest : List Duty) → AtDuty p n m t a (BirthKind x h w) rest
       → m.memory (Slot x) ≡ 0
   unborn_slot x h w rest here =
-      let next = (head_of p n m t a (BirthKind x h w) rest here).0 in
-      (blanks_here p n m t a (BirthKind x h w) rest here).slots x (next_block m t a x next)
-      (omega (arith, next_index m t a x next)) refl
+      let next = (head_of here).0 in
+      (blanks_here here).slots x (next_block m t a x next) (omega (arith, next_index m t a x next)) refl
 
   -- The resource of a row that the thread deallocates is in one place.
   dying_fits : (x : ℕ) → CoreInvariant p n m → m.life x ≡ Dying t → IsSettling (resources_at m x)
@@ -53,7 +52,7 @@ module _ (p : Accounts) (n : ℕ) (m : Machine) (t : ℕ) (a : Actor) where
       → m.memory (Slot x) ≡ resources_of (m.memory (KindOf x))
   dying_slot x rest here =
       let d : Duty = SettleKind x in
-      let dies = (head_of p n m t a d rest here).1 in
+      let dies = (head_of here).1 in
       let fit = dying_fits x here.core dies in
       let this = eq-eqb x x refl in
       let none_closing =
@@ -61,19 +60,17 @@ module _ (p : Accounts) (n : ℕ) (m : Machine) (t : ℕ) (a : Actor) where
       let none_ending =
       finalised_alone p n m x (ending x) (finalises x (ending x) (of_ending x)) t a d rest here this dies in
       let unclosed = fit.unclosed none_ending in
-      let unlent =
-      none_lent p n m x here.core (λ lives. let wrong : Dying t ≡ Live = sym dies ∙ lives in cc) in
+      let unlent = none_lent p n m x here.core (λ lives. let wrong : Dying t ≡ Live = sym dies ∙ lives in cc) in
       omega (arith, fit.placed, none_closing, unclosed, unlent)
 
   -- The resource of a row that the thread closes is closed, so the slot is empty.
   closing_slot : (x : ℕ) (rest : List Duty) → AtDuty p n m t a (SettleEnd x) rest → m.memory (Slot x) ≡ 0
   closing_slot x rest here =
       let d : Duty = SettleEnd x in
-      let dies = (head_of p n m t a d rest here).1 in
+      let dies = (head_of here).1 in
       let fit = dying_fits x here.core dies in
       let this = eq-eqb x x refl in
-      let ends =
-      finalised_alone p n m x (ending x) (finalises x (ending x) (of_ending x)) t a d rest here this dies in
+      let ends = finalised_alone p n m x (ending x) (finalises x (ending x) (of_ending x)) t a d rest here this dies in
       let one : one_if (x == x) ≡ 1 = ap one_if this in
       let shut = fit.shut (omega (arith, ends, one)) in
       omega (arith, fit.placed, shut)
@@ -82,7 +79,7 @@ module _ (p : Accounts) (n : ℕ) (m : Machine) (t : ℕ) (a : Actor) where
 pub slots_known : SlotsAreKnown
 slots_known = record {
   unborn = λ p n m t a x h w rest counts next. unborn_slot p n m t a x h w rest (at_next counts next);
-  born = λ p n m t a x h rest counts next. (head_of p n m t a (BirthLocal x h) rest (at_next counts next)).3;
+  born = λ p n m t a x h rest counts next. (head_of (at_next counts next)).3;
   dying = λ p n m t a x rest counts next. dying_slot p n m t a x rest (at_next counts next);
   closing = λ p n m t a x rest counts next. closing_slot p n m t a x rest (at_next counts next);
 }
@@ -93,7 +90,7 @@ slots_known = record {
 pub locked_full : LockedSlotsAreFull
 locked_full p n m t a x counts found locked unlent =
     let core = counts.kept.core in
-    let lives = (locked_alive p n m t a x core found locked).life in
+    let lives = (locked_alive t a x core found locked).life in
     let fit : ResourcesFit Live (resources_at m x) =
     subst (λ (l : Life). ResourcesFit l (resources_at m x)) lives (core.resources x) in
     let none_closing =
@@ -140,7 +137,7 @@ module _ (p : Accounts) (n : ℕ) (m : Machine) (x : ℕ) (counts : Counts p n m
       unfinalised p n m x (closing x) (finalises x (closing x) (of_closing x)) core
       (λ u. ap (λ (l : Life). dies_by l u) is) in
       omega (arith, fit.0, fit.1, none_closing, none_lends)
-  open_slot (Dying t) is fit gate still = absurd (none_dying p n m x t core (at_end p n m counts ended) is)
+  open_slot (Dying t) is fit gate still = absurd (none_dying x t core (at_end p n m counts ended) is)
   open_slot Closed is fit gate still = absurd (still gate)
 
 -- At the end a slot has its row's resource, unless the row is closed.

@@ -14,7 +14,7 @@ use Rattle.brc_model.specs.Progress.{StatesRise}
 use Rattle.brc_model.proofs.Objects.RowSteps.{shared_range, shared_up, shared_down, shared_merged}
 use Rattle.brc_model.proofs.Basics.Written.{written_here, written_apart, apart_shared}
 use Rattle.brc_model.proofs.Frame.Leaves.{exchange_alive}
-use Rattle.brc_model.proofs.Stepping.Neutral.{memory_by}
+use Rattle.brc_model.proofs.Stepping.FitsAfter.{memory_by}
 use Rattle.brc_model.proofs.Keeping.CodeInvariant.{CodeInvariant}
 use Rattle.brc_model.proofs.Keeping.StepCases.{ShowsSteps, at_duty, event_shows}
 use Rattle.brc_model.specs.Accounts.{Accounts}
@@ -75,20 +75,21 @@ rises_at m y v x here =
 loads : (m : Machine) (y x : ℕ) → phase_part (m.memory (Shared x)) ≤ phase_in m y (m.memory (Shared y)) x
 loads m y x = rises_at m y (m.memory (Shared y)) x (omega arith)
 
-rises : (p : Accounts) (n : ℕ) (m : Machine) (t : ℕ) (a : Actor) (d : Duty) (rest : List Duty) (x : ℕ)
-    → AtDuty p n m t a d rest → phase_part (m.memory (Shared x)) ≤ phase_part (memory_by m t a d (Shared x))
-rises p n m t a (RetainAdd y h) rest x here =
-    rises_at m y (m.memory (Shared y) + 4) x (omega (arith, (shared_up (m.memory (Shared y))).1))
-rises p n m t a (DecideAtZero y) rest x here = loads m y x
-rises p n m t a (SharedLoad y r) rest x here = loads m y x
-rises p n m t a (SharedExchange y r w) rest x here =
-    let alive = exchange_alive p n m t a y w r rest here in
-    rises_at m y _ x (exchange_rises (m.memory (Shared y)) w (released_word w)
-    (λ same. released_rises w (subst (λ (v : ℕ). 1 ≤ biased_part v) same (shared_range _ _ alive.live))))
-rises p n m t a (MergeLoad y c r) rest x here = loads m y x
-rises p n m t a (MergeExchange y c w r) rest x here =
-    rises_at m y _ x (exchange_rises (m.memory (Shared y)) w (merged_word w c) (λ same. merged_rises w c))
-rises p n m t a _ rest x here = omega arith
+module _ {p : Accounts} {n : ℕ} {m : Machine} {t : ℕ} {a : Actor} {rest : List Duty} where
+  rises : (d : Duty) (x : ℕ) → AtDuty p n m t a d rest
+      → phase_part (m.memory (Shared x)) ≤ phase_part (memory_by m t a d (Shared x))
+  rises (RetainAdd y h) x here =
+      rises_at m y (m.memory (Shared y) + 4) x (omega (arith, (shared_up (m.memory (Shared y))).1))
+  rises (DecideAtZero y) x here = loads m y x
+  rises (SharedLoad y r) x here = loads m y x
+  rises (SharedExchange y r w) x here =
+      let alive = exchange_alive y w r here in
+      rises_at m y _ x (exchange_rises (m.memory (Shared y)) w (released_word w)
+      (λ same. released_rises w (subst (λ (v : ℕ). 1 ≤ biased_part v) same (shared_range _ _ alive.live))))
+  rises (MergeLoad y c r) x here = loads m y x
+  rises (MergeExchange y c w r) x here =
+      rises_at m y _ x (exchange_rises (m.memory (Shared y)) w (merged_word w c) (λ same. merged_rises w c))
+  rises _ x here = omega arith
 
 -- ---- each event
 
@@ -98,7 +99,7 @@ states_shown n = record {
   stays = λ p t m kept x. omega arith;
   sits = λ t m new a agenda found shown. shown;
   moves = λ p t m a moves kept found silent x. omega arith;
-  does = λ p t m a d rest doing x. rises p n m t a d rest x (at_duty doing);
+  does = λ p t m a d rest doing x. rises d x (at_duty doing);
 }
 
 pub states_rise : (p : Module) (n : ℕ) (m : StepMachine) (event : ℕ × Choice) → CodeInvariant p n m → StatesRise m event

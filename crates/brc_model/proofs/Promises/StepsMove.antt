@@ -1,6 +1,6 @@
 -- Which steps change the world: every step of a thread that isn't gone, except for a claim that isn't allowed or finds
 -- no mark, and for a lock that another thread holds (`LocksWait`).
-use Rattle.std.proofs.Common.{◌≡◌, ◌≢◌, ℕ, ◌+◌, Bool, true, false, cond, List, [], ◌∷◌, ◌++◌, length, inl, inr, Option, Some, refl, sym, ap, ◌∙◌, subst, ◌⊎◌, zero, suc, None}
+use Rattle.std.proofs.Common.{◌≡◌, ◌≢◌, ℕ, ◌+◌, Bool, true, false, cond, List, [], ◌∷◌, ◌++◌, length, inl, inr, Option, Some, refl, sym, ap, ◌∙◌, subst, ◌⊎◌, suc, None}
 use Rattle.std.specs.Prelude.{◌==◌, slice_get, slice_set, map}
 use Rattle.std.proofs.Math.Path.{fun_ext}
 use Rattle.std.proofs.lemmas.Option.{slice_get_within}
@@ -42,7 +42,7 @@ use Rattle.brc_lang.specs.Grammar.{IsModule}
 use Rattle.brc_lang.specs.declared.module.Function.{Function}
 use Rattle.brc_model.specs.declared.layout.Layout.{Layout}
 use Rattle.brc_model.proofs.Dispatch.Decided.{stopping_decides, stop_decides}
-use Rattle.brc_model.specs.declared.actor.Place.TheVariants.{Idle, InCall, Inside, Stopping, Exiting}
+use Rattle.brc_model.specs.declared.actor.Place.TheVariants.{Idle, InCall}
 use Rattle.brc_model.specs.declared.slot.State.{State}
 
 -- ---- a thread that isn't gone
@@ -270,7 +270,6 @@ stop_is w t a may found is =
 -- A stop that acts leads the thread to another place.
 stop_elsewhere : (states : ℕ → Option State) (place : Place) → is_before_instruction place ≡ true
     → IsElsewhere place (stop_action states place)
-stop_elsewhere states (Idle zero) before = absurd cc
 stop_elsewhere states (Idle (suc left)) before = λ e. cc
 stop_elsewhere states (InCall context at variables) before =
     elim (states at) as (λ o. IsElsewhere (InCall context at variables) (stop_in_call context variables o)) [
@@ -279,9 +278,7 @@ stop_elsewhere states (InCall context at variables) before =
           stopping_decides (λ (next : Place). next ≢ InCall context at variables) (row_locked s.locked variables)
           (owned_rows s.slots variables ∷ map none_of context.outer) (λ e. cc) (λ e. cc)
     ]
-stop_elsewhere states (Inside context at variables stage) before = absurd cc
-stop_elsewhere states (Stopping lock calls) before = absurd cc
-stop_elsewhere states Exiting before = absurd cc
+stop_elsewhere states _ before = cc
 
 -- A thread that stops takes no lock.
 stop_free : (memory : Address → ℕ) (states : ℕ → Option State) (place : Place)

@@ -11,7 +11,7 @@ use Rattle.brc_model.specs.Paths.{IsAcceptable}
 use Rattle.brc_model.specs.Tables.{AreTrueWhereReached}
 use Rattle.brc_model.specs.Safety.{AreCalls}
 use Rattle.brc_model.specs.declared.slot.Exit.{Exit}
-use Rattle.brc_model.specs.Actions.{StepActor, Action, Skip, Stuck, Silent, Calls, Does, exit_of, action_of}
+use Rattle.brc_model.specs.Actions.{StepActor, Action, Skip, exit_of, action_of}
 use Rattle.brc_model.specs.StepMachine.{StepMachine, of_thread, machine_by, next_machine, first_machine, machine_after}
 use Rattle.brc_model.specs.World.{World, world_of, machine_of, first_world, step, IsReachable}
 use Rattle.brc_model.specs.Limits.{row_limit}
@@ -25,10 +25,7 @@ bared m = machine_of (world_of m)
 action_alike : (m : StepMachine) (t : ℕ) (a : StepActor) (exit : Exit) (x : Action)
     → world_of (machine_by m t a exit x) ≡ world_of (machine_by (bared m) t a exit x)
 action_alike m t a exit Skip = refl
-action_alike m t a exit Stuck = refl
-action_alike m t a exit (Silent moves place) = refl
-action_alike m t a exit (Calls row place) = refl
-action_alike m t a exit (Does d rest place) = refl
+action_alike m t a exit _ = cc
 
 thread_alike : (m : StepMachine) (t : ℕ) (choice : Choice) (o : Option StepActor)
     → world_of (of_thread m (λ a. machine_by m t a (exit_of choice)

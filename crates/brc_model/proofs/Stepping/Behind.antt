@@ -38,39 +38,41 @@ finalised_first d rest x =
       | false ↦ omega arith
     ]
 
--- The thread finalises a row by one duty alone.
-one_finalises : (p : Accounts) (n : ℕ) (m : Machine) (t : ℕ) (a : Actor) (d : Duty) (rest : List Duty) (x : ℕ)
-    → AtDuty p n m t a d rest → 0 < finalised rest x → is_finalising d x ≡ false
-one_finalises p n m t a d rest x here some =
-    let chain = subst (λ (l : List Duty). ChainFits m t a.head l) here.agenda (here.core.each t a here.found).0.chain in
-    elim (is_finalising d x) as (λ b. is_finalising d x ≡ b → is_finalising d x ≡ false) [
-      | true ↦ λ this.
-          let one : one_if (is_finalising d x) ≡ 1 = ap one_if this in
-          absurd (omega (arith, one, some, chain.once x, finalised_first d rest x, one_if_low (dies_by (m.life x) t)))
-      | false ↦ λ other. other
-    ] refl
+module _ {p : Accounts} {n : ℕ} {m : Machine} {t : ℕ} {a : Actor} {d : Duty} {rest : List Duty} where
+  -- The thread finalises a row by one duty alone.
+  one_finalises : (x : ℕ) → AtDuty p n m t a d rest → 0 < finalised rest x → is_finalising d x ≡ false
+  one_finalises x here some =
+      let chain = subst (λ (l : List Duty). ChainFits m t a.head l) here.agenda
+      (here.core.each t a here.found).0.chain in
+      elim (is_finalising d x) as (λ b. is_finalising d x ≡ b → is_finalising d x ≡ false) [
+        | true ↦ λ this.
+            let one : one_if (is_finalising d x) ≡ 1 = ap one_if this in
+            absurd (omega (arith, one, some, chain.once x, finalised_first d rest x, one_if_low (dies_by (m.life x) t)))
+        | false ↦ λ other. other
+      ] refl
 
--- A step changes no gate of the thread's dying rows but that of the row that its duty finalises: what it locks or
--- unlocks lives.
-gate_stays : (p : Accounts) (n : ℕ) (m : Machine) (t : ℕ) (a : Actor) (d : Duty) (rest : List Duty) (x : ℕ)
-    → AtDuty p n m t a d rest → is_finalising d x ≡ false → m.life x ≡ Dying t
-    → written m.memory (address_of m.layout t a.head d)
-    (new_word t a.head d (m.memory (address_of m.layout t a.head d))) (Gate x) ≡ m.memory (Gate x)
-gate_stays p n m t a (Die y) rest x here other dies = written_apart m.memory (Gate y) (Gate x) _ (apart_gate y x (eqb-false y x other))
-gate_stays p n m t a Settle rest x here other dies = written_load m.memory (Gate (a.head - 1)) (Gate x)
-gate_stays p n m t a (SettleEnd y) rest x here other dies =
-    written_apart m.memory (Gate y) (Gate x) _ (apart_gate y x (eqb-false y x other))
-gate_stays p n m t a (LockGate y) rest x here other dies =
-    let fits = head_of p n m t a (LockGate y) rest here in
-    let own : dies_by (m.life x) t ≡ true = ap (λ (l : Life). dies_by l t) dies ∙ eq-eqb t t refl in
-    written_apart m.memory (Gate y) (Gate x) _
-    (apart_gate y x (living_clash m t x y (alive_backed p n m t a y here.core fits.0 fits.1) own))
-gate_stays p n m t a (UnlockGate y) rest x here other dies =
-    let fits = head_of p n m t a (UnlockGate y) rest here in
-    let own : dies_by (m.life x) t ≡ true = ap (λ (l : Life). dies_by l t) dies ∙ eq-eqb t t refl in
-    written_apart m.memory (Gate y) (Gate x) _
-    (apart_gate y x (living_clash m t x y (alive_backed p n m t a y here.core fits.0 fits.1) own))
-gate_stays p n m t a _ rest x here other dies = refl
+module _ {p : Accounts} {n : ℕ} {m : Machine} {t : ℕ} {a : Actor} {rest : List Duty} where
+  -- A step changes no gate of the thread's dying rows but that of the row that its duty finalises: what it locks or
+  -- unlocks lives.
+  gate_stays : (d : Duty) (x : ℕ) → AtDuty p n m t a d rest → is_finalising d x ≡ false → m.life x ≡ Dying t
+      → written m.memory (address_of m.layout t a.head d)
+      (new_word t a.head d (m.memory (address_of m.layout t a.head d))) (Gate x) ≡ m.memory (Gate x)
+  gate_stays (Die y) x here other dies =
+      written_apart m.memory (Gate y) (Gate x) _ (apart_gate y x (eqb-false y x other))
+  gate_stays Settle x here other dies = written_load m.memory (Gate (a.head - 1)) (Gate x)
+  gate_stays (SettleEnd y) x here other dies =
+      written_apart m.memory (Gate y) (Gate x) _ (apart_gate y x (eqb-false y x other))
+  gate_stays (LockGate y) x here other dies =
+      let fits = head_of here in
+      let own : dies_by (m.life x) t ≡ true = ap (λ (l : Life). dies_by l t) dies ∙ eq-eqb t t refl in
+      written_apart m.memory (Gate y) (Gate x) _
+      (apart_gate y x (living_clash m t x y (alive_backed t a y here.core fits.0 fits.1) own))
+  gate_stays (UnlockGate y) x here other dies =
+      let fits = head_of here in
+      let own : dies_by (m.life x) t ≡ true = ap (λ (l : Life). dies_by l t) dies ∙ eq-eqb t t refl in
+      written_apart m.memory (Gate y) (Gate x) _
+      (apart_gate y x (living_clash m t x y (alive_backed t a y here.core fits.0 fits.1) own))
+  gate_stays _ x here other dies = refl
 
 dying_unlive : (t : ℕ) → Dying t ≡ Live → ⊥
 dying_unlive t e = cc
@@ -79,12 +81,12 @@ ended_finalising : (d : Duty) (x : ℕ) → ended_row d ≡ Some x → is_finali
 ended_finalising (SettleEnd y) x ended = eq-eqb y x (some_is y x ended)
 ended_finalising _ x ended = absurd (none_some x ended)
 
-module _ (p : Accounts) (n : ℕ) (m : Machine) (t : ℕ) (a : Actor) (d : Duty) (rest : List Duty) where
+module _ {p : Accounts} {n : ℕ} {m : Machine} {t : ℕ} {a : Actor} {d : Duty} {rest : List Duty} where
   -- A row that the thread finalises is still dying, unless the step closes it.
   life_stays : (x : ℕ) → AtDuty p n m t a d rest → is_finalising d x ≡ false → m.life x ≡ Dying t
       → (done_by m t a d rest).life x ≡ Dying t
   life_stays x here other dies =
-      elim (life_step p n m t a d rest x here) [
+      elim (life_step d x here) [
         | LifeGoesOn now still ↦ now ∙ dies
         | BeginsToDie now alive counted none ↦ now
         | IsClosed now dying counted ended ↦ absurd (false≢true (sym other ∙ ended_finalising d x ended))
@@ -106,16 +108,16 @@ module _ (p : Accounts) (n : ℕ) (m : Machine) (t : ℕ) (a : Actor) (d : Duty)
         fits.0,
         life_stays x here other fits.1,
         fits.2,
-        subst (IsDyingWord t) (sym (gate_stays p n m t a d rest x here other fits.1)) fits.3,
-        λ j out. stays_empty p n m t a d rest x j here (λ live. dying_unlive t (sym fits.1 ∙ live)) (fits.4 j out),
+        subst (IsDyingWord t) (sym (gate_stays d x here other fits.1)) fits.3,
+        λ j out. stays_empty x j here (λ live. dying_unlive t (sym fits.1 ∙ live)) (fits.4 j out),
         resources_stay x here fits.1 ∙ fits.5,
       )
   fits_still (SettleEnd x) here apart fits =
       let other = apart x (eq-eqb x x refl) in (
         fits.0,
         life_stays x here other fits.1,
-        subst (IsDyingWord t) (sym (gate_stays p n m t a d rest x here other fits.1)) fits.2,
-        λ j. stays_empty p n m t a d rest x j here (λ live. dying_unlive t (sym fits.1 ∙ live)) (fits.3 j),
+        subst (IsDyingWord t) (sym (gate_stays d x here other fits.1)) fits.2,
+        λ j. stays_empty x j here (λ live. dying_unlive t (sym fits.1 ∙ live)) (fits.3 j),
         resources_stay x here fits.1 ∙ fits.4,
       )
   fits_still _ here apart fits = tt
@@ -134,7 +136,7 @@ module _ (p : Accounts) (n : ℕ) (m : Machine) (t : ℕ) (a : Actor) (d : Duty)
   -- The duties behind the first know what they knew.
   pub still_behind : AtDuty p n m t a d rest → AllBehind (done_by m t a d rest) t rest
   still_behind here =
-      all_still rest here (λ x some. one_finalises p n m t a d rest x here some)
+      all_still rest here (λ x some. one_finalises x here some)
       (subst (BehindOf m t) here.agenda (here.core.each t a here.found).0.behind)
 
 -- ---- the agenda after a step
@@ -195,45 +197,42 @@ cells_known m t x i k rest counted dies gate empty none all =
       | false ↦ λ e. ((counted, dies, gate, all_emptied m.memory x i k (ltb-false i k e) empty, none), all)
     ] refl
 
--- A row whose cells the thread empties is still dying.
-emptying_dies : (p : Accounts) (n : ℕ) (m : Machine) (t : ℕ) (a : Actor) (x i k : ℕ) (rest : List Duty)
-    → AtDuty p n m t a (SettleCell x i k) rest → (done_by m t a (SettleCell x i k) rest).life x ≡ Dying t
-emptying_dies p n m t a x i k rest here =
-    let dies = (head_of p n m t a (SettleCell x i k) rest here).1 in
-    elim (life_step p n m t a (SettleCell x i k) rest x here) [
-      | LifeGoesOn now still ↦ now ∙ dies
-      | BeginsToDie now alive counted none ↦ now
-      | IsClosed now dying counted ended ↦ absurd (none_some x ended)
-      | IsBorn now unborn counted born none ↦ absurd (none_some x born)
-    ]
+module _ {p : Accounts} {n : ℕ} {m : Machine} {t : ℕ} {a : Actor} {rest : List Duty} where
+  -- A row whose cells the thread empties is still dying.
+  emptying_dies : (x i k : ℕ) → AtDuty p n m t a (SettleCell x i k) rest
+      → (done_by m t a (SettleCell x i k) rest).life x ≡ Dying t
+  emptying_dies x i k here =
+      let dies = (head_of here).1 in
+      elim (life_step (SettleCell x i k) x here) [
+        | LifeGoesOn now still ↦ now ∙ dies
+        | BeginsToDie now alive counted none ↦ now
+        | IsClosed now dying counted ended ↦ absurd (none_some x ended)
+        | IsBorn now unborn counted born none ↦ absurd (none_some x born)
+      ]
 
--- After a cell is emptied, its list's next duty knows what it needs.
-pub emptied_known : (p : Accounts) (n : ℕ) (m : Machine) (t : ℕ) (a : Actor) (x i k : ℕ) (rest : List Duty)
-    → AtDuty p n m t a (SettleCell x i k) rest
-    → AllBehind (done_by m t a (SettleCell x i k) rest) t (cells_from x (i + 1) k ++ rest)
-emptied_known p n m t a x i k rest here =
-    let fits = head_of p n m t a (SettleCell x i k) rest here in
-    cells_known (done_by m t a (SettleCell x i k) rest) t x (i + 1) k rest fits.0
-    (emptying_dies p n m t a x i k rest here) fits.3 (one_emptied m.memory x i k fits.4) fits.5
-    (still_behind p n m t a (SettleCell x i k) rest here)
+  -- After a cell is emptied, its list's next duty knows what it needs.
+  pub emptied_known : (x i k : ℕ) → AtDuty p n m t a (SettleCell x i k) rest
+      → AllBehind (done_by m t a (SettleCell x i k) rest) t (cells_from x (i + 1) k ++ rest)
+  emptied_known x i k here =
+      let fits = head_of here in
+      cells_known (done_by m t a (SettleCell x i k) rest) t x (i + 1) k rest fits.0 (emptying_dies x i k here) fits.3
+      (one_emptied m.memory x i k fits.4) fits.5 (still_behind here)
 
-next_behind : (p : Accounts) (n : ℕ) (m : Machine) (t : ℕ) (a : Actor) (d : Duty) (rest : List Duty)
-    → AtDuty p n m t a d rest → BehindOf (done_by m t a d rest) t (next_of m t a d ++ rest)
-next_behind p n m t a (SettleCell x i k) rest here =
-    let new = done_by m t a (SettleCell x i k) rest in
-    behind_tail new t (next_of m t a (SettleCell x i k) ++ rest)
-    (released_behind new t (m.memory (Cell x i)) (cells_from x (i + 1) k) rest
-    (emptied_known p n m t a x i k rest here))
-next_behind p n m t a d rest here =
-    behind_next (done_by m t a d rest) t d (next_of m t a d) rest
-    (continues m.layout t (is_running a.status) a.head d (m.memory (address_of m.layout t a.head d))) refl
-    (still_behind p n m t a d rest here)
+  next_behind : (d : Duty) → AtDuty p n m t a d rest → BehindOf (done_by m t a d rest) t (next_of m t a d ++ rest)
+  next_behind (SettleCell x i k) here =
+      let new = done_by m t a (SettleCell x i k) rest in
+      behind_tail new t (next_of m t a (SettleCell x i k) ++ rest)
+      (released_behind new t (m.memory (Cell x i)) (cells_from x (i + 1) k) rest (emptied_known x i k here))
+  next_behind d here =
+      behind_next (done_by m t a d rest) t d (next_of m t a d) rest
+      (continues m.layout t (is_running a.status) a.head d (m.memory (address_of m.layout t a.head d))) refl
+      (still_behind here)
 
--- The duties behind the first of the new agenda know what they need.
-pub behind_after : (p : Accounts) (n : ℕ) (m : Machine) (t : ℕ) (a : Actor) (d : Duty) (rest : List Duty)
-    → AtDuty p n m t a d rest
-    → BehindOf (done_by m t a d rest) t
-    (actor_by m.layout t a d rest (m.memory (address_of m.layout t a.head d))).agenda
-behind_after p n m t a d rest here =
-    behind_ready (done_by m t a d rest) t (new_head a.head d (m.memory (address_of m.layout t a.head d)))
-    (next_of m t a d ++ rest) (next_behind p n m t a d rest here)
+module _ {p : Accounts} {n : ℕ} {m : Machine} {t : ℕ} {a : Actor} {d : Duty} {rest : List Duty} where
+  -- The duties behind the first of the new agenda know what they need.
+  pub behind_after : AtDuty p n m t a d rest
+      → BehindOf (done_by m t a d rest) t
+      (actor_by m.layout t a d rest (m.memory (address_of m.layout t a.head d))).agenda
+  behind_after here =
+      behind_ready (done_by m t a d rest) t (new_head a.head d (m.memory (address_of m.layout t a.head d)))
+      (next_of m t a d ++ rest) (next_behind d here)

@@ -6,7 +6,6 @@ use Rattle.brc_model.specs.declared.duty.Holding.{Holding}
 use Rattle.brc_model.specs.declared.duty.Duty.{Duty}
 use Rattle.brc_model.specs.declared.duty.Duty.TheVariants.{BirthKind, BirthSlot, BirthLocal}
 use Rattle.brc_model.specs.Duties.{has_resource, resources_of}
-use Rattle.brc_model.specs.declared.actor.Status.TheVariants.{Gone}
 use Rattle.brc_model.specs.Machine.{Actor, Life, Unborn, Live, Machine, done_by, actor_by}
 use Rattle.brc_model.specs.References.{one_if}
 use Rattle.brc_model.specs.Accounts.{Accounts}
@@ -19,16 +18,15 @@ use Rattle.brc_model.proofs.Basics.Blocks.{next_unborn, next_block, next_index}
 use Rattle.brc_model.proofs.Objects.BlanksAfter.{blanks_here}
 use Rattle.brc_model.proofs.Frame.Leaves.{head_of}
 use Rattle.brc_model.proofs.Stepping.Own.{chain_same}
-use Rattle.brc_model.proofs.Stepping.Neutral.{ThreadFits, found_by, agenda_here, agenda_out}
+use Rattle.brc_model.proofs.Stepping.FitsAfter.{found_by, agenda_here, agenda_out, NotGone, FitsAfter}
 use Rattle.brc_model.proofs.Stepping.Counts.{held_same, held_gained}
-use Rattle.brc_model.proofs.Stepping.Retains.{ready_first}
-use Rattle.brc_model.proofs.Stepping.Steps.{own_keeps}
 use Rattle.brc_model.proofs.Stepping.Shown.{own_shown}
 use Rattle.brc_model.proofs.Stepping.Chains.{chain_here}
 use Rattle.brc_model.proofs.Stepping.Settled.{ready_none}
 use Rattle.brc_model.specs.Invariant.{AtDuty}
 use Rattle.brc_model.specs.declared.layout.Layout.{Layout}
 use Rattle.brc_model.specs.Layout.{block_size, row_at}
+use Rattle.brc_model.proofs.Stepping.Steps.{own_next}
 
 -- The row is still the next one of the thread's block.
 still_next : (m new : Machine) (t : ℕ) (a b : Actor) (x : ℕ) → new.layout ≡ m.layout → b.status ≡ a.status
@@ -42,78 +40,56 @@ still_next m new t a b x same status used next = record {
   room = subst (λ (l : Layout). b.used < block_size l t) (sym same) (omega (arith, next.room, used));
 }
 
--- The thread fits after `KindOfResource` and `KindOfOther`.
-pub thread_after_birth_kind : (p : Accounts) (n : ℕ) (m : Machine) (t : ℕ) (a : Actor) (x : ℕ) (h : Holding) (w : ℕ)
-    (rest : List Duty)
-    → AtDuty p n m t a (BirthKind x h w) rest → (a.status ≡ Gone → ⊥)
-    → ThreadFits p (done_by m t a (BirthKind x h w) rest) t
-    (actor_by m.layout t a (BirthKind x h w) rest (found_by m t a (BirthKind x h w)))
-thread_after_birth_kind p n m t a x h w rest here alive =
-    let d : Duty = BirthKind x h w in
-    let fits = head_of p n m t a d rest here in
-    let new = done_by m t a d rest in
-    let said : HasCountedKind new.memory x =
-    ap (λ (v : ℕ). is_counted_kind (kind_of_word v)) (written_here m.memory (KindOf x) w) ∙ fits.2 in
-    let empty : m.memory (Slot x) ≡ 0 = (blanks_here p n m t a d rest here).slots x (next_block m t a x fits.0)
-    (omega (arith, next_index m t a x fits.0)) refl in
-    elim (has_resource w) as
-    (λ b. has_resource w ≡ b → ThreadFits p new t (actor_by m.layout t a d rest (found_by m t a d))) [
-      | true ↦ λ e.
-          own_keeps p n m t a d rest (BirthSlot x h ∷ []) (BirthSlot x h ∷ rest) here alive refl (record {
-            next_is = ap (λ (b : Bool). cond b (BirthSlot x h ∷ []) (BirthLocal x h ∷ [])) e;
-            none_dies = refl;
-            agenda_is = ready_first a.head (BirthSlot x h) rest refl;
-            hands = λ y. refl;
-            held = held_same m.abstract.references t (d ∷ rest) (BirthSlot x h ∷ rest) (λ k o. refl) (λ k o. refl);
-            fits = agenda_here p n m t a d rest here alive;
-            knows = λ b status head used locked. (
+module _ {p : Accounts} {n : ℕ} {m : Machine} {t : ℕ} {a : Actor} {rest : List Duty} where
+  -- The thread fits after `KindOfResource` and `KindOfOther`.
+  pub thread_after_birth_kind : (x : ℕ) (h : Holding) (w : ℕ) → AtDuty p n m t a (BirthKind x h w) rest → NotGone a
+      → FitsAfter p m t a (BirthKind x h w) rest
+  thread_after_birth_kind x h w here alive =
+      let d : Duty = BirthKind x h w in
+      let fits = head_of here in
+      let new = done_by m t a d rest in
+      let said : HasCountedKind new.memory x =
+      ap (λ (v : ℕ). is_counted_kind (kind_of_word v)) (written_here m.memory (KindOf x) w) ∙ fits.2 in
+      let empty : m.memory (Slot x) ≡ 0 = (blanks_here here).slots x (next_block m t a x fits.0)
+      (omega (arith, next_index m t a x fits.0)) refl in
+      elim (has_resource w) as (λ b. has_resource w ≡ b → FitsAfter p m t a d rest) [
+        | true ↦ λ e.
+            own_next (BirthSlot x h) here alive refl refl refl
+            (ap (λ (b : Bool). cond b (BirthSlot x h ∷ []) (BirthLocal x h ∷ [])) e)
+            (held_same m.abstract.references t (d ∷ rest) (BirthSlot x h ∷ rest) (λ k o. refl) (λ k o. refl))
+            (agenda_here here alive) (λ b status head used locked. (
               still_next m new t a b x refl status used fits.0,
               fits.1,
               said,
               ap resources_of (written_here m.memory (KindOf x) w) ∙ ap (λ (c : Bool). cond c 1 0) e,
-            );
-          })
-      | false ↦ λ e.
-          own_keeps p n m t a d rest (BirthLocal x h ∷ []) (BirthLocal x h ∷ rest) here alive refl (record {
-            next_is = ap (λ (b : Bool). cond b (BirthSlot x h ∷ []) (BirthLocal x h ∷ [])) e;
-            none_dies = refl;
-            agenda_is = ready_first a.head (BirthLocal x h) rest refl;
-            hands = λ y. refl;
-            held = held_same m.abstract.references t (d ∷ rest) (BirthLocal x h ∷ rest) (λ k o. refl) (λ k o. refl);
-            fits = agenda_here p n m t a d rest here alive;
-            knows = λ b status head used locked. (
+            ))
+        | false ↦ λ e.
+            own_next (BirthLocal x h) here alive refl refl refl
+            (ap (λ (b : Bool). cond b (BirthSlot x h ∷ []) (BirthLocal x h ∷ [])) e)
+            (held_same m.abstract.references t (d ∷ rest) (BirthLocal x h ∷ rest) (λ k o. refl) (λ k o. refl))
+            (agenda_here here alive) (λ b status head used locked. (
               still_next m new t a b x refl status used fits.0,
               fits.1,
               said,
               empty ∙ sym (ap resources_of (written_here m.memory (KindOf x) w) ∙ ap (λ (c : Bool). cond c 1 0) e),
-            );
-          })
-    ] refl
+            ))
+      ] refl
 
--- The thread fits after `SlotFilled`.
-pub thread_after_birth_slot : (p : Accounts) (n : ℕ) (m : Machine) (t : ℕ) (a : Actor) (x : ℕ) (h : Holding)
-    (rest : List Duty)
-    → AtDuty p n m t a (BirthSlot x h) rest → (a.status ≡ Gone → ⊥)
-    → ThreadFits p (done_by m t a (BirthSlot x h) rest) t
-    (actor_by m.layout t a (BirthSlot x h) rest (found_by m t a (BirthSlot x h)))
-thread_after_birth_slot p n m t a x h rest here alive =
-    let d : Duty = BirthSlot x h in
-    let fits = head_of p n m t a d rest here in
-    let new = done_by m t a d rest in
-    own_keeps p n m t a d rest (BirthLocal x h ∷ []) (BirthLocal x h ∷ rest) here alive refl (record {
-      next_is = refl;
-      none_dies = refl;
-      agenda_is = ready_first a.head (BirthLocal x h) rest refl;
-      hands = λ y. refl;
-      held = held_same m.abstract.references t (d ∷ rest) (BirthLocal x h ∷ rest) (λ k o. refl) (λ k o. refl);
-      fits = agenda_here p n m t a d rest here alive;
-      knows = λ b status head used locked. (
+  -- The thread fits after `SlotFilled`.
+  pub thread_after_birth_slot : (x : ℕ) (h : Holding) → AtDuty p n m t a (BirthSlot x h) rest → NotGone a
+      → FitsAfter p m t a (BirthSlot x h) rest
+  thread_after_birth_slot x h here alive =
+      let d : Duty = BirthSlot x h in
+      let fits = head_of here in
+      let new = done_by m t a d rest in
+      own_next (BirthLocal x h) here alive refl refl refl refl
+      (held_same m.abstract.references t (d ∷ rest) (BirthLocal x h ∷ rest) (λ k o. refl) (λ k o. refl))
+      (agenda_here here alive) (λ b status head used locked. (
         still_next m new t a b x refl status used fits.0,
         fits.1,
         fits.2,
         written_here m.memory (Slot x) 1 ∙ sym fits.3,
-      );
-    })
+      ))
 
 -- A birth doesn't change which rows the thread is finalising.
 born_dies : (life : ℕ → Life) (t x y : ℕ) → life x ≡ Unborn
@@ -129,16 +105,14 @@ born_dies life t x y unborn =
 -- `Born`: the object is born, and the thread's agenda is empty.
 pub thread_after_birth_local : (p : Accounts) (n : ℕ) (m : Machine) (t : ℕ) (a : Actor) (x : ℕ) (h : Holding)
     (rest : List Duty)
-    → AtDuty p n m t a (BirthLocal x h) rest → (a.status ≡ Gone → ⊥)
-    → ThreadFits p (done_by m t a (BirthLocal x h) rest) t
-    (actor_by m.layout t a (BirthLocal x h) rest (found_by m t a (BirthLocal x h)))
+    → AtDuty p n m t a (BirthLocal x h) rest → NotGone a → FitsAfter p m t a (BirthLocal x h) rest
 thread_after_birth_local p n m t a x h [] here alive =
     let d : Duty = BirthLocal x h in
-    let fits = head_of p n m t a d [] here in
-    let later = agenda_here p n m t a d [] here alive in
+    let fits = head_of here in
+    let later = agenda_here here alive in
     let new = done_by m t a d [] in
     let after = actor_by m.layout t a d [] (found_by m t a d) in
-    own_shown p n m t a d [] [] a.status a.head here (record {
+    own_shown [] a.status a.head here (record {
       head_is = refl;
       status_is = refl;
       agenda_is = ready_none a.head;
@@ -151,12 +125,11 @@ thread_after_birth_local p n m t a x h [] here alive =
             λ y. let life : one_if (dies_by (new.life y) t) ≡ one_if (dies_by (m.life y) t) =
             ap one_if (born_dies m.life t x y (next_unborn p n m t a x here.core here.found fits.0)) in omega
             (arith, life);
-      }) (chain_here p n m t a d [] here);
+      }) (chain_here here);
       fits =
           agenda_out after a.status alive
-          (subst (λ (l : List Duty). Agenda after.used a.status l) (sym (ready_none a.head))
-          later);
-      knows = λ b status head used. tt;
+          (subst (λ (l : List Duty). Agenda after.used a.status l) (sym (ready_none a.head)) later);
+      knows = λ b status head used locked. tt;
     })
 thread_after_birth_local p n m t a x h (e ∷ rest) here alive =
-    absurd (let wrong : (e ∷ rest) ≡ [] = (head_of p n m t a (BirthLocal x h) (e ∷ rest) here).1 in cc)
+    absurd (let wrong : (e ∷ rest) ≡ [] = (head_of here).1 in cc)

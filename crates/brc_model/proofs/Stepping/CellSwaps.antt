@@ -8,9 +8,8 @@ use Rattle.brc_model.specs.AbstractState.{Reference, same_holding, same, without
 use Rattle.brc_model.specs.declared.duty.Duty.{Duty}
 use Rattle.brc_model.specs.declared.duty.Duty.TheVariants.{ReleaseLoad, CellSwap}
 use Rattle.brc_model.specs.declared.address.Address.TheVariants.{Cell}
-use Rattle.brc_model.specs.declared.actor.Status.TheVariants.{Gone}
 use Rattle.brc_model.specs.Duties.{release_found}
-use Rattle.brc_model.specs.Machine.{Actor, Machine, actor_by, done_by}
+use Rattle.brc_model.specs.Machine.{Actor, Machine}
 use Rattle.brc_model.specs.Moves.{put_in, take_out}
 use Rattle.brc_model.specs.References.{one_if, reference_of, cell_reference}
 use Rattle.brc_model.specs.Accounts.{Accounts, extra_of, lacks_of}
@@ -18,7 +17,7 @@ use Rattle.brc_model.specs.Invariant.{AtDuty}
 use Rattle.brc_model.proofs.Basics.Bag.{held-cons, held-without, held_has}
 use Rattle.brc_model.proofs.Frame.Cells.{stolen_held}
 use Rattle.brc_model.proofs.Stepping.Own.{HeldStep}
-use Rattle.brc_model.proofs.Stepping.Neutral.{ThreadFits, found_by, agenda_here}
+use Rattle.brc_model.proofs.Stepping.FitsAfter.{agenda_here, NotGone, FitsAfter}
 use Rattle.brc_model.proofs.Stepping.Counts.{same_is}
 use Rattle.brc_model.proofs.Stepping.Steps.{own_done, own_next}
 use Rattle.brc_model.proofs.Stepping.Settling.{held_taken_out}
@@ -50,33 +49,30 @@ held_then : (bag middle new : List Reference) (t : ℕ) (agenda inner later : Li
 held_then bag middle new t agenda inner later first second =
     record { each = λ k object. omega (arith, first.each k object, second.each k object) }
 
--- The thread fits after `ItemStored`: the reference that the account no longer has is the cell's, and what the cell
--- held is in flight.
-pub thread_after_cell_swap : (p : Accounts) (n : ℕ) (m : Machine) (t : ℕ) (a : Actor) (x i y : ℕ) (h : Holding)
-    (rest : List Duty)
-    → AtDuty p n m t a (CellSwap x i y h) rest → (a.status ≡ Gone → ⊥)
-    → ThreadFits p (done_by m t a (CellSwap x i y h) rest) t
-    (actor_by m.layout t a (CellSwap x i y h) rest (found_by m t a (CellSwap x i y h)))
-thread_after_cell_swap p n m t a x i y h rest here alive =
-    let d : Duty = CellSwap x i y h in
-    let bag = m.abstract.references in
-    let later = agenda_here p n m t a d rest here alive in
-    let has = held_has (reference_of t h y) bag (stolen_held p n m t a x i y h rest here) in
-    let put = held_put_in bag t y x i h (d ∷ rest) has (λ k o. refl) (λ k o. refl) in
-    elim (m.memory (Cell x i)) as (λ w. m.memory (Cell x i) ≡ w
-    → ThreadFits p (done_by m t a d rest) t (actor_by m.layout t a d rest (found_by m t a d))) [
-      | zero ↦ λ is.
-          own_done p n m t a d rest here alive refl (ap release_found is) later
-          (subst (λ (w : ℕ). HeldStep bag (moved m.abstract (put_in t h y x i ++ take_out t x i w)).references t
-          (d ∷ rest) []) (sym is) put)
-      | suc z ↦ λ is.
-          let e : Duty = ReleaseLoad z InFlight in
-          own_next p n m t a d e rest here alive refl refl refl (ap release_found is)
-          (subst (λ (w : ℕ). HeldStep bag (moved m.abstract (put_in t h y x i ++ take_out t x i w)).references t
-          (d ∷ rest) (e ∷ rest)) (sym is)
-          (held_then bag (cell_reference x i y ∷ without (reference_of t h y) bag)
-          (reference_of t InFlight z ∷ without (cell_reference x i z)
-          (cell_reference x i y ∷ without (reference_of t h y) bag)) t (d ∷ rest) [] (e ∷ rest) put
-          (held_taken_out (cell_reference x i y ∷ without (reference_of t h y) bag) t x i z [] (e ∷ rest) (λ k o. refl)
-          (λ k o. refl) (λ k o. refl) (λ k o. refl)))) later (λ b status head used locked. tt)
-    ] refl
+module _ {p : Accounts} {n : ℕ} {m : Machine} {t : ℕ} {a : Actor} {rest : List Duty} where
+  -- The thread fits after `ItemStored`: the reference that the account no longer has is the cell's, and what the cell
+  -- held is in flight.
+  pub thread_after_cell_swap : (x i y : ℕ) (h : Holding) → AtDuty p n m t a (CellSwap x i y h) rest → NotGone a
+      → FitsAfter p m t a (CellSwap x i y h) rest
+  thread_after_cell_swap x i y h here alive =
+      let d : Duty = CellSwap x i y h in
+      let bag = m.abstract.references in
+      let later = agenda_here here alive in
+      let has = held_has (reference_of t h y) bag (stolen_held x i y h here) in
+      let put = held_put_in bag t y x i h (d ∷ rest) has (λ k o. refl) (λ k o. refl) in
+      elim (m.memory (Cell x i)) as (λ w. m.memory (Cell x i) ≡ w → FitsAfter p m t a d rest) [
+        | zero ↦ λ is.
+            own_done here alive refl (ap release_found is) later
+            (subst (λ (w : ℕ). HeldStep bag (moved m.abstract (put_in t h y x i ++ take_out t x i w)).references t
+            (d ∷ rest) []) (sym is) put)
+        | suc z ↦ λ is.
+            let e : Duty = ReleaseLoad z InFlight in
+            own_next e here alive refl refl refl (ap release_found is)
+            (subst (λ (w : ℕ). HeldStep bag (moved m.abstract (put_in t h y x i ++ take_out t x i w)).references t
+            (d ∷ rest) (e ∷ rest)) (sym is)
+            (held_then bag (cell_reference x i y ∷ without (reference_of t h y) bag)
+            (reference_of t InFlight z ∷ without (cell_reference x i z)
+            (cell_reference x i y ∷ without (reference_of t h y) bag)) t (d ∷ rest) [] (e ∷ rest) put
+            (held_taken_out (cell_reference x i y ∷ without (reference_of t h y) bag) t x i z [] (e ∷ rest)
+            (λ k o. refl) (λ k o. refl) (λ k o. refl) (λ k o. refl)))) later (λ b status head used locked. tt)
+      ] refl

@@ -6,20 +6,20 @@ use Rattle.std.proofs.lemmas.Bool.{eqb-true, eqb-false, eq-eqb, ne_eqb}
 use Rattle.brc_model.specs.declared.duty.Holding.{Holding}
 use Rattle.brc_model.specs.declared.duty.Holding.TheVariants.{ByVariable, AsCaller, InFlight}
 use Rattle.brc_model.specs.AbstractState.{Reference, same_holding, same, without}
-use Rattle.brc_word.specs.Words.{immortal_local, local_part, is_immortal_word}
+use Rattle.brc_word.specs.Words.{is_immortal_word}
 use Rattle.brc_model.specs.declared.duty.Duty.{Duty}
 use Rattle.brc_model.specs.declared.duty.Duty.TheVariants.{RetainLoad}
 use Rattle.brc_model.specs.declared.address.Address.TheVariants.{Local}
 use Rattle.brc_model.specs.Machine.{Actor, Machine}
 use Rattle.brc_model.proofs.Basics.Bag.{held-cons, held-without}
 use Rattle.brc_model.specs.References.{one_if, reference_of}
-use Rattle.brc_model.specs.RowInvariant.{InOwned, InSwapped, InMerged}
 use Rattle.brc_model.specs.Accounts.{Accounts, extra_of, lacks_of}
 use Rattle.brc_model.proofs.Frame.Alive.{alive_backed}
 use Rattle.brc_model.proofs.Frame.Leaves.{head_of}
 use Rattle.brc_model.proofs.Stepping.Own.{HeldStep}
-use Rattle.brc_model.specs.Invariant.{AtDuty}
-use Rattle.brc_model.specs.Layout.{IsCounted}
+use Rattle.brc_model.specs.Invariant.{AtDuty, numbers_of}
+use Rattle.brc_model.specs.Layout.{IsCounted, block_of}
+use Rattle.brc_model.proofs.Objects.RowsAfterOwn.{counted_word}
 
 -- ---- the bag
 
@@ -107,14 +107,8 @@ held_lost bag t x h agenda later has extra no_less more less = record {
 
 -- ---- retains
 
-pub backed_not_immortal : (p : Accounts) (n : ℕ) (m : Machine) (t : ℕ) (a : Actor) (x : ℕ) (h : Holding)
-    (rest : List Duty)
-    → IsCounted m.layout x → AtDuty p n m t a (RetainLoad x h) rest → is_immortal_word (m.memory (Local x)) ≡ false
-backed_not_immortal p n m t a x h rest pos here =
-    let fits = head_of p n m t a (RetainLoad x h) rest here in
-    let alive = alive_backed p n m t a x here.core pos fits in
-    ne_eqb (local_part (m.memory (Local x))) immortal_local (elim alive.live.mode [
-      | InOwned o ↦ λ e. absurd (omega (arith, o.low, e))
-      | InSwapped s ↦ λ e. absurd (omega (arith, s.local, e))
-      | InMerged s ↦ λ e. absurd (omega (arith, s.local, e))
-    ])
+module _ {p : Accounts} {n : ℕ} {m : Machine} {t : ℕ} {a : Actor} {rest : List Duty} where
+  pub backed_not_immortal : (x : ℕ) (h : Holding) → IsCounted m.layout x → AtDuty p n m t a (RetainLoad x h) rest
+      → is_immortal_word (m.memory (Local x)) ≡ false
+  backed_not_immortal x h pos here =
+      counted_word (block_of m.layout x) (numbers_of m x) (alive_backed t a x here.core pos (head_of here)).live

@@ -8,9 +8,9 @@ use Rattle.brc_model.specs.declared.duty.Reason.TheVariants.{Handed}
 use Rattle.brc_model.specs.declared.duty.Duty.{Duty}
 use Rattle.brc_model.specs.declared.duty.Duty.TheVariants.{MergeSwap, Settle, Leave, Scan, Finish, ClaimMark}
 use Rattle.brc_model.specs.declared.address.Address.TheVariants.{Gate, Mark, ThreadWord}
-use Rattle.brc_model.specs.Duties.{claimed, new_head, ready}
+use Rattle.brc_model.specs.Duties.{claimed, ready}
 use Rattle.brc_model.specs.declared.actor.Status.TheVariants.{Leaving, Gone}
-use Rattle.brc_model.specs.Machine.{Actor, Life, Machine, status_by, dies_next, ended_row, actor_by, done_by, born_row, Unborn}
+use Rattle.brc_model.specs.Machine.{Actor, Life, Machine, dies_next, done_by, Unborn}
 use Rattle.brc_model.specs.References.{one_if}
 use Rattle.brc_model.specs.Accounts.{Accounts, extra_of, lacks_of}
 use Rattle.brc_model.specs.Knowledge.{AllBehind}
@@ -21,33 +21,32 @@ use Rattle.brc_model.proofs.Basics.Written.{written_here}
 use Rattle.brc_model.proofs.Frame.Leaves.{head_of}
 use Rattle.brc_model.proofs.Frame.Lives.{next_of}
 use Rattle.brc_model.proofs.Stepping.Behind.{still_behind}
-use Rattle.brc_model.proofs.Stepping.Own.{HeldStep, ready_is, chain_same}
-use Rattle.brc_model.proofs.Stepping.Neutral.{ThreadFits, found_by, bag_by, memory_by, agenda_here, own_neutral}
+use Rattle.brc_model.proofs.Stepping.Own.{HeldStep, ready_is, chain_same, ready_first}
+use Rattle.brc_model.proofs.Stepping.FitsAfter.{bag_by, memory_by, agenda_here, NotGone, FitsAfter}
 use Rattle.brc_model.proofs.Stepping.Counts.{held_same}
-use Rattle.brc_model.proofs.Stepping.Retains.{ready_first}
 use Rattle.brc_model.proofs.Stepping.Shown.{own_shown, agenda_shown}
 use Rattle.brc_model.proofs.Stepping.Chains.{chain_here}
 use Rattle.brc_model.proofs.Basics.Blocks.{used_block}
 use Rattle.brc_model.proofs.Stepping.Settled.{ready_none}
 use Rattle.brc_model.specs.Layout.{block_of, row_at, IsCounted}
+use Rattle.brc_model.proofs.Stepping.Steps.{own_steady, is_steady}
 
 -- ---- marked rows
 
-pub mark_above : (p : Accounts) (n : ℕ) (m : Machine) (x : ℕ) → CoreInvariant p n m → m.memory (Mark x) ≡ 1
-    → IsCounted m.layout x
-mark_above p n m x core marked = elim (core.marks x) [
-  | inl none ↦ absurd (omega (arith, none, marked))
-  | inr some ↦ some.1
-]
+module _ {p : Accounts} {n : ℕ} {m : Machine} where
+  pub mark_above : (x : ℕ) → CoreInvariant p n m → m.memory (Mark x) ≡ 1 → IsCounted m.layout x
+  mark_above x core marked = elim (core.marks x) [
+    | inl none ↦ absurd (omega (arith, none, marked))
+    | inr some ↦ some.1
+  ]
 
--- A marked row was born.
-pub marked_born : (p : Accounts) (n : ℕ) (m : Machine) (x : ℕ) → CoreInvariant p n m → m.memory (Mark x) ≡ 1
-    → m.life x ≢ Unborn
-marked_born p n m x core marked = λ unborn.
-    let row =
-    subst (λ (l : Life). RowInvariant (block_of m.layout x) l (numbers_of m x)) unborn
-    (core.rows x (mark_above p n m x core marked)) in
-    absurd (omega (arith, row.mark, marked))
+  -- A marked row was born.
+  pub marked_born : (x : ℕ) → CoreInvariant p n m → m.memory (Mark x) ≡ 1 → m.life x ≢ Unborn
+  marked_born x core marked = λ unborn.
+      let row =
+      subst (λ (l : Life). RowInvariant (block_of m.layout x) l (numbers_of m x)) unborn
+      (core.rows x (mark_above x core marked)) in
+      absurd (omega (arith, row.mark, marked))
 
 -- ---- claiming a mark
 
@@ -55,12 +54,6 @@ marked_born p n m x core marked = λ unborn.
 record ClaimStep (m : Machine) (t : ℕ) (a : Actor) (d : Duty) (x : ℕ) (rest behind : List Duty) : Type 0 where
   next_is : next_of m t a d ≡ claimed x (m.memory (Mark x)) ++ behind
   none_dies : dies_next behind ≡ None
-  none_ends : ended_row d ≡ None
-  none_born : born_row d ≡ None
-  same_head : new_head a.head d (found_by m t a d) ≡ a.head
-  same_status : status_by a.status d ≡ a.status
-  gates : (y : ℕ) → memory_by m t a d (Gate y) ≡ m.memory (Gate y)
-  word : memory_by m t a d (ThreadWord t) ≡ m.memory (ThreadWord t)
   hands : (y : ℕ) → finalised (behind ++ rest) y ≡ finalised (d ∷ rest) y
   held : (agenda : List Duty) → ((h : Holding) (object : ℕ) → extra_of agenda h object ≡ false)
       → ((h : Holding) (object : ℕ) → lacks_of agenda h object ≡ false)
@@ -69,156 +62,119 @@ record ClaimStep (m : Machine) (t : ℕ) (a : Actor) (d : Duty) (x : ℕ) (rest 
   later : Later a.used a.status (behind ++ rest)
   knows : (new : Machine) → AllBehind new t rest → AllBehind new t (behind ++ rest)
 
-claim_step : (p : Accounts) (n : ℕ) (m : Machine) (t : ℕ) (a : Actor) (d : Duty) (x : ℕ) (rest behind : List Duty)
-    → AtDuty p n m t a d rest → (a.status ≡ Gone → ⊥) → ClaimStep m t a d x rest behind
-    → ThreadFits p (done_by m t a d rest) t (actor_by m.layout t a d rest (found_by m t a d))
-claim_step p n m t a d x rest behind here alive step =
-    elim (m.memory (Mark x) == 1) as
-    (λ b. (m.memory (Mark x) == 1) ≡ b
-    → ThreadFits p (done_by m t a d rest) t (actor_by m.layout t a d rest (found_by m t a d))) [
-      | true ↦ λ e.
-          let marked : m.memory (Mark x) ≡ 1 = eqb-true (m.memory (Mark x)) 1 e in
-          let above = mark_above p n m x here.core marked in
-          own_neutral p n m t a d rest (MergeSwap x Handed ∷ behind)
-          (MergeSwap x Handed ∷ (behind ++ rest)) here alive (record {
-            next_is = step.next_is ∙ ap (λ (b : Bool). cond b (MergeSwap x Handed ∷ []) [] ++ behind) e;
-            none_dies = refl;
-            none_ends = step.none_ends;
-            none_born = step.none_born;
-            same_head = step.same_head;
-            same_status = step.same_status;
-            agenda_is = ready_first a.head (MergeSwap x Handed) (behind ++ rest) refl;
-            gates = λ y dies. step.gates y;
-            word = step.word;
-            hands = step.hands;
-            held = step.held (MergeSwap x Handed ∷ (behind ++ rest)) (λ h o. refl) (λ h o. refl);
-            fits = step.later;
-            knows = λ b status head used locked. (above, inl (step.block marked));
-          })
-      | false ↦ λ e.
-          let ready_so = ready_is m.layout t a.used a.status a.head (behind ++ rest) step.later in
-          own_neutral p n m t a d rest behind (ready a.head (behind ++ rest)) here alive (record {
-            next_is = step.next_is ∙ ap (λ (b : Bool). cond b (MergeSwap x Handed ∷ []) [] ++ behind) e;
-            none_dies = step.none_dies;
-            none_ends = step.none_ends;
-            none_born = step.none_born;
-            same_head = step.same_head;
-            same_status = step.same_status;
-            agenda_is = refl;
-            gates = λ y dies. step.gates y;
-            word = step.word;
-            hands = λ y. ready_so.hands y ∙ step.hands y;
-            held = step.held (ready a.head (behind ++ rest)) ready_so.more ready_so.less;
-            fits = ready_so.fits;
-            knows =
-                λ b status head used locked. ready_so.knows (done_by m t a d rest) b head
-                (step.knows (done_by m t a d rest) (still_behind p n m t a d rest here));
-          })
-    ] refl
+module _ {p : Accounts} {n : ℕ} {m : Machine} {t : ℕ} {a : Actor} {d : Duty} {rest : List Duty} where
+  claim_step : (x : ℕ) (behind : List Duty) → AtDuty p n m t a d rest → NotGone a → is_steady d ≡ true
+      → ClaimStep m t a d x rest behind → FitsAfter p m t a d rest
+  claim_step x behind here alive steady step =
+      elim (m.memory (Mark x) == 1) as (λ b. (m.memory (Mark x) == 1) ≡ b → FitsAfter p m t a d rest) [
+        | true ↦ λ e.
+            let marked : m.memory (Mark x) ≡ 1 = eqb-true (m.memory (Mark x)) 1 e in
+            let above = mark_above x here.core marked in
+            own_steady (MergeSwap x Handed ∷ behind) (MergeSwap x Handed ∷ (behind ++ rest)) here alive steady (record {
+              next_is = step.next_is ∙ ap (λ (b : Bool). cond b (MergeSwap x Handed ∷ []) [] ++ behind) e;
+              none_dies = refl;
+              agenda_is = ready_first a.head (MergeSwap x Handed) (behind ++ rest) refl;
+              hands = step.hands;
+              held = step.held (MergeSwap x Handed ∷ (behind ++ rest)) (λ h o. refl) (λ h o. refl);
+              fits = step.later;
+              knows = λ b status head used locked. (above, inl (step.block marked));
+            })
+        | false ↦ λ e.
+            let ready_so = ready_is m.layout t a.used a.status a.head (behind ++ rest) step.later in
+            own_steady behind (ready a.head (behind ++ rest)) here alive steady (record {
+              next_is = step.next_is ∙ ap (λ (b : Bool). cond b (MergeSwap x Handed ∷ []) [] ++ behind) e;
+              none_dies = step.none_dies;
+              agenda_is = refl;
+              hands = λ y. ready_so.hands y ∙ step.hands y;
+              held = step.held (ready a.head (behind ++ rest)) ready_so.more ready_so.less;
+              fits = ready_so.fits;
+              knows =
+                  λ b status head used locked. ready_so.knows (done_by m t a d rest) b head
+                  (step.knows (done_by m t a d rest) (still_behind here));
+            })
+      ] refl
 
--- The thread fits after `ScanFindsMark` and `ScanFindsNone`.
-pub thread_after_scan : (p : Accounts) (n : ℕ) (m : Machine) (t : ℕ) (a : Actor) (i k : ℕ) (rest : List Duty)
-    → AtDuty p n m t a (Scan i k) rest → (a.status ≡ Gone → ⊥)
-    → ThreadFits p (done_by m t a (Scan i k) rest) t (actor_by m.layout t a (Scan i k) rest (found_by m t a (Scan i k)))
-thread_after_scan p n m t a i k rest here alive =
-    let some = head_of p n m t a (Scan i k) rest here in
-    let fits = agenda_here p n m t a (Scan i k) rest here alive in
-    let x = row_at m.layout t i in
-    claim_step p n m t a (Scan i k) x rest (Settle ∷ Scan (i + 1) (k - 1) ∷ []) here alive (record {
-      next_is = refl;
-      none_dies = refl;
-      none_ends = refl;
-      none_born = refl;
-      same_head = refl;
-      same_status = refl;
-      gates = λ y. refl;
-      word = refl;
-      hands = λ y. refl;
-      held = λ agenda more less. held_same m.abstract.references t (Scan i k ∷ rest) agenda more less;
-      block = λ marked. used_block p n m t a i here.core here.found (omega (arith, fits.1, some));
-      later = (fits.0, omega (arith, fits.1, some), fits.2);
-      knows = λ new all. (tt, (tt, all));
-    })
+module _ {p : Accounts} {n : ℕ} {m : Machine} {t : ℕ} {a : Actor} {rest : List Duty} where
+  -- The thread fits after `ScanFindsMark` and `ScanFindsNone`.
+  pub thread_after_scan : (i k : ℕ) → AtDuty p n m t a (Scan i k) rest → NotGone a → FitsAfter p m t a (Scan i k) rest
+  thread_after_scan i k here alive =
+      let some = head_of here in
+      let fits = agenda_here here alive in
+      let x = row_at m.layout t i in
+      claim_step x (Settle ∷ Scan (i + 1) (k - 1) ∷ []) here alive refl (record {
+        next_is = refl;
+        none_dies = refl;
+        hands = λ y. refl;
+        held = λ agenda more less. held_same m.abstract.references t (Scan i k ∷ rest) agenda more less;
+        block = λ marked. used_block t a i here.core here.found (omega (arith, fits.1, some));
+        later = (fits.0, omega (arith, fits.1, some), fits.2);
+        knows = λ new all. (tt, (tt, all));
+      })
 
--- `MarkClaimed` and `NothingToClaim`: a running thread looks into its queue.
-pub thread_after_claim_mark : (p : Accounts) (n : ℕ) (m : Machine) (t : ℕ) (a : Actor) (x : ℕ) (rest : List Duty)
-    → AtDuty p n m t a (ClaimMark x) rest → (a.status ≡ Gone → ⊥)
-    → ThreadFits p (done_by m t a (ClaimMark x) rest) t
-    (actor_by m.layout t a (ClaimMark x) rest (found_by m t a (ClaimMark x)))
-thread_after_claim_mark p n m t a x rest here alive =
-    claim_step p n m t a (ClaimMark x) x rest (Settle ∷ []) here alive (record {
-      next_is = refl;
-      none_dies = refl;
-      none_ends = refl;
-      none_born = refl;
-      same_head = refl;
-      same_status = refl;
-      gates = λ y. refl;
-      word = refl;
-      hands = λ y. refl;
-      held = λ agenda more less. held_same m.abstract.references t (ClaimMark x ∷ rest) agenda more less;
-      block = λ marked. head_of p n m t a (ClaimMark x) rest here;
-      later = agenda_here p n m t a (ClaimMark x) rest here alive;
-      knows = λ new all. (tt, all);
-    })
+  -- `MarkClaimed` and `NothingToClaim`: a running thread looks into its queue.
+  pub thread_after_claim_mark : (x : ℕ) → AtDuty p n m t a (ClaimMark x) rest → NotGone a
+      → FitsAfter p m t a (ClaimMark x) rest
+  thread_after_claim_mark x here alive =
+      claim_step x (Settle ∷ []) here alive refl (record {
+        next_is = refl;
+        none_dies = refl;
+        hands = λ y. refl;
+        held = λ agenda more less. held_same m.abstract.references t (ClaimMark x ∷ rest) agenda more less;
+        block = λ marked. head_of here;
+        later = agenda_here here alive;
+        knows = λ new all. (tt, all);
+      })
 
 -- ---- the thread says that it leaves
 
--- The chain fits after a step that changes no gate and no life, if the duties finalise what they did before.
-exit_chain : (p : Accounts) (n : ℕ) (m : Machine) (t : ℕ) (a : Actor) (d : Duty) (rest agenda : List Duty)
-    → AtDuty p n m t a d rest → ((y : ℕ) → memory_by m t a d (Gate y) ≡ m.memory (Gate y))
-    → ((y : ℕ) → (done_by m t a d rest).life y ≡ m.life y)
-    → ((y : ℕ) → finalised agenda y ≡ finalised (d ∷ rest) y)
-    → ChainFits (done_by m t a d rest) t a.head agenda
-exit_chain p n m t a d rest agenda here gates lives hands =
-    chain_same m (done_by m t a d rest) t a.head (d ∷ rest) agenda (record {
-      gates = λ y dies. gates y;
-      hands = λ y.
-          let life : one_if (dies_by ((done_by m t a d rest).life y) t) ≡ one_if (dies_by (m.life y) t) =
-          ap (λ (l : Life). one_if (dies_by l t)) (lives y) in
-          omega (arith, hands y, life);
-    }) (chain_here p n m t a d rest here)
+module _ {p : Accounts} {n : ℕ} {m : Machine} {t : ℕ} {a : Actor} {d : Duty} {rest : List Duty} where
+  -- The chain fits after a step that changes no gate and no life, if the duties finalise what they did before.
+  exit_chain : (agenda : List Duty) → AtDuty p n m t a d rest
+      → ((y : ℕ) → memory_by m t a d (Gate y) ≡ m.memory (Gate y))
+      → ((y : ℕ) → (done_by m t a d rest).life y ≡ m.life y) → ((y : ℕ) → finalised agenda y ≡ finalised (d ∷ rest) y)
+      → ChainFits (done_by m t a d rest) t a.head agenda
+  exit_chain agenda here gates lives hands =
+      chain_same m (done_by m t a d rest) t a.head (d ∷ rest) agenda (record {
+        gates = λ y dies. gates y;
+        hands = λ y.
+            let life : one_if (dies_by ((done_by m t a d rest).life y) t) ≡ one_if (dies_by (m.life y) t) =
+            ap (λ (l : Life). one_if (dies_by l t)) (lives y) in
+            omega (arith, hands y, life);
+      }) (chain_here here)
 
 -- The thread fits after `SaysLeaving`.
 pub thread_after_leave : (p : Accounts) (n : ℕ) (m : Machine) (t : ℕ) (a : Actor) (x k : ℕ) (rest : List Duty)
-    → AtDuty p n m t a (Leave x k) rest → (a.status ≡ Gone → ⊥)
-    → ThreadFits p (done_by m t a (Leave x k) rest) t
-    (actor_by m.layout t a (Leave x k) rest (found_by m t a (Leave x k)))
+    → AtDuty p n m t a (Leave x k) rest → NotGone a → FitsAfter p m t a (Leave x k) rest
 thread_after_leave p n m t a x k [] here alive =
-    let fits = agenda_here p n m t a (Leave x k) [] here alive in
+    let fits = agenda_here here alive in
     let looks : List Duty = Scan x k ∷ Finish ∷ [] in
-    let ready_so =
-    ready_is m.layout t a.used Leaving a.head looks
-    (refl, omega (arith, fits.1, fits.2), refl) in
-    own_shown p n m t a (Leave x k) [] (ready a.head looks) Leaving a.head here (record {
+    let ready_so = ready_is m.layout t a.used Leaving a.head looks (refl, omega (arith, fits.1, fits.2), refl) in
+    own_shown (ready a.head looks) Leaving a.head here (record {
       head_is = refl;
       status_is = refl;
       agenda_is = refl;
       word = written_here m.memory (ThreadWord t) 2;
       held = held_same m.abstract.references t (Leave x k ∷ []) (ready a.head looks) ready_so.more ready_so.less;
-      chain =
-          exit_chain p n m t a (Leave x k) [] (ready a.head looks) here (λ y. refl) (λ y. refl) ready_so.hands;
+      chain = exit_chain (ready a.head looks) here (λ y. refl) (λ y. refl) ready_so.hands;
       fits = agenda_shown m t a (Leave x k) [] (ready a.head looks) Leaving (λ e. cc) refl refl ready_so.fits;
-      knows = λ b status head used. ready_so.knows (done_by m t a (Leave x k) []) b head (tt, (tt, tt));
+      knows = λ b status head used locked. ready_so.knows (done_by m t a (Leave x k) []) b head (tt, (tt, tt));
     })
-thread_after_leave p n m t a x k (e ∷ rest) here alive =
-    absurd (agenda_here p n m t a (Leave x k) (e ∷ rest) here alive)
+thread_after_leave p n m t a x k (e ∷ rest) here alive = absurd (agenda_here here alive)
 
 -- ---- the thread says that it is gone
 
 -- `SaysGone`: the thread's chain is empty by `IsSettled`, since a thread settles before it leaves and after each mark.
 pub thread_after_finish : (p : Accounts) (n : ℕ) (m : Machine) (t : ℕ) (a : Actor) (rest : List Duty)
-    → AtDuty p n m t a Finish rest → (a.status ≡ Gone → ⊥) → (empty : a.head ≡ 0)
-    → ThreadFits p (done_by m t a Finish rest) t (actor_by m.layout t a Finish rest (found_by m t a Finish))
+    → AtDuty p n m t a Finish rest → NotGone a → (empty : a.head ≡ 0) → FitsAfter p m t a Finish rest
 thread_after_finish p n m t a [] here alive empty =
-    own_shown p n m t a Finish [] [] Gone a.head here (record {
+    own_shown [] Gone a.head here (record {
       head_is = refl;
       status_is = refl;
       agenda_is = ready_none a.head;
       word = written_here m.memory (ThreadWord t) 3;
       held = held_same m.abstract.references t (Finish ∷ []) [] (λ k o. refl) (λ k o. refl);
-      chain = exit_chain p n m t a Finish [] [] here (λ y. refl) (λ y. refl) (λ y. refl);
+      chain = exit_chain [] here (λ y. refl) (λ y. refl) (λ y. refl);
       fits = (ready_none a.head, empty);
-      knows = λ b status head used. tt;
+      knows = λ b status head used locked. tt;
     })
-thread_after_finish p n m t a (e ∷ rest) here alive empty = absurd (agenda_here p n m t a Finish (e ∷ rest) here alive)
+thread_after_finish p n m t a (e ∷ rest) here alive empty = absurd (agenda_here here alive)

@@ -11,20 +11,19 @@ use Rattle.brc_model.specs.Invariant.{AtDuty}
 use Rattle.brc_model.proofs.Basics.Lists.{none_some}
 use Rattle.brc_model.proofs.Frame.Leaves.{head_of}
 
--- The resource that a thread has lent after its step is that of the object that it has locked after its step.
-pub lent_after : (p : Accounts) (n : ℕ) (m : Machine) (t : ℕ) (a : Actor) (d : Duty) (rest : List Duty)
-    → AtDuty p n m t a d rest → (x : ℕ)
-    → (actor_by m.layout t a d rest (m.memory (address_of m.layout t a.head d))).lent ≡ Some x
-    → (actor_by m.layout t a d rest (m.memory (address_of m.layout t a.head d))).locked ≡ Some x
-lent_after p n m t a (LockGate y) rest here x e =
-    absurd (none_some x (sym (head_of p n m t a (LockGate y) rest here).2 ∙ (here.core.each t a here.found).0.lent x e))
-lent_after p n m t a (UnlockGate y) rest here x e =
-    absurd (none_some x (sym (head_of p n m t a (UnlockGate y) rest here).4 ∙ e))
-lent_after p n m t a (LendSlot y) rest here x e =
-    let fits = head_of p n m t a (LendSlot y) rest here in
-    elim (m.memory (Slot y) == 1) as (λ b. cond b (Some y) a.lent ≡ Some x → a.locked ≡ Some x) [
-      | true ↦ λ is. fits.1 ∙ is
-      | false ↦ λ is. absurd (none_some x (sym fits.2 ∙ is))
-    ] e
-lent_after p n m t a (ReturnSlot y) rest here x e = absurd (none_some x e)
-lent_after p n m t a d rest here x e = (here.core.each t a here.found).0.lent x e
+module _ {p : Accounts} {n : ℕ} {m : Machine} {t : ℕ} {a : Actor} {rest : List Duty} where
+  -- The resource that a thread has lent after its step is that of the object that it has locked after its step.
+  pub lent_after : (d : Duty) → AtDuty p n m t a d rest → (x : ℕ)
+      → (actor_by m.layout t a d rest (m.memory (address_of m.layout t a.head d))).lent ≡ Some x
+      → (actor_by m.layout t a d rest (m.memory (address_of m.layout t a.head d))).locked ≡ Some x
+  lent_after (LockGate y) here x e =
+      absurd (none_some x (sym (head_of here).2 ∙ (here.core.each t a here.found).0.lent x e))
+  lent_after (UnlockGate y) here x e = absurd (none_some x (sym (head_of here).4 ∙ e))
+  lent_after (LendSlot y) here x e =
+      let fits = head_of here in
+      elim (m.memory (Slot y) == 1) as (λ b. cond b (Some y) a.lent ≡ Some x → a.locked ≡ Some x) [
+        | true ↦ λ is. fits.1 ∙ is
+        | false ↦ λ is. absurd (none_some x (sym fits.2 ∙ is))
+      ] e
+  lent_after (ReturnSlot y) here x e = absurd (none_some x e)
+  lent_after d here x e = (here.core.each t a here.found).0.lent x e

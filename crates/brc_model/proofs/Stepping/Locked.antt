@@ -138,110 +138,103 @@ lock_held : (m : Machine) (t : ℕ) (a : Actor) (x : ℕ) → a.locked ≡ None 
 lock_held m t a x unlocked (ByReference by some) = record { by = by; held_so = some }
 lock_held m t a x unlocked (ByItem list i e word) = absurd (none_some list (sym unlocked ∙ e))
 
-backed_so : (p : Accounts) (n : ℕ) (m : Machine) (t : ℕ) (a : Actor) (x : ℕ) (rest : List Duty)
-    → AtDuty p n m t a (LockGate x) rest → (backed : IsHeld m t x) → sum_by (makes backed.by x) rest ≡ 0
-    → making a backed.by x < p t backed.by x
-backed_so p n m t a x rest here backed none =
-    let fits = here.core.each t a here.found in
-    let k = backed.by in
-    let holds : HoldsAt m.abstract.references t (p t) (LockGate x ∷ rest) a.aside =
-    subst (λ (l : List Duty). HoldsAt m.abstract.references t (p t) l a.aside) here.agenda fits.0.holds in
-    let about : one_if (about_of x a.agenda) ≡ 1 =
-    ap (λ (l : List Duty). one_if (about_of x l)) here.agenda ∙ ap one_if (eq-eqb x x refl) in
-    let agenda : sum_by (makes k x) a.agenda ≡ 0 + sum_by (makes k x) rest =
-    ap (sum_by (makes k x)) here.agenda ∙ sum_by-cons (makes k x) (LockGate x) rest in
-    omega (
-      arith,
-      holds.each k x,
-      backed.held_so,
-      about,
-      fits.2.apart x,
-      lacks_counted a.aside k x,
-      extra_counted a.aside k x,
-      gives_counted m t a a.aside x fits.2.waits,
-      agenda,
-      none,
-    )
+module _ {p : Accounts} {n : ℕ} {m : Machine} {t : ℕ} {a : Actor} {rest : List Duty} where
+  backed_so : (x : ℕ) → AtDuty p n m t a (LockGate x) rest → (backed : IsHeld m t x)
+      → sum_by (makes backed.by x) rest ≡ 0 → making a backed.by x < p t backed.by x
+  backed_so x here backed none =
+      let fits = here.core.each t a here.found in
+      let k = backed.by in
+      let holds : HoldsAt m.abstract.references t (p t) (LockGate x ∷ rest) a.aside =
+      subst (λ (l : List Duty). HoldsAt m.abstract.references t (p t) l a.aside) here.agenda fits.0.holds in
+      let about : one_if (about_of x a.agenda) ≡ 1 =
+      ap (λ (l : List Duty). one_if (about_of x l)) here.agenda ∙ ap one_if (eq-eqb x x refl) in
+      let agenda : sum_by (makes k x) a.agenda ≡ 0 + sum_by (makes k x) rest =
+      ap (sum_by (makes k x)) here.agenda ∙ sum_by-cons (makes k x) (LockGate x) rest in
+      omega (
+        arith,
+        holds.each k x,
+        backed.held_so,
+        about,
+        fits.2.apart x,
+        lacks_counted a.aside k x,
+        extra_counted a.aside k x,
+        gives_counted m t a a.aside x fits.2.waits,
+        agenda,
+        none,
+      )
 
--- Of a thread that locks, the account has the reference that backs the lock: none of the thread's work makes or gives
--- up a reference to the list.
-backed_account : (p : Accounts) (n : ℕ) (m : Machine) (t : ℕ) (a : Actor) (x : ℕ) (rest : List Duty)
-    → AtDuty p n m t a (LockGate x) rest → (backed : IsHeld m t x) → making a backed.by x < p t backed.by x
-backed_account p n m t a x rest here backed =
-    backed_so p n m t a x rest here backed
-    (behind_makes a a.status (LockGate x) rest backed.by x here.agenda (here.core.each t a here.found).1)
+  -- Of a thread that locks, the account has the reference that backs the lock: none of the thread's work makes or gives
+  -- up a reference to the list.
+  backed_account : (x : ℕ) → AtDuty p n m t a (LockGate x) rest → (backed : IsHeld m t x)
+      → making a backed.by x < p t backed.by x
+  backed_account x here backed =
+      backed_so x here backed
+      (behind_makes a a.status (LockGate x) rest backed.by x here.agenda (here.core.each t a here.found).1)
 
--- The thread still holds the list after `Locks`.
-lock_taken : (p : Accounts) (n : ℕ) (m : Machine) (t : ℕ) (a : Actor) (x : ℕ) (rest : List Duty)
-    → AtDuty p n m t a (LockGate x) rest → m.memory (Gate x) ≡ free_word
-    → HasLocked (p t) m.layout (done_by m t a (LockGate x) rest).memory t
-    (actor_by m.layout t a (LockGate x) rest (m.memory (Gate x))) x
-lock_taken p n m t a x rest here free =
-    let fits = head_of p n m t a (LockGate x) rest here in
-    let holds = lock_held m t a x fits.2 fits.1 in
-    let less = makes_less m t a (LockGate x) rest holds.by x (m.memory (Gate x)) here.agenda refl in
-    let had = backed_account p n m t a x rest here holds in
-    let word : cond (m.memory (Gate x) == free_word) (locked_word t) (m.memory (Gate x)) ≡ locked_word t =
-    ap (λ (b : Bool). cond b (locked_word t) (m.memory (Gate x))) (eq-eqb (m.memory (Gate x)) free_word free) in
-    record {
-      counted = fits.0;
-      by = holds.by;
-      held_so = omega (arith, less, had);
-      gate = written_here m.memory (Gate x) _ ∙ word;
-    }
+  -- The thread still holds the list after `Locks`.
+  lock_taken : (x : ℕ) → AtDuty p n m t a (LockGate x) rest → m.memory (Gate x) ≡ free_word
+      → HasLocked (p t) m.layout (done_by m t a (LockGate x) rest).memory t
+      (actor_by m.layout t a (LockGate x) rest (m.memory (Gate x))) x
+  lock_taken x here free =
+      let fits = head_of here in
+      let holds = lock_held m t a x fits.2 fits.1 in
+      let less = makes_less m t a (LockGate x) rest holds.by x (m.memory (Gate x)) here.agenda refl in
+      let had = backed_account x here holds in
+      let word : cond (m.memory (Gate x) == free_word) (locked_word t) (m.memory (Gate x)) ≡ locked_word t =
+      ap (λ (b : Bool). cond b (locked_word t) (m.memory (Gate x))) (eq-eqb (m.memory (Gate x)) free_word free) in
+      record {
+        counted = fits.0;
+        by = holds.by;
+        held_so = omega (arith, less, had);
+        gate = written_here m.memory (Gate x) _ ∙ word;
+      }
 
--- ---- a lock that was taken before
+  -- ---- a lock that was taken before
 
--- A thread's step doesn't change the gate of the list that it has locked.
-gate_kept : (p : Accounts) (n : ℕ) (m : Machine) (t : ℕ) (a : Actor) (d : Duty) (rest : List Duty) (x : ℕ)
-    → AtDuty p n m t a d rest → a.locked ≡ Some x → is_locking d ≡ false
-    → (done_by m t a d rest).memory (Gate x) ≡ m.memory (Gate x)
-gate_kept p n m t a (Die y) rest x here e other =
-    written_apart m.memory (Gate y) (Gate x) _
-    (apart_gate y x (alive_apart m t x y (head_of p n m t a (Die y) rest here).1
-    (locked_alive p n m t a x here.core here.found e)))
-gate_kept p n m t a Settle rest x here e other = written_load m.memory (Gate (a.head - 1)) (Gate x)
-gate_kept p n m t a (SettleEnd y) rest x here e other =
-    written_apart m.memory (Gate y) (Gate x) _
-    (apart_gate y x (alive_apart m t x y (head_of p n m t a (SettleEnd y) rest here).1
-    (locked_alive p n m t a x here.core here.found e)))
-gate_kept p n m t a (LockGate y) rest x here e other = absurd cc
-gate_kept p n m t a (UnlockGate y) rest x here e other = absurd cc
-gate_kept p n m t a _ rest x here e other = refl
+  -- A thread's step doesn't change the gate of the list that it has locked.
+  gate_kept : (d : Duty) (x : ℕ) → AtDuty p n m t a d rest → a.locked ≡ Some x → is_locking d ≡ false
+      → (done_by m t a d rest).memory (Gate x) ≡ m.memory (Gate x)
+  gate_kept (Die y) x here e other =
+      written_apart m.memory (Gate y) (Gate x) _
+      (apart_gate y x (alive_apart m t x y (head_of here).1 (locked_alive t a x here.core here.found e)))
+  gate_kept Settle x here e other = written_load m.memory (Gate (a.head - 1)) (Gate x)
+  gate_kept (SettleEnd y) x here e other =
+      written_apart m.memory (Gate y) (Gate x) _
+      (apart_gate y x (alive_apart m t x y (head_of here).1 (locked_alive t a x here.core here.found e)))
+  gate_kept _ x here e other = cc
 
--- The thread still holds the list after a step that neither locks nor unlocks.
-still_locked : (p : Accounts) (n : ℕ) (m : Machine) (t : ℕ) (a : Actor) (d : Duty) (rest : List Duty)
-    → AtDuty p n m t a d rest → is_locking d ≡ false → (x : ℕ) → a.locked ≡ Some x
-    → HasLocked (p t) m.layout (done_by m t a d rest).memory t
-    (actor_by m.layout t a d rest (m.memory (address_of m.layout t a.head d))) x
-still_locked p n m t a d rest here other x e =
-    let it = (here.core.each t a here.found).0.locks x e in
-    let less =
-    makes_less m t a d rest it.by x (m.memory (address_of m.layout t a.head d)) here.agenda refl in
-    record {
-      counted = it.counted;
-      by = it.by;
-      held_so = omega (arith, less, it.held_so);
-      gate = gate_kept p n m t a d rest x here e other ∙ it.gate;
-    }
+module _ {p : Accounts} {n : ℕ} {m : Machine} {t : ℕ} {a : Actor} {d : Duty} {rest : List Duty} where
+  -- The thread still holds the list after a step that neither locks nor unlocks.
+  still_locked : AtDuty p n m t a d rest → is_locking d ≡ false → (x : ℕ) → a.locked ≡ Some x
+      → HasLocked (p t) m.layout (done_by m t a d rest).memory t
+      (actor_by m.layout t a d rest (m.memory (address_of m.layout t a.head d))) x
+  still_locked here other x e =
+      let it = (here.core.each t a here.found).0.locks x e in
+      let less = makes_less m t a d rest it.by x (m.memory (address_of m.layout t a.head d)) here.agenda refl in
+      record {
+        counted = it.counted;
+        by = it.by;
+        held_so = omega (arith, less, it.held_so);
+        gate = gate_kept d x here e other ∙ it.gate;
+      }
 
 -- ---- any step
 
--- After its step a thread holds the list that it has locked, and the gate names the thread.
-pub locks_after : (p : Accounts) (n : ℕ) (m : Machine) (t : ℕ) (a : Actor) (d : Duty) (rest : List Duty)
-    → AtDuty p n m t a d rest
-    → LocksFit (p t) (done_by m t a d rest) t
-    (actor_by m.layout t a d rest (m.memory (address_of m.layout t a.head d)))
-locks_after p n m t a (LockGate y) rest here x e =
-    let none : a.locked ≡ None = (head_of p n m t a (LockGate y) rest here).2 in
-    let found = m.memory (Gate y) in
-    let after = actor_by m.layout t a (LockGate y) rest found in
-    elim (found == free_word) as (λ b. (found == free_word) ≡ b → cond b (Some y) a.locked ≡ Some x
-    → HasLocked (p t) m.layout (done_by m t a (LockGate y) rest).memory t after x) [
-      | true ↦ λ free is.
-          subst (λ (z : ℕ). HasLocked (p t) m.layout (done_by m t a (LockGate y) rest).memory t after z) (some_is y x is)
-          (lock_taken p n m t a y rest here (eqb-true found free_word free))
-      | false ↦ λ held is. absurd (none_some x (sym none ∙ is))
-    ] refl e
-locks_after p n m t a (UnlockGate y) rest here x e = absurd (none_some x e)
-locks_after p n m t a d rest here x e = still_locked p n m t a d rest here refl x e
+module _ {p : Accounts} {n : ℕ} {m : Machine} {t : ℕ} {a : Actor} {rest : List Duty} where
+  -- After its step a thread holds the list that it has locked, and the gate names the thread.
+  pub locks_after : (d : Duty) → AtDuty p n m t a d rest
+      → LocksFit (p t) (done_by m t a d rest) t
+      (actor_by m.layout t a d rest (m.memory (address_of m.layout t a.head d)))
+  locks_after (LockGate y) here x e =
+      let none : a.locked ≡ None = (head_of here).2 in
+      let found = m.memory (Gate y) in
+      let after = actor_by m.layout t a (LockGate y) rest found in
+      elim (found == free_word) as (λ b. (found == free_word) ≡ b → cond b (Some y) a.locked ≡ Some x
+      → HasLocked (p t) m.layout (done_by m t a (LockGate y) rest).memory t after x) [
+        | true ↦ λ free is.
+            subst (λ (z : ℕ). HasLocked (p t) m.layout (done_by m t a (LockGate y) rest).memory t after z)
+            (some_is y x is) (lock_taken y here (eqb-true found free_word free))
+        | false ↦ λ held is. absurd (none_some x (sym none ∙ is))
+      ] refl e
+  locks_after (UnlockGate y) here x e = absurd (none_some x e)
+  locks_after d here x e = still_locked here refl x e

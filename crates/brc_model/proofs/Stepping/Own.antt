@@ -15,6 +15,7 @@ use Rattle.brc_model.specs.OpenWork.{Later, Agenda, is_finalising, finalised, di
 use Rattle.brc_model.proofs.Frame.Others.{linked_kept}
 use Rattle.brc_model.proofs.Basics.Bag.{one_if_true}
 use Rattle.brc_model.specs.declared.layout.Layout.{Layout}
+use Rattle.brc_model.proofs.Basics.Continuation.{is_inner}
 
 -- ---- what the thread holds
 
@@ -114,3 +115,12 @@ chain_same m new t head agenda later same fits = record {
       (λ x some. same.gates x (one_if_true _ (omega (arith, fits.once x, some)))) fits.linked;
   once = λ x. omega (arith, fits.once x, same.hands x);
 }
+
+-- A duty that works on one object is never skipped.
+pub ready_first : (head : ℕ) (d : Duty) (rest : List Duty) → is_inner d ≡ true → ready head (d ∷ rest) ≡ d ∷ rest
+ready_first zero Settle rest e = absurd cc
+ready_first zero (Scan x k) rest e = absurd cc
+ready_first zero _ rest e = refl
+ready_first (suc head) Settle rest e = absurd cc
+ready_first (suc head) (Scan x k) rest e = absurd cc
+ready_first (suc head) _ rest e = refl

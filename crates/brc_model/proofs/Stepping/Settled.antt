@@ -7,7 +7,7 @@ use Rattle.brc_model.specs.Duties.{new_head, ready}
 use Rattle.brc_model.specs.Machine.{Actor, Machine, is_running, actor_by}
 use Rattle.brc_model.specs.OpenWork.{IsSettled}
 use Rattle.brc_model.proofs.Frame.Lives.{next_of}
-use Rattle.brc_model.proofs.Stepping.Neutral.{found_by}
+use Rattle.brc_model.proofs.Stepping.FitsAfter.{found_by}
 use Rattle.brc_model.proofs.Basics.Continuation.{is_inner, next_inner, first_inner, Continuation, Ends, Finishes, GoesOn, Frees, FreesOld, SettlesRow, Claims, ClaimsNone, Exits, Scans, ScansNone, continues}
 use Rattle.brc_model.specs.declared.layout.Layout.{Layout}
 

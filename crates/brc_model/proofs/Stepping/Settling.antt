@@ -1,161 +1,132 @@
 -- A thread fits after its own steps on the row that it is finalising: it reads the row's kind, and empties its cells or
 -- closes its resource.
-use Rattle.std.proofs.Common.{◌≡◌, ℕ, zero, suc, ◌+◌, Bool, true, false, cond, List, [], ◌∷◌, ◌++◌, inl, inr, None, refl, sym, ap, ◌∙◌, subst, arith}
+use Rattle.std.proofs.Common.{◌≡◌, ℕ, zero, suc, ◌+◌, Bool, true, false, cond, List, [], ◌∷◌, ◌++◌, inl, inr, None, refl, sym, ap, ◌∙◌, subst, arith, Option}
 use Rattle.std.specs.Prelude.{◌==◌, ◌&&◌, ◌||◌, nat_lt}
-use Rattle.std.proofs.lemmas.Bool.{ltb-true, ltb-false, ne_eqb, false≢true}
+use Rattle.std.proofs.lemmas.Bool.{ltb-true, ltb-false, ne_eqb, false≢true, eq-eqb}
 use Rattle.brc_model.specs.declared.duty.Holding.{Holding}
 use Rattle.brc_model.specs.declared.duty.Holding.TheVariants.{InFlight}
 use Rattle.brc_model.specs.declared.duty.Duty.{Duty}
-use Rattle.brc_model.specs.declared.duty.Duty.TheVariants.{ReleaseLoad, SettleKind, SettleCell, SettleEnd, TakeSlot, CloseResource}
-use Rattle.brc_model.specs.declared.address.Address.TheVariants.{Gate, KindOf, Cell, ThreadWord}
-use Rattle.brc_model.specs.Duties.{new_head, cells_of, cells_from, release_found, has_resource, resources_of}
+use Rattle.brc_model.specs.declared.duty.Duty.TheVariants.{ReleaseLoad, SettleKind, SettleCell, SettleEnd, TakeSlot, CloseResource, Leave, Scan, Finish, Settle}
+use Rattle.brc_model.specs.declared.address.Address.TheVariants.{Gate, KindOf, Cell}
+use Rattle.brc_model.specs.Duties.{cells_of, cells_from, release_found, has_resource, resources_of}
 use Rattle.brc_model.specs.declared.actor.Status.{Status}
-use Rattle.brc_model.specs.declared.actor.Status.TheVariants.{Gone}
-use Rattle.brc_model.specs.Machine.{Actor, Dying, Machine, status_by, ended_row, actor_by, done_by, born_row, dies_next}
+use Rattle.brc_model.specs.Machine.{Actor, Dying, Machine, done_by, dies_next, Life}
 use Rattle.brc_model.specs.Moves.{take_out}
 use Rattle.brc_model.specs.AbstractState.{Reference, same_holding, same, without, moved}
 use Rattle.brc_model.specs.References.{one_if, reference_of, cell_reference}
 use Rattle.brc_word.specs.Words.{kind_part, argument_part}
 use Rattle.brc_model.specs.Accounts.{Accounts, extra_of, lacks_of, extra, lacks}
-use Rattle.brc_model.specs.OpenWork.{Later, Agenda, finalised, is_finalising}
+use Rattle.brc_model.specs.OpenWork.{Later, Agenda, finalised, is_finalising, dies_by}
 use Rattle.brc_model.specs.Knowledge.{IsDyingWord, IsEmptyBut, HeadFits}
 use Rattle.brc_model.proofs.Basics.Written.{written_load}
 use Rattle.brc_model.proofs.Frame.Leaves.{head_of}
 use Rattle.brc_model.proofs.Frame.Lives.{next_of}
-use Rattle.brc_model.proofs.Stepping.Own.{HeldStep}
-use Rattle.brc_model.proofs.Stepping.Neutral.{ThreadFits, found_by, bag_by, memory_by, agenda_here, life_same, own_neutral}
+use Rattle.brc_model.proofs.Stepping.Own.{HeldStep, ready_first}
+use Rattle.brc_model.proofs.Stepping.FitsAfter.{bag_by, agenda_here, life_same, NotGone, FitsAfter}
 use Rattle.brc_model.proofs.Stepping.Counts.{same_is, held_same}
 use Rattle.brc_model.proofs.Basics.Bag.{held-cons}
 use Rattle.brc_model.proofs.Basics.MovesApart.{held-without_apart}
 use Rattle.brc_model.proofs.Frame.Cells.{one_emptied, all_emptied}
-use Rattle.brc_model.proofs.Stepping.Retains.{ready_first}
 use Rattle.brc_model.proofs.Basics.Continuation.{is_inner}
 use Rattle.brc_model.specs.Invariant.{AtDuty}
-use Rattle.brc_model.specs.declared.layout.Layout.{Layout}
 use Rattle.brc_model.specs.Layout.{IsCounted}
+use Rattle.brc_model.proofs.Stepping.Steps.{own_steady, is_steady, keeping_ends, keeping_born, keeping_gates}
 
 -- ---- the duties that follow a step
 
--- What the steps between `Settle` and `SettleEnd` have in common: the row is dying by this thread, and the step changes
--- neither gates nor the chain nor the thread's status.
+-- What the steps between `Settle` and `SettleEnd` have in common: the row is dying by this thread.
 record SettlingStep (m : Machine) (t : ℕ) (a : Actor) (d : Duty) (x : ℕ) (rest : List Duty) : Type 0 where
   above : IsCounted m.layout x
   dies : m.life x ≡ Dying t
   gate : IsDyingWord t (m.memory (Gate x))
-  none_ends : ended_row d ≡ None
-  none_born : born_row d ≡ None
-  same_head : new_head a.head d (found_by m t a d) ≡ a.head
-  same_status : status_by a.status d ≡ a.status
-  gates : (y : ℕ) → memory_by m t a d (Gate y) ≡ m.memory (Gate y)
-  word : memory_by m t a d (ThreadWord t) ≡ m.memory (ThreadWord t)
+  steady : is_steady d ≡ true
   hands : (y : ℕ) → (x == y) ≡ is_finalising d y
   held : (e : Duty) → ((h : Holding) (object : ℕ) → extra_of (e ∷ rest) h object ≡ false)
       → ((h : Holding) (object : ℕ) → lacks_of (e ∷ rest) h object ≡ false)
       → HeldStep m.abstract.references (bag_by m t a d) t (d ∷ rest) (e ∷ rest)
   later : Later a.used a.status rest
 
+-- The row that a duty finalises, the row that dies by it, whether it works on one object, and the references that it
+-- makes and gives up.
+record Hand : Type 0 where
+  finalises : ℕ → Bool
+  dying : Option ℕ
+  inner : Bool
+  makes : Holding → ℕ → Bool
+  gives_up : Holding → ℕ → Bool
+
+abbrev hand_of : Duty → Hand
+hand_of d = record {
+  finalises = is_finalising d;
+  dying = dies_next (d ∷ []);
+  inner = is_inner d;
+  makes = lacks d;
+  gives_up = extra d;
+}
+
 -- The duty is one more step on the row that the thread is finalising.
-record KeepsHand (e : Duty) (x : ℕ) : Type 0 where
-  hand : (y : ℕ) → is_finalising e y ≡ (x == y)
-  lives : dies_next (e ∷ []) ≡ None
-  stays : is_inner e ≡ true
-  extra_none : (h : Holding) (object : ℕ) → extra e h object ≡ false
-  lacks_none : (h : Holding) (object : ℕ) → lacks e h object ≡ false
-  later : (layout : Layout) (t used : ℕ) (status : Status) (rest : List Duty)
-      → Later used status rest
-      → Agenda used status (e ∷ rest)
-
-settles_on : (p : Accounts) (n : ℕ) (m : Machine) (t : ℕ) (a : Actor) (d e : Duty) (x : ℕ) (rest : List Duty)
-    → AtDuty p n m t a d rest → (a.status ≡ Gone → ⊥) → SettlingStep m t a d x rest
-    → KeepsHand e x → next_of m t a d ≡ e ∷ []
-    → ((done_by m t a d rest).life x ≡ Dying t → IsDyingWord t ((done_by m t a d rest).memory (Gate x)) → (b : Actor)
-    → HeadFits (done_by m t a d rest) t b e rest)
-    → ThreadFits p (done_by m t a d rest) t (actor_by m.layout t a d rest (found_by m t a d))
-settles_on p n m t a d e x rest here alive step keeps next knows =
-    own_neutral p n m t a d rest (e ∷ []) (e ∷ rest) here alive (record {
-      next_is = next;
-      none_dies = keeps.lives;
-      none_ends = step.none_ends;
-      none_born = step.none_born;
-      same_head = step.same_head;
-      same_status = step.same_status;
-      agenda_is = ready_first a.head e rest keeps.stays;
-      gates = λ y dies. step.gates y;
-      word = step.word;
-      hands = λ y. ap (λ (b : Bool). cond b (1 + finalised rest y) (finalised rest y)) (keeps.hand y ∙ step.hands y);
-      held = step.held e keeps.extra_none keeps.lacks_none;
-      fits = keeps.later m.layout t a.used a.status rest step.later;
-      knows =
-          λ b status head used locked. knows
-          (life_same m t a d (e ∷ []) x next keeps.lives step.none_ends step.none_born ∙ step.dies)
-          (subst (IsDyingWord t) (sym (step.gates x)) step.gate) b;
-    })
-
-keeps_cell : (x i k : ℕ) → KeepsHand (SettleCell x i k) x
-keeps_cell x i k =
-    record {
-      hand = λ y. refl;
-      lives = refl;
-      stays = refl;
-      extra_none = λ h o. refl;
-      lacks_none = λ h o. refl;
-      later = λ layout t used status rest later. later;
+abbrev KeepsHand : Duty → ℕ → Type 0
+KeepsHand e x =
+    hand_of e ≡ record {
+      finalises = λ y. x == y;
+      dying = None;
+      inner = true;
+      makes = λ h o. false;
+      gives_up = λ h o. false;
     }
 
-keeps_end : (x : ℕ) → KeepsHand (SettleEnd x) x
-keeps_end x =
-    record {
-      hand = λ y. refl;
-      lives = refl;
-      stays = refl;
-      extra_none = λ h o. refl;
-      lacks_none = λ h o. refl;
-      later = λ layout t used status rest later. later;
-    }
+-- A duty that works on one object may come before any duties that are for later.
+agenda_from : (e : Duty) (used : ℕ) (status : Status) (rest : List Duty) → is_inner e ≡ true → Later used status rest
+    → Agenda used status (e ∷ rest)
+agenda_from Settle used status rest inner later = absurd cc
+agenda_from (Leave i k) used status rest inner later = absurd cc
+agenda_from (Scan i k) used status rest inner later = absurd cc
+agenda_from Finish used status rest inner later = absurd cc
+agenda_from _ used status rest inner later = later
 
-keeps_slot : (x : ℕ) → KeepsHand (TakeSlot x) x
-keeps_slot x =
-    record {
-      hand = λ y. refl;
-      lives = refl;
-      stays = refl;
-      extra_none = λ h o. refl;
-      lacks_none = λ h o. refl;
-      later = λ layout t used status rest later. later;
-    }
+module _ {p : Accounts} {n : ℕ} {m : Machine} {t : ℕ} {a : Actor} {d : Duty} {rest : List Duty} where
+  settles_on : (e : Duty) (x : ℕ) → AtDuty p n m t a d rest → NotGone a → SettlingStep m t a d x rest → KeepsHand e x
+      → next_of m t a d ≡ e ∷ []
+      → ((done_by m t a d rest).life x ≡ Dying t → IsDyingWord t ((done_by m t a d rest).memory (Gate x)) → (b : Actor)
+      → HeadFits (done_by m t a d rest) t b e rest) → FitsAfter p m t a d rest
+  settles_on e x here alive step keeps next knows =
+      let dying : dies_next (e ∷ []) ≡ None = ap (λ (k : Hand). k.dying) keeps in
+      let inner : is_inner e ≡ true = ap (λ (k : Hand). k.inner) keeps in
+      let own : dies_by (m.life x) t ≡ true = ap (λ (l : Life). dies_by l t) step.dies ∙ eq-eqb t t refl in
+      own_steady (e ∷ []) (e ∷ rest) here alive step.steady (record {
+        next_is = next;
+        none_dies = dying;
+        agenda_is = ready_first a.head e rest inner;
+        hands = λ y. ap (λ (b : Bool). cond b (1 + finalised rest y) (finalised rest y))
+            (ap (λ (k : Hand). k.finalises y) keeps ∙ step.hands y);
+        held = step.held e (λ h o. ap (λ (k : Hand). k.gives_up h o) keeps)
+            (λ h o. ap (λ (k : Hand). k.makes h o) keeps);
+        fits = agenda_from e a.used a.status rest inner step.later;
+        knows =
+            λ b status head used locked. knows
+            (life_same m t a d (e ∷ []) x next dying (keeping_ends d step.steady) (keeping_born d step.steady)
+            ∙ step.dies)
+            (subst (IsDyingWord t) (sym (keeping_gates d x here step.steady own)) step.gate) b;
+      })
 
-keeps_close : (x : ℕ) → KeepsHand (CloseResource x) x
-keeps_close x =
-    record {
-      hand = λ y. refl;
-      lives = refl;
-      stays = refl;
-      extra_none = λ h o. refl;
-      lacks_none = λ h o. refl;
-      later = λ layout t used status rest later. later;
-    }
-
--- The next cell follows, or the row's closing if no cell is left.
-cells_step : (p : Accounts) (n : ℕ) (m : Machine) (t : ℕ) (a : Actor) (d : Duty) (x i k : ℕ) (rest : List Duty)
-    → AtDuty p n m t a d rest → (a.status ≡ Gone → ⊥) → SettlingStep m t a d x rest → next_of m t a d ≡ cells_from x i k
-    → IsEmptyBut (done_by m t a d rest).memory x i k
-    → resources_of ((done_by m t a d rest).memory (KindOf x)) ≡ 0
-    → ThreadFits p (done_by m t a d rest) t (actor_by m.layout t a d rest (found_by m t a d))
-cells_step p n m t a d x i k rest here alive step next_is empty no_resource =
-    elim (nat_lt i k) as (λ b. nat_lt i k ≡ b
-    → ThreadFits p (done_by m t a d rest) t (actor_by m.layout t a d rest (found_by m t a d))) [
-      | true ↦ λ e.
-          let next : next_of m t a d ≡ SettleCell x i k ∷ [] =
-          next_is ∙ ap (λ (b : Bool). cond b (SettleCell x i k ∷ []) (SettleEnd x ∷ [])) e in
-          settles_on p n m t a d (SettleCell x i k) x rest here alive step (keeps_cell x i k) next
-          (λ dies gate b. (step.above, dies, ltb-true i k e, gate, empty, no_resource))
-      | false ↦ λ e.
-          let next : next_of m t a d ≡ SettleEnd x ∷ [] =
-          next_is ∙ ap (λ (b : Bool). cond b (SettleCell x i k ∷ []) (SettleEnd x ∷ [])) e in
-          let none = all_emptied (done_by m t a d rest).memory x i k (ltb-false i k e) empty in
-          settles_on p n m t a d (SettleEnd x) x rest here alive step (keeps_end x) next
-          (λ dies gate b. (step.above, dies, gate, none))
-    ] refl
+  -- The next cell follows, or the row's closing if no cell is left.
+  cells_step : (x i k : ℕ) → AtDuty p n m t a d rest → NotGone a → SettlingStep m t a d x rest
+      → next_of m t a d ≡ cells_from x i k → IsEmptyBut (done_by m t a d rest).memory x i k
+      → resources_of ((done_by m t a d rest).memory (KindOf x)) ≡ 0 → FitsAfter p m t a d rest
+  cells_step x i k here alive step next_is empty no_resource =
+      elim (nat_lt i k) as (λ b. nat_lt i k ≡ b → FitsAfter p m t a d rest) [
+        | true ↦ λ e.
+            let next : next_of m t a d ≡ SettleCell x i k ∷ [] =
+            next_is ∙ ap (λ (b : Bool). cond b (SettleCell x i k ∷ []) (SettleEnd x ∷ [])) e in
+            settles_on (SettleCell x i k) x here alive step refl next
+            (λ dies gate b. (step.above, dies, ltb-true i k e, gate, empty, no_resource))
+        | false ↦ λ e.
+            let next : next_of m t a d ≡ SettleEnd x ∷ [] =
+            next_is ∙ ap (λ (b : Bool). cond b (SettleCell x i k ∷ []) (SettleEnd x ∷ [])) e in
+            let none = all_emptied (done_by m t a d rest).memory x i k (ltb-false i k e) empty in
+            settles_on (SettleEnd x) x here alive step refl next
+            (λ dies gate b. (step.above, dies, gate, none))
+      ] refl
 
 -- ---- the row's kind
 
@@ -166,51 +137,43 @@ resource_cells word resource =
     let none : has_resource word ≡ false = ap (λ (k : ℕ). (k == 4) || (k == 5)) list in
     absurd (false≢true (sym none ∙ resource))))
 
--- `DyingResource` and `DyingCells`: a file or a socket has a resource to close, and a list has cells to empty.
-pub thread_after_settle_kind : (p : Accounts) (n : ℕ) (m : Machine) (t : ℕ) (a : Actor) (x : ℕ) (rest : List Duty)
-    → AtDuty p n m t a (SettleKind x) rest → (a.status ≡ Gone → ⊥)
-    → ThreadFits p (done_by m t a (SettleKind x) rest) t
-    (actor_by m.layout t a (SettleKind x) rest (found_by m t a (SettleKind x)))
-thread_after_settle_kind p n m t a x rest here alive =
-    let fits = head_of p n m t a (SettleKind x) rest here in
-    let word = m.memory (KindOf x) in
-    let step : SettlingStep m t a (SettleKind x) x rest = record {
-      above = fits.0;
-      dies = fits.1;
-      gate = fits.2;
-      none_ends = refl;
-      none_born = refl;
-      same_head = refl;
-      same_status = refl;
-      gates = λ y. refl;
-      word = refl;
-      hands = λ y. refl;
-      held = λ e more less. held_same m.abstract.references t (SettleKind x ∷ rest) (e ∷ rest) more less;
-      later = agenda_here p n m t a (SettleKind x) rest here alive;
-    } in
-    let same : resources_of ((done_by m t a (SettleKind x) rest).memory (KindOf x)) ≡ resources_of word =
-    ap resources_of (written_load m.memory (KindOf x) (KindOf x)) in
-    elim (has_resource word) as (λ b. has_resource word ≡ b
-    → ThreadFits p (done_by m t a (SettleKind x) rest) t (actor_by m.layout t a (SettleKind x) rest word)) [
-      | true ↦
-          λ e. settles_on p n m t a (SettleKind x) (TakeSlot x) x rest here alive step (keeps_slot x)
-          (ap (λ (b : Bool). cond b (TakeSlot x ∷ []) (cells_from x 0 (cells_of word))) e)
-          (λ dies gate b. (
-            fits.0,
-            dies,
-            gate,
-            λ j.
-                let few : cells_of word ≡ 0 = resource_cells word e in here.core.cells_end x j (omega (arith, few)),
-            same ∙ ap (λ (b : Bool). cond b 1 0) e,
-          ))
-      | false ↦
-          λ e. cells_step p n m t a (SettleKind x) x 0 (cells_of word) rest here alive step
-          (ap (λ (b : Bool). cond b (TakeSlot x ∷ []) (cells_from x 0 (cells_of word))) e)
-          (λ j out. here.core.cells_end x j (elim out [
-            | inl low ↦ absurd (omega (arith, low))
-            | inr high ↦ high
-          ])) (same ∙ ap (λ (b : Bool). cond b 1 0) e)
-    ] refl
+module _ {p : Accounts} {n : ℕ} {m : Machine} {t : ℕ} {a : Actor} {rest : List Duty} where
+  -- `DyingResource` and `DyingCells`: a file or a socket has a resource to close, and a list has cells to empty.
+  pub thread_after_settle_kind : (x : ℕ) → AtDuty p n m t a (SettleKind x) rest → NotGone a
+      → FitsAfter p m t a (SettleKind x) rest
+  thread_after_settle_kind x here alive =
+      let fits = head_of here in
+      let word = m.memory (KindOf x) in
+      let step : SettlingStep m t a (SettleKind x) x rest = record {
+        above = fits.0;
+        dies = fits.1;
+        gate = fits.2;
+        steady = refl;
+        hands = λ y. refl;
+        held = λ e more less. held_same m.abstract.references t (SettleKind x ∷ rest) (e ∷ rest) more less;
+        later = agenda_here here alive;
+      } in
+      let same : resources_of ((done_by m t a (SettleKind x) rest).memory (KindOf x)) ≡ resources_of word =
+      ap resources_of (written_load m.memory (KindOf x) (KindOf x)) in
+      elim (has_resource word) as (λ b. has_resource word ≡ b → FitsAfter p m t a (SettleKind x) rest) [
+        | true ↦
+            λ e. settles_on (TakeSlot x) x here alive step refl
+            (ap (λ (b : Bool). cond b (TakeSlot x ∷ []) (cells_from x 0 (cells_of word))) e) (λ dies gate b. (
+              fits.0,
+              dies,
+              gate,
+              λ j.
+                  let few : cells_of word ≡ 0 = resource_cells word e in here.core.cells_end x j (omega (arith, few)),
+              same ∙ ap (λ (b : Bool). cond b 1 0) e,
+            ))
+        | false ↦
+            λ e. cells_step x 0 (cells_of word) here alive step
+            (ap (λ (b : Bool). cond b (TakeSlot x ∷ []) (cells_from x 0 (cells_of word))) e)
+            (λ j out. here.core.cells_end x j (elim out [
+              | inl low ↦ absurd (omega (arith, low))
+              | inr high ↦ high
+            ])) (same ∙ ap (λ (b : Bool). cond b 1 0) e)
+      ] refl
 
 -- ---- the row's cells
 
@@ -260,104 +223,74 @@ cells_later used status x j k rest later =
       | false ↦ later
     ]
 
--- `CellEmptied`: what the cell held is released before the next cell is emptied.
-pub thread_after_settle_cell : (p : Accounts) (n : ℕ) (m : Machine) (t : ℕ) (a : Actor) (x i k : ℕ) (rest : List Duty)
-    → AtDuty p n m t a (SettleCell x i k) rest → (a.status ≡ Gone → ⊥)
-    → ThreadFits p (done_by m t a (SettleCell x i k) rest) t
-    (actor_by m.layout t a (SettleCell x i k) rest (found_by m t a (SettleCell x i k)))
-thread_after_settle_cell p n m t a x i k rest here alive =
-    let fits = head_of p n m t a (SettleCell x i k) rest here in
-    let later = agenda_here p n m t a (SettleCell x i k) rest here alive in
-    let bag = m.abstract.references in
-    elim (m.memory (Cell x i)) as (λ w. m.memory (Cell x i) ≡ w
-    → ThreadFits p (done_by m t a (SettleCell x i k) rest) t
-    (actor_by m.layout t a (SettleCell x i k) rest (found_by m t a (SettleCell x i k)))) [
-      | zero ↦ λ is.
-          let empty : release_found (m.memory (Cell x i)) ≡ [] = ap release_found is in
-          cells_step p n m t a (SettleCell x i k) x (i + 1) k rest here alive (record {
-            above = fits.0;
-            dies = fits.1;
-            gate = fits.3;
-            none_ends = refl;
-            none_born = refl;
-            same_head = refl;
-            same_status = refl;
-            gates = λ y. refl;
-            word = refl;
-            hands = λ y. refl;
-            held =
-                λ e more less. subst
-                (λ (w : ℕ). HeldStep bag (moved m.abstract (take_out t x i w)).references t
-                (SettleCell x i k ∷ rest) (e ∷ rest)) (sym is)
-                (held_same bag t (SettleCell x i k ∷ rest) (e ∷ rest) more less);
-            later = later;
-          }) (ap (λ (l : List Duty). l ++ cells_from x (i + 1) k) empty) (one_emptied m.memory x i k fits.4) fits.5
-      | suc y ↦ λ is.
-          let next = ReleaseLoad y InFlight ∷ cells_from x (i + 1) k in
-          own_neutral p n m t a (SettleCell x i k) rest next (next ++ rest) here alive (record {
-            next_is = ap (λ (w : ℕ). release_found w ++ cells_from x (i + 1) k) is;
-            none_dies = refl;
-            none_ends = refl;
-            none_born = refl;
-            same_head = refl;
-            same_status = refl;
-            agenda_is = ready_first a.head (ReleaseLoad y InFlight) (cells_from x (i + 1) k ++ rest) refl;
-            gates = λ z own. refl;
-            word = refl;
-            hands = λ z. cells_finalise x i k (i + 1) rest z;
-            held =
-                subst
-                (λ (w : ℕ). HeldStep bag (moved m.abstract (take_out t x i w)).references t
-                (SettleCell x i k ∷ rest) (next ++ rest)) (sym is)
-                (held_taken_out bag t x i y (SettleCell x i k ∷ rest) (next ++ rest) (λ h o. refl) (λ h o. refl)
-                (λ h o. refl) (λ h o. refl));
-            fits = cells_later a.used a.status x (i + 1) k rest later;
-            knows = λ b status head used locked. tt;
-          })
-    ] refl
+module _ {p : Accounts} {n : ℕ} {m : Machine} {t : ℕ} {a : Actor} {rest : List Duty} where
+  -- `CellEmptied`: what the cell held is released before the next cell is emptied.
+  pub thread_after_settle_cell : (x i k : ℕ) → AtDuty p n m t a (SettleCell x i k) rest → NotGone a
+      → FitsAfter p m t a (SettleCell x i k) rest
+  thread_after_settle_cell x i k here alive =
+      let fits = head_of here in
+      let later = agenda_here here alive in
+      let bag = m.abstract.references in
+      elim (m.memory (Cell x i)) as (λ w. m.memory (Cell x i) ≡ w → FitsAfter p m t a (SettleCell x i k) rest) [
+        | zero ↦ λ is.
+            let empty : release_found (m.memory (Cell x i)) ≡ [] = ap release_found is in
+            cells_step x (i + 1) k here alive (record {
+              above = fits.0;
+              dies = fits.1;
+              gate = fits.3;
+              steady = refl;
+              hands = λ y. refl;
+              held =
+                  λ e more less. subst (λ (w : ℕ). HeldStep bag (moved m.abstract (take_out t x i w)).references t
+                  (SettleCell x i k ∷ rest) (e ∷ rest)) (sym is)
+                  (held_same bag t (SettleCell x i k ∷ rest) (e ∷ rest) more less);
+              later = later;
+            }) (ap (λ (l : List Duty). l ++ cells_from x (i + 1) k) empty) (one_emptied m.memory x i k fits.4) fits.5
+        | suc y ↦ λ is.
+            let next = ReleaseLoad y InFlight ∷ cells_from x (i + 1) k in
+            own_steady next (next ++ rest) here alive refl (record {
+              next_is = ap (λ (w : ℕ). release_found w ++ cells_from x (i + 1) k) is;
+              none_dies = refl;
+              agenda_is = ready_first a.head (ReleaseLoad y InFlight) (cells_from x (i + 1) k ++ rest) refl;
+              hands = λ z. cells_finalise x i k (i + 1) rest z;
+              held =
+                  subst (λ (w : ℕ). HeldStep bag (moved m.abstract (take_out t x i w)).references t
+                  (SettleCell x i k ∷ rest) (next ++ rest)) (sym is)
+                  (held_taken_out bag t x i y (SettleCell x i k ∷ rest) (next ++ rest) (λ h o. refl) (λ h o. refl)
+                  (λ h o. refl) (λ h o. refl));
+              fits = cells_later a.used a.status x (i + 1) k rest later;
+              knows = λ b status head used locked. tt;
+            })
+      ] refl
 
--- ---- the row's resource
+  -- ---- the row's resource
 
--- The thread fits after `SlotEmptied`.
-pub thread_after_take_slot : (p : Accounts) (n : ℕ) (m : Machine) (t : ℕ) (a : Actor) (x : ℕ) (rest : List Duty)
-    → AtDuty p n m t a (TakeSlot x) rest → (a.status ≡ Gone → ⊥)
-    → ThreadFits p (done_by m t a (TakeSlot x) rest) t
-    (actor_by m.layout t a (TakeSlot x) rest (found_by m t a (TakeSlot x)))
-thread_after_take_slot p n m t a x rest here alive =
-    let fits = head_of p n m t a (TakeSlot x) rest here in
-    settles_on p n m t a (TakeSlot x) (CloseResource x) x rest here alive (record {
-      above = fits.0;
-      dies = fits.1;
-      gate = fits.2;
-      none_ends = refl;
-      none_born = refl;
-      same_head = refl;
-      same_status = refl;
-      gates = λ y. refl;
-      word = refl;
-      hands = λ y. refl;
-      held = λ e more less. held_same m.abstract.references t (TakeSlot x ∷ rest) (e ∷ rest) more less;
-      later = agenda_here p n m t a (TakeSlot x) rest here alive;
-    }) (keeps_close x) refl (λ dies gate b. (fits.0, dies, gate, fits.3))
+  -- The thread fits after `SlotEmptied`.
+  pub thread_after_take_slot : (x : ℕ) → AtDuty p n m t a (TakeSlot x) rest → NotGone a
+      → FitsAfter p m t a (TakeSlot x) rest
+  thread_after_take_slot x here alive =
+      let fits = head_of here in
+      settles_on (CloseResource x) x here alive (record {
+        above = fits.0;
+        dies = fits.1;
+        gate = fits.2;
+        steady = refl;
+        hands = λ y. refl;
+        held = λ e more less. held_same m.abstract.references t (TakeSlot x ∷ rest) (e ∷ rest) more less;
+        later = agenda_here here alive;
+      }) refl refl (λ dies gate b. (fits.0, dies, gate, fits.3))
 
--- The thread fits after `ResourceClosed`.
-pub thread_after_close_resource : (p : Accounts) (n : ℕ) (m : Machine) (t : ℕ) (a : Actor) (x : ℕ) (rest : List Duty)
-    → AtDuty p n m t a (CloseResource x) rest → (a.status ≡ Gone → ⊥)
-    → ThreadFits p (done_by m t a (CloseResource x) rest) t
-    (actor_by m.layout t a (CloseResource x) rest (found_by m t a (CloseResource x)))
-thread_after_close_resource p n m t a x rest here alive =
-    let fits = head_of p n m t a (CloseResource x) rest here in
-    settles_on p n m t a (CloseResource x) (SettleEnd x) x rest here alive (record {
-      above = fits.0;
-      dies = fits.1;
-      gate = fits.2;
-      none_ends = refl;
-      none_born = refl;
-      same_head = refl;
-      same_status = refl;
-      gates = λ y. refl;
-      word = refl;
-      hands = λ y. refl;
-      held = λ e more less. held_same m.abstract.references t (CloseResource x ∷ rest) (e ∷ rest) more less;
-      later = agenda_here p n m t a (CloseResource x) rest here alive;
-    }) (keeps_end x) refl (λ dies gate b. (fits.0, dies, gate, fits.3))
+  -- The thread fits after `ResourceClosed`.
+  pub thread_after_close_resource : (x : ℕ) → AtDuty p n m t a (CloseResource x) rest → NotGone a
+      → FitsAfter p m t a (CloseResource x) rest
+  thread_after_close_resource x here alive =
+      let fits = head_of here in
+      settles_on (SettleEnd x) x here alive (record {
+        above = fits.0;
+        dies = fits.1;
+        gate = fits.2;
+        steady = refl;
+        hands = λ y. refl;
+        held = λ e more less. held_same m.abstract.references t (CloseResource x ∷ rest) (e ∷ rest) more less;
+        later = agenda_here here alive;
+      }) refl refl (λ dies gate b. (fits.0, dies, gate, fits.3))

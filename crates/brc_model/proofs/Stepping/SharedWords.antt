@@ -11,8 +11,7 @@ use Rattle.brc_model.specs.declared.duty.Duty.{Duty}
 use Rattle.brc_model.specs.declared.duty.Duty.TheVariants.{SharedLoad, SharedExchange, SetMark, Die}
 use Rattle.brc_model.specs.declared.address.Address.TheVariants.{Shared}
 use Rattle.brc_model.specs.Duties.{shared_result}
-use Rattle.brc_model.specs.declared.actor.Status.TheVariants.{Gone}
-use Rattle.brc_model.specs.Machine.{Actor, Machine, done_by, actor_by}
+use Rattle.brc_model.specs.Machine.{Actor, Machine}
 use Rattle.brc_model.specs.Moves.{lose}
 use Rattle.brc_model.specs.References.{reference_of}
 use Rattle.brc_model.specs.Accounts.{Accounts, extra_of, lacks_of}
@@ -20,7 +19,7 @@ use Rattle.brc_model.proofs.Basics.Written.{written_load}
 use Rattle.brc_model.proofs.Frame.Leaves.{head_of, exchange_alive}
 use Rattle.brc_model.proofs.Frame.Lives.{leaves_others}
 use Rattle.brc_model.proofs.Stepping.Own.{HeldStep}
-use Rattle.brc_model.proofs.Stepping.Neutral.{ThreadFits, found_by, bag_by, agenda_here}
+use Rattle.brc_model.proofs.Stepping.FitsAfter.{bag_by, agenda_here, NotGone, FitsAfter}
 use Rattle.brc_model.proofs.Stepping.Counts.{held_same}
 use Rattle.brc_model.proofs.Stepping.Steps.{own_done, own_next, own_dying}
 use Rattle.brc_model.proofs.Stepping.Releases.{held_let_go}
@@ -29,27 +28,22 @@ use Rattle.brc_model.specs.Layout.{IsCounted}
 
 -- ---- the shared word
 
--- The thread fits after `SharedRead`.
-pub thread_after_shared_load : (p : Accounts) (n : ℕ) (m : Machine) (t : ℕ) (a : Actor) (x : ℕ) (r : Reason)
-    (rest : List Duty)
-    → AtDuty p n m t a (SharedLoad x r) rest → (a.status ≡ Gone → ⊥)
-    → ThreadFits p (done_by m t a (SharedLoad x r) rest) t
-    (actor_by m.layout t a (SharedLoad x r) rest (found_by m t a (SharedLoad x r)))
-thread_after_shared_load p n m t a x Own rest here alive =
-    let d : Duty = SharedLoad x Own in
-    own_next p n m t a d (SharedExchange x Own (m.memory (Shared x))) rest here alive refl refl refl refl
-    (held_same m.abstract.references t (d ∷ rest) (SharedExchange x Own (m.memory (Shared x)) ∷ rest) (λ k o. refl)
-    (λ k o. refl))
-    (agenda_here p n m t a d rest here alive)
-    (λ b status head used locked. head_of p n m t a d rest here)
-thread_after_shared_load p n m t a x Handed rest here alive =
-    let d : Duty = SharedLoad x Handed in
-    let fits = head_of p n m t a d rest here in
-    own_next p n m t a d (SharedExchange x Handed (m.memory (Shared x))) rest here alive refl refl refl refl
-    (held_same m.abstract.references t (d ∷ rest) (SharedExchange x Handed (m.memory (Shared x)) ∷ rest) (λ k o. refl)
-    (λ k o. refl))
-    (agenda_here p n m t a d rest here alive)
-    (λ b status head used locked. (fits.0, ap phase_part (written_load m.memory (Shared x) (Shared x)) ∙ fits.1))
+module _ {p : Accounts} {n : ℕ} {m : Machine} {t : ℕ} {a : Actor} {rest : List Duty} where
+  -- The thread fits after `SharedRead`.
+  pub thread_after_shared_load : (x : ℕ) (r : Reason) → AtDuty p n m t a (SharedLoad x r) rest → NotGone a
+      → FitsAfter p m t a (SharedLoad x r) rest
+  thread_after_shared_load x Own here alive =
+      let d : Duty = SharedLoad x Own in
+      own_next (SharedExchange x Own (m.memory (Shared x))) here alive refl refl refl refl
+      (held_same m.abstract.references t (d ∷ rest) (SharedExchange x Own (m.memory (Shared x)) ∷ rest) (λ k o. refl)
+      (λ k o. refl)) (agenda_here here alive) (λ b status head used locked. head_of here)
+  thread_after_shared_load x Handed here alive =
+      let d : Duty = SharedLoad x Handed in
+      let fits = head_of here in
+      own_next (SharedExchange x Handed (m.memory (Shared x))) here alive refl refl refl refl
+      (held_same m.abstract.references t (d ∷ rest) (SharedExchange x Handed (m.memory (Shared x)) ∷ rest) (λ k o. refl)
+      (λ k o. refl)) (agenda_here here alive)
+      (λ b status head used locked. (fits.0, ap phase_part (written_load m.memory (Shared x) (Shared x)) ∙ fits.1))
 
 exchange_next : (x w found : ℕ) (r : Reason) (fresh dead : Bool) → (found == w) ≡ true → (w == fresh_word) ≡ fresh
     → (released_word w == dead_word) ≡ dead
@@ -60,84 +54,73 @@ exchange_next x w found r fresh dead won is_fresh is_dead =
     ∙ (ap (λ (b : Bool). cond b (SetMark x ∷ []) (cond (released_word w == dead_word) (Die x ∷ []) [])) is_fresh
     ∙ ap (λ (b : Bool). cond fresh (SetMark x ∷ []) (cond b (Die x ∷ []) [])) is_dead)
 
--- `Queues`, `Decrements` and `DecrementsToZero`: the exchange is won, and the old word decides what follows.
-exchange_won : (p : Accounts) (n : ℕ) (m : Machine) (t : ℕ) (a : Actor) (x w : ℕ) (r : Reason) (rest : List Duty)
-    → AtDuty p n m t a (SharedExchange x r w) rest → (a.status ≡ Gone → ⊥) → IsCounted m.layout x
-    → (m.memory (Shared x) == w) ≡ true
-    → ((later : List Duty) → ((k : Holding) (object : ℕ) → extra_of later k object ≡ false)
-    → ((k : Holding) (object : ℕ) → lacks_of later k object ≡ false)
-    → HeldStep m.abstract.references (bag_by m t a (SharedExchange x r w)) t (SharedExchange x r w ∷ rest) later)
-    → ThreadFits p (done_by m t a (SharedExchange x r w) rest) t
-    (actor_by m.layout t a (SharedExchange x r w) rest (m.memory (Shared x)))
-exchange_won p n m t a x w r rest here alive pos won moves =
-    let d : Duty = SharedExchange x r w in
-    let later = agenda_here p n m t a d rest here alive in
-    elim (w == fresh_word) as (λ b. (w == fresh_word) ≡ b
-    → ThreadFits p (done_by m t a d rest) t (actor_by m.layout t a d rest (m.memory (Shared x)))) [
-      | true ↦ λ fresh.
-          own_next p n m t a d (SetMark x) rest here alive refl refl refl
-          (exchange_next x w (m.memory (Shared x)) r true (released_word w == dead_word) won fresh refl)
-          (moves (SetMark x ∷ rest) (λ k o. refl) (λ k o. refl)) later (λ b status head used locked. pos)
-      | false ↦ λ other.
-          elim (released_word w == dead_word) as
-          (λ b. (released_word w == dead_word) ≡ b
-          → ThreadFits p (done_by m t a d rest) t (actor_by m.layout t a d rest (m.memory (Shared x)))) [
-            | true ↦ λ dead.
-                own_dying p n m t a d rest x here alive refl (record {
-                  next_is = exchange_next x w (m.memory (Shared x)) r false true won other dead;
-                  counted = pos;
-                  lived = (exchange_alive p n m t a x w r rest here).life;
-                  held = moves (Die x ∷ rest) (λ k o. refl) (λ k o. refl);
-                  later = later;
-                })
-            | false ↦ λ some.
-                own_done p n m t a d rest here alive refl
-                (exchange_next x w (m.memory (Shared x)) r false false won other some) later
-                (moves [] (λ k o. refl) (λ k o. refl))
-          ] refl
-    ] refl
+module _ {p : Accounts} {n : ℕ} {m : Machine} {t : ℕ} {a : Actor} {rest : List Duty} where
+  -- `Queues`, `Decrements` and `DecrementsToZero`: the exchange is won, and the old word decides what follows.
+  exchange_won : (x w : ℕ) (r : Reason) → AtDuty p n m t a (SharedExchange x r w) rest → NotGone a
+      → IsCounted m.layout x → (m.memory (Shared x) == w) ≡ true
+      → ((later : List Duty) → ((k : Holding) (object : ℕ) → extra_of later k object ≡ false)
+      → ((k : Holding) (object : ℕ) → lacks_of later k object ≡ false)
+      → HeldStep m.abstract.references (bag_by m t a (SharedExchange x r w)) t (SharedExchange x r w ∷ rest) later)
+      → FitsAfter p m t a (SharedExchange x r w) rest
+  exchange_won x w r here alive pos won moves =
+      let d : Duty = SharedExchange x r w in
+      let later = agenda_here here alive in
+      elim (w == fresh_word) as (λ b. (w == fresh_word) ≡ b → FitsAfter p m t a d rest) [
+        | true ↦ λ fresh.
+            own_next (SetMark x) here alive refl refl refl
+            (exchange_next x w (m.memory (Shared x)) r true (released_word w == dead_word) won fresh refl)
+            (moves (SetMark x ∷ rest) (λ k o. refl) (λ k o. refl)) later (λ b status head used locked. pos)
+        | false ↦ λ other.
+            elim (released_word w == dead_word)
+            as (λ b. (released_word w == dead_word) ≡ b → FitsAfter p m t a d rest) [
+              | true ↦ λ dead.
+                  own_dying x here alive refl (record {
+                    next_is = exchange_next x w (m.memory (Shared x)) r false true won other dead;
+                    counted = pos;
+                    lived = (exchange_alive x w r here).life;
+                    held = moves (Die x ∷ rest) (λ k o. refl) (λ k o. refl);
+                    later = later;
+                  })
+              | false ↦ λ some.
+                  own_done here alive refl (exchange_next x w (m.memory (Shared x)) r false false won other some) later
+                  (moves [] (λ k o. refl) (λ k o. refl))
+            ] refl
+      ] refl
 
--- The thread fits after `Queues`, `Decrements`, `DecrementsToZero` and `ExchangeLost`.
-pub thread_after_shared_exchange : (p : Accounts) (n : ℕ) (m : Machine) (t : ℕ) (a : Actor) (x : ℕ) (r : Reason) (w : ℕ)
-    (rest : List Duty)
-    → AtDuty p n m t a (SharedExchange x r w) rest → (a.status ≡ Gone → ⊥)
-    → ThreadFits p (done_by m t a (SharedExchange x r w) rest) t
-    (actor_by m.layout t a (SharedExchange x r w) rest (found_by m t a (SharedExchange x r w)))
-thread_after_shared_exchange p n m t a x Own w rest here alive =
-    let found = m.memory (Shared x) in
-    let d : Duty = SharedExchange x Own w in
-    let pos = head_of p n m t a d rest here in
-    elim (found == w) as
-    (λ b. (found == w) ≡ b → ThreadFits p (done_by m t a d rest) t (actor_by m.layout t a d rest found)) [
-      | true ↦ λ won.
-          let bag : bag_by m t a d ≡ without (reference_of t InFlight x) m.abstract.references =
-          ap (λ (b : Bool). (moved m.abstract (cond b (lose t x) [])).references) won in
-          exchange_won p n m t a x w Own rest here alive pos won
-          (λ later more less. subst (λ (l : List Reference). HeldStep m.abstract.references l t (d ∷ rest) later)
-          (sym bag) (held_let_go p n m t a d rest later x here (λ k o. refl) (λ k o. refl) more less))
-      | false ↦ λ lost.
-          let bag : bag_by m t a d ≡ m.abstract.references =
-          ap (λ (b : Bool). (moved m.abstract (cond b (lose t x) [])).references) lost in
-          own_next p n m t a d (SharedLoad x Own) rest here alive refl refl refl
-          (ap (λ (b : Bool). cond b (shared_result x w) (SharedLoad x Own ∷ [])) lost)
-          (subst (λ (l : List Reference). HeldStep m.abstract.references l t (d ∷ rest) (SharedLoad x Own ∷ rest))
-          (sym bag) (held_same m.abstract.references t (d ∷ rest) (SharedLoad x Own ∷ rest) (λ k o. refl)
-          (λ k o. refl)))
-          (agenda_here p n m t a d rest here alive) (λ b status head used locked. pos)
-    ] refl
-thread_after_shared_exchange p n m t a x Handed w rest here alive =
-    let found = m.memory (Shared x) in
-    let d : Duty = SharedExchange x Handed w in
-    let fits = head_of p n m t a d rest here in
-    elim (found == w) as
-    (λ b. (found == w) ≡ b → ThreadFits p (done_by m t a d rest) t (actor_by m.layout t a d rest found)) [
-      | true ↦ λ won.
-          exchange_won p n m t a x w Handed rest here alive fits.0 won
-          (λ later more less. held_same m.abstract.references t (d ∷ rest) later more less)
-      | false ↦ λ lost.
-          own_next p n m t a d (SharedLoad x Handed) rest here alive refl refl refl
-          (ap (λ (b : Bool). cond b (shared_result x w) (SharedLoad x Handed ∷ [])) lost)
-          (held_same m.abstract.references t (d ∷ rest) (SharedLoad x Handed ∷ rest) (λ k o. refl) (λ k o. refl))
-          (agenda_here p n m t a d rest here alive)
-          (λ b status head used locked. (fits.0, (leaves_others p n m t a d rest here).merged x fits.1))
-    ] refl
+  -- The thread fits after `Queues`, `Decrements`, `DecrementsToZero` and `ExchangeLost`.
+  pub thread_after_shared_exchange : (x : ℕ) (r : Reason) (w : ℕ) → AtDuty p n m t a (SharedExchange x r w) rest
+      → NotGone a → FitsAfter p m t a (SharedExchange x r w) rest
+  thread_after_shared_exchange x Own w here alive =
+      let found = m.memory (Shared x) in
+      let d : Duty = SharedExchange x Own w in
+      let pos = head_of here in
+      elim (found == w) as (λ b. (found == w) ≡ b → FitsAfter p m t a d rest) [
+        | true ↦ λ won.
+            let bag : bag_by m t a d ≡ without (reference_of t InFlight x) m.abstract.references =
+            ap (λ (b : Bool). (moved m.abstract (cond b (lose t x) [])).references) won in
+            exchange_won x w Own here alive pos won
+            (λ later more less. subst (λ (l : List Reference). HeldStep m.abstract.references l t (d ∷ rest) later)
+            (sym bag) (held_let_go later x here (λ k o. refl) (λ k o. refl) more less))
+        | false ↦ λ lost.
+            let bag : bag_by m t a d ≡ m.abstract.references =
+            ap (λ (b : Bool). (moved m.abstract (cond b (lose t x) [])).references) lost in
+            own_next (SharedLoad x Own) here alive refl refl refl
+            (ap (λ (b : Bool). cond b (shared_result x w) (SharedLoad x Own ∷ [])) lost)
+            (subst (λ (l : List Reference). HeldStep m.abstract.references l t (d ∷ rest) (SharedLoad x Own ∷ rest))
+            (sym bag) (held_same m.abstract.references t (d ∷ rest) (SharedLoad x Own ∷ rest) (λ k o. refl)
+            (λ k o. refl))) (agenda_here here alive) (λ b status head used locked. pos)
+      ] refl
+  thread_after_shared_exchange x Handed w here alive =
+      let found = m.memory (Shared x) in
+      let d : Duty = SharedExchange x Handed w in
+      let fits = head_of here in
+      elim (found == w) as (λ b. (found == w) ≡ b → FitsAfter p m t a d rest) [
+        | true ↦ λ won.
+            exchange_won x w Handed here alive fits.0 won
+            (λ later more less. held_same m.abstract.references t (d ∷ rest) later more less)
+        | false ↦ λ lost.
+            own_next (SharedLoad x Handed) here alive refl refl refl
+            (ap (λ (b : Bool). cond b (shared_result x w) (SharedLoad x Handed ∷ [])) lost)
+            (held_same m.abstract.references t (d ∷ rest) (SharedLoad x Handed ∷ rest) (λ k o. refl) (λ k o. refl))
+            (agenda_here here alive) (λ b status head used locked. (fits.0, (leaves_others here).merged x fits.1))
+      ] refl

@@ -5,7 +5,7 @@ use Rattle.brc_model.specs.declared.address.Address.TheVariants.{ThreadWord}
 use Rattle.brc_model.specs.Duties.{new_head}
 use Rattle.brc_model.specs.declared.actor.Status.{Status}
 use Rattle.brc_model.specs.declared.actor.Status.TheVariants.{Gone}
-use Rattle.brc_model.specs.Machine.{Actor, Machine, status_by, actor_by, done_by, born_row, used_by}
+use Rattle.brc_model.specs.Machine.{Actor, Machine, status_by, actor_by, done_by, born_row, used_by, locked_by}
 use Rattle.brc_model.specs.Accounts.{Accounts, HoldsAt}
 use Rattle.brc_model.specs.Knowledge.{HeadOf, status_word}
 use Rattle.brc_model.specs.OpenWork.{Agenda, ChainFits, AgendaFits}
@@ -14,7 +14,7 @@ use Rattle.brc_model.proofs.Stepping.UnderWay.{exits_still}
 use Rattle.brc_model.proofs.Stepping.Locked.{locks_after}
 use Rattle.brc_model.proofs.Stepping.Lending.{lent_after}
 use Rattle.brc_model.proofs.Stepping.Own.{HeldStep, holds_step}
-use Rattle.brc_model.proofs.Stepping.Neutral.{ThreadFits, found_by, bag_by, memory_by, agenda_out, uses_same}
+use Rattle.brc_model.proofs.Stepping.FitsAfter.{found_by, bag_by, memory_by, agenda_out, uses_same, FitsAfter}
 use Rattle.brc_model.specs.Invariant.{AtDuty}
 
 -- What a step has to show that changes the head of the chain, the life of a row or the thread's status.
@@ -28,38 +28,38 @@ pub record ShownStep (m : Machine) (t : ℕ) (a : Actor) (d : Duty) (rest agenda
   pub chain : ChainFits (done_by m t a d rest) t head agenda
   pub fits : AgendaFits (actor_by m.layout t a d rest (found_by m t a d)) status
   pub knows : (b : Actor) → b.status ≡ status → b.head ≡ head → b.used ≡ used_by a.used d
-      → HeadOf (done_by m t a d rest) t b agenda
+      → b.locked ≡ locked_by a.locked d (found_by m t a d) → HeadOf (done_by m t a d rest) t b agenda
 
--- The thread fits after a step that shows all this.
-pub own_shown : (p : Accounts) (n : ℕ) (m : Machine) (t : ℕ) (a : Actor) (d : Duty) (rest agenda : List Duty)
-    (status : Status) (head : ℕ)
-    → AtDuty p n m t a d rest → ShownStep m t a d rest agenda status head
-    → ThreadFits p (done_by m t a d rest) t (actor_by m.layout t a d rest (found_by m t a d))
-own_shown p n m t a d rest agenda status head here step =
-    let old = (here.core.each t a here.found).0 in
-    let new = done_by m t a d rest in
-    let after = actor_by m.layout t a d rest (found_by m t a d) in
-    let holds : HoldsAt new.abstract.references t (p t) agenda a.aside =
-    holds_step m.abstract.references new.abstract.references t (p t) (d ∷ rest) agenda a.aside step.held
-    (subst (λ (l : List Duty). HoldsAt m.abstract.references t (p t) l a.aside) here.agenda old.holds) in
-    record {
-      actor = record {
-        word = step.word ∙ ap status_word (sym step.status_is);
-        holds = subst (λ (l : List Duty). HoldsAt new.abstract.references t (p t) l a.aside) (sym step.agenda_is) holds;
-        bounded = old.bounded;
-        exited = λ e. old.exited (sym (exits_still p n m t a d rest (found_by m t a d) here) ∙ e);
-        head_fits =
-            subst (λ (l : List Duty). HeadOf new t after l) (sym step.agenda_is)
-            (step.knows after step.status_is step.head_is refl);
-        behind = behind_after p n m t a d rest here;
-        chain =
-            subst (λ (l : List Duty). ChainFits new t after.head l) (sym step.agenda_is)
-            (subst (λ (h : ℕ). ChainFits new t h agenda) (sym step.head_is) step.chain);
-        locks = locks_after p n m t a d rest here;
-        lent = lent_after p n m t a d rest here;
-      };
-      agenda = subst (λ (s : Status). AgendaFits after s) (sym step.status_is) step.fits;
-    }
+module _ {p : Accounts} {n : ℕ} {m : Machine} {t : ℕ} {a : Actor} {d : Duty} {rest : List Duty} where
+  -- The thread fits after a step that shows all this.
+  pub own_shown : (agenda : List Duty) (status : Status) (head : ℕ) → AtDuty p n m t a d rest
+      → ShownStep m t a d rest agenda status head → FitsAfter p m t a d rest
+  own_shown agenda status head here step =
+      let old = (here.core.each t a here.found).0 in
+      let new = done_by m t a d rest in
+      let after = actor_by m.layout t a d rest (found_by m t a d) in
+      let holds : HoldsAt new.abstract.references t (p t) agenda a.aside =
+      holds_step m.abstract.references new.abstract.references t (p t) (d ∷ rest) agenda a.aside step.held
+      (subst (λ (l : List Duty). HoldsAt m.abstract.references t (p t) l a.aside) here.agenda old.holds) in
+      record {
+        actor = record {
+          word = step.word ∙ ap status_word (sym step.status_is);
+          holds = subst (λ (l : List Duty). HoldsAt new.abstract.references t (p t) l a.aside) (sym step.agenda_is)
+              holds;
+          bounded = old.bounded;
+          exited = λ e. old.exited (sym (exits_still (found_by m t a d) here) ∙ e);
+          head_fits =
+              subst (λ (l : List Duty). HeadOf new t after l) (sym step.agenda_is)
+              (step.knows after step.status_is step.head_is refl refl);
+          behind = behind_after here;
+          chain =
+              subst (λ (l : List Duty). ChainFits new t after.head l) (sym step.agenda_is)
+              (subst (λ (h : ℕ). ChainFits new t h agenda) (sym step.head_is) step.chain);
+          locks = locks_after d here;
+          lent = lent_after d here;
+        };
+        agenda = subst (λ (s : Status). AgendaFits after s) (sym step.status_is) step.fits;
+      }
 
 -- The agenda after the step fits a thread that isn't gone.
 pub agenda_shown : (m : Machine) (t : ℕ) (a : Actor) (d : Duty) (rest agenda : List Duty) (status : Status)

@@ -25,7 +25,7 @@ use Rattle.brc_model.specs.OpenWork.{Agenda, AgendaFits}
 use Rattle.brc_model.proofs.Frame.Alive.{first_weighs, alive_waiting}
 use Rattle.brc_model.proofs.Basics.Blocks.{next_counted, next_index, next_block, next_unborn}
 use Rattle.brc_model.proofs.Frame.Leaves.{head_of}
-use Rattle.brc_model.proofs.Stepping.Neutral.{found_by}
+use Rattle.brc_model.proofs.Stepping.FitsAfter.{found_by}
 use Rattle.brc_model.proofs.Objects.BlanksAfter.{blanks_here}
 use Rattle.brc_model.proofs.Objects.ResourcesLent.{returning_finds}
 use Rattle.brc_model.specs.declared.layout.Layout.{Layout}
@@ -82,25 +82,26 @@ phased_free : (n : Numbers) → Phased n → 0 < n.waiting → n.mark ≡ 0
 phased_free n (IsDefault phase none count) some = absurd (omega (arith, none, some))
 phased_free n (IsQueued phase one) some = omega (arith, one, some)
 
--- At most one decrement is pending, and it is the one that this duty is about to queue. So the mark is clear.
-mark_free : (p : Accounts) (n : ℕ) (m : Machine) (t : ℕ) (a : Actor) (x : ℕ) (rest : List Duty)
-    → AtDuty p n m t a (SetMark x) rest → m.memory (Mark x) ≡ 0
-mark_free p n m t a x rest here =
-    let one : one_if (x == x) ≡ 1 = ap one_if (eq-eqb x x refl) in
-    let weighs = first_weighs (waits x) m.actors t a (SetMark x) rest here.found here.agenda in
-    let some : 0 < (numbers_of m x).waiting = omega (arith, weighs, one) in
-    let alive = alive_waiting p n m x here.core (head_of p n m t a (SetMark x) rest here) some in
-    elim alive.live.mode [
-      | InOwned o ↦ phased_free (numbers_of m x) o.phased some
-      | InSwapped s ↦ phased_free (numbers_of m x) s.phased some
-      | InMerged s ↦ let most = s.awaits in omega (arith, most, some)
-    ]
+module _ {p : Accounts} {n : ℕ} {m : Machine} {t : ℕ} {a : Actor} {rest : List Duty} where
+  -- At most one decrement is pending, and it is the one that this duty is about to queue. So the mark is clear.
+  mark_free : (x : ℕ) → AtDuty p n m t a (SetMark x) rest → m.memory (Mark x) ≡ 0
+  mark_free x here =
+      let one : one_if (x == x) ≡ 1 = ap one_if (eq-eqb x x refl) in
+      let weighs = first_weighs (waits x) m.actors t a (SetMark x) rest here.found here.agenda in
+      let some : 0 < (numbers_of m x).waiting = omega (arith, weighs, one) in
+      let alive = alive_waiting x here.core (head_of here) some in
+      elim alive.live.mode [
+        | InOwned o ↦ phased_free (numbers_of m x) o.phased some
+        | InSwapped s ↦ phased_free (numbers_of m x) s.phased some
+        | InMerged s ↦ let most = s.awaits in omega (arith, most, some)
+      ]
 
 -- ---- a thread's own word
 
-word_is : (p : Accounts) (n : ℕ) (m : Machine) (t : ℕ) (a : Actor) (d : Duty) (rest : List Duty) (status : Status)
-    → AtDuty p n m t a d rest → a.status ≡ status → m.memory (ThreadWord t) ≡ status_word status
-word_is p n m t a d rest status here is = (here.core.each t a here.found).0.word ∙ ap status_word is
+module _ {p : Accounts} {n : ℕ} {m : Machine} {t : ℕ} {a : Actor} {d : Duty} {rest : List Duty} where
+  word_is : (status : Status) → AtDuty p n m t a d rest → a.status ≡ status
+      → m.memory (ThreadWord t) ≡ status_word status
+  word_is status here is = (here.core.each t a here.found).0.word ∙ ap status_word is
 
 -- A thread whose next duty is `Leave` is running.
 leaving_runs : (m : Machine) (t : ℕ) (a : Actor) (x k : ℕ) (rest : List Duty) (status : Status)
@@ -128,40 +129,36 @@ finishing_leaves m t a (e ∷ rest) Running is fits =
 next_unused : (m : Machine) (t : ℕ) (a : Actor) (x : ℕ) → IsNext m t a x → a.used ≤ index_of m.layout t x
 next_unused m t a x next = omega (arith, next_index m t a x next)
 
-next_local : (p : Accounts) (n : ℕ) (m : Machine) (t : ℕ) (a : Actor) (d : Duty) (rest : List Duty) (x : ℕ)
-    → AtDuty p n m t a d rest → IsNext m t a x → m.memory (Local x) ≡ 0
-next_local p n m t a d rest x here next =
-    let above = next_counted m t a x next in
-    (subst (λ (l : Life). RowInvariant (block_of m.layout x) l (numbers_of m x))
-    (next_unborn p n m t a x here.core here.found next) (here.core.rows x above)).local
+module _ {p : Accounts} {n : ℕ} {m : Machine} {t : ℕ} {a : Actor} {d : Duty} {rest : List Duty} where
+  next_local : (x : ℕ) → AtDuty p n m t a d rest → IsNext m t a x → m.memory (Local x) ≡ 0
+  next_local x here next =
+      let above = next_counted m t a x next in
+      (subst (λ (l : Life). RowInvariant (block_of m.layout x) l (numbers_of m x))
+      (next_unborn p n m t a x here.core here.found next) (here.core.rows x above)).local
 
 -- ---- all stores
 
--- A thread at a storing duty overwrites the word that `Overwrites` names.
-pub overwritten : (p : Accounts) (n : ℕ) (m : Machine) (t : ℕ) (a : Actor) (d : Duty) (rest : List Duty)
-    → AtDuty p n m t a d rest → Overwrites t d (found_by m t a d)
-overwritten p n m t a (RetainStore x h w) rest here = (head_of p n m t a (RetainStore x h w) rest here).3
-overwritten p n m t a (ReleaseStore x w) rest here = (head_of p n m t a (ReleaseStore x w) rest here).2
-overwritten p n m t a (SetMark x) rest here = mark_free p n m t a x rest here
-overwritten p n m t a (Die x) rest here = (head_of p n m t a (Die x) rest here).2
-overwritten p n m t a (SettleEnd x) rest here = (head_of p n m t a (SettleEnd x) rest here).2
-overwritten p n m t a (Leave x k) rest here =
-    word_is p n m t a (Leave x k) rest Running here
-    (leaving_runs m t a x k rest a.status here.agenda (here.core.each t a here.found).1)
-overwritten p n m t a Finish rest here =
-    word_is p n m t a Finish rest Leaving here
-    (finishing_leaves m t a rest a.status here.agenda (here.core.each t a here.found).1)
-overwritten p n m t a (BirthKind x h w) rest here =
-    let d : Duty = BirthKind x h w in
-    let next = (head_of p n m t a d rest here).0 in
-    (blanks_here p n m t a d rest here).kinds x (next_block m t a x next) (next_unused m t a x next) refl
-overwritten p n m t a (BirthSlot x h) rest here =
-    let d : Duty = BirthSlot x h in
-    let next = (head_of p n m t a d rest here).0 in
-    (blanks_here p n m t a d rest here).slots x (next_block m t a x next) (next_unused m t a x next) refl
-overwritten p n m t a (BirthLocal x h) rest here =
-    next_local p n m t a (BirthLocal x h) rest x here (head_of p n m t a (BirthLocal x h) rest here).0
-overwritten p n m t a (UnlockGate x) rest here =
-    ((here.core.each t a here.found).0.locks x (head_of p n m t a (UnlockGate x) rest here).2).gate
-overwritten p n m t a (ReturnSlot x) rest here = returning_finds p n m t a x rest here
-overwritten p n m t a _ rest here = tt
+module _ {p : Accounts} {n : ℕ} {m : Machine} {t : ℕ} {a : Actor} {rest : List Duty} where
+  -- A thread at a storing duty overwrites the word that `Overwrites` names.
+  pub overwritten : (d : Duty) → AtDuty p n m t a d rest → Overwrites t d (found_by m t a d)
+  overwritten (RetainStore x h w) here = (head_of here).3
+  overwritten (ReleaseStore x w) here = (head_of here).2
+  overwritten (SetMark x) here = mark_free x here
+  overwritten (Die x) here = (head_of here).2
+  overwritten (SettleEnd x) here = (head_of here).2
+  overwritten (Leave x k) here =
+      word_is Running here (leaving_runs m t a x k rest a.status here.agenda (here.core.each t a here.found).1)
+  overwritten Finish here =
+      word_is Leaving here (finishing_leaves m t a rest a.status here.agenda (here.core.each t a here.found).1)
+  overwritten (BirthKind x h w) here =
+      let d : Duty = BirthKind x h w in
+      let next = (head_of here).0 in
+      (blanks_here here).kinds x (next_block m t a x next) (next_unused m t a x next) refl
+  overwritten (BirthSlot x h) here =
+      let d : Duty = BirthSlot x h in
+      let next = (head_of here).0 in
+      (blanks_here here).slots x (next_block m t a x next) (next_unused m t a x next) refl
+  overwritten (BirthLocal x h) here = next_local x here (head_of here).0
+  overwritten (UnlockGate x) here = ((here.core.each t a here.found).0.locks x (head_of here).2).gate
+  overwritten (ReturnSlot x) here = returning_finds p n m t a x rest here
+  overwritten _ here = tt

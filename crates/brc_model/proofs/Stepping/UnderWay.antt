@@ -24,16 +24,10 @@ leave_behind (Leave x k ∷ l) rest none = absurd cc
 leave_behind (_ ∷ l) rest none = leave_behind l rest none
 
 leave_ready : (head : ℕ) (l : List Duty) → has_leave (ready head l) ≡ has_leave l
-leave_ready zero [] = refl
-leave_ready (suc head) [] = refl
 leave_ready zero (Settle ∷ rest) = leave_ready zero rest
-leave_ready (suc head) (Settle ∷ rest) = refl
 leave_ready zero (Scan x zero ∷ rest) = leave_ready zero rest
 leave_ready (suc head) (Scan x zero ∷ rest) = leave_ready (suc head) rest
-leave_ready zero (Scan x (suc k) ∷ rest) = refl
-leave_ready (suc head) (Scan x (suc k) ∷ rest) = refl
-leave_ready zero (_ ∷ rest) = refl
-leave_ready (suc head) (_ ∷ rest) = refl
+leave_ready _ _ = cc
 
 -- No step is followed by the duty to leave.
 next_leave : {layout : Layout} {t head found : ℕ} (d : Duty) (next : List Duty)
@@ -75,11 +69,12 @@ exits_by layout t a Gone new found (Leave x k) rest is fits = refl
 exits_by layout t a Gone new found Finish rest is fits = refl
 exits_by layout t a Gone new found _ rest is fits = refl
 
--- The thread's exit is under way after its step exactly if it was under way before.
-pub exits_still : (p : Accounts) (n : ℕ) (m : Machine) (t : ℕ) (a : Actor) (d : Duty) (rest : List Duty) (found : ℕ)
-    → AtDuty p n m t a d rest
-    → exits (actor_by m.layout t a d rest found).status
-    (actor_by m.layout t a d rest found).agenda ≡ exits a.status a.agenda
-exits_still p n m t a d rest found here =
-    exits_by m.layout t a a.status (new_head a.head d found) found d rest here.agenda (here.core.each t a here.found).1
-    ∙ ap (exits a.status) (sym here.agenda)
+module _ {p : Accounts} {n : ℕ} {m : Machine} {t : ℕ} {a : Actor} {d : Duty} {rest : List Duty} where
+  -- The thread's exit is under way after its step exactly if it was under way before.
+  pub exits_still : (found : ℕ) → AtDuty p n m t a d rest
+      → exits (actor_by m.layout t a d rest found).status (actor_by m.layout t a d rest found).agenda ≡ exits a.status
+      a.agenda
+  exits_still found here =
+      exits_by m.layout t a a.status (new_head a.head d found) found d rest here.agenda
+      (here.core.each t a here.found).1
+      ∙ ap (exits a.status) (sym here.agenda)

@@ -35,13 +35,13 @@ duty_owns m u x b (MergeSwap y Own) rest fits some =
     ]
 duty_owns m u x b _ rest fits some = absurd (omega (arith, some))
 
--- A thread that decides about a row runs and owns the row.
-pub decider_owns : (p : Accounts) (n : ℕ) (m : Machine) (u x : ℕ) (b : Actor) → CoreInvariant p n m
-    → slice_get m.actors u ≡ Some b
-    → 0 < agenda_weight (decides x) b → OwnsLocally m u b x
-decider_owns p n m u x b core found some =
-    let it = weighing p n m u x b (decides x) (decides_of_row x) core found some in
-    duty_owns m u x b it.duty it.rest it.knows it.some
+module _ {p : Accounts} {n : ℕ} {m : Machine} where
+  -- A thread that decides about a row runs and owns the row.
+  pub decider_owns : (u x : ℕ) (b : Actor) → CoreInvariant p n m → slice_get m.actors u ≡ Some b
+      → 0 < agenda_weight (decides x) b → OwnsLocally m u b x
+  decider_owns u x b core found some =
+      let it = weighing u x b (decides x) (decides_of_row x) core found some in
+      duty_owns m u x b it.duty it.rest it.knows it.some
 
 pub sum_zero : (f : Actor → ℕ) (actors : List Actor) → ((u : ℕ) (b : Actor) → slice_get actors u ≡ Some b → f b ≡ 0)
     → sum_by f actors ≡ 0
@@ -49,20 +49,19 @@ sum_zero f [] none = refl
 sum_zero f (b ∷ rest) none =
     omega (arith, sum_by-cons f b rest, none 0 b refl, sum_zero f rest (λ u c is. none (suc u) c is))
 
--- If the row's running owner isn't deciding about the row, no thread is.
-pub nobody_decides : (p : Accounts) (n : ℕ) (m : Machine) (t x : ℕ) (a : Actor) → CoreInvariant p n m
-    → slice_get m.actors t ≡ Some a → OwnsLocally m t a x → agenda_weight (decides x) a ≡ 0
-    → weight (decides x) m.actors ≡ 0
-nobody_decides p n m t x a core found owns mine =
-    sum_zero (agenda_weight (decides x)) m.actors (λ u b is.
-    elim (eqb_tells (agenda_weight (decides x) b) 0) [
-      | inl none ↦ none.1
-      | inr more ↦
-          let other = decider_owns p n m u x b core is (omega (arith, more.1)) in
-          let who : u ≡ t = omega (arith, other.owner, owns.owner) in
-          let which : b ≡ a = some_is b a (sym is ∙ ap (slice_get m.actors) who ∙ found) in
-          ap (agenda_weight (decides x)) which ∙ mine
-    ])
+module _ {p : Accounts} {n : ℕ} {m : Machine} where
+  -- If the row's running owner isn't deciding about the row, no thread is.
+  pub nobody_decides : (t x : ℕ) (a : Actor) → CoreInvariant p n m → slice_get m.actors t ≡ Some a → OwnsLocally m t a x
+      → agenda_weight (decides x) a ≡ 0 → weight (decides x) m.actors ≡ 0
+  nobody_decides t x a core found owns mine = sum_zero (agenda_weight (decides x)) m.actors (λ u b is.
+      elim (eqb_tells (agenda_weight (decides x) b) 0) [
+        | inl none ↦ none.1
+        | inr more ↦
+            let other = decider_owns u x b core is (omega (arith, more.1)) in
+            let who : u ≡ t = omega (arith, other.owner, owns.owner) in
+            let which : b ≡ a = some_is b a (sym is ∙ ap (slice_get m.actors) who ∙ found) in
+            ap (agenda_weight (decides x)) which ∙ mine
+      ])
 
 -- ---- a claimed mark
 
@@ -76,29 +75,28 @@ decider_is_owner m u b x owns live some =
       | InMerged w ↦ absurd (omega (arith, w.deciding, some))
     ]
 
--- While a thread that claimed a row's mark is about to merge the row, no thread decides about the row.
-pub none_decides : (p : Accounts) (n : ℕ) (m : Machine) (t : ℕ) (a : Actor) (y : ℕ) (rest : List Duty)
-    → AtDuty p n m t a (MergeSwap y Handed) rest → MayMerge m t y
-    → IsLive (block_of m.layout y) (numbers_of m y) → weight (decides y) m.actors ≡ 0
-none_decides p n m t a y rest here may live =
-    elim (eqb_tells (weight (decides y) m.actors) 0) [
-      | inl none ↦ none.1
-      | inr more ↦
-          let some : 0 < weight (decides y) m.actors = omega (arith, more.1) in
-          let it = some_weighs (decides y) m.actors some in
-          let owns = decider_owns p n m it.who y it.which here.core it.found it.some in
-          let owner = decider_is_owner m it.who it.which y owns live some in
-          elim may [
-            | inl mine ↦
-                let at : it.who ≡ t = owner ∙ mine in
-                let which : it.which ≡ a =
-                some_is it.which a (sym it.found ∙ ap (slice_get m.actors) at ∙ here.found) in
-                let same = ap (agenda_weight (decides y)) which in
-                let own = own_weighs p n m t y a (MergeSwap y Handed) rest (decides y) here (decides_of_row y)
-                (eq-eqb y y refl) in
-                absurd (omega (arith, it.some, same, own))
-            | inr stopped ↦
-                absurd (stopped (ap (λ (u : ℕ). m.memory (ThreadWord u)) (sym owner)
-                ∙ (here.core.each it.who it.which it.found).0.word ∙ ap status_word owns.running))
-          ]
-    ]
+module _ {p : Accounts} {n : ℕ} {m : Machine} {t : ℕ} {a : Actor} {rest : List Duty} where
+  -- While a thread that claimed a row's mark is about to merge the row, no thread decides about the row.
+  pub none_decides : (y : ℕ) → AtDuty p n m t a (MergeSwap y Handed) rest → MayMerge m t y
+      → IsLive (block_of m.layout y) (numbers_of m y) → weight (decides y) m.actors ≡ 0
+  none_decides y here may live =
+      elim (eqb_tells (weight (decides y) m.actors) 0) [
+        | inl none ↦ none.1
+        | inr more ↦
+            let some : 0 < weight (decides y) m.actors = omega (arith, more.1) in
+            let it = some_weighs (decides y) m.actors some in
+            let owns = decider_owns it.who y it.which here.core it.found it.some in
+            let owner = decider_is_owner m it.who it.which y owns live some in
+            elim may [
+              | inl mine ↦
+                  let at : it.who ≡ t = owner ∙ mine in
+                  let which : it.which ≡ a =
+                  some_is it.which a (sym it.found ∙ ap (slice_get m.actors) at ∙ here.found) in
+                  let same = ap (agenda_weight (decides y)) which in
+                  let own = own_weighs y (decides y) here (decides_of_row y) (eq-eqb y y refl) in
+                  absurd (omega (arith, it.some, same, own))
+              | inr stopped ↦
+                  absurd (stopped (ap (λ (u : ℕ). m.memory (ThreadWord u)) (sym owner)
+                  ∙ (here.core.each it.who it.which it.found).0.word ∙ ap status_word owns.running))
+            ]
+      ]

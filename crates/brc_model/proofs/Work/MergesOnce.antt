@@ -69,66 +69,65 @@ merger_knows m u x b (MergeLoad y c Handed) rest fits some = inr some
 merger_knows m u x b (MergeExchange y c w Handed) rest fits some = inr some
 merger_knows m u x b _ rest fits some = absurd (omega (arith, some))
 
-merger_of : (p : Accounts) (n : ℕ) (m : Machine) (u x : ℕ) (b : Actor) → CoreInvariant p n m
-    → slice_get m.actors u ≡ Some b
-    → 0 < agenda_weight (merges x) b → IsMerger m u b x
-merger_of p n m u x b core found some =
-    let it = weighing p n m u x b (merges x) (merges_of_row x) core found some in
-    elim (merger_knows m u x b it.duty it.rest it.knows it.some) [
-      | inl own ↦ inl own
-      | inr waiting ↦ inr (omega (arith, it.among (waits x), waiting))
-    ]
+module _ {p : Accounts} {n : ℕ} {m : Machine} where
+  merger_of : (u x : ℕ) (b : Actor) → CoreInvariant p n m → slice_get m.actors u ≡ Some b
+      → 0 < agenda_weight (merges x) b → IsMerger m u b x
+  merger_of u x b core found some =
+      let it = weighing u x b (merges x) (merges_of_row x) core found some in
+      elim (merger_knows m u x b it.duty it.rest it.knows it.some) [
+        | inl own ↦ inl own
+        | inr waiting ↦ inr (omega (arith, it.among (waits x), waiting))
+      ]
 
 -- ---- claimants
 
--- A thread that claimed a row's mark and another merging thread can't both exist: if the other is the running owner,
--- the claim wasn't allowed; if it has a pending decrement too, there are two, and a row has one at most.
-claimants_clash : (p : Accounts) (n : ℕ) (m : Machine) (t u x : ℕ) (a b : Actor) (rest : List Duty)
-    → AtDuty p n m t a (MergeSwap x Handed) rest → u ≢ t → slice_get m.actors u ≡ Some b → IsMerger m u b x
-    → Phased (numbers_of m x) → ⊥
-claimants_clash p n m t u x a b rest here ne found merger phased =
-    elim merger [
-      | inl own ↦ elim (head_of p n m t a (MergeSwap x Handed) rest here).1 [
-        | inl mine ↦ ne (sym own.1 ∙ mine)
-        | inr stopped ↦
-            stopped (ap (λ (z : ℕ). m.memory (ThreadWord z)) own.1 ∙ (here.core.each u b found).0.word
-            ∙ ap status_word own.0)
+module _ {p : Accounts} {n : ℕ} {m : Machine} {t : ℕ} {a : Actor} {rest : List Duty} where
+  -- A thread that claimed a row's mark and another merging thread can't both exist: if the other is the running owner,
+  -- the claim wasn't allowed; if it has a pending decrement too, there are two, and a row has one at most.
+  claimants_clash : (u x : ℕ) (b : Actor) → AtDuty p n m t a (MergeSwap x Handed) rest → u ≢ t
+      → slice_get m.actors u ≡ Some b → IsMerger m u b x → Phased (numbers_of m x) → ⊥
+  claimants_clash u x b here ne found merger phased =
+      elim merger [
+        | inl own ↦ elim (head_of here).1 [
+          | inl mine ↦ ne (sym own.1 ∙ mine)
+          | inr stopped ↦
+              stopped (ap (λ (z : ℕ). m.memory (ThreadWord z)) own.1 ∙ (here.core.each u b found).0.word
+              ∙ ap status_word own.0)
+        ]
+        | inr theirs ↦
+            let one : one_if (x == x) ≡ 1 = ap one_if (eq-eqb x x refl) in
+            let mine : agenda_weight (waits x) a ≡ one_if (x == x) =
+            own_weighs x (waits x) here (waits_of_row x) (eq-eqb x x refl) in
+            let both = two_weigh (waits x) m.actors t u a b ne here.found found in
+            elim phased [
+              | IsDefault q w k ↦ absurd (omega (arith, mine, one, theirs, both, w))
+              | IsQueued q w ↦ absurd (omega (arith, mine, one, theirs, both, w))
+            ]
       ]
-      | inr theirs ↦
-          let one : one_if (x == x) ≡ 1 = ap one_if (eq-eqb x x refl) in
-          let mine : agenda_weight (waits x) a ≡ one_if (x == x) =
-          own_weighs p n m t x a (MergeSwap x Handed) rest (waits x) here (waits_of_row x) (eq-eqb x x refl) in
-          let both = two_weigh (waits x) m.actors t u a b ne here.found found in
-          elim phased [
-            | IsDefault q w k ↦ absurd (omega (arith, mine, one, theirs, both, w))
-            | IsQueued q w ↦ absurd (omega (arith, mine, one, theirs, both, w))
-          ]
-    ]
 
--- While a thread that claimed a row's mark is about to merge the row, no other thread is merging it.
-claimed_alone : (p : Accounts) (n : ℕ) (m : Machine) (t : ℕ) (a : Actor) (x : ℕ) (rest : List Duty)
-    → AtDuty p n m t a (MergeSwap x Handed) rest → 0 < weight (merges x) m.actors → Phased (numbers_of m x) → ⊥
-claimed_alone p n m t a x rest here some phased =
-    let other = some_weighs (merges x) m.actors some in
-    let none : agenda_weight (merges x) a ≡ 0 =
-    own_weighs p n m t x a (MergeSwap x Handed) rest (merges x) here (merges_of_row x) (eq-eqb x x refl) in
-    let ne : other.who ≢ t = λ same.
-    let which : agenda_weight (merges x) other.which ≡ agenda_weight (merges x) a =
-    ap (agenda_weight (merges x)) (some_is other.which a
-    (sym other.found ∙ ap (slice_get m.actors) same ∙ here.found)) in
-    absurd (omega (arith, other.some, which, none)) in
-    claimants_clash p n m t other.who x a other.which rest here ne other.found
-    (merger_of p n m other.who x other.which here.core other.found other.some) phased
+  -- While a thread that claimed a row's mark is about to merge the row, no other thread is merging it.
+  claimed_alone : (x : ℕ) → AtDuty p n m t a (MergeSwap x Handed) rest → 0 < weight (merges x) m.actors
+      → Phased (numbers_of m x) → ⊥
+  claimed_alone x here some phased =
+      let other = some_weighs (merges x) m.actors some in
+      let none : agenda_weight (merges x) a ≡ 0 = own_weighs x (merges x) here (merges_of_row x) (eq-eqb x x refl) in
+      let ne : other.who ≢ t = λ same.
+      let which : agenda_weight (merges x) other.which ≡ agenda_weight (merges x) a =
+      ap (agenda_weight (merges x)) (some_is other.which a
+      (sym other.found ∙ ap (slice_get m.actors) same ∙ here.found)) in
+      absurd (omega (arith, other.some, which, none)) in
+      claimants_clash other.who x other.which here ne other.found
+      (merger_of other.who x other.which here.core other.found other.some) phased
 
--- If the local word is 0, a thread that claimed the row's mark finds the row merged.
-pub swapped_apart : (p : Accounts) (n : ℕ) (m : Machine) (t : ℕ) (a : Actor) (x : ℕ) (rest : List Duty)
-    → AtDuty p n m t a (MergeSwap x Handed) rest → m.memory (Local x) ≡ 0 → phase_part (m.memory (Shared x)) ≡ 3
-swapped_apart p n m t a x rest here none =
-    elim (claim_alive p n m t a x rest here).live.mode [
-      | InOwned o ↦ absurd (omega (arith, o.owned, none))
-      | InSwapped s ↦ absurd (claimed_alone p n m t a x rest here (omega (arith, s.merging)) s.phased)
-      | InMerged s ↦ s.phase
-    ]
+  -- If the local word is 0, a thread that claimed the row's mark finds the row merged.
+  pub swapped_apart : (x : ℕ) → AtDuty p n m t a (MergeSwap x Handed) rest → m.memory (Local x) ≡ 0
+      → phase_part (m.memory (Shared x)) ≡ 3
+  swapped_apart x here none =
+      elim (claim_alive x here).live.mode [
+        | InOwned o ↦ absurd (omega (arith, o.owned, none))
+        | InSwapped s ↦ absurd (claimed_alone x here (omega (arith, s.merging)) s.phased)
+        | InMerged s ↦ s.phase
+      ]
 
 -- ---- carried counts
 
@@ -158,34 +157,32 @@ one_carries x (b ∷ rest) (suc t) a found one =
       one_carries x rest t a found (omega (arith, sum_by-cons (agenda_weight (merges x)) b rest, others, one)),
     )
 
--- The count carried of a row is the one in the duty that merges the row.
-carried_by : (p : Accounts) (n : ℕ) (m : Machine) (t : ℕ) (a : Actor) (x c : ℕ) (d : Duty) (rest : List Duty)
-    → AtDuty p n m t a d rest → is_about x d ≡ true → merges x d ≡ 1 → carries x d ≡ c → Alive m x
-    → weight (carries x) m.actors ≡ c
-carried_by p n m t a x c d rest here about one mine alive =
-    let first = first_weighs (merges x) m.actors t a d rest here.found here.agenda in
-    let all : weight (merges x) m.actors ≡ 1 = elim alive.live.mode [
-      | InOwned o ↦ absurd (omega (arith, first, one, o.merging))
-      | InSwapped s ↦ s.merging
-      | InMerged s ↦ absurd (omega (arith, first, one, s.merging))
-    ] in
-    let whole = own_weighs p n m t x a d rest (merges x) here (merges_of_row x) about in
-    let carry = own_weighs p n m t x a d rest (carries x) here (carries_of_row x) about in
-    omega (arith, one_carries x m.actors t a here.found (omega (arith, all, whole, first, one)), carry, mine)
+module _ {p : Accounts} {n : ℕ} {m : Machine} {t : ℕ} {a : Actor} {d : Duty} {rest : List Duty} where
+  -- The count carried of a row is the one in the duty that merges the row.
+  carried_by : (x c : ℕ) → AtDuty p n m t a d rest → is_about x d ≡ true → merges x d ≡ 1 → carries x d ≡ c → Alive m x
+      → weight (carries x) m.actors ≡ c
+  carried_by x c here about one mine alive =
+      let first = first_weighs (merges x) m.actors t a d rest here.found here.agenda in
+      let all : weight (merges x) m.actors ≡ 1 = elim alive.live.mode [
+        | InOwned o ↦ absurd (omega (arith, first, one, o.merging))
+        | InSwapped s ↦ s.merging
+        | InMerged s ↦ absurd (omega (arith, first, one, s.merging))
+      ] in
+      let whole = own_weighs x (merges x) here (merges_of_row x) about in
+      let carry = own_weighs x (carries x) here (carries_of_row x) about in
+      omega (arith, one_carries x m.actors t a here.found (omega (arith, all, whole, first, one)), carry, mine)
 
--- `carried_by` at the load of a merge.
-pub carried_at_load : (p : Accounts) (n : ℕ) (m : Machine) (t : ℕ) (a : Actor) (x c : ℕ) (r : Reason)
-    (rest : List Duty)
-    → AtDuty p n m t a (MergeLoad x c r) rest → weight (carries x) m.actors ≡ c
-carried_at_load p n m t a x c r rest here =
-    let itself = eq-eqb x x refl in
-    carried_by p n m t a x c (MergeLoad x c r) rest here itself (ap one_if itself)
-    (ap (λ (b : Bool). cond b c 0) itself) (merge_load_alive p n m t a x c r rest here)
+module _ {p : Accounts} {n : ℕ} {m : Machine} {t : ℕ} {a : Actor} {rest : List Duty} where
+  -- `carried_by` at the load of a merge.
+  pub carried_at_load : (x c : ℕ) (r : Reason) → AtDuty p n m t a (MergeLoad x c r) rest
+      → weight (carries x) m.actors ≡ c
+  carried_at_load x c r here =
+      let itself = eq-eqb x x refl in
+      carried_by x c here itself (ap one_if itself) (ap (λ (b : Bool). cond b c 0) itself) (merge_load_alive x c r here)
 
--- `carried_by` at the exchange of a merge.
-pub carried_is : (p : Accounts) (n : ℕ) (m : Machine) (t : ℕ) (a : Actor) (x c w : ℕ) (r : Reason) (rest : List Duty)
-    → AtDuty p n m t a (MergeExchange x c w r) rest → weight (carries x) m.actors ≡ c
-carried_is p n m t a x c w r rest here =
-    let itself = eq-eqb x x refl in
-    carried_by p n m t a x c (MergeExchange x c w r) rest here itself (ap one_if itself)
-    (ap (λ (b : Bool). cond b c 0) itself) (merge_alive p n m t a x c w r rest here)
+  -- `carried_by` at the exchange of a merge.
+  pub carried_is : (x c w : ℕ) (r : Reason) → AtDuty p n m t a (MergeExchange x c w r) rest
+      → weight (carries x) m.actors ≡ c
+  carried_is x c w r here =
+      let itself = eq-eqb x x refl in
+      carried_by x c here itself (ap one_if itself) (ap (λ (b : Bool). cond b c 0) itself) (merge_alive x c w r here)

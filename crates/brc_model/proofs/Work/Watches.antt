@@ -22,7 +22,7 @@ use Rattle.brc_model.proofs.Basics.Written.{written_here, written_apart, written
 use Rattle.brc_model.proofs.Basics.Continuation.{is_inner, next_inner, first_inner, Continuation, Ends, GoesOn, Frees, Exits, Scans, ScansNone, continues}
 use Rattle.brc_model.proofs.Frame.Leaves.{head_of, words_left}
 use Rattle.brc_model.proofs.Frame.Lives.{next_of}
-use Rattle.brc_model.proofs.Stepping.Neutral.{found_by, memory_by, agenda_here}
+use Rattle.brc_model.proofs.Stepping.FitsAfter.{found_by, memory_by, agenda_here, NotGone}
 use Rattle.brc_model.proofs.Stepping.Exits.{marked_born}
 use Rattle.brc_model.proofs.Basics.Blocks.{row_back, born_used}
 use Rattle.brc_model.proofs.Objects.Weights.{weight-stepped}
@@ -124,15 +124,14 @@ next_scans x d next rest (ScansNone i n) spares row =
     (omega (arith, row.0, spares), omega (arith, row.0, row.1, spares))
 next_scans x d next rest _ spares row = row
 
-agenda_scans : (p : Accounts) (n : ℕ) (m : Machine) (t : ℕ) (a : Actor) (d : Duty) (rest : List Duty) (x : ℕ)
-    → AtDuty p n m t a d rest → (a.status ≡ Gone → ⊥) → x < a.used → SparesIndex d x
-    → scans x (d ∷ rest) ≡ true
-    → scans x (actor_by m.layout t a d rest (found_by m t a d)).agenda ≡ true
-agenda_scans p n m t a d rest x here alive low spares e =
-    let word = found_by m t a d in
-    let row = here_scans a.used a.status x d rest (agenda_here p n m t a d rest here alive) low e in
-    ready_scans x (new_head a.head d word) (next_of m t a d ++ rest)
-    (next_scans x d (next_of m t a d) rest (continues m.layout t (is_running a.status) a.head d word) spares row)
+module _ {p : Accounts} {n : ℕ} {m : Machine} {t : ℕ} {a : Actor} {d : Duty} {rest : List Duty} where
+  agenda_scans : (x : ℕ) → AtDuty p n m t a d rest → NotGone a → x < a.used → SparesIndex d x
+      → scans x (d ∷ rest) ≡ true → scans x (actor_by m.layout t a d rest (found_by m t a d)).agenda ≡ true
+  agenda_scans x here alive low spares e =
+      let word = found_by m t a d in
+      let row = here_scans a.used a.status x d rest (agenda_here here alive) low e in
+      ready_scans x (new_head a.head d word) (next_of m t a d ++ rest)
+      (next_scans x d (next_of m t a d) rest (continues m.layout t (is_running a.status) a.head d word) spares row)
 
 -- ---- looks under way
 
@@ -145,46 +144,45 @@ looks_step m t a d rest x found is =
     (actor_by m.layout t a d rest (found_by m t a d)) d (next_of m t a d) rest (new_head a.head d (found_by m t a d))
     found is refl refl
 
--- If the duty isn't a look at the row, a look that some thread has under way stays under way.
-look_kept : (p : Accounts) (n : ℕ) (m : Machine) (t : ℕ) (a : Actor) (d : Duty) (rest : List Duty) (x : ℕ)
-    → AtDuty p n m t a d rest → looks x d ≡ 0 → 0 < weight (looks x) m.actors → IsWatched (done_by m t a d rest) x
-look_kept p n m t a d rest x here none some =
-    ByLook (omega (arith, looks_step m t a d rest x here.found here.agenda, none, some))
+module _ {p : Accounts} {n : ℕ} {m : Machine} {t : ℕ} {a : Actor} {d : Duty} {rest : List Duty} where
+  -- If the duty isn't a look at the row, a look that some thread has under way stays under way.
+  look_kept : (x : ℕ) → AtDuty p n m t a d rest → looks x d ≡ 0 → 0 < weight (looks x) m.actors
+      → IsWatched (done_by m t a d rest) x
+  look_kept x here none some = ByLook (omega (arith, looks_step m t a d rest x here.found here.agenda, none, some))
 
-look_after : (p : Accounts) (n : ℕ) (m : Machine) (t : ℕ) (a : Actor) (d : Duty) (rest : List Duty) (x : ℕ)
-    → AtDuty p n m t a d rest → Spares m.layout t d x → 0 < weight (looks x) m.actors
-    → IsWatched (done_by m t a d rest) x
-look_after p n m t a (Look y) rest x here spares some =
-    let word = m.memory (ThreadWord (block_of m.layout y)) in
-    elim (eqb_tells y x) [
-      | inl same ↦ elim (word == 1) as (λ b. (word == 1) ≡ b → IsWatched (done_by m t a (Look y) rest) x) [
-        | true ↦ λ e.
-            ByRunning (written_load m.memory (ThreadWord (block_of m.layout y)) (ThreadWord (block_of m.layout x))
-            ∙ ap (λ (z : ℕ). m.memory (ThreadWord (block_of m.layout z))) (sym same.1) ∙ eqb-true word 1 e)
-        | false ↦ λ e.
-            let next : sum_by (looks x) (next_of m t a (Look y)) ≡ one_if (y == x) + 0 =
-            ap (λ (b : Bool). sum_by (looks x) (cond b [] (TakeMark y ∷ []))) e
-            ∙ sum_by-cons (looks x) (TakeMark y) [] in
-            ByLook (omega (arith, looks_step m t a (Look y) rest x here.found here.agenda, next, some))
-      ] refl
-      | inr other ↦ look_kept p n m t a (Look y) rest x here (ap one_if other.0) some
-    ]
-look_after p n m t a (TakeMark y) rest x here spares some =
-    look_kept p n m t a (TakeMark y) rest x here (ap one_if (ne_eqb y x spares)) some
-look_after p n m t a _ rest x here spares some = look_kept p n m t a _ rest x here refl some
+module _ {p : Accounts} {n : ℕ} {m : Machine} {t : ℕ} {a : Actor} {rest : List Duty} where
+  look_after : (d : Duty) (x : ℕ) → AtDuty p n m t a d rest → Spares m.layout t d x → 0 < weight (looks x) m.actors
+      → IsWatched (done_by m t a d rest) x
+  look_after (Look y) x here spares some =
+      let word = m.memory (ThreadWord (block_of m.layout y)) in
+      elim (eqb_tells y x) [
+        | inl same ↦ elim (word == 1) as (λ b. (word == 1) ≡ b → IsWatched (done_by m t a (Look y) rest) x) [
+          | true ↦ λ e.
+              ByRunning (written_load m.memory (ThreadWord (block_of m.layout y)) (ThreadWord (block_of m.layout x))
+              ∙ ap (λ (z : ℕ). m.memory (ThreadWord (block_of m.layout z))) (sym same.1) ∙ eqb-true word 1 e)
+          | false ↦ λ e.
+              let next : sum_by (looks x) (next_of m t a (Look y)) ≡ one_if (y == x) + 0 =
+              ap (λ (b : Bool). sum_by (looks x) (cond b [] (TakeMark y ∷ []))) e
+              ∙ sum_by-cons (looks x) (TakeMark y) [] in
+              ByLook (omega (arith, looks_step m t a (Look y) rest x here.found here.agenda, next, some))
+        ] refl
+        | inr other ↦ look_kept x here (ap one_if other.0) some
+      ]
+  look_after (TakeMark y) x here spares some = look_kept x here (ap one_if (ne_eqb y x spares)) some
+  look_after _ x here spares some = look_kept x here refl some
 
 -- ---- the thread of the row's block
 
--- A marked row is among the rows that the thread of its block has used.
-pub marked_within : (p : Accounts) (n : ℕ) (m : Machine) (t : ℕ) (a : Actor) (x : ℕ) → CoreInvariant p n m
-    → slice_get m.actors t ≡ Some a → m.memory (Mark x) ≡ 1 → block_of m.layout x ≡ t
-    → index_of m.layout t x < a.used
-marked_within p n m t a x core found marked block =
-    let used = born_used p n m x core (marked_born p n m x core marked) in
-    let it : used.by ≡ a = some_is used.by a (sym used.found ∙ ap (slice_get m.actors) block ∙ found) in
-    let low : index_of m.layout t x < used.by.used =
-    subst (λ (u : ℕ). index_of m.layout u x < used.by.used) block used.low in
-    omega (arith, low, ap (λ (b : Actor). b.used) it)
+module _ {p : Accounts} {n : ℕ} {m : Machine} where
+  -- A marked row is among the rows that the thread of its block has used.
+  pub marked_within : (t : ℕ) (a : Actor) (x : ℕ) → CoreInvariant p n m → slice_get m.actors t ≡ Some a
+      → m.memory (Mark x) ≡ 1 → block_of m.layout x ≡ t → index_of m.layout t x < a.used
+  marked_within t a x core found marked block =
+      let used = born_used x core (marked_born x core marked) in
+      let it : used.by ≡ a = some_is used.by a (sym used.found ∙ ap (slice_get m.actors) block ∙ found) in
+      let low : index_of m.layout t x < used.by.used =
+      subst (λ (u : ℕ). index_of m.layout u x < used.by.used) block used.low in
+      omega (arith, low, ap (λ (b : Actor). b.used) it)
 
 mine_after : (m : Machine) (t : ℕ) (a : Actor) (d : Duty) (rest : List Duty) (x : ℕ) → slice_get m.actors t ≡ Some a
     → block_of m.layout x ≡ t
@@ -201,111 +199,99 @@ running_after : (p : Accounts) (n : ℕ) (m : Machine) (t : ℕ) (a : Actor) (d 
 running_after p n m t a (Leave y k) [] x here alive marked runs =
     elim (eqb_tells (block_of m.layout x) t) [
       | inl same ↦
-          let fits = agenda_here p n m t a (Leave y k) [] here alive in
-          let within = marked_within p n m t a x here.core here.found marked same.1 in
+          let fits = agenda_here here alive in
+          let within = marked_within t a x here.core here.found marked same.1 in
           mine_after m t a (Leave y k) [] x here.found same.1
           (ready_scans (index_of m.layout t x) a.head (Scan y k ∷ Finish ∷ [])
           (omega (arith, fits.1), omega (arith, within, fits.1, fits.2)))
       | inr other ↦ ByRunning (words_left m t a (Leave y k) (block_of m.layout x) other.1 ∙ runs)
     ]
-running_after p n m t a (Leave y k) (e ∷ rest) x here alive marked runs =
-    absurd (agenda_here p n m t a (Leave y k) (e ∷ rest) here alive)
+running_after p n m t a (Leave y k) (e ∷ rest) x here alive marked runs = absurd (agenda_here here alive)
 running_after p n m t a Finish [] x here alive marked runs =
     elim (eqb_tells (block_of m.layout x) t) [
       | inl same ↦
-          let fits = agenda_here p n m t a Finish [] here alive in
+          let fits = agenda_here here alive in
           let word : m.memory (ThreadWord t) ≡ 2 = (here.core.each t a here.found).0.word ∙ ap status_word fits in
           let still : m.memory (ThreadWord t) ≡ 1 = ap (λ (z : ℕ). m.memory (ThreadWord z)) (sym same.1) ∙ runs in
           absurd (omega (arith, word, still))
       | inr other ↦ ByRunning (words_left m t a Finish (block_of m.layout x) other.1 ∙ runs)
     ]
-running_after p n m t a Finish (e ∷ rest) x here alive marked runs =
-    absurd (agenda_here p n m t a Finish (e ∷ rest) here alive)
+running_after p n m t a Finish (e ∷ rest) x here alive marked runs = absurd (agenda_here here alive)
 running_after p n m t a (Look y) rest x here alive marked runs =
     ByRunning (written_load m.memory (ThreadWord (block_of m.layout y)) (ThreadWord (block_of m.layout x)) ∙ runs)
 running_after p n m t a _ rest x here alive marked runs = ByRunning runs
 
-exit_after : (p : Accounts) (n : ℕ) (m : Machine) (t : ℕ) (a : Actor) (d : Duty) (rest : List Duty) (x : ℕ) (b : Actor)
-    → AtDuty p n m t a d rest → (a.status ≡ Gone → ⊥) → m.memory (Mark x) ≡ 1 → Spares m.layout t d x
-    → slice_get m.actors (block_of m.layout x) ≡ Some b
-    → scans (index_of m.layout (block_of m.layout x) x) b.agenda ≡ true → IsWatched (done_by m t a d rest) x
-exit_after p n m t a d rest x b here alive marked spares found e =
-    elim (eqb_tells (block_of m.layout x) t) [
-      | inl same ↦
-          let it : b ≡ a = some_is b a (sym found ∙ ap (slice_get m.actors) same.1 ∙ here.found) in
-          let i = index_of m.layout t x in
-          let mine : scans i b.agenda ≡ true =
-          ap (λ (u : ℕ). scans (index_of m.layout u x) b.agenda) (sym same.1) ∙ e in
-          let still : scans i (d ∷ rest) ≡ true =
-          ap (scans i) (sym here.agenda) ∙ ap (λ (c : Actor). scans i c.agenda) (sym it) ∙ mine in
-          mine_after m t a d rest x here.found same.1
-          (agenda_scans p n m t a d rest i here alive
-          (marked_within p n m t a x here.core here.found marked same.1)
-          (spares_index m.layout t d x same.1 spares) still)
-      | inr other ↦
-          ByExit b (slice_get-set_other m.actors t (block_of m.layout x)
-          (actor_by m.layout t a d rest (found_by m t a d)) other.1
-          ∙ found) e
-    ]
+module _ {p : Accounts} {n : ℕ} {m : Machine} {t : ℕ} {a : Actor} {d : Duty} {rest : List Duty} where
+  exit_after : (x : ℕ) (b : Actor) → AtDuty p n m t a d rest → NotGone a → m.memory (Mark x) ≡ 1 → Spares m.layout t d x
+      → slice_get m.actors (block_of m.layout x) ≡ Some b
+      → scans (index_of m.layout (block_of m.layout x) x) b.agenda ≡ true → IsWatched (done_by m t a d rest) x
+  exit_after x b here alive marked spares found e =
+      elim (eqb_tells (block_of m.layout x) t) [
+        | inl same ↦
+            let it : b ≡ a = some_is b a (sym found ∙ ap (slice_get m.actors) same.1 ∙ here.found) in
+            let i = index_of m.layout t x in
+            let mine : scans i b.agenda ≡ true =
+            ap (λ (u : ℕ). scans (index_of m.layout u x) b.agenda) (sym same.1) ∙ e in
+            let still : scans i (d ∷ rest) ≡ true =
+            ap (scans i) (sym here.agenda) ∙ ap (λ (c : Actor). scans i c.agenda) (sym it) ∙ mine in
+            mine_after m t a d rest x here.found same.1
+            (agenda_scans i here alive (marked_within t a x here.core here.found marked same.1)
+            (spares_index m.layout t d x same.1 spares) still)
+        | inr other ↦
+            ByExit b (slice_get-set_other m.actors t (block_of m.layout x)
+            (actor_by m.layout t a d rest (found_by m t a d)) other.1 ∙ found) e
+      ]
 
-watched_after : (p : Accounts) (n : ℕ) (m : Machine) (t : ℕ) (a : Actor) (d : Duty) (rest : List Duty) (x : ℕ)
-    → AtDuty p n m t a d rest → (a.status ≡ Gone → ⊥) → m.memory (Mark x) ≡ 1 → Spares m.layout t d x
-    → IsWatched m x → IsWatched (done_by m t a d rest) x
-watched_after p n m t a d rest x here alive marked spares (ByRunning runs) =
-    running_after p n m t a d rest x here alive marked runs
-watched_after p n m t a d rest x here alive marked spares (ByExit b found e) =
-    exit_after p n m t a d rest x b here alive marked spares found e
-watched_after p n m t a d rest x here alive marked spares (ByLook some) = look_after p n m t a d rest x here spares some
+  watched_after : (x : ℕ) → AtDuty p n m t a d rest → NotGone a → m.memory (Mark x) ≡ 1 → Spares m.layout t d x
+      → IsWatched m x → IsWatched (done_by m t a d rest) x
+  watched_after x here alive marked spares (ByRunning runs) = running_after p n m t a d rest x here alive marked runs
+  watched_after x here alive marked spares (ByExit b found e) = exit_after x b here alive marked spares found e
+  watched_after x here alive marked spares (ByLook some) = look_after d x here spares some
 
 -- ---- all marks
 
 abbrev pub MarkFits : Machine → ℕ → Type 0
 MarkFits m x = (m.memory (Mark x) ≡ 0) ⊎ ((m.memory (Mark x) ≡ 1) × (IsCounted m.layout x) × IsWatched m x)
 
-mark_kept : (p : Accounts) (n : ℕ) (m : Machine) (t : ℕ) (a : Actor) (d : Duty) (rest : List Duty) (x : ℕ)
-    → AtDuty p n m t a d rest → (a.status ≡ Gone → ⊥) → Spares m.layout t d x
-    → memory_by m t a d (Mark x) ≡ m.memory (Mark x) → MarkFits (done_by m t a d rest) x
-mark_kept p n m t a d rest x here alive spares same =
-    elim (here.core.marks x) [
-      | inl none ↦ inl (same ∙ none)
-      | inr some ↦ inr (same ∙ some.0, some.1, watched_after p n m t a d rest x here alive some.0 spares some.2)
-    ]
+module _ {p : Accounts} {n : ℕ} {m : Machine} {t : ℕ} {a : Actor} {d : Duty} {rest : List Duty} where
+  mark_kept : (x : ℕ) → AtDuty p n m t a d rest → NotGone a → Spares m.layout t d x
+      → memory_by m t a d (Mark x) ≡ m.memory (Mark x) → MarkFits (done_by m t a d rest) x
+  mark_kept x here alive spares same =
+      elim (here.core.marks x) [
+        | inl none ↦ inl (same ∙ none)
+        | inr some ↦ inr (same ∙ some.0, some.1, watched_after x here alive some.0 spares some.2)
+      ]
 
--- A duty that clears the mark of row `y` keeps every mark either clear or watched.
-mark_taken : (p : Accounts) (n : ℕ) (m : Machine) (t : ℕ) (a : Actor) (d : Duty) (rest : List Duty) (y x : ℕ)
-    → AtDuty p n m t a d rest → (a.status ≡ Gone → ⊥) → (y ≢ x → Spares m.layout t d x)
-    → ((z : ℕ) → memory_by m t a d (Mark z) ≡ written m.memory (Mark y) 0 (Mark z)) → MarkFits (done_by m t a d rest) x
-mark_taken p n m t a d rest y x here alive spares now =
-    elim (eqb_tells y x) [
-      | inl same ↦
-          inl (now x ∙ ap (λ (z : ℕ). written m.memory (Mark z) 0 (Mark x)) same.1 ∙ written_here m.memory (Mark x) 0)
-      | inr other ↦
-          mark_kept p n m t a d rest x here alive (spares other.1)
-          (now x ∙ written_apart m.memory (Mark y) (Mark x) 0 (apart_mark y x other.1))
-    ]
+  -- A duty that clears the mark of row `y` keeps every mark either clear or watched.
+  mark_taken : (y x : ℕ) → AtDuty p n m t a d rest → NotGone a → (y ≢ x → Spares m.layout t d x)
+      → ((z : ℕ) → memory_by m t a d (Mark z) ≡ written m.memory (Mark y) 0 (Mark z))
+      → MarkFits (done_by m t a d rest) x
+  mark_taken y x here alive spares now =
+      elim (eqb_tells y x) [
+        | inl same ↦
+            inl (now x ∙ ap (λ (z : ℕ). written m.memory (Mark z) 0 (Mark x)) same.1 ∙ written_here m.memory (Mark x) 0)
+        | inr other ↦
+            mark_kept x here alive (spares other.1)
+            (now x ∙ written_apart m.memory (Mark y) (Mark x) 0 (apart_mark y x other.1))
+      ]
 
--- After a thread's step each mark is clear, or set and watched.
-pub marks_after : (p : Accounts) (n : ℕ) (m : Machine) (t : ℕ) (a : Actor) (d : Duty) (rest : List Duty)
-    → AtDuty p n m t a d rest → (a.status ≡ Gone → ⊥) → (x : ℕ) → MarkFits (done_by m t a d rest) x
-marks_after p n m t a (SetMark y) rest here alive x =
-    elim (eqb_tells y x) [
-      | inl same ↦
-          let counted : IsCounted m.layout y = head_of p n m t a (SetMark y) rest here in
-          let one : one_if (y == x) ≡ 1 = ap one_if same.0 in
-          let next : sum_by (looks x) (Look y ∷ []) ≡ one_if (y == x) + 0 = sum_by-cons (looks x) (Look y) [] in
-          inr (
-            ap (λ (z : ℕ). written m.memory (Mark z) 1 (Mark x)) same.1 ∙ written_here m.memory (Mark x) 1,
-            subst (IsCounted m.layout) same.1 counted,
-            ByLook (omega (arith, looks_step m t a (SetMark y) rest x here.found here.agenda, one, next)),
-          )
-      | inr other ↦
-          mark_kept p n m t a (SetMark y) rest x here alive tt
-          (written_apart m.memory (Mark y) (Mark x) 1 (apart_mark y x other.1))
-    ]
-marks_after p n m t a (TakeMark y) rest here alive x =
-    mark_taken p n m t a (TakeMark y) rest y x here alive (λ ne. ne) (λ z. refl)
-marks_after p n m t a (Scan y k) rest here alive x =
-    mark_taken p n m t a (Scan y k) rest (row_at m.layout t y) x here alive (λ ne. ne) (λ z. refl)
-marks_after p n m t a (ClaimMark y) rest here alive x =
-    mark_taken p n m t a (ClaimMark y) rest y x here alive (λ ne. tt) (λ z. refl)
-marks_after p n m t a d rest here alive x = mark_kept p n m t a d rest x here alive tt refl
+module _ {p : Accounts} {n : ℕ} {m : Machine} {t : ℕ} {a : Actor} {rest : List Duty} where
+  -- After a thread's step each mark is clear, or set and watched.
+  pub marks_after : (d : Duty) → AtDuty p n m t a d rest → NotGone a → (x : ℕ) → MarkFits (done_by m t a d rest) x
+  marks_after (SetMark y) here alive x =
+      elim (eqb_tells y x) [
+        | inl same ↦
+            let counted : IsCounted m.layout y = head_of here in
+            let one : one_if (y == x) ≡ 1 = ap one_if same.0 in
+            let next : sum_by (looks x) (Look y ∷ []) ≡ one_if (y == x) + 0 = sum_by-cons (looks x) (Look y) [] in
+            inr (
+              ap (λ (z : ℕ). written m.memory (Mark z) 1 (Mark x)) same.1 ∙ written_here m.memory (Mark x) 1,
+              subst (IsCounted m.layout) same.1 counted,
+              ByLook (omega (arith, looks_step m t a (SetMark y) rest x here.found here.agenda, one, next)),
+            )
+        | inr other ↦ mark_kept x here alive tt (written_apart m.memory (Mark y) (Mark x) 1 (apart_mark y x other.1))
+      ]
+  marks_after (TakeMark y) here alive x = mark_taken y x here alive (λ ne. ne) (λ z. refl)
+  marks_after (Scan y k) here alive x = mark_taken (row_at m.layout t y) x here alive (λ ne. ne) (λ z. refl)
+  marks_after (ClaimMark y) here alive x = mark_taken y x here alive (λ ne. tt) (λ z. refl)
+  marks_after d here alive x = mark_kept x here alive tt refl

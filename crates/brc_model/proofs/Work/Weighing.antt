@@ -81,18 +81,18 @@ behind_weighs x f of_row a Leaving d rest fits is =
     (subst (Agenda a.used Leaving) is fits)
 behind_weighs x f of_row a Gone d rest fits is = absurd (let wrong : [] ≡ d ∷ rest = sym fits.0 ∙ is in cc)
 
--- All that a thread weighs at the row of its first duty is the weight of that duty.
-pub own_weighs : (p : Accounts) (n : ℕ) (m : Machine) (t x : ℕ) (a : Actor) (d : Duty) (rest : List Duty)
-    (f : Duty → ℕ)
-    → AtDuty p n m t a d rest → IsOfRow x f → is_about x d ≡ true → agenda_weight f a ≡ f d
-own_weighs p n m t x a d rest f here of_row this =
-    let fits = here.core.each t a here.found in
-    let none = behind_weighs x f of_row a a.status d rest fits.1 here.agenda in
-    let whole : sum_by f a.agenda ≡ f d + sum_by f rest = ap (sum_by f) here.agenda ∙ sum_by-cons f d rest in
-    let one : one_if (about_of x a.agenda) ≡ 1 =
-    ap (λ (l : List Duty). one_if (about_of x l)) here.agenda ∙ ap one_if this in
-    let aside = aside_weighs x f of_row a.aside (omega (arith, fits.2.apart x, one)) in
-    omega (arith, none, whole, aside)
+module _ {p : Accounts} {n : ℕ} {m : Machine} {t : ℕ} {a : Actor} {d : Duty} {rest : List Duty} where
+  -- All that a thread weighs at the row of its first duty is the weight of that duty.
+  pub own_weighs : (x : ℕ) (f : Duty → ℕ) → AtDuty p n m t a d rest → IsOfRow x f → is_about x d ≡ true
+      → agenda_weight f a ≡ f d
+  own_weighs x f here of_row this =
+      let fits = here.core.each t a here.found in
+      let none = behind_weighs x f of_row a a.status d rest fits.1 here.agenda in
+      let whole : sum_by f a.agenda ≡ f d + sum_by f rest = ap (sum_by f) here.agenda ∙ sum_by-cons f d rest in
+      let one : one_if (about_of x a.agenda) ≡ 1 =
+      ap (λ (l : List Duty). one_if (about_of x l)) here.agenda ∙ ap one_if this in
+      let aside = aside_weighs x f of_row a.aside (omega (arith, fits.2.apart x, one)) in
+      omega (arith, none, whole, aside)
 
 -- ---- a duty that weighs something
 
@@ -150,22 +150,21 @@ weighing_aside f m u b (d ∷ rest) waits some =
       }
     ]
 
--- A thread whose duties weigh something at a row has a duty that does, and that knows what it needs.
-pub weighing : (p : Accounts) (n : ℕ) (m : Machine) (u x : ℕ) (b : Actor) (f : Duty → ℕ) → IsOfRow x f
-    → CoreInvariant p n m
-    → slice_get m.actors u ≡ Some b → 0 < agenda_weight f b → Weighing f m u b
-weighing p n m u x b f of_row core found some =
-    let fits = core.each u b found in
-    elim (eqb_tells (sum_by f b.agenda) 0) [
-      | inl none ↦
-          let it = weighing_aside f m u b b.aside fits.2.waits (omega (arith, some, none.1)) in
-          record {
-            duty = it.duty;
-            rest = [];
-            some = it.some;
-            knows = it.knows;
-            among = λ g. omega (arith, it.among g);
-          }
-      | inr more ↦
-          weighing_agenda x f of_row m u b b.agenda refl fits.1 fits.0.head_fits (omega (arith, more.1))
-    ]
+module _ {p : Accounts} {n : ℕ} {m : Machine} where
+  -- A thread whose duties weigh something at a row has a duty that does, and that knows what it needs.
+  pub weighing : (u x : ℕ) (b : Actor) (f : Duty → ℕ) → IsOfRow x f → CoreInvariant p n m
+      → slice_get m.actors u ≡ Some b → 0 < agenda_weight f b → Weighing f m u b
+  weighing u x b f of_row core found some =
+      let fits = core.each u b found in
+      elim (eqb_tells (sum_by f b.agenda) 0) [
+        | inl none ↦
+            let it = weighing_aside f m u b b.aside fits.2.waits (omega (arith, some, none.1)) in
+            record {
+              duty = it.duty;
+              rest = [];
+              some = it.some;
+              knows = it.knows;
+              among = λ g. omega (arith, it.among g);
+            }
+        | inr more ↦ weighing_agenda x f of_row m u b b.agenda refl fits.1 fits.0.head_fits (omega (arith, more.1))
+      ]

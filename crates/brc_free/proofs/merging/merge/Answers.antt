@@ -1,35 +1,72 @@
-use Rattle.std.proofs.Common.{List, [], ◌∷◌, sym, ap, subst}
-use Rattle.std.proofs.lemmas.Bool.{eq-eqb, ne_eqb}
-use Rattle.brc_word.specs.Words.{local_part}
+use Rattle.std.proofs.Common.{◌≡◌, ℕ, Option, None, Some, List, [], ◌∷◌, ◌++◌, refl, sym, ap, ◌∙◌, subst}
 use Rattle.brc_model.specs.declared.duty.Duty.{Duty}
-use Rattle.brc_model.specs.declared.duty.Duty.TheVariants.{MergeLoad}
+use Rattle.brc_model.specs.declared.duty.Duty.TheVariants.{MergeSwap, MergeLoad}
+use Rattle.brc_model.specs.declared.duty.Reason.{Reason}
+use Rattle.brc_model.specs.Duties.{once_merged}
+use Rattle.brc_table.specs.declared.view.View.{View}
+use Rattle.brc_heap.specs.declared.merge.MergeStep.{MergeStep}
+use Rattle.brc_heap.specs.Calls.{merge_left as tried_left}
+use Rattle.brc_heap.specs.Tries.{swap_left}
+use Rattle.brc_heap.proofs.Stepping.{plain_first}
 use Rattle.brc_free.specs.Works.{HasWorked, merge_left}
-use Rattle.brc_free.proofs.FirstDuties.{merge_load_first}
-use Rattle.brc_free.proofs.Working.{worked_call}
-use Rattle.brc_free.proofs.MergeDuties.{merge_begins, swapped_nobody, swapped_out}
+use Rattle.brc_free.proofs.Working.{worked_by, worked_more}
+use Rattle.brc_free.proofs.MergeEnds.{merge_won}
 use Rattle.brc_free.proofs.merging.merge.Goals as goal
 
-pub returns-then-local-ne0-clause-work : goal.returns-then-local-ne0-clause-work
-returns-then-local-ne0-clause-work g c =
-    let v = c.args.hand.now.view in
-    let u = c.local_swap_next-local.new.hand.view in
-    let w = c.merge_carried.new.hand.view in
+pub returns-in-None-clause-work : goal.returns-in-None-clause-work
+returns-in-None-clause-work g c =
     let duty = c.requires.duty in
-    let local = c.local_swap_next-local.result in
-    let at = swapped_out v v u [] c.args.row local duty.reason duty.rest
-    (merge_begins v c.args.row duty.reason duty.rest duty.next) c.local_swap_next-local.ensures.view
-    (ne_eqb local 0 c.if-local-ne0.true) in
-    subst (λ (ds : List Duty). HasWorked v [] ds w) (sym (ap merge_left duty.next))
-    (worked_call v u w [] (MergeLoad c.args.row (local_part local) duty.reason ∷ duty.rest) merge_left at
-    (merge_load_first u.head c.args.row (local_part local) duty.reason duty.rest) c.merge_carried.ensures.work)
+    subst (λ (ds : List Duty). HasWorked c.args.hand.now.view [] ds c.take_local.new.hand.view)
+    (ap (λ (o : Option ℕ). swap_left c.args.row duty.reason o ++ duty.rest) c.in-None.is ∙ sym (ap merge_left duty.next))
+    (worked_by (c.take_local.ensures.left duty.reason duty.rest duty.next))
 
-pub returns-else-local-ne0-clause-work : goal.returns-else-local-ne0-clause-work
-returns-else-local-ne0-clause-work g c =
-    let v = c.args.hand.now.view in
-    let u = c.local_swap_next-local.new.hand.view in
+pub loop-init : goal.loop-init
+loop-init g c =
     let duty = c.requires.duty in
-    let local = c.local_swap_next-local.result in
-    subst (λ (ds : List Duty). HasWorked v [] ds u) (sym (ap merge_left duty.next))
-    (swapped_nobody v v u [] c.args.row local duty.reason duty.rest
-    (merge_begins v c.args.row duty.reason duty.rest duty.next) c.local_swap_next-local.ensures.view
-    (eq-eqb local 0 c.if-local-ne0.false))
+    let taken = c.take_local.ensures in (
+      taken.table,
+      taken.carried,
+      taken.slots,
+      (
+        duty.reason,
+        duty.rest,
+        duty.next,
+        subst (λ (o : Option ℕ). HasWorked c.args.hand.now.view []
+            (swap_left c.args.row duty.reason o ++ duty.rest) c.take_local.new.hand.view) c.in-Some.is
+            (worked_by (taken.left duty.reason duty.rest duty.next)),
+      ),
+    )
+
+pub merge-requires-clause-duty : goal.merge-requires-clause-duty
+merge-requires-clause-duty g c =
+    let (r, rest, next, at) = c.loop.invariant.3 in
+    record { reason = r; rest = rest; next = at.agenda ∙ plain_first _ (MergeLoad _ _ r) rest refl }
+
+pub returns-in-Kept-clause-work : goal.returns-in-Kept-clause-work
+returns-in-Kept-clause-work g c =
+    let (r, rest, next, at) = c.loop.invariant.3 in
+    let here = at.agenda ∙ plain_first _ (MergeLoad c.args.row c.in-Some.carried r) rest refl in
+    subst (λ (ds : List Duty). HasWorked c.args.hand.now.view [] ds c.merge.new.hand.view)
+    (ap (λ (ds : List Duty). ds ++ rest)
+    (merge_won c.args.row c.in-Some.carried r c.merge.result c.in-Kept.is (c.merge.ensures.own r rest here))
+    ∙ sym (ap merge_left next))
+    (worked_more at (worked_by (c.merge.ensures.left r rest here)))
+
+pub loop-preserved : goal.loop-preserved
+loop-preserved g c =
+    let kept = c.loop.invariant in
+    let (r, rest, next, at) = kept.3 in
+    let tried = c.merge.ensures in (
+      tried.table ∙ kept.0,
+      tried.carried ∙ kept.1,
+      tried.slots ∙ kept.2,
+      (
+        r,
+        rest,
+        next,
+        subst (λ (a : MergeStep). HasWorked c.args.hand.now.view []
+            (tried_left c.args.row c.in-Some.carried r a ++ rest) c.merge.new.hand.view) c.in-Again.is
+            (worked_more at (worked_by (tried.left r rest
+            (at.agenda ∙ plain_first _ (MergeLoad c.args.row c.in-Some.carried r) rest refl)))),
+      ),
+    )

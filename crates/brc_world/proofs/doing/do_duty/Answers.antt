@@ -1,5 +1,11 @@
 -- The step loads and stores the duty's word, and stores the rest of the effect in the thread.
-use Rattle.brc_world.proofs.Indices.{indexed}
+use Rattle.std.specs.Prelude.{length}
+use Rattle.std.proofs.Common.{ℕ, ap, sym, ◌∙◌, subst}
+use Rattle.brc_model.specs.declared.address.Address.{Address}
+use Rattle.brc_model.specs.Machine.{is_running}
+use Rattle.brc_model.specs.Within.{Suits}
+use Rattle.brc_world.specs.Storage.{word_in, IsStored}
+use Rattle.brc_effect.proofs.Indices.{indexed}
 use Rattle.brc_world.proofs.doing.do_duty.Goals as goal
 
 pub address_of-address-requires-clause-indexed : goal.address_of-address-requires-clause-indexed
@@ -8,5 +14,9 @@ address_of-address-requires-clause-indexed c =
 
 pub returns-clause-word : goal.returns-clause-word
 returns-clause-word c =
-    rw (c.effect-effect.ensures.word, c.doer-by.ensures, c.load-found.ensures, c.address_of-address.ensures) at
-    c.store.ensures
+    let found = c.load-found.ensures ∙ ap (word_in c.args.memory.now) c.address_of-address.ensures in
+    let suits =
+    subst (λ (n : ℕ). Suits c.args.number (is_running c.args.thread.now.status) (length c.args.memory.now.local)
+    c.args.duty.now n) (sym found) c.requires.suits in
+    let left = c.leaves-left.ensures ∙ c.access_of-access.ensures.word _ _ _ suits in
+    rw (left, c.load-found.ensures, c.address_of-address.ensures) at c.store.ensures

@@ -2,12 +2,6 @@
 -- these.
 use Rattle.brc_effect.proofs.effect.Doer.effect.Goals as goal
 
-pub returns-in-RetainStore : goal.returns-in-RetainStore
-returns-in-RetainStore c = rw c.in-RetainStore.is (c.retain_store.ensures _ _ _)
-
-pub returns-in-RetainAdd : goal.returns-in-RetainAdd
-returns-in-RetainAdd c = rw c.in-RetainAdd.is (c.retain_add.ensures _ _)
-
 pub returns-in-ReleaseLoad : goal.returns-in-ReleaseLoad
 returns-in-ReleaseLoad c = rw c.in-ReleaseLoad.is (c.release_load.ensures _)
 
@@ -22,9 +16,6 @@ returns-in-Die c = rw c.in-Die.is (c.die.ensures _)
 
 pub returns-in-TakeSlot : goal.returns-in-TakeSlot
 returns-in-TakeSlot c = rw c.in-TakeSlot.is (c.take_slot.ensures _)
-
-pub returns-in-SettleEnd : goal.returns-in-SettleEnd
-returns-in-SettleEnd c = rw c.in-SettleEnd.is (c.settle_end.ensures _ _)
 
 pub returns-in-Leave : goal.returns-in-Leave
 returns-in-Leave c = rw c.in-Leave.is (c.leave.ensures _)
@@ -41,17 +32,14 @@ returns-in-BirthSlot c = rw c.in-BirthSlot.is (c.birth_slot.ensures _)
 pub returns-in-BirthLocal : goal.returns-in-BirthLocal
 returns-in-BirthLocal c = rw c.in-BirthLocal.is (c.birth_local.ensures _ _ _)
 
-pub returns-in-KindLoad : goal.returns-in-KindLoad
-returns-in-KindLoad c = rw c.in-KindLoad.is (c.kind_load.ensures _)
-
 pub returns-in-UnlockGate : goal.returns-in-UnlockGate
 returns-in-UnlockGate c = rw c.in-UnlockGate.is (c.unlock_gate.ensures _ _)
-
-pub returns-in-CellLoad : goal.returns-in-CellLoad
-returns-in-CellLoad c = rw c.in-CellLoad.is (c.cell_load.ensures _ _)
 
 pub returns-in-ReturnSlot : goal.returns-in-ReturnSlot
 returns-in-ReturnSlot c = rw c.in-ReturnSlot.is (c.return_slot.ensures _ _)
 
 pub returns-in-CellSwap : goal.returns-in-CellSwap
-returns-in-CellSwap c = rw c.in-CellSwap.is (c.cell_swap.ensures _ _ _)
+returns-in-CellSwap c = rw c.in-CellSwap.is (c.cell_swap.ensures _ _ _ _)
+
+pub returns-in-CloseResource : goal.returns-in-CloseResource
+returns-in-CloseResource c = rw c.in-CloseResource.is (c.close_resource.ensures _)

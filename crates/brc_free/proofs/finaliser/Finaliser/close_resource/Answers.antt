@@ -10,7 +10,8 @@ use Rattle.brc_table.specs.Views.{done, slot_emptied}
 use Rattle.brc_list.specs.Calls.{TakesSlot}
 use Rattle.brc_free.specs.Works.{HasWorked, behind}
 use Rattle.brc_free.proofs.FirstDuties.{take_slot_first}
-use Rattle.brc_free.proofs.Working.{finalising_unlocked, worked_first}
+use Rattle.brc_heap.proofs.Stepping.{finalising_unlocked}
+use Rattle.brc_free.proofs.Working.{worked_first}
 use Rattle.brc_free.proofs.SettleDuties.{ended_empty}
 use Rattle.brc_free.proofs.finaliser.Finaliser.close_resource.Goals as goal
 

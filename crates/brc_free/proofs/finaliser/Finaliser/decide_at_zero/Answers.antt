@@ -1,36 +1,34 @@
-use Rattle.std.proofs.Common.{List, [], ◌∷◌, sym, ap, ◌∙◌, subst}
+use Rattle.std.proofs.Common.{List, [], ◌∷◌, ◌++◌, refl, sym, ap, ◌∙◌, subst}
 use Rattle.brc_model.specs.declared.duty.Reason.TheVariants.{Own}
 use Rattle.brc_model.specs.declared.duty.Duty.{Duty}
 use Rattle.brc_model.specs.declared.duty.Duty.TheVariants.{MergeSwap}
-use Rattle.brc_table.specs.Plays.{overwritten}
+use Rattle.brc_heap.specs.declared.release.ZeroStep.{ZeroStep}
+use Rattle.brc_heap.specs.Calls.{zero_left}
+use Rattle.brc_heap.proofs.Stepping.{plain_first}
 use Rattle.brc_free.specs.Works.{HasWorked, behind, merge_left}
-use Rattle.brc_free.proofs.FirstDuties.{merge_swap_first}
-use Rattle.brc_free.proofs.Working.{worked_call}
-use Rattle.brc_free.proofs.GivingUp.{decide_begins, decided_dead, decided_merge, chained}
+use Rattle.brc_free.proofs.Working.{worked_by, worked_call}
+use Rattle.brc_free.proofs.finaliser.Finaliser.decide_at_zero.Given as given
+use Rattle.brc_free.proofs.finaliser.Finaliser.decide_at_zero.Goals.{After-decide}
 use Rattle.brc_free.proofs.finaliser.Finaliser.decide_at_zero.Goals as goal
 
-pub returns-then-is_fresh-clause-work : goal.returns-then-is_fresh-clause-work
-returns-then-is_fresh-clause-work g c =
-    let v = c.args.hand.now.view in
-    let u = c.shared_load_next-word.new.hand.view in
-    let w = c.gate_store.new.hand.view in
-    let duty = c.requires.duty in
-    let word = c.shared_load_next-word.result in
-    subst (λ (ds : List Duty). HasWorked v [] ds w) (sym (ap behind duty.next))
-    (chained v u w [] c.args.row (overwritten u) duty.rest
-    (decided_dead v v u [] c.args.row word duty.rest (decide_begins v c.args.row duty.rest duty.next)
-    c.shared_load_next-word.ensures.view (sym c.is_fresh.ensures.word ∙ c.if-is_fresh.true)) c.gate_store.ensures.view
-    c.rows_are_there.ensures)
+-- What the decision leaves.
+decided : (g : given.Over) (c : After-decide g)
+    → HasWorked c.args.hand.now.view [] (zero_left c.args.row c.decide.result ++ c.requires.duty.rest)
+    c.decide.new.hand.view
+decided g c = worked_by (c.decide.ensures.left c.requires.duty.rest c.requires.duty.next)
 
-pub returns-else-is_fresh-clause-work : goal.returns-else-is_fresh-clause-work
-returns-else-is_fresh-clause-work g c =
-    let v = c.args.hand.now.view in
-    let u = c.shared_load_next-word.new.hand.view in
-    let w = c.merge.new.hand.view in
-    let duty = c.requires.duty in
-    let word = c.shared_load_next-word.result in
-    subst (λ (ds : List Duty). HasWorked v [] ds w) (sym (ap behind duty.next))
-    (worked_call v u w [] (MergeSwap c.args.row Own ∷ duty.rest) merge_left
-    (decided_merge v v u [] c.args.row word duty.rest (decide_begins v c.args.row duty.rest duty.next)
-    c.shared_load_next-word.ensures.view (sym c.is_fresh.ensures.word ∙ c.if-is_fresh.false))
-    (merge_swap_first u.head c.args.row Own duty.rest) c.merge.ensures.work)
+pub returns-in-Dying-clause-work : goal.returns-in-Dying-clause-work
+returns-in-Dying-clause-work g c =
+    subst (λ (ds : List Duty). HasWorked c.args.hand.now.view [] ds c.decide.new.hand.view)
+    (ap (λ (z : ZeroStep). zero_left c.args.row z ++ c.requires.duty.rest) c.in-Dying.is
+    ∙ sym (ap behind c.requires.duty.next))
+    (decided g (goal.at.returns-in-Dying-clause-work g c).After-decide)
+
+pub returns-in-Merge-clause-work : goal.returns-in-Merge-clause-work
+returns-in-Merge-clause-work g c =
+    subst (λ (ds : List Duty). HasWorked c.args.hand.now.view [] ds c.merge.new.hand.view)
+    (sym (ap behind c.requires.duty.next))
+    (worked_call _ _ _ [] (MergeSwap c.args.row Own ∷ c.requires.duty.rest) merge_left
+    (subst (λ (z : ZeroStep). HasWorked c.args.hand.now.view [] (zero_left c.args.row z ++ c.requires.duty.rest)
+    c.decide.new.hand.view) c.in-Merge.is (decided g (goal.at.returns-in-Merge-clause-work g c).After-decide))
+    (plain_first _ (MergeSwap c.args.row Own) _ refl) c.merge.ensures.work)

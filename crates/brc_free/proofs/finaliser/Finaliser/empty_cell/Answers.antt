@@ -7,8 +7,9 @@ use Rattle.brc_model.specs.Duties.{cells_from, release_found}
 use Rattle.brc_table.specs.declared.view.View.{View}
 use Rattle.brc_table.specs.Views.{RowsAreThere, done}
 use Rattle.brc_free.specs.Works.{HasWorked, CellNext, behind, cells_left}
-use Rattle.brc_free.proofs.FirstDuties.{settle_cell_first, release_load_first}
-use Rattle.brc_free.proofs.Working.{finalising_unlocked, worked_first, worked_call}
+use Rattle.brc_free.proofs.FirstDuties.{settle_cell_first}
+use Rattle.brc_heap.proofs.Stepping.{plain_first, finalising_unlocked}
+use Rattle.brc_free.proofs.Working.{worked_first, worked_call}
 use Rattle.brc_free.proofs.SettleDuties.{cell_emptied, item_found}
 use Rattle.brc_free.proofs.finaliser.Finaliser.empty_cell.Goals as goal
 
@@ -43,7 +44,7 @@ release_item-requires-clause-duty g c =
     c.dying_cell_swap-item.ensures.view c.if-item-eq0.false in
     record {
       rest = cells_from c.args.row (c.args.cell + 1) c.requires.duty.count ++ c.requires.duty.rest;
-      next = at.agenda ∙ release_load_first _ _ InFlight _;
+      next = at.agenda ∙ plain_first _ (ReleaseLoad _ InFlight) _ refl;
     }
 
 pub returns-clause-work : goal.returns-clause-work
@@ -53,4 +54,4 @@ returns-clause-work g c =
     (worked_call _ _ _ [] _ behind
     (item_next _ _ c.args.row c.args.cell _ c.requires.duty c.rows_are_there.ensures
     c.dying_cell_swap-item.ensures.view c.if-item-eq0.false)
-    (release_load_first _ _ InFlight _) c.release_item.ensures.work)
+    (plain_first _ (ReleaseLoad _ InFlight) _ refl) c.release_item.ensures.work)

@@ -1,11 +1,11 @@
-use Rattle.std.proofs.Common.{◌≢◌, ℕ, List, [], ◌∷◌, sym, ap, ◌∙◌, subst}
+use Rattle.std.proofs.Common.{◌≢◌, ℕ, List, [], ◌∷◌, refl, sym, ap, ◌∙◌, subst}
 use Rattle.brc_model.specs.declared.actor.Status.TheVariants.{Gone}
 use Rattle.brc_model.specs.declared.duty.Reason.TheVariants.{Handed}
 use Rattle.brc_model.specs.declared.duty.Duty.{Duty}
 use Rattle.brc_model.specs.declared.duty.Duty.TheVariants.{SharedLoad, Settle}
 use Rattle.brc_table.specs.declared.view.View.{View}
 use Rattle.brc_free.specs.Works.{HasWorked, ComesToSettle, InWork, ClaimedNext, behind, merge_left, claimed_left}
-use Rattle.brc_free.proofs.FirstDuties.{shared_load_first}
+use Rattle.brc_heap.proofs.Stepping.{plain_first}
 use Rattle.brc_free.proofs.Working.{worked_then, worked_call}
 use Rattle.brc_free.proofs.SettleDuties.{to_settle_next}
 use Rattle.brc_free.proofs.finaliser.Finaliser.merge_claimed.Goals as goal
@@ -16,7 +16,7 @@ given_up : (v u w : View) (row : ℕ) (duty : ClaimedNext row v.agenda) → HasW
 given_up v u w row duty merged gives =
     worked_call v u w [] (SharedLoad row Handed ∷ Settle ∷ duty.rest) behind
     (subst (λ (ds : List Duty). HasWorked v [] (merge_left ds) u) duty.next merged)
-    (shared_load_first u.head row Handed (Settle ∷ duty.rest)) gives
+    (plain_first u.head (SharedLoad row Handed) (Settle ∷ duty.rest) refl) gives
 
 -- It may settle in the midst of its work, since it isn't gone.
 comes : (v w : View) (rest : List Duty) → v.status ≢ Gone → HasWorked v [] (Settle ∷ rest) w → ComesToSettle w rest

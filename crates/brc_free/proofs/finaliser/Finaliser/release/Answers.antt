@@ -1,22 +1,44 @@
-use Rattle.std.proofs.Common.{◌≡◌, ◌⊎◌, ℕ, inl, inr, [], ap, ◌∙◌, subst}
+use Rattle.std.proofs.Common.{◌≡◌, ℕ, List, [], ◌∷◌, ◌++◌, refl, sym, ap, ◌∙◌, subst, append-nil}
+use Rattle.brc_model.specs.Duties.{ready}
 use Rattle.brc_table.specs.declared.view.View.{View}
+use Rattle.brc_model.specs.declared.duty.Duty.TheVariants.{DecideAtZero, SharedLoad}
+use Rattle.brc_model.specs.declared.duty.Reason.TheVariants.{Own}
 use Rattle.brc_heap.specs.declared.release.LocalRelease.{LocalRelease}
 use Rattle.brc_heap.specs.declared.release.LocalRelease.TheVariants as local
 use Rattle.brc_heap.specs.Calls.{local_left}
-use Rattle.brc_free.specs.Works.{HasWorked}
-use Rattle.brc_free.proofs.Working.{worked_first}
+use Rattle.brc_heap.proofs.Stepping.{plain_first}
+use Rattle.brc_free.specs.Works.{HasWorked, EndsRelease}
+use Rattle.brc_free.proofs.GivingUp.{released}
+use Rattle.brc_free.proofs.finaliser.Finaliser.release.Given as given
+use Rattle.brc_free.proofs.finaliser.Finaliser.release.Goals.{After-release_local-release}
 use Rattle.brc_free.proofs.finaliser.Finaliser.release.Goals as goal
 
-nothing_left : (x : ℕ) (answer : LocalRelease) → (answer ≡ local.Skip) ⊎ (answer ≡ local.Kept)
-    → local_left x answer ≡ []
-nothing_left x answer (inl is) = ap (local_left x) is
-nothing_left x answer (inr is) = ap (local_left x) is
+-- Nothing comes behind the release.
+local_ready : (head x : ℕ) (answer : LocalRelease) → local_left x answer ≡ ready head (local_left x answer ++ [])
+local_ready head x local.Skip = refl
+local_ready head x local.Kept = refl
+local_ready head x local.Zero = sym (plain_first head (DecideAtZero x) [] refl)
+local_ready head x local.Share = sym (plain_first head (SharedLoad x Own) [] refl)
 
-pub returns-in-Skip-clause-work : goal.returns-in-Skip-clause-work
-returns-in-Skip-clause-work g c =
-    let u = c.release_local.new.hand.view in
-    let events = c.release_local.ensures.events in (
-      events.0,
-      subst (λ (z : View). HasWorked z [] [] u) events.3 (worked_first u []
-          (c.release_local.ensures.left.agenda ∙ nothing_left c.args.row c.release_local.result c.in-Skip.is)),
+ends : (g : given.Over) (c : After-release_local-release g)
+    → EndsRelease c.args.row c.release_local-release.result [] c.release_local-release.new.hand.view
+ends g c =
+    c.release_local-release.ensures.left.agenda
+    ∙ local_ready c.release_local-release.new.hand.view.head c.args.row c.release_local-release.result
+
+pub end_release-requires-clause-duty : goal.end_release-requires-clause-duty
+end_release-requires-clause-duty g c =
+    ([], ends g (goal.at.end_release-requires-clause-duty g c).After-release_local-release)
+
+pub returns-clause-work : goal.returns-clause-work
+returns-clause-work g c =
+    let (word, owner, answer, view) = c.release_local-release.ensures.events in (
+      word,
+      subst (λ (v : View). HasWorked v [] [] c.end_release.new.hand.view) view
+          (c.end_release.ensures.work [] (ends g (goal.at.returns-clause-work g c).After-release_local-release)),
     )
+
+pub returns-clause-released : goal.returns-clause-released
+returns-clause-released g c =
+    released c.release_local-release.ensures.left c.release_local-release.ensures.references
+    (c.end_release.ensures.work [] (ends g (goal.at.returns-clause-released g c).After-release_local-release))

@@ -1,77 +1,74 @@
-use Rattle.std.proofs.Common.{◌≡◌, ℕ, false, [], ◌∷◌, sym, ap, ◌∙◌, subst}
-use Rattle.std.specs.Prelude.{◌==◌}
-use Rattle.std.proofs.lemmas.Bool.{eq-eqb, ne_eqb}
-use Rattle.brc_word.specs.Words.{local_part}
-use Rattle.brc_model.specs.declared.duty.Reason.{Reason}
-use Rattle.brc_model.specs.Duties.{once_merged}
+use Rattle.std.proofs.Common.{◌≡◌, ℕ, Option, Some, List, [], ◌∷◌, refl, sym, ap, ◌∙◌, subst, append-nil}
+use Rattle.std.proofs.lemmas.Bool.{eq-eqb}
+use Rattle.brc_model.specs.declared.duty.Duty.{Duty}
 use Rattle.brc_model.specs.declared.duty.Duty.TheVariants.{MergeSwap, MergeLoad}
-use Rattle.brc_table.specs.declared.view.View.{View}
-use Rattle.brc_table.specs.Views.{done, turned, work_about}
-use Rattle.brc_heap.specs.Calls.{Leaves, merge_tried, merge_answer, merge_left}
-use Rattle.brc_heap.proofs.Merging.{swap_ends, swap_leaves, swap_stays, first_of, answer_of}
-use Rattle.brc_heap.proofs.Leaving.{leaves_then}
+use Rattle.brc_model.specs.declared.duty.Reason.{Reason}
+use Rattle.brc_table.specs.Views.{turned, work_about}
+use Rattle.brc_heap.specs.Calls.{Leaves, merge_left}
+use Rattle.brc_heap.specs.Steps.{HasStepped}
+use Rattle.brc_heap.specs.Tries.{swap_left}
+use Rattle.brc_heap.proofs.Leaving.{turned_works, leaves_then}
+use Rattle.brc_heap.proofs.Stepping.{stepped_leaves}
+use Rattle.brc_heap.proofs.MergeTries.{swap_piece, begun_some, some_of, stays_there, first_view, first_says}
+use Rattle.brc_heap.proofs.heap.Heap.merge_first.Given as given
+use Rattle.brc_heap.proofs.heap.Heap.merge_first.Goals.{After-take_local}
 use Rattle.brc_heap.proofs.heap.Heap.merge_first.Goals as goal
 
-pub returns-then-local-eq0-clause-left : goal.returns-then-local-eq0-clause-left
-returns-then-local-eq0-clause-left g c = λ r first.
-    let local = c.local_swap-local.result in let v = c.args.hand.now.view in (
-      0,
-      subst (Leaves c.args.row (once_merged c.args.row r) v) (sym c.local_swap-local.ensures.view)
-          (swap_ends v c.args.row local r first.duty (eq-eqb local 0 c.if-local-eq0.true)),
-    )
-
--- What is left after the swap, whichever reason the hand has.
-left_by : (v u : View) (x local count : ℕ) (r : Reason) → work_about x v ≡ MergeSwap x r ∷ [] → (local == 0) ≡ false
-    → u ≡ done (turned v x) local → count ≡ local_part local → work_about x u ≡ MergeLoad x count r ∷ []
-left_by v u x local count r duty some is same =
-    ap (work_about x) is
-    ∙ ((swap_leaves v x local r duty some).left_is ∙ ap (λ (n : ℕ). MergeLoad x n r ∷ []) (sym same))
+-- What the swap leaves.
+begun : (g : given.Over) (c : After-take_local g) (r : Reason)
+    → work_about c.args.row c.args.hand.now.view ≡ MergeSwap c.args.row r ∷ []
+    → Leaves c.args.row (swap_left c.args.row r c.take_local.result) c.args.hand.now.view c.take_local.new.hand.view
+begun g c r duty =
+    stepped_leaves (turned_works c.args.row c.args.hand.now.view)
+    (subst (λ (ds : List Duty). HasStepped (turned c.args.hand.now.view c.args.row) ds c.take_local.new.hand.view)
+    (append-nil (swap_left c.args.row r c.take_local.result)) (c.take_local.ensures.left r [] duty))
+    (swap_piece c.args.row r c.take_local.result)
 
 pub merge_carried-requires-clause-duty : goal.merge_carried-requires-clause-duty
 merge_carried-requires-clause-duty g c =
-    let (r, first) = c.requires.duty in (
-      r,
-      left_by c.args.hand.now.view c.local_swap-local.new.hand.view c.args.row c.local_swap-local.result
-          c.local_count.result r first.duty (ne_eqb c.local_swap-local.result 0 c.if-local-eq0.false)
-          c.local_swap-local.ensures.view c.local_count.ensures.word,
-    )
-
-pub returns-clause-first : goal.returns-clause-first
-returns-clause-first g c =
     let (r, first) = c.requires.duty in
-    let local = c.local_swap-local.result in let v = c.args.hand.now.view in
-    let some = ne_eqb local 0 c.if-local-eq0.false in
-    let (word, found, view, answer) = c.merge_carried.ensures.events in
-    let stays = swap_stays v c.args.row local r first.duty some in (
+    (r, (begun_some c.in-Some.is
+    (begun g (goal.at.merge_carried-requires-clause-duty g c).After-take_local r first.duty)).left_is)
+
+pub returns-in-Some-clause-first : goal.returns-in-Some-clause-first
+returns-in-Some-clause-first g c =
+    let (r, first) = c.requires.duty in
+    let (local, said, view) = c.take_local.ensures.events in
+    let (word, found, after, answer) = c.merge_carried.ensures.events in
+    let (some, is) = some_of local c.in-Some.carried (sym said ∙ c.in-Some.is) in
+    let stays = stays_there (begun_some c.in-Some.is
+    (begun g (goal.at.returns-in-Some-clause-first g c).After-take_local r first.duty))
+    (eq-eqb c.args.row c.args.row refl) in (
       local,
       word,
       found,
-      view ∙ (ap (λ (u : View). merge_tried (turned u c.args.row) word found) c.local_swap-local.ensures.view
-          ∙ (ap (λ (u : View). merge_tried u word found) stays ∙ first_of v c.args.row local word found some)),
-      answer ∙ (ap (λ (n : ℕ). merge_answer n word found) c.local_count.ensures.word ∙ answer_of local word found some),
+      first_view c.args.hand.now.view c.args.row local word found some view stays after,
+      first_says local c.in-Some.carried word found some is answer,
     )
 
-pub returns-clause-again : goal.returns-clause-again
-returns-clause-again g c = λ r first again. (
-  c.local_count.result,
+pub returns-in-Some-clause-again : goal.returns-in-Some-clause-again
+returns-in-Some-clause-again g c = λ r first again. (
+  c.in-Some.carried,
   c.merge_carried.ensures.again r
-      (left_by c.args.hand.now.view c.local_swap-local.new.hand.view c.args.row c.local_swap-local.result
-      c.local_count.result r first.duty (ne_eqb c.local_swap-local.result 0 c.if-local-eq0.false)
-      c.local_swap-local.ensures.view c.local_count.ensures.word) again,
+      (begun_some c.in-Some.is
+    (begun g (goal.at.returns-in-Some-clause-again g c).After-take_local r first.duty)).left_is again,
 )
 
-pub returns-clause-left : goal.returns-clause-left
-returns-clause-left g c = λ r first.
-    let local = c.local_swap-local.result in let v = c.args.hand.now.view in
-    let some = ne_eqb local 0 c.if-local-eq0.false in
-    let leaves = swap_leaves v c.args.row local r first.duty some in (
-      c.local_count.result,
-      leaves_then c.args.row (MergeLoad c.args.row (local_part local) r ∷ [])
-          (merge_left c.args.row c.local_count.result r c.merge_carried.result) v c.local_swap-local.new.hand.view
-          c.merge_carried.new.hand.view
-          (subst (Leaves c.args.row (MergeLoad c.args.row (local_part local) r ∷ []) v) (sym
-          c.local_swap-local.ensures.view)
-          leaves)
-          (c.merge_carried.ensures.left r (left_by v c.local_swap-local.new.hand.view c.args.row local
-          c.local_count.result r first.duty some c.local_swap-local.ensures.view c.local_count.ensures.word)),
+pub returns-in-Some-clause-left : goal.returns-in-Some-clause-left
+returns-in-Some-clause-left g c = λ r first.
+    let begun = begun_some c.in-Some.is
+    (begun g (goal.at.returns-in-Some-clause-left g c).After-take_local r first.duty) in (
+      c.in-Some.carried,
+      leaves_then c.args.row (MergeLoad c.args.row c.in-Some.carried r ∷ [])
+          (merge_left c.args.row c.in-Some.carried r c.merge_carried.result) c.args.hand.now.view
+          c.take_local.new.hand.view c.merge_carried.new.hand.view begun
+          (c.merge_carried.ensures.left r begun.left_is),
     )
+
+pub returns-in-None-clause-left : goal.returns-in-None-clause-left
+returns-in-None-clause-left g c = λ r first. (
+  0,
+  subst (λ (o : Option ℕ). Leaves c.args.row (swap_left c.args.row r o) c.args.hand.now.view
+      c.take_local.new.hand.view) c.in-None.is
+      (begun g (goal.at.returns-in-None-clause-left g c).After-take_local r first.duty),
+)

@@ -1,9 +1,8 @@
 use Rattle.std.proofs.Common.{[], sym, ap, ◌∙◌, subst}
 use Rattle.brc_table.specs.declared.view.View.{View}
-use Rattle.brc_table.specs.Views.{retaining}
 use Rattle.brc_heap.specs.Calls.{Leaves, RetainsOwn}
 use Rattle.brc_heap.proofs.OwnRows.{retain_owns}
-use Rattle.brc_heap.proofs.Ending.{retain_leaves, retained_head, resumed_references}
+use Rattle.brc_heap.proofs.Retaining.{retain_leaves, retained_head, retained_references}
 use Rattle.brc_heap.proofs.heap.Heap.retain.Goals as goal
 
 pub returns-clause-left : goal.returns-clause-left
@@ -20,7 +19,7 @@ returns-clause-head g c =
 pub returns-clause-references : goal.returns-clause-references
 returns-clause-references g c =
     let (word, found, owner, view) = c.retain_steps.ensures.events in
-    ap (λ (v : View). v.references) view ∙ resumed_references (retaining c.args.hand.now.view c.args.row) word found
+    ap (λ (v : View). v.references) view ∙ retained_references c.args.hand.now.view c.args.row word found
 
 pub returns-clause-own : goal.returns-clause-own
 returns-clause-own g c = λ mine.

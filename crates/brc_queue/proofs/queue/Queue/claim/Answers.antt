@@ -7,7 +7,8 @@ use Rattle.brc_table.specs.declared.view.View.{View}
 use Rattle.brc_table.specs.Hands.{TableState}
 use Rattle.brc_table.specs.Views.{done, claiming}
 use Rattle.brc_free.specs.Works.{HasWorked}
-use Rattle.brc_free.proofs.Working.{keeps_then, worked_first}
+use Rattle.brc_heap.proofs.Stepping.{keeps_then}
+use Rattle.brc_free.proofs.Working.{worked_first}
 use Rattle.brc_queue.proofs.Scanning.{claim_none, claim_keeps}
 use Rattle.brc_queue.proofs.queue.Queue.claim.Goals as goal
 

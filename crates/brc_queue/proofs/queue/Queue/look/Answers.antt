@@ -1,15 +1,19 @@
-use Rattle.std.proofs.Common.{sym, subst}
-use Rattle.brc_heap.specs.Calls.{Leaves}
-use Rattle.brc_heap.specs.declared.marker.Looked.{Looked}
-use Rattle.brc_heap.specs.Marks.{look_answer}
-use Rattle.brc_queue.specs.Calls.{look_left}
-use Rattle.brc_queue.proofs.Posting.{look_leaves}
+use Rattle.std.proofs.Common.{◌≡◌, List, [], subst, append-nil}
+use Rattle.brc_model.specs.declared.duty.Duty.{Duty}
+use Rattle.brc_table.specs.Views.{turned}
+use Rattle.brc_heap.specs.Marks.{look_left}
+use Rattle.brc_heap.specs.Steps.{HasStepped}
+use Rattle.brc_heap.proofs.Leaving.{turned_works}
+use Rattle.brc_heap.proofs.Stepping.{stepped_leaves}
+use Rattle.brc_heap.proofs.MarkTries.{look_piece}
 use Rattle.brc_queue.proofs.queue.Queue.look.Goals as goal
 
 pub returns-clause-left : goal.returns-clause-left
 returns-clause-left g c =
-    let (said, found, answer, view) = c.look_steps.ensures.events in
-    let v = c.args.hand.now.view in
-    subst (λ (l : Looked). Leaves c.args.row (look_left c.args.row l) v c.look_steps.new.hand.view) (sym answer)
-    (subst (Leaves c.args.row (look_left c.args.row (look_answer said found)) v) (sym view)
-    (look_leaves v c.args.row said found c.requires.duty))
+    stepped_leaves (turned_works c.args.row c.args.hand.now.view)
+    (subst (λ (ds : List Duty). HasStepped (turned c.args.hand.now.view c.args.row) ds c.look_after.new.hand.view)
+    (append-nil (look_left c.args.row c.look_after.result)) (c.look_after.ensures.left [] c.requires.duty))
+    (look_piece c.args.row c.look_after.result)
+
+pub returns-clause-references : goal.returns-clause-references
+returns-clause-references g c = (c.look_after.ensures.left [] c.requires.duty).keeps.references

@@ -2,7 +2,7 @@ use Rattle.std.proofs.Common.{◌≡◌, List}
 use Rattle.brc_host.specs.HostCalls.{HostCall, HasAnswered, close_faults}
 use Rattle.brc_host.specs.HostCounts.{raised}
 use Rattle.brc_table.specs.Calls.{IsFree}
-use Rattle.brc_free.specs.Works.{Keeps}
+use Rattle.brc_heap.specs.Steps.{Keeps}
 use Rattle.brc_queue.specs.Scans.{LooksThrough}
 use Rattle.brc_queue.proofs.queue.Queue.merge_pending.Given as goal
 

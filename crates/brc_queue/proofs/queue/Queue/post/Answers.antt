@@ -1,7 +1,7 @@
 use Rattle.std.proofs.Common.{[], ◌∷◌}
 use Rattle.brc_model.specs.declared.duty.Duty.TheVariants.{Look}
 use Rattle.brc_heap.proofs.Leaving.{leaves_then}
-use Rattle.brc_queue.specs.Calls.{look_left}
+use Rattle.brc_heap.specs.Marks.{look_left}
 use Rattle.brc_queue.proofs.queue.Queue.post.Goals as goal
 
 pub returns-clause-left : goal.returns-clause-left

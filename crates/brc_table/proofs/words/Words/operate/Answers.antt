@@ -3,7 +3,7 @@ use Rattle.atomic_table.specs.Table.{State, Allows}
 use Rattle.brc_table.specs.declared.view.View.{View}
 use Rattle.brc_table.specs.Hands.{TableState}
 use Rattle.brc_table.specs.Homes.{TableStands}
-use Rattle.brc_table.specs.Accesses.{left_by}
+use Rattle.brc_effect.specs.Accesses.{left_by}
 use Rattle.brc_table.specs.DutySteps.{StepsBy}
 use Rattle.brc_table.proofs.StoredSteps.{stored_allowed}
 use Rattle.brc_table.proofs.words.Words.operate.Goals as goal

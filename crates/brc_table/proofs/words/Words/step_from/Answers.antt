@@ -15,7 +15,8 @@ use Rattle.brc_model.specs.SlotLaws.{use_of}
 use Rattle.brc_model.specs.Stores.{Overwrites}
 use Rattle.brc_model.specs.Within.{Suits}
 use Rattle.brc_table.specs.declared.view.View.{View}
-use Rattle.brc_table.specs.Accesses.{HasAccess, HasChain, IfStored, IsNext, left_by}
+use Rattle.brc_effect.specs.Accesses.{IfStored, left_by}
+use Rattle.brc_table.specs.Accesses.{HasAccess, HasChain, IsNext}
 use Rattle.brc_table.specs.Begins.{KeepsThread}
 use Rattle.brc_table.specs.DutySteps.{DueSlot, Steps, StepsBy}
 use Rattle.brc_table.specs.Hands.{HandState, TableState}
@@ -37,10 +38,10 @@ thread_here : (hand : HandState) (layout : Layout) → RowsAreThere hand.view �
 thread_here hand layout rows plain is =
     let workers = ap (λ (l : Layout). l.workers) is in omega (arith, workers, rows.thread, plain.few_workers)
 
-pub place_of-index-requires-clause-plain : goal.place_of-index-requires-clause-plain
-place_of-index-requires-clause-plain g c =
-    subst IsPlainLayout (sym (c.self.invariant.0 ∙ ap (λ (w : TableState). w.layout) c.self.view_is))
-    c.layout_is_plain.ensures
+pub address_of-address-requires-clause-some_rows : goal.address_of-address-requires-clause-some_rows
+address_of-address-requires-clause-some_rows g c =
+    (subst IsPlainLayout (sym (c.self.invariant.0 ∙ ap (λ (w : TableState). w.layout) c.self.view_is))
+    c.layout_is_plain.ensures).some_rows
 
 -- The word is where the hand's own fields say.
 word_here : (d : Duty) (l k : Layout) (t u head n : ℕ) → l ≡ k → t ≡ u → head ≡ n → HasWord k (address_of k u n d)
@@ -50,25 +51,19 @@ word_here d l k t u head n layout thread same there =
     (subst (λ (z : ℕ). HasWord k (address_of k z head d)) (sym thread)
     (subst (λ (z : ℕ). HasWord k (address_of k u z d)) (sym same) there))
 
-pub place_of-index-requires-clause-there : goal.place_of-index-requires-clause-there
-place_of-index-requires-clause-there g c =
+pub address_of-address-requires-clause-indexed : goal.address_of-address-requires-clause-indexed
+address_of-address-requires-clause-indexed g c =
     let v = c.args.hand.now.view in
-    word_here c.args.duty.now c.self.inside.layout c.args.self.now.layout c.hand.inside.thread v.thread
-    c.hand.inside.head v.head (c.self.invariant.0 ∙ ap (λ (w : TableState). w.layout) c.self.view_is)
-    (c.hand.invariant.1 ∙ ap (λ (h : HandState). h.view.thread) c.hand.view_is)
-    (c.hand.invariant.3 ∙ ap (λ (h : HandState). h.view.head) c.hand.view_is) c.requires.there
+    next.index_small c.args.self.now.layout v.thread v.head c.args.duty.now c.layout_is_plain.ensures c.requires.there
 
-pub place_of-index-requires-clause-chain : goal.place_of-index-requires-clause-chain
-place_of-index-requires-clause-chain g c =
-    let head = c.hand.invariant.3 ∙ ap (λ (h : HandState). h.view.head) c.hand.view_is in
-    subst (HasChain c.args.duty.now) (sym head) c.requires.chain
-
-pub access_of-access-requires-clause-thread : goal.access_of-access-requires-clause-thread
-access_of-access-requires-clause-thread g c =
+pub access_of-access-requires : goal.access_of-access-requires
+access_of-access-requires g c =
     let thread = c.hand.invariant.1 ∙ ap (λ (h : HandState). h.view.thread) c.hand.view_is in
-    subst (λ (t : ℕ). t ≤ worker_limit) (sym thread)
-    (thread_here c.args.hand.now c.args.self.now.layout c.rows_are_there.ensures c.layout_is_plain.ensures
-    c.requires.table.1)
+    record {
+      thread = subst (λ (t : ℕ). t ≤ worker_limit) (sym thread)
+          (thread_here c.args.hand.now c.args.self.now.layout c.rows_are_there.ensures c.layout_is_plain.ensures
+          c.requires.table.1);
+    }
 
 pub operate-word-requires-clause-table : goal.operate-word-requires-clause-table
 operate-word-requires-clause-table g c = ap (λ (h : HandState). h.table) c.hand.view_is ∙ c.requires.table.0
@@ -79,7 +74,7 @@ operate-word-requires-clause-there g c =
     let layout = c.self.inside.layout in
     let layout_is = c.self.invariant.0 ∙ ap (λ (w : TableState). w.layout) c.self.view_is in
     let address = address_of layout c.hand.inside.thread c.hand.inside.head c.args.duty.now in
-    subst (λ (i : ℕ). i < c.args.self.now.table.words) (sym c.place_of-index.ensures)
+    subst (λ (i : ℕ). i < c.args.self.now.table.words) (sym (c.place_at-index.ensures ∙ ap place c.address_of-address.ensures))
     (subst (λ (n : ℕ). place address < n) (sym (c.words_are_there.ensures ∙ ap word_count (sym layout_is)))
     (place_within layout address
     (subst (λ (l : Layout). l.workers ≤ worker_limit) (sym layout_is) c.layout_is_plain.ensures.few_workers)
@@ -103,13 +98,13 @@ operate-word-requires-clause-allowed g c =
     let layout : c.self.inside.layout ≡ u.layout =
     c.self.invariant.0 ∙ (ap (λ (w : TableState). w.layout) c.self.view_is
     ∙ (sym c.requires.table.1 ∙ (ap (λ (h : HandState). h.view.layout) (sym view_is) ∙ sym keeps.layout))) in
-    let index : c.place_of-index.result ≡ place (address_of u.layout u.thread u.head d) =
-    c.place_of-index.ensures
+    let index : c.place_at-index.result ≡ place (address_of u.layout u.thread u.head d) =
+    c.place_at-index.ensures ∙ ap place c.address_of-address.ensures
     ∙ (ap (λ (l : Layout). place (address_of l hand.thread hand.head d)) layout
     ∙ (ap (λ (t : ℕ). place (address_of u.layout t hand.head d)) thread
     ∙ ap (λ (k : ℕ). place (address_of u.layout u.thread k d)) head)) in
     next_permitted c.model_laws.ensures words c.args.hand.now begins
-    words.layout words.table.slots hand.seat.id c.place_of-index.result me
+    words.layout words.table.slots hand.seat.id c.place_at-index.result me
     (record { layout_is = refl; view_is = ap (λ (h : HandState). h.view) view_is }) c.requires.begins
     c.hand.invariant.0 d
     c.requires.known (subst (λ (h : HandState). IsNext d (begins h.view).agenda) (sym view_is) c.requires.next)
@@ -148,7 +143,8 @@ operate-word-requires-clause-says g c =
     (subst (λ (t : ℕ). IfStored access (λ b. reading (address_of u.layout t u.head d) b ≡ b))
     (c.hand.invariant.1 ∙ sym keeps.thread)
     (subst (λ (k : ℕ). IfStored access (λ b. reading (address_of u.layout hand.thread k d) b ≡ b))
-    (c.hand.invariant.3 ∙ sym keeps.head) (c.access_of-access.ensures.says u.layout)))
+    (c.hand.invariant.3 ∙ sym keeps.head)
+    (next.stored_says u.layout hand.thread hand.head d access c.access_of-access.ensures.started)))
 
 pub operate-word-requires-clause-knows : goal.operate-word-requires-clause-knows
 operate-word-requires-clause-knows g c =

@@ -1,6 +1,6 @@
 use Rattle.std.proofs.Common.{arith}
 use Rattle.brc_world.specs.Worlds.{seen}
-use Rattle.brc_world.proofs.Indices.{block_there}
+use Rattle.brc_effect.proofs.Indices.{block_there}
 use Rattle.brc_world.proofs.Outcomes.{contents}
 use Rattle.brc_world.proofs.world.World.is_born.Goals as goal
 

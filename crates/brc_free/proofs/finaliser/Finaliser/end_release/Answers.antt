@@ -1,0 +1,52 @@
+use Rattle.std.proofs.Common.{◌≡◌, ℕ, List, [], ◌∷◌, ◌++◌, refl, sym, ap, ◌∙◌, subst}
+use Rattle.brc_model.specs.declared.duty.Duty.{Duty}
+use Rattle.brc_model.specs.declared.duty.Duty.TheVariants.{DecideAtZero, SharedLoad}
+use Rattle.brc_model.specs.declared.duty.Reason.TheVariants.{Own}
+use Rattle.brc_model.specs.Duties.{ready}
+use Rattle.brc_table.specs.declared.view.View.{View}
+use Rattle.brc_heap.specs.declared.release.LocalRelease.{LocalRelease}
+use Rattle.brc_heap.specs.declared.release.LocalRelease.TheVariants as local
+use Rattle.brc_heap.specs.Calls.{local_left}
+use Rattle.brc_heap.proofs.Stepping.{plain_first}
+use Rattle.brc_free.specs.Works.{HasWorked, EndsRelease, behind}
+use Rattle.brc_free.proofs.Working.{worked_first}
+use Rattle.brc_free.proofs.GivingUp.{nothing_left}
+use Rattle.brc_free.proofs.finaliser.Finaliser.end_release.Goals as goal
+
+pub returns-in-Skip-clause-work : goal.returns-in-Skip-clause-work
+returns-in-Skip-clause-work g c = λ rest next.
+    worked_first c.args.hand.now.view rest
+    (next ∙ ap (λ (ds : List Duty). ready c.args.hand.now.view.head (ds ++ rest))
+    (nothing_left c.args.row c.args.release c.in-Skip.is))
+
+-- What the answer says comes next.
+zero_next : (v : View) (x : ℕ) (answer : LocalRelease) (rest : List Duty) → answer ≡ local.Zero
+    → EndsRelease x answer rest v → v.agenda ≡ DecideAtZero x ∷ rest
+zero_next v x answer rest is next =
+    next ∙ (ap (λ (a : LocalRelease). ready v.head (local_left x a ++ rest)) is
+    ∙ plain_first v.head (DecideAtZero x) rest refl)
+
+share_next : (v : View) (x : ℕ) (answer : LocalRelease) (rest : List Duty) → answer ≡ local.Share
+    → EndsRelease x answer rest v → v.agenda ≡ SharedLoad x Own ∷ rest
+share_next v x answer rest is next =
+    next ∙ (ap (λ (a : LocalRelease). ready v.head (local_left x a ++ rest)) is
+    ∙ plain_first v.head (SharedLoad x Own) rest refl)
+
+pub decide_at_zero-requires-clause-duty : goal.decide_at_zero-requires-clause-duty
+decide_at_zero-requires-clause-duty g c =
+    let (rest, next) = c.requires.duty in record { rest = rest; next = zero_next c.args.hand.now.view c.args.row c.args.release rest c.in-Zero.is next }
+
+pub returns-in-Zero-clause-work : goal.returns-in-Zero-clause-work
+returns-in-Zero-clause-work g c = λ rest next.
+    subst (λ (ds : List Duty). HasWorked c.args.hand.now.view [] ds c.decide_at_zero.new.hand.view)
+    (ap behind (zero_next c.args.hand.now.view c.args.row c.args.release rest c.in-Zero.is next)) c.decide_at_zero.ensures.work
+
+pub give_up-requires-clause-duty : goal.give_up-requires-clause-duty
+give_up-requires-clause-duty g c =
+    let (rest, next) = c.requires.duty in
+    record { reason = Own; rest = rest; next = share_next c.args.hand.now.view c.args.row c.args.release rest c.in-Share.is next }
+
+pub returns-in-Share-clause-work : goal.returns-in-Share-clause-work
+returns-in-Share-clause-work g c = λ rest next.
+    subst (λ (ds : List Duty). HasWorked c.args.hand.now.view [] ds c.give_up.new.hand.view)
+    (ap behind (share_next c.args.hand.now.view c.args.row c.args.release rest c.in-Share.is next)) c.give_up.ensures.work

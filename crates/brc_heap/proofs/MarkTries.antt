@@ -1,0 +1,69 @@
+-- What is left once a hand has set an object's mark, and once it has looked after the object.
+use Rattle.std.proofs.Common.{◌≡◌, ℕ, Bool, true, false, List, [], ◌∷◌, ◌++◌, refl, sym, ap, ◌∙◌, subst}
+use Rattle.std.specs.Prelude.{◌==◌, if◌then◌else◌}
+use Rattle.std.proofs.lemmas.Bool.{eq-eqb}
+use Rattle.brc_model.specs.declared.duty.Duty.{Duty}
+use Rattle.brc_model.specs.declared.duty.Duty.TheVariants.{SetMark, Look, TakeMark, MergeSwap}
+use Rattle.brc_model.specs.declared.duty.Reason.TheVariants.{Handed}
+use Rattle.brc_table.specs.declared.view.View.{View}
+use Rattle.brc_table.specs.Views.{done}
+use Rattle.brc_heap.specs.declared.marker.Looked.{Looked}
+use Rattle.brc_heap.specs.declared.marker.Looked.TheVariants as looks
+use Rattle.brc_heap.specs.Marks.{look_answer, look_left, looked_after, posted}
+use Rattle.brc_heap.specs.Steps.{HasStepped}
+use Rattle.brc_heap.proofs.Stepping.{IsPiece, plain_first, plain_begins, plain_on, stepped_then}
+
+pub mark_stepped : {v : View} {x : ℕ} {rest : List Duty} → v.agenda ≡ SetMark x ∷ rest
+    → HasStepped v (Look x ∷ rest) (done v 0)
+mark_stepped {v} {x} {rest} next = plain_on 0 (plain_begins next refl) refl refl
+
+-- The owner doesn't run: the mark is taken back next.
+pub stopped : {v : View} {x : ℕ} {rest : List Duty} (said : ℕ) → v.agenda ≡ Look x ∷ rest → (said == 1) ≡ false
+    → HasStepped v (TakeMark x ∷ rest) (done v said)
+stopped {v} {x} {rest} said next is =
+    plain_on said (plain_begins next refl) refl (ap (λ (b : Bool). if b then [] else TakeMark x ∷ []) is)
+
+taken_by : (x : ℕ) (set : Bool)
+    → (if set then MergeSwap x Handed ∷ [] else []) ≡ look_left x (if set then looks.Claimed else looks.Left)
+taken_by x true = refl
+taken_by x false = refl
+
+look_by : (v : View) (x said found : ℕ) (rest : List Duty) (runs : Bool) → (said == 1) ≡ runs
+    → v.agenda ≡ Look x ∷ rest
+    → HasStepped v (look_left x (if runs then looks.Left else if found == 1 then looks.Claimed else looks.Left) ++ rest)
+    (if runs then done v said else done (done v said) found)
+look_by v x said found rest true is next =
+    plain_on said (plain_begins next refl) refl (ap (λ (b : Bool). if b then [] else TakeMark x ∷ []) is)
+look_by v x said found rest false is next =
+    plain_on found (stopped said next is) refl (taken_by x (found == 1))
+
+pub look_stepped : {v : View} {x : ℕ} {rest : List Duty} (said found : ℕ) → v.agenda ≡ Look x ∷ rest
+    → HasStepped v (look_left x (look_answer said found) ++ rest) (looked_after v said found)
+look_stepped {v} {x} {rest} said found next = look_by v x said found rest (said == 1) refl next
+
+-- The hand has looked: the owner runs, or the hand has taken the mark back or found it gone.
+pub runs : {v u : View} {x : ℕ} {rest : List Duty} (said : ℕ) → u ≡ done v said → (said == 1) ≡ true
+    → v.agenda ≡ Look x ∷ rest → HasStepped v rest u
+runs {v} {u} {x} {rest} said view is next =
+    subst (HasStepped v rest) (sym view)
+    (plain_on said (plain_begins next refl) refl (ap (λ (b : Bool). if b then [] else TakeMark x ∷ []) is))
+
+pub taken : {v u w : View} {x : ℕ} {rest : List Duty} (set : Bool) (said found : ℕ) → u ≡ done v said
+    → w ≡ done u found → (said == 1) ≡ false → (found == 1) ≡ set → v.agenda ≡ Look x ∷ rest
+    → HasStepped v ((if set then MergeSwap x Handed ∷ [] else []) ++ rest) w
+taken {v} {u} {w} {x} {rest} set said found view after is one next =
+    subst (HasStepped v ((if set then MergeSwap x Handed ∷ [] else []) ++ rest))
+    (sym (after ∙ ap (λ (z : View). done z found) view))
+    (plain_on found (stopped said next is) refl (ap (λ (b : Bool). if b then MergeSwap x Handed ∷ [] else []) one))
+
+-- One after the other.
+pub posted_stepped : {v : View} {x : ℕ} {rest : List Duty} (said found : ℕ) → v.agenda ≡ SetMark x ∷ rest
+    → HasStepped v (look_left x (look_answer said found) ++ rest) (posted v said found)
+posted_stepped {v} {x} {rest} said found next =
+    let marked = mark_stepped next in
+    stepped_then marked
+    (look_stepped said found (marked.agenda ∙ plain_first (done v 0).head (Look x) rest refl))
+
+pub look_piece : (x : ℕ) (answer : Looked) → IsPiece x (look_left x answer)
+look_piece x looks.Left = tt
+look_piece x looks.Claimed = (eq-eqb x x refl, refl, refl)

@@ -1,0 +1,45 @@
+-- What a hand does that executes duty after duty, with other duties behind them: which duties are left, and what stays
+-- as it was.
+use Rattle.std.specs.Prelude.{◌≡◌, Bool, true, if◌then◌else◌, ℕ, List, ◌∷◌, Some}
+use Rattle.brc_word.specs.Words.{free_word}
+use Rattle.brc_model.specs.declared.duty.Duty.{Duty}
+use Rattle.brc_model.specs.declared.duty.Duty.TheVariants.{TakeSlot}
+use Rattle.brc_model.specs.Duties.{ready}
+use Rattle.brc_table.specs.declared.view.View.{View}
+use Rattle.brc_table.specs.Seen.{has_seen_kind, cell_seen}
+use Rattle.brc_table.specs.Views.{done}
+
+-- What no such work changes. The hand has seen the kinds that it had seen, and of the cells of the list that it has
+-- locked what it had seen.
+pub record Keeps (v u : View) : Type 0 where
+  pub layout : u.layout ≡ v.layout
+  pub thread : u.thread ≡ v.thread
+  pub status : u.status ≡ v.status
+  pub references : u.references ≡ v.references
+  pub aside : u.aside ≡ v.aside
+  pub used : u.used ≡ v.used
+  pub locked : u.locked ≡ v.locked
+  pub in_slot : u.in_slot ≡ v.in_slot
+  pub given : u.given ≡ v.given
+  pub kinds : (x word : ℕ) → has_seen_kind x word v ≡ true → has_seen_kind x word u ≡ true
+  pub cells : (x i : ℕ) → v.locked ≡ Some x → cell_seen x i u ≡ cell_seen x i v
+
+-- The first duty takes no resource out of a slot.
+abbrev pub TakesNothing : List Duty → Type 0
+TakesNothing (TakeSlot x ∷ rest) = ⊥
+TakesNothing _ = Unit {0}
+
+-- The hand has done duty after duty, none of which takes a resource out of a slot.
+pub data Steps (v : View) : View → Type 0 where
+  Begun : Steps v v
+  Next : (u : View) (found : ℕ) → Steps v u → TakesNothing u.agenda → Steps v (done u found)
+
+-- The hand has done so, and these duties are left, but for those that need no step.
+pub record HasStepped (v : View) (ds : List Duty) (u : View) : Type 0 where
+  pub agenda : u.agenda ≡ ready u.head ds
+  pub steps : Steps v u
+  pub keeps : Keeps v u
+
+-- If the object dies, the hand has chained it.
+abbrev pub ended : Bool → View → View
+ended dies v = if dies then done v free_word else v

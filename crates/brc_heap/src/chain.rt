@@ -1,0 +1,35 @@
+//! An object without a reference goes to the head of its hand's dying chain.
+
+ghost use Rattle.std.specs.Prelude.{◌≡◌, ◌≢◌, List, ◌∷◌};
+ghost use Rattle.brc_word.specs.Words.{free_word};
+ghost use Rattle.brc_model.specs.declared.actor.Status.TheVariants.{Gone};
+ghost use Rattle.brc_model.specs.declared.duty.Duty.{Duty};
+ghost use Rattle.brc_model.specs.declared.duty.Duty.TheVariants.{Die};
+ghost use Rattle.brc_table.specs.declared.view.View.{View};
+ghost use Rattle.brc_table.specs.Views.{done};
+ghost use Rattle.brc_table.specs.Hands.{IsOf};
+ghost use Rattle.brc_heap.specs.Steps.{HasStepped};
+
+use crate::heap::Heap;
+use brc_model::Duty;
+use brc_table::Hand;
+
+impl<T: Drop> Heap<T> {
+    /// Does the next duty, behind which others may come: chains the dying object.
+    #[inline(always)]
+    pub(crate) fn chain(&self, hand: &mut Hand<T>, row: u32)
+        requires table { IsOf self.now hand.old }
+        requires alive { hand.old.view.status ≢ Gone }
+        requires next { (rest : List Duty) × (hand.old.view.agenda ≡ Die row ∷ rest) }
+        ensures table { hand.new.table ≡ hand.old.table }
+        ensures carried { hand.new.carried ≡ hand.old.carried }
+        ensures slots { hand.new.slots ≡ hand.old.slots }
+        ensures view { hand.new.view ≡ done hand.old.view free_word }
+        ensures stepped { (v : View) (rest : List Duty) → HasStepped v (Die row ∷ rest) hand.old.view
+            → HasStepped v rest hand.new.view }
+    {
+        hand.rows_are_there();
+        // `Chained`: a plain store, because no other thread has a reference by which it could lock the object.
+        self.words().step(hand, Duty::Die { row });
+    }
+}
