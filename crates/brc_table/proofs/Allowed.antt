@@ -25,8 +25,8 @@ use Rattle.brc_table.specs.Rule.{Stands}
 use Rattle.brc_table.specs.Homes.{SlotsStand, TableStands}
 use Rattle.brc_table.specs.Plays.{FindsKnown}
 use Rattle.brc_table.specs.Hands.{TableState, HandState}
-use Rattle.brc_table.specs.Begins.{Passes, Becomes, IsAt, KeepsSlots}
-use Rattle.brc_table.specs.Places.{HasWord, place, IsTableWord}
+use Rattle.brc_table.specs.Begins.{Passes, Becomes, KeepsSlots}
+use Rattle.brc_table.specs.Places.{HasWord, place, IsObjectWord, IsTableWord}
 use Rattle.brc_table.proofs.CellGuards.{change_guards}
 use Rattle.brc_table.proofs.Lists.{set_view}
 use Rattle.brc_table.proofs.ThreadsKept.{KeepsThreads, object_step}
@@ -167,7 +167,8 @@ module _ (laws : ModelLaws) (layout : Layout) (v u : View)
     finds_word =
         subst (λ (l : Layout). first.stands.machine.memory (address_of l u.thread u.head d) ≡ read_of u d word)
         (first.stands.told id u (set_view s.views id v u here))
-        (finds laws.kept laws.within laws.guarded layout s.words (set s.views id u) id u d rest does ∙ ap (read_of u d) same)
+        (finds laws.kept laws.within laws.guarded layout s.words (set s.views id u) id u d rest does
+        ∙ ap (read_of u d) same)
 
     module _ (f : ℕ → ℕ) (leaves : Leaves f) where
       after : Passes layout (set s.words (place_of u d) (f word))
@@ -246,10 +247,12 @@ module _ (laws : ModelLaws) (layout : Layout) (v u : View)
 
 -- ---- a step on an object's word
 
--- What a hand learns at its first duty.
-pub record Learns (v : View) (d : Duty) (rest : List Duty) (found : ℕ) : Type 0 where
-  pub known : Knows v d found
-  pub there : RowsAreThere (did v (d ∷ rest) found)
+-- The hand's first duty is about the object's word at this place.
+pub record IsAt (v : View) (d : Duty) (rest : List Duty) (index : ℕ) : Type 0 where
+  pub agenda : v.agenda ≡ d ∷ rest
+  pub alive : v.status ≢ Gone
+  pub object : IsObjectWord (address_of v.layout v.thread v.head d)
+  pub index_is : index ≡ place (address_of v.layout v.thread v.head d)
 
 -- A first duty about an object's word is about a word of the table.
 pub object_next : (v : View) (d : Duty) (rest : List Duty) (index : ℕ) → IsAt v d rest index → IsNextAt v d rest index
@@ -285,22 +288,6 @@ module _ (laws : ModelLaws) (layout : Layout) (v u : View)
         (record { thread = refl; given = refl; trace = refl }) is_at.object
         (has laws.kept laws.within laws.guarded layout words views i u d rest does),
   )
-
-  pub object_allows : {T : Type 0} (slots id : ℕ) (me : Me (Option T) View) (f : ℕ → ℕ)
-      (then : ℕ → Me (Option T) View → Type 0)
-      → me.0 ≡ v → ((found : ℕ) → use_of d found ≡ Stays)
-      → ((found : ℕ) → Knows u d found → f found ≡ new_word u.thread u.head d found)
-      → ((found : ℕ) → Learns u d rest found → then found (did u (d ∷ rest) found, me.1))
-      → Allows (λ (s : State (Option T) View). TableStands layout s.words s.homes s.views) slots id me index f then
-  object_allows slots id me f then is_me stays leaves goes =
-      allows laws layout v u d rest index becomes (object_next u d rest index is_at) slots
-      id me f then is_me stays (object_leaves f leaves)
-      (λ found known rows.
-      subst (λ (k : ℕ). then found (did u (d ∷ rest) k, me.1)) (sym (itself found))
-      (goes found (record {
-        known = subst (Knows u d) (itself found) known;
-        there = subst (λ (k : ℕ). RowsAreThere (did u (d ∷ rest) k)) (itself found) rows;
-      })))
 
 -- ---- what a call knows
 

@@ -18,14 +18,14 @@ use Rattle.brc_table.specs.Views.{RowsAreThere, did, taken_after}
 use Rattle.brc_table.specs.Places.{place, IsObjectWord, IsTableWord}
 use Rattle.brc_table.specs.Hands.{TableState, HandState}
 use Rattle.brc_table.specs.Homes.{rows_of, held_in, TableStands}
-use Rattle.brc_table.specs.Begins.{Becomes, IsAt}
+use Rattle.brc_table.specs.Begins.{Becomes}
 use Rattle.brc_table.specs.Uses.{IsDue, first_use, first_due, held_after, Uses}
 use Rattle.brc_table.specs.Plays.{SuitsFirst, FirstFindsOwner, FindsKnown}
 use Rattle.brc_table.specs.Accesses.{HasAccess, IsNext}
 use Rattle.brc_table.specs.DutySteps.{DueSlot, OverwritesFirst, Steps, StepsBy, said}
 use Rattle.brc_table.proofs.Stepping.{read_of}
 use Rattle.brc_table.proofs.Allowed as allowed
-use Rattle.brc_table.proofs.Allowed.{IsNextAt, Knows, Seen}
+use Rattle.brc_table.proofs.Allowed.{IsAt, IsNextAt, Knows, Seen}
 use Rattle.brc_table.proofs.Bare.{IsLike}
 use Rattle.brc_table.proofs.ThreadsAllowed.{thread_leaves}
 use Rattle.brc_table.proofs.NextDuty.{coming, table_word_of, use_same, word_of}

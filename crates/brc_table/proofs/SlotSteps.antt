@@ -21,14 +21,13 @@ use Rattle.brc_table.specs.Seen.{has_seen_kind}
 use Rattle.brc_table.specs.Places.{in_tile}
 use Rattle.brc_table.specs.Hands.{HoldsOne, HasNoWork, IsRunning}
 use Rattle.brc_table.specs.Homes.{held_in, TableStands}
-use Rattle.brc_table.specs.Begins.{IsAt}
 use Rattle.brc_table.specs.Uses.{Locks}
 use Rattle.brc_table.proofs.Lists.{set_view}
 use Rattle.brc_table.proofs.Duties.{runs_on, either_is}
 use Rattle.brc_table.proofs.Locking.{locking_becomes}
 use Rattle.brc_table.proofs.LockedSlots.{still_seen, slot_seen}
 use Rattle.brc_table.proofs.Allowed as allowed
-use Rattle.brc_table.proofs.Allowed.{Knows, IsNextAt, Seen, object_next}
+use Rattle.brc_table.proofs.Allowed.{IsAt, Knows, IsNextAt, Seen, object_next}
 use Rattle.brc_table.proofs.SlotsTaken as taken
 
 module _ (laws : ModelLaws) where
@@ -90,7 +89,8 @@ module _ (laws : ModelLaws) where
                   ap (λ (k : ℕ). (x, k) ∷ held_in me.1) slot.holds
                       ∙ sym (ap (λ (b : Bool). cond b ((x, n) ∷ held_in me.1) (held_in me.1)) is_free),
                   λ kind found_free more seen.
-                      slot_seen laws.full layout (set s.words index (f word)) (set s.homes x home.none) (set s.views id w)
+                      slot_seen laws.full layout (set s.words index (f word)) (set s.homes x home.none)
+                      (set s.views id w)
                       now id x w (set_view s.views id v w mine) (ap (λ (b : Bool). cond b (Some x) v.locked) is_free)
                       kind more
                       (still_seen x kind u (LockGate x) [] word

@@ -16,8 +16,8 @@ pub stored_allowed : {T : Type 0} (holds : State (Option T) View → Type 0) (sl
     → Allows holds slots id me index (λ found. word) (λ found after. StepsStored begins me after)
 stored_allowed {T} holds slots id index me begins access word before is same knows allowed s stands homes here below =
     let step =
-    subst (λ (a : Access). Allows holds slots id me index (left_by a) (StepsBy begins me)) is allowed s stands homes here
-    below in
+    subst (λ (a : Access). Allows holds slots id me index (left_by a) (StepsBy begins me)) is allowed s stands homes
+    here below in
     let known =
     subst (λ (a : Access). IfStored a (λ b. (found : ℕ)
     → OverwritesFirst (begins me.0).thread (begins me.0).agenda found → found ≡ b)) is knows in

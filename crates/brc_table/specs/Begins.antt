@@ -1,16 +1,12 @@
 -- Changes of a hand's view at which no word changes: taking work up, and turning to other work.
-use Rattle.std.specs.Prelude.{◌≡◌, ◌≢◌, ◌⊎◌, ℕ, Option, List, ◌∷◌, Some, slice_set}
+use Rattle.std.specs.Prelude.{◌≡◌, ◌⊎◌, ℕ, Option, List, Some, slice_set}
 use mathlib.Core.Option.{some}
 use lib.ListN.{get_elem?}
-use Rattle.brc_model.specs.declared.duty.Duty.{Duty}
-use Rattle.brc_model.specs.declared.actor.Status.TheVariants.{Gone}
 use Rattle.brc_model.specs.declared.address.Address.TheVariants.{Slot}
 use Rattle.brc_model.specs.declared.layout.Layout.{Layout}
-use Rattle.brc_model.specs.Duties.{address_of}
 use Rattle.brc_model.specs.Machine.{Machine}
 use Rattle.brc_model.specs.SlotLaws.{UsesSlot}
 use Rattle.brc_table.specs.declared.view.View.{View}
-use Rattle.brc_table.specs.Places.{place, IsObjectWord}
 use Rattle.brc_table.specs.Views.{actor_of}
 use Rattle.brc_table.specs.Rule.{Stands}
 use Rattle.brc_table.specs.Homes.{times_in}
@@ -36,13 +32,6 @@ pub record Becomes (layout : Layout) (v u : View) : Type 0 where
   pub passes : (words : List ℕ) (views : List View) (id : ℕ) (stands : Stands layout words views)
       → get_elem? views id ≡ some v → Passes layout words (slice_set views id u) v.taken v.locked stands.machine
   pub slots : KeepsSlots v u
-
--- The hand's first duty is about the object's word at this place.
-pub record IsAt (v : View) (d : Duty) (rest : List Duty) (index : ℕ) : Type 0 where
-  pub agenda : v.agenda ≡ d ∷ rest
-  pub alive : v.status ≢ Gone
-  pub object : IsObjectWord (address_of v.layout v.thread v.head d)
-  pub index_is : index ≡ place (address_of v.layout v.thread v.head d)
 
 -- The layout, the thread, its status, its chain, its used rows and the hands that it has given out are as before.
 pub record KeepsThread (v u : View) : Type 0 where

@@ -25,9 +25,10 @@ abbrev pub FirstFindsOwner : View → List Duty → ℕ → Type 0
 FirstFindsOwner v [] found = Unit {0}
 FirstFindsOwner v (d ∷ rest) found = FindsOwner v.layout d found
 
--- What a hand knows of what its first duty finds. A load of a kind word finds what the hand has seen there; if the hand
--- has locked the object, the object's slot had as many resources as the kind word says, when the hand took it; and none's
--- kind word says that it is none. A load of a cell that no other hand changes finds what the hand has seen there. A merge for a handed reference that wins leaves that reference counted.
+-- What a hand knows of what its first duty finds. A load of a kind word finds what the hand has seen there. If the hand
+-- has locked the object, the kind word says how many resources the object's slot had when the hand took it; and none's
+-- kind word says that it is none. A load of a cell that no other hand changes finds what the hand has seen there. A merge
+-- for a handed reference that wins leaves that reference counted.
 abbrev pub FindsKnown : View → List Duty → ℕ → Type 0
 FindsKnown v (KindLoad x ∷ rest) found =
     ((word : ℕ) → 0 < word → has_seen_kind x word v ≡ true → found ≡ word)

@@ -1,7 +1,7 @@
 //! The step by which a hand asks for the kind of an object that it may use, or is to finalise (Python/C API manual,
 //! Common Object Structures: `Py_IS_TYPE`).
 
-ghost use Rattle.std.specs.Prelude.{◌≡◌, ◌<◌, ℕ, true, None, Some};
+ghost use Rattle.std.specs.Prelude.{◌≡◌, ◌<◌, ℕ, true, Some};
 ghost use Rattle.brc_model.specs.Duties.{resources_of};
 ghost use Rattle.brc_word.specs.Words.{half};
 ghost use Rattle.brc_model.specs.Layout.{none_row};

@@ -1,21 +1,16 @@
-//! The steps by which a hand begins to retain and to release an object (PEP 703, Biased Reference Counting: `Py_INCREF` and
-//! `Py_DECREF`). Each loads the object's local word, and what comes next depends on the word found.
+//! The steps by which a hand begins to retain and to release an object (PEP 703, Biased Reference Counting: `Py_INCREF`
+//! and `Py_DECREF`). Each loads the object's local word, and what comes next depends on the word found.
 
-ghost use Rattle.std.specs.Prelude.{◌≡◌, ◌≢◌, ◌+◌, ◌<◌, ◌≤◌, length};
-ghost use Rattle.brc_model.specs.declared.actor.Status.TheVariants.{Gone};
-ghost use Rattle.brc_model.specs.Duties.{address_of};
+ghost use Rattle.std.specs.Prelude.{◌≡◌, ◌+◌, ◌<◌, ◌≤◌, length};
 ghost use Rattle.brc_model.specs.Within.{OwnerFits};
 ghost use Rattle.brc_word.specs.Words.{owner_part, local_part};
-ghost use Rattle.brc_table.specs.Views.{done, turned, work_about, retaining, releasing};
-ghost use Rattle.brc_table.specs.Plays.{SuitsFirst, FindsKnown, overwritten};
+ghost use Rattle.brc_table.specs.Views.{done, retaining, releasing};
 ghost use Rattle.brc_table.specs.Hands.{IsOf, IsRunning, HoldsOne, MayUse, KeepsLock, HasNoWork, most_references};
 
 use crate::hand::Hand;
-use crate::place::{LOCAL, SHARED};
 use crate::words::Words;
 use brc_model::{
     Duty, Holding, immortals_are_free, releases_begin, retains_begin, work_is_put_aside,
-    work_is_taken_back,
 };
 use std::marker::Brand;
 
