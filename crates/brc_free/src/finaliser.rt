@@ -16,6 +16,7 @@ use brc_effect::kinds::{cells_of, has_resource};
 use brc_heap::{Hand, Heap, Marker};
 use brc_host::{Fault, Host};
 use brc_list::Lists;
+use brc_model::Duty;
 use std::marker::Model;
 use std::sync::Wait;
 
@@ -129,7 +130,8 @@ impl<'h, T: Drop, Q: Marker<T>> Finaliser<'h, T, Q> {
         let words = self.heap.words();
         let row = hand.head() - 1;
         words.gate_load(hand);
-        let kind = words.dying_kind_load(hand, row);
+        // `DyingResource`, `DyingCells`: the kind says what the object gives back.
+        let kind = words.step(hand, Duty::SettleKind { row });
         if has_resource(kind) {
             return self.close_resource(hand, host, row);
         }
@@ -173,13 +175,13 @@ impl<'h, T: Drop, Q: Marker<T>> Finaliser<'h, T, Q> {
             → HasWorked hand.old.view [] (SettleEnd row ∷ rest) hand.new.view }
     {
         for cell in 0..cells {
-            self.empty_cell(rt, hand, row, cell);
+            self.empty_cell(rt, hand, row, cell, cells);
         }
     }
 
     /// Does the next duties, behind which others may come: empties a cell of a dying list, and gives up the reference
     /// that was there.
-    fn empty_cell<R: Wait>(&self, rt: &R, hand: &mut Hand<T>, row: u32, cell: u32)
+    fn empty_cell<R: Wait>(&self, rt: &R, hand: &mut Hand<T>, row: u32, cell: u32, cells: u32)
         requires table { IsOf self.now hand.old }
         requires alive { hand.old.view.status ≢ Gone }
         requires duty { CellNext row cell hand.old.view.agenda }
@@ -191,7 +193,8 @@ impl<'h, T: Drop, Q: Marker<T>> Finaliser<'h, T, Q> {
         hand.rows_are_there();
         let words = self.heap.words();
         words.layout_is_plain();
-        let item = words.dying_cell_swap(hand, row, cell);
+        // `CellEmptied`: a swap, so that no reference is left in the cell.
+        let item = words.step(hand, Duty::SettleCell { row, cell, cells });
         if item == 0 {
             return;
         }

@@ -16,6 +16,7 @@ use brc_effect::states::SET;
 use brc_free::Finaliser;
 use brc_heap::{Hand, ROOT};
 use brc_host::Host;
+use brc_model::Duty;
 use std::sync::Wait;
 
 impl<'h, T: Drop> Queue<'h, T> {
@@ -49,7 +50,8 @@ impl<'h, T: Drop> Queue<'h, T> {
         let failed = finaliser.settle(rt, hand, host);
         self.heap.words().thread_leave(hand);
         let more = self.scan(rt, hand, host);
-        self.heap.words().thread_gone(hand);
+        // `SaysGone`: the thread takes no further step.
+        self.heap.words().step(hand, Duty::Finish);
         failed.saturating_add(more)
     }
 
@@ -99,7 +101,10 @@ impl<'h, T: Drop> Queue<'h, T> {
             × HasAnswered H.answers H.counts host.old closes host.new }
     {
         let words = self.heap.words();
-        if words.mark_scan(hand, index) != SET {
+        let rows = hand.used();
+        // `ScanFindsMark`, `ScanFindsNone`: a swap, because the thread that set the mark may take it back meanwhile.
+        let found = words.step(hand, Duty::Scan { index, rows });
+        if found != SET {
             return 0;
         }
         let row = words.own_row(hand, index);

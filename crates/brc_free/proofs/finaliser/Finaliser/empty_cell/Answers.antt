@@ -1,11 +1,12 @@
-use Rattle.std.proofs.Common.{◌≡◌, ◌≢◌, ℕ, ◌+◌, ◌-◌, List, [], ◌∷◌, ◌++◌, refl, sym, ap, ◌∙◌, subst}
+use Rattle.std.proofs.Common.{◌≡◌, ◌≢◌, ℕ, ◌+◌, ◌-◌, List, [], ◌∷◌, ◌++◌, refl, sym, ap, ◌∙◌, subst, arith}
 use Rattle.std.proofs.lemmas.Bool.{eq-eqb}
 use Rattle.brc_model.specs.declared.duty.Holding.TheVariants.{InFlight}
 use Rattle.brc_model.specs.declared.duty.Duty.{Duty}
 use Rattle.brc_model.specs.declared.duty.Duty.TheVariants.{SettleCell, ReleaseLoad}
 use Rattle.brc_model.specs.Duties.{cells_from, release_found}
 use Rattle.brc_table.specs.declared.view.View.{View}
-use Rattle.brc_table.specs.Views.{RowsAreThere, done}
+use Rattle.brc_table.specs.Accesses.{IsNext}
+use Rattle.brc_table.specs.Views.{NamesFewCells, RowsAreThere, done}
 use Rattle.brc_free.specs.Works.{HasWorked, CellNext, behind, cells_left}
 use Rattle.brc_free.proofs.FirstDuties.{settle_cell_first}
 use Rattle.brc_heap.proofs.Stepping.{plain_first, finalising_unlocked}
@@ -30,18 +31,26 @@ item_next v w row cell found duty there is some =
     subst (λ (ds : List Duty). HasWorked v [] (ds ++ (cells_from row (cell + 1) duty.count ++ duty.rest)) w)
     (item_found found some) (emptied v w row cell found duty there is)
 
+pub step-item-requires-clause-next : goal.step-item-requires-clause-next
+step-item-requires-clause-next g c =
+    subst (IsNext (SettleCell c.args.row c.args.cell c.args.cells)) (sym c.requires.duty.next) refl
+
+pub step-item-requires-clause-cell : goal.step-item-requires-clause-cell
+step-item-requires-clause-cell g c =
+    omega (arith, c.requires.duty.low, subst NamesFewCells c.requires.duty.next c.rows_are_there.ensures.cells)
+
 pub returns-then-item-eq0-clause-work : goal.returns-then-item-eq0-clause-work
 returns-then-item-eq0-clause-work g c =
     let duty = c.requires.duty in
     let left = cells_from c.args.row (c.args.cell + 1) duty.count ++ duty.rest in
-    subst (λ (ds : List Duty). HasWorked c.args.hand.now.view [] ds c.dying_cell_swap-item.new.hand.view)
+    subst (λ (ds : List Duty). HasWorked c.args.hand.now.view [] ds c.step-item.new.hand.view)
     (ap (λ (n : ℕ). release_found n ++ left) c.if-item-eq0.true ∙ sym (ap cells_left duty.next))
-    (emptied _ _ c.args.row c.args.cell _ duty c.rows_are_there.ensures c.dying_cell_swap-item.ensures.view)
+    (emptied _ _ c.args.row c.args.cell _ duty c.rows_are_there.ensures c.step-item.ensures.view)
 
 pub release_item-requires-clause-duty : goal.release_item-requires-clause-duty
 release_item-requires-clause-duty g c =
     let at = item_next _ _ c.args.row c.args.cell _ c.requires.duty c.rows_are_there.ensures
-    c.dying_cell_swap-item.ensures.view c.if-item-eq0.false in
+    c.step-item.ensures.view c.if-item-eq0.false in
     record {
       rest = cells_from c.args.row (c.args.cell + 1) c.requires.duty.count ++ c.requires.duty.rest;
       next = at.agenda ∙ plain_first _ (ReleaseLoad _ InFlight) _ refl;
@@ -53,5 +62,5 @@ returns-clause-work g c =
     (sym (ap cells_left c.requires.duty.next))
     (worked_call _ _ _ [] _ behind
     (item_next _ _ c.args.row c.args.cell _ c.requires.duty c.rows_are_there.ensures
-    c.dying_cell_swap-item.ensures.view c.if-item-eq0.false)
+    c.step-item.ensures.view c.if-item-eq0.false)
     (plain_first _ (ReleaseLoad _ InFlight) _ refl) c.release_item.ensures.work)

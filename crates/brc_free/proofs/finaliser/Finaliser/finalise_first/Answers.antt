@@ -4,18 +4,19 @@ use Rattle.brc_model.specs.declared.duty.Duty.TheVariants.{Settle, SettleKind, S
 use Rattle.brc_model.specs.Duties.{has_resource, cells_from}
 use Rattle.brc_table.specs.declared.view.View.{View}
 use Rattle.brc_table.specs.Hands.{TableState}
-use Rattle.brc_table.specs.Calls.{LoadsDyingKind, ClosesRow}
+use Rattle.brc_table.specs.Accesses.{IsNext}
+use Rattle.brc_table.specs.Calls.{ClosesRow}
 use Rattle.brc_free.specs.Works.{HasWorked, ComesToSettle, to_settle, behind}
 use Rattle.brc_free.proofs.FirstDuties.{settle_kind_first, take_slot_first, settle_end_first}
 use Rattle.brc_free.proofs.Working.{head_unlocked, worked_call}
 use Rattle.brc_free.proofs.SettleDuties.{comes_alive, taken_off, kind_has_resource, cells_next, cells_first, all_emptied, ended}
 use Rattle.brc_host.specs.HostCalls.{NoCall}
 use Rattle.brc_free.proofs.finaliser.Finaliser.finalise_first.Given as given
-use Rattle.brc_free.proofs.finaliser.Finaliser.finalise_first.Goals.{After-dying_kind_load-kind, After-cells_of}
+use Rattle.brc_free.proofs.finaliser.Finaliser.finalise_first.Goals.{After-step-kind, After-cells_of}
 use Rattle.brc_free.proofs.finaliser.Finaliser.finalise_first.Goals as goal
 
 -- The object is off the chain, and its kind is loaded next.
-off : (g : given.Over) (c : After-dying_kind_load-kind g) (rest : List Duty) → ComesToSettle c.args.hand.now.view rest
+off : (g : given.Over) (c : After-step-kind g) (rest : List Duty) → ComesToSettle c.args.hand.now.view rest
     → HasWorked (to_settle rest c.args.hand.now.view) [] (SettleKind (c.head-row.result - 1) ∷ Settle ∷ rest)
     c.gate_load.new.hand.view
 off g c rest comes =
@@ -23,54 +24,54 @@ off g c rest comes =
     c.gate_load.ensures.view c.rows_are_there.ensures
 
 -- An object that has a resource: it is taken out of its slot next.
-resource : (g : given.Over) (c : After-dying_kind_load-kind g) (rest : List Duty)
-    → ComesToSettle c.args.hand.now.view rest → has_resource c.dying_kind_load-kind.result ≡ true
+resource : (g : given.Over) (c : After-step-kind g) (rest : List Duty)
+    → ComesToSettle c.args.hand.now.view rest → has_resource c.step-kind.result ≡ true
     → HasWorked (to_settle rest c.args.hand.now.view) [] (TakeSlot (c.head-row.result - 1) ∷ Settle ∷ rest)
-    c.dying_kind_load-kind.new.hand.view
+    c.step-kind.new.hand.view
 resource g c rest comes has =
-    kind_has_resource _ _ _ [] _ c.dying_kind_load-kind.result (Settle ∷ rest) (off g c rest comes)
-    c.dying_kind_load-kind.ensures.view has
+    kind_has_resource _ _ _ [] _ c.step-kind.result (Settle ∷ rest) (off g c rest comes)
+    c.step-kind.ensures.view has
 
 -- Any other object: its cells are emptied next.
 cells : (g : given.Over) (c : After-cells_of g) (rest : List Duty) → ComesToSettle c.args.hand.now.view rest
     → HasWorked (to_settle rest c.args.hand.now.view) []
     (cells_from (c.head-row.result - 1) 0 c.cells_of.result ++ Settle ∷ rest)
-    c.dying_kind_load-kind.new.hand.view
+    c.step-kind.new.hand.view
 cells g c rest comes =
-    cells_next _ _ _ _ c.dying_kind_load-kind.result _ rest
-    (off g (goal.at.empty_cells-requires-clause-duty g c).After-dying_kind_load-kind rest comes)
-    c.dying_kind_load-kind.ensures.view (sym c.has_resource.ensures ∙ c.if-has_resource.false) c.cells_of.ensures
+    cells_next _ _ _ _ c.step-kind.result _ rest
+    (off g (goal.at.empty_cells-requires-clause-duty g c).After-step-kind rest comes)
+    c.step-kind.ensures.view (sym c.has_resource.ensures ∙ c.if-has_resource.false) c.cells_of.ensures
 
 -- Once they are empty, the object is closed next.
 empty : (g : given.Over) (c : After-cells_of g) (w : View) (rest : List Duty)
-    → ((later : List Duty) → c.dying_kind_load-kind.new.hand.view.agenda
+    → ((later : List Duty) → c.step-kind.new.hand.view.agenda
     ≡ cells_from (c.head-row.result - 1) 0 c.cells_of.result ++ later
-    → HasWorked c.dying_kind_load-kind.new.hand.view [] (SettleEnd (c.head-row.result - 1) ∷ later) w)
+    → HasWorked c.step-kind.new.hand.view [] (SettleEnd (c.head-row.result - 1) ∷ later) w)
     → ComesToSettle c.args.hand.now.view rest
     → HasWorked (to_settle rest c.args.hand.now.view) [] (SettleEnd (c.head-row.result - 1) ∷ Settle ∷ rest) w
 empty g c w rest emptied comes = all_emptied _ _ w _ c.cells_of.result rest (cells g c rest comes) emptied
 
-pub dying_kind_load-kind-requires-clause-duty : goal.dying_kind_load-kind-requires-clause-duty
-dying_kind_load-kind-requires-clause-duty g c =
+pub step-kind-requires-clause-next : goal.step-kind-requires-clause-next
+step-kind-requires-clause-next g c =
     let at = taken_off _ _ _ c.gate_load.result c.requires.duty.0 c.requires.chain
     (ap (λ (n : ℕ). n - 1) c.head-row.ensures) c.requires.duty.1 c.gate_load.ensures.view c.rows_are_there.ensures in
-    subst (LoadsDyingKind (c.head-row.result - 1)) (sym (at.agenda ∙ settle_kind_first _ _ _)) refl
+    subst (IsNext (SettleKind (c.head-row.result - 1))) (sym (at.agenda ∙ settle_kind_first _ _ _)) refl
 
 pub close_resource-requires-clause-alive : goal.close_resource-requires-clause-alive
 close_resource-requires-clause-alive g c = λ κs lives gone.
-    let at = resource g (goal.at.close_resource-requires-clause-alive g c).After-dying_kind_load-kind _
+    let at = resource g (goal.at.close_resource-requires-clause-alive g c).After-step-kind _
     c.requires.duty.1 (sym c.has_resource.ensures ∙ c.if-has_resource.true) in
     comes_alive _ _ c.requires.duty.1 (sym at.keeps.status ∙ gone)
 
 pub close_resource-requires-clause-duty : goal.close_resource-requires-clause-duty
 close_resource-requires-clause-duty g c = λ κs lives.
-    let at = resource g (goal.at.close_resource-requires-clause-duty g c).After-dying_kind_load-kind _ c.requires.duty.1
+    let at = resource g (goal.at.close_resource-requires-clause-duty g c).After-step-kind _ c.requires.duty.1
     (sym c.has_resource.ensures ∙ c.if-has_resource.true) in
     record { rest = Settle ∷ c.requires.duty.0; next = at.agenda ∙ take_slot_first _ _ _ }
 
 pub returns-then-has_resource-clause-work : goal.returns-then-has_resource-clause-work
 returns-then-has_resource-clause-work g c = λ rest comes.
-    let at = resource g (goal.at.returns-then-has_resource-clause-work g c).After-dying_kind_load-kind rest comes
+    let at = resource g (goal.at.returns-then-has_resource-clause-work g c).After-step-kind rest comes
     (sym c.has_resource.ensures ∙ c.if-has_resource.true) in
     let one = c.close_resource.ensures.work in
     (one.0, worked_call _ _ _ one.0 _ behind at (take_slot_first _ _ _) one.1, one.2, one.3)
@@ -90,7 +91,7 @@ gate_close-requires-clause-table g c =
     let at = empty g (goal.at.gate_close-requires-clause-table g c).After-cells_of c.empty_cells.new.hand.view _
     c.empty_cells.ensures.work c.requires.duty.1 in
     let words = c.words-words.ensures ∙ c.self.view_is in (
-      c.empty_cells.ensures.table ∙ (c.dying_kind_load-kind.ensures.table
+      c.empty_cells.ensures.table ∙ (c.step-kind.ensures.table
           ∙ (c.gate_load.ensures.table ∙ (c.requires.table.0 ∙ sym (ap (λ (t : TableState). t.table) words)))),
       at.keeps.layout ∙ (c.requires.table.1 ∙ sym (ap (λ (t : TableState). t.layout) words)),
     )

@@ -5,14 +5,14 @@ use Rattle.brc_host.specs.HostCounts.{raised}
 use Rattle.brc_model.specs.declared.duty.Duty.TheVariants.{Finish}
 use Rattle.brc_model.specs.Layout.{root_row}
 use Rattle.brc_table.specs.declared.view.View.{View}
-use Rattle.brc_table.specs.Views.{did}
+use Rattle.brc_table.specs.Views.{did, done}
 use Rattle.brc_table.specs.Hands.{TableState}
 use Rattle.brc_table.specs.Calls.{MayLeave}
 use Rattle.brc_free.specs.Works.{HasWorked, ComesToSettle, to_settle}
 use Rattle.brc_free.proofs.Closes.{sums_both}
 use Rattle.brc_queue.proofs.Exits.{comes_at_once, may_leave, finished}
 use Rattle.brc_queue.proofs.queue.Queue.leave.Given as given
-use Rattle.brc_queue.proofs.queue.Queue.leave.Goals.{After-settle-failed, After-thread_gone}
+use Rattle.brc_queue.proofs.queue.Queue.leave.Goals.{After-settle-failed, After-step}
 use Rattle.brc_queue.proofs.queue.Queue.leave.Goals as goal
 
 -- Once the root is released, the hand settles next.
@@ -35,11 +35,16 @@ may g c =
     may_leave c.args.hand.now.view c.release.new.hand.view _ work.0 c.requires.free c.requires.root released.status
     released.aside released.references work.1 c.settle-failed.ensures.chain
 
+-- It overwrites the word that it is leaving.
+says_gone : (g : given.Over) (c : After-step g)
+    → c.step.new.hand.view ≡ done c.scan-more.new.hand.view 2
+says_gone g c = c.step.ensures.view ∙ ap (done c.scan-more.new.hand.view) c.step.ensures.overwrites
+
 -- The word that it is gone is its last step.
-ends : (g : given.Over) (c : After-thread_gone g)
-    → c.thread_gone.new.hand.view ≡ did c.scan-more.new.hand.view (Finish ∷ []) 2
+ends : (g : given.Over) (c : After-step g)
+    → c.step.new.hand.view ≡ did c.scan-more.new.hand.view (Finish ∷ []) 2
 ends g c =
-    finished _ _ _ c.scan-more.ensures.work.0 c.scan-more.ensures.work.1 c.thread_gone.ensures.view
+    finished _ _ _ c.scan-more.ensures.work.0 c.scan-more.ensures.work.1 (says_gone g c)
 
 pub settle-failed-requires-clause-duty : goal.settle-failed-requires-clause-duty
 settle-failed-requires-clause-duty g c = λ κs lives.
@@ -69,8 +74,8 @@ scan-more-requires-clause-table g c = λ κs lives.
           ∙ (of.1 ∙ ap (λ (t : TableState). t.layout) same),
     )
 
-pub thread_gone-requires-clause-table : goal.thread_gone-requires-clause-table
-thread_gone-requires-clause-table g c =
+pub step-requires-clause-table : goal.step-requires-clause-table
+step-requires-clause-table g c =
     let same = c.new-finaliser.ensures ∙ sym c.words-2.ensures in (
       c.scan-more.ensures.table ∙ (c.thread_leave.ensures.table
           ∙ (c.settle-failed.ensures.table.0 ∙ ap (λ (t : TableState). t.table) same)),
@@ -81,9 +86,9 @@ thread_gone-requires-clause-table g c =
 pub returns-clause-table : goal.returns-clause-table
 returns-clause-table g c =
     let heap = c.new-finaliser.ensures ∙ c.self.view_is in (
-      c.thread_gone.ensures.table ∙ (c.scan-more.ensures.table ∙ (c.thread_leave.ensures.table
+      c.step.ensures.table ∙ (c.scan-more.ensures.table ∙ (c.thread_leave.ensures.table
           ∙ (c.settle-failed.ensures.table.0 ∙ ap (λ (t : TableState). t.table) heap))),
-      ap (λ (z : View). z.layout) (ends g (goal.at.returns-clause-table g c).After-thread_gone)
+      ap (λ (z : View). z.layout) (ends g (goal.at.returns-clause-table g c).After-step)
           ∙ (c.scan-more.ensures.work.1.keeps.layout ∙ (ap (λ (z : View). z.layout) c.thread_leave.ensures.view
           ∙ (c.settle-failed.ensures.table.1 ∙ ap (λ (t : TableState). t.layout) heap))),
     )
@@ -91,7 +96,7 @@ returns-clause-table g c =
 pub returns-clause-idle : goal.returns-clause-idle
 returns-clause-idle g c =
     let at = goal.at.returns-clause-idle g c in
-    let end = ends g at.After-thread_gone in (
+    let end = ends g at.After-step in (
       ap (λ (z : View). z.agenda) end,
       ap (λ (z : View). z.aside) end ∙ (c.scan-more.ensures.work.1.keeps.aside
           ∙ (ap (λ (z : View). z.aside) c.thread_leave.ensures.view ∙ (may g at.After-settle-failed).free.aside)),
@@ -101,21 +106,21 @@ returns-clause-idle g c =
 pub returns-clause-holds_none : goal.returns-clause-holds_none
 returns-clause-holds_none g c =
     let at = goal.at.returns-clause-holds_none g c in
-    ap (λ (z : View). z.references) (ends g at.After-thread_gone)
+    ap (λ (z : View). z.references) (ends g at.After-step)
     ∙ (c.scan-more.ensures.work.1.keeps.references
     ∙ (ap (λ (z : View). z.references) c.thread_leave.ensures.view ∙ (may g at.After-settle-failed).holds_none))
 
 pub returns-clause-thread : goal.returns-clause-thread
 returns-clause-thread g c =
     let at = goal.at.returns-clause-thread g c in
-    ap (λ (z : View). z.thread) (ends g at.After-thread_gone)
+    ap (λ (z : View). z.thread) (ends g at.After-step)
     ∙ (c.scan-more.ensures.work.1.keeps.thread ∙ (ap (λ (z : View). z.thread) c.thread_leave.ensures.view
     ∙ ((settled g at.After-settle-failed).1.keeps.thread ∙ c.release.ensures.released.thread)))
 
 pub returns-clause-used : goal.returns-clause-used
 returns-clause-used g c =
     let at = goal.at.returns-clause-used g c in
-    ap (λ (z : View). z.used) (ends g at.After-thread_gone)
+    ap (λ (z : View). z.used) (ends g at.After-step)
     ∙ (c.scan-more.ensures.work.1.keeps.used ∙ (ap (λ (z : View). z.used) c.thread_leave.ensures.view
     ∙ ((settled g at.After-settle-failed).1.keeps.used ∙ c.release.ensures.released.used)))
 
@@ -138,7 +143,7 @@ returns-clause-work g c =
         empty = c.settle-failed.ensures.chain;
         scans = subst (λ (z : View). HasWorked z more.0 (Finish ∷ []) c.scan-more.new.hand.view)
             c.thread_leave.ensures.view more.1;
-        gone = c.thread_gone.ensures.view;
+        gone = says_gone g (goal.at.returns-clause-work g c).After-step;
       },
       c.saturating_add.ensures
           ∙ (sums_both c.settle-failed.result c.scan-more.result (close_faults work.0) (close_faults more.0) work.2
