@@ -34,7 +34,8 @@ FindsKnown v (KindLoad x ∷ rest) found =
     ((word : ℕ) → 0 < word → has_seen_kind x word v ≡ true → found ≡ word)
     × (v.locked ≡ Some x → v.in_slot ≡ resources_of found)
     × (x ≡ none_row → found ≡ half)
-FindsKnown v (CellLoad x i ∷ rest) found = (word : ℕ) → MayChange v x → cell_seen x i v ≡ Some word → found ≡ word
+FindsKnown v (CellLoad x i ∷ rest) found =
+    (word : ℕ) → MayChange v x → cell_seen x i v ≡ Some word → found ≡ word
 FindsKnown v (MergeExchange x c w Handed ∷ rest) found = found ≡ w → merged_word w c ≢ dead_word
 FindsKnown v _ found = Unit {0}
 

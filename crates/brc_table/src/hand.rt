@@ -106,7 +106,8 @@ impl<T> Hand<T> {
     pub fn remember(&mut self, row: u32, carried: Option<u32>)
         ensures carried { self.new.carried ≡ slice_set self.old.carried (row % row_limit) carried }
         ensures row { carried_of self.new row ≡ carried }
-        ensures same { (self.new.table ≡ self.old.table) × (self.new.view ≡ self.old.view) × (self.new.slots ≡ self.old.slots) }
+        ensures same { (self.new.table ≡ self.old.table) × (self.new.view ≡ self.old.view)
+            × (self.new.slots ≡ self.old.slots) }
     {
         self.carried[row as usize % BLOCK] = carried;
     }

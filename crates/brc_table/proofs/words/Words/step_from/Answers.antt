@@ -74,7 +74,8 @@ operate-word-requires-clause-there g c =
     let layout = c.self.inside.layout in
     let layout_is = c.self.invariant.0 ∙ ap (λ (w : TableState). w.layout) c.self.view_is in
     let address = address_of layout c.hand.inside.thread c.hand.inside.head c.args.duty.now in
-    subst (λ (i : ℕ). i < c.args.self.now.table.words) (sym (c.place_at-index.ensures ∙ ap place c.address_of-address.ensures))
+    subst (λ (i : ℕ). i < c.args.self.now.table.words)
+    (sym (c.place_at-index.ensures ∙ ap place c.address_of-address.ensures))
     (subst (λ (n : ℕ). place address < n) (sym (c.words_are_there.ensures ∙ ap word_count (sym layout_is)))
     (place_within layout address
     (subst (λ (l : Layout). l.workers ≤ worker_limit) (sym layout_is) c.layout_is_plain.ensures.few_workers)
