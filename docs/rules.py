@@ -26,8 +26,6 @@ REAL = ["brc_table", "brc_heap", "brc_list", "brc_free", "brc_queue"]
 OTHER_BRANCH = "none (other branch)"
 ONLY_READS = "none (only reads)"
 WITHOUT = {
-    "OwnerReleases": OTHER_BRANCH,
-    "MarkGone": OTHER_BRANCH,
     "NothingToClaim": OTHER_BRANCH,
     "NobodysCount": OTHER_BRANCH,
     "MergeRead": ONLY_READS,
