@@ -155,7 +155,7 @@ def table():
                 codes(rule.next),
                 sentence(rule.comment) if rule.comment else "",
                 link(function, path) if function else "",
-                ", ".join(link(it.stem, it) for it in real.get(rule.name, [])),
+                ", ".join(link(it.name, it) for it in real.get(rule.name, [])),
                 ", ".join(bodies) or WITHOUT.get(rule.name, ""),
             ]
             lines.append(f"| {' | '.join(cells)} |")
