@@ -6,7 +6,10 @@ ghost use Rattle.clap.specs.declared.error.kind.ErrorKind.TheVariants.{OutOfMemo
 
 use crate::command::parse;
 use crate::not_asked::NotAsked;
-use brc_command::{Load, NoTerminal, StepFault, Stop, Terminal, execute_on, write_stop};
+use crate::request::Request;
+use brc_command::{
+    Load, NoTerminal, StepFault, Stop, Terminal, check_files, execute_on, write_stop,
+};
 use brc_lang::write_bytes;
 use brc_run::System;
 use clap::Error;
@@ -32,8 +35,8 @@ pub fn act<R: System, S: AsStr, L: Load, W: Write, E: Write>(
     err: &mut E,
 ) -> u8
     ensures known { result ≤ 3 }
-    ensures done { result ≡ 0 → Ends (L.may_give load.old) Plain (W.contents out.old) (W.contents out.new)
-        (E.contents err.old) (E.contents err.new) }
+    ensures done { result ≡ 0 → Ends (L.may_give load.old) (L.may_lack load.old) Plain (W.contents out.old)
+        (W.contents out.new) (E.contents err.old) (E.contents err.new) }
     ensures stopped { result ≢ 0 → Stops (L.may_give load.old) (L.may_lack load.old) Plain (W.contents out.old)
         (W.contents out.new) (E.contents err.old) (E.contents err.new) result }
 {
@@ -51,14 +54,17 @@ pub fn act_on<R: System, S: AsStr, L: Load, T: Terminal, W: Write, E: Write>(
     err: &mut E,
 ) -> u8
     ensures known { result ≤ 3 }
-    ensures done { result ≡ 0 → Ends (L.may_give load.old) (T.paint_of terminal.old) (W.contents out.old)
-        (W.contents out.new) (E.contents err.old) (E.contents err.new) }
+    ensures done { result ≡ 0 → Ends (L.may_give load.old) (L.may_lack load.old) (T.paint_of terminal.old)
+        (W.contents out.old) (W.contents out.new) (E.contents err.old) (E.contents err.new) }
     ensures stopped { result ≢ 0 → Stops (L.may_give load.old) (L.may_lack load.old) (T.paint_of terminal.old)
         (W.contents out.old) (W.contents out.new) (E.contents err.old) (E.contents err.new) result }
 {
     match parse(alloc, words) {
         Ok(line) => match line.asked() {
-            Some(asked) => execute_on(rt, alloc, &asked, load, terminal, out, err),
+            Some(Request::One(asked)) => execute_on(rt, alloc, &asked, load, terminal, out, err),
+            Some(Request::Files(files, format)) => check_files(
+                alloc, files, format, load, out, err,
+            ),
             None => {
                 let _ = write_bytes(b"error: a command is required\n", err);
                 USAGE
