@@ -1,5 +1,6 @@
 -- The outputs and the status of `act`, for any words of a command line.
-use Rattle.std.specs.Prelude.{◌≡◌, ◌⊎◌, ℕ, List, map, Option, Bor}
+use Rattle.std.specs.Prelude.{◌≡◌, ◌⊎◌, ℕ, List, map, Option}
+use Rattle.std.specs.Borrow.{Bor}
 use Rattle.brc_lang.specs.Written.{AppendsBeginning}
 use Rattle.brc_report.specs.declared.paint.Paint.{Paint}
 use Rattle.brc_command.specs.declared.asked.Asked.{Asked}

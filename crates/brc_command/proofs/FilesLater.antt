@@ -1,5 +1,6 @@
 -- What a loader may give later it may give now: an outcome of a later file is one now.
-use Rattle.std.proofs.Common.{ℕ, List, Option, Bool, Bor, option_map, inl, inr}
+use Rattle.std.proofs.Common.{ℕ, List, Option, Bool, option_map, inl, inr}
+use Rattle.std.specs.Borrow.{Bor}
 use Rattle.brc_command.specs.declared.files.Format.{Format}
 use Rattle.brc_command.specs.declared.files.Format.TheVariants.{Text as InLines, Json}
 use Rattle.brc_command.specs.declared.finding.Finding.{Finding}

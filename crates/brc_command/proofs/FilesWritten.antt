@@ -1,6 +1,7 @@
 -- What is written of several files, from what is written of each.
 use Rattle.std.proofs.Common.{◌≡◌, ◌≢◌, ◌⊎◌, ℕ, ◌+◌, ◌<◌, max, Bool, List, [], ◌∷◌, ◌++◌, map, length, take, get_or, Option}
-use Rattle.std.proofs.Common.{Bor, flat_map, inl, inr, refl, sym, ap, ◌∙◌, subst, append-nil, append_assoc, arith}
+use Rattle.std.proofs.Common.{flat_map, inl, inr, refl, sym, ap, ◌∙◌, subst, append-nil, append_assoc, arith}
+use Rattle.std.specs.Borrow.{Bor}
 use Rattle.std.specs.Io.KnownBytes.{Appends}
 use Rattle.std.specs.List.{AllByRecursion}
 use Rattle.std.proofs.lemmas.Grind.{flat_map-append}
@@ -28,24 +29,36 @@ is_output (Fault (NoFunction name)) = inr (λ e. absurd cc)
 is_output (Fault NoMemory) = inr (λ e. absurd cc)
 is_output (Fault Output) = inl refl
 
-module _ (file : List ℕ) (old new err_old err_new : Option (List ℕ)) (is_report : List ℕ → Type 0) where
+module _ (file : List ℕ) (old new err_old err_new : Option (List ℕ)) (is_report : List ℕ → Type 0)
+    (is_outcome : Outcome → Type 0) where
   -- the report is written
-  pub reported : (status : ℕ) → Reports is_report old new → err_new ≡ err_old
-      → IsWritten (IsReported is_report status) file old new err_old err_new status
-  reported status whole silent = record {
+  pub reported : (status : ℕ)
+      → ((report : List ℕ) → is_report report
+      → is_outcome (record { file = file; report = report; line = []; status = status }))
+      → Reports is_report old new → err_new ≡ err_old → IsWritten is_outcome file old new err_old err_new status
+  reported status outcome whole silent = record {
     outcome = record { file = file; report = whole.0; line = []; status = status };
     same_file = refl;
-    is = record { whole = whole.1; silent = refl; same_status = refl };
+    is = outcome whole.0 whole.1;
     reported = whole.2;
     lines = subst (λ (o : Option (List ℕ)). Appends err_old o []) (sym silent) (nothing_written err_old);
     same_status = refl;
   }
 
   -- a reason's line is written
-  pub stopped : (named : Bool) (is_reason : Stop → Type 0) (stop : Stop) → is_reason stop
-      → LeavesReport is_report stop old new → AppendsBeginning err_old err_new (prefix named file ++ stop_text stop)
-      → IsWritten (IsStoppedAt named is_reason is_report) file old new err_old err_new (stop_status stop)
-  stopped named is_reason stop reason left line = elim (is_output stop) [
+  pub stopped : (named : Bool) (is_reason : Stop → Type 0) (stop : Stop)
+      → ((report text : List ℕ)
+      → IsStoppedAt named is_reason is_report (record {
+        file = file;
+        report = report;
+        line = text;
+        status = stop_status stop;
+      })
+      → is_outcome (record { file = file; report = report; line = text; status = stop_status stop }))
+      → is_reason stop → LeavesReport is_report stop old new
+      → AppendsBeginning err_old err_new (prefix named file ++ stop_text stop)
+      → IsWritten is_outcome file old new err_old err_new (stop_status stop)
+  stopped named is_reason stop outcome reason left line = elim (is_output stop) [
     | inl output ↦
         let begun = left.begun output in record {
           outcome = record {
@@ -55,14 +68,14 @@ module _ (file : List ℕ) (old new err_old err_new : Option (List ℕ)) (is_rep
             status = stop_status stop;
           };
           same_file = refl;
-          is = record {
+          is = outcome begun.2.front line.front (record {
             stop = stop;
             reason = reason;
             same_status = refl;
             line = (line.rest, line.parts);
             unwritten = λ other. absurd (other output);
             begun = λ _. (begun.0, begun.1, (begun.2.rest, begun.2.parts));
-          };
+          });
           reported = begun.2.appended;
           lines = line.appended;
           same_status = refl;
@@ -70,14 +83,14 @@ module _ (file : List ℕ) (old new err_old err_new : Option (List ℕ)) (is_rep
     | inr other ↦ record {
       outcome = record { file = file; report = []; line = line.front; status = stop_status stop };
       same_file = refl;
-      is = record {
+      is = outcome [] line.front (record {
         stop = stop;
         reason = reason;
         same_status = refl;
         line = (line.rest, line.parts);
         unwritten = λ _. refl;
         begun = λ output. absurd (other output);
-      };
+      });
       reported = subst (λ (o : Option (List ℕ)). Appends old o []) (sym (left.unwritten other)) (nothing_written old);
       lines = line.appended;
       same_status = refl;
@@ -127,7 +140,7 @@ none_written P old err_old = record {
   same_status = refl;
 }
 
-pub one_more : (P : Outcome → Type 0) (files : List (List ℕ)) (file : List ℕ)
+one_more : (P : Outcome → Type 0) (files : List (List ℕ)) (file : List ℕ)
     (old mid new err_old err_mid err_new : Option (List ℕ)) (before status : ℕ)
     → AreWritten P files old mid err_old err_mid before → IsWritten P file mid new err_mid err_new status
     → AreWritten P (files ++ file ∷ []) old new err_old err_new (max before status)
@@ -143,7 +156,13 @@ one_more P files file old mid new err_old err_mid err_new before status all more
       ∙ ap greatest (sym (map-append (λ (o : Outcome). o.status) all.outcomes (more.outcome ∷ [])));
 }
 
-pub files_taken : (files : List (Bor (List ℕ))) (i : ℕ) (d : Bor (List ℕ)) → i < length files
-    → map (λ (f : Bor (List ℕ)). f.now) (take (i + 1) files)
-    ≡ map (λ (f : Bor (List ℕ)). f.now) (take i files) ++ (get_or files i d).now ∷ []
-files_taken files i d inside = map_more (λ (f : Bor (List ℕ)). f.now) files i d inside
+-- a further file of a list
+pub next_file : (P : Outcome → Type 0) (files : List (Bor (List ℕ))) (i : ℕ) (d : Bor (List ℕ))
+    (old mid new err_old err_mid err_new : Option (List ℕ)) (before status : ℕ) → i < length files
+    → AreWritten P (map (λ (f : Bor (List ℕ)). f.now) (take i files)) old mid err_old err_mid before
+    → IsWritten P (get_or files i d).now mid new err_mid err_new status
+    → AreWritten P (map (λ (f : Bor (List ℕ)). f.now) (take (i + 1) files)) old new err_old err_new (max before status)
+next_file P files i d old mid new err_old err_mid err_new before status inside all more =
+    rw (map_more (λ (f : Bor (List ℕ)). f.now) files i d inside)
+    (one_more P (map (λ (f : Bor (List ℕ)). f.now) (take i files)) (get_or files i d).now old mid new err_old err_mid
+    err_new before status all more)

@@ -1,7 +1,8 @@
 -- What is found of the bytes that were read of a file is found of the file, and where a refusal is.
 use Rattle.std.proofs.Common.{◌≡◌, ℕ, ◌<◌, ◌≤◌, ◌*◌, Bool, true, false, cond, List, [], ◌∷◌, length, take, fold, Option}
 use Rattle.std.proofs.Common.{Some, None, inl, inr, refl, subst, arith}
-use Rattle.std.specs.Prelude.{nat_lt, slice_get}
+use Rattle.std.specs.Prelude.{◌+◌, nat_lt, slice_get, position}
+use Rattle.std.specs.List.{position_or_len}
 use Rattle.std.proofs.lemmas.Bool.{ltb-true}
 use Rattle.std.proofs.lemmas.List.Elements.{All-from_recursion}
 use Rattle.std.proofs.lemmas.List.Sums.{sum_by-take-le}
@@ -10,7 +11,7 @@ use Rattle.brc_lang.specs.declared.check_code.CheckCode.TheVariants.{RunsOff}
 use Rattle.brc_lang.specs.declared.module.Function.{Function}
 use Rattle.brc_lang.specs.declared.module.Instr.{Instr}
 use Rattle.brc_lang.specs.declared.module.Module.{Module}
-use Rattle.brc_lang.specs.Grammar.{IsFunction, IsModule}
+use Rattle.brc_lang.specs.Grammar.{IsFunction, IsModule, Spells}
 use Rattle.brc_lang.specs.Limits.{function_limit, instruction_limit}
 use Rattle.brc_model.specs.declared.slot.Exit.{Exit}
 use Rattle.brc_model.specs.declared.slot.State.{State}
@@ -20,13 +21,22 @@ use Rattle.brc_check.specs.declared.refused.Refused.{Refused as Refusal}
 use Rattle.brc_check.specs.Refusal.{IsReported, IsRefusedFor}
 use Rattle.brc_command.specs.declared.finding.Finding.{Finding}
 use Rattle.brc_command.specs.declared.finding.Finding.TheVariants.{Accepted, Refused as IsRefused, Stopped}
+use Rattle.brc_command.specs.declared.load.LoadError.{LoadError}
+use Rattle.brc_command.specs.declared.load.LoadError.TheVariants as loads
+use Rattle.brc_command.specs.declared.step_fault.StepFault.{StepFault}
 use Rattle.brc_command.specs.declared.step_fault.StepFault.TheVariants.{Text, Plan, Refused, NoFunction, NoMemory}
 use Rattle.brc_command.specs.declared.step_fault.StepFault.TheVariants.{Output}
+use Rattle.brc_command.specs.declared.stop.Stop.{Stop}
 use Rattle.brc_command.specs.declared.stop.Stop.TheVariants.{UnreadableFile, NoFunction as Unknown, NoThread, Fault}
 use Rattle.brc_command.specs.Accepted.{instruction_count}
-use Rattle.brc_command.specs.Findings.{HasOnlyIn, IsFoundIn, IsFinding}
+use Rattle.brc_command.specs.Calls.{is_named}
+use Rattle.brc_command.specs.Explanations.{IsUnknownIn}
+use Rattle.brc_command.specs.Findings.{HasOnlyIn, IsUnknown, IsFoundIn, IsFinding}
+use Rattle.brc_command.specs.Lines.{stop_of}
 use Rattle.brc_command.specs.Loading.{ReadsAsModule}
+use Rattle.brc_command.specs.Texts.{IsTextFault}
 use Rattle.brc_command.proofs.Accepting.{most_instructions}
+use Rattle.brc_command.proofs.Calling.{found_at}
 
 -- ---- the file
 
@@ -68,6 +78,29 @@ module _ (gives : List ℕ → List ℕ → Type 0) (lacks : List ℕ → Type 0
   found (Stopped (Fault (NoFunction name))) is = absurd is
   found (Stopped (Fault NoMemory)) is = tt
   found (Stopped (Fault Output)) is = absurd is
+
+-- ---- why nothing is known
+
+pub not_loaded : (gives : List ℕ → List ℕ → Type 0) (lacks : List ℕ → Type 0) (file : List ℕ) (only : Option (List ℕ))
+    (e : LoadError) → (e ≡ loads.Unreadable → lacks file) → IsFinding gives lacks file only (Stopped (stop_of e))
+not_loaded gives lacks file only loads.Unreadable lacking = lacking refl
+not_loaded gives lacks file only loads.NoMemory lacking = tt
+
+pub not_read : (bytes : List ℕ) (only : Option (List ℕ)) (e : StepFault) → IsTextFault bytes e
+    → IsUnknown bytes only (Fault e)
+not_read bytes only (Text e) fault = fault
+not_read bytes only (Plan e) fault = absurd fault
+not_read bytes only (Refused r) fault = absurd fault
+not_read bytes only (NoFunction name) fault = absurd fault
+not_read bytes only NoMemory fault = tt
+not_read bytes only Output fault = absurd fault
+
+pub not_there : (bytes : List ℕ) (only : Option (List ℕ)) (m : Module) (stop : Stop) → Spells bytes m
+    → IsUnknownIn m only stop → IsUnknown bytes only stop
+not_there bytes only m UnreadableFile spelled is = absurd is
+not_there bytes only m (Unknown name) spelled is = (is.0, (m, spelled, is.1))
+not_there bytes only m NoThread spelled is = absurd is
+not_there bytes only m (Fault e) spelled is = absurd is
 
 -- ---- the point at fault
 
@@ -134,3 +167,16 @@ most_above m i fits =
     let few = sum_by-take-le (λ (f : Function). length f.code) m.functions i in
     let most = most_instructions m fits in
     omega (arith, few, most)
+
+-- the sum that gives a line
+pub few_lines : (m : Module) (r : Refusal) (number : ℕ) → IsModule m → IsRefusedFor m.functions r
+    → position (is_named r.function) m.functions ≡ Some number
+    → instruction_count (take number m.functions) + 2 * number + r.at + 3 ≤ 20000
+few_lines m r number fits refused found =
+    let there = found_at (is_named r.function) m.functions number found in
+    let inside : position_or_len (is_named r.function) m.functions < length m.functions = there.0 in
+    let same : position_or_len (is_named r.function) m.functions ≡ number = there.1 in
+    let few : length m.functions ≤ function_limit = fits.most in
+    let above = most_above m number fits in
+    let at = most_points m r fits refused in
+    omega (arith, inside, same, few, above, at)

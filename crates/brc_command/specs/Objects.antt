@@ -1,12 +1,12 @@
 -- The JSON object of what is found of a file. Its members stand in the order of their names.
 use Rattle.std.specs.Prelude.{◌≡◌, ℕ, List, ◌∷◌, map, Option, None, Some, codes}
-use Rattle.core.specs.Str.Lossy.{utf8_lossy}
+use Rattle.std.specs.Str.Lossy.{utf8_lossy}
 use Rattle.brc_lang.specs.Grammar.{line}
 use Rattle.brc_explain.specs.declared.rows.StepRow.{StepRow}
 use Rattle.brc_explain.specs.declared.rows.StepRows.{StepRows}
 use Rattle.brc_explain.specs.declared.rows.StepRows.TheVariants.{One, Two}
 use Rattle.brc_explain.specs.Rows.{way_word}
-use Rattle.serde_json.specs.Data.{Data, null, number, unsigned, string, array, object, member, no_members}
+use Rattle.serde_json.specs.Data.{Data, null, number, unsigned, string, array, object, Members, member, no_members}
 use Rattle.serde_json.specs.View.{items_of}
 use Rattle.serde_json.specs.Written.{compact_text}
 use Rattle.brc_command.specs.declared.finding.Finding.{Finding}
@@ -87,13 +87,21 @@ other_path_of finding = null
 
 -- ---- the object
 
+-- the members that say where, before the rest
+abbrev pub first_members : List ℕ → Finding → Members → Members
+first_members file finding rest = member (codes "at") (at_of finding) (member (codes "code") (code_of finding)
+    (member (codes "file") (string file) (member (codes "function") (function_of finding)
+    (member (codes "line") (line_in finding) rest))))
+
+-- the other members
+abbrev pub last_members : List ℕ → Finding → Members
+last_members message finding = member (codes "message") (string message)
+    (member (codes "other_path") (other_path_of finding) (member (codes "path") (path_of finding)
+    (member (codes "verdict") (string (verdict_of finding)) no_members)))
+
 -- the words of the message are left open
 abbrev pub finding_object : List ℕ → List ℕ → Finding → Data
-finding_object file message finding = object (member (codes "at") (at_of finding) (member (codes "code") (code_of finding)
-    (member (codes "file") (string file) (member (codes "function") (function_of finding)
-    (member (codes "line") (line_in finding) (member (codes "message") (string message)
-    (member (codes "other_path") (other_path_of finding) (member (codes "path") (path_of finding)
-    (member (codes "verdict") (string (verdict_of finding)) no_members)))))))))
+finding_object file message finding = object (first_members file finding (last_members message finding))
 
 -- the text is the line with the object of what is found of the file
 abbrev pub IsObjectLine : List ℕ → Finding → List ℕ → Type 0

@@ -1,13 +1,14 @@
 //! The check of several files, one after another. What is wrong with one of them keeps no other from being checked.
 
-ghost use Rattle.std.specs.Prelude.{◌≡◌, ◌≤◌, ℕ, List, ◌++◌, map, option_map, IfOk, IfErr, OnOk, OnErr};
+ghost use Rattle.std.specs.Prelude.{◌≡◌, ◌≤◌, ℕ, max, List, ◌++◌, map, option_map, IfOk, IfErr, OnOk, OnErr};
 ghost use Rattle.std.specs.Io.KnownBytes.{Appends};
 ghost use Rattle.brc_lang.specs.Written.{AppendsBeginning};
+ghost use Rattle.brc_command.specs.declared.files.Format.TheVariants.{Text as InLines, Json};
 ghost use Rattle.brc_command.specs.declared.finding.Finding.{Finding};
 ghost use Rattle.brc_command.specs.Accepted.{accepted_text};
 ghost use Rattle.brc_command.specs.Commands.{IsModuleReason, Reports, LeavesReport};
-ghost use Rattle.brc_command.specs.Files.{AreWritten, IsWritten, IsOutcome, IsNamedLine, IsObject, IsSomeObject, IsWriteReason};
-ghost use Rattle.brc_command.specs.Files.{prefix, are_several};
+ghost use Rattle.brc_command.specs.Files.{AreWritten, IsWritten, IsOutcome, IsNamedLine, IsObject};
+ghost use Rattle.brc_command.specs.Files.{IsSomeObject, IsWriteReason, prefix, are_several};
 ghost use Rattle.brc_command.specs.Findings.{finding_status};
 ghost use Rattle.brc_command.specs.Lines.{stop_text};
 
@@ -48,7 +49,7 @@ pub fn check_files<'a, L: Load, W: Write, E: Write>(
     err: &mut E,
 ) -> u8
     ensures known { result ≤ 3 }
-    ensures written { AreWritten (IsOutcome (L.may_give load.old) (L.may_lack load.old) (are_several files.now) format)
+    ensures written { AreWritten (IsOutcome (L.may_give load.old) (L.may_lack load.old) (are_several files.now) format.entry)
         (map (λ file. file.now) files.now) (W.contents out.old) (W.contents out.new) (E.contents err.old)
         (E.contents err.new) result }
 {
@@ -56,11 +57,18 @@ pub fn check_files<'a, L: Load, W: Write, E: Write>(
     let mut greatest = 0;
     for file in files {
         let status = check_one(alloc, file, named, format, load, out, err);
-        greatest = greatest.max(status);
+        greatest = greater(greatest, status);
     }
     greatest
 }
 
+fn greater(status: u8, other: u8) -> u8
+    ensures { result ≡ max status other }
+{
+    if status < other { other } else { status }
+}
+
+/// Checks the module of one file, and returns its status.
 fn check_one<'a, L: Load, W: Write, E: Write>(
     alloc: Global,
     file: &'a str,
@@ -71,16 +79,56 @@ fn check_one<'a, L: Load, W: Write, E: Write>(
     err: &mut E,
 ) -> u8
     ensures known { result ≤ 3 }
-    ensures written { IsWritten (IsOutcome (L.may_give load.old) (L.may_lack load.old) named format) file.now
+    ensures written { IsWritten (IsOutcome (L.may_give load.old) (L.may_lack load.old) named format.entry) file.now
         (W.contents out.old) (W.contents out.new) (E.contents err.old) (E.contents err.new) result }
     ensures gives_no_more { (p bytes : List ℕ) → L.may_give load.new p bytes → L.may_give load.old p bytes }
     ensures lacks_no_more { (p : List ℕ) → L.may_lack load.new p → L.may_lack load.old p }
 {
-    let done = match format {
-        Format::Text => check_in_lines(alloc, file, named, load, out),
-        Format::Json { function } => report_object(alloc, file, function, load, out),
-    };
-    match done {
+    match format {
+        Format::Text => check_in_lines(alloc, file, named, load, out, err),
+        Format::Json { function } => report_object(alloc, file, named, function, load, out, err),
+    }
+}
+
+fn check_in_lines<'a, L: Load, W: Write, E: Write>(
+    alloc: Global,
+    file: &'a str,
+    named: bool,
+    load: &mut L,
+    out: &mut W,
+    err: &mut E,
+) -> u8
+    ensures known { result ≤ 3 }
+    ensures written { IsWritten (IsOutcome (L.may_give load.old) (L.may_lack load.old) named InLines) file.now
+        (W.contents out.old) (W.contents out.new) (E.contents err.old) (E.contents err.new) result }
+    ensures gives_no_more { (p bytes : List ℕ) → L.may_give load.new p bytes → L.may_give load.old p bytes }
+    ensures lacks_no_more { (p : List ℕ) → L.may_lack load.new p → L.may_lack load.old p }
+{
+    match write_checked(alloc, file, named, load, out) {
+        Ok(()) => 0,
+        Err(stop) => {
+            let _ = write_named_stop(file, named, &stop, err);
+            stop.status()
+        }
+    }
+}
+
+fn report_object<'a, L: Load, W: Write, E: Write>(
+    alloc: Global,
+    file: &'a str,
+    named: bool,
+    function: Option<&'a str>,
+    load: &mut L,
+    out: &mut W,
+    err: &mut E,
+) -> u8
+    ensures known { result ≤ 3 }
+    ensures written { IsWritten (IsOutcome (L.may_give load.old) (L.may_lack load.old) named (Json function.entry))
+        file.now (W.contents out.old) (W.contents out.new) (E.contents err.old) (E.contents err.new) result }
+    ensures gives_no_more { (p bytes : List ℕ) → L.may_give load.new p bytes → L.may_give load.old p bytes }
+    ensures lacks_no_more { (p : List ℕ) → L.may_lack load.new p → L.may_lack load.old p }
+{
+    match write_object(alloc, file, function, load, out) {
         Ok(status) => status,
         Err(stop) => {
             let _ = write_named_stop(file, named, &stop, err);
@@ -90,16 +138,15 @@ fn check_one<'a, L: Load, W: Write, E: Write>(
 }
 
 /// Checks the module of the file and writes the line about an accepted one.
-fn check_in_lines<'a, L: Load, W: Write>(
+fn write_checked<'a, L: Load, W: Write>(
     alloc: Global,
     file: &'a str,
     named: bool,
     load: &mut L,
     out: &mut W,
-) -> Result<u8, Stop<'a>>
+) -> Result<(), Stop<'a>>
     ensures whole { OnOk result (Reports (IsNamedLine (L.may_give load.old) named file.now) (W.contents out.old)
         (W.contents out.new)) }
-    ensures accepted { IfOk result (λ status. status ≡ 0) }
     ensures stopped { IfErr result (IsModuleReason (L.may_give load.old) (L.may_lack load.old) file.now) }
     ensures left { IfErr result (λ e. LeavesReport (IsNamedLine (L.may_give load.old) named file.now) e
         (W.contents out.old) (W.contents out.new)) }
@@ -111,15 +158,15 @@ fn check_in_lines<'a, L: Load, W: Write>(
         Err(stop) => return Err(stop),
     };
     match write_named_accepted(file, named, &checked, out) {
-        Ok(()) => Ok(0),
+        Ok(()) => Ok(()),
         Err(_) => Err(Stop::Fault(StepFault::Output)),
     }
 }
 
 /// Writes the object of what is found of the file, and returns its status.
-fn report_object<'a, L: Load, W: Write>(
+fn write_object<'a, L: Load, W: Write>(
     alloc: Global,
-    file: &'a str,
+    file: &str,
     function: Option<&'a str>,
     load: &mut L,
     out: &mut W,

@@ -90,12 +90,11 @@ fn found_in<'a>(
         (λ stop. IsFoundIn bytes.now (option_map (λ name. name.now) function.entry) (Stopped stop)) }
 {
     let module = module_of(alloc, bytes)?;
-    match number_asked(&module, function) {
-        Ok(_) => {}
-        Err(stop) => return Err(stop),
+    if let Err(stop) = number_asked(&module, function) {
+        return Err(stop);
     }
     match accepted(alloc, module) {
-        Ok(_) => Ok(Finding::Accepted),
+        Ok(_checked) => Ok(Finding::Accepted),
         Err(StepFault::Refused(refused)) => Ok(Finding::Refused(locate(alloc, bytes, refused)?)),
         Err(_) => Err(Stop::Fault(StepFault::NoMemory)),
     }

@@ -1,9 +1,12 @@
 //! What is found of a file as a JSON object, for programs.
 
 ghost use Rattle.std.specs.Prelude.{◌≡◌, ℕ, List, IfOk, string_bytes};
-ghost use Rattle.core.specs.Str.Lossy.{utf8_lossy};
-ghost use Rattle.serde_json.specs.View.{view};
-ghost use Rattle.brc_command.specs.Objects.{fault_verdict, verdict_of, function_of, at_of, code_of, number_or_null, line_in, step_object, path_array, path_of, other_path_of, finding_object, IsObjectLine};
+ghost use Rattle.std.specs.Str.Lossy.{utf8_lossy};
+ghost use Rattle.serde_json.specs.Data.{no_members};
+ghost use Rattle.serde_json.specs.View.{view, members_view};
+ghost use Rattle.brc_command.specs.Objects.{fault_verdict, verdict_of, function_of, at_of, code_of, number_or_null};
+ghost use Rattle.brc_command.specs.Objects.{line_in, step_object, path_array, path_of, other_path_of, finding_object};
+ghost use Rattle.brc_command.specs.Objects.{first_members, IsObjectLine};
 
 use crate::finding::{Finding, Located};
 use crate::lines::{check_code, fault_code};
@@ -11,7 +14,7 @@ use crate::step_fault::StepFault;
 use crate::stop::Stop;
 use brc_explain::{StepRow, StepRows};
 use brc_pages::{Topic, page_of};
-use serde_json::{Value, json};
+use serde_json::{Map, Value, json, put};
 use std::alloc::{AllocError, Global};
 
 /// Returns the line with the object of what is found of the file.
@@ -28,20 +31,45 @@ fn object_of(alloc: Global, file: &str, finding: &Finding<'_>) -> Result<Value, 
     ensures { IfOk result (λ v. (message : List ℕ) × (view v ≡ finding_object file.now message finding.now)) }
 {
     let (path, other_path) = paths_of(alloc, finding)?;
-    let code = code_of(alloc, finding)?;
-    let function = function_of(alloc, finding)?;
     let message = message_of(alloc, finding)?;
-    json!(in alloc; {
-        "at": at_of(finding),
-        "code": code,
-        "file": file,
-        "function": function,
-        "line": line_in(finding),
-        "message": message,
-        "other_path": other_path,
-        "path": path,
-        "verdict": verdict_of(finding),
-    })
+    let mut members = first_members(alloc, file, finding)?;
+    put(&mut members, alloc, "message", Value::String(message))?;
+    put(&mut members, alloc, "other_path", other_path)?;
+    put(&mut members, alloc, "path", path)?;
+    put(
+        &mut members,
+        alloc,
+        "verdict",
+        Value::try_from_str(alloc, verdict_of(finding))?,
+    )?;
+    Ok(Value::Object(members))
+}
+
+/// Returns the members that say where.
+fn first_members(
+    alloc: Global,
+    file: &str,
+    finding: &Finding<'_>,
+) -> Result<Map<String, Value>, AllocError>
+    ensures { IfOk result (λ m. members_view m.entries ≡ first_members file.now finding.now no_members) }
+{
+    let mut members = Map::new(alloc);
+    put(&mut members, alloc, "at", at_of(finding))?;
+    put(&mut members, alloc, "code", code_of(alloc, finding)?)?;
+    put(
+        &mut members,
+        alloc,
+        "file",
+        Value::try_from_str(alloc, file)?,
+    )?;
+    put(
+        &mut members,
+        alloc,
+        "function",
+        function_of(alloc, finding)?,
+    )?;
+    put(&mut members, alloc, "line", line_in(finding))?;
+    Ok(members)
 }
 
 /// Returns what is found in one or two words.
@@ -102,23 +130,32 @@ fn name_of(alloc: Global, located: &Located) -> Result<String, AllocError>
 }
 
 /// Returns the number of the instruction at fault.
-fn at_of(finding: &Finding<'_>) -> Option<u64>
-    ensures { number_or_null result ≡ at_of finding.now }
+fn at_of(finding: &Finding<'_>) -> Value
+    ensures { view result ≡ at_of finding.now }
 {
     match finding {
-        Finding::Refused(located) => Some(located.refused.at as u64),
-        _ => None,
+        Finding::Refused(located) => Value::from(located.refused.at),
+        _ => Value::Null,
     }
 }
 
 /// Returns the line at fault.
-fn line_in(finding: &Finding<'_>) -> Option<u64>
-    ensures { number_or_null result ≡ line_in finding.now }
+fn line_in(finding: &Finding<'_>) -> Value
+    ensures { view result ≡ line_in finding.now }
 {
     match finding {
-        Finding::Refused(located) => located.line,
-        Finding::Stopped(Stop::Fault(StepFault::Text(fault))) => Some(fault.line),
-        _ => None,
+        Finding::Refused(located) => number_or_null(located.line),
+        Finding::Stopped(Stop::Fault(StepFault::Text(fault))) => Value::from(fault.line),
+        _ => Value::Null,
+    }
+}
+
+fn number_or_null(number: Option<u64>) -> Value
+    ensures { view result ≡ number_or_null number }
+{
+    match number {
+        Some(number) => Value::from(number),
+        None => Value::Null,
     }
 }
 
