@@ -146,7 +146,9 @@ def run_try(found):
             sys.exit(done)
         for number, printed, status in answers:
             example = cases[int(number)]
-            yield example, printed.replace(f"case{number}", example.words[1]), int(status)
+            # `rt try` names the file of each case so.
+            named = re.sub(r'^case(?=: )|(?<="file":")case(?=")', example.words[1], printed, flags=re.M)
+            yield example, named, int(status)
     for example in alone:
         done = output_of(["rt", "try", "--", *example.words])
         printed, status = re.search(r"(.*?)^checked: ended status=(\d+)", done, re.M | re.S).groups()

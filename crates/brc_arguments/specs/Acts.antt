@@ -36,9 +36,9 @@ IsRefused err_old err_new status = (status ≡ 2) ⊎ ((status ≡ 3)
     × AppendsBeginning err_old err_new (fault_text NoMemory))
 
 abbrev pub Ends : (List ℕ → List ℕ → Type 0) → (List ℕ → Type 0) → Paint → Option (List ℕ) → Option (List ℕ)
-    → Option (List ℕ) → Option (List ℕ) → Type 0
-Ends gives lacks paint old new err_old err_new =
-    IsDoneAsking gives paint old new err_old err_new ⊎ ChecksFiles gives lacks old new err_old err_new 0
+    → Option (List ℕ) → Option (List ℕ) → ℕ → Type 0
+Ends gives lacks paint old new err_old err_new status =
+    IsDoneAsking gives paint old new err_old err_new ⊎ ChecksFiles gives lacks old new err_old err_new status
 
 abbrev pub Stops : (List ℕ → List ℕ → Type 0) → (List ℕ → Type 0) → Paint → Option (List ℕ) → Option (List ℕ)
     → Option (List ℕ) → Option (List ℕ) → ℕ → Type 0

@@ -24,8 +24,8 @@ const USAGE: u8 = 2;
 /// Carries out a command line, whose first word is the program's own name, and returns the exit status.
 ///
 /// The status is 2 for a wrong command line or a call for help, 3 if memory is refused, and otherwise that of
-/// `execute`. If it isn't 0, standard error has the reason. An error of standard error is ignored. Nobody watches: no
-/// text is coloured, and no progress is shown.
+/// `execute` or `check_files`. If it isn't 0, standard error has the reason, unless the object of a file gives it. An
+/// error of standard error is ignored. Nobody watches: no text is coloured, and no progress is shown.
 pub fn act<R: System, S: AsStr, L: Load, W: Write, E: Write>(
     rt: &R,
     alloc: Global,
@@ -36,7 +36,7 @@ pub fn act<R: System, S: AsStr, L: Load, W: Write, E: Write>(
 ) -> u8
     ensures known { result ≤ 3 }
     ensures done { result ≡ 0 → Ends (L.may_give load.old) (L.may_lack load.old) Plain (W.contents out.old)
-        (W.contents out.new) (E.contents err.old) (E.contents err.new) }
+        (W.contents out.new) (E.contents err.old) (E.contents err.new) result }
     ensures stopped { result ≢ 0 → Stops (L.may_give load.old) (L.may_lack load.old) Plain (W.contents out.old)
         (W.contents out.new) (E.contents err.old) (E.contents err.new) result }
 {
@@ -55,7 +55,7 @@ pub fn act_on<R: System, S: AsStr, L: Load, T: Terminal, W: Write, E: Write>(
 ) -> u8
     ensures known { result ≤ 3 }
     ensures done { result ≡ 0 → Ends (L.may_give load.old) (L.may_lack load.old) (T.paint_of terminal.old)
-        (W.contents out.old) (W.contents out.new) (E.contents err.old) (E.contents err.new) }
+        (W.contents out.old) (W.contents out.new) (E.contents err.old) (E.contents err.new) result }
     ensures stopped { result ≢ 0 → Stops (L.may_give load.old) (L.may_lack load.old) (T.paint_of terminal.old)
         (W.contents out.old) (W.contents out.new) (E.contents err.old) (E.contents err.new) result }
 {
