@@ -95,8 +95,8 @@ greatest (status ∷ more) = max status (greatest more)
 
 -- Each file has its outcome. What is written is what is written of them, in their order, and the status is the greatest
 -- of theirs.
-pub record AreWritten (is_outcome : Outcome → Type 0) (files : List (List ℕ)) (old new err_old err_new : Option (List ℕ))
-    (status : ℕ) : Type 0 where
+pub record AreWritten (is_outcome : Outcome → Type 0) (files : List (List ℕ))
+    (old new err_old err_new : Option (List ℕ)) (status : ℕ) : Type 0 where
   pub outcomes : List Outcome
   pub one_each : map (λ o. o.file) outcomes ≡ files
   pub each : AllByRecursion is_outcome outcomes

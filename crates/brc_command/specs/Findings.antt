@@ -18,8 +18,8 @@ use Rattle.brc_command.specs.Calls.{is_named}
 use Rattle.brc_command.specs.Explanations.{IsAccepted, HasOnly, LacksNamed}
 use Rattle.brc_command.specs.Lines.{stop_status}
 
--- The line of the text with an instruction of the function of a number, counted from 1. Above it are the first line, the
--- functions before, each with a heading and an end, and the function's own heading and earlier instructions.
+-- The line of the text with an instruction of the function of a number, counted from 1. Above it are the first line,
+-- the functions before, each with a heading and an end, and the function's own heading and earlier instructions.
 abbrev pub line_at : List Function → ℕ → ℕ → ℕ
 line_at functions number at = instruction_count (take number functions) + 2 * number + at + 3
 
@@ -52,8 +52,8 @@ IsFoundIn text only Accepted = ((m : Module) × IsAccepted text m) × HasOnlyIn 
 IsFoundIn text only (Refused found) = IsLocated text found × HasOnlyIn text only
 IsFoundIn text only (Stopped stop) = IsUnknown text only stop
 
--- This is found of a file. `gives path bytes`: the loader may give these bytes for the path; `lacks path`: it may answer
--- that the path can't be read.
+-- This is found of a file. `gives path bytes`: the loader may give these bytes for the path; `lacks path`: it may
+-- answer that the path can't be read.
 abbrev pub IsFinding : (List ℕ → List ℕ → Type 0) → (List ℕ → Type 0) → List ℕ → Option (List ℕ) → Finding → Type 0
 IsFinding gives lacks file only (Stopped UnreadableFile) = lacks file
 IsFinding gives lacks file only (Stopped (Fault NoMemory)) = Unit {0}

@@ -49,7 +49,8 @@ pub fn check_files<'a, L: Load, W: Write, E: Write>(
     err: &mut E,
 ) -> u8
     ensures known { result ≤ 3 }
-    ensures written { AreWritten (IsOutcome (L.may_give load.old) (L.may_lack load.old) (are_several files.now) format.entry)
+    ensures written { AreWritten
+        (IsOutcome (L.may_give load.old) (L.may_lack load.old) (are_several files.now) format.entry)
         (map (λ file. file.now) files.now) (W.contents out.old) (W.contents out.new) (E.contents err.old)
         (E.contents err.new) result }
 {

@@ -10,5 +10,5 @@ returns-in_err-write_name-clause-begun g c =
 
 pub returns-clause-begun : goal.returns-clause-begun
 returns-clause-begun g c =
-    second_stopped c.write_accepted.result _ _ _ (prefix c.args.named c.args.file.now) (accepted_text c.args.checked.now.module)
-    c.in_ok-write_name.ensures.whole c.write_accepted.ensures.begun
+    second_stopped c.write_accepted.result _ _ _ (prefix c.args.named c.args.file.now)
+    (accepted_text c.args.checked.now.module) c.in_ok-write_name.ensures.whole c.write_accepted.ensures.begun
