@@ -9,11 +9,13 @@ A block marked `module` or `schedule` is the file f.brc or f.schedule of the blo
 on with a name, it is the file of this name, and has to be the same as the one in examples/from_c. A console block is
 one command, on a line that begins with `$`, and what it prints: standard output, then standard error. A block marked
 `part` has some lines of that, one after another. The exit status has to be the one that LANGUAGE.md's table gives to
-such a line; an explanation has the line at its end.
+such a line; an explanation has the line at its end. Of several lines, each with its file's name or an object, it is the
+greatest.
 
 A row of a table in examples/README.md names a module and what `brc check` prints of it. Each module has a row, and each
 file of examples/from_c a block in FROM_C.md.
 """
+import json
 import re
 import shlex
 import subprocess
@@ -38,10 +40,20 @@ class Example:
 
     def is_met(self, printed, status):
         """Whether this is printed, or printed among other lines, and the status is that of its last line."""
-        last = printed.splitlines()[-1:] if self.words[0] == "explain" else [printed]
-        means = next((s for start, s in STATUSES.items() for line in last if line.startswith(start)), 0)
+        lines = printed.splitlines()
+        if self.words[0] == "explain":
+            lines = lines[-1:]
+        means = max(map(status_of, lines), default=0) if self.words[0] in ("check", "explain") else status_of(printed)
         same = f"\n{self.wanted}" in f"\n{printed}" if self.is_part else self.wanted == printed
         return same and status == means
+
+
+def status_of(line):
+    """The status that a line on standard error means, or an object's verdict."""
+    if line.startswith("{"):
+        line = json.loads(line)["verdict"]
+    line = re.sub(r"^\S+: ", "", line)
+    return next((status for start, status in STATUSES.items() if line.startswith(start)), 0)
 
 
 def page_examples(page):
@@ -133,7 +145,10 @@ def run_try(found):
         if len(answers) != len(cases):
             sys.exit(done)
         for number, printed, status in answers:
-            yield cases[int(number)], printed, int(status)
+            example = cases[int(number)]
+            # `rt try` names the file of each case so.
+            named = re.sub(r'^case(?=: )|(?<="file":")case(?=")', example.words[1], printed, flags=re.M)
+            yield example, named, int(status)
     for example in alone:
         done = output_of(["rt", "try", "--", *example.words])
         printed, status = re.search(r"(.*?)^checked: ended status=(\d+)", done, re.M | re.S).groups()

@@ -1,12 +1,15 @@
 -- Each word that clap found is in the field of the request that is named as its option.
-use Rattle.std.specs.Prelude.{◌≡◌, ℕ, List, [], Option, None, Some, map, option_map, codes}
+use Rattle.std.specs.Prelude.{◌≡◌, ℕ, List, [], length, Option, None, Some, map, option_map, codes}
 use Rattle.std.specs.Str.Parse.{digits_value, without_leading_plus}
 use Rattle.clap.specs.declared.parser.matches.ArgMatches.{ArgMatches}
 use Rattle.clap.specs.Words.{found_of, first_value, matched_of, one_text, raw_values}
 use Rattle.brc_command.specs.declared.asked.Asked.{Asked}
-use Rattle.brc_command.specs.declared.asked.Asked.TheVariants.{Run as ToRun, Step as ToStep}
+use Rattle.brc_command.specs.declared.asked.Asked.TheVariants.{Run as ToRun, Check as ToCheck, Step as ToStep}
 use Rattle.brc_command.specs.declared.asked.Run.{Run}
 use Rattle.brc_command.specs.declared.asked.TheConstants.{NO_BOUND}
+use Rattle.brc_command.specs.declared.files.Format.TheVariants.{Text, Json}
+use Rattle.brc_arguments.specs.declared.request.Request.{Request}
+use Rattle.brc_arguments.specs.declared.request.Request.TheVariants.{One, Files}
 
 abbrev pub word_of : ArgMatches → List ℕ → Option (List ℕ)
 word_of m name = first_value (found_of m) name
@@ -46,3 +49,14 @@ abbrev pub AsksToStep : ArgMatches → Asked → Type 0
 AsksToStep m (ToStep file schedule trace) =
     (word_of m (codes "FILE") ≡ Some file.now) × (word_of m (codes "SCHEDULE") ≡ Some schedule.now)
 AsksToStep m _ = ⊥
+
+abbrev pub AsksForJson : ArgMatches → Type 0
+AsksForJson m = word_of m (codes "format") ≡ Some (codes "json")
+
+-- the files of the command line are checked, and a file alone is checked as ever, unless its object is asked for
+abbrev pub AsksToCheck : ArgMatches → Request → Type 0
+AsksToCheck m (One (ToCheck file)) = (word_of m (codes "FILE") ≡ Some file.now)
+    × (length (words_of m (codes "FILE")) ≡ 1) × (AsksForJson m → ⊥)
+AsksToCheck m (Files files Text) = (map (λ f. f.now) files.now ≡ words_of m (codes "FILE")) × (AsksForJson m → ⊥)
+AsksToCheck m (Files files (Json None)) = (map (λ f. f.now) files.now ≡ words_of m (codes "FILE")) × AsksForJson m
+AsksToCheck m _ = ⊥

@@ -6,7 +6,10 @@ ghost use Rattle.clap.specs.declared.error.kind.ErrorKind.TheVariants.{OutOfMemo
 
 use crate::command::parse;
 use crate::not_asked::NotAsked;
-use brc_command::{Load, NoTerminal, StepFault, Stop, Terminal, execute_on, write_stop};
+use crate::request::Request;
+use brc_command::{
+    Load, NoTerminal, StepFault, Stop, Terminal, check_files, execute_on, write_stop,
+};
 use brc_lang::write_bytes;
 use brc_run::System;
 use clap::Error;
@@ -21,8 +24,8 @@ const USAGE: u8 = 2;
 /// Carries out a command line, whose first word is the program's own name, and returns the exit status.
 ///
 /// The status is 2 for a wrong command line or a call for help, 3 if memory is refused, and otherwise that of
-/// `execute`. If it isn't 0, standard error has the reason. An error of standard error is ignored. Nobody watches: no
-/// text is coloured, and no progress is shown.
+/// `execute` or `check_files`. If it isn't 0, standard error has the reason, unless the object of a file gives it. An
+/// error of standard error is ignored. Nobody watches: no text is coloured, and no progress is shown.
 pub fn act<R: System, S: AsStr, L: Load, W: Write, E: Write>(
     rt: &R,
     alloc: Global,
@@ -32,8 +35,8 @@ pub fn act<R: System, S: AsStr, L: Load, W: Write, E: Write>(
     err: &mut E,
 ) -> u8
     ensures known { result ≤ 3 }
-    ensures done { result ≡ 0 → Ends (L.may_give load.old) Plain (W.contents out.old) (W.contents out.new)
-        (E.contents err.old) (E.contents err.new) }
+    ensures done { result ≡ 0 → Ends (L.may_give load.old) (L.may_lack load.old) Plain (W.contents out.old)
+        (W.contents out.new) (E.contents err.old) (E.contents err.new) result }
     ensures stopped { result ≢ 0 → Stops (L.may_give load.old) (L.may_lack load.old) Plain (W.contents out.old)
         (W.contents out.new) (E.contents err.old) (E.contents err.new) result }
 {
@@ -51,14 +54,17 @@ pub fn act_on<R: System, S: AsStr, L: Load, T: Terminal, W: Write, E: Write>(
     err: &mut E,
 ) -> u8
     ensures known { result ≤ 3 }
-    ensures done { result ≡ 0 → Ends (L.may_give load.old) (T.paint_of terminal.old) (W.contents out.old)
-        (W.contents out.new) (E.contents err.old) (E.contents err.new) }
+    ensures done { result ≡ 0 → Ends (L.may_give load.old) (L.may_lack load.old) (T.paint_of terminal.old)
+        (W.contents out.old) (W.contents out.new) (E.contents err.old) (E.contents err.new) result }
     ensures stopped { result ≢ 0 → Stops (L.may_give load.old) (L.may_lack load.old) (T.paint_of terminal.old)
         (W.contents out.old) (W.contents out.new) (E.contents err.old) (E.contents err.new) result }
 {
     match parse(alloc, words) {
         Ok(line) => match line.asked() {
-            Some(asked) => execute_on(rt, alloc, &asked, load, terminal, out, err),
+            Some(Request::One(asked)) => execute_on(rt, alloc, &asked, load, terminal, out, err),
+            Some(Request::Files(files, format)) => check_files(
+                alloc, files, format, load, out, err,
+            ),
             None => {
                 let _ = write_bytes(b"error: a command is required\n", err);
                 USAGE

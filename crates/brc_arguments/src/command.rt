@@ -1,9 +1,11 @@
-ghost use Rattle.std.specs.Prelude.{◌≡◌, IfSome, map};
-ghost use Rattle.brc_arguments.specs.Options.{AsksToRun, AsksToStep, words_of};
+ghost use Rattle.std.specs.Prelude.{◌≡◌, ◌↔◌, IfSome, IsTrue, map};
+ghost use Rattle.brc_arguments.specs.Options.{AsksForJson, AsksToCheck, AsksToRun, AsksToStep, words_of};
 
 use crate::not_asked::NotAsked;
+use crate::request::Request;
 use brc_command::{
-    Asked, MOST_NAMES, MOST_ROWS, MOST_STEPS, MOST_THREADS, MOST_TIMES, NO_BOUND, Run, VERSION,
+    Asked, Format, MOST_NAMES, MOST_ROWS, MOST_STEPS, MOST_THREADS, MOST_TIMES, NO_BOUND, Run,
+    VERSION,
 };
 use brc_lang::number;
 use brc_pages::topic_named;
@@ -16,6 +18,11 @@ const UNKNOWN_CODE: &str = "no such code: C1 to C12 and L1 to L8 can be explaine
 
 const SIGNED: &str = "invalid value for a number: a sign or a leading zero";
 
+/// The formats of a check.
+const FORMATS: &[&str] = &["text", JSON];
+
+const JSON: &str = "json";
+
 /// A command line that was read.
 #[derive(Drop)]
 pub enum Line<'a> {
@@ -27,9 +34,9 @@ pub enum Line<'a> {
 
 impl<'a> Line<'a> {
     /// Returns the request, or `None` if there is none: `parse` returns no such line.
-    pub fn asked(&self) -> Option<Asked<'_>> {
+    pub fn asked(&self) -> Option<Request<'_>> {
         match self {
-            Line::Version => Some(Asked::Version),
+            Line::Version => Some(Request::One(Asked::Version)),
             Line::Command(matches) => asked_in(matches),
         }
     }
@@ -74,9 +81,15 @@ fn program<'a>(alloc: Global) -> Result<Command<'a>, AllocError> {
 
 fn check_command<'a>(alloc: Global) -> Result<Command<'a>, AllocError> {
     Command::new(alloc, "check")
-        .about("Checks a module and counts what it has")
-        .after_help("Example: brc check module.brc")
-        .arg(file_argument(alloc))
+        .about("Checks modules and counts what each has")
+        .after_help("Example: brc check module.brc\n         brc check --format json a.brc b.brc")
+        .arg(
+            Arg::new(alloc, "FILE")
+                .required(true)
+                .num_args(1..)
+                .help("The modules' files; - is standard input"),
+        )?
+        .arg(format_argument(alloc))
 }
 
 fn run_command<'a>(alloc: Global) -> Result<Command<'a>, AllocError> {
@@ -177,8 +190,19 @@ fn explain_command<'a>(alloc: Global) -> Result<Command<'a>, AllocError> {
                 .value_name("CODE")
                 .conflicts_with("FILE")?
                 .conflicts_with("function")?
+                .conflicts_with("format")?
                 .help("A code to explain: C1 to C12, or L1 to L8"),
-        )
+        )?
+        .arg(format_argument(alloc))
+}
+
+fn format_argument<'a>(alloc: Global) -> Arg<'a> {
+    Arg::new(alloc, "format")
+        .long("format")
+        .value_name("FORMAT")
+        .value_parser(FORMATS)
+        .default_value("text")
+        .help("What is written: text for people, or a JSON object for each file")
 }
 
 fn file_argument<'a>(alloc: Global) -> Arg<'a> {
@@ -187,18 +211,38 @@ fn file_argument<'a>(alloc: Global) -> Arg<'a> {
         .help("The module's file, or - for standard input")
 }
 
-fn asked_in<'m>(matches: &'m ArgMatches<'_>) -> Option<Asked<'m>> {
+fn asked_in<'m>(matches: &'m ArgMatches<'_>) -> Option<Request<'m>> {
     if let Some(check) = matches.subcommand_matches("check") {
-        let file = check.get_str("FILE")?;
-        return Some(Asked::Check { file });
-    }
-    if let Some(step) = matches.subcommand_matches("step") {
-        return step_of(step);
+        return check_of(check);
     }
     if let Some(explain) = matches.subcommand_matches("explain") {
         return explanation_in(explain);
     }
-    run_of(matches.subcommand_matches("run")?)
+    let asked = match matches.subcommand_matches("step") {
+        Some(step) => step_of(step)?,
+        None => run_of(matches.subcommand_matches("run")?)?,
+    };
+    Some(Request::One(asked))
+}
+
+fn check_of<'m>(check: &'m ArgMatches<'_>) -> Option<Request<'m>>
+    ensures { IfSome result (λ request. AsksToCheck check.now request) }
+{
+    let files = names_in(check, "FILE");
+    if is_json(check) {
+        return Some(Request::Files(files, Format::Json { function: None }));
+    }
+    if files.len() == 1 {
+        let file = check.get_str("FILE")?;
+        return Some(Request::One(Asked::Check { file }));
+    }
+    Some(Request::Files(files, Format::Text))
+}
+
+fn is_json(matches: &ArgMatches) -> bool
+    ensures { IsTrue result ↔ AsksForJson matches.now }
+{
+    matches.get_str("format") == Some(JSON)
 }
 
 fn step_of<'m>(step: &'m ArgMatches<'_>) -> Option<Asked<'m>>
@@ -214,14 +258,18 @@ fn step_of<'m>(step: &'m ArgMatches<'_>) -> Option<Asked<'m>>
     })
 }
 
-fn explanation_in<'m>(explain: &'m ArgMatches<'_>) -> Option<Asked<'m>> {
+fn explanation_in<'m>(explain: &'m ArgMatches<'_>) -> Option<Request<'m>> {
     if let Some(code) = explain.get_str("code") {
         let topic = topic_named(code.as_bytes())?;
-        return Some(Asked::Page { topic });
+        return Some(Request::One(Asked::Page { topic }));
+    }
+    let function = explain.get_str("function");
+    if is_json(explain) {
+        let files = names_in(explain, "FILE");
+        return Some(Request::Files(files, Format::Json { function }));
     }
     let file = explain.get_str("FILE")?;
-    let function = explain.get_str("function");
-    Some(Asked::Explain { file, function })
+    Some(Request::One(Asked::Explain { file, function }))
 }
 
 fn has_known_code(matches: &ArgMatches) -> bool {
@@ -263,11 +311,11 @@ fn has_too_many_names(matches: &ArgMatches) -> bool {
     }
 }
 
-/// Returns all values of the option, in the order of the command line.
-fn names_in<'m>(run: &'m ArgMatches<'_>, option: &str) -> &'m [&'m str]
-    ensures { map (λ name. name.now) result.now ≡ words_of run.now option.now }
+/// Returns all values of the argument, in the order of the command line.
+fn names_in<'m>(matches: &'m ArgMatches<'_>, argument: &str) -> &'m [&'m str]
+    ensures { map (λ name. name.now) result.now ≡ words_of matches.now argument.now }
 {
-    run.get_strs(option).unwrap_or(&[])
+    matches.get_strs(argument).unwrap_or(&[])
 }
 
 fn run_of<'m>(run: &'m ArgMatches<'_>) -> Option<Asked<'m>>

@@ -4,5 +4,6 @@
 mod acting;
 mod command;
 mod not_asked;
+mod request;
 
 pub use acting::{act, act_on};

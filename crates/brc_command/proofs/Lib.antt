@@ -1,10 +1,14 @@
 mod Accepting
 mod Calling
+mod FilesLater
+mod FilesWritten
+mod Found
 mod GivenTexts
 mod LastTally
 mod Leaving
 mod ReadFiles
 mod Machines
+mod ObjectTexts
 mod Outputs
 mod TakingLines
 mod Traced

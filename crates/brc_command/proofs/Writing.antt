@@ -11,7 +11,7 @@ both_written (Some xs) (Some ys) None first second begun ended = absurd ended
 both_written (Some xs) (Some ys) (Some zs) first second begun ended =
     ended ∙ ap (λ l. l ++ second) begun ∙ append_assoc xs first second
 
-nothing_written : (old : Option (List ℕ)) → Appends old old []
+pub nothing_written : (old : Option (List ℕ)) → Appends old old []
 nothing_written None = tt
 nothing_written (Some xs) = sym (append-nil xs)
 

@@ -2,7 +2,10 @@ pub mod Accepted
 pub mod Calls
 pub mod Commands
 pub mod Explanations
+pub mod Files
+pub mod Findings
 pub mod Lines
 pub mod Loading
+pub mod Objects
 pub mod Texts
 pub mod Traces

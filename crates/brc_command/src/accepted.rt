@@ -51,7 +51,7 @@ fn write_counts<'p, W: Write>(
 }
 
 /// Returns the number of instructions of all functions together.
-fn instruction_count(functions: &[Function]) -> u64
+pub fn instruction_count(functions: &[Function]) -> u64
     requires { instruction_count functions.now ≤ function_limit * instruction_limit }
     ensures { result ≡ instruction_count functions.now }
 {

@@ -317,7 +317,7 @@ fn explain_topic<'a, X: Explain, W: Write>(
 }
 
 /// Loads, reads and checks the module of the file.
-fn checked_file<'a, L: Load>(
+pub fn checked_file<'a, L: Load>(
     alloc: Global,
     file: &'a str,
     load: &mut L,
@@ -326,6 +326,8 @@ fn checked_file<'a, L: Load>(
         × IsAccepted text c.module) }
     ensures stopped { IfErr result (IsModuleReason (L.may_give load.old) (L.may_lack load.old) file.now) }
     ensures silent { IfErr result (λ e. e ≢ Fault Output) }
+    ensures gives_no_more { (p bytes : List ℕ) → L.may_give load.new p bytes → L.may_give load.old p bytes }
+    ensures lacks_no_more { (p : List ℕ) → L.may_lack load.new p → L.may_lack load.old p }
 {
     let bytes = load_module(alloc, file, load)?;
     Ok(checked(alloc, bytes.as_slice())?)

@@ -70,7 +70,10 @@ pub fn explanation_of<'a, X: Explain>(
 
 /// Returns the number of the function for which an explanation asks, if it asks for one. Returns `NoFunction` if the
 /// module lacks it.
-fn number_asked<'a>(module: &Module, function: Option<&'a str>) -> Result<Option<usize>, Stop<'a>>
+pub fn number_asked<'a>(
+    module: &Module,
+    function: Option<&'a str>,
+) -> Result<Option<usize>, Stop<'a>>
     ensures number { IfOk result (λ number. number ≡ number_in «module».now
         (option_map (λ name. name.now) function.entry)) }
     ensures known { OnOk result (HasOnly «module».now (option_map (λ name. name.now) function.entry)) }

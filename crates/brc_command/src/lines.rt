@@ -103,7 +103,7 @@ fn write_unknown<W: Write>(name: &[u8], writer: &mut W) -> io::Result<()>
     write_pieces(&[b"no function ", name, b"\n"], writer)
 }
 
-fn fault_code(code: FaultCode) -> &'static str
+pub fn fault_code(code: FaultCode) -> &'static str
     ensures { result.now ≡ fault_code code }
 {
     match code {
@@ -118,7 +118,7 @@ fn fault_code(code: FaultCode) -> &'static str
     }
 }
 
-fn check_code(code: CheckCode) -> &'static str
+pub fn check_code(code: CheckCode) -> &'static str
     ensures { result.now ≡ check_code code }
 {
     match code {

@@ -231,7 +231,9 @@ const REFUSED: &[(&[&str], &[u8])] = &[
         b"error: ",
     ),
     (&["brc", "check"], b"error: "),
-    (&["brc", "check", "n.brc", "s.txt"], b"error: "),
+    (&["brc", "check", "--format", "json"], b"error: "),
+    (&["brc", "check", "n.brc", "--format", "xml"], b"error: "),
+    (&["brc", "check", "n.brc", "--format"], b"error: "),
     (&["brc", "check", "n.brc", "--call", "f"], b"error: "),
     (&["brc", "check", "m.brc", "--version"], b"error: "),
     (&["brc", "step", "n.brc"], b"error: "),
@@ -244,6 +246,18 @@ const REFUSED: &[(&[&str], &[u8])] = &[
     (&["brc", "explain", "--code", "c5"], b"error: "),
     (
         &["brc", "explain", "--code", "C5", "--function", "f"],
+        b"error: ",
+    ),
+    (
+        &["brc", "explain", "--code", "C5", "--format", "json"],
+        b"error: ",
+    ),
+    (
+        &["brc", "explain", "m.brc", "n.brc", "--format", "json"],
+        b"error: ",
+    ),
+    (
+        &["brc", "run", "m.brc", "--call", "f", "--format", "json"],
         b"error: ",
     ),
     (&["brc", "step", "n.brc", "s.txt"], b"unreadable file\n"),
@@ -284,7 +298,10 @@ const HELP: &[(&[&str], (&[u8], &[u8]))] = &[
     ),
     (
         &["brc", "check", "--help"],
-        (b"Checks ", b"Example: brc check module.brc\n"),
+        (
+            b"Checks ",
+            b"Example: brc check module.brc\n         brc check --format json a.brc b.brc\n",
+        ),
     ),
     (
         &["brc", "run", "--help"],

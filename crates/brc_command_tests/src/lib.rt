@@ -12,6 +12,8 @@ mod command_lines;
 #[cfg(test)]
 mod explanations;
 #[cfg(test)]
+mod files;
+#[cfg(test)]
 mod host;
 #[cfg(test)]
 mod items;

@@ -1,3 +1,3 @@
 mod Named
-mod StepRows
+mod RowsOfSteps
 mod Walks

@@ -61,6 +61,12 @@ way_of (Goto to) FaultExit = Onward
 way_of (Again to times) FaultExit = Back
 way_of i FaultExit = other_way (jump i)
 
+-- the word of a way
+abbrev pub way_word : Way → List ℕ
+way_word Onward = codes "ok"
+way_word Otherwise = codes "else"
+way_word Back = codes "back"
+
 -- the state in which a path ends at a point
 abbrev pub state_of : PathEnd → Option State
 state_of (At at s) = Some s
@@ -118,6 +124,14 @@ pub record ShowsRefusal (functions : List Function) (r : Refused) (function : Fu
     (path : Path) (steps : StepRows) : Type 0 where
   pub named : IsNamed functions r.function function
   pub listed : IsListing function.code (Some r.at) listing
+  pub leads : IsPathTo functions r path
+  pub walked : AreRowsOf function.code path steps
+
+-- The steps are those of a path that leads to the refusal in its function, or of the two paths that differ there.
+pub record LeadToRefusal (functions : List Function) (r : Refused) (steps : StepRows) : Type 0 where
+  pub function : Function
+  pub path : Path
+  pub named : IsNamed functions r.function function
   pub leads : IsPathTo functions r path
   pub walked : AreRowsOf function.code path steps
 

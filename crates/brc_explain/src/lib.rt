@@ -21,5 +21,6 @@ mod words;
 
 pub use accepted::explain_accepted;
 pub use fault::ExplainFault;
-pub use refused::explain_refused;
+pub use refused::{explain_refused, steps_to};
+pub use rows::{StepRow, StepRows, Way};
 pub use unreadable::explain_unreadable;

@@ -2,7 +2,7 @@
 
 use crate::fault::ExplainFault;
 use crate::listing::write_numbered;
-use crate::rows::{StepRow, Way};
+use crate::rows::StepRow;
 use crate::state_text::write_state;
 use brc_lang::{Instr, write_bytes};
 use brc_pages::{Topic, page_of, write_gap, write_in};
@@ -48,7 +48,7 @@ fn write_step<W: Write>(
     write_numbered(walk.alloc, row.at, instr, walk.width, walk.paint, out)?;
     match (&row.after, &row.reported) {
         (Some(after), _) => {
-            write_exit(exit_word(row.way), walk.paint, out)?;
+            write_exit(row.way.word(), walk.paint, out)?;
             write_state(after, walk.paint, out)?;
         }
         (None, Some(reported)) => {
@@ -60,15 +60,6 @@ fn write_step<W: Write>(
     }
     write_bytes(b"\n", out)?;
     Ok(())
-}
-
-/// Returns the word for the way that a step leads.
-fn exit_word(way: Way) -> &'static str {
-    match way {
-        Way::Onward => "ok",
-        Way::Otherwise => "else",
-        Way::Back => "back",
-    }
 }
 
 fn write_exit<W: Write>(word: &str, paint: Paint, out: &mut W) -> io::Result<()> {

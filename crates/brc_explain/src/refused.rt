@@ -4,7 +4,7 @@ ghost use Rattle.std.specs.Prelude.{◌≡◌, ◌↔◌, Contains, IfOk, IfSome
 ghost use Rattle.brc_lang.specs.Grammar.{IsModule};
 ghost use Rattle.brc_check.specs.Refusal.{IsRefusal, IsRefusedFor, IsForMemory};
 ghost use Rattle.brc_explain.specs.declared.fault.ExplainFault.TheVariants.{NoMemory};
-ghost use Rattle.brc_explain.specs.Rows.{IsNamed, NoneNamed, ShowsRefusal};
+ghost use Rattle.brc_explain.specs.Rows.{IsNamed, NoneNamed, ShowsRefusal, LeadToRefusal};
 
 use crate::fault::ExplainFault;
 use crate::forms::write_forms;
@@ -79,6 +79,16 @@ fn shown_of<'a>(
         path,
         steps,
     })
+}
+
+/// Returns the steps of a path that leads to the refusal, or of the two paths that differ there.
+pub fn steps_to(alloc: Global, module: &Module, refused: &Refused) -> Result<StepRows, AllocError>
+    requires fits { IsModule «module».now }
+    requires refusal { IsRefusedFor «module».now.functions refused.now }
+    ensures { IfOk result (LeadToRefusal «module».now.functions refused.now) }
+{
+    let Shown { steps, .. } = shown_of(alloc, module, refused)?;
+    Ok(steps)
 }
 
 /// Writes why `check` refuses the module, if it isn't for want of memory.

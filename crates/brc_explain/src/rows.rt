@@ -4,7 +4,7 @@ ghost use Rattle.std.specs.Prelude.{◌≡◌, ℕ, ◌++◌, IfOk, OnOk};
 ghost use Rattle.brc_lang.specs.Grammar.{IsFunction};
 ghost use Rattle.brc_model.specs.Paths.{At};
 ghost use Rattle.brc_check.specs.Entries.{end_of};
-ghost use Rattle.brc_explain.specs.Rows.{row, first_rows, IsListing, way_of, state_of, reported_by, step_rows, path_rows, AreRowsOf};
+ghost use Rattle.brc_explain.specs.Rows.{way_word, row, first_rows, IsListing, way_of, state_of, reported_by, step_rows, path_rows, AreRowsOf};
 
 use crate::walking::reached;
 use brc_check::{CheckCode, Exit, Path, State, Step, first_states, follow};
@@ -30,6 +30,19 @@ pub enum Way {
     Otherwise,
     /// Back to the target of `again`.
     Back,
+}
+
+impl Way {
+    /// Returns its word: `ok`, `else` or `back`.
+    pub fn word(self) -> &'static str
+        ensures { result.now ≡ way_word self }
+    {
+        match self {
+            Way::Onward => "ok",
+            Way::Otherwise => "else",
+            Way::Back => "back",
+        }
+    }
 }
 
 /// The row of a step in a path.

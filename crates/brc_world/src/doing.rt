@@ -32,7 +32,7 @@ use brc_lang::Function;
 use brc_model::{Address, Duty, Exit, Layout, Status};
 
 /// Does the thread's duty, which is no longer in its agenda, on the duty's word. Returns the value that it found there.
-// Inside the step its values would have no registers, and the step would take longer (docs/PERFORMANCE.md).
+// Inside the step its values would have no registers, and the step would take longer (docs/lists/PERFORMANCE.md).
 #[inline(never)]
 pub fn do_duty(
     memory: &mut Memory,

@@ -4,7 +4,7 @@ use Rattle.brc_model.specs.declared.slot.Exit.TheVariants.{Success}
 use Rattle.brc_model.specs.Paths.{At, path_end}
 use Rattle.brc_explain.specs.declared.rows.StepRow.{StepRow}
 use Rattle.brc_explain.specs.Rows.{first_steps, step_rows}
-use Rattle.brc_explain.proofs.StepRows.{no_row, row_from}
+use Rattle.brc_explain.proofs.RowsOfSteps.{no_row, row_from}
 use Rattle.brc_explain.proofs.rows.path_rows.Goals.{in-Some+in_ok-push_step, in_default}
 use Rattle.brc_explain.proofs.rows.path_rows.Goals as goal
 

@@ -2,7 +2,7 @@ use Rattle.std.proofs.Common.{rules, ◌≡◌, List, ◌++◌, length, OnOk, re
 use Rattle.std.proofs.lemmas.Option.{slice_get_past, slice_get_read}
 use Rattle.brc_check.specs.Entries.{end_of}
 use Rattle.brc_explain.specs.declared.rows.StepRow.{StepRow}
-use Rattle.brc_explain.proofs.StepRows.{row_there}
+use Rattle.brc_explain.proofs.RowsOfSteps.{row_there}
 use Rattle.brc_explain.proofs.rows.push_step.Goals as goal
 
 pub returns-then-at-code : goal.returns-then-at-code
