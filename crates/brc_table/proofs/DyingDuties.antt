@@ -1,20 +1,19 @@
 -- The duties of a hand that finalises the objects of its chain: where their words are, and how the hand begins.
-use Rattle.std.proofs.Common.{◌≡◌, ◌≢◌, ℕ, ◌+◌, ◌<◌, ◌≤◌, List, [], ◌∷◌, refl, sym, ap, ◌∙◌, subst, arith}
+use Rattle.std.proofs.Common.{◌≡◌, ◌≢◌, ℕ, ◌+◌, ◌<◌, List, [], ◌∷◌, refl, sym, ap, subst}
 use Rattle.std.proofs.lemmas.Bool.{eq-eqb}
 use Rattle.brc_model.specs.declared.duty.Duty.{Duty}
-use Rattle.brc_model.specs.declared.duty.Duty.TheVariants.{TakeSlot, Settle, SettleKind, SettleCell, SettleEnd}
+use Rattle.brc_model.specs.declared.duty.Duty.TheVariants.{TakeSlot, Settle, SettleEnd}
 use Rattle.brc_model.specs.declared.actor.Status.TheVariants.{Gone}
 use Rattle.brc_model.specs.declared.layout.Layout.{Layout}
 use Rattle.brc_model.specs.Layout.{row_count}
-use Rattle.brc_model.specs.Limits.{cell_limit}
 use Rattle.brc_model.specs.CountingLaws.{SettlesBegin}
 use Rattle.brc_table.specs.declared.view.View.{View}
-use Rattle.brc_table.specs.Views.{slot_emptied_by, actor_of, settle_first, settling, NamesFewCells, RowsAreThere}
+use Rattle.brc_table.specs.Views.{slot_emptied_by, actor_of, settle_first, settling, RowsAreThere}
 use Rattle.brc_table.specs.Hands.{MayWait}
 use Rattle.brc_table.specs.Accesses.{IsNext}
 use Rattle.brc_table.specs.Begins.{Becomes}
 use Rattle.brc_table.specs.Uses.{IsDue}
-use Rattle.brc_table.specs.Calls.{SettlesFrom, LoadsDyingKind, EmptiesCell, ClosesRow}
+use Rattle.brc_table.specs.Calls.{SettlesFrom, ClosesRow}
 use Rattle.brc_table.proofs.Passing.{becomes_same, waiting_keeps}
 use Rattle.brc_table.proofs.Becoming.{rearranged}
 use Rattle.brc_table.proofs.Duties.{runs_on, first_there}
@@ -55,13 +54,6 @@ settles_alive v _ may = absurd may
 
 -- ---- the rows of these duties
 
--- A dying list has at most as many cells as a list may have.
-pub dying_cell_low : (v : View) (x i : ℕ) (ds : List Duty) → RowsAreThere v → v.agenda ≡ ds → EmptiesCell x i ds
-    → i < cell_limit
-dying_cell_low v x i (SettleCell y j n ∷ rest) rows is same =
-    let few : n ≤ cell_limit = subst NamesFewCells is rows.cells in omega (arith, same.2, few)
-dying_cell_low v x i _ rows is same = absurd same
-
 pub gate_close_there : (v : View) (x : ℕ) (ds : List Duty) → RowsAreThere v → v.agenda ≡ ds → ClosesRow x ds
     → x < row_count v.layout
 gate_close_there v x (TakeSlot y ∷ rest) rows is same = first_there v x (TakeSlot y) rest rows is (eq-eqb y x same)
@@ -69,15 +61,6 @@ gate_close_there v x (SettleEnd y ∷ rest) rows is same = first_there v x (Sett
 gate_close_there v x _ rows is same = absurd same
 
 -- ---- what comes next
-
-pub dying_kind_next : (x : ℕ) (ds : List Duty) → LoadsDyingKind x ds → IsNext (SettleKind x) ds
-dying_kind_next x (SettleKind y ∷ rest) same = ap SettleKind same
-dying_kind_next x _ same = absurd same
-
-pub dying_cell_next : (x i k : ℕ) (ds : List Duty) → EmptiesCell x i ds → IsNext (SettleCell x i k) ds
-dying_cell_next x i k (SettleCell y j n ∷ rest) same =
-    ap (λ (z : ℕ). SettleCell z j 0) same.0 ∙ ap (λ (l : ℕ). SettleCell x l 0) same.1
-dying_cell_next x i k _ same = absurd same
 
 pub gate_close_next : (v : View) (x : ℕ) (ds : List Duty) → v.agenda ≡ ds → ClosesRow x ds
     → IsNext (SettleEnd x) (slot_emptied_by ds v).agenda

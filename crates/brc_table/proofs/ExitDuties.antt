@@ -4,19 +4,17 @@ use Rattle.std.specs.Prelude.{◌==◌, count_by}
 use Rattle.std.proofs.Math.Nat.{mul-le-mul_right}
 use Rattle.std.proofs.lemmas.Bool.{cases_Bool, lt-ltb}
 use Rattle.brc_model.specs.declared.duty.Holding.TheVariants.{ByVariable, AsCaller, InFlight}
-use Rattle.brc_model.specs.declared.duty.Duty.{Duty}
-use Rattle.brc_model.specs.declared.duty.Duty.TheVariants.{ClaimMark, Leave, Scan, Finish}
+use Rattle.brc_model.specs.declared.duty.Duty.TheVariants.{ClaimMark, Leave}
 use Rattle.brc_model.specs.declared.layout.Layout.{Layout}
 use Rattle.brc_model.specs.Layout.{front_rows, worker_rows, block_of, block_size, row_at, row_count, is_immortal_row}
 use Rattle.brc_model.specs.Accounts.{HoldsNone}
 use Rattle.brc_model.specs.CountingLaws.{DutiesAreKept, ReleasesBegin, ClaimsBegin, ExitsBegin}
 use Rattle.brc_table.specs.declared.view.View.{View}
 use Rattle.brc_table.specs.Views.{actor_of, RowsAreThere, claiming, leaving}
-use Rattle.brc_table.specs.Accesses.{IsNext}
 use Rattle.brc_table.specs.Begins.{Passes, Becomes}
 use Rattle.brc_table.specs.Hands.{MayWait}
 use Rattle.brc_model.specs.Machine.{Machine}
-use Rattle.brc_table.specs.Calls.{IsFree, MayLeave, ScansRow, Finishes}
+use Rattle.brc_table.specs.Calls.{IsFree, MayLeave}
 use Rattle.brc_table.proofs.Passing.{passes_on, waiting_keeps}
 use Rattle.brc_table.proofs.Becoming.{rearranged}
 use Rattle.brc_table.proofs.FreeDropped.{HasJust, drops_all, plain_immortal}
@@ -78,18 +76,6 @@ leaving_becomes kept release law layout v may = record {
       (record { stands = stands; slots = λ x. refl; just = refl }));
   slots = waiting_keeps v (leaving v) (subst MayWait (sym may.free.agenda) tt) (refl, (λ y locks. refl), refl);
 }
-
--- ---- the end of an exit
-
-pub finish_next : (ds : List Duty) → Finishes ds → IsNext Finish ds
-finish_next (Finish ∷ []) same = refl
-finish_next _ same = absurd same
-
--- ---- the scan
-
-pub scan_next : (i n : ℕ) (ds : List Duty) → ScansRow i ds → IsNext (Scan i n) ds
-scan_next i n (Scan j k ∷ rest) same = ap (λ (l : ℕ). Scan l 0) same
-scan_next i n _ same = absurd same
 
 -- Main's rows in front are at their own numbers.
 pub front_is : (layout : Layout) (i : ℕ) → i < front_rows → row_at layout 0 i ≡ i

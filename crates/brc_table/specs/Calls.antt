@@ -1,7 +1,7 @@
 -- Which duties each kind of step does.
-use Rattle.std.specs.Prelude.{◌≡◌, ◌≢◌, ℕ, ◌<◌, List, [], ◌∷◌}
+use Rattle.std.specs.Prelude.{◌≡◌, ◌≢◌, ℕ, List, [], ◌∷◌}
 use Rattle.brc_model.specs.declared.duty.Duty.{Duty}
-use Rattle.brc_model.specs.declared.duty.Duty.TheVariants.{Settle, SettleKind, SettleCell, TakeSlot, SettleEnd, Scan, Finish, BirthSlot, BirthLocal}
+use Rattle.brc_model.specs.declared.duty.Duty.TheVariants.{Settle, TakeSlot, SettleEnd, BirthSlot, BirthLocal}
 use Rattle.brc_model.specs.declared.actor.Status.TheVariants.{Running, Gone}
 use Rattle.brc_table.specs.declared.view.View.{View}
 use Rattle.brc_table.specs.Hands.{MayWait}
@@ -27,16 +27,6 @@ SettlesFrom v _ = ⊥
 abbrev pub MaySettle : View → Type 0
 MaySettle v = SettlesFrom v v.agenda
 
--- The first duty is to load the kind word of the dying row.
-abbrev pub LoadsDyingKind : ℕ → List Duty → Type 0
-LoadsDyingKind x (SettleKind y ∷ rest) = y ≡ x
-LoadsDyingKind x _ = ⊥
-
--- The first duty is to empty this cell of the dying row.
-abbrev pub EmptiesCell : ℕ → ℕ → List Duty → Type 0
-EmptiesCell x i (SettleCell y j n ∷ rest) = (y ≡ x) × (j ≡ i) × (i < n)
-EmptiesCell x i _ = ⊥
-
 -- The first duty is to close the dying row, or to take its resource out of its slot before that.
 abbrev pub ClosesRow : ℕ → List Duty → Type 0
 ClosesRow x (TakeSlot y ∷ rest) = y ≡ x
@@ -56,13 +46,3 @@ pub record MayLeave (v : View) : Type 0 where
   pub free : IsFree v
   pub holds_none : v.references ≡ []
   pub settled : v.head ≡ 0
-
--- The first duty is to scan the mark of the thread's row with this index.
-abbrev pub ScansRow : ℕ → List Duty → Type 0
-ScansRow i (Scan j n ∷ rest) = j ≡ i
-ScansRow i _ = ⊥
-
--- The one duty is to say that the thread is gone.
-abbrev pub Finishes : List Duty → Type 0
-Finishes (Finish ∷ []) = Unit {0}
-Finishes _ = ⊥

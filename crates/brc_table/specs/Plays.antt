@@ -2,14 +2,12 @@
 use Rattle.std.specs.Prelude.{◌≡◌, ◌≢◌, ℕ, ◌<◌, true, Some, List, [], ◌∷◌}
 use Rattle.brc_model.specs.declared.duty.Reason.TheVariants.{Handed}
 use Rattle.brc_model.specs.declared.duty.Duty.{Duty}
-use Rattle.brc_model.specs.declared.duty.Duty.TheVariants.{RetainStore, ReleaseStore, Die, Leave, Finish, MergeExchange, KindLoad, UnlockGate, CellLoad}
-use Rattle.brc_model.specs.declared.actor.Status.TheVariants.{Running, Leaving}
+use Rattle.brc_model.specs.declared.duty.Duty.TheVariants.{MergeExchange, KindLoad, CellLoad}
 use Rattle.brc_model.specs.Duties.{resources_of}
-use Rattle.brc_model.specs.Knowledge.{status_word}
 use Rattle.brc_model.specs.Layout.{none_row, row_count}
 use Rattle.brc_model.specs.Machine.{is_running}
 use Rattle.brc_model.specs.Within.{Suits, FindsOwner}
-use Rattle.brc_word.specs.Words.{half, free_word, locked_word, merged_word, dead_word}
+use Rattle.brc_word.specs.Words.{half, merged_word, dead_word}
 use Rattle.brc_effect.specs.Accesses.{known_before}
 use Rattle.brc_table.specs.declared.view.View.{View}
 use Rattle.brc_table.specs.Seen.{has_seen_kind, cell_seen}

@@ -1,23 +1,18 @@
-//! The steps by which a hand finalises the objects of its dying chain (PEP 703, Biased Reference Counting: an object
-//! without a reference is deallocated by the thread that gave up the last one). Each object is taken off the chain, its
-//! kind is asked for, a list's cells are emptied, and its gate says at the end that it is closed.
+//! The steps by which a hand begins to finalise an object of its dying chain, and ends it (PEP 703, Biased Reference
+//! Counting: an object without a reference is deallocated by the thread that gave up the last one). The hand takes the
+//! object off the chain, and says in its gate at the end that it is closed. What comes between are steps of `step`.
 
-ghost use Rattle.std.specs.Prelude.{◌≡◌, ◌≢◌, ◌<◌, ◌∷◌};
+ghost use Rattle.std.specs.Prelude.{◌≡◌, ◌≢◌, ◌<◌};
 ghost use Rattle.brc_model.specs.declared.actor.Status.TheVariants.{Gone};
 ghost use Rattle.brc_table.specs.Views.{done, settling, slot_emptied};
-ghost use Rattle.brc_model.specs.Duties.{resources_of};
-ghost use Rattle.brc_table.specs.Plays.{SuitsFirst};
 ghost use Rattle.brc_table.specs.Hands.{IsOf};
 ghost use Rattle.brc_table.specs.Uses.{FirstSlot, behind_slot};
-ghost use Rattle.brc_table.specs.Calls.{MaySettle, LoadsDyingKind, EmptiesCell, ClosesRow};
+ghost use Rattle.brc_table.specs.Calls.{MaySettle, ClosesRow};
 
 use crate::hand::Hand;
 use crate::words::Words;
 use brc_model::{Duty, duties_are_kept, needed_slots_are_unlocked, settles_begin};
 use std::marker::Brand;
-
-/// The most cells that a list may have.
-const MOST_CELLS: u32 = 8;
 
 impl<T: Drop> Words<T> {
     /// Takes the first object off the hand's dying chain: loads its gate, which names the next one.
@@ -34,44 +29,6 @@ impl<T: Drop> Words<T> {
         settles_begin();
         hand.rows_are_there();
         self.step_from::<Brand>(hand, &Duty::Settle)
-    }
-
-    /// Does the next duty: loads the kind word of the dying object, and takes its slot, which holds a resource if the
-    /// kind has one.
-    #[inline(always)]
-    pub fn dying_kind_load(&self, hand: &mut Hand<T>, row: u32) -> u64
-        requires table { IsOf self.now hand.old }
-        requires alive { hand.old.view.status ≢ Gone }
-        requires duty { LoadsDyingKind row hand.old.view.agenda }
-        ensures table { hand.new.table ≡ hand.old.table }
-        ensures carried { hand.new.carried ≡ hand.old.carried }
-        ensures view { hand.new.view ≡ done hand.old.view result }
-        ensures slots { hand.new.slots ≡ (row, resources_of result) ∷ hand.old.slots }
-    {
-        self.step(hand, Duty::SettleKind { row })
-    }
-
-    /// Does the next duty: empties a cell of the dying list. Returns what was there: a row plus 1, or 0.
-    #[inline(always)]
-    pub fn dying_cell_swap(&self, hand: &mut Hand<T>, row: u32, cell: u32) -> u64
-        requires table { IsOf self.now hand.old }
-        requires alive { hand.old.view.status ≢ Gone }
-        requires duty { EmptiesCell row cell hand.old.view.agenda }
-        ensures table { hand.new.table ≡ hand.old.table }
-        ensures carried { hand.new.carried ≡ hand.old.carried }
-        ensures slots { hand.new.slots ≡ hand.old.slots }
-        ensures view { hand.new.view ≡ done hand.old.view result }
-        ensures suits { SuitsFirst hand.old.view hand.old.view.agenda result }
-    {
-        hand.rows_are_there();
-        self.step(
-            hand,
-            Duty::SettleCell {
-                row,
-                cell,
-                cells: MOST_CELLS,
-            },
-        )
     }
 
     /// Does the next duty: closes the dying object, and gives its slot back, which has to be empty. Returns the gate

@@ -3,12 +3,11 @@
 //! leaving thread says so first, so that whoever queues an object from then on looks after it, and then scans the marks
 //! of its rows.
 
-ghost use Rattle.std.specs.Prelude.{◌≡◌, ◌≢◌, ◌<◌};
-ghost use Rattle.brc_model.specs.declared.actor.Status.TheVariants.{Gone};
+ghost use Rattle.std.specs.Prelude.{◌≡◌, ◌<◌};
 ghost use Rattle.brc_model.specs.Layout.{block_of, row_at, row_count};
 ghost use Rattle.brc_table.specs.Views.{done, claiming, leaving};
 ghost use Rattle.brc_table.specs.Hands.{IsOf};
-ghost use Rattle.brc_table.specs.Calls.{IsFree, MayLeave, ScansRow, Finishes};
+ghost use Rattle.brc_table.specs.Calls.{IsFree, MayLeave};
 
 use crate::hand::Hand;
 use crate::size::row_at;
@@ -63,35 +62,5 @@ impl<T: Drop> Words<T> {
         hand.rows_are_there();
         let rows = hand.used;
         self.step_from::<Brand>(hand, &Duty::Leave { index: 0, rows });
-    }
-
-    /// Does the next duty: takes the mark of the thread's row with the index. Returns the mark found.
-    #[inline(always)]
-    pub fn mark_scan(&self, hand: &mut Hand<T>, index: u32) -> u64
-        requires table { IsOf self.now hand.old }
-        requires alive { hand.old.view.status ≢ Gone }
-        requires used { index < hand.old.view.used }
-        requires duty { ScansRow index hand.old.view.agenda }
-        ensures table { hand.new.table ≡ hand.old.table }
-        ensures carried { hand.new.carried ≡ hand.old.carried }
-        ensures slots { hand.new.slots ≡ hand.old.slots }
-        ensures view { hand.new.view ≡ done hand.old.view result }
-    {
-        let rows = hand.used;
-        self.step(hand, Duty::Scan { index, rows })
-    }
-
-    /// Does the next duty: says in the thread's word that the thread is gone.
-    #[inline(always)]
-    pub fn thread_gone(&self, hand: &mut Hand<T>)
-        requires table { IsOf self.now hand.old }
-        requires alive { hand.old.view.status ≢ Gone }
-        requires duty { Finishes hand.old.view.agenda }
-        ensures table { hand.new.table ≡ hand.old.table }
-        ensures carried { hand.new.carried ≡ hand.old.carried }
-        ensures slots { hand.new.slots ≡ hand.old.slots }
-        ensures view { hand.new.view ≡ done hand.old.view 2 }
-    {
-        self.step(hand, Duty::Finish);
     }
 }

@@ -16,7 +16,7 @@ use Rattle.brc_model.specs.Stores.{Overwrites}
 use Rattle.brc_model.specs.Within.{Suits}
 use Rattle.brc_table.specs.declared.view.View.{View}
 use Rattle.brc_effect.specs.Accesses.{IfStored, left_by}
-use Rattle.brc_table.specs.Accesses.{HasAccess, HasChain, IsNext}
+use Rattle.brc_table.specs.Accesses.{HasAccess, IsNext}
 use Rattle.brc_table.specs.Begins.{KeepsThread}
 use Rattle.brc_table.specs.DutySteps.{DueSlot, Steps, StepsBy}
 use Rattle.brc_table.specs.Hands.{HandState, TableState}
