@@ -77,8 +77,6 @@ leaving_becomes kept release law layout v may = record {
   slots = waiting_keeps v (leaving v) (subst MayWait (sym may.free.agenda) tt) (refl, (λ y locks. refl), refl);
 }
 
--- ---- the scan
-
 -- Main's rows in front are at their own numbers.
 pub front_is : (layout : Layout) (i : ℕ) → i < front_rows → row_at layout 0 i ≡ i
 front_is layout i low =

@@ -1,6 +1,6 @@
-//! The steps by which a hand finalises the objects of its dying chain (PEP 703, Biased Reference Counting: an object
-//! without a reference is deallocated by the thread that gave up the last one). Each object is taken off the chain, and
-//! its gate says at the end that it is closed. What comes between are duties like any other (`Words::step`).
+//! The steps by which a hand begins to finalise an object of its dying chain, and ends it (PEP 703, Biased Reference
+//! Counting: an object without a reference is deallocated by the thread that gave up the last one). The hand takes the
+//! object off the chain, and says in its gate at the end that it is closed. What comes between are steps of `step`.
 
 ghost use Rattle.std.specs.Prelude.{◌≡◌, ◌≢◌, ◌<◌};
 ghost use Rattle.brc_model.specs.declared.actor.Status.TheVariants.{Gone};
