@@ -26,8 +26,8 @@ impl<'h, T: Drop, Q: Marker<T>> Finaliser<'h, T, Q> {
         ensures work { HasWorked hand.old.view [] (behind hand.old.view.agenda) hand.new.view }
     {
         let holding = Holding::InFlight;
-        // `ReleasesImmortal`, `OwnerReleases`, `OtherReleases` (PEP 703, Biased Reference Counting: `Py_DECREF`): who owns
-        // the object decides.
+        // `ReleasesImmortal`, `OwnerReleases`, `OtherReleases` (PEP 703, Biased Reference Counting: `Py_DECREF`): who
+        // owns the object decides.
         let word = self
             .heap
             .words()

@@ -12,7 +12,8 @@ use std::sync::Wait;
 
 /// Does the next duties, behind which others may come: swaps the row's local word for nobody's, and adds its count to
 /// the shared one; tries again until no other thread has changed the shared word in between. An object without a
-/// reference goes to the head of the hand's dying chain. A merge for a handed reference leaves the duty to give that up.
+/// reference goes to the head of the hand's dying chain. A merge for a handed reference leaves the duty to give that
+/// up.
 pub fn merge<T: Drop, R: Wait>(rt: &R, heap: &Heap<T>, hand: &mut Hand<T>, row: u32)
     requires table { IsOf heap.now hand.old }
     requires alive { hand.old.view.status ≢ Gone }

@@ -1,10 +1,9 @@
 -- Which duty follows a step, by the choice that the code makes.
-use Rattle.std.proofs.Common.{◌≡◌, ℕ, zero, suc, ◌+◌, Bool, true, false, List, [], ◌∷◌, ◌++◌, refl, subst}
+use Rattle.std.proofs.Common.{◌≡◌, ℕ, zero, suc, ◌+◌, Bool, true, false, [], ◌∷◌, ◌++◌, refl, subst}
 use Rattle.std.specs.Prelude.{◌==◌, ◌&&◌, nat_lt, if◌then◌else◌}
 use Rattle.brc_word.specs.Words.{owner_part, local_part, is_immortal_word, most_local}
 use Rattle.brc_word.specs.declared.choice.LocalChoice.TheVariants as choice
 use Rattle.brc_model.specs.declared.duty.Holding.TheVariants.{AsCaller}
-use Rattle.brc_model.specs.declared.duty.Duty.{Duty}
 use Rattle.brc_model.specs.declared.duty.Duty.TheVariants.{RetainStore, RetainAdd}
 use Rattle.brc_model.specs.Duties.{ready}
 use Rattle.brc_model.specs.Machine.{is_running}
@@ -14,7 +13,8 @@ use Rattle.brc_table.specs.Accesses.{IsNext}
 
 shares_by : (head x word : ℕ) (immortal counts : Bool)
     → (if immortal then choice.Skip else if counts then choice.Store (word + 1) else choice.Share) ≡ choice.Share
-    → IsNext (RetainAdd x AsCaller) (ready head ((if immortal then [] else if counts then RetainStore x AsCaller word ∷ []
+    → IsNext (RetainAdd x AsCaller)
+    (ready head ((if immortal then [] else if counts then RetainStore x AsCaller word ∷ []
     else RetainAdd x AsCaller ∷ []) ++ []))
 shares_by head x word true counts is = absurd cc
 shares_by head x word false true is = absurd cc

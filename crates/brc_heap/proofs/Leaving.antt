@@ -9,10 +9,10 @@ use Rattle.brc_model.specs.declared.actor.Status.{Status}
 use Rattle.brc_model.specs.Machine.{status_by, used_by}
 use Rattle.brc_model.specs.OpenWork.{is_about}
 use Rattle.brc_table.specs.declared.view.View.{View}
-use Rattle.brc_table.specs.Views.{open_work, turned, did, done}
+use Rattle.brc_table.specs.Views.{open_work, turned}
 use Rattle.brc_table.specs.Hands.{MayWait, HasNoWork}
 use Rattle.brc_heap.specs.Calls.{KeepsSight, Leaves}
-use Rattle.brc_heap.proofs.Sight.{StaysAway, away_off, same_sight, sight_then, did_sight}
+use Rattle.brc_heap.proofs.Sight.{StaysAway, same_sight, sight_then}
 use Rattle.brc_heap.proofs.Turning.{away, passes, fails, none_aside, all_away}
 
 -- ---- rows of duties

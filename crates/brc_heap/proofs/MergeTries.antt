@@ -1,38 +1,26 @@
 -- What one try of a merge leaves, by the words that its steps found.
-use Rattle.std.proofs.Common.{◌≡◌, ◌≢◌, ◌⊎◌, inl, inr, ℕ, ◌+◌, Bool, true, false, List, [], ◌∷◌, ◌++◌, Option, None, Some, refl, sym, ap, ◌∙◌, subst}
-use Rattle.std.specs.Prelude.{◌==◌, ◌&&◌, if◌then◌else◌}
+use Rattle.std.proofs.Common.{◌≡◌, ◌≢◌, ℕ, Bool, true, false, List, [], ◌∷◌, ◌++◌, Option, None, Some, refl, sym, ap, ◌∙◌, subst}
+use Rattle.std.specs.Prelude.{◌==◌, if◌then◌else◌}
 use Rattle.std.proofs.lemmas.Bool.{eq-eqb, eqb-true}
-use Rattle.brc_word.specs.Words.{owner_part, local_part, is_immortal_word, fresh_word, dead_word, released_word, merged_word}
+use Rattle.brc_word.specs.Words.{local_part, dead_word, merged_word}
 use Rattle.brc_model.specs.declared.duty.Duty.{Duty}
-use Rattle.brc_model.specs.declared.duty.Holding.{Holding}
 use Rattle.brc_model.specs.declared.duty.Reason.{Reason}
 use Rattle.brc_model.specs.declared.duty.Reason.TheVariants.{Own, Handed}
-use Rattle.brc_model.specs.declared.duty.Duty.TheVariants.{ReleaseLoad, ReleaseStore, DecideAtZero, SharedLoad, SharedExchange, SetMark, MergeSwap, MergeLoad, MergeExchange, Die}
-use Rattle.brc_model.specs.declared.duty.Holding.TheVariants.{AsCaller}
+use Rattle.brc_model.specs.declared.duty.Duty.TheVariants.{SharedLoad, MergeSwap, MergeLoad, MergeExchange, Die}
 use Rattle.brc_model.specs.Duties.{ready, once_merged}
-use Rattle.brc_model.specs.Machine.{is_running}
 use Rattle.brc_table.specs.declared.view.View.{View}
 use Rattle.brc_table.specs.Views.{done, resumed, turned, open_work}
-use Rattle.brc_table.specs.Hands.{HasNoWork}
 use Rattle.std.specs.List.{filter}
 use Rattle.brc_model.specs.OpenWork.{is_about}
 use Rattle.brc_heap.proofs.Turning.{none_aside, turned_itself}
 use Rattle.brc_table.specs.Plays.{FindsKnown}
-use Rattle.brc_effect.specs.declared.outcomes.LocalRelease.{LocalRelease}
-use Rattle.brc_effect.specs.declared.outcomes.LocalRelease.TheVariants as local
-use Rattle.brc_effect.specs.declared.outcomes.ZeroStep.{ZeroStep}
-use Rattle.brc_effect.specs.declared.outcomes.ZeroStep.TheVariants as zeros
-use Rattle.brc_effect.specs.declared.outcomes.SharedRelease.{SharedRelease}
-use Rattle.brc_effect.specs.declared.outcomes.SharedRelease.TheVariants as shared
 use Rattle.brc_effect.specs.declared.outcomes.MergeStep.{MergeStep}
 use Rattle.brc_effect.specs.declared.outcomes.MergeStep.TheVariants as merge
-use Rattle.brc_effect.specs.Outcomes.{zero_answer, shared_answer, merge_answer}
-use Rattle.brc_heap.specs.Calls.{counts_here, released_locally, chained, chained_by, local_answer, local_left, zero_left, shared_left, merge_tried, merge_begun, first_answer, merge_left, Leaves}
+use Rattle.brc_effect.specs.Outcomes.{merge_answer}
+use Rattle.brc_heap.specs.Calls.{chained, chained_by, merge_tried, merge_begun, first_answer, merge_left, Leaves}
 use Rattle.brc_heap.specs.Steps.{HasStepped, ended}
-use Rattle.brc_heap.specs.Tries.{lowered, zero_dies, shared_dies, merge_dies, carries_of, swap_left, still_carried}
+use Rattle.brc_heap.specs.Tries.{merge_dies, carries_of, swap_left, still_carried}
 use Rattle.brc_heap.proofs.Stepping.{plain_first, die_first, plain_begins, plain_on, IsPiece}
-use Rattle.brc_heap.proofs.Sight.{same_sight}
-use Rattle.brc_heap.proofs.Leaving.{WorksAt, begun_works}
 
 -- ---- merges
 
@@ -175,7 +163,8 @@ some_by true n carried is = absurd (let wrong : None ≡ Some carried = is in cc
 some_by false n carried is = (refl, let same : Some n ≡ Some carried = is in cc)
 
 -- The hand carries a count: somebody owned the object.
-pub some_of : (local carried : ℕ) → carries_of local ≡ Some carried → ((local == 0) ≡ false) × (carried ≡ local_part local)
+pub some_of : (local carried : ℕ) → carries_of local ≡ Some carried
+    → ((local == 0) ≡ false) × (carried ≡ local_part local)
 some_of local carried is = some_by (local == 0) (local_part local) carried is
 
 pub begun_some : {x : ℕ} {r : Reason} {carried : ℕ} {o : Option ℕ} {v u : View} → o ≡ Some carried

@@ -1,5 +1,5 @@
 -- How a hand goes on that executes duty after duty.
-use Rattle.std.proofs.Common.{◌≡◌, ◌≢◌, ℕ, zero, suc, ◌+◌, ◌-◌, ◌<◌, Bool, true, false, List, [], ◌∷◌, ◌++◌, Some, refl, sym, ap, ◌∙◌, subst, arith}
+use Rattle.std.proofs.Common.{◌≡◌, ◌≢◌, ℕ, zero, suc, ◌+◌, Bool, true, false, List, [], ◌∷◌, ◌++◌, Some, refl, sym, ap, ◌∙◌, subst, arith}
 use Rattle.std.specs.Prelude.{◌==◌, if◌then◌else◌}
 use Rattle.std.proofs.lemmas.Bool.{eq-eqb, ne_eqb}
 use Rattle.brc_word.specs.Words.{free_word}
@@ -9,7 +9,6 @@ use Rattle.brc_model.specs.Duties.{ready, continuation, new_head}
 use Rattle.brc_model.specs.Machine.{is_running, status_by, used_by}
 use Rattle.brc_model.specs.OpenWork.{is_about, is_finalising, finalised, may_wait}
 use Rattle.brc_table.specs.declared.view.View.{View}
-use Rattle.brc_table.specs.Hands.{MayWait}
 use Rattle.brc_table.specs.Views.{RowsAreThere, did, done}
 use Rattle.brc_heap.specs.Calls.{Leaves}
 use Rattle.brc_heap.specs.Steps.{Keeps, TakesNothing, Steps, Begun, Next, HasStepped}

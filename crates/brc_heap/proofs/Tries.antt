@@ -1,33 +1,29 @@
 -- What one try of each piece of work leaves, by the words that its steps found.
-use Rattle.std.proofs.Common.{◌≡◌, ◌≢◌, ◌⊎◌, inl, inr, ℕ, ◌+◌, Bool, true, false, List, [], ◌∷◌, ◌++◌, Option, None, Some, refl, sym, ap, ◌∙◌, subst}
-use Rattle.std.specs.Prelude.{◌==◌, ◌&&◌, if◌then◌else◌}
-use Rattle.std.proofs.lemmas.Bool.{eq-eqb, eqb-true}
-use Rattle.brc_word.specs.Words.{owner_part, local_part, is_immortal_word, fresh_word, dead_word, released_word, merged_word}
+use Rattle.std.proofs.Common.{◌≡◌, ◌≢◌, ◌⊎◌, inl, inr, ℕ, Bool, true, false, List, [], ◌∷◌, ◌++◌, refl, sym, ap, ◌∙◌, subst}
+use Rattle.std.specs.Prelude.{◌==◌, if◌then◌else◌}
+use Rattle.std.proofs.lemmas.Bool.{eq-eqb}
+use Rattle.brc_word.specs.Words.{local_part, is_immortal_word, fresh_word, dead_word, released_word}
 use Rattle.brc_model.specs.declared.duty.Duty.{Duty}
 use Rattle.brc_model.specs.declared.duty.Holding.{Holding}
 use Rattle.brc_model.specs.declared.duty.Reason.{Reason}
-use Rattle.brc_model.specs.declared.duty.Reason.TheVariants.{Own, Handed}
-use Rattle.brc_model.specs.declared.duty.Duty.TheVariants.{ReleaseLoad, ReleaseStore, DecideAtZero, SharedLoad, SharedExchange, SetMark, MergeSwap, MergeLoad, MergeExchange, Die}
-use Rattle.brc_model.specs.declared.duty.Holding.TheVariants.{AsCaller}
-use Rattle.brc_model.specs.Duties.{ready, once_merged}
+use Rattle.brc_model.specs.declared.duty.Reason.TheVariants.{Own}
+use Rattle.brc_model.specs.declared.duty.Duty.TheVariants.{ReleaseLoad, ReleaseStore, DecideAtZero, SharedLoad, SharedExchange, SetMark, MergeSwap, Die}
+use Rattle.brc_model.specs.Duties.{ready}
 use Rattle.brc_model.specs.Machine.{is_running}
 use Rattle.brc_table.specs.declared.view.View.{View}
 use Rattle.brc_table.specs.Views.{did, done, resumed, releasing}
 use Rattle.brc_table.specs.Hands.{HasNoWork}
-use Rattle.brc_table.specs.Plays.{FindsKnown}
 use Rattle.brc_effect.specs.declared.outcomes.LocalRelease.{LocalRelease}
 use Rattle.brc_effect.specs.declared.outcomes.LocalRelease.TheVariants as local
 use Rattle.brc_effect.specs.declared.outcomes.ZeroStep.{ZeroStep}
 use Rattle.brc_effect.specs.declared.outcomes.ZeroStep.TheVariants as zeros
 use Rattle.brc_effect.specs.declared.outcomes.SharedRelease.{SharedRelease}
 use Rattle.brc_effect.specs.declared.outcomes.SharedRelease.TheVariants as shared
-use Rattle.brc_effect.specs.declared.outcomes.MergeStep.{MergeStep}
-use Rattle.brc_effect.specs.declared.outcomes.MergeStep.TheVariants as merge
-use Rattle.brc_effect.specs.Outcomes.{zero_answer, shared_answer, merge_answer}
-use Rattle.brc_heap.specs.Calls.{counts_here, released_locally, chained, chained_by, local_answer, local_left, zero_left, shared_left, merge_tried, merge_left}
+use Rattle.brc_effect.specs.Outcomes.{zero_answer, shared_answer}
+use Rattle.brc_heap.specs.Calls.{counts_here, released_locally, chained, chained_by, local_answer, local_left, zero_left, shared_left}
 use Rattle.brc_effect.specs.Outcomes.{local_answer as local_release}
 use Rattle.brc_heap.specs.Steps.{HasStepped, ended}
-use Rattle.brc_heap.specs.Tries.{lowered, zero_dies, shared_dies, merge_dies, carries_of, swap_left, still_carried}
+use Rattle.brc_heap.specs.Tries.{lowered, zero_dies, shared_dies}
 use Rattle.brc_heap.proofs.Stepping.{plain_first, die_first, plain_begins, plain_on, IsPiece}
 use Rattle.brc_heap.proofs.Sight.{same_sight}
 use Rattle.brc_heap.proofs.Leaving.{WorksAt, begun_works}
@@ -61,6 +57,7 @@ lowered_stepped v u x word h rest next is =
           → u ≡ done v word → counts_here v word ≡ counts_here u word
       counts_still v u x word h rest next is =
           ap (λ (z : View). counts_here z word) (sym (is ∙ ap (λ (ds : List Duty). did v ds word) next))
+
       loaded : (v u : View) (x word : ℕ) (h : Holding) (rest : List Duty) → v.agenda ≡ ReleaseLoad x h ∷ rest
           → u ≡ done v word
           → HasStepped v (loaded_next x word (is_immortal_word word) (counts_here u word) ++ rest) u

@@ -2,7 +2,7 @@
 -- each is the hand's next duty, which finds some word (`done`).
 use Rattle.std.specs.Prelude.{◌≡◌, ◌≢◌, ◌⊎◌, ◌<◌, ◌≤◌, ◌++◌, true, ℕ, ◌+◌, ◌*◌, ◌==◌, Bool, not, if◌then◌else◌, List, [], ◌∷◌, None, Some}
 use Rattle.std.specs.List.{filter}
-use Rattle.brc_word.specs.Words.{owner_part, most_local, half, local_part, is_immortal_word, free_word, fresh_word, dead_word, released_word, merged_word}
+use Rattle.brc_word.specs.Words.{owner_part, most_local, half, local_part, is_immortal_word, free_word}
 use Rattle.brc_lang.specs.declared.kind.Kind.{Kind}
 use Rattle.brc_lang.specs.declared.kind.Kind.TheVariants as kinds
 use Rattle.brc_model.specs.Limits.{cell_limit}

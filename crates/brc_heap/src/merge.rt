@@ -178,8 +178,8 @@ impl<T: Drop> Heap<T> {
                 reason,
             },
         );
-        // `Merges`, `MergesToZero`, `MergesForHanded`, `MergeLost` (PEP 703, Biased Reference Counting: the owner's count
-        // is added to the shared one): a compare-exchange, because other threads count there meanwhile.
+        // `Merges`, `MergesToZero`, `MergesForHanded`, `MergeLost` (PEP 703, Biased Reference Counting: the owner's
+        // count is added to the shared one): a compare-exchange, because other threads count there meanwhile.
         let found = words.step(
             hand,
             Duty::MergeExchange {

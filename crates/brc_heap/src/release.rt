@@ -50,8 +50,8 @@ impl<T: Drop> Heap<T> {
         ensures references { hand.new.view.references
             ≡ without_reference hand.old.view.layout row hand.old.view.references }
     {
-        // `ReleasesImmortal`, `OwnerReleases`, `OtherReleases` (PEP 703, Biased Reference Counting: `Py_DECREF`): who owns
-        // the object decides.
+        // `ReleasesImmortal`, `OwnerReleases`, `OtherReleases` (PEP 703, Biased Reference Counting: `Py_DECREF`): who
+        // owns the object decides.
         let word = self.words().release_load(hand, row);
         self.lower(hand, row, word)
     }
@@ -120,9 +120,7 @@ impl<T: Drop> Heap<T> {
     {
         // `NothingShared`, `WasShared` (PEP 703, Biased Reference Counting: the owner frees the object, or merges the
         // counts): the whole word decides, since an object at count 0 may be queued (`count_alone_decides`).
-        let word = self
-            .words()
-            .go_on(hand, work, Duty::DecideAtZero { row });
+        let word = self.words().go_on(hand, work, Duty::DecideAtZero { row });
         let step = zero_step(word);
         match step {
             ZeroStep::Dying => self.chain(hand, row),
@@ -151,8 +149,8 @@ impl<T: Drop> Heap<T> {
         self.release_shared(hand, row, Work::Aside)
     }
 
-    /// Tries once to give up a reference in the shared word: the work of `try_release_shared`, which may come next, with
-    /// other duties behind it.
+    /// Tries once to give up a reference in the shared word: the work of `try_release_shared`, which may come next,
+    /// with other duties behind it.
     #[inline(always)]
     pub fn release_shared(&self, hand: &mut Hand<T>, row: u32, work: Work) -> SharedRelease
         requires table { IsOf self.now hand.old }
@@ -172,9 +170,9 @@ impl<T: Drop> Heap<T> {
         let reason = Reason::Own;
         // `SharedRead`: count and state together decide the new word.
         let word = words.go_on(hand, work, Duty::SharedLoad { row, reason });
-        // `Queues`, `Decrements`, `DecrementsToZero`, `ExchangeLost` (PEP 703, Biased Reference Counting: a decrement by
-        // a thread that isn't the owner): a compare-exchange, because a plain store would undo another thread's count
-        // (`lost_exchange_forgotten`). At (0, default) the count keeps the reference (`release_below_zero`).
+        // `Queues`, `Decrements`, `DecrementsToZero`, `ExchangeLost` (PEP 703, Biased Reference Counting: a decrement
+        // by a thread that isn't the owner): a compare-exchange, because a plain store would undo another thread's
+        // count (`lost_exchange_forgotten`). At (0, default) the count keeps the reference (`release_below_zero`).
         let found = words.step(hand, Duty::SharedExchange { row, reason, word });
         let release = shared_release(word, found);
         match release {

@@ -70,8 +70,9 @@ impl<'h, T: Drop> Queue<'h, T> {
             → HasStepped (turned_to work hand.old.view row) (Look row ∷ rest) hand.new.view }
     {
         let words = self.heap.words();
-        // `Marked` (PEP 703, Biased Reference Counting: the object is added to its owner's queue): the mark is set before
-        // the look, because an owner that leaves in between may have scanned the mark by then (`post_without_look`).
+        // `Marked` (PEP 703, Biased Reference Counting: the object is added to its owner's queue): the mark is set
+        // before the look, because an owner that leaves in between may have scanned the mark by then
+        // (`post_without_look`).
         words.go_on(hand, work, Duty::SetMark { row });
     }
 
@@ -114,8 +115,8 @@ impl<'h, T: Drop> Queue<'h, T> {
         if runs(said) {
             return Looked::Left;
         }
-        // `MarkTakenBack`, `MarkGone`: a swap, because the owner's exit may take the mark at the same time, and only one
-        // may merge the object.
+        // `MarkTakenBack`, `MarkGone`: a swap, because the owner's exit may take the mark at the same time, and only
+        // one may merge the object.
         let found = words.step(hand, Duty::TakeMark { row });
         taken(found)
     }

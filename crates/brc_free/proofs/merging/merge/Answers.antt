@@ -17,7 +17,8 @@ pub returns-in-None-clause-work : goal.returns-in-None-clause-work
 returns-in-None-clause-work g c =
     let duty = c.requires.duty in
     subst (λ (ds : List Duty). HasWorked c.args.hand.now.view [] ds c.take_local.new.hand.view)
-    (ap (λ (o : Option ℕ). swap_left c.args.row duty.reason o ++ duty.rest) c.in-None.is ∙ sym (ap merge_left duty.next))
+    (ap (λ (o : Option ℕ). swap_left c.args.row duty.reason o ++ duty.rest) c.in-None.is
+    ∙ sym (ap merge_left duty.next))
     (worked_by (c.take_local.ensures.left duty.reason duty.rest duty.next))
 
 pub loop-init : goal.loop-init

@@ -34,19 +34,26 @@ share_next v x answer rest is next =
 
 pub decide_at_zero-requires-clause-duty : goal.decide_at_zero-requires-clause-duty
 decide_at_zero-requires-clause-duty g c =
-    let (rest, next) = c.requires.duty in record { rest = rest; next = zero_next c.args.hand.now.view c.args.row c.args.release rest c.in-Zero.is next }
+    let (rest, next) = c.requires.duty in
+    record { rest = rest; next = zero_next c.args.hand.now.view c.args.row c.args.release rest c.in-Zero.is next }
 
 pub returns-in-Zero-clause-work : goal.returns-in-Zero-clause-work
 returns-in-Zero-clause-work g c = λ rest next.
     subst (λ (ds : List Duty). HasWorked c.args.hand.now.view [] ds c.decide_at_zero.new.hand.view)
-    (ap behind (zero_next c.args.hand.now.view c.args.row c.args.release rest c.in-Zero.is next)) c.decide_at_zero.ensures.work
+    (ap behind (zero_next c.args.hand.now.view c.args.row c.args.release rest c.in-Zero.is next))
+    c.decide_at_zero.ensures.work
 
 pub give_up-requires-clause-duty : goal.give_up-requires-clause-duty
 give_up-requires-clause-duty g c =
     let (rest, next) = c.requires.duty in
-    record { reason = Own; rest = rest; next = share_next c.args.hand.now.view c.args.row c.args.release rest c.in-Share.is next }
+    record {
+      reason = Own;
+      rest = rest;
+      next = share_next c.args.hand.now.view c.args.row c.args.release rest c.in-Share.is next;
+    }
 
 pub returns-in-Share-clause-work : goal.returns-in-Share-clause-work
 returns-in-Share-clause-work g c = λ rest next.
     subst (λ (ds : List Duty). HasWorked c.args.hand.now.view [] ds c.give_up.new.hand.view)
-    (ap behind (share_next c.args.hand.now.view c.args.row c.args.release rest c.in-Share.is next)) c.give_up.ensures.work
+    (ap behind (share_next c.args.hand.now.view c.args.row c.args.release rest c.in-Share.is next))
+    c.give_up.ensures.work

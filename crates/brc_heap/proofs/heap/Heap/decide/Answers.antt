@@ -1,4 +1,3 @@
-use Rattle.std.proofs.Common.{◌≡◌}
 use Rattle.brc_heap.proofs.Tries.{zero_dying, zero_merges}
 use Rattle.brc_heap.proofs.heap.Heap.decide.Goals as goal
 

@@ -2,7 +2,6 @@ use Rattle.std.proofs.Common.{◌≡◌, List, [], ◌∷◌, sym, ap, ◌∙◌
 use Rattle.brc_model.specs.declared.duty.Duty.{Duty}
 use Rattle.brc_model.specs.declared.duty.Duty.TheVariants.{MergeLoad}
 use Rattle.brc_model.specs.declared.duty.Reason.{Reason}
-use Rattle.brc_table.specs.declared.view.View.{View}
 use Rattle.brc_table.specs.Views.{turned, work_about}
 use Rattle.brc_effect.specs.declared.outcomes.MergeStep.{MergeStep}
 use Rattle.brc_heap.specs.Calls.{merge_left}

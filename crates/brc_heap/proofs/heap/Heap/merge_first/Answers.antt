@@ -1,4 +1,4 @@
-use Rattle.std.proofs.Common.{◌≡◌, ℕ, Option, Some, List, [], ◌∷◌, refl, sym, ap, ◌∙◌, subst, append-nil}
+use Rattle.std.proofs.Common.{◌≡◌, ℕ, Option, List, [], ◌∷◌, refl, sym, ◌∙◌, subst, append-nil}
 use Rattle.std.proofs.lemmas.Bool.{eq-eqb}
 use Rattle.brc_model.specs.declared.duty.Duty.{Duty}
 use Rattle.brc_model.specs.declared.duty.Duty.TheVariants.{MergeSwap, MergeLoad}
@@ -26,9 +26,11 @@ begun g c r duty =
 
 pub merge_carried-requires-clause-duty : goal.merge_carried-requires-clause-duty
 merge_carried-requires-clause-duty g c =
-    let (r, first) = c.requires.duty in
-    (r, (begun_some c.in-Some.is
-    (begun g (goal.at.merge_carried-requires-clause-duty g c).After-take_local r first.duty)).left_is)
+    let (r, first) = c.requires.duty in (
+      r,
+      (begun_some c.in-Some.is
+          (begun g (goal.at.merge_carried-requires-clause-duty g c).After-take_local r first.duty)).left_is,
+    )
 
 pub returns-in-Some-clause-first : goal.returns-in-Some-clause-first
 returns-in-Some-clause-first g c =
@@ -51,7 +53,7 @@ returns-in-Some-clause-again g c = λ r first again. (
   c.in-Some.carried,
   c.merge_carried.ensures.again r
       (begun_some c.in-Some.is
-    (begun g (goal.at.returns-in-Some-clause-again g c).After-take_local r first.duty)).left_is again,
+      (begun g (goal.at.returns-in-Some-clause-again g c).After-take_local r first.duty)).left_is again,
 )
 
 pub returns-in-Some-clause-left : goal.returns-in-Some-clause-left

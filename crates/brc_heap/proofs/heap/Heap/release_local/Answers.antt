@@ -14,7 +14,8 @@ use Rattle.brc_heap.proofs.heap.Heap.release_local.Goals as goal
 
 -- What the release leaves, behind its load.
 stepped : (g : given.Over) (c : After-lower g)
-    → HasStepped (releasing c.args.hand.now.view c.args.row) (local_left c.args.row c.lower.result) c.lower.new.hand.view
+    → HasStepped (releasing c.args.hand.now.view c.args.row) (local_left c.args.row c.lower.result)
+    c.lower.new.hand.view
 stepped g c =
     subst (λ (ds : List Duty). HasStepped (releasing c.args.hand.now.view c.args.row) ds c.lower.new.hand.view)
     (append-nil (local_left c.args.row c.lower.result))
@@ -32,7 +33,8 @@ returns-clause-events g c = (
   c.release_load-word.ensures.owner,
   c.lower.ensures.answer
       ∙ ap (λ (v : View). local_answer v c.release_load-word.result) c.release_load-word.ensures.view,
-  c.lower.ensures.view ∙ lowered_here c.args.hand.now.view c.args.row c.release_load-word.result c.release_load-word.ensures.view,
+  c.lower.ensures.view
+      ∙ lowered_here c.args.hand.now.view c.args.row c.release_load-word.result c.release_load-word.ensures.view,
 )
 
 pub returns-clause-left : goal.returns-clause-left
@@ -46,4 +48,5 @@ returns-clause-references g c = (stepped g (goal.at.returns-clause-references g 
 pub returns-clause-own : goal.returns-clause-own
 returns-clause-own g c = λ shares mine.
     let (word, owner, answer, view) = returns-clause-events g c in
-    (word, share_unowned c.args.hand.now.view c.args.row word c.requires.running.0 owner mine (sym shares ∙ answer), view)
+    let none = share_unowned c.args.hand.now.view c.args.row word c.requires.running.0 owner mine (sym shares ∙ answer)
+    in (word, none, view)

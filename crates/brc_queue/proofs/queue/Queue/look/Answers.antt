@@ -1,4 +1,4 @@
-use Rattle.std.proofs.Common.{◌≡◌, List, [], subst, append-nil}
+use Rattle.std.proofs.Common.{List, [], subst, append-nil}
 use Rattle.brc_model.specs.declared.duty.Duty.{Duty}
 use Rattle.brc_table.specs.Views.{turned}
 use Rattle.brc_heap.specs.Marks.{look_left}

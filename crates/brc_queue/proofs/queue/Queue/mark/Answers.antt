@@ -1,4 +1,4 @@
-use Rattle.std.proofs.Common.{◌≡◌, [], ◌∷◌, refl}
+use Rattle.std.proofs.Common.{[], refl}
 use Rattle.std.proofs.lemmas.Bool.{eq-eqb}
 use Rattle.brc_heap.proofs.Leaving.{turned_works}
 use Rattle.brc_heap.proofs.Stepping.{stepped_leaves}
