@@ -1,14 +1,11 @@
 -- How a hand that does duty after duty goes on.
-use Rattle.std.proofs.Common.{◌≡◌, ◌≢◌, ℕ, ◌+◌, ◌-◌, ◌<◌, Bool, true, false, List, [], ◌∷◌, ◌++◌, append_assoc, append-nil, Some, refl, sym, ap, ◌∙◌, subst, arith}
-use Rattle.std.specs.Prelude.{◌==◌, if◌then◌else◌}
-use Rattle.std.proofs.lemmas.Bool.{ne_eqb}
+use Rattle.std.proofs.Common.{◌≡◌, ◌≢◌, ℕ, ◌+◌, ◌-◌, ◌<◌, Bool, false, List, [], ◌∷◌, ◌++◌, append_assoc, append-nil, Some, refl, sym, ap, ◌∙◌, subst, arith}
 use Rattle.brc_host.specs.HostCalls.{HostCall, host_faults}
 use Rattle.brc_host.proofs.Answering.{host_faults_then}
 use Rattle.brc_model.specs.declared.duty.Duty.{Duty}
 use Rattle.brc_model.specs.declared.duty.Duty.TheVariants.{TakeSlot}
 use Rattle.brc_model.specs.Duties.{ready, continuation, new_head}
-use Rattle.brc_model.specs.Machine.{is_running, status_by, used_by}
-use Rattle.brc_model.specs.OpenWork.{is_finalising, finalised}
+use Rattle.brc_model.specs.Machine.{is_running}
 use Rattle.brc_table.specs.declared.view.View.{View}
 use Rattle.brc_table.specs.Views.{RowsAreThere, did, done, slot_emptied, slot_emptied_by}
 use Rattle.brc_heap.specs.Steps.{Keeps, HasStepped, Steps, TakesNothing, Begun as NoStep, Next as OneStep}
@@ -124,6 +121,7 @@ works_of v w (OneStep u found before takes) =
       unslotted : (ds : List Duty) (u : View) → TakesNothing ds → slot_emptied_by ds u ≡ u
       unslotted (TakeSlot x ∷ rest) u takes = absurd takes
       unslotted _ u takes = refl
+
       none : (ds : List Duty) → TakesNothing ds → closes_by ds false ≡ []
       none (TakeSlot x ∷ rest) takes = absurd takes
       none _ takes = refl

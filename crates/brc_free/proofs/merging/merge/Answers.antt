@@ -1,9 +1,6 @@
-use Rattle.std.proofs.Common.{◌≡◌, ℕ, Option, None, Some, List, [], ◌∷◌, ◌++◌, refl, sym, ap, ◌∙◌, subst}
+use Rattle.std.proofs.Common.{ℕ, Option, List, [], ◌++◌, refl, sym, ap, ◌∙◌, subst}
 use Rattle.brc_model.specs.declared.duty.Duty.{Duty}
-use Rattle.brc_model.specs.declared.duty.Duty.TheVariants.{MergeSwap, MergeLoad}
-use Rattle.brc_model.specs.declared.duty.Reason.{Reason}
-use Rattle.brc_model.specs.Duties.{once_merged}
-use Rattle.brc_table.specs.declared.view.View.{View}
+use Rattle.brc_model.specs.declared.duty.Duty.TheVariants.{MergeLoad}
 use Rattle.brc_effect.specs.declared.outcomes.MergeStep.{MergeStep}
 use Rattle.brc_heap.specs.Calls.{merge_left as tried_left}
 use Rattle.brc_heap.specs.Tries.{swap_left}

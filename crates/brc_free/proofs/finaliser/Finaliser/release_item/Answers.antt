@@ -1,4 +1,4 @@
-use Rattle.std.proofs.Common.{List, [], ◌∷◌, ◌++◌, sym, ap, ◌∙◌, subst}
+use Rattle.std.proofs.Common.{List, [], ◌++◌, sym, ap, subst}
 use Rattle.brc_model.specs.declared.duty.Holding.TheVariants.{InFlight}
 use Rattle.brc_model.specs.declared.duty.Duty.{Duty}
 use Rattle.brc_heap.specs.Calls.{local_left}
