@@ -10,7 +10,7 @@ use Rattle.brc_command.specs.declared.step_fault.StepFault.TheVariants.{Output}
 use Rattle.brc_command.specs.declared.stop.Stop.{Stop}
 use Rattle.brc_command.specs.declared.stop.Stop.TheVariants.{UnreadableFile, NoFunction as Unknown, NoThread, Fault}
 use Rattle.brc_command.specs.Commands.{HasCheckReport, IsModuleReason}
-use Rattle.brc_command.specs.Files.{Outcome, IsReported, IsStoppedAt, IsNamedLine, IsObject, IsSomeObject, IsOutcome}
+use Rattle.brc_command.specs.Files.{Outcome, IsReported, IsStoppedAt, IsNamedLine, IsObject, IsOutcome}
 use Rattle.brc_command.specs.Findings.{IsFinding, finding_status}
 
 reported_by : (P Q : List ℕ → Type 0) (status : ℕ) (o : Outcome) → ((text : List ℕ) → P text → Q text)

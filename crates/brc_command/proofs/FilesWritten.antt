@@ -1,6 +1,6 @@
 -- What is written of several files, from what is written of each.
 use Rattle.std.proofs.Common.{◌≡◌, ◌≢◌, ◌⊎◌, ℕ, ◌+◌, ◌<◌, max, Bool, List, [], ◌∷◌, ◌++◌, map, length, take, get_or, Option}
-use Rattle.std.proofs.Common.{flat_map, inl, inr, refl, sym, ap, ◌∙◌, subst, append-nil, append_assoc, arith}
+use Rattle.std.proofs.Common.{flat_map, inl, inr, refl, sym, ap, ◌∙◌, subst, append-nil, arith}
 use Rattle.std.specs.Borrow.{Bor}
 use Rattle.std.specs.Io.KnownBytes.{Appends}
 use Rattle.std.specs.List.{AllByRecursion}
@@ -12,7 +12,7 @@ use Rattle.brc_command.specs.declared.step_fault.StepFault.TheVariants.{Output}
 use Rattle.brc_command.specs.declared.stop.Stop.{Stop}
 use Rattle.brc_command.specs.declared.stop.Stop.TheVariants.{UnreadableFile, NoFunction as Unknown, NoThread, Fault}
 use Rattle.brc_command.specs.Commands.{Reports, LeavesReport}
-use Rattle.brc_command.specs.Files.{Outcome, prefix, Begins, IsReported, IsStoppedAt, IsWritten, AreWritten, greatest}
+use Rattle.brc_command.specs.Files.{Outcome, prefix, IsStoppedAt, IsWritten, AreWritten, greatest}
 use Rattle.brc_command.specs.Lines.{stop_text, stop_status}
 use Rattle.brc_command.proofs.Writing.{both_written, nothing_written}
 

@@ -1,5 +1,5 @@
 -- The JSON object of what is found of a file. Its members stand in the order of their names.
-use Rattle.std.specs.Prelude.{◌≡◌, ℕ, List, ◌∷◌, map, Option, None, Some, codes}
+use Rattle.std.specs.Prelude.{◌≡◌, ℕ, List, map, Option, None, Some, codes}
 use Rattle.std.specs.Str.Lossy.{utf8_lossy}
 use Rattle.brc_lang.specs.Grammar.{line}
 use Rattle.brc_explain.specs.declared.rows.StepRow.{StepRow}

@@ -1,7 +1,7 @@
-use Rattle.std.proofs.Common.{◌++◌, inl, inr, refl, sym, subst}
+use Rattle.std.proofs.Common.{◌++◌, inl, inr, refl}
 use Rattle.brc_command.specs.declared.files.Format.TheVariants.{Text as InLines}
 use Rattle.brc_command.specs.Commands.{IsModuleReason}
-use Rattle.brc_command.specs.Files.{IsNamedLine, IsOutcome, IsWritten, prefix}
+use Rattle.brc_command.specs.Files.{IsNamedLine, IsOutcome, prefix}
 use Rattle.brc_command.specs.Lines.{stop_text}
 use Rattle.brc_command.proofs.FilesWritten.{reported, stopped}
 use Rattle.brc_command.proofs.Outputs.{begun_anyway}

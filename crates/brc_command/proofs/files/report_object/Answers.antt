@@ -1,7 +1,7 @@
-use Rattle.std.proofs.Common.{ℕ, List, ◌++◌, option_map, inl, inr, refl, sym, subst}
+use Rattle.std.proofs.Common.{ℕ, List, ◌++◌, option_map, inl, inr, refl}
 use Rattle.std.specs.Borrow.{Bor}
 use Rattle.brc_command.specs.declared.files.Format.TheVariants.{Json}
-use Rattle.brc_command.specs.Files.{IsObject, IsSomeObject, IsWriteReason, IsOutcome, IsWritten, prefix}
+use Rattle.brc_command.specs.Files.{IsObject, IsSomeObject, IsWriteReason, IsOutcome, prefix}
 use Rattle.brc_command.specs.Findings.{finding_status}
 use Rattle.brc_command.specs.Lines.{stop_text}
 use Rattle.brc_command.proofs.FilesWritten.{reported, stopped}

@@ -1,8 +1,6 @@
-use Rattle.std.proofs.Common.{◌≡◌, ◌≤◌, ◌+◌, ◌*◌, ℕ, List, take, Some, ap, sym, ◌∙◌, arith}
-use Rattle.std.specs.Prelude.{position}
+use Rattle.std.proofs.Common.{List, take, ap, sym, ◌∙◌, arith}
 use Rattle.brc_lang.specs.declared.module.Function.{Function}
 use Rattle.brc_command.specs.Accepted.{instruction_count}
-use Rattle.brc_command.specs.Calls.{is_named}
 use Rattle.brc_command.proofs.Calling.{looked_up}
 use Rattle.brc_command.proofs.Found.{few_lines, most_above}
 use Rattle.brc_command.proofs.finding.line_of.Goals as goal
