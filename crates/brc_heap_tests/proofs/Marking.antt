@@ -10,7 +10,8 @@ use Rattle.brc_model.specs.OpenWork.{is_about}
 use Rattle.brc_table.specs.Hands.{MayWait}
 use Rattle.brc_table.specs.declared.view.View.{View}
 use Rattle.brc_table.specs.Views.{open_work, work_about, turned, did, done}
-use Rattle.brc_table.specs.Calls.{CanAct, SetsMark, LooksAtOwner}
+use Rattle.brc_table.specs.Accesses.{IsNext}
+use Rattle.brc_table.specs.Calls.{CanAct}
 
 -- What one test passes, the opposite test doesn't.
 none_left : (p : Duty → Bool) (ds : List Duty) → filter p (filter (λ d. not (p d)) ds) ≡ []
@@ -24,9 +25,6 @@ none_left p (d ∷ ds) = elim (cases_Bool (p d)) [
       ∙ (ap (λ (b : Bool). cond b (d ∷ filter p (filter (λ e. not (p e)) ds)) (filter p (filter (λ e. not (p e)) ds))) other
       ∙ none_left p ds)
 ]
-
-pub sets : (v : View) (x : ℕ) → work_about x v ≡ SetMark x ∷ [] → SetsMark x (work_about x v)
-sets v x is = subst (SetsMark x) (sym is) refl
 
 look_ready : (head x : ℕ) → ready head (Look x ∷ []) ≡ Look x ∷ []
 look_ready zero x = refl
@@ -42,10 +40,10 @@ looks_next v x is =
     ∙ ap (λ (ds : List Duty). Look x ∷ ds) (none_left (is_about x) (open_work v))))
 
 pub looks : (v u : View) (x : ℕ) → work_about x v ≡ SetMark x ∷ [] → u ≡ done (turned v x) 0
-    → LooksAtOwner x (work_about x u)
+    → IsNext (Look x) (work_about x u)
 looks v u x is after =
-    subst (λ (w : View). LooksAtOwner x (work_about x w)) (sym after)
-    (subst (LooksAtOwner x) (sym (looks_next v x is)) refl)
+    subst (λ (w : View). IsNext (Look x) (work_about x w)) (sym after)
+    (subst (IsNext (Look x)) (sym (looks_next v x is)) refl)
 
 pub still_marks : (v u : View) (x : ℕ) → CanAct v → work_about x v ≡ SetMark x ∷ [] → u ≡ done (turned v x) 0
     → CanAct u
