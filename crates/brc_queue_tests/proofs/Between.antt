@@ -15,7 +15,7 @@ use Rattle.brc_table.specs.Calls.{IsFree}
 use Rattle.brc_heap.specs.Calls.{HasBorn, HasGiven, Leaves}
 use Rattle.brc_list.specs.Calls.{Keeps, KeepsButSlot, KeepsBesides, SwapsItem, row_in, word_of}
 use Rattle.brc_free.specs.Works.{HasReleased, HasWorked, ComesToSettle, AtOnce, to_settle}
-use Rattle.brc_free.specs.Works as works
+use Rattle.brc_heap.specs.Steps as steps
 use Rattle.brc_queue_tests.specs.Resting.{HasBack}
 use Rattle.brc_queue_tests.specs.Embedded.{IsResting, Holds}
 use Rattle.brc_queue_tests.proofs.References.{without_with, word_row}
@@ -222,7 +222,7 @@ after_release {heap} {before} {after} {between} x rest released table head worke
 
 -- So it does after it has looked through its queue.
 pub after_looking : {heap : TableState} {before after : HandState} → Holds heap before None → IsOf heap after
-    → IsFree after.view → after.view.head ≡ 0 → works.Keeps before.view after.view → Holds heap after None
+    → IsFree after.view → after.view.head ≡ 0 → steps.Keeps before.view after.view → Holds heap after None
 after_looking {heap} {before} {after} rest table free head keeps =
     rests_again rest table keeps.layout keeps.status (subst MayWait (sym free.agenda) tt)
     (ap (λ (ds : List Duty). ds ++ after.view.aside) free.agenda ∙ free.aside) head
