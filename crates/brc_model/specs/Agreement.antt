@@ -9,7 +9,8 @@ use Rattle.brc_model.specs.declared.duty.Reason.TheVariants.{Handed}
 use Rattle.brc_model.specs.declared.duty.Duty.{Duty}
 use Rattle.brc_model.specs.declared.duty.Duty.TheVariants.{DecideAtZero, SharedLoad, SharedExchange, SetMark, MergeSwap, MergeLoad, MergeExchange}
 use Rattle.brc_model.specs.declared.address.Address.TheVariants.{Local, Shared, Mark}
-use Rattle.brc_model.specs.Machine.{Live, Actor, Machine}
+use Rattle.brc_model.specs.declared.actor.Actor.{Actor}
+use Rattle.brc_model.specs.Machine.{Live, Machine}
 use Rattle.brc_model.specs.Layout.{block_of}
 
 -- ---- weights of a duty at a row

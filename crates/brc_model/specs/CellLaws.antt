@@ -9,7 +9,8 @@ use Rattle.brc_model.specs.Layout.{row_count, IsCounted}
 use Rattle.brc_model.specs.AbstractState.{Move, PassOn, ByThread, ByCell, moved}
 use Rattle.brc_model.specs.References.{reference_of, cell_reference}
 use Rattle.brc_model.specs.Duties.{cells_of}
-use Rattle.brc_model.specs.Machine.{Actor, Machine, written}
+use Rattle.brc_model.specs.declared.actor.Actor.{Actor}
+use Rattle.brc_model.specs.Machine.{Machine, written}
 use Rattle.brc_model.specs.Accounts.{Account, Accounts, most_lent}
 use Rattle.brc_model.specs.Knowledge.{HasNoRetainAside}
 use Rattle.brc_model.specs.Counting.{Counts, with_account, with_one_more, with_one_less, IsReady, HasNoneAbout, MayGiveUp}

@@ -16,7 +16,8 @@ use Rattle.brc_model.specs.Duties.{address_of, cells_of}
 use Rattle.brc_model.specs.Moves.{gain}
 use Rattle.brc_model.specs.Layout.{row_count, row_at, block_of, is_immortal_row, IsCounted}
 use Rattle.brc_model.specs.Limits.{cell_limit}
-use Rattle.brc_model.specs.Machine.{Actor, Machine, Unborn, has_room, is_running, used_by, with_actor, with_moves, done_by}
+use Rattle.brc_model.specs.declared.actor.Actor.{Actor}
+use Rattle.brc_model.specs.Machine.{Machine, Unborn, has_room, is_running, used_by, with_actor, with_moves, done_by}
 use Rattle.brc_model.specs.BadDuties.{is_bad_duty}
 use Rattle.brc_model.specs.Accounts.{Accounts, HoldsNone, most_lent}
 use Rattle.brc_model.specs.OpenWork.{exits, finalised, may_wait}

@@ -5,7 +5,8 @@ use Rattle.brc_model.specs.declared.duty.Holding.{Holding}
 use Rattle.brc_model.specs.declared.address.Address.{Address}
 use Rattle.brc_model.specs.declared.address.Address.TheVariants.{Gate}
 use Rattle.brc_model.specs.declared.layout.Layout.{Layout}
-use Rattle.brc_model.specs.Machine.{Actor, Life, Unborn, Live, Dying, Closed, Machine}
+use Rattle.brc_model.specs.declared.actor.Actor.{Actor}
+use Rattle.brc_model.specs.Machine.{Life, Unborn, Live, Dying, Closed, Machine}
 use Rattle.brc_model.specs.References.{one_if}
 use Rattle.brc_model.specs.RowInvariant.{agenda_weight}
 use Rattle.brc_model.specs.Accounts.{Account, lacks}

@@ -7,7 +7,8 @@ use Rattle.brc_model.specs.declared.actor.Status.TheVariants.{Gone}
 use Rattle.brc_model.specs.declared.address.Address.TheVariants.{Local, Gate, Mark, Cell, Slot}
 use Rattle.brc_model.specs.Layout.{block_of}
 use Rattle.brc_model.specs.Duties.{address_of}
-use Rattle.brc_model.specs.Machine.{Actor, Machine, Unborn, Dying, same_address, done_by}
+use Rattle.brc_model.specs.declared.actor.Actor.{Actor}
+use Rattle.brc_model.specs.Machine.{Machine, Unborn, Dying, same_address, done_by}
 use Rattle.brc_model.specs.Knowledge.{HasChained, GuardsCells}
 use Rattle.brc_model.specs.Accounts.{Accounts, HoldsNone}
 use Rattle.brc_model.specs.OpenWork.{is_finalising}

@@ -12,7 +12,8 @@ use Rattle.brc_model.specs.declared.address.Address.TheVariants.{Local, Shared, 
 use Rattle.brc_model.specs.declared.actor.Status.{Status}
 use Rattle.brc_model.specs.declared.actor.Status.TheVariants.{Running, Leaving, Gone}
 use Rattle.brc_model.specs.Duties.{cells_of, has_resource, resources_of}
-use Rattle.brc_model.specs.Machine.{Actor, Unborn, Dying, Machine}
+use Rattle.brc_model.specs.declared.actor.Actor.{Actor}
+use Rattle.brc_model.specs.Machine.{Unborn, Dying, Machine}
 use Rattle.brc_model.specs.References.{held, reference_of}
 use Rattle.brc_model.specs.Layout.{block_of, block_size, row_at, IsCounted}
 

@@ -1,6 +1,7 @@
 -- The counting machine: the memory, with a word at each address; the threads, each with an agenda; and beside them the
 -- abstract state and the life of each row. A step is a thread's first duty. The machine knows no code.
 use Rattle.std.specs.Prelude.{ℕ, ◌+◌, Bool, true, false, ◌&&◌, ◌==◌, nat_lt, if◌then◌else◌, List, [], ◌∷◌, ◌++◌, Option, None, Some, slice_set}
+use Rattle.brc_model.specs.declared.actor.Actor.{Actor}
 use Rattle.brc_model.specs.declared.actor.Status.{Status}
 use Rattle.brc_model.specs.declared.actor.Status.TheVariants.{Running, Leaving, Gone}
 use Rattle.brc_model.specs.declared.duty.Duty.{Duty}
@@ -15,21 +16,6 @@ use Rattle.brc_model.specs.Layout.{block_size}
 use Rattle.brc_model.specs.Moves.{reference_effects}
 
 -- ---- threads
-
--- A thread, as what it counts with. Which references it holds is said by its account (`Accounts`).
-pub record Actor : Type 0 where
-  pub status : Status
-  pub agenda : List Duty
-  -- duties that the thread has put aside, each about another row (a thread in code has none)
-  pub aside : List Duty
-  -- the head of its dying chain: 0 if the chain is empty, else a row plus 1
-  pub head : ℕ
-  -- the number of rows of its block that it has used
-  pub used : ℕ
-  -- the row of the object that it has locked
-  pub locked : Option ℕ
-  -- the row of the file or socket whose resource it has lent to a call of the host
-  pub lent : Option ℕ
 
 -- a running thread with nothing to do, which has used `used` rows
 abbrev pub idle_actor : ℕ → Actor

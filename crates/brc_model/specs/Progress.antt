@@ -15,7 +15,8 @@ use Rattle.brc_model.specs.declared.duty.Duty.{Duty}
 use Rattle.brc_model.specs.declared.duty.Duty.TheVariants.{MergeExchange}
 use Rattle.brc_model.specs.declared.actor.Status.TheVariants.{Running}
 use Rattle.brc_model.specs.declared.address.Address.TheVariants.{Local, Shared, Gate, KindOf, Mark, Cell, Slot, Resource}
-use Rattle.brc_model.specs.Machine.{Actor, Unborn, Dying, Machine}
+use Rattle.brc_model.specs.declared.actor.Actor.{Actor}
+use Rattle.brc_model.specs.Machine.{Unborn, Dying, Machine}
 use Rattle.brc_model.specs.Actions.{StepActor}
 use Rattle.brc_model.specs.StepMachine.{StepMachine, counting, next_machine, first_machine, machine_after}
 use Rattle.brc_model.specs.CountingLaws.{ComesNext}

@@ -4,7 +4,8 @@ use Rattle.brc_model.specs.declared.duty.Duty.{Duty}
 use Rattle.brc_model.specs.declared.duty.Duty.TheVariants.{SettleCell, BirthKind, CellLoad, CellSwap}
 use Rattle.brc_model.specs.declared.address.Address.TheVariants.{KindOf}
 use Rattle.brc_model.specs.Duties.{cells_of}
-use Rattle.brc_model.specs.Machine.{Actor, Machine}
+use Rattle.brc_model.specs.declared.actor.Actor.{Actor}
+use Rattle.brc_model.specs.Machine.{Machine}
 use Rattle.brc_model.specs.OpenWork.{is_about}
 use Rattle.brc_model.specs.Limits.{cell_limit}
 use Rattle.brc_model.specs.Layout.{row_count}

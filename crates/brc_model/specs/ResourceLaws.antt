@@ -5,7 +5,8 @@ use Rattle.brc_model.specs.declared.duty.Duty.{Duty}
 use Rattle.brc_model.specs.declared.duty.Duty.TheVariants.{SettleEnd}
 use Rattle.brc_model.specs.declared.address.Address.TheVariants.{KindOf, Slot, Resource}
 use Rattle.brc_model.specs.Duties.{has_resource}
-use Rattle.brc_model.specs.Machine.{Actor, Closed, Machine}
+use Rattle.brc_model.specs.declared.actor.Actor.{Actor}
+use Rattle.brc_model.specs.Machine.{Closed, Machine}
 use Rattle.brc_model.specs.StepMachine.{StepMachine, counting}
 use Rattle.brc_model.specs.Progress.{HasLock}
 

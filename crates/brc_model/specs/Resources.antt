@@ -6,7 +6,8 @@ use Rattle.brc_model.specs.declared.duty.Duty.TheVariants.{CloseResource, Settle
 use Rattle.brc_model.specs.declared.address.Address.TheVariants.{KindOf, Slot, Resource}
 use Rattle.brc_model.specs.Slots.{names}
 use Rattle.brc_model.specs.Duties.{resources_of}
-use Rattle.brc_model.specs.Machine.{Actor, Life, Unborn, Live, Dying, Closed, Machine}
+use Rattle.brc_model.specs.declared.actor.Actor.{Actor}
+use Rattle.brc_model.specs.Machine.{Life, Unborn, Live, Dying, Closed, Machine}
 use Rattle.brc_model.specs.References.{one_if}
 use Rattle.brc_model.specs.RowInvariant.{weight}
 

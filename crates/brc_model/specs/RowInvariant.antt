@@ -5,7 +5,8 @@ use Rattle.brc_word.specs.Words.{half, immortal_local, owner_part, local_part, b
 use Rattle.brc_model.specs.declared.duty.Reason.TheVariants.{Own, Handed}
 use Rattle.brc_model.specs.declared.duty.Duty.{Duty}
 use Rattle.brc_model.specs.declared.duty.Duty.TheVariants.{DecideAtZero, SharedLoad, SharedExchange, SetMark, MergeSwap, MergeLoad, MergeExchange}
-use Rattle.brc_model.specs.Machine.{Life, Unborn, Live, Dying, Closed, Actor}
+use Rattle.brc_model.specs.declared.actor.Actor.{Actor}
+use Rattle.brc_model.specs.Machine.{Life, Unborn, Live, Dying, Closed}
 use Rattle.brc_model.specs.References.{one_if}
 
 -- ---- weights of a duty at a row

@@ -10,7 +10,8 @@ use Rattle.brc_model.specs.declared.duty.Duty.TheVariants.{LockGate, UnlockGate,
 use Rattle.brc_model.specs.declared.address.Address.TheVariants.{Gate, KindOf, Slot}
 use Rattle.brc_model.specs.Duties.{address_of, resources_of}
 use Rattle.brc_model.specs.Layout.{IsCounted}
-use Rattle.brc_model.specs.Machine.{Actor, Machine, locked_by}
+use Rattle.brc_model.specs.declared.actor.Actor.{Actor}
+use Rattle.brc_model.specs.Machine.{Machine, locked_by}
 use Rattle.brc_model.specs.Accounts.{Accounts}
 use Rattle.brc_model.specs.Counting.{Counts}
 use Rattle.brc_model.specs.CountingLaws.{ComesNext}

@@ -23,7 +23,8 @@ use Rattle.brc_model.specs.AbstractState.{AbstractState, Reference, Move, ByThre
 use Rattle.brc_model.specs.declared.layout.Layout.{Layout}
 use Rattle.brc_model.specs.Layout.{root_row, front_rows, by_row}
 use Rattle.brc_model.specs.Duties.{address_of}
-use Rattle.brc_model.specs.Machine.{Actor, idle_actor, Life, Unborn, Live, Machine, actor_by, done_by}
+use Rattle.brc_model.specs.declared.actor.Actor.{Actor}
+use Rattle.brc_model.specs.Machine.{idle_actor, Life, Unborn, Live, Machine, actor_by, done_by}
 use Rattle.brc_model.specs.Actions.{StepActor, Action, Skip, Stuck, Silent, Calls, Does, exit_of, action_of}
 
 -- ---- the machine

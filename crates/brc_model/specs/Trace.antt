@@ -10,7 +10,7 @@ use Rattle.brc_model.specs.declared.slot.Exit.{Exit}
 use Rattle.brc_model.specs.declared.slot.State.{State}
 use Rattle.brc_model.specs.declared.actor.Place.{Place}
 use Rattle.brc_model.specs.Duties.{address_of, new_word}
-use Rattle.brc_model.specs.Machine.{Actor}
+use Rattle.brc_model.specs.declared.actor.Actor.{Actor}
 use Rattle.brc_model.specs.Actions.{StepActor, Action, Skip, Stuck, Silent, Calls, Does, action_of}
 use Rattle.brc_model.specs.StepMachine.{StepMachine, of_thread, at_place, step_actor, next_machine}
 use Rattle.brc_model.specs.AbstractState.{Move}

@@ -8,7 +8,8 @@ use Rattle.brc_model.specs.declared.address.Address.TheVariants.{Local, Shared, 
 use Rattle.brc_model.specs.declared.duty.Duty.{Duty}
 use Rattle.brc_model.specs.declared.duty.Duty.TheVariants.{RetainLoad, RetainStore, RetainAdd, ReleaseLoad, ReleaseStore, SharedLoad, SharedExchange, MergeLoad, MergeExchange, SettleCell, TakeSlot, CloseResource, CellLoad, CellSwap, LendSlot, ReturnSlot}
 use Rattle.brc_model.specs.Duties.{address_of}
-use Rattle.brc_model.specs.Machine.{Actor, used_by, is_running}
+use Rattle.brc_model.specs.declared.actor.Actor.{Actor}
+use Rattle.brc_model.specs.Machine.{used_by, is_running}
 use Rattle.brc_model.specs.World.{World}
 use Rattle.brc_model.specs.Actions.{StepActor, Does, action_of}
 use Rattle.brc_model.specs.Limits.{cell_limit}

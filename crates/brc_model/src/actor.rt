@@ -1,3 +1,4 @@
+use crate::duty::Duty;
 use crate::slot::Exit;
 use brc_lang::Variable;
 use std::collections::LinkedList;
@@ -11,6 +12,25 @@ pub enum Status {
     Leaving,
     /// It takes no further step.
     Gone,
+}
+
+/// A thread, as what it counts with. No value of it is made: it is part of what contracts say of a thread. Which
+/// references it holds is said by its account.
+pub struct Actor {
+    /// Whether the thread runs, is leaving or is gone.
+    pub status: Status,
+    /// The duties that come next.
+    pub agenda: LinkedList<Duty>,
+    /// The duties that the thread has put aside, each about another row. A thread in code has none.
+    pub aside: LinkedList<Duty>,
+    /// The head of its dying chain: 0 if the chain is empty, else a row plus 1.
+    pub head: u32,
+    /// How many rows of its block it has used.
+    pub used: u32,
+    /// The row of the object that it has locked.
+    pub locked: Option<u32>,
+    /// The row of the file or socket whose resource it has lent to a call of the host.
+    pub lent: Option<u32>,
 }
 
 /// What a call counts, and the calls that are open around it. No value of it is made: it is part of what contracts say

@@ -25,7 +25,7 @@ mod thread;
 mod work_laws;
 mod world_laws;
 
-pub use actor::{Context, OpenCall, Place, Stage, Status};
+pub use actor::{Actor, Context, OpenCall, Place, Stage, Status};
 pub use address::Address;
 pub use call_laws::calls_are_bounded;
 pub use cell_laws::{cells_are_swapped, items_are_there};

@@ -20,7 +20,8 @@ use Rattle.brc_model.specs.References.{word_holds}
 use Rattle.brc_table.specs.Places.{place}
 use Rattle.brc_model.specs.Agreement.{awaits, carries, weighed, HasDuty, SomeThreadHas, OwnerHas, decides_or_merges, has_swapped, IsPhase, biased_total, awaiting}
 use Rattle.brc_model.specs.Agreement as model
-use Rattle.brc_model.specs.Machine.{Actor, Life, Unborn, Live, Dying, Closed, Machine, idle_actor}
+use Rattle.brc_model.specs.declared.actor.Actor.{Actor}
+use Rattle.brc_model.specs.Machine.{Life, Unborn, Live, Dying, Closed, Machine, idle_actor}
 use Rattle.brc_model.specs.RowInvariant.{Numbers, Phased, IsDefault, IsQueued, Mode, InOwned, InSwapped, InMerged, IsDead, IsUnborn, RowInvariant}
 use Rattle.brc_model.specs.Invariant.{numbers_of}
 use Rattle.brc_model.specs.Accounts.{Accounts}

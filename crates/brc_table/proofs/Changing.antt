@@ -15,7 +15,8 @@ use Rattle.brc_word.specs.Words.{half}
 use Rattle.brc_model.specs.Limits.{cell_limit}
 use Rattle.brc_model.specs.Actions.{list_word}
 use Rattle.brc_model.specs.Layout.{none_row, root_row, IsCounted}
-use Rattle.brc_model.specs.Machine.{Actor, Machine, idle_actor}
+use Rattle.brc_model.specs.declared.actor.Actor.{Actor}
+use Rattle.brc_model.specs.Machine.{Machine, idle_actor}
 use Rattle.brc_model.specs.Accounts.{Account, Accounts, HoldsNone}
 use Rattle.brc_model.specs.Knowledge.{IsDyingWord}
 use Rattle.brc_model.specs.Counting.{Counts, IsPlainLayout}

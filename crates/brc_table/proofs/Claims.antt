@@ -13,7 +13,7 @@ use Rattle.brc_model.specs.declared.actor.Status.{Status}
 use Rattle.brc_model.specs.declared.actor.Status.TheVariants.{Running, Leaving, Gone}
 use Rattle.brc_model.specs.AbstractState.{same_holding}
 use Rattle.brc_model.specs.References.{one_if}
-use Rattle.brc_model.specs.Machine.{Actor}
+use Rattle.brc_model.specs.declared.actor.Actor.{Actor}
 use Rattle.brc_model.specs.Accounts.{extra, lacks, extra_of, lacks_of}
 use Rattle.brc_model.specs.OpenWork.{Later, Agenda, AgendaFits}
 use Rattle.brc_table.specs.Agreeing.{gives_up, makes}

@@ -14,7 +14,8 @@ use Rattle.brc_model.specs.Gates.{LiveGate, IsFree, IsLocked, GateFits}
 use Rattle.brc_model.specs.Invariant.{CoreInvariant, numbers_of}
 use Rattle.brc_model.specs.Knowledge.{IsBacked, IsNext, HeadFits, HeadOf}
 use Rattle.brc_model.specs.Layout.{block_of, IsCounted}
-use Rattle.brc_model.specs.Machine.{Actor, Life, Unborn, Live, Dying, Closed, Machine}
+use Rattle.brc_model.specs.declared.actor.Actor.{Actor}
+use Rattle.brc_model.specs.Machine.{Life, Unborn, Live, Dying, Closed, Machine}
 use Rattle.brc_model.specs.OpenWork.{AllWait}
 use Rattle.brc_model.specs.RowInvariant.{IsDead, RowInvariant}
 use Rattle.brc_model.proofs.Basics.Blocks.{next_unborn}

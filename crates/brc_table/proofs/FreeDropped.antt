@@ -18,7 +18,8 @@ use Rattle.brc_model.specs.declared.layout.Layout.{Layout}
 use Rattle.brc_model.specs.Layout.{none_row, first_immortal_list, is_immortal_row}
 use Rattle.brc_model.specs.Duties.{continuation, ready}
 use Rattle.brc_model.specs.References.{one_if}
-use Rattle.brc_model.specs.Machine.{Actor, Machine, same_address, written, is_running, life_by, actor_by, done_by, with_actor}
+use Rattle.brc_model.specs.declared.actor.Actor.{Actor}
+use Rattle.brc_model.specs.Machine.{Machine, same_address, written, is_running, life_by, actor_by, done_by, with_actor}
 use Rattle.brc_model.specs.Accounts.{Account, Accounts}
 use Rattle.brc_model.specs.OpenWork.{is_about, about_of}
 use Rattle.brc_model.specs.Counting.{Counts, IsPlainLayout, with_account, with_one_less, working, HasNoneAbout}

@@ -19,7 +19,8 @@ use Rattle.brc_model.specs.declared.layout.Layout.{Layout}
 use Rattle.brc_model.specs.Layout.{row_count, block_of, index_of, root_row, IsCounted}
 use Rattle.brc_model.specs.Duties.{address_of, new_word}
 use Rattle.brc_model.specs.Knowledge.{status_word}
-use Rattle.brc_model.specs.Machine.{Actor, Machine, done_by, written}
+use Rattle.brc_model.specs.declared.actor.Actor.{Actor}
+use Rattle.brc_model.specs.Machine.{Machine, done_by, written}
 use Rattle.brc_model.specs.Progress.{Runs}
 use Rattle.brc_model.specs.Watched.{looks_at, scans_over}
 use Rattle.brc_model.specs.Watched as machine

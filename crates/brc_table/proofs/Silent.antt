@@ -14,7 +14,8 @@ use Rattle.brc_model.specs.declared.duty.Duty.{Duty}
 use Rattle.brc_model.specs.declared.duty.Duty.TheVariants.{BirthSlot, BirthLocal, TakeSlot, CloseResource, SettleEnd}
 use Rattle.brc_model.specs.declared.layout.Layout.{Layout}
 use Rattle.brc_model.specs.Duties.{address_of, new_word, continuation, ready}
-use Rattle.brc_model.specs.Machine.{Actor, Machine, Life, written, is_running, life_by, actor_by, done_by}
+use Rattle.brc_model.specs.declared.actor.Actor.{Actor}
+use Rattle.brc_model.specs.Machine.{Machine, Life, written, is_running, life_by, actor_by, done_by}
 use Rattle.brc_model.specs.CountingLaws.{ComesNext, DutiesAreKept}
 use Rattle.brc_model.specs.SlotLaws.{needs_slot, UsesSlot, NeededSlotsAreUnlocked}
 use Rattle.brc_table.specs.declared.view.View.{View}

@@ -6,7 +6,8 @@ use Rattle.std.proofs.lemmas.Option.{slice_get_within}
 use mathlib.Core.Option.{some, some-injective, some-ne-none}
 use lib.ListN.{get_elem?}
 use Rattle.brc_model.specs.declared.layout.Layout.{Layout}
-use Rattle.brc_model.specs.Machine.{Actor, idle_actor}
+use Rattle.brc_model.specs.declared.actor.Actor.{Actor}
+use Rattle.brc_model.specs.Machine.{idle_actor}
 use Rattle.brc_model.proofs.Basics.Lists.{some_is}
 use Rattle.brc_table.specs.declared.view.View.{View}
 use Rattle.brc_table.specs.Views.{actor_of}

@@ -8,7 +8,8 @@ use Rattle.brc_model.specs.declared.actor.Status.TheVariants.{Running}
 use Rattle.brc_model.specs.declared.layout.Layout.{Layout}
 use Rattle.brc_model.specs.Layout.{row_count, block_size, front_rows, root_row, row_at, is_immortal_row}
 use Rattle.brc_model.specs.Duties.{address_of, new_word, continuation, new_head, ready, cells_of}
-use Rattle.brc_model.specs.Machine.{Actor, is_running, status_by, used_by, locked_by}
+use Rattle.brc_model.specs.declared.actor.Actor.{Actor}
+use Rattle.brc_model.specs.Machine.{is_running, status_by, used_by, locked_by}
 use Rattle.brc_model.specs.OpenWork.{is_about}
 use Rattle.brc_model.specs.Limits.{cell_limit}
 use Rattle.brc_model.specs.CountingLaws.{IsUnfinalised}

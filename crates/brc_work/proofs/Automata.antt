@@ -22,7 +22,8 @@ use Rattle.brc_model.specs.declared.thread.Choice.TheVariants.{Ok, Fault, Claim,
 use Rattle.brc_model.specs.Actions.{StepActor, Action, Skip, Stuck, Silent, Calls, Does, always, dispatch_inside, dispatch, agenda_action, status_action, action_of, is_before_instruction, stop_action, stop_in_call}
 use Rattle.brc_model.specs.Duties.{address_of, new_word}
 use Rattle.brc_model.specs.Layout.{row_at}
-use Rattle.brc_model.specs.Machine.{Actor, actor_by, is_running}
+use Rattle.brc_model.specs.declared.actor.Actor.{Actor}
+use Rattle.brc_model.specs.Machine.{actor_by, is_running}
 use Rattle.brc_model.specs.Stops.{row_locked, owned_rows, stopping}
 use Rattle.brc_model.specs.Threads.{code_of}
 use Rattle.brc_model.specs.Trace.{WordEvent, is_word, MakesStep, GoesSilently, CallsHost, DoesDuty, CanMake, Nothing, Then}

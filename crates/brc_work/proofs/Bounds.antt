@@ -15,7 +15,7 @@ use Rattle.brc_lang.specs.declared.module.Instr.{Instr}
 use Rattle.brc_lang.specs.declared.module.Instr.TheVariants.{Again}
 use Rattle.brc_model.specs.Actions.{dispatch, is_before_instruction}
 use Rattle.brc_model.specs.Bounded.{times_of, call_limit}
-use Rattle.brc_model.specs.Machine.{Actor}
+use Rattle.brc_model.specs.declared.actor.Actor.{Actor}
 use Rattle.brc_model.specs.References.{one_if}
 use Rattle.brc_model.specs.Threads.{code_of}
 use Rattle.brc_model.proofs.Basics.Lists.{all_of_found}

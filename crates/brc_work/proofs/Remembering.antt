@@ -22,7 +22,8 @@ use Rattle.brc_model.specs.declared.slot.Exit.{Exit}
 use Rattle.brc_model.specs.declared.slot.Exit.TheVariants.{Success, Fault as FaultExit}
 use Rattle.brc_model.specs.Actions.{Action, Skip, Stuck, Silent, Calls, Does, always, with_row, number_word, list_word, birth_action, lend_action, first_context, turns_at, turned, by_range, by_item, dispatch_instruction, dispatch_inside, dispatch}
 use Rattle.brc_model.specs.Layout.{row_at}
-use Rattle.brc_model.specs.Machine.{Actor, has_room, actor_by}
+use Rattle.brc_model.specs.declared.actor.Actor.{Actor}
+use Rattle.brc_model.specs.Machine.{has_room, actor_by}
 use Rattle.brc_model.specs.Stops.{holds_some}
 use Rattle.brc_model.specs.Threads.{row_of, entry_variables}
 use Rattle.brc_model.proofs.Basics.Lists.{either}

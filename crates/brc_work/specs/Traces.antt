@@ -26,7 +26,8 @@ use Rattle.brc_model.specs.declared.slot.Exit.TheVariants.{Success, Fault}
 use Rattle.brc_model.specs.Actions.{Silent, Calls, Does, dispatch, number_word, by_variable}
 use Rattle.brc_model.specs.Duties.{address_of, new_word}
 use Rattle.brc_model.specs.Layout.{row_at}
-use Rattle.brc_model.specs.Machine.{Actor, actor_by}
+use Rattle.brc_model.specs.declared.actor.Actor.{Actor}
+use Rattle.brc_model.specs.Machine.{actor_by}
 use Rattle.brc_table.specs.declared.view.View.{View}
 use Rattle.brc_table.specs.declared.view.Event.{Event}
 use Rattle.brc_table.specs.Views.{actor_of}

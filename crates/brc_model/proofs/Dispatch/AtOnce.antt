@@ -8,7 +8,8 @@ use Rattle.brc_model.specs.declared.duty.Duty.{Duty}
 use Rattle.brc_model.specs.declared.duty.Duty.TheVariants.{ReleaseLoad, LockGate, UnlockGate, CellSwap, LendSlot, ReturnSlot}
 use Rattle.brc_model.specs.declared.layout.Layout.{Layout}
 use Rattle.brc_model.specs.Duties.{continuation, new_head}
-use Rattle.brc_model.specs.Machine.{Actor, is_running, is_locking, locked_by, is_lending, lent_by, actor_by}
+use Rattle.brc_model.specs.declared.actor.Actor.{Actor}
+use Rattle.brc_model.specs.Machine.{is_running, is_locking, locked_by, is_lending, lent_by, actor_by}
 use Rattle.brc_model.specs.References.{one_if}
 use Rattle.brc_model.specs.Ranges.{swaps}
 use Rattle.brc_model.proofs.Frame.Items.{drops_items}

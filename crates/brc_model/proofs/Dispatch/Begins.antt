@@ -15,7 +15,8 @@ use Rattle.brc_lang.specs.Grammar.{IsInstruction}
 use Rattle.brc_model.specs.declared.address.Address.{Address}
 use Rattle.brc_model.specs.declared.address.Address.TheVariants.{KindOf, Cell}
 use Rattle.brc_model.specs.Items.{HaveItems, StageKnows}
-use Rattle.brc_model.specs.Machine.{Actor, Machine, locked_by, has_room}
+use Rattle.brc_model.specs.declared.actor.Actor.{Actor}
+use Rattle.brc_model.specs.Machine.{Machine, locked_by, has_room}
 use Rattle.brc_model.proofs.Dispatch.Passing.{AreMet}
 use Rattle.brc_model.proofs.Dispatch.Guards.{LocksAgree, HeldBeside}
 use Rattle.brc_model.specs.declared.duty.Holding.{Holding}

@@ -20,7 +20,8 @@ use Rattle.brc_model.specs.declared.actor.Stage.TheVariants.{InRange, OutOfRange
 use Rattle.brc_model.specs.declared.duty.Duty.{Duty}
 use Rattle.brc_model.specs.declared.duty.Duty.TheVariants.{KindLoad, LockGate, CellLoad, LendSlot, UnlockGate, ReleaseLoad, Settle}
 use Rattle.brc_model.specs.declared.layout.Layout.{Layout}
-use Rattle.brc_model.specs.Machine.{Actor, is_lending, has_room}
+use Rattle.brc_model.specs.declared.actor.Actor.{Actor}
+use Rattle.brc_model.specs.Machine.{is_lending, has_room}
 use Rattle.brc_model.specs.Threads.{code_of, row_of, entry_variables}
 use Rattle.brc_model.specs.Actions.{StepActor, Action, Skip, Stuck, Silent, Calls, Does, with_row, number_word, list_word, birth_action, first_context, turns_at, turned, again_place, by_range, by_item, dispatch_instruction, dispatch_inside, dispatch, may_claim, agenda_action, status_action, action_of, lend_action, always, holds_some, stopping, may_stop, stop_action}
 use Rattle.brc_model.specs.StepMachine.{StepMachine}

@@ -11,7 +11,8 @@ use Rattle.brc_model.specs.declared.actor.Status.{Status}
 use Rattle.brc_model.specs.declared.actor.Status.TheVariants.{Running, Leaving, Gone}
 use Rattle.brc_model.specs.declared.actor.Place.{Place}
 use Rattle.brc_model.specs.declared.actor.Place.TheVariants.{Exiting}
-use Rattle.brc_model.specs.Machine.{Actor, Machine, with_actor, locked_by}
+use Rattle.brc_model.specs.declared.actor.Actor.{Actor}
+use Rattle.brc_model.specs.Machine.{Machine, with_actor, locked_by}
 use Rattle.brc_model.specs.Actions.{StepActor, dispatch, agenda_action}
 use Rattle.brc_model.specs.StepMachine.{StepMachine, counting}
 use Rattle.brc_model.specs.Accounts.{Account, Accounts, HoldsAt}

@@ -10,7 +10,8 @@ use Rattle.brc_model.specs.declared.duty.Reason.TheVariants.{Own, Handed}
 use Rattle.brc_model.specs.declared.duty.Duty.{Duty}
 use Rattle.brc_model.specs.declared.duty.Duty.TheVariants.{RetainLoad, RetainStore, RetainAdd, ReleaseLoad, ReleaseStore, DecideAtZero, SharedLoad, SharedExchange, SetMark, Look, TakeMark, MergeSwap, MergeLoad, MergeExchange, Die, SettleCell, SettleEnd, BirthKind, BirthSlot, BirthLocal, CellSwap}
 use Rattle.brc_model.specs.AbstractState.{Reference, same_holding}
-use Rattle.brc_model.specs.Machine.{Actor, Machine}
+use Rattle.brc_model.specs.declared.actor.Actor.{Actor}
+use Rattle.brc_model.specs.Machine.{Machine}
 use Rattle.brc_model.specs.References.{held, one_if, reference_of}
 use Rattle.brc_model.specs.RowInvariant.{waits, carries, merges, decides}
 use Rattle.brc_model.specs.Accounts.{Account, extra, lacks, extra_of, lacks_of, extra_aside, lacks_aside, HoldsAt}

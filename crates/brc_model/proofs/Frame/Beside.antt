@@ -7,7 +7,8 @@ use Rattle.brc_model.specs.declared.duty.Duty.{Duty}
 use Rattle.brc_model.specs.declared.duty.Duty.TheVariants.{SettleCell, CellSwap}
 use Rattle.brc_model.specs.declared.address.Address.TheVariants.{Local, Shared}
 use Rattle.brc_model.specs.AbstractState.{Reference, AbstractState, same, same_holder, without, Move, Born, Gain, Lose, PassOn, Finalise, move}
-use Rattle.brc_model.specs.Machine.{Actor, Machine, status_by, actor_by, done_by}
+use Rattle.brc_model.specs.declared.actor.Actor.{Actor}
+use Rattle.brc_model.specs.Machine.{Machine, status_by, actor_by, done_by}
 use Rattle.brc_model.proofs.Basics.Bag.{held-cons}
 use Rattle.brc_model.specs.References.{held, one_if, reference_of}
 use Rattle.brc_model.specs.Accounts.{Accounts}

@@ -12,7 +12,8 @@ use Rattle.brc_model.specs.declared.duty.Duty.TheVariants.{SettleCell, CellLoad,
 use Rattle.brc_model.specs.declared.address.Address.{Address}
 use Rattle.brc_model.specs.declared.address.Address.TheVariants.{KindOf, Cell}
 use Rattle.brc_model.specs.Duties.{address_of, new_word, cells_of}
-use Rattle.brc_model.specs.Machine.{Actor, Live, Machine, written}
+use Rattle.brc_model.specs.declared.actor.Actor.{Actor}
+use Rattle.brc_model.specs.Machine.{Live, Machine, written}
 use Rattle.brc_model.specs.Moves.{reference_effects, take_out, put_in}
 use Rattle.brc_model.specs.References.{held, one_if, reference_of, word_holds, cell_reference}
 use Rattle.brc_model.specs.Accounts.{Accounts}

@@ -8,7 +8,8 @@ use Rattle.brc_model.specs.declared.duty.Duty.TheVariants.{SettleKind, SettleCel
 use Rattle.brc_model.specs.declared.duty.Holding.{Holding}
 use Rattle.brc_model.specs.declared.address.Address.TheVariants.{KindOf, Cell}
 use Rattle.brc_model.specs.Duties.{address_of}
-use Rattle.brc_model.specs.Machine.{Actor, Machine, Unborn, actor_by, done_by}
+use Rattle.brc_model.specs.declared.actor.Actor.{Actor}
+use Rattle.brc_model.specs.Machine.{Machine, Unborn, actor_by, done_by}
 use Rattle.brc_model.specs.Accounts.{Accounts}
 use Rattle.brc_word.specs.Words.{locked_word}
 use Rattle.brc_model.specs.Invariant.{CoreInvariant, AtDuty}

@@ -5,7 +5,8 @@ use Rattle.brc_model.specs.declared.duty.Holding.{Holding}
 use Rattle.brc_model.specs.declared.duty.Duty.{Duty}
 use Rattle.brc_model.specs.declared.duty.Duty.TheVariants.{SettleKind, BirthKind, KindLoad}
 use Rattle.brc_model.specs.declared.address.Address.TheVariants.{KindOf}
-use Rattle.brc_model.specs.Machine.{Actor, Machine, done_by}
+use Rattle.brc_model.specs.declared.actor.Actor.{Actor}
+use Rattle.brc_model.specs.Machine.{Machine, done_by}
 use Rattle.brc_model.specs.Accounts.{Accounts}
 use Rattle.brc_model.specs.Invariant.{AtDuty, kind_stored}
 use Rattle.brc_model.proofs.Basics.Written.{written_apart, written_load}

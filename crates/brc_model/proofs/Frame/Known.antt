@@ -9,7 +9,8 @@ use Rattle.brc_model.specs.declared.duty.Reason.TheVariants.{Own, Handed}
 use Rattle.brc_model.specs.declared.duty.Duty.{Duty}
 use Rattle.brc_model.specs.declared.duty.Duty.TheVariants.{RetainLoad, RetainStore, RetainAdd, ReleaseLoad, ReleaseStore, DecideAtZero, SharedLoad, SharedExchange, SetMark, Look, TakeMark, MergeSwap, MergeLoad, MergeExchange}
 use Rattle.brc_model.specs.declared.address.Address.TheVariants.{Local, Shared, KindOf, Cell, ThreadWord}
-use Rattle.brc_model.specs.Machine.{Actor, Unborn, Machine}
+use Rattle.brc_model.specs.declared.actor.Actor.{Actor}
+use Rattle.brc_model.specs.Machine.{Unborn, Machine}
 use Rattle.brc_model.specs.References.{held, reference_of}
 use Rattle.brc_model.specs.OpenWork.{is_about, may_wait}
 use Rattle.brc_model.specs.Knowledge.{OwnsLocally, IsBacked, ByReference, ByItem, MayMerge, MayCarry, is_retain, HeadFits}

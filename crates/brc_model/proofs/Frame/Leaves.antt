@@ -13,7 +13,8 @@ use Rattle.brc_model.specs.declared.duty.Duty.{Duty}
 use Rattle.brc_model.specs.declared.duty.Duty.TheVariants.{RetainLoad, RetainStore, RetainAdd, ReleaseLoad, ReleaseStore, DecideAtZero, SharedLoad, SharedExchange, Look, MergeSwap, MergeLoad, MergeExchange, Die, Settle, SettleEnd, Leave, Finish, BirthLocal, LockGate, UnlockGate}
 use Rattle.brc_model.specs.declared.address.Address.TheVariants.{Local, Shared, Gate, ThreadWord}
 use Rattle.brc_model.specs.Duties.{address_of, new_word}
-use Rattle.brc_model.specs.Machine.{Actor, Dying, Machine, written, Unborn, Life, Live}
+use Rattle.brc_model.specs.declared.actor.Actor.{Actor}
+use Rattle.brc_model.specs.Machine.{Dying, Machine, written, Unborn, Life, Live}
 use Rattle.brc_model.proofs.Basics.Lists.{either}
 use Rattle.brc_model.proofs.Basics.Bag.{held-le-references_to}
 use Rattle.brc_model.specs.References.{held, one_if, reference_of}

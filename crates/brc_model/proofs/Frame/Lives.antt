@@ -6,7 +6,8 @@ use Rattle.std.proofs.lemmas.Bool.Decides.{eqb_tells}
 use Rattle.brc_model.specs.declared.duty.Duty.{Duty}
 use Rattle.brc_model.specs.declared.duty.Duty.TheVariants.{DecideAtZero, SharedExchange, MergeExchange, Die, SettleKind, SettleEnd, BirthKind, BirthLocal, KindLoad}
 use Rattle.brc_model.specs.Duties.{address_of, continuation}
-use Rattle.brc_model.specs.Machine.{Actor, Life, Unborn, Live, Dying, Closed, Machine, is_running, dies_next, ended_row, born_row, with_life, life_by, done_by}
+use Rattle.brc_model.specs.declared.actor.Actor.{Actor}
+use Rattle.brc_model.specs.Machine.{Life, Unborn, Live, Dying, Closed, Machine, is_running, dies_next, ended_row, born_row, with_life, life_by, done_by}
 use Rattle.brc_model.proofs.Basics.Lists.{some_is, none_some}
 use Rattle.brc_model.specs.Accounts.{Accounts}
 use Rattle.brc_model.specs.OpenWork.{dies_by}

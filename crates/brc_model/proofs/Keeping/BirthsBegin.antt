@@ -5,7 +5,8 @@ use Rattle.std.proofs.lemmas.Bool.{ltb-true}
 use Rattle.brc_model.specs.declared.duty.Holding.TheVariants.{AsCaller}
 use Rattle.brc_model.specs.declared.duty.Duty.TheVariants.{BirthKind}
 use Rattle.brc_model.specs.Layout.{block_of, block_size, row_at, row_count}
-use Rattle.brc_model.specs.Machine.{Actor, Life, Machine}
+use Rattle.brc_model.specs.declared.actor.Actor.{Actor}
+use Rattle.brc_model.specs.Machine.{Life, Machine}
 use Rattle.brc_model.specs.References.{reference_of}
 use Rattle.brc_model.specs.RowInvariant.{RowInvariant, IsUnborn}
 use Rattle.brc_model.specs.Accounts.{Accounts}

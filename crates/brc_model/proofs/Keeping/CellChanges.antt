@@ -15,7 +15,8 @@ use Rattle.brc_model.specs.AbstractState.{Reference, references_to}
 use Rattle.brc_model.specs.References.{held, one_if, reference_of, cell_reference, word_holds}
 use Rattle.brc_model.specs.Layout.{block_of}
 use Rattle.brc_model.specs.Duties.{cells_of}
-use Rattle.brc_model.specs.Machine.{Actor, Machine, Life, Live, Dying, written, same_address}
+use Rattle.brc_model.specs.declared.actor.Actor.{Actor}
+use Rattle.brc_model.specs.Machine.{Machine, Life, Live, Dying, written, same_address}
 use Rattle.brc_model.specs.RowInvariant.{Numbers, RowInvariant}
 use Rattle.brc_model.specs.Accounts.{Account, Accounts, HoldsAt, IsBounded}
 use Rattle.brc_model.specs.Knowledge.{GuardsCells, HasNoRetainAside, is_retain, HeadOf, BehindOf}

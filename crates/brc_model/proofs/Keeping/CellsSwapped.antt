@@ -11,7 +11,8 @@ use Rattle.brc_model.specs.declared.address.Address.TheVariants.{KindOf, Cell}
 use Rattle.brc_model.specs.AbstractState.{Reference, ByThread, ByCell, PassOn, same, same_holder, without, moved}
 use Rattle.brc_model.specs.References.{one_if, reference_of, cell_reference, word_holds}
 use Rattle.brc_model.specs.Duties.{cells_of}
-use Rattle.brc_model.specs.Machine.{Actor, Machine, written, same_address}
+use Rattle.brc_model.specs.declared.actor.Actor.{Actor}
+use Rattle.brc_model.specs.Machine.{Machine, written, same_address}
 use Rattle.brc_model.specs.Accounts.{Account, Accounts}
 use Rattle.brc_model.specs.Knowledge.{GuardsCells, HasNoRetainAside}
 use Rattle.brc_model.specs.Invariant.{CoreInvariant}

@@ -5,7 +5,8 @@ use Rattle.std.specs.Prelude.{slice_get, count_by, replicate, ◌==◌, ◌||◌
 use Rattle.std.proofs.lemmas.Bool.{cases_lt, eqb-true, le-leb}
 use Rattle.std.proofs.lemmas.List.{length-replicate}
 use Rattle.std.proofs.lemmas.List.Sums.{sum_by-cons}
-use Rattle.brc_model.specs.Machine.{Actor, Machine, Unborn, Closed, Live, idle_actor}
+use Rattle.brc_model.specs.declared.actor.Actor.{Actor}
+use Rattle.brc_model.specs.Machine.{Machine, Unborn, Closed, Live, idle_actor}
 use Rattle.brc_model.specs.StepMachine.{callers_below, rooted_memory, first_life, first_kinds}
 use Rattle.brc_model.specs.declared.duty.Duty.{Duty}
 use Rattle.brc_model.specs.declared.address.Address.TheVariants.{Gate, KindOf, Slot, Local}

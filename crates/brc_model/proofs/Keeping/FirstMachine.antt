@@ -8,7 +8,8 @@ use Rattle.brc_model.specs.declared.slot.State.{State}
 use Rattle.brc_model.specs.declared.thread.Call.{Call}
 use Rattle.brc_model.specs.Paths.{IsAcceptableCode, IsAcceptable}
 use Rattle.brc_model.specs.Threads.{code_of}
-use Rattle.brc_model.specs.Machine.{Actor, idle_actor}
+use Rattle.brc_model.specs.declared.actor.Actor.{Actor}
+use Rattle.brc_model.specs.Machine.{idle_actor}
 use Rattle.brc_model.specs.Actions.{StepActor}
 use Rattle.brc_model.specs.StepMachine.{its_actor, counting, main_actor, worker_actor, first_layout, first_machine}
 use Rattle.brc_model.specs.Safety.{IsCall, AreCalls}

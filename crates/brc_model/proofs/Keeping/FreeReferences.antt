@@ -10,7 +10,8 @@ use Rattle.brc_model.specs.declared.actor.Status.{Status}
 use Rattle.brc_model.specs.declared.actor.Status.TheVariants.{Running}
 use Rattle.brc_model.specs.AbstractState.{references_to}
 use Rattle.brc_model.specs.Layout.{block_of, is_immortal_row, IsCounted}
-use Rattle.brc_model.specs.Machine.{Actor, Machine, with_moves}
+use Rattle.brc_model.specs.declared.actor.Actor.{Actor}
+use Rattle.brc_model.specs.Machine.{Machine, with_moves}
 use Rattle.brc_model.specs.Moves.{gain}
 use Rattle.brc_model.specs.References.{one_if, reference_of, cell_reference}
 use Rattle.brc_model.specs.RowInvariant.{Numbers, RowInvariant}

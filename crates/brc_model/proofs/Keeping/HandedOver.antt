@@ -9,7 +9,8 @@ use Rattle.brc_model.specs.AbstractState.{Reference, Move, Lose, PassOn, ByThrea
 use Rattle.brc_model.specs.References.{held, reference_of, cell_reference}
 use Rattle.brc_model.specs.Moves.{gain}
 use Rattle.brc_model.specs.Layout.{block_of, IsCounted}
-use Rattle.brc_model.specs.Machine.{Actor, Machine, with_moves}
+use Rattle.brc_model.specs.declared.actor.Actor.{Actor}
+use Rattle.brc_model.specs.Machine.{Machine, with_moves}
 use Rattle.brc_model.specs.RowInvariant.{Numbers, RowInvariant}
 use Rattle.brc_model.specs.Accounts.{Account, Accounts, most_lent}
 use Rattle.brc_model.specs.OpenWork.{exits}

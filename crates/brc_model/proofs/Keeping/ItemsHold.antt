@@ -15,7 +15,8 @@ use Rattle.brc_model.specs.Paths.{IsAcceptableCode}
 use Rattle.brc_model.specs.Threads.{code_of}
 use Rattle.brc_model.specs.Accounts.{Accounts}
 use Rattle.brc_model.specs.Counting.{with_account}
-use Rattle.brc_model.specs.Machine.{Actor, Machine, with_actor}
+use Rattle.brc_model.specs.declared.actor.Actor.{Actor}
+use Rattle.brc_model.specs.Machine.{Machine, with_actor}
 use Rattle.brc_model.specs.declared.slot.State.{State}
 use Rattle.brc_model.specs.declared.slot.Exit.{Exit}
 use Rattle.brc_model.specs.Actions.{StepActor, Action, Skip, Stuck, Silent, Calls, Does, exit_of, action_of}

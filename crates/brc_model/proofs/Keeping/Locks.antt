@@ -6,7 +6,8 @@ use Rattle.brc_model.specs.declared.duty.Holding.{Holding}
 use Rattle.brc_model.specs.declared.duty.Holding.TheVariants.{ByVariable, AsCaller, InFlight}
 use Rattle.brc_model.specs.AbstractState.{same_holding}
 use Rattle.brc_model.specs.References.{one_if}
-use Rattle.brc_model.specs.Machine.{Actor, Machine}
+use Rattle.brc_model.specs.declared.actor.Actor.{Actor}
+use Rattle.brc_model.specs.Machine.{Machine}
 use Rattle.brc_model.specs.Accounts.{Account}
 use Rattle.brc_model.specs.Gates.{making, LocksFit}
 use Rattle.brc_model.specs.Counting.{with_one_more, with_one_less, MayGiveUp}

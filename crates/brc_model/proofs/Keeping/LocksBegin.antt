@@ -7,7 +7,8 @@ use Rattle.brc_model.specs.declared.duty.Duty.{Duty}
 use Rattle.brc_model.specs.declared.duty.Duty.TheVariants.{LockGate, UnlockGate, CellLoad}
 use Rattle.brc_model.specs.Layout.{row_count, IsCounted}
 use Rattle.brc_model.specs.Limits.{cell_limit}
-use Rattle.brc_model.specs.Machine.{Actor, Machine, with_actor}
+use Rattle.brc_model.specs.declared.actor.Actor.{Actor}
+use Rattle.brc_model.specs.Machine.{Machine, with_actor}
 use Rattle.brc_model.specs.References.{one_if}
 use Rattle.brc_model.specs.Accounts.{Accounts, lacks, extra}
 use Rattle.brc_model.specs.Knowledge.{IsBacked, ByReference, MayLook, GuardsCells, HeadFits}

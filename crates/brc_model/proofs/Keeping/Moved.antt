@@ -9,7 +9,8 @@ use Rattle.brc_model.specs.declared.duty.Duty.{Duty}
 use Rattle.brc_model.specs.declared.duty.Duty.TheVariants.{Die, Settle, SettleKind, SettleCell, TakeSlot, CloseResource, SettleEnd, Leave, Scan, Finish, ClaimMark, BirthKind, BirthSlot, BirthLocal, KindLoad, LockGate, UnlockGate, CellLoad, CellSwap, LendSlot, ReturnSlot}
 use Rattle.brc_model.specs.AbstractState.{Move, ByThread, moved}
 use Rattle.brc_model.specs.References.{held, one_if, reference_of}
-use Rattle.brc_model.specs.Machine.{Actor, Machine, with_moves}
+use Rattle.brc_model.specs.declared.actor.Actor.{Actor}
+use Rattle.brc_model.specs.Machine.{Machine, with_moves}
 use Rattle.brc_model.specs.Accounts.{Account, Accounts, HoldsAt, IsBounded}
 use Rattle.brc_model.specs.Knowledge.{IsNext, MayLook, GuardsCells, BehindFits, HeadFits, HeadOf, AllBehind, BehindOf}
 use Rattle.brc_model.specs.OpenWork.{AllWait, about_of, exits, is_about}

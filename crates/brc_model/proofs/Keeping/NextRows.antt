@@ -12,7 +12,8 @@ use Rattle.brc_model.specs.declared.duty.Duty.TheVariants.{RetainLoad, RetainSto
 use Rattle.brc_model.specs.declared.address.Address.TheVariants.{Local, Cell}
 use Rattle.brc_model.specs.AbstractState.{same_holding, references_to}
 use Rattle.brc_model.specs.Layout.{block_of, IsCounted}
-use Rattle.brc_model.specs.Machine.{Actor, Life, Unborn, Machine}
+use Rattle.brc_model.specs.declared.actor.Actor.{Actor}
+use Rattle.brc_model.specs.Machine.{Life, Unborn, Machine}
 use Rattle.brc_model.specs.References.{held, one_if, reference_of, cell_reference}
 use Rattle.brc_model.specs.RowInvariant.{waits, merges, RowInvariant, IsUnborn}
 use Rattle.brc_model.specs.Accounts.{Accounts, extra, lacks, extra_aside, lacks_aside}

@@ -15,7 +15,8 @@ use Rattle.brc_lang.specs.declared.kind.Kind.{Kind}
 use Rattle.brc_model.specs.Kinds.{kind_of_word, is_counted_kind}
 use Rattle.brc_model.specs.declared.address.Address.TheVariants.{Local, KindOf, Cell}
 use Rattle.brc_model.specs.Duties.{address_of}
-use Rattle.brc_model.specs.Machine.{Actor, Unborn, Live, Dying, Closed, Machine}
+use Rattle.brc_model.specs.declared.actor.Actor.{Actor}
+use Rattle.brc_model.specs.Machine.{Unborn, Live, Dying, Closed, Machine}
 use Rattle.brc_model.specs.Moves.{put_in_flight, gain, lose, reference_effects, birth, take_out, put_in}
 use Rattle.brc_model.specs.BadDuties.{touched_row, is_freed_for, touches_freed, is_bad_duty}
 use Rattle.brc_model.proofs.Basics.Lists.{either}

@@ -10,7 +10,7 @@ use Rattle.brc_model.specs.declared.duty.Duty.{Duty}
 use Rattle.brc_model.specs.declared.layout.Layout.{Layout}
 use Rattle.brc_model.specs.AbstractState.{Reference, ByThread, same, same_holder, same_holding, without}
 use Rattle.brc_model.specs.References.{held, one_if, reference_of}
-use Rattle.brc_model.specs.Machine.{Actor}
+use Rattle.brc_model.specs.declared.actor.Actor.{Actor}
 use Rattle.brc_model.specs.Accounts.{Account, HoldsAt, IsBounded, most_lent, lacks_of}
 use Rattle.brc_model.specs.OpenWork.{about_of}
 use Rattle.brc_model.specs.Counting.{HasNoneAbout, with_one_less, with_one_more}

@@ -10,7 +10,8 @@ use Rattle.brc_model.specs.AbstractState.{Holder, ByThread, Reference, AbstractS
 use Rattle.brc_model.specs.declared.duty.Duty.{Duty}
 use Rattle.brc_model.specs.declared.address.Address.TheVariants.{Gate}
 use Rattle.brc_model.specs.declared.actor.Status.{Status}
-use Rattle.brc_model.specs.Machine.{Actor, Machine, with_actor, with_moves}
+use Rattle.brc_model.specs.declared.actor.Actor.{Actor}
+use Rattle.brc_model.specs.Machine.{Machine, with_actor, with_moves}
 use Rattle.brc_model.proofs.Basics.Lists.{some_is, written_actor, slice_get-set_other}
 use Rattle.brc_model.proofs.Basics.Bag.{references_to-cons, references_to-without, other_thread}
 use Rattle.brc_model.specs.References.{one_if, cell_reference, reference_of}

@@ -7,7 +7,8 @@ use Rattle.brc_model.specs.declared.duty.Duty.{Duty}
 use Rattle.brc_model.specs.Duties.{address_of}
 use Rattle.brc_model.specs.declared.actor.Status.{Status}
 use Rattle.brc_model.specs.declared.actor.Status.TheVariants.{Running}
-use Rattle.brc_model.specs.Machine.{Actor, Machine, with_actor, actor_by, done_by}
+use Rattle.brc_model.specs.declared.actor.Actor.{Actor}
+use Rattle.brc_model.specs.Machine.{Machine, with_actor, actor_by, done_by}
 use Rattle.brc_model.specs.RowInvariant.{waits, carries, merges, decides, agenda_weight, weight}
 use Rattle.brc_model.specs.Accounts.{Account, Accounts, HoldsAt, HoldsNone, IsBounded}
 use Rattle.brc_model.specs.OpenWork.{AsideFits, Agenda, exits, scans, finalised, AgendaFits}

@@ -6,7 +6,8 @@ use Rattle.brc_lang.specs.declared.module.Module.{Module}
 use Rattle.brc_model.specs.AbstractState.{Move}
 use Rattle.brc_model.specs.declared.duty.Duty.{Duty}
 use Rattle.brc_model.specs.declared.thread.Choice.{Choice}
-use Rattle.brc_model.specs.Machine.{Actor, Machine, done_by, with_actor, with_moves}
+use Rattle.brc_model.specs.declared.actor.Actor.{Actor}
+use Rattle.brc_model.specs.Machine.{Machine, done_by, with_actor, with_moves}
 use Rattle.brc_model.specs.declared.slot.Exit.{Exit}
 use Rattle.brc_model.specs.Actions.{StepActor, Action, Skip, Stuck, Silent, Calls, Does, exit_of, action_of}
 use Rattle.brc_model.specs.StepMachine.{StepMachine, counting, of_thread, does_by, machine_by, next_machine}

@@ -3,7 +3,8 @@
 use Rattle.std.proofs.Common.{◌≡◌, ℕ, List, [], ◌∷◌, ◌++◌, Some, subst}
 use Rattle.std.specs.Prelude.{slice_get}
 use Rattle.brc_model.specs.declared.duty.Duty.{Duty}
-use Rattle.brc_model.specs.Machine.{Actor, Machine, with_actor}
+use Rattle.brc_model.specs.declared.actor.Actor.{Actor}
+use Rattle.brc_model.specs.Machine.{Machine, with_actor}
 use Rattle.brc_model.specs.Layout.{row_count}
 use Rattle.brc_model.specs.Ranges.{IsSmall, AreSmall, Ranges}
 use Rattle.brc_model.specs.Counting.{working}

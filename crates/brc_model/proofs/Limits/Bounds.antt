@@ -9,7 +9,8 @@ use Rattle.brc_model.specs.declared.duty.Duty.{Duty}
 use Rattle.brc_model.specs.declared.duty.Duty.TheVariants.{RetainStore, RetainAdd, ReleaseLoad, ReleaseStore, SharedLoad, SharedExchange, MergeLoad, MergeExchange, SettleCell, CellLoad, CellSwap, TakeSlot, CloseResource, LendSlot, ReturnSlot}
 use Rattle.brc_model.specs.declared.address.Address.TheVariants.{Local, Shared, Cell}
 use Rattle.brc_model.specs.Duties.{address_of, counts_locally}
-use Rattle.brc_model.specs.Machine.{Actor, Machine, is_running}
+use Rattle.brc_model.specs.declared.actor.Actor.{Actor}
+use Rattle.brc_model.specs.Machine.{Machine, is_running}
 use Rattle.brc_model.specs.Within.{Suits}
 use Rattle.brc_model.specs.RowInvariant.{carries, weight, Numbers, Phased, IsDefault, IsQueued, InOwned, InSwapped, InMerged, IsLive}
 use Rattle.brc_model.specs.Accounts.{Accounts}

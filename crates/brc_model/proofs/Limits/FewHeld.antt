@@ -13,7 +13,8 @@ use Rattle.brc_model.specs.declared.duty.Reason.TheVariants.{Own}
 use Rattle.brc_model.specs.declared.duty.Duty.{Duty}
 use Rattle.brc_model.specs.declared.duty.Duty.TheVariants.{ReleaseLoad, ReleaseStore, SharedLoad, SharedExchange, CellSwap}
 use Rattle.brc_model.specs.AbstractState.{Holder, ByThread, ByCell, Reference, same, references_to}
-use Rattle.brc_model.specs.Machine.{Actor, Life, Machine}
+use Rattle.brc_model.specs.declared.actor.Actor.{Actor}
+use Rattle.brc_model.specs.Machine.{Life, Machine}
 use Rattle.brc_model.proofs.Basics.Bag.{same_holding-true, one_if_true, one_if_low}
 use Rattle.brc_model.specs.References.{held, one_if, reference_of, word_holds, cell_reference}
 use Rattle.brc_model.specs.Accounts.{Account, Accounts, extra, extra_of, extra_aside, most_lent, IsBounded}

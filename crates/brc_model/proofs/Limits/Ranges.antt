@@ -10,7 +10,8 @@ use Rattle.brc_model.specs.declared.duty.Duty.{Duty}
 use Rattle.brc_model.specs.declared.duty.Duty.TheVariants.{ReleaseLoad, MergeSwap, Settle, SettleKind, SettleCell, Leave, Scan, Finish, BirthKind, KindLoad, CellLoad, CellSwap}
 use Rattle.brc_model.specs.declared.address.Address.TheVariants.{KindOf, Mark, Cell}
 use Rattle.brc_model.specs.Duties.{address_of, new_word, continuation, ready, cells_of}
-use Rattle.brc_model.specs.Machine.{Actor, Life, Unborn, Live, Machine, written, is_running, actor_by, done_by}
+use Rattle.brc_model.specs.declared.actor.Actor.{Actor}
+use Rattle.brc_model.specs.Machine.{Life, Unborn, Live, Machine, written, is_running, actor_by, done_by}
 use Rattle.brc_model.specs.References.{one_if, cell_reference}
 use Rattle.brc_model.specs.RowInvariant.{RowInvariant}
 use Rattle.brc_model.specs.Accounts.{Accounts}

@@ -11,7 +11,8 @@ use Rattle.brc_model.specs.declared.address.Address.TheVariants.{Local}
 use Rattle.brc_word.specs.Words.{owner_part}
 use Rattle.brc_model.specs.declared.actor.Place.{Place}
 use Rattle.brc_model.specs.Duties.{address_of}
-use Rattle.brc_model.specs.Machine.{Actor, Life, Live, Machine, with_actor, used_by}
+use Rattle.brc_model.specs.declared.actor.Actor.{Actor}
+use Rattle.brc_model.specs.Machine.{Life, Live, Machine, with_actor, used_by}
 use Rattle.brc_model.specs.Tables.{AreTrueWhereReached}
 use Rattle.brc_model.specs.World.{World, world_of, IsReachable}
 use Rattle.brc_model.specs.Actions.{StepActor}

@@ -8,7 +8,8 @@ use Rattle.brc_word.specs.Words.{free_word, locked_word, dying_word, closed_word
 use Rattle.brc_model.specs.declared.duty.Duty.{Duty}
 use Rattle.brc_model.specs.declared.duty.Duty.TheVariants.{Die, Settle, SettleEnd, LockGate, UnlockGate}
 use Rattle.brc_model.specs.declared.address.Address.TheVariants.{Gate}
-use Rattle.brc_model.specs.Machine.{Actor, Life, Unborn, Live, Dying, Closed, Machine, is_locking, ended_row, actor_by, done_by}
+use Rattle.brc_model.specs.declared.actor.Actor.{Actor}
+use Rattle.brc_model.specs.Machine.{Life, Unborn, Live, Dying, Closed, Machine, is_locking, ended_row, actor_by, done_by}
 use Rattle.brc_model.proofs.Basics.Lists.{some_is, none_some, slice_get-set_same}
 use Rattle.brc_model.proofs.Basics.Written.{written_here, written_apart, written_load, apart_gate}
 use Rattle.brc_model.proofs.Frame.Alive.{alive_backed}

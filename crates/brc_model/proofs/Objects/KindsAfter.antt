@@ -10,7 +10,8 @@ use Rattle.brc_model.specs.AbstractState.{AbstractState, Move, Born, move, moved
 use Rattle.brc_model.specs.declared.duty.Duty.{Duty}
 use Rattle.brc_model.specs.declared.duty.Duty.TheVariants.{BirthLocal}
 use Rattle.brc_model.specs.declared.address.Address.TheVariants.{KindOf}
-use Rattle.brc_model.specs.Machine.{Actor, Unborn, Machine, born_row, done_by}
+use Rattle.brc_model.specs.declared.actor.Actor.{Actor}
+use Rattle.brc_model.specs.Machine.{Unborn, Machine, born_row, done_by}
 use Rattle.brc_model.specs.Moves.{reference_effects}
 use Rattle.brc_model.proofs.Basics.Blocks.{next_unborn}
 use Rattle.brc_model.proofs.Frame.Items.{word_stays}

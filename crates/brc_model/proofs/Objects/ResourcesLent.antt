@@ -6,7 +6,8 @@ use Rattle.brc_model.specs.declared.duty.Duty.{Duty}
 use Rattle.brc_model.specs.declared.duty.Duty.TheVariants.{LendSlot, ReturnSlot}
 use Rattle.brc_model.specs.declared.address.Address.TheVariants.{KindOf, Slot}
 use Rattle.brc_model.specs.Duties.{resources_of}
-use Rattle.brc_model.specs.Machine.{Actor, Life, Live, Machine, actor_by, done_by}
+use Rattle.brc_model.specs.declared.actor.Actor.{Actor}
+use Rattle.brc_model.specs.Machine.{Life, Live, Machine, actor_by, done_by}
 use Rattle.brc_model.specs.RowInvariant.{weight}
 use Rattle.brc_model.specs.Accounts.{Accounts}
 use Rattle.brc_model.specs.OpenWork.{dies_by}

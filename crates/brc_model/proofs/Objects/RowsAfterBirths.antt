@@ -7,7 +7,8 @@ use Rattle.brc_model.specs.declared.duty.Duty.{Duty}
 use Rattle.brc_model.specs.declared.duty.Duty.TheVariants.{BirthKind, BirthSlot, BirthLocal}
 use Rattle.brc_model.specs.declared.address.Address.TheVariants.{Local}
 use Rattle.brc_model.specs.Duties.{has_resource}
-use Rattle.brc_model.specs.Machine.{Actor, Life, Live, Machine}
+use Rattle.brc_model.specs.declared.actor.Actor.{Actor}
+use Rattle.brc_model.specs.Machine.{Life, Live, Machine}
 use Rattle.brc_model.proofs.Basics.Bag.{references_to-cons}
 use Rattle.brc_model.specs.References.{reference_of}
 use Rattle.brc_model.specs.RowInvariant.{Numbers, IsDefault, AboveZero, InOwned, IsLive, IsUnborn, RowInvariant}

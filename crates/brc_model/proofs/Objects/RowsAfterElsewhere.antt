@@ -10,7 +10,8 @@ use Rattle.brc_model.specs.declared.duty.Duty.{Duty}
 use Rattle.brc_model.specs.declared.duty.Duty.TheVariants.{RetainLoad, RetainStore, RetainAdd, ReleaseLoad, ReleaseStore, DecideAtZero, SharedLoad, SharedExchange, SetMark, Look, TakeMark, MergeSwap, MergeLoad, MergeExchange, Die, Settle, SettleKind, SettleCell, TakeSlot, CloseResource, SettleEnd, Leave, Scan, Finish, ClaimMark, BirthKind, BirthSlot, BirthLocal, KindLoad, LockGate, UnlockGate, CellLoad, CellSwap, LendSlot, ReturnSlot}
 use Rattle.brc_model.specs.declared.address.Address.TheVariants.{Local, Shared, Mark, Cell}
 use Rattle.brc_model.specs.Duties.{address_of, new_word, cells_from, release_found}
-use Rattle.brc_model.specs.Machine.{Life, Actor, Machine, is_running, same_address, dies_next, with_life, ended_row, born_row}
+use Rattle.brc_model.specs.declared.actor.Actor.{Actor}
+use Rattle.brc_model.specs.Machine.{Life, Machine, is_running, same_address, dies_next, with_life, ended_row, born_row}
 use Rattle.brc_model.specs.Moves.{reference_effects}
 use Rattle.brc_model.proofs.Basics.Bag.{references_to-cons, same-true}
 use Rattle.brc_model.proofs.Basics.Written.{written_apart, other_local, other_shared}

@@ -11,7 +11,8 @@ use Rattle.brc_model.specs.declared.duty.Duty.{Duty}
 use Rattle.brc_model.specs.declared.duty.Duty.TheVariants.{RetainLoad, RetainStore, RetainAdd, ReleaseLoad, ReleaseStore, DecideAtZero, SharedLoad, MergeSwap, Die, CellSwap}
 use Rattle.brc_model.specs.declared.address.Address.TheVariants.{Local, Shared, Cell}
 use Rattle.brc_model.specs.Duties.{counts_locally}
-use Rattle.brc_model.specs.Machine.{Live, Dying, Actor, Machine}
+use Rattle.brc_model.specs.declared.actor.Actor.{Actor}
+use Rattle.brc_model.specs.Machine.{Live, Dying, Machine}
 use Rattle.brc_model.specs.Moves.{gain, lose, put_in_flight}
 use Rattle.brc_model.proofs.Basics.Bag.{references_to-cons, same_holding-refl}
 use Rattle.brc_model.specs.References.{reference_of}

@@ -8,7 +8,8 @@ use Rattle.brc_model.specs.declared.duty.Duty.{Duty}
 use Rattle.brc_model.specs.declared.duty.Duty.TheVariants.{SetMark, Look, TakeMark, MergeSwap, Settle, SettleKind, SettleCell, TakeSlot, SettleEnd, Scan, ClaimMark}
 use Rattle.brc_model.specs.declared.address.Address.TheVariants.{Local, Shared, Mark, Cell, KindOf}
 use Rattle.brc_model.specs.Duties.{claimed, has_resource, cells_of, cells_from}
-use Rattle.brc_model.specs.Machine.{Life, Live, Dying, Closed, Actor, Machine, with_life, dies_next, life_by, done_by}
+use Rattle.brc_model.specs.declared.actor.Actor.{Actor}
+use Rattle.brc_model.specs.Machine.{Life, Live, Dying, Closed, Machine, with_life, dies_next, life_by, done_by}
 use Rattle.brc_model.proofs.Frame.CellsHeld.{cell_held}
 use Rattle.brc_model.proofs.Frame.Cells.{taken_references}
 use Rattle.brc_model.specs.RowInvariant.{waits, carries, merges, decides, RowInvariant}

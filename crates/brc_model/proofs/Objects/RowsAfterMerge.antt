@@ -12,7 +12,8 @@ use Rattle.brc_model.specs.declared.duty.Duty.TheVariants.{SharedLoad, MergeSwap
 use Rattle.brc_model.specs.declared.address.Address.{Address}
 use Rattle.brc_model.specs.declared.address.Address.TheVariants.{Local, Shared}
 use Rattle.brc_model.specs.Duties.{once_merged}
-use Rattle.brc_model.specs.Machine.{Live, Dying, Actor, Machine, written, life_by, done_by}
+use Rattle.brc_model.specs.declared.actor.Actor.{Actor}
+use Rattle.brc_model.specs.Machine.{Live, Dying, Machine, written, life_by, done_by}
 use Rattle.brc_model.specs.RowInvariant.{waits, carries, merges, decides, weight, IsLive, InOwned, InSwapped, InMerged}
 use Rattle.brc_model.specs.Accounts.{Accounts}
 use Rattle.brc_model.specs.Invariant.{AtDuty, numbers_of}

@@ -9,7 +9,8 @@ use Rattle.brc_word.specs.Words.{immortal_local, local_part, is_immortal_word}
 use Rattle.brc_model.specs.declared.duty.Duty.{Duty}
 use Rattle.brc_model.specs.declared.address.Address.{Address}
 use Rattle.brc_model.specs.declared.address.Address.TheVariants.{Local, Shared, Mark}
-use Rattle.brc_model.specs.Machine.{Life, Live, Actor, Machine, written, same_address, with_life, ended_row, born_row, done_by}
+use Rattle.brc_model.specs.declared.actor.Actor.{Actor}
+use Rattle.brc_model.specs.Machine.{Life, Live, Machine, written, same_address, with_life, ended_row, born_row, done_by}
 use Rattle.brc_model.proofs.Basics.Bag.{held_has, held-le-references_to, references_to-without}
 use Rattle.brc_model.specs.References.{held, one_if, reference_of}
 use Rattle.brc_model.specs.RowInvariant.{Numbers, InOwned, InSwapped, InMerged, IsLive}

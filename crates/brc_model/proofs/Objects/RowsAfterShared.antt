@@ -11,7 +11,8 @@ use Rattle.brc_model.specs.declared.duty.Duty.{Duty}
 use Rattle.brc_model.specs.declared.duty.Duty.TheVariants.{SharedLoad, SharedExchange, SetMark, Die}
 use Rattle.brc_model.specs.declared.address.Address.{Address}
 use Rattle.brc_model.specs.declared.address.Address.TheVariants.{Shared}
-use Rattle.brc_model.specs.Machine.{Live, Dying, Actor, Machine, written}
+use Rattle.brc_model.specs.declared.actor.Actor.{Actor}
+use Rattle.brc_model.specs.Machine.{Live, Dying, Machine, written}
 use Rattle.brc_model.specs.Moves.{lose, reference_effects}
 use Rattle.brc_model.specs.References.{reference_of}
 use Rattle.brc_model.specs.RowInvariant.{waits}

@@ -9,7 +9,8 @@ use Rattle.brc_model.specs.declared.duty.Duty.TheVariants.{ReleaseLoad, MergeSwa
 use Rattle.brc_model.specs.declared.layout.Layout.{Layout}
 use Rattle.brc_model.specs.Layout.{row_at}
 use Rattle.brc_model.specs.Duties.{address_of, new_head, continuation, has_resource, cells_of, cells_from, release_found, claimed}
-use Rattle.brc_model.specs.Machine.{Actor, Machine, is_running, actor_by, done_by}
+use Rattle.brc_model.specs.declared.actor.Actor.{Actor}
+use Rattle.brc_model.specs.Machine.{Machine, is_running, actor_by, done_by}
 use Rattle.brc_model.specs.References.{one_if}
 use Rattle.brc_model.specs.RowInvariant.{weight}
 use Rattle.brc_model.specs.Accounts.{Accounts}

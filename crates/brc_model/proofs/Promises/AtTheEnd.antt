@@ -10,7 +10,8 @@ use Rattle.brc_model.specs.declared.duty.Holding.{Holding}
 use Rattle.brc_model.specs.AbstractState.{Holder, ByThread, ByCell, Reference, is_among, references_to}
 use Rattle.brc_model.specs.declared.duty.Duty.{Duty}
 use Rattle.brc_model.specs.declared.address.Address.TheVariants.{Mark, Cell, ThreadWord}
-use Rattle.brc_model.specs.Machine.{Actor, Life, Unborn, Live, Dying, Closed, Machine}
+use Rattle.brc_model.specs.declared.actor.Actor.{Actor}
+use Rattle.brc_model.specs.Machine.{Life, Unborn, Live, Dying, Closed, Machine}
 use Rattle.brc_model.specs.Safety.{IsHeldByOpenList}
 use Rattle.brc_model.proofs.Basics.Bag.{held-cons, held_itself}
 use Rattle.brc_model.specs.References.{held, one_if, reference_of, word_holds, cell_reference}

@@ -8,7 +8,8 @@ use Rattle.brc_model.specs.declared.thread.Choice.{Choice}
 use Rattle.brc_model.specs.declared.duty.Duty.{Duty}
 use Rattle.brc_model.specs.declared.duty.Duty.TheVariants.{SettleCell, CellLoad, CellSwap}
 use Rattle.brc_model.specs.declared.address.Address.TheVariants.{Cell}
-use Rattle.brc_model.specs.Machine.{Actor, Dying, Machine, with_actor}
+use Rattle.brc_model.specs.declared.actor.Actor.{Actor}
+use Rattle.brc_model.specs.Machine.{Dying, Machine, with_actor}
 use Rattle.brc_model.specs.StepMachine.{StepMachine}
 use Rattle.brc_model.specs.Progress.{HasLock, CellsChangeUnderLock}
 use Rattle.brc_model.specs.Accounts.{Accounts}

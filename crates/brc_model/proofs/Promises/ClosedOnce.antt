@@ -8,7 +8,8 @@ use Rattle.brc_model.specs.AbstractState.{is_among}
 use Rattle.brc_model.specs.declared.thread.Choice.{Choice}
 use Rattle.brc_model.specs.declared.duty.Duty.{Duty}
 use Rattle.brc_model.specs.Duties.{address_of}
-use Rattle.brc_model.specs.Machine.{Actor, Machine, ended_row, done_by}
+use Rattle.brc_model.specs.declared.actor.Actor.{Actor}
+use Rattle.brc_model.specs.Machine.{Machine, ended_row, done_by}
 use Rattle.brc_model.specs.StepMachine.{StepMachine}
 use Rattle.brc_model.specs.Progress.{ClosedStays, ClosesAnew, ClosedOnce}
 use Rattle.brc_model.specs.References.{one_if}

@@ -18,7 +18,8 @@ use Rattle.brc_model.specs.declared.address.Address.TheVariants.{Local, Shared}
 use Rattle.brc_model.specs.RowInvariant.{waits, merges, InOwned, InSwapped, InMerged}
 use Rattle.brc_model.specs.Invariant.{AtDuty, CoreInvariant}
 use Rattle.brc_model.specs.Layout.{row_count}
-use Rattle.brc_model.specs.Machine.{Actor, Machine}
+use Rattle.brc_model.specs.declared.actor.Actor.{Actor}
+use Rattle.brc_model.specs.Machine.{Machine}
 use Rattle.brc_model.specs.Accounts.{Accounts, lacks_of}
 use Rattle.brc_model.specs.Counting.{Counts}
 use Rattle.brc_model.specs.CountingLaws.{ComesNext, DutiesAreKept, DutiesAreWithin, AccountsAreThere, CountsAgree, HandedMergesLive}

@@ -12,7 +12,8 @@ use Rattle.brc_model.specs.References.{held, one_if, word_holds, cell_reference}
 use Rattle.brc_model.specs.Layout.{block_of, index_of, IsCounted}
 use Rattle.brc_model.specs.Duties.{cells_of}
 use Rattle.brc_model.specs.Knowledge.{status_word}
-use Rattle.brc_model.specs.Machine.{Actor, Life, Unborn, Live, Dying, Closed, Machine, idle_actor}
+use Rattle.brc_model.specs.declared.actor.Actor.{Actor}
+use Rattle.brc_model.specs.Machine.{Life, Unborn, Live, Dying, Closed, Machine, idle_actor}
 use Rattle.brc_model.specs.RowInvariant.{IsLive, RowInvariant}
 use Rattle.brc_model.specs.Accounts.{Accounts}
 use Rattle.brc_model.specs.Gates.{LiveGate, IsFree, IsLocked, GateFits}

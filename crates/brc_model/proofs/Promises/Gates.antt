@@ -15,7 +15,8 @@ use Rattle.brc_model.specs.declared.address.Address.{Address}
 use Rattle.brc_model.specs.declared.address.Address.TheVariants.{Gate}
 use Rattle.brc_model.specs.declared.actor.Status.{Status}
 use Rattle.brc_model.specs.declared.actor.Status.TheVariants.{Running, Leaving, Gone}
-use Rattle.brc_model.specs.Machine.{Actor, idle_actor, Life, Unborn, Live, Dying, Closed, Machine}
+use Rattle.brc_model.specs.declared.actor.Actor.{Actor}
+use Rattle.brc_model.specs.Machine.{idle_actor, Life, Unborn, Live, Dying, Closed, Machine}
 use Rattle.brc_model.specs.StepMachine.{StepMachine, its_actor, counting}
 use Rattle.brc_model.specs.Layout.{block_of, index_of}
 use Rattle.brc_model.specs.Progress.{Always, GatesTell, BornAreUsed}

@@ -14,7 +14,8 @@ use Rattle.brc_model.specs.declared.actor.Status.{Status}
 use Rattle.brc_model.specs.declared.address.Address.TheVariants.{Local, Gate, Cell, Slot, ThreadWord}
 use Rattle.brc_model.specs.Layout.{block_of}
 use Rattle.brc_model.specs.Duties.{address_of, new_word}
-use Rattle.brc_model.specs.Machine.{Actor, Machine, Unborn, Live, Dying, Closed, same_address, written, done_by}
+use Rattle.brc_model.specs.declared.actor.Actor.{Actor}
+use Rattle.brc_model.specs.Machine.{Machine, Unborn, Live, Dying, Closed, same_address, written, done_by}
 use Rattle.brc_model.specs.References.{one_if}
 use Rattle.brc_model.specs.RowInvariant.{decides}
 use Rattle.brc_model.specs.Accounts.{Account, Accounts, HoldsNone}

@@ -11,7 +11,8 @@ use Rattle.brc_model.specs.declared.duty.Duty.TheVariants.{Look, TakeMark, Settl
 use Rattle.brc_model.specs.declared.address.Address.TheVariants.{Mark, ThreadWord}
 use Rattle.brc_model.specs.declared.actor.Status.{Status}
 use Rattle.brc_model.specs.declared.actor.Status.TheVariants.{Running, Leaving, Gone}
-use Rattle.brc_model.specs.Machine.{Actor, Machine}
+use Rattle.brc_model.specs.declared.actor.Actor.{Actor}
+use Rattle.brc_model.specs.Machine.{Machine}
 use Rattle.brc_model.specs.StepMachine.{StepMachine, first_machine}
 use Rattle.brc_model.specs.Progress.{Always}
 use Rattle.brc_model.specs.Watched.{looks_at, scans_over, IsWatched, ByRunning, ByExit, ByLook, MarksWatched}

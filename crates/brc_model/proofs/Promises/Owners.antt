@@ -9,7 +9,8 @@ use Rattle.brc_model.specs.declared.thread.Choice.{Choice}
 use Rattle.brc_model.specs.declared.duty.Duty.{Duty}
 use Rattle.brc_model.specs.declared.duty.Duty.TheVariants.{RetainLoad, RetainStore, ReleaseLoad, ReleaseStore, MergeSwap, BirthLocal}
 use Rattle.brc_model.specs.declared.address.Address.TheVariants.{Local}
-use Rattle.brc_model.specs.Machine.{Actor, Machine, written, with_actor, done_by, Unborn}
+use Rattle.brc_model.specs.declared.actor.Actor.{Actor}
+use Rattle.brc_model.specs.Machine.{Machine, written, with_actor, done_by, Unborn}
 use Rattle.brc_model.specs.StepMachine.{StepMachine}
 use Rattle.brc_model.specs.Progress.{Runs, OnlyOwnersCount, OwnersStay}
 use Rattle.brc_model.proofs.Basics.Lists.{some_is, slice_get-set_same, slice_get-set_other}

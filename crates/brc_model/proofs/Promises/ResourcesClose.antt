@@ -11,7 +11,8 @@ use Rattle.brc_model.specs.declared.duty.Duty.{Duty}
 use Rattle.brc_model.specs.declared.duty.Duty.TheVariants.{SettleEnd}
 use Rattle.brc_model.specs.declared.address.Address.TheVariants.{KindOf, Resource}
 use Rattle.brc_model.specs.Duties.{has_resource, resources_of}
-use Rattle.brc_model.specs.Machine.{Actor, Life, Unborn, Live, Dying, Closed, Machine}
+use Rattle.brc_model.specs.declared.actor.Actor.{Actor}
+use Rattle.brc_model.specs.Machine.{Life, Unborn, Live, Dying, Closed, Machine}
 use Rattle.brc_model.specs.StepMachine.{StepMachine, counting}
 use Rattle.brc_model.specs.Accounts.{Accounts}
 use Rattle.brc_model.specs.References.{one_if}

@@ -9,7 +9,8 @@ use Rattle.brc_model.specs.Tables.{AreTrueWhereReached}
 use Rattle.brc_model.specs.declared.address.Address.TheVariants.{ThreadWord}
 use Rattle.brc_model.specs.declared.actor.Status.{Status}
 use Rattle.brc_model.specs.declared.actor.Status.TheVariants.{Running, Leaving, Gone}
-use Rattle.brc_model.specs.Machine.{Actor, Machine}
+use Rattle.brc_model.specs.declared.actor.Actor.{Actor}
+use Rattle.brc_model.specs.Machine.{Machine}
 use Rattle.brc_model.specs.StepMachine.{StepMachine, first_machine}
 use Rattle.brc_model.specs.Safety.{AreCalls, has_gone, AllGone, IsSafeNow, Safe}
 use Rattle.brc_model.specs.Accounts.{Accounts}

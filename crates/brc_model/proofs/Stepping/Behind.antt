@@ -8,7 +8,8 @@ use Rattle.brc_model.specs.declared.duty.Duty.TheVariants.{Die, Settle, SettleCe
 use Rattle.brc_model.specs.declared.address.Address.TheVariants.{Gate, KindOf, Cell}
 use Rattle.brc_model.specs.declared.layout.Layout.{Layout}
 use Rattle.brc_model.specs.Duties.{address_of, new_word, new_head, ready, resources_of, cells_from, release_found}
-use Rattle.brc_model.specs.Machine.{Actor, Life, Unborn, Live, Dying, Machine, is_running, ended_row, actor_by, done_by, written}
+use Rattle.brc_model.specs.declared.actor.Actor.{Actor}
+use Rattle.brc_model.specs.Machine.{Life, Unborn, Live, Dying, Machine, is_running, ended_row, actor_by, done_by, written}
 use Rattle.brc_model.specs.Layout.{IsCounted}
 use Rattle.brc_model.specs.References.{one_if}
 use Rattle.brc_model.specs.Accounts.{Accounts}

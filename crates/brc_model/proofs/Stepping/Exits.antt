@@ -10,7 +10,8 @@ use Rattle.brc_model.specs.declared.duty.Duty.TheVariants.{MergeSwap, Settle, Le
 use Rattle.brc_model.specs.declared.address.Address.TheVariants.{Gate, Mark, ThreadWord}
 use Rattle.brc_model.specs.Duties.{claimed, ready}
 use Rattle.brc_model.specs.declared.actor.Status.TheVariants.{Leaving, Gone}
-use Rattle.brc_model.specs.Machine.{Actor, Life, Machine, dies_next, done_by, Unborn}
+use Rattle.brc_model.specs.declared.actor.Actor.{Actor}
+use Rattle.brc_model.specs.Machine.{Life, Machine, dies_next, done_by, Unborn}
 use Rattle.brc_model.specs.References.{one_if}
 use Rattle.brc_model.specs.Accounts.{Accounts, extra_of, lacks_of}
 use Rattle.brc_model.specs.Knowledge.{AllBehind}

@@ -6,7 +6,8 @@ use Rattle.brc_model.specs.declared.address.Address.{Address}
 use Rattle.brc_model.specs.Duties.{address_of, new_word}
 use Rattle.brc_model.specs.declared.actor.Status.{Status}
 use Rattle.brc_model.specs.declared.actor.Status.TheVariants.{Running, Leaving, Gone}
-use Rattle.brc_model.specs.Machine.{Actor, Dying, Closed, Machine, dies_next, ended_row, with_life, life_by, actor_by, done_by, written, born_row, used_by, Live}
+use Rattle.brc_model.specs.declared.actor.Actor.{Actor}
+use Rattle.brc_model.specs.Machine.{Dying, Closed, Machine, dies_next, ended_row, with_life, life_by, actor_by, done_by, written, born_row, used_by, Live}
 use Rattle.brc_model.specs.Moves.{reference_effects}
 use Rattle.brc_model.specs.Accounts.{Accounts}
 use Rattle.brc_model.specs.OpenWork.{Agenda, AgendaFits}

@@ -13,7 +13,8 @@ use Rattle.brc_model.specs.declared.actor.Status.{Status}
 use Rattle.brc_model.specs.declared.actor.Status.TheVariants.{Running, Leaving, Gone}
 use Rattle.brc_model.specs.declared.layout.Layout.{Layout}
 use Rattle.brc_model.specs.Duties.{address_of, new_head}
-use Rattle.brc_model.specs.Machine.{Actor, Machine, is_running, actor_by, done_by, is_locking}
+use Rattle.brc_model.specs.declared.actor.Actor.{Actor}
+use Rattle.brc_model.specs.Machine.{Machine, is_running, actor_by, done_by, is_locking}
 use Rattle.brc_model.specs.References.{held, one_if, reference_of}
 use Rattle.brc_model.specs.Accounts.{Accounts, lacks, HoldsAt}
 use Rattle.brc_model.specs.OpenWork.{is_about, about_of, Later, Agenda, AgendaFits}

@@ -10,7 +10,8 @@ use Rattle.brc_model.specs.declared.duty.Reason.TheVariants.{Own, Handed}
 use Rattle.brc_model.specs.declared.duty.Duty.{Duty}
 use Rattle.brc_model.specs.declared.duty.Duty.TheVariants.{RetainLoad, RetainStore, ReleaseLoad, ReleaseStore, SharedLoad, RetainAdd, MergeSwap, BirthLocal}
 use Rattle.brc_model.specs.declared.address.Address.TheVariants.{Local}
-use Rattle.brc_model.specs.Machine.{Actor, Machine, written, is_running}
+use Rattle.brc_model.specs.declared.actor.Actor.{Actor}
+use Rattle.brc_model.specs.Machine.{Machine, written, is_running}
 use Rattle.brc_model.specs.Moves.{gain, lose, put_in_flight}
 use Rattle.brc_model.proofs.Basics.Bag.{held_has, same-refl}
 use Rattle.brc_model.specs.References.{held, reference_of}

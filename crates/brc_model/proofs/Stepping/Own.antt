@@ -7,7 +7,8 @@ use Rattle.brc_model.specs.declared.duty.Duty.TheVariants.{Settle, SettleCell, S
 use Rattle.brc_model.specs.declared.address.Address.TheVariants.{Gate}
 use Rattle.brc_model.specs.Duties.{ready}
 use Rattle.brc_model.specs.declared.actor.Status.{Status}
-use Rattle.brc_model.specs.Machine.{Actor, Machine}
+use Rattle.brc_model.specs.declared.actor.Actor.{Actor}
+use Rattle.brc_model.specs.Machine.{Machine}
 use Rattle.brc_model.specs.References.{held, one_if, reference_of}
 use Rattle.brc_model.specs.Accounts.{extra_of, lacks_of, HoldsAt, Account}
 use Rattle.brc_model.specs.Knowledge.{HeadOf, AllBehind}

@@ -12,7 +12,8 @@ use Rattle.brc_model.specs.declared.address.Address.TheVariants.{Local}
 use Rattle.brc_model.specs.Duties.{continuation, counts_locally}
 use Rattle.brc_model.specs.declared.actor.Status.{Status}
 use Rattle.brc_model.specs.declared.actor.Status.TheVariants.{Running, Leaving, Gone}
-use Rattle.brc_model.specs.Machine.{Actor, Machine, is_running, done_by}
+use Rattle.brc_model.specs.declared.actor.Actor.{Actor}
+use Rattle.brc_model.specs.Machine.{Machine, is_running, done_by}
 use Rattle.brc_model.specs.Moves.{gain}
 use Rattle.brc_model.proofs.Basics.Lists.{and_first, and_second}
 use Rattle.brc_model.specs.References.{held, reference_of}

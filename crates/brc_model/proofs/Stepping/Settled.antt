@@ -4,7 +4,8 @@ use Rattle.std.proofs.Common.{◌≡◌, ◌∙◌, ℕ, zero, suc, true, List, 
 use Rattle.brc_model.specs.declared.duty.Duty.{Duty}
 use Rattle.brc_model.specs.declared.duty.Duty.TheVariants.{Settle, Leave, Scan, Finish}
 use Rattle.brc_model.specs.Duties.{new_head, ready}
-use Rattle.brc_model.specs.Machine.{Actor, Machine, is_running, actor_by}
+use Rattle.brc_model.specs.declared.actor.Actor.{Actor}
+use Rattle.brc_model.specs.Machine.{Machine, is_running, actor_by}
 use Rattle.brc_model.specs.OpenWork.{IsSettled}
 use Rattle.brc_model.proofs.Frame.Lives.{next_of}
 use Rattle.brc_model.proofs.Stepping.FitsAfter.{found_by}

@@ -10,7 +10,8 @@ use Rattle.brc_model.specs.declared.duty.Duty.TheVariants.{ReleaseLoad, SettleKi
 use Rattle.brc_model.specs.declared.address.Address.TheVariants.{Gate, KindOf, Cell}
 use Rattle.brc_model.specs.Duties.{cells_of, cells_from, release_found, has_resource, resources_of}
 use Rattle.brc_model.specs.declared.actor.Status.{Status}
-use Rattle.brc_model.specs.Machine.{Actor, Dying, Machine, done_by, dies_next, Life}
+use Rattle.brc_model.specs.declared.actor.Actor.{Actor}
+use Rattle.brc_model.specs.Machine.{Dying, Machine, done_by, dies_next, Life}
 use Rattle.brc_model.specs.Moves.{take_out}
 use Rattle.brc_model.specs.AbstractState.{Reference, same_holding, same, without, moved}
 use Rattle.brc_model.specs.References.{one_if, reference_of, cell_reference}

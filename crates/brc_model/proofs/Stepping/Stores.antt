@@ -13,7 +13,8 @@ use Rattle.brc_model.specs.declared.address.Address.TheVariants.{Local, Mark, Th
 use Rattle.brc_model.specs.declared.actor.Status.{Status}
 use Rattle.brc_model.specs.declared.actor.Status.TheVariants.{Running, Leaving, Gone}
 use Rattle.brc_model.specs.Duties.{new_word, continuation, new_head}
-use Rattle.brc_model.specs.Machine.{Actor, Life, Machine, locked_by, lent_by}
+use Rattle.brc_model.specs.declared.actor.Actor.{Actor}
+use Rattle.brc_model.specs.Machine.{Life, Machine, locked_by, lent_by}
 use Rattle.brc_model.specs.Moves.{reference_effects}
 use Rattle.brc_model.specs.References.{one_if}
 use Rattle.brc_model.specs.RowInvariant.{waits, Numbers, IsDefault, IsQueued, InOwned, InSwapped, InMerged, Phased, RowInvariant}

@@ -6,7 +6,8 @@ use Rattle.brc_model.specs.declared.duty.Duty.TheVariants.{Settle, Leave, Scan, 
 use Rattle.brc_model.specs.Duties.{continuation, ready, new_head}
 use Rattle.brc_model.specs.declared.actor.Status.{Status}
 use Rattle.brc_model.specs.declared.actor.Status.TheVariants.{Running, Leaving, Gone}
-use Rattle.brc_model.specs.Machine.{Actor, Machine, is_running, status_by, actor_by}
+use Rattle.brc_model.specs.declared.actor.Actor.{Actor}
+use Rattle.brc_model.specs.Machine.{Machine, is_running, status_by, actor_by}
 use Rattle.brc_model.specs.Accounts.{Accounts}
 use Rattle.brc_model.specs.OpenWork.{Agenda, AgendaFits, has_leave, exits}
 use Rattle.brc_model.specs.Invariant.{AtDuty}

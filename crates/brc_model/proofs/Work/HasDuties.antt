@@ -5,7 +5,7 @@ use Rattle.std.specs.Prelude.{◌||◌, slice_get, sum_by}
 use Rattle.std.specs.List.{list_any}
 use Rattle.std.proofs.lemmas.List.Sums.{sum_by-cons}
 use Rattle.brc_model.specs.declared.duty.Duty.{Duty}
-use Rattle.brc_model.specs.Machine.{Actor}
+use Rattle.brc_model.specs.declared.actor.Actor.{Actor}
 use Rattle.brc_model.specs.RowInvariant.{agenda_weight, weight}
 
 -- A thread whose duties weigh something. `some_weighs` finds one wherever all agendas together weigh something.

@@ -11,7 +11,8 @@ use Rattle.brc_model.specs.declared.duty.Duty.{Duty}
 use Rattle.brc_model.specs.declared.duty.Duty.TheVariants.{MergeSwap, MergeLoad, MergeExchange}
 use Rattle.brc_model.specs.declared.address.Address.TheVariants.{Local, Shared, ThreadWord}
 use Rattle.brc_model.specs.declared.actor.Status.TheVariants.{Running}
-use Rattle.brc_model.specs.Machine.{Actor, Machine}
+use Rattle.brc_model.specs.declared.actor.Actor.{Actor}
+use Rattle.brc_model.specs.Machine.{Machine}
 use Rattle.brc_model.proofs.Basics.Lists.{some_is}
 use Rattle.brc_model.specs.References.{one_if}
 use Rattle.brc_model.specs.RowInvariant.{waits, carries, merges, agenda_weight, weight, Phased, IsDefault, IsQueued, InOwned, InSwapped, InMerged}

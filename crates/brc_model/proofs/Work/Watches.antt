@@ -10,7 +10,8 @@ use Rattle.brc_model.specs.declared.address.Address.TheVariants.{Mark, ThreadWor
 use Rattle.brc_model.specs.Duties.{new_head, ready}
 use Rattle.brc_model.specs.declared.actor.Status.{Status}
 use Rattle.brc_model.specs.declared.actor.Status.TheVariants.{Gone}
-use Rattle.brc_model.specs.Machine.{Actor, Machine, is_running, actor_by, done_by, written}
+use Rattle.brc_model.specs.declared.actor.Actor.{Actor}
+use Rattle.brc_model.specs.Machine.{Machine, is_running, actor_by, done_by, written}
 use Rattle.brc_model.proofs.Basics.Lists.{some_is, slice_get-set_other}
 use Rattle.brc_model.specs.References.{one_if}
 use Rattle.brc_model.specs.RowInvariant.{weight}

@@ -7,7 +7,8 @@ use Rattle.brc_host.specs.HostCalls.{HostCall}
 use Rattle.brc_host.specs.HostCalls as asked
 use Rattle.brc_model.specs.Actions.{Action, Does, Silent, always, dispatch, number_word, list_word, birth_action, by_variable}
 use Rattle.brc_model.specs.Duties.{ready, has_resource}
-use Rattle.brc_model.specs.Machine.{Actor, has_room}
+use Rattle.brc_model.specs.declared.actor.Actor.{Actor}
+use Rattle.brc_model.specs.Machine.{has_room}
 use Rattle.brc_model.specs.declared.actor.Context.{Context}
 use Rattle.brc_model.specs.declared.actor.Place.{Place}
 use Rattle.brc_model.specs.declared.actor.Place.TheVariants.{InCall, Inside}

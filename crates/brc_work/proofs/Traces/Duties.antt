@@ -4,7 +4,8 @@ use Rattle.std.specs.Prelude.{◌&&◌}
 use Rattle.brc_lang.specs.declared.module.Instr.{Instr}
 use Rattle.brc_model.specs.Actions.{Does, dispatch}
 use Rattle.brc_model.specs.Duties.{continuation, new_head, ready}
-use Rattle.brc_model.specs.Machine.{Actor, is_running, status_by, used_by, locked_by, lent_by, actor_by}
+use Rattle.brc_model.specs.declared.actor.Actor.{Actor}
+use Rattle.brc_model.specs.Machine.{is_running, status_by, used_by, locked_by, lent_by, actor_by}
 use Rattle.brc_model.specs.declared.actor.Place.{Place}
 use Rattle.brc_model.specs.declared.duty.Duty.{Duty}
 use Rattle.brc_model.specs.declared.duty.Duty.TheVariants.{Settle, Scan}

@@ -9,7 +9,8 @@ use Rattle.brc_lang.specs.declared.mode.Mode.{Mode}
 use Rattle.brc_lang.specs.declared.module.Instr.{Instr}
 use Rattle.brc_lang.specs.declared.module.Instr.TheVariants as instructions
 use Rattle.brc_model.specs.Actions.{Silent, Calls, Does, always, by_exit, with_row, number_word, file_word, sock_word, grant_action, granted_birth, lend_action, return_action, dispatch, dispatch_instruction, dispatch_inside, by_variable}
-use Rattle.brc_model.specs.Machine.{Actor, has_room, actor_by}
+use Rattle.brc_model.specs.declared.actor.Actor.{Actor}
+use Rattle.brc_model.specs.Machine.{has_room, actor_by}
 use Rattle.brc_model.specs.Slots.{target}
 use Rattle.brc_model.specs.Threads.{row_of}
 use Rattle.brc_model.specs.declared.actor.Context.{Context}

@@ -7,7 +7,8 @@ use Rattle.brc_lang.specs.declared.module.Instr.{Instr}
 use Rattle.brc_model.specs.AbstractState.{Move}
 use Rattle.brc_model.specs.Actions.{Silent, Calls, Does, dispatch}
 use Rattle.brc_model.specs.Duties.{counts_locally, ready}
-use Rattle.brc_model.specs.Machine.{Actor, is_running}
+use Rattle.brc_model.specs.declared.actor.Actor.{Actor}
+use Rattle.brc_model.specs.Machine.{is_running}
 use Rattle.brc_model.specs.declared.actor.Place.{Place}
 use Rattle.brc_model.specs.declared.duty.Duty.{Duty}
 use Rattle.brc_model.specs.declared.duty.Duty.TheVariants.{RetainLoad, RetainStore, RetainAdd, KindLoad, LockGate, UnlockGate, CellLoad}

@@ -4,7 +4,7 @@ use Rattle.brc_host.specs.HostCalls.{HostCall}
 use Rattle.brc_lang.specs.declared.module.Instr.{Instr}
 use Rattle.brc_model.specs.Actions.{Does, always, dispatch}
 use Rattle.brc_model.specs.Duties.{ready, release_found}
-use Rattle.brc_model.specs.Machine.{Actor}
+use Rattle.brc_model.specs.declared.actor.Actor.{Actor}
 use Rattle.brc_model.specs.declared.actor.Place.{Place}
 use Rattle.brc_model.specs.declared.address.Address.TheVariants.{Cell}
 use Rattle.brc_model.specs.declared.duty.Duty.{Duty}
