@@ -6,7 +6,7 @@ use Rattle.brc_report.specs.declared.paint.Paint.{Paint}
 use Rattle.brc_command.specs.declared.asked.Asked.{Asked}
 use Rattle.brc_command.specs.declared.step_fault.StepFault.TheVariants.{NoMemory}
 use Rattle.brc_command.specs.declared.files.Format.{Format}
-use Rattle.brc_command.specs.Commands.{HasReport, IsReason, Leaves, IsDone, IsStopped}
+use Rattle.brc_command.specs.Commands.{HasReport, IsReason, ProgramLeaves, IsDone, IsStopped}
 use Rattle.brc_command.specs.Files.{AreWritten, IsOutcome, are_several}
 use Rattle.brc_command.specs.Lines.{fault_text}
 
@@ -20,7 +20,7 @@ pub record IsDoneAsking (gives : List ℕ → List ℕ → Type 0) (paint : Pain
 pub record IsStoppedAsking (gives : List ℕ → List ℕ → Type 0) (lacks : List ℕ → Type 0)
     (paint : Paint) (old new err_old err_new : Option (List ℕ)) (status : ℕ) : Type 0 where
   pub asked : Asked
-  pub stopped : IsStopped (IsReason gives lacks asked) (Leaves gives paint asked) old new err_old err_new status
+  pub stopped : IsStopped (IsReason gives lacks asked) (ProgramLeaves gives paint asked) old new err_old err_new status
 
 -- the command line asks for the check of files, and each of them has its outcome
 pub record ChecksFiles (gives : List ℕ → List ℕ → Type 0) (lacks : List ℕ → Type 0)

@@ -9,7 +9,7 @@ use Rattle.brc_model.specs.Layout.{root_row, IsCounted}
 use Rattle.brc_model.specs.OpenWork.{is_about}
 use Rattle.brc_table.specs.declared.view.View.{View}
 use Rattle.brc_table.specs.Views.{holds, behind_first, open_work, next_row, worker_view}
-use Rattle.brc_table.specs.Seen.{KnowsCell}
+use Rattle.brc_table.specs.KnownWords.{KnowsCell}
 use Rattle.brc_table.specs.Swaps.{with_item}
 use Rattle.brc_table.specs.Hands.{TableState, HandState, IsOf, IsRunning, HasNoWork}
 use Rattle.brc_heap.specs.Calls.{HasBorn}

@@ -2,7 +2,7 @@
 use Rattle.std.specs.Prelude.{◌≡◌, ◌<◌, ◌≤◌, ◌+◌, ◌==◌, ℕ, Option, None, Some, List, [], length, count_by}
 use Rattle.brc_model.specs.Layout.{IsCounted}
 use Rattle.brc_table.specs.Views.{behind_first, open_work}
-use Rattle.brc_table.specs.Seen.{KnowsCell}
+use Rattle.brc_table.specs.KnownWords.{KnowsCell}
 use Rattle.brc_table.specs.Swaps.{with_item}
 use Rattle.brc_table.specs.Uses.{FirstSlot}
 use Rattle.brc_table.specs.Hands.{TableState, HandState, IsOf, IsRunning, most_references}

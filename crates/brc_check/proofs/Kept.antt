@@ -11,10 +11,10 @@ use Rattle.brc_lang.specs.declared.module.Instr.TheVariants.{Drop, Lock, Unlock,
 use Rattle.brc_lang.specs.declared.module.Instr.TheVariants.{Open, Connect, Read, Write, Goto, Again, Ret, Fail}
 use Rattle.brc_lang.specs.declared.check_code.CheckCode.{CheckCode}
 use Rattle.brc_lang.specs.declared.check_code.CheckCode.TheVariants.{RunsOff}
-use Rattle.brc_model.specs.declared.slot.State.{State}
-use Rattle.brc_model.specs.declared.slot.Exit.{Exit}
-use Rattle.brc_model.specs.declared.slot.Exit.TheVariants.{Success, Fault}
-use Rattle.brc_model.specs.Slots.{lowest, after, target}
+use Rattle.brc_model.specs.declared.state.State.{State}
+use Rattle.brc_model.specs.declared.state.Exit.{Exit}
+use Rattle.brc_model.specs.declared.state.Exit.TheVariants.{Success, Fault}
+use Rattle.brc_model.specs.VarStates.{lowest, after, target}
 use Rattle.brc_model.specs.Paths.{PathEnd, At, Ended, Reports, follow, passes, arrives, unless_reported}
 use Rattle.brc_check.specs.declared.kept_entry.KeptEntry.{KeptEntry}
 use Rattle.brc_check.specs.Lookups.{HasOneExit}
@@ -106,8 +106,8 @@ arrived code at next (Some k) s t e =
     let both = arrived_cond code at next k s t (nat_lt k (length code)) e in (ap Some both.0, both.1)
 
 -- the way by which a step reaches a point: the point is kept, or it is the next one, by the success exit
-abbrev pub Comes : List Instr → ℕ → State → ℕ → State → Type 0
-Comes code at s next t =
+abbrev pub ReachesBy : List Instr → ℕ → State → ℕ → State → Type 0
+ReachesBy code at s next t =
     (is_kept code next ≡ true) ⊎ ((next ≡ at + 1) × (follow code (At at s) Success ≡ At next t))
 
 any_of : (code : List Instr) (at next : ℕ) (i : Instr) → slice_get code at ≡ Some i → leads_to next i ≡ true
@@ -139,7 +139,7 @@ passes_arrives code at next (Some i) exit s t here e =
 
 -- a step that reaches a point that isn't kept is from the point before, and the success exit of that leads there too
 pub comes : (code : List Instr) (at next : ℕ) (exit : Exit) (s t : State) → follow code (At at s) exit ≡ At next t
-    → Comes code at s next t
+    → ReachesBy code at s next t
 comes code at next exit s t e = passes_arrives code at next (slice_get code at) exit s t refl e
 
 passes_one : (code : List Instr) (at : ℕ) (s : State) (i : Instr) → HasOneExit i

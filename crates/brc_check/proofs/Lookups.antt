@@ -9,7 +9,7 @@ use Rattle.std.proofs.lemmas.List.{get_or-set_other}
 use Rattle.std.proofs.lemmas.Option.{slice_get_read}
 use Rattle.brc_lang.specs.declared.module.Instr.{Instr}
 use Rattle.brc_lang.specs.Limits.{instruction_limit}
-use Rattle.brc_model.specs.declared.slot.State.{State}
+use Rattle.brc_model.specs.declared.state.State.{State}
 use Rattle.brc_check.specs.declared.kept_entry.KeptEntry.{KeptEntry}
 use Rattle.brc_check.specs.Tables.{kept_at, kept_or, passed, state_at, with_state}
 use Rattle.brc_check.specs.Lookups.{IsNumberOf, IsReplacedAt, IsNearest}

@@ -10,10 +10,10 @@ use Rattle.std.proofs.lemmas.List.{length-set, length-replicate}
 use Rattle.std.proofs.lemmas.Option.{none-some, same_Some, slice_get_within, slice_get-get_or}
 use Rattle.brc_lang.specs.declared.module.Instr.{Instr}
 use Rattle.brc_lang.specs.declared.check_code.CheckCode.{CheckCode}
-use Rattle.brc_model.specs.declared.slot.State.{State}
-use Rattle.brc_model.specs.declared.slot.Exit.{Exit}
-use Rattle.brc_model.specs.declared.slot.Exit.TheVariants.{Success, Fault}
-use Rattle.brc_model.specs.Slots.{entry}
+use Rattle.brc_model.specs.declared.state.State.{State}
+use Rattle.brc_model.specs.declared.state.Exit.{Exit}
+use Rattle.brc_model.specs.declared.state.Exit.TheVariants.{Success, Fault}
+use Rattle.brc_model.specs.VarStates.{entry}
 use Rattle.brc_model.specs.Paths.{PathEnd, At, Ended, Reports, follow, path_end}
 use Rattle.brc_model.proofs.Basics.Lists.{slice_get-set_same, slice_get-set_other}
 use Rattle.brc_check.specs.declared.path.Path.{Path}

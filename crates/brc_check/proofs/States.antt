@@ -5,10 +5,10 @@ use Rattle.std.specs.Prelude.{None, Some, ◌⊎◌, ◌==◌}
 use Rattle.std.proofs.lemmas.Bool.{eqb-true, eq-eqb, cases_lt}
 use Rattle.std.proofs.lemmas.Option.{none-some, same_Some}
 use Rattle.brc_lang.specs.declared.module.Instr.{Instr}
-use Rattle.brc_model.specs.declared.slot.State.{State}
-use Rattle.brc_model.specs.declared.slot.Exit.{Exit}
-use Rattle.brc_model.specs.declared.slot.Exit.TheVariants.{Success}
-use Rattle.brc_model.specs.Slots.{entry}
+use Rattle.brc_model.specs.declared.state.State.{State}
+use Rattle.brc_model.specs.declared.state.Exit.{Exit}
+use Rattle.brc_model.specs.declared.state.Exit.TheVariants.{Success}
+use Rattle.brc_model.specs.VarStates.{entry}
 use Rattle.brc_model.specs.Paths.{PathEnd, At, Ended, Reports, follow}
 use Rattle.brc_model.specs.Tables.{Reaches, IsTrueEntry}
 use Rattle.brc_check.specs.declared.kept_entry.KeptEntry.{KeptEntry}

@@ -5,9 +5,9 @@ use Rattle.std.proofs.lemmas.Bool.{ltb-true}
 use Rattle.brc_lang.specs.declared.module.Instr.{Instr}
 use Rattle.brc_lang.specs.declared.check_code.CheckCode.{CheckCode}
 use Rattle.brc_lang.specs.declared.check_code.CheckCode.TheVariants.{RunsOff}
-use Rattle.brc_model.specs.declared.slot.State.{State}
-use Rattle.brc_model.specs.declared.slot.Exit.{Exit}
-use Rattle.brc_model.specs.Slots.{lowest, after, target}
+use Rattle.brc_model.specs.declared.state.State.{State}
+use Rattle.brc_model.specs.declared.state.Exit.{Exit}
+use Rattle.brc_model.specs.VarStates.{lowest, after, target}
 use Rattle.brc_model.specs.Paths.{PathEnd, At, Ended, Reports, arrives, unless_reported, passes, follow}
 
 -- if the path ends at a point, the code has that point

@@ -3,8 +3,8 @@ use Rattle.std.specs.Prelude.{◌≡◌, ◌<◌, ◌-◌, ℕ, List, [], ◌∷
 use Rattle.std.specs.Prelude.{replicate, Option, None, Some, is_none, is_some, slice_get, slice_set, if◌then◌else◌}
 use Rattle.std.specs.List.{count_by, slice_index_or}
 use Rattle.brc_lang.specs.declared.module.Instr.{Instr}
-use Rattle.brc_model.specs.declared.slot.State.{State}
-use Rattle.brc_model.specs.Slots.{entry}
+use Rattle.brc_model.specs.declared.state.State.{State}
+use Rattle.brc_model.specs.VarStates.{entry}
 use Rattle.brc_model.specs.Paths.{PathEnd, At, Ended, Reports, IsAcceptableCode}
 use Rattle.brc_model.specs.Tables.{Reaches, IsTrueEntry}
 use Rattle.brc_check.specs.declared.filling.Filling.{Filling}

@@ -1,7 +1,7 @@
 //! The entries of a function while they are inferred.
 
 ghost use Rattle.std.specs.Prelude.{◌≡◌, ◌<◌, ◌≤◌, ◌-◌, ◌∷◌, length, replicate, IfOk, IsTrue, MatchOption, None, Some};
-ghost use Rattle.brc_model.specs.Slots.{entry};
+ghost use Rattle.brc_model.specs.VarStates.{entry};
 ghost use Rattle.brc_check.specs.Filling.{entry_at, first_filling, settled, IsInOrder, IsFoundAt};
 
 use crate::entries::entry_at;

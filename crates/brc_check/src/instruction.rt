@@ -1,7 +1,7 @@
 //! One instruction: the code that it reports in a state, the state that it leaves, and the point to which it leads.
 
 ghost use Rattle.std.specs.Prelude.{◌≡◌, ◌+◌, ◌<◌, ◌^◌};
-ghost use Rattle.brc_model.specs.Slots.{lowest, after, target};
+ghost use Rattle.brc_model.specs.VarStates.{lowest, after, target};
 
 use crate::refusing::{
     as_refusal, drop_refusal, fail_refusal, into_refusal, move_refusal, newref_refusal, ret_refusal,
@@ -9,9 +9,9 @@ use crate::refusing::{
 use crate::refusing_host::{read_refusal, write_refusal};
 use crate::refusing_items::{item_refusal, put_refusal, set_refusal};
 use crate::refusing_locks::{lock_refusal, unlock_refusal};
-use crate::slots::{forget_items, kind_of, put, slot, with_kind};
+use crate::variables::{forget_items, kind_of, put, var, with_kind};
 use brc_lang::{CheckCode, Instr, Kind};
-use brc_model::{Exit, Slot, State};
+use brc_model::{Exit, VarState, State};
 
 /// Returns the lowest code that the instruction reports in the state, or `None`.
 pub fn refusal(instr: Instr, state: &State) -> Option<CheckCode>
@@ -43,13 +43,13 @@ pub fn refusal(instr: Instr, state: &State) -> Option<CheckCode>
 }
 
 /// Returns what the exit leaves in the variable that the instruction fills: a fault leaves nothing.
-fn filled(slot: Slot, exit: Exit) -> Slot
-    ensures success { exit ≡ Exit.Success → result ≡ slot }
-    ensures fault { exit ≡ Exit.Fault → result ≡ Slot.Empty }
+fn filled(var: VarState, exit: Exit) -> VarState
+    ensures success { exit ≡ Exit.Success → result ≡ var }
+    ensures fault { exit ≡ Exit.Fault → result ≡ VarState.Empty }
 {
     match exit {
-        Exit::Success => slot,
-        Exit::Fault => Slot::Empty,
+        Exit::Success => var,
+        Exit::Fault => VarState::Empty,
     }
 }
 
@@ -59,38 +59,38 @@ pub fn apply(instr: Instr, exit: Exit, state: &mut State)
 {
     match instr {
         Instr::Num { to, .. } | Instr::Read { to, .. } => {
-            put(state, to, filled(Slot::Owned(Kind::Num), exit));
+            put(state, to, filled(VarState::Owned(Kind::Num), exit));
         }
-        Instr::List { to, .. } => put(state, to, filled(Slot::Owned(Kind::List), exit)),
-        Instr::Open { to, .. } => put(state, to, filled(Slot::Owned(Kind::File), exit)),
-        Instr::Connect { to, .. } => put(state, to, filled(Slot::Owned(Kind::Sock), exit)),
-        Instr::NoneObject { to } => put(state, to, Slot::Owned(Kind::None)),
+        Instr::List { to, .. } => put(state, to, filled(VarState::Owned(Kind::List), exit)),
+        Instr::Open { to, .. } => put(state, to, filled(VarState::Owned(Kind::File), exit)),
+        Instr::Connect { to, .. } => put(state, to, filled(VarState::Owned(Kind::Sock), exit)),
+        Instr::NoneObject { to } => put(state, to, VarState::Owned(Kind::None)),
         Instr::Newref { to, from } => {
-            let kind = kind_of(slot(state, from));
-            put(state, to, Slot::Owned(kind));
+            let kind = kind_of(var(state, from));
+            put(state, to, VarState::Owned(kind));
         }
         Instr::Move { to, from } => {
-            let handed = Slot::Owned(kind_of(slot(state, from)));
-            put(state, from, Slot::Empty);
+            let handed = VarState::Owned(kind_of(var(state, from)));
+            put(state, from, VarState::Empty);
             put(state, to, handed);
         }
-        Instr::Drop { from } => put(state, from, Slot::Empty),
+        Instr::Drop { from } => put(state, from, VarState::Empty),
         Instr::Lock { object } => state.locked = Some(object),
         Instr::Unlock { .. } => {
             forget_items(state);
             state.locked = None;
         }
-        Instr::Borrow { to, .. } => put(state, to, filled(Slot::Locked(Kind::Any), exit)),
-        Instr::Fetch { to, .. } => put(state, to, filled(Slot::Owned(Kind::Any), exit)),
+        Instr::Borrow { to, .. } => put(state, to, filled(VarState::Locked(Kind::Any), exit)),
+        Instr::Fetch { to, .. } => put(state, to, filled(VarState::Owned(Kind::Any), exit)),
         // `PyList_SetItem` steals the reference, also if the index is out of range.
         Instr::Set { from, .. } => {
-            put(state, from, Slot::Empty);
+            put(state, from, VarState::Empty);
             forget_items(state);
         }
         Instr::Put { .. } => forget_items(state),
         Instr::As { from, kind, .. } => {
             if let Exit::Success = exit {
-                let asked = with_kind(slot(state, from), kind);
+                let asked = with_kind(var(state, from), kind);
                 put(state, from, asked);
             }
         }

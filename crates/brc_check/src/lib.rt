@@ -21,7 +21,7 @@ mod refusing;
 mod refusing_host;
 mod refusing_items;
 mod refusing_locks;
-mod slots;
+mod variables;
 mod state;
 mod step;
 mod table;
@@ -30,7 +30,7 @@ mod verifying;
 mod visits;
 
 pub use brc_lang::CheckCode;
-pub use brc_model::{Exit, Slot, State};
+pub use brc_model::{Exit, VarState, State};
 pub use checked::Checked;
 pub use checker::check;
 pub use finding::path_to;

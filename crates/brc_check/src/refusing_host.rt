@@ -1,24 +1,24 @@
 //! What an instruction that uses a file or a socket refuses. Only the thread that has locked it may read or write it.
 
 ghost use Rattle.std.specs.Prelude.{◌≡◌};
-ghost use Rattle.brc_model.specs.Slots.{lowest};
+ghost use Rattle.brc_model.specs.VarStates.{lowest};
 
-use crate::slots::{has_resource, is_locked, is_num, slot};
+use crate::variables::{has_resource, is_locked, is_num, var};
 use brc_lang::{CheckCode, Instr, Variable};
-use brc_model::{Slot, State};
+use brc_model::{VarState, State};
 
 /// Returns the lowest code that `read` reports in the state.
 pub fn read_refusal(state: &State, to: Variable, file: Variable) -> Option<CheckCode>
     ensures { result ≡ lowest (Instr.Read to file 0 0) state.now }
 {
-    let source = slot(state, file);
-    if let Slot::Empty = source {
+    let source = var(state, file);
+    if let VarState::Empty = source {
         return Some(CheckCode::EmptyUsed);
     }
     if !has_resource(source) {
         return Some(CheckCode::WrongKind);
     }
-    if let Slot::Owned(_) = slot(state, to) {
+    if let VarState::Owned(_) = var(state, to) {
         return Some(CheckCode::StillOwns);
     }
     if !is_locked(state, file) {
@@ -31,9 +31,9 @@ pub fn read_refusal(state: &State, to: Variable, file: Variable) -> Option<Check
 pub fn write_refusal(state: &State, file: Variable, number: Variable) -> Option<CheckCode>
     ensures { result ≡ lowest (Instr.Write file number 0) state.now }
 {
-    let written = slot(state, file);
-    let given = slot(state, number);
-    if written == Slot::Empty || given == Slot::Empty {
+    let written = var(state, file);
+    let given = var(state, number);
+    if written == VarState::Empty || given == VarState::Empty {
         return Some(CheckCode::EmptyUsed);
     }
     if !has_resource(written) || !is_num(given) {

@@ -1,25 +1,25 @@
 //! What an instruction about a list's items refuses. Only the thread that has locked the list may read or change them.
 
 ghost use Rattle.std.specs.Prelude.{◌≡◌};
-ghost use Rattle.brc_model.specs.Slots.{lowest};
+ghost use Rattle.brc_model.specs.VarStates.{lowest};
 
-use crate::slots::{is_list, is_locked, slot};
+use crate::variables::{is_list, is_locked, var};
 use brc_lang::{CheckCode, Instr, Variable};
-use brc_model::{Slot, State};
+use brc_model::{VarState, State};
 
 /// Returns the lowest code that `borrow` or `fetch` reports in the state.
 pub fn item_refusal(state: &State, to: Variable, list: Variable) -> Option<CheckCode>
     ensures borrow { result ≡ lowest (Instr.Borrow to list 0 0) state.now }
     ensures fetch { result ≡ lowest (Instr.Fetch to list 0 0) state.now }
 {
-    let source = slot(state, list);
-    if let Slot::Empty = source {
+    let source = var(state, list);
+    if let VarState::Empty = source {
         return Some(CheckCode::EmptyUsed);
     }
     if !is_list(source) {
         return Some(CheckCode::WrongKind);
     }
-    if let Slot::Owned(_) = slot(state, to) {
+    if let VarState::Owned(_) = var(state, to) {
         return Some(CheckCode::StillOwns);
     }
     if !is_locked(state, list) {
@@ -32,8 +32,8 @@ pub fn item_refusal(state: &State, to: Variable, list: Variable) -> Option<Check
 pub fn put_refusal(state: &State, list: Variable, from: Variable) -> Option<CheckCode>
     ensures { result ≡ lowest (Instr.Put list 0 from 0) state.now }
 {
-    let changed = slot(state, list);
-    if slot(state, from) == Slot::Empty || changed == Slot::Empty {
+    let changed = var(state, list);
+    if var(state, from) == VarState::Empty || changed == VarState::Empty {
         return Some(CheckCode::EmptyUsed);
     }
     if !is_list(changed) {
@@ -46,15 +46,15 @@ pub fn put_refusal(state: &State, list: Variable, from: Variable) -> Option<Chec
 pub fn set_refusal(state: &State, list: Variable, from: Variable) -> Option<CheckCode>
     ensures { result ≡ lowest (Instr.Set list 0 from 0) state.now }
 {
-    let given = slot(state, from);
-    let changed = slot(state, list);
-    if given == Slot::Empty || changed == Slot::Empty {
+    let given = var(state, from);
+    let changed = var(state, list);
+    if given == VarState::Empty || changed == VarState::Empty {
         return Some(CheckCode::EmptyUsed);
     }
     if !is_list(changed) {
         return Some(CheckCode::WrongKind);
     }
-    if let Slot::Caller(_) | Slot::Locked(_) = given {
+    if let VarState::Caller(_) | VarState::Locked(_) = given {
         return Some(CheckCode::NotOwned);
     }
     if !is_locked(state, list) {

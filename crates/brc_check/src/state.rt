@@ -1,24 +1,24 @@
 //! States: the first one, and their comparison.
 
 ghost use Rattle.std.specs.Prelude.{◌≡◌, ◌↔◌, IsTrue};
-ghost use Rattle.brc_model.specs.Slots.{entry};
+ghost use Rattle.brc_model.specs.VarStates.{entry};
 
 use brc_lang::{Kind, Variable};
-use brc_model::{Slot, State};
+use brc_model::{VarState, State};
 
 /// Returns the state in which a function begins: v0 is the caller's list, and the other variables are empty.
 pub fn entry() -> State
     ensures { result ≡ entry }
 {
-    let mut slots = [Slot::Empty; 16];
-    slots[0] = Slot::Caller(Kind::List);
+    let mut vars = [VarState::Empty; 16];
+    vars[0] = VarState::Caller(Kind::List);
     State {
-        slots,
+        vars,
         locked: None,
     }
 }
 
-fn same_slots(one: &[Slot; 16], other: &[Slot; 16]) -> bool
+fn same_vars(one: &[VarState; 16], other: &[VarState; 16]) -> bool
     ensures { IsTrue result ↔ (one.now ≡ other.now) }
 {
     one == other
@@ -38,5 +38,5 @@ fn same_locked(one: Option<Variable>, other: Option<Variable>) -> bool
 pub fn same_state(one: &State, other: &State) -> bool
     ensures { IsTrue result ↔ (one.now ≡ other.now) }
 {
-    same_slots(&one.slots, &other.slots) && same_locked(one.locked, other.locked)
+    same_vars(&one.vars, &other.vars) && same_locked(one.locked, other.locked)
 }

@@ -7,7 +7,7 @@ ghost use Rattle.std.specs.List.{AllByRecursion};
 ghost use Rattle.brc_lang.specs.declared.module.Function.{Function};
 ghost use Rattle.brc_lang.specs.Grammar.{IsModule, IsFunction};
 ghost use Rattle.brc_lang.specs.Limits.{instruction_limit};
-ghost use Rattle.brc_model.specs.declared.slot.Exit.TheVariants as exits;
+ghost use Rattle.brc_model.specs.declared.state.Exit.TheVariants as exits;
 ghost use Rattle.brc_model.specs.Paths.{At, IsAcceptable, follow};
 ghost use Rattle.brc_model.specs.Safety.{Safe};
 ghost use Rattle.brc_check.specs.Entries.{end_in, IsClosedAt, IsClosed, IsErrorAt};

@@ -1,29 +1,29 @@
 //! The tables of functions that lock a list and use its items, or a file or socket to read or write it.
 
 use crate::tables::{first_difference, is_refused_at};
-use brc_check::{Slot, State};
+use brc_check::{VarState, State};
 use brc_lang::{Kind, Variable};
 use std::alloc::Global;
 use std::test::*;
 
-/// The slots of v1 and v2 at a point, and the locked variable; v0 is the caller's list, and the others are empty.
-type Entry = (Slot, Slot, Option<u8>);
+/// The states of v1 and v2 at a point, and the locked variable; v0 is the caller's list, and the others are empty.
+type Entry = (VarState, VarState, Option<u8>);
 
-const NUMBER: Slot = Slot::Owned(Kind::Num);
+const NUMBER: VarState = VarState::Owned(Kind::Num);
 
-const NONE: Slot = Slot::Owned(Kind::None);
+const NONE: VarState = VarState::Owned(Kind::None);
 
-const LIST: Slot = Slot::Owned(Kind::List);
+const LIST: VarState = VarState::Owned(Kind::List);
 
-const FILE: Slot = Slot::Owned(Kind::File);
+const FILE: VarState = VarState::Owned(Kind::File);
 
-const SOCKET: Slot = Slot::Owned(Kind::Sock);
+const SOCKET: VarState = VarState::Owned(Kind::Sock);
 
 /// A fetched item, whose kind isn't known.
-const FETCHED: Slot = Slot::Owned(Kind::Any);
+const FETCHED: VarState = VarState::Owned(Kind::Any);
 
 /// A borrowed item, whose kind isn't known.
-const BORROWED: Slot = Slot::Locked(Kind::Any);
+const BORROWED: VarState = VarState::Locked(Kind::Any);
 
 /// Lines, the points that a table keeps of them, and the state of each of their points.
 const TABLES: &[(&[u8], &[usize], &[Entry])] = &[
@@ -32,14 +32,14 @@ const TABLES: &[(&[u8], &[usize], &[Entry])] = &[
         b"lock v0\nborrow v1 v0 0 else @6\nnewref v2 v1\nunlock v0\ndrop v2\nfail\nunlock v0\nfail\n",
         &[0, 6],
         &[
-            (Slot::Empty, Slot::Empty, None),
-            (Slot::Empty, Slot::Empty, Some(0)),
-            (BORROWED, Slot::Empty, Some(0)),
+            (VarState::Empty, VarState::Empty, None),
+            (VarState::Empty, VarState::Empty, Some(0)),
+            (BORROWED, VarState::Empty, Some(0)),
             (BORROWED, FETCHED, Some(0)),
-            (Slot::Empty, FETCHED, None),
-            (Slot::Empty, Slot::Empty, None),
-            (Slot::Empty, Slot::Empty, Some(0)),
-            (Slot::Empty, Slot::Empty, None),
+            (VarState::Empty, FETCHED, None),
+            (VarState::Empty, VarState::Empty, None),
+            (VarState::Empty, VarState::Empty, Some(0)),
+            (VarState::Empty, VarState::Empty, None),
         ],
     ),
     // `set` steals on both exits.
@@ -47,13 +47,13 @@ const TABLES: &[(&[u8], &[usize], &[Entry])] = &[
         b"list v1 1 else @6\nnewref v2 v1\nlock v1\nset v1 0 v2 else @4\nunlock v1\ndrop v1\nfail\n",
         &[0, 4, 6],
         &[
-            (Slot::Empty, Slot::Empty, None),
-            (LIST, Slot::Empty, None),
+            (VarState::Empty, VarState::Empty, None),
+            (LIST, VarState::Empty, None),
             (LIST, LIST, None),
             (LIST, LIST, Some(1)),
-            (LIST, Slot::Empty, Some(1)),
-            (LIST, Slot::Empty, None),
-            (Slot::Empty, Slot::Empty, None),
+            (LIST, VarState::Empty, Some(1)),
+            (LIST, VarState::Empty, None),
+            (VarState::Empty, VarState::Empty, None),
         ],
     ),
     // A fetched item stays when its list is unlocked. It may be locked where `as` has found that it is a list.
@@ -62,17 +62,17 @@ const TABLES: &[(&[u8], &[usize], &[Entry])] = &[
           unlock v0\nfail\n",
         &[0, 7, 9],
         &[
-            (Slot::Empty, Slot::Empty, None),
-            (Slot::Empty, Slot::Empty, Some(0)),
-            (FETCHED, Slot::Empty, Some(0)),
-            (FETCHED, Slot::Empty, None),
-            (LIST, Slot::Empty, None),
-            (LIST, Slot::Empty, Some(1)),
-            (LIST, Slot::Empty, None),
-            (FETCHED, Slot::Empty, None),
-            (Slot::Empty, Slot::Empty, None),
-            (Slot::Empty, Slot::Empty, Some(0)),
-            (Slot::Empty, Slot::Empty, None),
+            (VarState::Empty, VarState::Empty, None),
+            (VarState::Empty, VarState::Empty, Some(0)),
+            (FETCHED, VarState::Empty, Some(0)),
+            (FETCHED, VarState::Empty, None),
+            (LIST, VarState::Empty, None),
+            (LIST, VarState::Empty, Some(1)),
+            (LIST, VarState::Empty, None),
+            (FETCHED, VarState::Empty, None),
+            (VarState::Empty, VarState::Empty, None),
+            (VarState::Empty, VarState::Empty, Some(0)),
+            (VarState::Empty, VarState::Empty, None),
         ],
     ),
     // `put` leaves its reference, and no borrowed item.
@@ -81,16 +81,16 @@ const TABLES: &[(&[u8], &[usize], &[Entry])] = &[
           goto @8\nunlock v0\ndrop v2\nfail\n",
         &[0, 5, 7, 8, 9],
         &[
-            (Slot::Empty, Slot::Empty, None),
-            (Slot::Empty, NUMBER, None),
-            (Slot::Empty, NUMBER, Some(0)),
+            (VarState::Empty, VarState::Empty, None),
+            (VarState::Empty, NUMBER, None),
+            (VarState::Empty, NUMBER, Some(0)),
             (BORROWED, NUMBER, Some(0)),
-            (Slot::Locked(Kind::Num), NUMBER, Some(0)),
-            (Slot::Empty, NUMBER, Some(0)),
-            (Slot::Empty, NUMBER, None),
+            (VarState::Locked(Kind::Num), NUMBER, Some(0)),
+            (VarState::Empty, NUMBER, Some(0)),
+            (VarState::Empty, NUMBER, None),
             (BORROWED, NUMBER, Some(0)),
-            (Slot::Empty, NUMBER, None),
-            (Slot::Empty, Slot::Empty, None),
+            (VarState::Empty, NUMBER, None),
+            (VarState::Empty, VarState::Empty, None),
         ],
     ),
     // A number that is read is owned.
@@ -98,13 +98,13 @@ const TABLES: &[(&[u8], &[usize], &[Entry])] = &[
         b"open v1 0 r else @6\nlock v1\nread v2 v1 8 else @4\ndrop v2\nunlock v1\ndrop v1\nfail\n",
         &[0, 4, 6],
         &[
-            (Slot::Empty, Slot::Empty, None),
-            (FILE, Slot::Empty, None),
-            (FILE, Slot::Empty, Some(1)),
+            (VarState::Empty, VarState::Empty, None),
+            (FILE, VarState::Empty, None),
+            (FILE, VarState::Empty, Some(1)),
             (FILE, NUMBER, Some(1)),
-            (FILE, Slot::Empty, Some(1)),
-            (FILE, Slot::Empty, None),
-            (Slot::Empty, Slot::Empty, None),
+            (FILE, VarState::Empty, Some(1)),
+            (FILE, VarState::Empty, None),
+            (VarState::Empty, VarState::Empty, None),
         ],
     ),
     // `write` changes no variable.
@@ -113,14 +113,14 @@ const TABLES: &[(&[u8], &[usize], &[Entry])] = &[
           drop v1\nfail\n",
         &[0, 4, 6, 7],
         &[
-            (Slot::Empty, Slot::Empty, None),
-            (SOCKET, Slot::Empty, None),
+            (VarState::Empty, VarState::Empty, None),
+            (SOCKET, VarState::Empty, None),
             (SOCKET, NUMBER, None),
             (SOCKET, NUMBER, Some(1)),
             (SOCKET, NUMBER, Some(1)),
             (SOCKET, NUMBER, None),
-            (SOCKET, Slot::Empty, None),
-            (Slot::Empty, Slot::Empty, None),
+            (SOCKET, VarState::Empty, None),
+            (VarState::Empty, VarState::Empty, None),
         ],
     ),
     // An index out of range: `set` has taken the number.
@@ -128,13 +128,13 @@ const TABLES: &[(&[u8], &[usize], &[Entry])] = &[
         b"num v1 7 else @6\nlock v0\nset v0 200 v1 else @5\nunlock v0\nfail\nunlock v0\nfail\n",
         &[0, 5, 6],
         &[
-            (Slot::Empty, Slot::Empty, None),
-            (NUMBER, Slot::Empty, None),
-            (NUMBER, Slot::Empty, Some(0)),
-            (Slot::Empty, Slot::Empty, Some(0)),
-            (Slot::Empty, Slot::Empty, None),
-            (Slot::Empty, Slot::Empty, Some(0)),
-            (Slot::Empty, Slot::Empty, None),
+            (VarState::Empty, VarState::Empty, None),
+            (NUMBER, VarState::Empty, None),
+            (NUMBER, VarState::Empty, Some(0)),
+            (VarState::Empty, VarState::Empty, Some(0)),
+            (VarState::Empty, VarState::Empty, None),
+            (VarState::Empty, VarState::Empty, Some(0)),
+            (VarState::Empty, VarState::Empty, None),
         ],
     ),
     // Paths fall through to the targets of `else`, in the same state.
@@ -142,27 +142,27 @@ const TABLES: &[(&[u8], &[usize], &[Entry])] = &[
         b"none v1\nlock v0\nput v0 0 v1 else @3\nfetch v2 v0 1 else @5\nset v0 0 v2 else @5\nunlock v0\nret v1\n",
         &[0, 3, 5],
         &[
-            (Slot::Empty, Slot::Empty, None),
-            (NONE, Slot::Empty, None),
-            (NONE, Slot::Empty, Some(0)),
-            (NONE, Slot::Empty, Some(0)),
+            (VarState::Empty, VarState::Empty, None),
+            (NONE, VarState::Empty, None),
+            (NONE, VarState::Empty, Some(0)),
+            (NONE, VarState::Empty, Some(0)),
             (NONE, FETCHED, Some(0)),
-            (NONE, Slot::Empty, Some(0)),
-            (NONE, Slot::Empty, None),
+            (NONE, VarState::Empty, Some(0)),
+            (NONE, VarState::Empty, None),
         ],
     ),
 ];
 
-/// The slots of v1, and locked variables, that overwrite those of an entry.
-const OVERWRITTEN: &[(Slot, Option<u8>)] = &[
-    (Slot::Empty, None),
-    (Slot::Empty, Some(0)),
-    (Slot::Empty, Some(1)),
+/// The states of v1, and locked variables, that overwrite those of an entry.
+const OVERWRITTEN: &[(VarState, Option<u8>)] = &[
+    (VarState::Empty, None),
+    (VarState::Empty, Some(0)),
+    (VarState::Empty, Some(1)),
     (BORROWED, None),
     (BORROWED, Some(0)),
     (BORROWED, Some(1)),
-    (Slot::Locked(Kind::Num), Some(0)),
-    (Slot::Caller(Kind::Any), Some(0)),
+    (VarState::Locked(Kind::Num), Some(0)),
+    (VarState::Caller(Kind::Any), Some(0)),
     (FILE, None),
     (FILE, Some(1)),
     (SOCKET, None),
@@ -172,21 +172,21 @@ const OVERWRITTEN: &[(Slot, Option<u8>)] = &[
     (LIST, None),
     (LIST, Some(0)),
     (LIST, Some(1)),
-    (Slot::Locked(Kind::List), Some(0)),
-    (Slot::Caller(Kind::List), Some(1)),
+    (VarState::Locked(Kind::List), Some(0)),
+    (VarState::Caller(Kind::List), Some(1)),
 ];
 
 fn state(entry: Entry) -> State {
-    let mut slots = [Slot::Empty; 16];
-    slots[0] = Slot::Caller(Kind::List);
-    slots[1] = entry.0;
-    slots[2] = entry.1;
+    let mut vars = [VarState::Empty; 16];
+    vars[0] = VarState::Caller(Kind::List);
+    vars[1] = entry.0;
+    vars[2] = entry.1;
     let locked = match entry.2 {
         Some(0) => Some(Variable::new(0)),
         Some(_) => Some(Variable::new(1)),
         None => None,
     };
-    State { slots, locked }
+    State { vars, locked }
 }
 
 /// The number of the first table that is another one, and the point at which it is.
@@ -216,8 +216,8 @@ fn first_unnoticed(
     at: usize,
     entry: Entry,
 ) -> Result<Option<usize>, Fail> {
-    for (number, (slot, locked)) in OVERWRITTEN.iter().enumerate() {
-        let other = (*slot, entry.1, *locked);
+    for (number, (var, locked)) in OVERWRITTEN.iter().enumerate() {
+        let other = (*var, entry.1, *locked);
         let is_refused = is_refused_at(alloc, lines, at, Some(state(other)))?;
         if is_refused == (other == entry) {
             return Ok(Some(number));

@@ -2,15 +2,15 @@
 
 use crate::functions::{Case, first_other};
 use crate::tables::{TableCase, first_other_table};
-use brc_check::{CheckCode, Slot};
+use brc_check::{CheckCode, VarState};
 use brc_lang::Kind;
 use std::test::*;
 
-const EMPTY: (Slot, Slot) = (Slot::Empty, Slot::Empty);
+const EMPTY: (VarState, VarState) = (VarState::Empty, VarState::Empty);
 
-const NUMBER: Slot = Slot::Owned(Kind::Num);
+const NUMBER: VarState = VarState::Owned(Kind::Num);
 
-const NONE: Slot = Slot::Owned(Kind::None);
+const NONE: VarState = VarState::Owned(Kind::None);
 
 /// Each loop leaves the state in which it began.
 const ACCEPTED: &[Case] = &[
@@ -88,7 +88,7 @@ const TABLES: &[TableCase] = &[
         &[0, 3],
         &[
             Some(EMPTY),
-            Some((NUMBER, Slot::Empty)),
+            Some((NUMBER, VarState::Empty)),
             Some(EMPTY),
             Some(EMPTY),
             None,
@@ -99,10 +99,10 @@ const TABLES: &[TableCase] = &[
         &[0, 1],
         &[
             Some(EMPTY),
-            Some((NONE, Slot::Empty)),
+            Some((NONE, VarState::Empty)),
             Some((NONE, NONE)),
-            Some((NONE, Slot::Empty)),
-            Some((NONE, Slot::Empty)),
+            Some((NONE, VarState::Empty)),
+            Some((NONE, VarState::Empty)),
         ],
     ),
     // A line that is reached only by going back has an entry, and one inside a loop that isn't reached has none.
@@ -111,10 +111,10 @@ const TABLES: &[TableCase] = &[
         &[0, 2, 3],
         &[
             Some(EMPTY),
-            Some((NONE, Slot::Empty)),
-            Some((NONE, Slot::Empty)),
-            Some((NONE, Slot::Empty)),
-            Some((NONE, Slot::Empty)),
+            Some((NONE, VarState::Empty)),
+            Some((NONE, VarState::Empty)),
+            Some((NONE, VarState::Empty)),
+            Some((NONE, VarState::Empty)),
         ],
     ),
     (

@@ -4,7 +4,7 @@ ghost use Rattle.brc_lang.specs.Grammar.{IsModule};
 
 use crate::functions::{function_of, module_of};
 use brc_check::{
-    CheckCode, Exit, Path, Slot, State, Step, entry, first_states, follow, infer, path_to,
+    CheckCode, Exit, Path, VarState, State, Step, entry, first_states, follow, infer, path_to,
 };
 use brc_lang::{Kind, Module};
 use std::alloc::Global;
@@ -109,13 +109,13 @@ fn path_in_second_function(rt: HostRuntime) -> Result<(), Fail> {
     Ok(())
 }
 
-/// The state in which v1 has the slot, v0 is the caller's list, and the other variables are empty.
-fn state(slot: Slot) -> State {
-    let mut slots = [Slot::Empty; 16];
-    slots[0] = Slot::Caller(Kind::List);
-    slots[1] = slot;
+/// The state in which v1 has the variable's state, v0 is the caller's list, and the other variables are empty.
+fn state(var: VarState) -> State {
+    let mut vars = [VarState::Empty; 16];
+    vars[0] = VarState::Caller(Kind::List);
+    vars[1] = var;
     State {
-        slots,
+        vars,
         locked: None,
     }
 }
@@ -124,12 +124,12 @@ fn state(slot: Slot) -> State {
 fn one_step(rt: HostRuntime) -> Result<(), Fail> {
     let module = function_of(rt.alloc(), b"newref v1 v0\nfail\n")?;
     let code = module.functions.as_slice()[0].code.as_slice();
-    assert_eq!(rt; entry(), state(Slot::Empty));
+    assert_eq!(rt; entry(), state(VarState::Empty));
     let taken = follow(code, 0, &entry(), Exit::Success);
     let Step::To(1, arriving) = taken else {
         return Err("the path goes on to the second instruction")?;
     };
-    assert_eq!(rt; arriving, state(Slot::Owned(Kind::List)));
+    assert_eq!(rt; arriving, state(VarState::Owned(Kind::List)));
     let reported = follow(code, 1, &arriving, Exit::Success);
     assert!(rt; matches!(reported, Step::Error(CheckCode::LeftOwned)));
     Ok(())
@@ -139,15 +139,15 @@ fn one_step(rt: HostRuntime) -> Result<(), Fail> {
 fn first_other_state(
     alloc: Global,
     lines: &[u8],
-    slots: &[Option<Slot>],
+    vars: &[Option<VarState>],
 ) -> Result<Option<usize>, Fail> {
     let module = function_of(alloc, lines)?;
     let entries = first_states(alloc, module.functions.as_slice()[0].code.as_slice())?;
-    if entries.len() != slots.len() {
+    if entries.len() != vars.len() {
         return Ok(Some(entries.len()));
     }
-    for (at, slot) in slots.iter().enumerate() {
-        if entries.as_slice()[at] != slot.map(state) {
+    for (at, var) in vars.iter().enumerate() {
+        if entries.as_slice()[at] != var.map(state) {
             return Ok(Some(at));
         }
     }
@@ -156,8 +156,8 @@ fn first_other_state(
 
 #[test]
 fn states(rt: HostRuntime) -> Result<(), Fail> {
-    let number = Some(Slot::Owned(Kind::Num));
-    let empty = Some(Slot::Empty);
+    let number = Some(VarState::Owned(Kind::Num));
+    let empty = Some(VarState::Empty);
     let accepted = b"num v1 1 else @2\nret v1\nfail\ndrop v1\nfail\n";
     let other = first_other_state(rt.alloc(), accepted, &[empty, number, empty, None, None])?;
     assert_eq!(rt; other, None);

@@ -3,22 +3,22 @@
 ghost use Rattle.brc_lang.specs.Grammar.{IsModule};
 
 use crate::functions::{function_of, module_of};
-use brc_check::{CheckCode, Checked, Slot, State, Table, infer, verify};
+use brc_check::{CheckCode, Checked, VarState, State, Table, infer, verify};
 use brc_lang::{Kind, Module, Variable};
 use std::alloc::Global;
 use std::test::*;
 
-/// The slots of v1 and v2 at a point; v0 is the caller's list, and the others are empty.
-type Slots = (Slot, Slot);
+/// The states of v1 and v2 at a point; v0 is the caller's list, and the others are empty.
+type VarStates = (VarState, VarState);
 
-/// Lines, the points that a table keeps of them, and the slots of v1 and v2 at each of their points and past the last.
-pub type TableCase<'a> = (&'a [u8], &'a [usize], &'a [Option<Slots>]);
+/// Lines, the points that a table keeps of them, and the states of v1 and v2 at each of their points and past the last.
+pub type TableCase<'a> = (&'a [u8], &'a [usize], &'a [Option<VarStates>]);
 
-const NUMBER: Slot = Slot::Owned(Kind::Num);
+const NUMBER: VarState = VarState::Owned(Kind::Num);
 
-const NONE: Slot = Slot::Owned(Kind::None);
+const NONE: VarState = VarState::Owned(Kind::None);
 
-const LIST: Slot = Slot::Owned(Kind::List);
+const LIST: VarState = VarState::Owned(Kind::List);
 
 const TAKE_AND_DROP: &[u8] = b"newref v1 v0\ndrop v1\nfail\n";
 
@@ -31,9 +31,9 @@ const TABLES: &[TableCase] = &[
         TAKE_AND_DROP,
         &[0],
         &[
-            Some((Slot::Empty, Slot::Empty)),
-            Some((LIST, Slot::Empty)),
-            Some((Slot::Empty, Slot::Empty)),
+            Some((VarState::Empty, VarState::Empty)),
+            Some((LIST, VarState::Empty)),
+            Some((VarState::Empty, VarState::Empty)),
             None,
         ],
     ),
@@ -41,11 +41,11 @@ const TABLES: &[TableCase] = &[
         TWO_NUMBERS,
         &[0, 3, 4],
         &[
-            Some((Slot::Empty, Slot::Empty)),
-            Some((NUMBER, Slot::Empty)),
+            Some((VarState::Empty, VarState::Empty)),
+            Some((NUMBER, VarState::Empty)),
             Some((NUMBER, NUMBER)),
-            Some((NUMBER, Slot::Empty)),
-            Some((Slot::Empty, Slot::Empty)),
+            Some((NUMBER, VarState::Empty)),
+            Some((VarState::Empty, VarState::Empty)),
         ],
     ),
     // If no row is left for the list, the function goes on after the line that drops it.
@@ -53,11 +53,11 @@ const TABLES: &[TableCase] = &[
         b"list v1 2 else @4\nnewref v2 v1\ndrop v2\ndrop v1\nfail\n",
         &[0, 4],
         &[
-            Some((Slot::Empty, Slot::Empty)),
-            Some((LIST, Slot::Empty)),
+            Some((VarState::Empty, VarState::Empty)),
+            Some((LIST, VarState::Empty)),
             Some((LIST, LIST)),
-            Some((LIST, Slot::Empty)),
-            Some((Slot::Empty, Slot::Empty)),
+            Some((LIST, VarState::Empty)),
+            Some((VarState::Empty, VarState::Empty)),
             None,
         ],
     ),
@@ -66,9 +66,9 @@ const TABLES: &[TableCase] = &[
         b"goto @2\ndrop v5\nfail\n",
         &[0, 2],
         &[
-            Some((Slot::Empty, Slot::Empty)),
+            Some((VarState::Empty, VarState::Empty)),
             None,
-            Some((Slot::Empty, Slot::Empty)),
+            Some((VarState::Empty, VarState::Empty)),
         ],
     ),
     // A reference to none is moved, doubled and returned.
@@ -76,11 +76,11 @@ const TABLES: &[TableCase] = &[
         b"none v1\nmove v2 v1\nnewref v1 v2\ndrop v2\nret v1\n",
         &[0],
         &[
-            Some((Slot::Empty, Slot::Empty)),
-            Some((NONE, Slot::Empty)),
-            Some((Slot::Empty, NONE)),
+            Some((VarState::Empty, VarState::Empty)),
+            Some((NONE, VarState::Empty)),
+            Some((VarState::Empty, NONE)),
             Some((NONE, NONE)),
-            Some((NONE, Slot::Empty)),
+            Some((NONE, VarState::Empty)),
         ],
     ),
     // The kind asked for is known at both exits already.
@@ -88,11 +88,11 @@ const TABLES: &[TableCase] = &[
         b"num v1 1 else @4\nas v1 num else @3\ngoto @3\nret v1\nfail\n",
         &[0, 3, 4],
         &[
-            Some((Slot::Empty, Slot::Empty)),
-            Some((NUMBER, Slot::Empty)),
-            Some((NUMBER, Slot::Empty)),
-            Some((NUMBER, Slot::Empty)),
-            Some((Slot::Empty, Slot::Empty)),
+            Some((VarState::Empty, VarState::Empty)),
+            Some((NUMBER, VarState::Empty)),
+            Some((NUMBER, VarState::Empty)),
+            Some((NUMBER, VarState::Empty)),
+            Some((VarState::Empty, VarState::Empty)),
         ],
     ),
     // A path falls through to the target of another.
@@ -100,9 +100,9 @@ const TABLES: &[TableCase] = &[
         b"num v1 1 else @2\ndrop v1\nfail\n",
         &[0, 2],
         &[
-            Some((Slot::Empty, Slot::Empty)),
-            Some((NUMBER, Slot::Empty)),
-            Some((Slot::Empty, Slot::Empty)),
+            Some((VarState::Empty, VarState::Empty)),
+            Some((NUMBER, VarState::Empty)),
+            Some((VarState::Empty, VarState::Empty)),
         ],
     ),
     // A target behind a `goto` that isn't reached has none.
@@ -110,35 +110,35 @@ const TABLES: &[TableCase] = &[
         b"goto @3\nnum v5 1 else @2\nfail\nfail\n",
         &[0, 2, 3],
         &[
-            Some((Slot::Empty, Slot::Empty)),
+            Some((VarState::Empty, VarState::Empty)),
             None,
             None,
-            Some((Slot::Empty, Slot::Empty)),
+            Some((VarState::Empty, VarState::Empty)),
             None,
         ],
     ),
 ];
 
-/// The slots that overwrite entries.
-const OVERWRITTEN: &[Slots] = &[
-    (Slot::Empty, Slot::Empty),
-    (Slot::Empty, NUMBER),
-    (Slot::Empty, Slot::Caller(Kind::Num)),
-    (NUMBER, Slot::Empty),
+/// The states that overwrite entries.
+const OVERWRITTEN: &[VarStates] = &[
+    (VarState::Empty, VarState::Empty),
+    (VarState::Empty, NUMBER),
+    (VarState::Empty, VarState::Caller(Kind::Num)),
+    (NUMBER, VarState::Empty),
     (NUMBER, NUMBER),
-    (NUMBER, Slot::Caller(Kind::Num)),
-    (Slot::Owned(Kind::Any), Slot::Empty),
-    (Slot::Owned(Kind::Any), NUMBER),
-    (Slot::Owned(Kind::Any), Slot::Caller(Kind::Num)),
+    (NUMBER, VarState::Caller(Kind::Num)),
+    (VarState::Owned(Kind::Any), VarState::Empty),
+    (VarState::Owned(Kind::Any), NUMBER),
+    (VarState::Owned(Kind::Any), VarState::Caller(Kind::Num)),
 ];
 
-fn state(slots: Slots) -> State {
-    let mut all = [Slot::Empty; 16];
-    all[0] = Slot::Caller(Kind::List);
-    all[1] = slots.0;
-    all[2] = slots.1;
+fn state(vars: VarStates) -> State {
+    let mut all = [VarState::Empty; 16];
+    all[0] = VarState::Caller(Kind::List);
+    all[1] = vars.0;
+    all[2] = vars.1;
     State {
-        slots: all,
+        vars: all,
         locked: None,
     }
 }
@@ -205,9 +205,9 @@ pub fn first_other_table(
 ) -> Result<Option<(usize, usize)>, Fail> {
     for (number, (lines, kept, points)) in tables.iter().enumerate() {
         let mut states = Vec::new(alloc);
-        for slots in points.iter() {
-            states.push(match slots {
-                Some(slots) => Some(state(*slots)),
+        for vars in points.iter() {
+            states.push(match vars {
+                Some(vars) => Some(state(*vars)),
                 None => None,
             })?;
         }
@@ -243,20 +243,20 @@ fn answer_to_change(
     Ok((is_there, Some(refused.at)))
 }
 
-fn same_slots(one: Slots, other: Slots) -> bool {
+fn same_vars(one: VarStates, other: VarStates) -> bool {
     one == other
 }
 
-/// Whether a table whose entry is overwritten by these slots is refused there, just where they are others.
+/// Whether a table whose entry is overwritten by these states is refused there, just where they are others.
 fn is_noticed(
     alloc: Global,
     lines: &[u8],
     at: usize,
-    slots: Slots,
-    other: Slots,
+    vars: VarStates,
+    other: VarStates,
 ) -> Result<bool, Fail> {
     let (is_there, refused) = answer_to_change(alloc, lines, (0, at), Some(state(other)))?;
-    let wanted = if same_slots(other, slots) {
+    let wanted = if same_vars(other, vars) {
         None
     } else {
         Some(at)
@@ -285,15 +285,15 @@ pub fn is_left_alone(
     Ok(answer_to_change(alloc, lines, (0, at), entry)? == (false, None))
 }
 
-/// Whether each change of the entry is refused at its point: no state, an open critical section, or another slot.
-fn is_guarded(alloc: Global, lines: &[u8], at: usize, slots: Slots) -> Result<bool, Fail> {
-    let mut locked = state(slots);
+/// Whether each change of the entry is refused at its point: no state, an open critical section, or another state.
+fn is_guarded(alloc: Global, lines: &[u8], at: usize, vars: VarStates) -> Result<bool, Fail> {
+    let mut locked = state(vars);
     locked.locked = Some(Variable::new(0));
     if !is_refused_at(alloc, lines, at, None)? || !is_refused_at(alloc, lines, at, Some(locked))? {
         return Ok(false);
     }
     for other in OVERWRITTEN {
-        if !is_noticed(alloc, lines, at, slots, *other)? {
+        if !is_noticed(alloc, lines, at, vars, *other)? {
             return Ok(false);
         }
     }
@@ -306,11 +306,11 @@ fn first_unguarded(
     alloc: Global,
     lines: &[u8],
     kept: &[usize],
-    states: &[Option<Slots>],
+    states: &[Option<VarStates>],
 ) -> Result<Option<usize>, Fail> {
-    for (at, slots) in states.iter().enumerate() {
-        let is_right = match slots {
-            Some(slots) if kept.contains(&at) => is_guarded(alloc, lines, at, *slots)?,
+    for (at, vars) in states.iter().enumerate() {
+        let is_right = match vars {
+            Some(vars) if kept.contains(&at) => is_guarded(alloc, lines, at, *vars)?,
             _ => kept.contains(&at) || is_left_alone(alloc, lines, at, None)?,
         };
         if !is_right {

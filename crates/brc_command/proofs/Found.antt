@@ -13,10 +13,10 @@ use Rattle.brc_lang.specs.declared.module.Instr.{Instr}
 use Rattle.brc_lang.specs.declared.module.Module.{Module}
 use Rattle.brc_lang.specs.Grammar.{IsFunction, IsModule, Spells}
 use Rattle.brc_lang.specs.Limits.{function_limit, instruction_limit}
-use Rattle.brc_model.specs.declared.slot.Exit.{Exit}
-use Rattle.brc_model.specs.declared.slot.State.{State}
+use Rattle.brc_model.specs.declared.state.Exit.{Exit}
+use Rattle.brc_model.specs.declared.state.State.{State}
 use Rattle.brc_model.specs.Paths.{PathEnd, At, Ended, Reports, arrives, unless_reported, passes, follow}
-use Rattle.brc_model.specs.Slots.{lowest, after, target, entry}
+use Rattle.brc_model.specs.VarStates.{lowest, after, target, entry}
 use Rattle.brc_check.specs.declared.refused.Refused.{Refused as Refusal}
 use Rattle.brc_check.specs.Refusal.{IsReported, IsRefusedFor}
 use Rattle.brc_command.specs.declared.finding.Finding.{Finding}

@@ -27,8 +27,8 @@ abbrev pub prefix : Bool → List ℕ → List ℕ
 prefix true file = file ++ codes ": "
 prefix false file = []
 
-abbrev pub Begins : List ℕ → List ℕ → Type 0
-Begins front whole = (rest : List ℕ) × (whole ≡ front ++ rest)
+abbrev pub IsPrefix : List ℕ → List ℕ → Type 0
+IsPrefix front whole = (rest : List ℕ) × (whole ≡ front ++ rest)
 
 -- ---- one file
 
@@ -45,9 +45,9 @@ pub record IsStoppedAt (named : Bool) (is_reason : Stop → Type 0) (is_report :
   pub stop : Stop
   pub reason : is_reason stop
   pub same_status : o.status ≡ stop_status stop
-  pub line : Begins o.line (prefix named o.file ++ stop_text stop)
+  pub line : IsPrefix o.line (prefix named o.file ++ stop_text stop)
   pub unwritten : stop ≢ Fault Output → o.report ≡ []
-  pub begun : stop ≡ Fault Output → (text : List ℕ) × is_report text × Begins o.report text
+  pub begun : stop ≡ Fault Output → (text : List ℕ) × is_report text × IsPrefix o.report text
 
 -- the line about an accepted module
 abbrev pub IsNamedLine : (List ℕ → List ℕ → Type 0) → Bool → List ℕ → List ℕ → Type 0

@@ -13,12 +13,12 @@ use Rattle.brc_command.specs.declared.loading.Wanted.{Wanted}
 use Rattle.brc_command.specs.declared.loading.Wanted.TheVariants as wanted_texts
 
 -- the bytes are a beginning of some that the loader may give
-abbrev pub Begins : (List ℕ → List ℕ → Type 0) → List ℕ → List ℕ → Type 0
-Begins gives path bytes = (rest : List ℕ) × gives path (bytes ++ rest)
+abbrev pub IsGivenPrefix : (List ℕ → List ℕ → Type 0) → List ℕ → List ℕ → Type 0
+IsGivenPrefix gives path bytes = (rest : List ℕ) × gives path (bytes ++ rest)
 
 -- nothing is read so far, or a beginning
 abbrev pub IsReadSoFar : (List ℕ → List ℕ → Type 0) → List ℕ → List ℕ → Type 0
-IsReadSoFar gives path bytes = (bytes ≡ []) ⊎ Begins gives path bytes
+IsReadSoFar gives path bytes = (bytes ≡ []) ⊎ IsGivenPrefix gives path bytes
 
 abbrev pub HasFault : Wanted → List ℕ → ℕ → FaultCode → Type 0
 HasFault wanted_texts.Module bytes line code = module_faults.HasFault bytes line code
@@ -36,7 +36,7 @@ pub record HasLastingFault (wanted : Wanted) (bytes : List ℕ) : Type 0 where
 
 -- the whole file, or a beginning that is at fault however the file goes on
 abbrev pub IsReadFor : Wanted → (List ℕ → List ℕ → Type 0) → List ℕ → List ℕ → Type 0
-IsReadFor wanted gives path bytes = gives path bytes ⊎ (Begins gives path bytes × HasLastingFault wanted bytes)
+IsReadFor wanted gives path bytes = gives path bytes ⊎ (IsGivenPrefix gives path bytes × HasLastingFault wanted bytes)
 
 -- of a text that the loader may give the bytes tell all: which module it spells, or which fault it has
 pub record ReadsAsModule (gives : List ℕ → List ℕ → Type 0) (path bytes : List ℕ) : Type 0 where

@@ -10,7 +10,7 @@ ghost use Rattle.brc_command.specs.Calls.{calls_named, has_function};
 ghost use Rattle.brc_command.specs.Commands.{Reports, BeginsReport, HasCheckReport, HasRunReport, HasStepReport};
 ghost use Rattle.brc_command.specs.Commands.{HasReport, IsModuleReason, IsRunReason, IsStepReason, IsReason};
 ghost use Rattle.brc_command.specs.Commands.{IsDone, IsStopped, IsModuleFault, HasExplanation, IsExplainReason};
-ghost use Rattle.brc_command.specs.Commands.{IsPageReason, LeavesExplanation, Leaves, HasReportBy, LeavesBy};
+ghost use Rattle.brc_command.specs.Commands.{IsPageReason, LeavesExplanation, ProgramLeaves, HasReportBy, LeavesBy};
 ghost use Rattle.brc_command.specs.Commands.{HasTraceReport, LeavesTrace, IsStandardInput};
 ghost use Rattle.brc_command.specs.Explanations.{Code, IsAccepted};
 ghost use Rattle.brc_report.specs.declared.paint.Paint.TheVariants.{Plain};
@@ -55,7 +55,7 @@ pub fn execute<R: System, L: Load, W: Write, E: Write>(
         (W.contents out.new) (E.contents err.old) (E.contents err.new) }
     ensures stopped { result ≢ 0 → IsStopped
         (IsReason (L.may_give load.old) (L.may_lack load.old) asked.now)
-        (Leaves (L.may_give load.old) Plain asked.now) (W.contents out.old) (W.contents out.new)
+        (ProgramLeaves (L.may_give load.old) Plain asked.now) (W.contents out.old) (W.contents out.new)
         (E.contents err.old) (E.contents err.new) result }
 {
     execute_on(rt, alloc, asked, load, &mut NoTerminal, out, err)
@@ -76,7 +76,7 @@ pub fn execute_on<R: System, L: Load, T: Terminal, W: Write, E: Write>(
         (W.contents out.old) (W.contents out.new) (E.contents err.old) (E.contents err.new) }
     ensures stopped { result ≢ 0 → IsStopped
         (IsReason (L.may_give load.old) (L.may_lack load.old) asked.now)
-        (Leaves (L.may_give load.old) (T.paint_of terminal.old) asked.now) (W.contents out.old) (W.contents out.new)
+        (ProgramLeaves (L.may_give load.old) (T.paint_of terminal.old) asked.now) (W.contents out.old) (W.contents out.new)
         (E.contents err.old) (E.contents err.new) result }
 {
     match carry_out(rt, alloc, asked, load, terminal, &Explainer, out) {

@@ -3,8 +3,8 @@ use Rattle.std.proofs.Common.{◌≡◌, ℕ, ◌+◌, ◌<◌, List, [], ◌∷
 use Rattle.std.proofs.lemmas.List.{take_more}
 use Rattle.std.proofs.lemmas.List.Sums.{fold-append}
 use Rattle.brc_lang.specs.declared.module.Instr.{Instr}
-use Rattle.brc_model.specs.declared.slot.Exit.{Exit}
-use Rattle.brc_model.specs.Slots.{entry}
+use Rattle.brc_model.specs.declared.state.Exit.{Exit}
+use Rattle.brc_model.specs.VarStates.{entry}
 use Rattle.brc_model.specs.Paths.{PathEnd, At, Ended, Reports, follow, path_end}
 use Rattle.brc_explain.specs.Walking.{place_of, onward}
 

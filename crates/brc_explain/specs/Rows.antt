@@ -7,11 +7,11 @@ use Rattle.brc_lang.specs.declared.module.Function.{Function}
 use Rattle.brc_lang.specs.declared.module.Instr.{Instr}
 use Rattle.brc_lang.specs.declared.module.Instr.TheVariants.{Goto, Again}
 use Rattle.brc_lang.specs.Grammar.{jump}
-use Rattle.brc_model.specs.declared.slot.Slot.{Slot}
-use Rattle.brc_model.specs.declared.slot.Slot.TheVariants.{Empty, Owned, Caller, Locked}
-use Rattle.brc_model.specs.declared.slot.State.{State}
-use Rattle.brc_model.specs.declared.slot.Exit.{Exit}
-use Rattle.brc_model.specs.declared.slot.Exit.TheVariants.{Success, Fault as FaultExit}
+use Rattle.brc_model.specs.declared.state.VarState.{VarState}
+use Rattle.brc_model.specs.declared.state.VarState.TheVariants.{Empty, Owned, Caller, Locked}
+use Rattle.brc_model.specs.declared.state.State.{State}
+use Rattle.brc_model.specs.declared.state.Exit.{Exit}
+use Rattle.brc_model.specs.declared.state.Exit.TheVariants.{Success, Fault as FaultExit}
 use Rattle.brc_model.specs.Paths.{PathEnd, At, Ended, Reports, follow, path_end}
 use Rattle.brc_check.specs.declared.path.Path.{Path}
 use Rattle.brc_check.specs.declared.path.Path.TheVariants as paths
@@ -138,7 +138,7 @@ pub record LeadToRefusal (functions : List Function) (r : Refused) (steps : Step
 -- ---- a variable
 
 -- whether a variable's reference is its own, in a word
-abbrev pub holding_word : Slot → List ℕ
+abbrev pub holding_word : VarState → List ℕ
 holding_word Empty = []
 holding_word (Owned kind) = codes "owned "
 holding_word (Caller kind) = codes "borrowed "

@@ -1,8 +1,8 @@
 -- Where a path stands, as far as it goes from point to point.
 use Rattle.std.specs.Prelude.{ℕ, List, Option, None, Some}
 use Rattle.brc_lang.specs.declared.module.Instr.{Instr}
-use Rattle.brc_model.specs.declared.slot.State.{State}
-use Rattle.brc_model.specs.declared.slot.Exit.{Exit}
+use Rattle.brc_model.specs.declared.state.State.{State}
+use Rattle.brc_model.specs.declared.state.Exit.{Exit}
 use Rattle.brc_model.specs.Paths.{PathEnd, At, Ended, Reports, follow}
 
 -- the point and the state at which a path ends, unless it ends the call or reports a code

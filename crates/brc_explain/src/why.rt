@@ -1,9 +1,9 @@
 //! What is wrong at the point of a refusal, in a sentence about its variables.
 
 use crate::operand_roles::roles_of;
-use crate::state_text::{is_empty, is_owned, slot_at, slot_words, write_variable};
+use crate::state_text::{is_empty, is_owned, var_at, var_words, write_variable};
 use crate::walking::reached;
-use brc_check::{CheckCode, Exit, Slot, State};
+use brc_check::{CheckCode, Exit, VarState, State};
 use brc_lang::{Instr, Kind, Variable, write_bytes, write_instruction, write_number, write_pieces};
 use std::io;
 use std::io::Write;
@@ -40,7 +40,7 @@ fn empty_one(instr: Instr, state: &State) -> Option<Variable> {
     let roles = roles_of(instr);
     for variable in [roles.given, roles.object, roles.used] {
         if let Some(variable) = variable {
-            if is_empty(slot_at(state, variable)) {
+            if is_empty(var_at(state, variable)) {
                 return Some(variable);
             }
         }
@@ -91,7 +91,7 @@ fn emptied(code: &[Instr], exits: &[Exit], variable: Variable) -> Option<(usize,
 /// Returns whether the instruction empties the variable, or should have filled it and didn't.
 fn empties(instr: Instr, before: &State, after: &State, variable: Variable) -> bool {
     let fills = roles_of(instr).filled == Some(variable);
-    is_empty(slot_at(after, variable)) && (fills || !is_empty(slot_at(before, variable)))
+    is_empty(var_at(after, variable)) && (fills || !is_empty(var_at(before, variable)))
 }
 
 /// Returns why the instruction leaves the variable empty.
@@ -143,10 +143,10 @@ fn kind_phrase(kind: Kind) -> &'static str {
     }
 }
 
-fn kind_of(slot: Slot) -> Kind {
-    match slot {
-        Slot::Empty => Kind::Any,
-        Slot::Owned(kind) | Slot::Caller(kind) | Slot::Locked(kind) => kind,
+fn kind_of(var: VarState) -> Kind {
+    match var {
+        VarState::Empty => Kind::Any,
+        VarState::Owned(kind) | VarState::Caller(kind) | VarState::Locked(kind) => kind,
     }
 }
 
@@ -162,14 +162,14 @@ fn is_right(instr: Instr, kind: Kind) -> bool {
 fn write_kind<W: Write>(instr: Instr, state: &State, out: &mut W) -> io::Result<()> {
     let roles = roles_of(instr);
     if let Some(object) = roles.object {
-        let kind = kind_of(slot_at(state, object));
+        let kind = kind_of(var_at(state, object));
         if !is_right(instr, kind) {
             let wanted = wanted_kinds(&instr);
             return write_misfit(object, kind, wanted, out);
         }
     }
     if let Some(used) = roles.used {
-        let kind = kind_of(slot_at(state, used));
+        let kind = kind_of(var_at(state, used));
         let wanted = wanted_kind(&instr);
         return write_misfit(used, kind, wanted, out);
     }
@@ -193,8 +193,8 @@ fn write_borrowed<W: Write>(instr: Instr, state: &State, out: &mut W) -> io::Res
         return Ok(());
     };
     write_variable(given, out)?;
-    let whose: &[u8] = match slot_at(state, given) {
-        Slot::Locked(_) =>
+    let whose: &[u8] = match var_at(state, given) {
+        VarState::Locked(_) =>
             b" borrows an item: the reference is the list's, and isn't given up here.\n",
         _ => b" borrows from the caller: the reference isn't given up here.\n",
     };
@@ -206,7 +206,7 @@ fn write_still<W: Write>(instr: Instr, state: &State, out: &mut W) -> io::Result
         return Ok(());
     };
     write_variable(filled, out)?;
-    let kind = kind_phrase(kind_of(slot_at(state, filled)));
+    let kind = kind_phrase(kind_of(var_at(state, filled)));
     write_pieces(
         &[
             b" still owns a reference to ",
@@ -220,11 +220,11 @@ fn write_still<W: Write>(instr: Instr, state: &State, out: &mut W) -> io::Result
 /// Writes which variables own references at the end of a call, but for the one that is returned.
 fn write_left<W: Write>(instr: Instr, state: &State, out: &mut W) -> io::Result<()> {
     let returned = roles_of(instr).given;
-    for (number, slot) in state.slots.iter().enumerate() {
+    for (number, var) in state.vars.iter().enumerate() {
         let variable = Variable::new(number as u8);
-        if is_owned(*slot) && returned != Some(variable) {
+        if is_owned(*var) && returned != Some(variable) {
             write_variable(variable, out)?;
-            let kind = kind_phrase(kind_of(*slot));
+            let kind = kind_phrase(kind_of(*var));
             write_pieces(
                 &[
                     b" still owns a reference to ",
@@ -266,7 +266,7 @@ fn write_unlocked<W: Write>(instr: Instr, state: &State, out: &mut W) -> io::Res
 
 /// Writes each variable in which two states differ.
 pub fn write_differences<W: Write>(one: &State, other: &State, out: &mut W) -> io::Result<()> {
-    for (number, (first, second)) in one.slots.iter().zip(other.slots.iter()).enumerate() {
+    for (number, (first, second)) in one.vars.iter().zip(other.vars.iter()).enumerate() {
         if first != second {
             write_bytes(b"    v", out)?;
             write_number(number as u64, out)?;
@@ -283,7 +283,7 @@ pub fn write_differences<W: Write>(one: &State, other: &State, out: &mut W) -> i
     Ok(())
 }
 
-fn write_pair<W: Write>(first: Slot, second: Slot, out: &mut W) -> io::Result<()> {
+fn write_pair<W: Write>(first: VarState, second: VarState, out: &mut W) -> io::Result<()> {
     let (how, what) = words_or_empty(first);
     let (other_how, other_what) = words_or_empty(second);
     write_pieces(
@@ -300,11 +300,11 @@ fn write_pair<W: Write>(first: Slot, second: Slot, out: &mut W) -> io::Result<()
     )
 }
 
-fn words_or_empty(slot: Slot) -> (&'static str, &'static str) {
-    if is_empty(slot) {
+fn words_or_empty(var: VarState) -> (&'static str, &'static str) {
+    if is_empty(var) {
         ("", "empty")
     } else {
-        slot_words(slot)
+        var_words(var)
     }
 }
 

@@ -10,7 +10,7 @@ use Rattle.brc_model.specs.declared.duty.Duty.{Duty}
 use Rattle.brc_model.specs.declared.duty.Duty.TheVariants.{ReleaseLoad, Settle, SettleKind, SettleCell, TakeSlot, SettleEnd}
 use Rattle.brc_model.specs.Duties.{ready, has_resource, cells_of, cells_from, release_found}
 use Rattle.brc_table.specs.declared.view.View.{View}
-use Rattle.brc_table.specs.Views.{RowsAreThere, did, done, settling, settle_first, slot_emptied, slot_emptied_by}
+use Rattle.brc_table.specs.Views.{RowsAreThere, view_by, view_after, settling, settle_first, slot_emptied, slot_emptied_by}
 use Rattle.brc_table.specs.Calls.{MaySettle, SettlesFrom}
 use Rattle.brc_free.specs.Works.{Works, Next, HasWorked, ComesToSettle, AtOnce, InWork, to_settle, closes_by}
 use Rattle.brc_heap.specs.Steps.{Keeps}
@@ -54,14 +54,14 @@ to_settle_begins v rest some at =
 
 -- The first object is off the chain.
 pub taken_off : (v w : View) (x found : ℕ) (rest : List Duty) → 0 < v.head → x ≡ v.head - 1 → ComesToSettle v rest
-    → w ≡ done (settling v) found → RowsAreThere v
+    → w ≡ view_after (settling v) found → RowsAreThere v
     → HasWorked (to_settle rest v) [] (SettleKind x ∷ Settle ∷ rest) w
 taken_off v w x found rest some row at is there =
     let apart = head_unlocked v (v.head - 1) there some refl in
     let begun = to_settle rest v in
     worked_on begun begun w [] Settle rest (SettleKind x ∷ Settle ∷ rest) found
     (worked_first begun (Settle ∷ rest) refl) (settle_ready v.head rest some) refl refl
-    (is ∙ ap (λ (z : View). done z found) (to_settle_begins v rest some at))
+    (is ∙ ap (λ (z : View). view_after z found) (to_settle_begins v rest some at))
     (record {
       status = refl;
       used = refl;
@@ -77,7 +77,7 @@ taken_off v w x found rest some row at is there =
 
 -- A file or a socket has a resource to be closed,
 pub kind_has_resource : (v u w : View) (cs : List HostCall) (x found : ℕ) (rest : List Duty)
-    → HasWorked v cs (SettleKind x ∷ rest) u → w ≡ done u found → has_resource found ≡ true
+    → HasWorked v cs (SettleKind x ∷ rest) u → w ≡ view_after u found → has_resource found ≡ true
     → HasWorked v cs (TakeSlot x ∷ rest) w
 kind_has_resource v u w cs x found rest at is has =
     worked_on v u w cs (SettleKind x) rest (TakeSlot x ∷ rest) found at (settle_kind_first u.head x rest) refl refl is
@@ -91,7 +91,7 @@ kind_has_resource v u w cs x found rest at is has =
 -- and any other object may have cells.
 pub kind_has_cells : (v u w : View) (cs : List HostCall) (x found : ℕ) (rest : List Duty)
     → HasWorked v cs (SettleKind x ∷ rest) u
-    → w ≡ done u found → has_resource found ≡ false → HasWorked v cs (cells_from x 0 (cells_of found) ++ rest) w
+    → w ≡ view_after u found → has_resource found ≡ false → HasWorked v cs (cells_from x 0 (cells_of found) ++ rest) w
 kind_has_cells v u w cs x found rest at is none =
     worked_on v u w cs (SettleKind x) rest (cells_from x 0 (cells_of found) ++ rest) found at
     (settle_kind_first u.head x rest) refl refl is
@@ -104,7 +104,7 @@ kind_has_cells v u w cs x found rest at is none =
 
 -- These may be as many as the code has counted.
 pub cells_next : (v u w : View) (x found count : ℕ) (rest : List Duty) → HasWorked v [] (SettleKind x ∷ Settle ∷ rest) u
-    → w ≡ done u found → has_resource found ≡ false → count ≡ cells_of found
+    → w ≡ view_after u found → has_resource found ≡ false → count ≡ cells_of found
     → HasWorked v [] (cells_from x 0 count ++ Settle ∷ rest) w
 cells_next v u w x found count rest at is none same =
     subst (λ (m : ℕ). HasWorked v [] (cells_from x 0 m ++ Settle ∷ rest) w) (sym same)
@@ -128,7 +128,7 @@ cell_next x i n rest low =
 -- A cell is empty now, and what was there is given up next.
 pub cell_emptied : (v u w : View) (cs : List HostCall) (x i m found : ℕ) (rest : List Duty)
     → HasWorked v cs (SettleCell x i m ∷ rest) u
-    → w ≡ done u found → v.locked ≢ Some x → HasWorked v cs (release_found found ++ (cells_from x (i + 1) m ++ rest)) w
+    → w ≡ view_after u found → v.locked ≢ Some x → HasWorked v cs (release_found found ++ (cells_from x (i + 1) m ++ rest)) w
 cell_emptied v u w cs x i m found rest at is apart =
     worked_on v u w cs (SettleCell x i m) rest (release_found found ++ (cells_from x (i + 1) m ++ rest)) found at
     (settle_cell_first u.head x i m rest) refl refl is
@@ -172,11 +172,11 @@ cells_end x n rest =
 
 -- The object is closed: one without a resource,
 pub ended : (v u w : View) (cs : List HostCall) (x found : ℕ) (rest : List Duty) → HasWorked v cs (SettleEnd x ∷ rest) u
-    → w ≡ done (slot_emptied u) found → v.locked ≢ Some x → HasWorked v cs rest w
+    → w ≡ view_after (slot_emptied u) found → v.locked ≢ Some x → HasWorked v cs rest w
 ended v u w cs x found rest at is apart =
     let has : u.agenda ≡ SettleEnd x ∷ rest = at.agenda ∙ settle_end_first u.head x rest in
     worked_on v u w cs (SettleEnd x) rest rest found at (settle_end_first u.head x rest) refl refl
-    (is ∙ ap (λ (ds : List Duty). done (slot_emptied_by ds u) found) has)
+    (is ∙ ap (λ (ds : List Duty). view_after (slot_emptied_by ds u) found) has)
     (record {
       status = refl;
       used = refl;
@@ -189,15 +189,15 @@ ended v u w cs x found rest at is apart =
 
 -- and one whose resource was closed.
 pub ended_empty : (v u w : View) (cs : List HostCall) (x found : ℕ) (failed : Bool) (rest : List Duty)
-    → HasWorked v cs (TakeSlot x ∷ rest) u → w ≡ done (slot_emptied u) found → v.locked ≢ Some x
+    → HasWorked v cs (TakeSlot x ∷ rest) u → w ≡ view_after (slot_emptied u) found → v.locked ≢ Some x
     → HasWorked v (cs ++ Close failed ∷ []) rest w
 ended_empty v u w cs x found failed rest at is apart =
     let has : u.agenda ≡ TakeSlot x ∷ rest = at.agenda ∙ take_slot_first u.head x rest in
     let emptied : View = record u { agenda = SettleEnd x ∷ rest } in
-    let does : w ≡ did emptied (SettleEnd x ∷ rest) found =
-    is ∙ ap (λ (ds : List Duty). done (slot_emptied_by ds u) found) has in
-    let work : Works v (cs ++ Close failed ∷ []) (done (slot_emptied u) found) =
-    subst (λ (ds : List Duty). Works v (cs ++ closes_by ds failed) (done (slot_emptied u) found)) has
+    let does : w ≡ view_by emptied (SettleEnd x ∷ rest) found =
+    is ∙ ap (λ (ds : List Duty). view_after (slot_emptied_by ds u) found) has in
+    let work : Works v (cs ++ Close failed ∷ []) (view_after (slot_emptied u) found) =
+    subst (λ (ds : List Duty). Works v (cs ++ closes_by ds failed) (view_after (slot_emptied u) found)) has
     (Next cs u found failed at.works) in
     record {
       agenda = ap (λ (z : View). z.agenda) does ∙ ap (λ (z : View). ready z.head rest) (sym does);
@@ -205,7 +205,7 @@ ended_empty v u w cs x found failed rest at is apart =
       keeps =
           keeps_then v u w at.keeps
           (subst (Keeps u) (sym does)
-          (keeps_then u emptied (did emptied (SettleEnd x ∷ rest) found) (keeps_beside u (SettleEnd x ∷ rest))
+          (keeps_then u emptied (view_by emptied (SettleEnd x ∷ rest) found) (keeps_beside u (SettleEnd x ∷ rest))
           (did_keeps emptied (SettleEnd x) rest found
           (record {
             status = refl;

@@ -7,10 +7,10 @@ use Rattle.brc_model.specs.declared.duty.Duty.TheVariants.{TakeSlot}
 use Rattle.brc_model.specs.Duties.{ready, continuation, new_head}
 use Rattle.brc_model.specs.Machine.{is_running}
 use Rattle.brc_table.specs.declared.view.View.{View}
-use Rattle.brc_table.specs.Views.{RowsAreThere, did, done, slot_emptied, slot_emptied_by}
-use Rattle.brc_heap.specs.Steps.{Keeps, HasStepped, Steps, TakesNothing, Begun as NoStep, Next as OneStep}
+use Rattle.brc_table.specs.Views.{RowsAreThere, view_by, view_after, slot_emptied, slot_emptied_by}
+use Rattle.brc_heap.specs.Steps.{Keeps, HasStepped, Steps, TakesNothing, Refl as NoStep, Next as OneStep}
 use Rattle.brc_heap.proofs.Stepping.{IsQuiet, keeps_first, keeps_then, did_keeps}
-use Rattle.brc_free.specs.Works.{Works, Begun, Next, HasWorked, closes_by}
+use Rattle.brc_free.specs.Works.{Works, Refl, Next, HasWorked, closes_by}
 
 -- ---- what is kept
 
@@ -38,7 +38,7 @@ head_unlocked v x there some row is = (there.unfinalised x is).later (omega (ari
 
 -- A hand that hasn't done anything yet, of whose duties the first needs a step.
 pub worked_first : (v : View) (ds : List Duty) → v.agenda ≡ ready v.head ds → HasWorked v [] ds v
-worked_first v ds is = record { agenda = is; works = Begun; keeps = keeps_first v }
+worked_first v ds is = record { agenda = is; works = Refl; keeps = keeps_first v }
 
 -- ---- one duty more
 
@@ -46,17 +46,17 @@ worked_first v ds is = record { agenda = is; works = Begun; keeps = keeps_first 
 pub worked_on : (v u w : View) (cs : List HostCall) (d : Duty) (rest ds : List Duty) (found : ℕ)
     → HasWorked v cs (d ∷ rest) u
     → ready u.head (d ∷ rest) ≡ d ∷ rest → slot_emptied_by (d ∷ rest) u ≡ u → closes_by (d ∷ rest) false ≡ []
-    → w ≡ done u found → IsQuiet u d found
+    → w ≡ view_after u found → IsQuiet u d found
     → continuation u.layout u.thread (is_running u.status) u.head d found ++ rest ≡ ds
     → HasWorked v cs ds w
 worked_on v u w cs d rest ds found at first unslotted none is quiet next =
     let has : u.agenda ≡ d ∷ rest = at.agenda ∙ first in
-    let does : w ≡ did u (d ∷ rest) found = is ∙ ap (λ (es : List Duty). did u es found) has in
+    let does : w ≡ view_by u (d ∷ rest) found = is ∙ ap (λ (es : List Duty). view_by u es found) has in
     let same : slot_emptied u ≡ u = ap (λ (es : List Duty). slot_emptied_by es u) has ∙ unslotted in
     let no_more : cs ++ closes_by u.agenda false ≡ cs =
     ap (λ (es : List Duty). cs ++ closes_by es false) has ∙ (ap (λ (fs : List HostCall). cs ++ fs) none
     ∙ append-nil cs) in
-    let work : Works v (cs ++ closes_by u.agenda false) (done (slot_emptied u) found) = Next cs u found false at.works
+    let work : Works v (cs ++ closes_by u.agenda false) (view_after (slot_emptied u) found) = Next cs u found false at.works
     in
     record {
       agenda =
@@ -64,8 +64,8 @@ worked_on v u w cs d rest ds found at first unslotted none is quiet next =
           ∙ (ap (λ (es : List Duty). ready (new_head u.head d found) es) next
           ∙ ap (λ (z : View). ready z.head ds) (sym does));
       works =
-          subst (λ (z : View). Works v cs z) (ap (λ (z : View). done z found) same ∙ sym is)
-          (subst (λ (fs : List HostCall). Works v fs (done (slot_emptied u) found)) no_more work);
+          subst (λ (z : View). Works v cs z) (ap (λ (z : View). view_after z found) same ∙ sym is)
+          (subst (λ (fs : List HostCall). Works v fs (view_after (slot_emptied u) found)) no_more work);
       keeps =
           keeps_then v u w at.keeps
           (subst (Keeps u) (sym does) (did_keeps u d rest found quiet));
@@ -74,9 +74,9 @@ worked_on v u w cs d rest ds found at first unslotted none is quiet next =
 -- ---- work after work
 
 pub works_then : (v u w : View) (cs ds : List HostCall) → Works v cs u → Works u ds w → Works v (cs ++ ds) w
-works_then v u w cs ds one Begun = subst (λ (fs : List HostCall). Works v fs u) (sym (append-nil cs)) one
+works_then v u w cs ds one Refl = subst (λ (fs : List HostCall). Works v fs u) (sym (append-nil cs)) one
 works_then v u w cs ds one (Next es z found failed other) =
-    subst (λ (fs : List HostCall). Works v fs (done (slot_emptied z) found))
+    subst (λ (fs : List HostCall). Works v fs (view_after (slot_emptied z) found))
     (append_assoc cs es (closes_by z.agenda failed))
     (Next (cs ++ es) z found failed (works_then v u z cs es one other))
 
@@ -99,7 +99,7 @@ worked_call v u w cs ds left at first other =
 
 -- A hand that does its duties asks the host for closes alone.
 pub works_close : (v u : View) (cs : List HostCall) → Works v cs u → host_faults cs ≡ 0
-works_close v u cs Begun = refl
+works_close v u cs Refl = refl
 works_close v u cs (Next closes z found failed other) =
     host_faults_then closes (closes_by z.agenda failed)
     ∙ (ap (λ (k : ℕ). k + host_faults (closes_by z.agenda failed)) (works_close v z closes other)
@@ -113,10 +113,10 @@ works_close v u cs (Next closes z found failed other) =
 
 -- They ask the host for nothing.
 works_of : (v u : View) → Steps v u → Works v [] u
-works_of v u NoStep = Begun
+works_of v u NoStep = Refl
 works_of v w (OneStep u found before takes) =
-    subst (λ (z : View). Works v [] (done z found)) (unslotted u.agenda u takes)
-    (subst (λ (cs : List HostCall). Works v cs (done (slot_emptied u) found)) (none u.agenda takes)
+    subst (λ (z : View). Works v [] (view_after z found)) (unslotted u.agenda u takes)
+    (subst (λ (cs : List HostCall). Works v cs (view_after (slot_emptied u) found)) (none u.agenda takes)
     (Next [] u found false (works_of v u before))) where
       unslotted : (ds : List Duty) (u : View) → TakesNothing ds → slot_emptied_by ds u ≡ u
       unslotted (TakeSlot x ∷ rest) u takes = absurd takes

@@ -10,8 +10,8 @@ use Rattle.brc_model.specs.declared.duty.Duty.TheVariants.{ReleaseLoad, MergeSwa
 use Rattle.brc_model.specs.Duties.{ready, once_merged, cells_from}
 use Rattle.brc_table.specs.declared.view.View.{View}
 use Rattle.brc_model.specs.OpenWork.{is_about}
-use Rattle.brc_table.specs.Seen.{has_seen_kind, cell_seen}
-use Rattle.brc_table.specs.Views.{done, slot_emptied, without_reference, open_work}
+use Rattle.brc_table.specs.KnownWords.{knows_kind, known_cell}
+use Rattle.brc_table.specs.Views.{view_after, slot_emptied, without_reference, open_work}
 use Rattle.brc_effect.specs.declared.outcomes.LocalRelease.{LocalRelease}
 use Rattle.brc_heap.specs.Calls.{local_left}
 use Rattle.brc_heap.specs.Steps.{Keeps}
@@ -26,9 +26,9 @@ closes_by _ failed = []
 -- The hand has done duty after duty, and nothing else. Each resource of a dying object was taken out of its slot and
 -- closed before the object was closed: these are the calls of the host, in order.
 pub data Works (v : View) : List HostCall → View → Type 0 where
-  Begun : Works v [] v
+  Refl : Works v [] v
   Next : (closes : List HostCall) (u : View) (found : ℕ) (failed : Bool) → Works v closes u
-      → Works v (closes ++ closes_by u.agenda failed) (done (slot_emptied u) found)
+      → Works v (closes ++ closes_by u.agenda failed) (view_after (slot_emptied u) found)
 
 -- The hand has done duty after duty, with these closes of the host, and these duties are left, but for those that need
 -- no step.
@@ -116,5 +116,5 @@ pub record HasReleased (x : ℕ) (v u : View) : Type 0 where
   pub locked : u.locked ≡ v.locked
   pub in_slot : u.in_slot ≡ v.in_slot
   pub given : u.given ≡ v.given
-  pub kinds : (y word : ℕ) → has_seen_kind y word v ≡ true → has_seen_kind y word u ≡ true
-  pub cells : (y i : ℕ) → v.locked ≡ Some y → cell_seen y i u ≡ cell_seen y i v
+  pub kinds : (y word : ℕ) → knows_kind y word v ≡ true → knows_kind y word u ≡ true
+  pub cells : (y i : ℕ) → v.locked ≡ Some y → known_cell y i u ≡ known_cell y i v

@@ -9,11 +9,11 @@ use Rattle.brc_model.specs.declared.duty.Duty.TheVariants.{BirthKind, BirthSlot,
 use Rattle.brc_model.specs.declared.duty.Holding.TheVariants.{AsCaller}
 use Rattle.brc_model.specs.Duties.{ready, has_resource}
 use Rattle.brc_table.specs.declared.view.View.{View}
-use Rattle.brc_table.specs.Views.{did, done, event_of, bearing, next_row, slot_filled, slot_filled_by}
+use Rattle.brc_table.specs.Views.{view_by, view_after, event_of, bearing, next_row, slot_filled, slot_filled_by}
 use Rattle.brc_table.specs.Calls.{OwnsFirst}
-use Rattle.brc_table.specs.Seen.{shows_kind, has_seen_kind}
-use Rattle.brc_heap.specs.Calls.{KeepsSight, born, HasBorn}
-use Rattle.brc_heap.proofs.Sight.{StaysOff, same_sight, sight_then, did_sight}
+use Rattle.brc_table.specs.KnownWords.{shows_kind, knows_kind}
+use Rattle.brc_heap.specs.Calls.{KeepsKnown, born, HasBorn}
+use Rattle.brc_heap.proofs.KnownKept.{StaysOff, same_sight, sight_then, did_sight}
 
 -- A hand whose next duty is to put the new object's resource into its slot, or to store its first local word, does the
 -- latter next once the resource is there.
@@ -29,14 +29,14 @@ filled_next u x (suc head) false is =
 
 -- the hand before it stores the first local word
 abbrev pub begun : View → ℕ → View
-begun v word = record (done (bearing v word) 0) { agenda = BirthLocal (next_row v) AsCaller ∷ [] }
+begun v word = record (view_after (bearing v word) 0) { agenda = BirthLocal (next_row v) AsCaller ∷ [] }
 
-pub begun_is : (v : View) (word : ℕ) → slot_filled (done (bearing v word) 0) ≡ begun v word
-begun_is v word = filled_next (done (bearing v word) 0) (next_row v) v.head (has_resource word) refl
+pub begun_is : (v : View) (word : ℕ) → slot_filled (view_after (bearing v word) 0) ≡ begun v word
+begun_is v word = filled_next (view_after (bearing v word) 0) (next_row v) v.head (has_resource word) refl
 
 -- A birth is two stores.
-pub born_is : (v : View) (word : ℕ) → born v word ≡ did (begun v word) (BirthLocal (next_row v) AsCaller ∷ []) 0
-born_is v word = ap (λ (u : View). done u 0) (begun_is v word)
+pub born_is : (v : View) (word : ℕ) → born v word ≡ view_by (begun v word) (BirthLocal (next_row v) AsCaller ∷ []) 0
+born_is v word = ap (λ (u : View). view_after u 0) (begun_is v word)
 
 pub or_true : (b : Bool) → (b || true) ≡ true
 or_true true = refl
@@ -44,18 +44,18 @@ or_true false = refl
 
 -- A birth leaves what the hand has seen.
 birth_sight : (v : View) (word : ℕ)
-    → KeepsSight v (did (begun v word) (BirthLocal (next_row v) AsCaller ∷ []) 0)
+    → KeepsKnown v (view_by (begun v word) (BirthLocal (next_row v) AsCaller ∷ []) 0)
 birth_sight v word =
     let x = next_row v in
     let bears = bearing v word in
-    let stored = done bears 0 in
+    let stored = view_after bears 0 in
     let filled = begun v word in
     let stays : StaysOff bears (BirthKind x AsCaller word) 0 = record {
       locked = refl;
       cells = λ y i is. refl;
       gates = λ y is. refl;
     } in
-    sight_then v filled (did filled (BirthLocal x AsCaller ∷ []) 0)
+    sight_then v filled (view_by filled (BirthLocal x AsCaller ∷ []) 0)
     (sight_then v stored filled
     (sight_then v bears stored (same_sight v bears refl refl refl)
     (did_sight bears (BirthKind x AsCaller word) [] 0 stays))
@@ -67,7 +67,7 @@ birth_sight v word =
     }))
 
 -- It sees the kind word that it stores,
-pub stored_seen : (v : View) (word : ℕ) → has_seen_kind (next_row v) word (done (bearing v word) 0) ≡ true
+pub stored_seen : (v : View) (word : ℕ) → knows_kind (next_row v) word (view_after (bearing v word) 0) ≡ true
 stored_seen v word =
     let x = next_row v in
     list_any-append (shows_kind x word) v.trace (event_of (bearing v word) (BirthKind x AsCaller word) 0 ∷ [])
@@ -76,11 +76,11 @@ stored_seen v word =
     ∙ or_true (list_any (shows_kind x word) v.trace)))
 
 -- and still sees it at the end.
-pub birth_seen : (v : View) (word : ℕ) → has_seen_kind (next_row v) word (born v word) ≡ true
+pub birth_seen : (v : View) (word : ℕ) → knows_kind (next_row v) word (born v word) ≡ true
 birth_seen v word =
     let x = next_row v in
     let filled = begun v word in
-    ap (has_seen_kind x word) (born_is v word)
+    ap (knows_kind x word) (born_is v word)
     ∙ (list_any-append (shows_kind x word) filled.trace (event_of filled (BirthLocal x AsCaller) 0 ∷ [])
     ∙ ap (λ (b : Bool). b || list_any (shows_kind x word) (event_of filled (BirthLocal x AsCaller) 0 ∷ []))
     (stored_seen v word))
@@ -109,5 +109,5 @@ owns_by x zero false = refl
 owns_by x (suc head) false = refl
 
 -- Its last duty is to put the resource into the slot, or to store the first local word.
-pub owns_next : (v : View) (word : ℕ) → OwnsFirst (next_row v) (done (bearing v word) 0).agenda
+pub owns_next : (v : View) (word : ℕ) → OwnsFirst (next_row v) (view_after (bearing v word) 0).agenda
 owns_next v word = owns_by (next_row v) v.head (has_resource word)

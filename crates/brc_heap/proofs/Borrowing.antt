@@ -4,9 +4,9 @@ use Rattle.brc_model.specs.declared.layout.Layout.{Layout}
 use Rattle.brc_model.specs.Layout.{row_count}
 use Rattle.brc_table.specs.declared.view.View.{View}
 use Rattle.brc_table.specs.Hands.{Borrows}
-use Rattle.brc_heap.specs.Calls.{KeepsSight}
+use Rattle.brc_heap.specs.Calls.{KeepsKnown}
 
-pub borrows_still : (y : ℕ) (v u : View) → KeepsSight v u → u.layout ≡ v.layout → Borrows v y → Borrows u y
+pub borrows_still : (y : ℕ) (v u : View) → KeepsKnown v u → u.layout ≡ v.layout → Borrows v y → Borrows u y
 borrows_still y v u sight same borrowed = record {
   list = borrowed.list;
   cell = borrowed.cell;

@@ -8,7 +8,7 @@ use Rattle.brc_model.specs.declared.duty.Duty.TheVariants.{RetainStore, RetainAd
 use Rattle.brc_model.specs.Duties.{ready}
 use Rattle.brc_model.specs.Machine.{is_running}
 use Rattle.brc_table.specs.declared.view.View.{View}
-use Rattle.brc_table.specs.Views.{done, retaining}
+use Rattle.brc_table.specs.Views.{view_after, retaining}
 use Rattle.brc_table.specs.Accesses.{IsNext}
 
 shares_by : (head x word : ℕ) (immortal counts : Bool)
@@ -27,7 +27,7 @@ pub retain_shares : (v : View) (x word thread : ℕ) (running : Bool) → thread
     → (if is_immortal_word word then choice.Skip
     else if (running && (owner_part word == thread + 1)) && nat_lt (local_part word) most_local
     then choice.Store (word + 1) else choice.Share) ≡ choice.Share
-    → IsNext (RetainAdd x AsCaller) (done (retaining v x) word).agenda
+    → IsNext (RetainAdd x AsCaller) (view_after (retaining v x) word).agenda
 retain_shares v x word thread running same runs is =
     shares_by v.head x word (is_immortal_word word)
     ((is_running v.status && (owner_part word == v.thread + 1)) && nat_lt (local_part word) most_local)

@@ -10,11 +10,11 @@ use Rattle.brc_model.specs.declared.layout.Layout.{Layout}
 use Rattle.brc_model.specs.Layout.{root_row, first_immortal_list, is_immortal_row}
 use Rattle.brc_table.specs.declared.view.View.{View}
 use Rattle.brc_table.specs.Views.{holds, is_given, with_reference}
-use Rattle.brc_table.specs.Seen.{has_started, started_word, shows_kind, cell_known}
+use Rattle.brc_table.specs.KnownWords.{has_started, started_word, shows_kind, cell_known}
 use Rattle.brc_table.specs.Giving.{MayGive, MayStart, starting}
 use Rattle.brc_table.specs.declared.view.Event.{Event}
-use Rattle.brc_heap.specs.Calls.{KeepsSight, Leaves}
-use Rattle.brc_heap.proofs.Sight.{sight_then}
+use Rattle.brc_heap.specs.Calls.{KeepsKnown, Leaves}
+use Rattle.brc_heap.proofs.KnownKept.{sight_then}
 
 -- The root is counted.
 pub root_counted : (l : Layout) → is_immortal_row l root_row ≡ false
@@ -60,7 +60,7 @@ may_give v u thread main held leaves more start started =
     }
 
 -- The start of a worker leaves what main has seen of objects,
-started_sight : (u : View) (thread : ℕ) → KeepsSight u (starting u thread)
+started_sight : (u : View) (thread : ℕ) → KeepsKnown u (starting u thread)
 started_sight u thread =
     let event : Event = record { address = ThreadWord thread; found = started_word thread u; left = 1 } in
     record {

@@ -11,8 +11,8 @@ use Rattle.brc_model.specs.OpenWork.{is_about}
 use Rattle.brc_table.specs.declared.view.View.{View}
 use Rattle.brc_table.specs.Views.{open_work, turned}
 use Rattle.brc_table.specs.Hands.{MayWait, HasNoWork}
-use Rattle.brc_heap.specs.Calls.{KeepsSight, Leaves}
-use Rattle.brc_heap.proofs.Sight.{StaysAway, same_sight, sight_then}
+use Rattle.brc_heap.specs.Calls.{KeepsKnown, Leaves}
+use Rattle.brc_heap.proofs.KnownKept.{StaysAway, same_sight, sight_then}
 use Rattle.brc_heap.proofs.Turning.{away, passes, fails, none_aside, all_away}
 
 -- ---- rows of duties
@@ -114,7 +114,7 @@ pub record WorksAt (x : ℕ) (v u : View) : Type 0 where
   pub status : u.status ≡ v.status
   pub used : u.used ≡ v.used
   pub given : u.given ≡ v.given
-  pub sight : KeepsSight v u
+  pub sight : KeepsKnown v u
   pub aside : u.aside ≡ filter (away x) (open_work v)
 
 pub turned_works : (x : ℕ) (v : View) → WorksAt x v (turned v x)
@@ -131,7 +131,7 @@ turned_works x v =
 
 -- A hand that begins work has put all its other work aside.
 pub begun_works : (x : ℕ) (v u : View) → HasNoWork v x → u.layout ≡ v.layout → u.thread ≡ v.thread
-    → u.status ≡ v.status → u.used ≡ v.used → u.given ≡ v.given → KeepsSight v u → u.aside ≡ open_work v
+    → u.status ≡ v.status → u.used ≡ v.used → u.given ≡ v.given → KeepsKnown v u → u.aside ≡ open_work v
     → WorksAt x v u
 begun_works x v u none layout thread status used given sight aside = record {
   layout = layout;

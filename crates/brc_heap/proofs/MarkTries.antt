@@ -6,7 +6,7 @@ use Rattle.brc_model.specs.declared.duty.Duty.{Duty}
 use Rattle.brc_model.specs.declared.duty.Duty.TheVariants.{SetMark, Look, TakeMark, MergeSwap}
 use Rattle.brc_model.specs.declared.duty.Reason.TheVariants.{Handed}
 use Rattle.brc_table.specs.declared.view.View.{View}
-use Rattle.brc_table.specs.Views.{done}
+use Rattle.brc_table.specs.Views.{view_after}
 use Rattle.brc_effect.specs.declared.outcomes.Looked.{Looked}
 use Rattle.brc_effect.specs.declared.outcomes.Looked.TheVariants as looks
 use Rattle.brc_effect.specs.Outcomes.{taken_answer}
@@ -15,12 +15,12 @@ use Rattle.brc_heap.specs.Steps.{HasStepped}
 use Rattle.brc_heap.proofs.Stepping.{IsPiece, plain_first, plain_begins, plain_on, stepped_then}
 
 pub mark_stepped : {v : View} {x : ℕ} {rest : List Duty} → v.agenda ≡ SetMark x ∷ rest
-    → HasStepped v (Look x ∷ rest) (done v 0)
+    → HasStepped v (Look x ∷ rest) (view_after v 0)
 mark_stepped {v} {x} {rest} next = plain_on 0 (plain_begins next refl) refl refl
 
 -- The owner doesn't run: the mark is taken back next.
 pub stopped : {v : View} {x : ℕ} {rest : List Duty} (said : ℕ) → v.agenda ≡ Look x ∷ rest → (said == 1) ≡ false
-    → HasStepped v (TakeMark x ∷ rest) (done v said)
+    → HasStepped v (TakeMark x ∷ rest) (view_after v said)
 stopped {v} {x} {rest} said next is =
     plain_on said (plain_begins next refl) refl (ap (λ (b : Bool). if b then [] else TakeMark x ∷ []) is)
 
@@ -32,7 +32,7 @@ taken_by x false = refl
 look_by : (v : View) (x said found : ℕ) (rest : List Duty) (runs : Bool) → (said == 1) ≡ runs
     → v.agenda ≡ Look x ∷ rest
     → HasStepped v (look_left x (if runs then looks.Left else if found == 1 then looks.Claimed else looks.Left) ++ rest)
-    (if runs then done v said else done (done v said) found)
+    (if runs then view_after v said else view_after (view_after v said) found)
 look_by v x said found rest true is next =
     plain_on said (plain_begins next refl) refl (ap (λ (b : Bool). if b then [] else TakeMark x ∷ []) is)
 look_by v x said found rest false is next =
@@ -43,19 +43,19 @@ pub look_stepped : {v : View} {x : ℕ} {rest : List Duty} (said found : ℕ) �
 look_stepped {v} {x} {rest} said found next = look_by v x said found rest (said == 1) refl next
 
 -- The hand has looked: the owner runs, or the hand has taken the mark back or found it gone.
-pub runs : {v u : View} {x : ℕ} {rest : List Duty} (said : ℕ) → u ≡ done v said → (said == 1) ≡ true
+pub runs : {v u : View} {x : ℕ} {rest : List Duty} (said : ℕ) → u ≡ view_after v said → (said == 1) ≡ true
     → v.agenda ≡ Look x ∷ rest → HasStepped v rest u
 runs {v} {u} {x} {rest} said view is next =
     subst (HasStepped v rest) (sym view)
     (plain_on said (plain_begins next refl) refl (ap (λ (b : Bool). if b then [] else TakeMark x ∷ []) is))
 
-pub taken_back : {v u w : View} {x : ℕ} {rest : List Duty} (answer : Looked) (said found : ℕ) → u ≡ done v said
-    → w ≡ done u found → (said == 1) ≡ false → answer ≡ taken_answer found → v.agenda ≡ Look x ∷ rest
+pub taken_back : {v u w : View} {x : ℕ} {rest : List Duty} (answer : Looked) (said found : ℕ) → u ≡ view_after v said
+    → w ≡ view_after u found → (said == 1) ≡ false → answer ≡ taken_answer found → v.agenda ≡ Look x ∷ rest
     → HasStepped v (look_left x answer ++ rest) w
 taken_back {v} {u} {w} {x} {rest} answer said found view after is one next =
     subst (λ (a : Looked). HasStepped v (look_left x a ++ rest) w) (sym one)
     (subst (HasStepped v (look_left x (taken_answer found) ++ rest))
-    (sym (after ∙ ap (λ (z : View). done z found) view))
+    (sym (after ∙ ap (λ (z : View). view_after z found) view))
     (plain_on found (stopped said next is) refl (taken_by x (found == 1))))
 
 -- One after the other.
@@ -64,7 +64,7 @@ pub posted_stepped : {v : View} {x : ℕ} {rest : List Duty} (said found : ℕ) 
 posted_stepped {v} {x} {rest} said found next =
     let marked = mark_stepped next in
     stepped_then marked
-    (look_stepped said found (marked.agenda ∙ plain_first (done v 0).head (Look x) rest refl))
+    (look_stepped said found (marked.agenda ∙ plain_first (view_after v 0).head (Look x) rest refl))
 
 pub look_piece : (x : ℕ) (answer : Looked) → IsPiece x (look_left x answer)
 look_piece x looks.Left = tt

@@ -9,7 +9,7 @@ use Rattle.brc_model.specs.declared.duty.Reason.TheVariants.{Own, Handed}
 use Rattle.brc_model.specs.declared.duty.Duty.TheVariants.{SharedLoad, MergeSwap, MergeLoad, MergeExchange, Die}
 use Rattle.brc_model.specs.Duties.{ready, once_merged}
 use Rattle.brc_table.specs.declared.view.View.{View}
-use Rattle.brc_table.specs.Views.{done, resumed, turned, open_work}
+use Rattle.brc_table.specs.Views.{view_after, resumed, turned, open_work}
 use Rattle.std.specs.List.{filter}
 use Rattle.brc_model.specs.OpenWork.{is_about}
 use Rattle.brc_heap.proofs.Turning.{none_aside, turned_itself}
@@ -31,12 +31,12 @@ swap_by x local r true = refl
 swap_by x local r false = refl
 
 pub swap_stepped : {v : View} {x : ℕ} {r : Reason} {rest : List Duty} (local : ℕ) → v.agenda ≡ MergeSwap x r ∷ rest
-    → HasStepped v (swap_left x r (carries_of local) ++ rest) (done v local)
+    → HasStepped v (swap_left x r (carries_of local) ++ rest) (view_after v local)
 swap_stepped {v} {x} {r} {rest} local next =
     plain_on local (plain_begins next refl) refl (swap_by x local r (local == 0))
 
 -- The hand has begun: it carries the count, or the object is merged already.
-pub swapped : {v u : View} {x : ℕ} {r : Reason} {rest : List Duty} {carried : Option ℕ} (local : ℕ) → u ≡ done v local
+pub swapped : {v u : View} {x : ℕ} {r : Reason} {rest : List Duty} {carried : Option ℕ} (local : ℕ) → u ≡ view_after v local
     → carries_of local ≡ carried → v.agenda ≡ MergeSwap x r ∷ rest → HasStepped v (swap_left x r carried ++ rest) u
 swapped {v} {u} {x} {r} {rest} {carried} local view is next =
     subst (λ (c : Option ℕ). HasStepped v (swap_left x r c ++ rest) u) is
@@ -63,7 +63,7 @@ merge_handed x c true false lives = refl
 merge_handed x c false dead lives = refl
 
 pub merge_loaded : {v : View} {x c : ℕ} {r : Reason} {rest : List Duty} (word : ℕ)
-    → v.agenda ≡ MergeLoad x c r ∷ rest → HasStepped v (MergeExchange x c word r ∷ rest) (done v word)
+    → v.agenda ≡ MergeLoad x c r ∷ rest → HasStepped v (MergeExchange x c word r ∷ rest) (view_after v word)
 merge_loaded {v} {x} {c} {r} {rest} word next = plain_on word (plain_begins next refl) refl refl
 
 -- A merge for a handed reference leaves that reference counted, so that the object lives.
@@ -74,13 +74,13 @@ dies_by true false is = absurd cc
 dies_by false dead is = absurd cc
 
 pub own_dies : (v : View) (x c word found : ℕ) (r : Reason) (rest : List Duty) → v.agenda ≡ MergeLoad x c r ∷ rest
-    → FindsKnown (done v word) (done v word).agenda found → merge_answer c word found ≡ merge.Dying → r ≡ Own
+    → FindsKnown (view_after v word) (view_after v word).agenda found → merge_answer c word found ≡ merge.Dying → r ≡ Own
 own_dies v x c word found Own rest next known dying = refl
 own_dies v x c word found Handed rest next known dying =
-    let has = (merge_loaded word next).agenda ∙ plain_first (done v word).head (MergeExchange x c word Handed) rest refl
+    let has = (merge_loaded word next).agenda ∙ plain_first (view_after v word).head (MergeExchange x c word Handed) rest refl
     in
     let lives : found ≡ word → merged_word word c ≢ dead_word =
-    subst (λ (ds : List Duty). FindsKnown (done v word) ds found) has known in
+    subst (λ (ds : List Duty). FindsKnown (view_after v word) ds found) has known in
     let (same, dead) = dies_by (found == word) (merged_word word c == dead_word) dying in
     absurd (lives (eqb-true found word same) (eqb-true (merged_word word c) dead_word dead))
 
@@ -176,12 +176,12 @@ pub stays_there : {v u : View} {x : ℕ} {d : Duty} → Leaves x (d ∷ []) v u 
 stays_there {v} {u} {x} {d} left about =
     turned_itself u x d left.agenda about (ap (filter (is_about x)) left.aside ∙ none_aside x (open_work v))
 
-pub first_view : {u w : View} (v : View) (x local word found : ℕ) → (local == 0) ≡ false → u ≡ done (turned v x) local
+pub first_view : {u w : View} (v : View) (x local word found : ℕ) → (local == 0) ≡ false → u ≡ view_after (turned v x) local
     → turned u x ≡ u → w ≡ merge_tried (turned u x) word found → w ≡ merge_begun v x local word found
 first_view {u} {w} v x local word found some view stays is =
     is
     ∙ (ap (λ (z : View). merge_tried z word found) (stays ∙ view)
-    ∙ sym (ap (λ (b : Bool). if b then done (turned v x) local else merge_tried (done (turned v x) local) word found)
+    ∙ sym (ap (λ (b : Bool). if b then view_after (turned v x) local else merge_tried (view_after (turned v x) local) word found)
     some))
 
 pub first_says : {answer : MergeStep} (local carried word found : ℕ) → (local == 0) ≡ false

@@ -14,7 +14,7 @@ use Rattle.brc_model.proofs.Basics.Blocks.{only_none}
 use Rattle.brc_model.specs.Machine.{is_running, has_room}
 use Rattle.brc_model.specs.Within.{OwnerFits}
 use Rattle.brc_table.specs.declared.view.View.{View}
-use Rattle.brc_table.specs.Views.{did, done, retaining, next_row, RowsAreThere}
+use Rattle.brc_table.specs.Views.{view_by, view_after, retaining, next_row, RowsAreThere}
 use Rattle.brc_effect.specs.declared.outcomes.LocalRelease.TheVariants as local
 use Rattle.brc_heap.specs.Calls.{retained, RetainsOwn, local_answer}
 
@@ -66,13 +66,13 @@ retain_owns v x word found runs fits mine = elim (cases_Bool (is_immortal_word w
     | inl owner ↦ elim (cases_Bool (nat_lt (local_part word) most_local)) [
       | inr high ↦ inr (inr (inl (ltb-false (local_part word) most_local high)))
       | inl below ↦
-          let next : (done (retaining v x) word).agenda ≡ RetainStore x AsCaller word ∷ [] =
+          let next : (view_after (retaining v x) word).agenda ≡ RetainStore x AsCaller word ∷ [] =
           ap (λ (b : Bool). ready v.head ((if b then [] else if (is_running v.status
           && (owner_part word == v.thread + 1)) && nat_lt (local_part word) most_local
           then RetainStore x AsCaller word ∷ [] else RetainAdd x AsCaller ∷ []) ++ [])) mortal
           ∙ store_next v.head x word (is_running v.status) (owner_part word == v.thread + 1)
           (nat_lt (local_part word) most_local) (runs_true v runs) owner below in
-          inr (inr (inr (ap (λ (ds : List Duty). (did (done (retaining v x) word) ds found).trace) next)))
+          inr (inr (inr (ap (λ (ds : List Duty). (view_by (view_after (retaining v x) word) ds found).trace) next)))
     ]
   ]
 ]

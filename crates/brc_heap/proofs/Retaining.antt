@@ -8,11 +8,11 @@ use Rattle.brc_model.specs.declared.duty.Duty.TheVariants.{RetainLoad, RetainSto
 use Rattle.brc_model.specs.Duties.{counts_locally}
 use Rattle.brc_model.specs.Machine.{is_running}
 use Rattle.brc_table.specs.declared.view.View.{View}
-use Rattle.brc_table.specs.Views.{did, done, retaining}
+use Rattle.brc_table.specs.Views.{view_by, view_after, retaining}
 use Rattle.brc_table.specs.Hands.{HasNoWork}
 use Rattle.brc_heap.specs.Calls.{retained, Leaves}
 use Rattle.brc_heap.specs.Steps.{HasStepped}
-use Rattle.brc_heap.proofs.Sight.{same_sight}
+use Rattle.brc_heap.proofs.KnownKept.{same_sight}
 use Rattle.brc_heap.proofs.Leaving.{begun_works}
 use Rattle.brc_heap.proofs.Stepping.{plain_begins, plain_on, plain_first, stepped_leaves}
 
@@ -22,21 +22,21 @@ retain_list x word immortal counts =
 
 -- The load is followed by one step at most.
 retained_by : (v u : View) (x word found : ℕ) (immortal counts : Bool)
-    → HasStepped v (retain_list x word immortal counts ++ []) u → HasStepped v [] (done u found)
+    → HasStepped v (retain_list x word immortal counts ++ []) u → HasStepped v [] (view_after u found)
 retained_by v u x word found true counts at =
-    subst (HasStepped v []) (ap (λ (ds : List Duty). did u ds found) (sym at.agenda)) at
+    subst (HasStepped v []) (ap (λ (ds : List Duty). view_by u ds found) (sym at.agenda)) at
 retained_by v u x word found false true at = plain_on found at refl refl
 retained_by v u x word found false false at = plain_on found at refl refl
 
 loaded : (v : View) (x word : ℕ)
     → HasStepped (retaining v x) (retain_list x word (is_immortal_word word)
     (counts_locally v.thread (is_running v.status) word && nat_lt (local_part word) most_local) ++ [])
-    (done (retaining v x) word)
+    (view_after (retaining v x) word)
 loaded v x word = plain_on {d = RetainLoad x AsCaller} {rest = []} word (plain_begins refl refl) refl refl
 
 retain_stepped : (v : View) (x word found : ℕ) → HasStepped (retaining v x) [] (retained v x word found)
 retain_stepped v x word found =
-    retained_by (retaining v x) (done (retaining v x) word) x word found (is_immortal_word word)
+    retained_by (retaining v x) (view_after (retaining v x) word) x word found (is_immortal_word word)
     (counts_locally v.thread (is_running v.status) word && nat_lt (local_part word) most_local) (loaded v x word)
 
 -- A retain leaves nothing to do.
@@ -53,16 +53,16 @@ retained_references v x word found = (retain_stepped v x word found).keeps.refer
 -- ---- the chain
 
 head_by : (v u : View) (x word found : ℕ) (immortal counts : Bool)
-    → HasStepped v (retain_list x word immortal counts ++ []) u → (done u found).head ≡ u.head
-head_by v u x word found true counts at = ap (λ (ds : List Duty). (did u ds found).head) at.agenda
+    → HasStepped v (retain_list x word immortal counts ++ []) u → (view_after u found).head ≡ u.head
+head_by v u x word found true counts at = ap (λ (ds : List Duty). (view_by u ds found).head) at.agenda
 head_by v u x word found false true at =
-    ap (λ (ds : List Duty). (did u ds found).head)
+    ap (λ (ds : List Duty). (view_by u ds found).head)
     (at.agenda ∙ plain_first u.head (RetainStore x AsCaller word) [] refl)
 head_by v u x word found false false at =
-    ap (λ (ds : List Duty). (did u ds found).head) (at.agenda ∙ plain_first u.head (RetainAdd x AsCaller) [] refl)
+    ap (λ (ds : List Duty). (view_by u ds found).head) (at.agenda ∙ plain_first u.head (RetainAdd x AsCaller) [] refl)
 
 -- It chains nothing.
 pub retained_head : (v : View) (x word found : ℕ) → (retained v x word found).head ≡ v.head
 retained_head v x word found =
-    head_by (retaining v x) (done (retaining v x) word) x word found (is_immortal_word word)
+    head_by (retaining v x) (view_after (retaining v x) word) x word found (is_immortal_word word)
     (counts_locally v.thread (is_running v.status) word && nat_lt (local_part word) most_local) (loaded v x word)

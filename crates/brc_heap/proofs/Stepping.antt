@@ -9,10 +9,10 @@ use Rattle.brc_model.specs.Duties.{ready, continuation, new_head}
 use Rattle.brc_model.specs.Machine.{is_running, status_by, used_by}
 use Rattle.brc_model.specs.OpenWork.{is_about, is_finalising, finalised, may_wait}
 use Rattle.brc_table.specs.declared.view.View.{View}
-use Rattle.brc_table.specs.Views.{RowsAreThere, did, done}
+use Rattle.brc_table.specs.Views.{RowsAreThere, view_by, view_after}
 use Rattle.brc_heap.specs.Calls.{Leaves}
-use Rattle.brc_heap.specs.Steps.{Keeps, TakesNothing, Steps, Begun, Next, HasStepped}
-use Rattle.brc_heap.proofs.Sight.{StaysOff, away_off, did_sight, sight_then}
+use Rattle.brc_heap.specs.Steps.{Keeps, TakesNothing, Steps, Refl, Next, HasStepped}
+use Rattle.brc_heap.proofs.KnownKept.{StaysOff, away_off, did_sight, sight_then}
 use Rattle.brc_heap.proofs.Leaving.{WorksAt, is_plain, plain_keeps, works_leave}
 
 -- ---- what is kept
@@ -62,7 +62,7 @@ plain_quiet {u} {d} {found} plain =
 
 -- What one duty keeps.
 pub did_keeps : (u : View) (d : Duty) (rest : List Duty) (found : ℕ) → IsQuiet u d found
-    → Keeps u (did u (d ∷ rest) found)
+    → Keeps u (view_by u (d ∷ rest) found)
 did_keeps u d rest found quiet =
     let sight = did_sight u d rest found quiet.off in
     record {
@@ -117,7 +117,7 @@ plain_takes _ rest is = tt
 
 -- A hand that hasn't done anything yet.
 pub stepped_first : {v : View} {ds : List Duty} → v.agenda ≡ ready v.head ds → HasStepped v ds v
-stepped_first {v} {ds} is = record { agenda = is; steps = Begun; keeps = keeps_first v }
+stepped_first {v} {ds} is = record { agenda = is; steps = Refl; keeps = keeps_first v }
 
 -- The same of one whose first duty is about counts, kinds or marks.
 pub plain_begins : {v : View} {d : Duty} {rest : List Duty} → v.agenda ≡ d ∷ rest → is_plain d ≡ true
@@ -127,30 +127,30 @@ plain_begins {v} {d} {rest} next plain = stepped_first (next ∙ sym (plain_firs
 -- The first duty that is left is done.
 stepped_on : (v u : View) (d : Duty) (rest ds : List Duty) (found : ℕ) → HasStepped v (d ∷ rest) u
     → ready u.head (d ∷ rest) ≡ d ∷ rest → TakesNothing (d ∷ rest) → IsQuiet u d found
-    → continuation u.layout u.thread (is_running u.status) u.head d found ++ rest ≡ ds → HasStepped v ds (done u found)
+    → continuation u.layout u.thread (is_running u.status) u.head d found ++ rest ≡ ds → HasStepped v ds (view_after u found)
 stepped_on v u d rest ds found at first takes quiet next =
     let has : u.agenda ≡ d ∷ rest = at.agenda ∙ first in
-    let does : done u found ≡ did u (d ∷ rest) found = ap (λ (es : List Duty). did u es found) has in
+    let does : view_after u found ≡ view_by u (d ∷ rest) found = ap (λ (es : List Duty). view_by u es found) has in
     record {
       agenda =
           ap (λ (z : View). z.agenda) does
           ∙ (ap (λ (es : List Duty). ready (new_head u.head d found) es) next
           ∙ ap (λ (z : View). ready z.head ds) (sym does));
       steps = Next u found at.steps (subst TakesNothing (sym has) takes);
-      keeps = keeps_then v u (done u found) at.keeps (subst (Keeps u) (sym does) (did_keeps u d rest found quiet));
+      keeps = keeps_then v u (view_after u found) at.keeps (subst (Keeps u) (sym does) (did_keeps u d rest found quiet));
     }
 
 -- It is one about counts, kinds or marks, and is followed by what the word found says.
 pub plain_on : {v u : View} {d : Duty} {rest ds : List Duty} (found : ℕ) → HasStepped v (d ∷ rest) u
     → is_plain d ≡ true → continuation u.layout u.thread (is_running u.status) u.head d found ≡ ds
-    → HasStepped v (ds ++ rest) (done u found)
+    → HasStepped v (ds ++ rest) (view_after u found)
 plain_on {v} {u} {d} {rest} {ds} found at plain next =
     stepped_on v u d rest (ds ++ rest) found at (plain_first u.head d rest plain) (plain_takes d rest plain)
     (plain_quiet plain) (ap (λ (es : List Duty). es ++ rest) next)
 
 -- It is the death of an object, which goes to the head of the chain.
 pub died : {v u : View} {x : ℕ} {rest : List Duty} → HasStepped v (Die x ∷ rest) u → RowsAreThere u
-    → HasStepped v rest (done u free_word)
+    → HasStepped v rest (view_after u free_word)
 died {v} {u} {x} {rest} at there =
     let apart = finalising_unlocked u (Die x) rest x there (at.agenda ∙ die_first u.head x rest) (eq-eqb x x refl) in
     stepped_on v u (Die x) rest rest free_word at (die_first u.head x rest) tt
@@ -163,7 +163,7 @@ died {v} {u} {x} {rest} at there =
 -- ---- steps after steps
 
 steps_then : (v u w : View) → Steps v u → Steps u w → Steps v w
-steps_then v u w one Begun = one
+steps_then v u w one Refl = one
 steps_then v u w one (Next z found other takes) = Next z found (steps_then v u z one other) takes
 
 pub stepped_then : {v u w : View} {ds es : List Duty} → HasStepped v ds u → HasStepped u es w → HasStepped v es w

@@ -11,7 +11,7 @@ use Rattle.brc_model.specs.declared.duty.Duty.TheVariants.{ReleaseLoad, ReleaseS
 use Rattle.brc_model.specs.Duties.{ready}
 use Rattle.brc_model.specs.Machine.{is_running}
 use Rattle.brc_table.specs.declared.view.View.{View}
-use Rattle.brc_table.specs.Views.{did, done, resumed, releasing}
+use Rattle.brc_table.specs.Views.{view_by, view_after, resumed, releasing}
 use Rattle.brc_table.specs.Hands.{HasNoWork}
 use Rattle.brc_effect.specs.declared.outcomes.LocalRelease.{LocalRelease}
 use Rattle.brc_effect.specs.declared.outcomes.LocalRelease.TheVariants as local
@@ -25,7 +25,7 @@ use Rattle.brc_effect.specs.Outcomes.{local_answer as local_release}
 use Rattle.brc_heap.specs.Steps.{HasStepped, ended}
 use Rattle.brc_heap.specs.Tries.{lowered, zero_dies, shared_dies}
 use Rattle.brc_heap.proofs.Stepping.{plain_first, die_first, plain_begins, plain_on, IsPiece}
-use Rattle.brc_heap.proofs.Sight.{same_sight}
+use Rattle.brc_heap.proofs.KnownKept.{same_sight}
 use Rattle.brc_heap.proofs.Leaving.{WorksAt, begun_works}
 
 -- ---- the local word
@@ -39,7 +39,7 @@ lowered_by : (v u : View) (x word : ℕ) (rest : List Duty) (immortal counts las
     → HasStepped v (loaded_next x word immortal counts ++ rest) u → (local_part word == 1) ≡ last
     → HasStepped v (local_left x (if immortal then local.Skip
     else if counts then (if last then local.Zero else local.Kept) else local.Share) ++ rest)
-    (if immortal then u else if counts then done u word else u)
+    (if immortal then u else if counts then view_after u word else u)
 lowered_by v u x word rest true counts last at is = at
 lowered_by v u x word rest false true true at is =
     plain_on word at refl (ap (λ (b : Bool). if b then DecideAtZero x ∷ [] else []) is)
@@ -49,17 +49,17 @@ lowered_by v u x word rest false false last at is = at
 
 -- A hand that counts locally has stored the word next.
 pub lowered_stepped : (v u : View) (x word : ℕ) (h : Holding) (rest : List Duty) → v.agenda ≡ ReleaseLoad x h ∷ rest
-    → u ≡ done v word → HasStepped v (local_left x (local_answer u word) ++ rest) (lowered u word)
+    → u ≡ view_after v word → HasStepped v (local_left x (local_answer u word) ++ rest) (lowered u word)
 lowered_stepped v u x word h rest next is =
     lowered_by v u x word rest (is_immortal_word word) (counts_here u word) (local_part word == 1)
     (loaded v u x word h rest next is) refl where
       counts_still : (v u : View) (x word : ℕ) (h : Holding) (rest : List Duty) → v.agenda ≡ ReleaseLoad x h ∷ rest
-          → u ≡ done v word → counts_here v word ≡ counts_here u word
+          → u ≡ view_after v word → counts_here v word ≡ counts_here u word
       counts_still v u x word h rest next is =
-          ap (λ (z : View). counts_here z word) (sym (is ∙ ap (λ (ds : List Duty). did v ds word) next))
+          ap (λ (z : View). counts_here z word) (sym (is ∙ ap (λ (ds : List Duty). view_by v ds word) next))
 
       loaded : (v u : View) (x word : ℕ) (h : Holding) (rest : List Duty) → v.agenda ≡ ReleaseLoad x h ∷ rest
-          → u ≡ done v word
+          → u ≡ view_after v word
           → HasStepped v (loaded_next x word (is_immortal_word word) (counts_here u word) ++ rest) u
       loaded v u x word h rest next is =
           subst (HasStepped v (loaded_next x word (is_immortal_word word) (counts_here u word) ++ rest)) (sym is)
@@ -100,22 +100,22 @@ stays_by v u false false last answer said is = refl
 
 -- The hand has stored the lowered count,
 pub local_lowered : (v u w : View) (x word : ℕ) (h : Holding) (rest : List Duty) (answer : LocalRelease)
-    → answer ≡ local_answer u word → (answer ≡ local.Kept) ⊎ (answer ≡ local.Zero) → w ≡ done u word
-    → v.agenda ≡ ReleaseLoad x h ∷ rest → u ≡ done v word → HasStepped v (local_left x answer ++ rest) w
+    → answer ≡ local_answer u word → (answer ≡ local.Kept) ⊎ (answer ≡ local.Zero) → w ≡ view_after u word
+    → v.agenda ≡ ReleaseLoad x h ∷ rest → u ≡ view_after v word → HasStepped v (local_left x answer ++ rest) w
 local_lowered v u w x word h rest answer said stores view next is =
     subst (λ (a : LocalRelease). HasStepped v (local_left x a ++ rest) w) (sym said)
     (subst (HasStepped v (local_left x (local_answer u word) ++ rest))
-    (stores_by u (done u word) (is_immortal_word word) (counts_here u word) (local_part word == 1) answer said stores
+    (stores_by u (view_after u word) (is_immortal_word word) (counts_here u word) (local_part word == 1) answer said stores
     ∙ sym view) (lowered_stepped v u x word h rest next is))
 
 -- or nothing.
 pub local_stays : (v u : View) (x word : ℕ) (h : Holding) (rest : List Duty) (answer : LocalRelease)
     → answer ≡ local_answer u word → (answer ≡ local.Skip) ⊎ (answer ≡ local.Share)
-    → v.agenda ≡ ReleaseLoad x h ∷ rest → u ≡ done v word → HasStepped v (local_left x answer ++ rest) u
+    → v.agenda ≡ ReleaseLoad x h ∷ rest → u ≡ view_after v word → HasStepped v (local_left x answer ++ rest) u
 local_stays v u x word h rest answer said stays next is =
     subst (λ (a : LocalRelease). HasStepped v (local_left x a ++ rest) u) (sym said)
     (subst (HasStepped v (local_left x (local_answer u word) ++ rest))
-    (stays_by u (done u word) (is_immortal_word word) (counts_here u word) (local_part word == 1) answer said stays)
+    (stays_by u (view_after u word) (is_immortal_word word) (counts_here u word) (local_part word == 1) answer said stays)
     (lowered_stepped v u x word h rest next is))
 
 -- A hand that begins a release has put all other work aside.
@@ -132,16 +132,16 @@ local_piece x local.Share = (eq-eqb x x refl, refl, refl)
 
 -- With nothing behind it, an immortal object's release has nothing to do after its load.
 here_by : (u : View) (word : ℕ) (immortal counts : Bool) → (immortal ≡ true → u.agenda ≡ [])
-    → (if immortal then u else if counts then done u word else u) ≡ (if counts then done u word else u)
-here_by u word true true none = sym (ap (λ (ds : List Duty). did u ds word) (none refl))
+    → (if immortal then u else if counts then view_after u word else u) ≡ (if counts then view_after u word else u)
+here_by u word true true none = sym (ap (λ (ds : List Duty). view_by u ds word) (none refl))
 here_by u word true false none = refl
 here_by u word false counts none = refl
 
-pub lowered_here : {u : View} (v : View) (x word : ℕ) → u ≡ done (releasing v x) word
+pub lowered_here : {u : View} (v : View) (x word : ℕ) → u ≡ view_after (releasing v x) word
     → lowered u word ≡ released_locally v x word
 lowered_here {u} v x word is =
     ap (λ (z : View). lowered z word) is
-    ∙ here_by (done (releasing v x) word) word (is_immortal_word word) (counts_here v word)
+    ∙ here_by (view_after (releasing v x) word) word (is_immortal_word word) (counts_here v word)
     (λ immortal. ap (λ (b : Bool). ready v.head (loaded_next x word b (counts_here v word) ++ [])) immortal)
 
 -- ---- the last local reference
@@ -156,13 +156,13 @@ zero_by x true = refl
 zero_by x false = refl
 
 pub zero_stepped : {v : View} {x : ℕ} {rest : List Duty} (word : ℕ) → v.agenda ≡ DecideAtZero x ∷ rest
-    → HasStepped v (zero_next x (zero_answer word) ++ rest) (done v word)
+    → HasStepped v (zero_next x (zero_answer word) ++ rest) (view_after v word)
 zero_stepped {v} {x} {rest} word next =
     plain_on word (plain_begins next refl) refl (zero_by x (word == fresh_word))
 
 -- The hand has decided: the object is chained, or to be merged.
 pub zero_dying : {v u w : View} {x : ℕ} {rest : List Duty} (word : ℕ) (answer : ZeroStep) → answer ≡ zero_answer word
-    → u ≡ done v word → answer ≡ zeros.Dying → (HasStepped v (Die x ∷ rest) u → HasStepped v rest w)
+    → u ≡ view_after v word → answer ≡ zeros.Dying → (HasStepped v (Die x ∷ rest) u → HasStepped v rest w)
     → v.agenda ≡ DecideAtZero x ∷ rest → HasStepped v (zero_left x answer ++ rest) w
 zero_dying {v} {u} {w} {x} {rest} word answer said view dying chains next =
     subst (λ (z : ZeroStep). HasStepped v (zero_left x z ++ rest) w) (sym dying)
@@ -170,7 +170,7 @@ zero_dying {v} {u} {w} {x} {rest} word answer said view dying chains next =
     (subst (HasStepped v (zero_next x (zero_answer word) ++ rest)) (sym view) (zero_stepped word next))))
 
 pub zero_merges : {v u : View} {x : ℕ} {rest : List Duty} (word : ℕ) (answer : ZeroStep) → answer ≡ zero_answer word
-    → u ≡ done v word → answer ≡ zeros.Merge
+    → u ≡ view_after v word → answer ≡ zeros.Merge
     → v.agenda ≡ DecideAtZero x ∷ rest → HasStepped v (zero_left x answer ++ rest) u
 zero_merges {v} {u} {x} {rest} word answer said view merges next =
     subst (λ (z : ZeroStep). HasStepped v (zero_left x z ++ rest) u) (sym merges)
@@ -188,10 +188,10 @@ zero_chains u x zeros.Merge is = sym (ap (chained_by u) (is ∙ plain_first u.he
 
 -- With nothing behind the decision, the object is chained exactly if its death comes next.
 pub zero_chained : (v : View) (x word : ℕ) (answer : ZeroStep) → answer ≡ zero_answer word
-    → v.agenda ≡ DecideAtZero x ∷ [] → ended (zero_dies answer) (done v word) ≡ chained (done v word)
+    → v.agenda ≡ DecideAtZero x ∷ [] → ended (zero_dies answer) (view_after v word) ≡ chained (view_after v word)
 zero_chained v x word answer said next =
-    ap (λ (z : ZeroStep). ended (zero_dies z) (done v word)) said
-    ∙ zero_chains (done v word) x (zero_answer word) (zero_stepped word next).agenda
+    ap (λ (z : ZeroStep). ended (zero_dies z) (view_after v word)) said
+    ∙ zero_chains (view_after v word) x (zero_answer word) (zero_stepped word next).agenda
 
 -- ---- the shared word
 
@@ -211,7 +211,7 @@ shared_by x r true false false = refl
 shared_by x r false fresh dead = refl
 
 pub shared_loaded : {v : View} {x : ℕ} {r : Reason} {rest : List Duty} (word : ℕ) → v.agenda ≡ SharedLoad x r ∷ rest
-    → HasStepped v (SharedExchange x r word ∷ rest) (done v word)
+    → HasStepped v (SharedExchange x r word ∷ rest) (view_after v word)
 shared_loaded {v} {x} {r} {rest} word next = plain_on word (plain_begins next refl) refl refl
 
 pub shared_stepped : {v : View} {x : ℕ} {r : Reason} {rest : List Duty} (word found : ℕ)

@@ -1,5 +1,5 @@
 -- What each call does to its hand's view, from the words that its steps find. A call's steps are those of the model:
--- each is the hand's next duty, which finds some word (`done`).
+-- each is the hand's next duty, which finds some word (`view_after`).
 use Rattle.std.specs.Prelude.{◌≡◌, ◌≢◌, ◌⊎◌, ◌<◌, ◌≤◌, ◌++◌, true, ℕ, ◌+◌, ◌*◌, ◌==◌, Bool, not, if◌then◌else◌, List, [], ◌∷◌, None, Some}
 use Rattle.std.specs.List.{filter}
 use Rattle.brc_word.specs.Words.{owner_part, most_local, half, local_part, is_immortal_word, free_word}
@@ -19,8 +19,8 @@ use Rattle.brc_model.specs.Layout.{none_row}
 use Rattle.brc_model.specs.declared.address.Address.TheVariants.{Local}
 use Rattle.brc_table.specs.declared.view.View.{View}
 use Rattle.brc_table.specs.declared.view.Event.{Event}
-use Rattle.brc_table.specs.Views.{done, resumed, turned, slot_filled, asking, retaining, releasing, bearing, work_about, open_work, next_row, is_given}
-use Rattle.brc_table.specs.Seen.{has_seen_kind, cell_seen}
+use Rattle.brc_table.specs.Views.{view_after, resumed, turned, slot_filled, asking, retaining, releasing, bearing, work_about, open_work, next_row, is_given}
+use Rattle.brc_table.specs.KnownWords.{knows_kind, known_cell}
 use Rattle.brc_table.specs.Hands.{HandState, MayWait, carried_of}
 use Rattle.brc_effect.specs.Outcomes.{local_answer as local_release, merge_answer}
 use Rattle.brc_effect.specs.declared.outcomes.LocalRelease.{LocalRelease}
@@ -59,7 +59,7 @@ counts_here v word = counts_locally v.thread (is_running v.status) word
 -- the hand has loaded the local word, and stored it with one less if it counts there
 abbrev pub released_locally : View → ℕ → ℕ → View
 released_locally v x word =
-    let loaded = done (releasing v x) word in if counts_here v word then done loaded word else loaded
+    let loaded = view_after (releasing v x) word in if counts_here v word then view_after loaded word else loaded
 
 -- how the release ends that has loaded it
 abbrev pub local_answer : View → ℕ → LocalRelease
@@ -67,7 +67,7 @@ local_answer v word = local_release v.thread (is_running v.status) word
 
 -- If the object dies, the hand chains it at once.
 abbrev pub chained_by : View → List Duty → View
-chained_by v (Die x ∷ rest) = done v free_word
+chained_by v (Die x ∷ rest) = view_after v free_word
 chained_by v _ = v
 
 abbrev pub chained : View → View
@@ -75,7 +75,7 @@ chained v = chained_by v v.agenda
 
 -- the hand has looked at the shared word of an object whose last local reference is gone
 abbrev pub decided : View → ℕ → ℕ → View
-decided v x word = chained (done (turned v x) word)
+decided v x word = chained (view_after (turned v x) word)
 
 -- the hand has loaded the shared word, and exchanged it if it was still the same
 abbrev pub released_shared : View → ℕ → ℕ → ℕ → View
@@ -91,7 +91,7 @@ merge_tried v word found = chained (resumed v (word ∷ found ∷ []))
 -- is merged already.
 abbrev pub merge_begun : View → ℕ → ℕ → ℕ → ℕ → View
 merge_begun v x local word found =
-    let swapped = done (turned v x) local in if local == 0 then swapped else merge_tried swapped word found
+    let swapped = view_after (turned v x) local in if local == 0 then swapped else merge_tried swapped word found
 
 abbrev pub first_answer : ℕ → ℕ → ℕ → MergeStep
 first_answer local word found = if local == 0 then merge.Kept else merge_answer (local_part local) word found
@@ -115,20 +115,20 @@ Merges r hand x = MergeIsFirst r hand x ⊎ ((carried : ℕ) × MergeIsBegun r h
 
 -- The hand has locked what it had, and knows of the locked object's slot what it knew, and of kinds and of the cells of
 -- the list that it has locked what it has seen.
-pub record KeepsSight (v u : View) : Type 0 where
+pub record KeepsKnown (v u : View) : Type 0 where
   pub locked : u.locked ≡ v.locked
   pub in_slot : u.in_slot ≡ v.in_slot
-  pub kinds : (y word : ℕ) → has_seen_kind y word v ≡ true → has_seen_kind y word u ≡ true
-  pub cells : (y i : ℕ) → v.locked ≡ Some y → cell_seen y i u ≡ cell_seen y i v
+  pub kinds : (y word : ℕ) → knows_kind y word v ≡ true → knows_kind y word u ≡ true
+  pub cells : (y i : ℕ) → v.locked ≡ Some y → known_cell y i u ≡ known_cell y i v
 
 -- ---- kinds
 
 -- The hand has loaded the row's kind word. It is the word that the hand has seen there before, if it has. If the hand
 -- has locked the object, the word says whether the object's slot has a resource. None's says that it is none.
 pub record SeesKind (x word : ℕ) (v u : View) : Type 0 where
-  pub view_is : u ≡ done (asking v x) word
-  pub seen : has_seen_kind x word u ≡ true
-  pub stays : (before : ℕ) → 0 < before → has_seen_kind x before v ≡ true → word ≡ before
+  pub view_is : u ≡ view_after (asking v x) word
+  pub seen : knows_kind x word u ≡ true
+  pub stays : (before : ℕ) → 0 < before → knows_kind x before v ≡ true → word ≡ before
   pub slot : v.locked ≡ Some x → v.in_slot ≡ resources_of word
   pub named : x ≡ none_row → word ≡ half
 
@@ -150,7 +150,7 @@ IsBornWith _ arg = ⊥
 -- the hand has stored the kind word of a new object, put its resource into its slot if the kind has one, and stored its
 -- first local word
 abbrev pub born : View → ℕ → View
-born v word = done (slot_filled (done (bearing v word) 0)) 0
+born v word = view_after (slot_filled (view_after (bearing v word) 0)) 0
 
 -- The hand has given birth to the next object of its block, and holds its only reference. Its other work and its chain
 -- are as they were.
@@ -162,7 +162,7 @@ pub record HasBorn (v u : View) : Type 0 where
   pub given : u.given ≡ v.given
   pub references : u.references ≡ next_row v ∷ v.references
   pub head : u.head ≡ v.head
-  pub sight : KeepsSight v u
+  pub sight : KeepsKnown v u
   pub waits : MayWait u.agenda
   pub work : open_work u ≡ open_work v
 
@@ -181,7 +181,7 @@ pub record HasGiven (thread : ℕ) (v u : View) : Type 0 where
   pub given : u.given ≡ thread ∷ v.given
   pub references : u.references ≡ v.references
   pub head : u.head ≡ v.head
-  pub sight : KeepsSight v u
+  pub sight : KeepsKnown v u
   pub agenda : u.agenda ≡ []
   pub aside : u.aside ≡ open_work v
 
@@ -195,7 +195,7 @@ pub record Leaves (x : ℕ) (left : List Duty) (v u : View) : Type 0 where
   pub status : u.status ≡ v.status
   pub used : u.used ≡ v.used
   pub given : u.given ≡ v.given
-  pub sight : KeepsSight v u
+  pub sight : KeepsKnown v u
   pub waits : MayWait u.agenda
   pub agenda : u.agenda ≡ left
   pub aside : u.aside ≡ filter (λ d. not (is_about x d)) (open_work v)

@@ -6,7 +6,7 @@ use Rattle.brc_model.specs.declared.duty.Duty.{Duty}
 use Rattle.brc_model.specs.declared.duty.Duty.TheVariants.{MergeSwap}
 use Rattle.brc_model.specs.declared.duty.Reason.TheVariants.{Handed}
 use Rattle.brc_table.specs.declared.view.View.{View}
-use Rattle.brc_table.specs.Views.{done}
+use Rattle.brc_table.specs.Views.{view_after}
 use Rattle.brc_effect.specs.Outcomes.{taken_answer}
 use Rattle.brc_effect.specs.declared.outcomes.Looked.{Looked}
 use Rattle.brc_effect.specs.declared.outcomes.Looked.TheVariants as looks
@@ -18,11 +18,11 @@ look_answer said found = if said == status_word Running then looks.Left else tak
 -- the hand has loaded the word of the thread of the object's block, and taken the mark back unless that thread runs
 abbrev pub looked_after : View → ℕ → ℕ → View
 looked_after v said found =
-    let saw = done v said in if said == status_word Running then saw else done saw found
+    let saw = view_after v said in if said == status_word Running then saw else view_after saw found
 
 -- the hand has set the mark before that
 abbrev pub posted : View → ℕ → ℕ → View
-posted v said found = looked_after (done v 0) said found
+posted v said found = looked_after (view_after v 0) said found
 
 -- what a look leaves: the hand that has claimed the mark merges the object
 abbrev pub look_left : ℕ → Looked → List Duty

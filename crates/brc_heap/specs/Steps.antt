@@ -6,8 +6,8 @@ use Rattle.brc_model.specs.declared.duty.Duty.{Duty}
 use Rattle.brc_model.specs.declared.duty.Duty.TheVariants.{TakeSlot}
 use Rattle.brc_model.specs.Duties.{ready}
 use Rattle.brc_table.specs.declared.view.View.{View}
-use Rattle.brc_table.specs.Seen.{has_seen_kind, cell_seen}
-use Rattle.brc_table.specs.Views.{done}
+use Rattle.brc_table.specs.KnownWords.{knows_kind, known_cell}
+use Rattle.brc_table.specs.Views.{view_after}
 
 -- What no such work changes. The hand has seen the kinds that it had seen, and of the cells of the list that it has
 -- locked what it had seen.
@@ -21,8 +21,8 @@ pub record Keeps (v u : View) : Type 0 where
   pub locked : u.locked ≡ v.locked
   pub in_slot : u.in_slot ≡ v.in_slot
   pub given : u.given ≡ v.given
-  pub kinds : (x word : ℕ) → has_seen_kind x word v ≡ true → has_seen_kind x word u ≡ true
-  pub cells : (x i : ℕ) → v.locked ≡ Some x → cell_seen x i u ≡ cell_seen x i v
+  pub kinds : (x word : ℕ) → knows_kind x word v ≡ true → knows_kind x word u ≡ true
+  pub cells : (x i : ℕ) → v.locked ≡ Some x → known_cell x i u ≡ known_cell x i v
 
 -- The first duty takes no resource out of a slot.
 abbrev pub TakesNothing : List Duty → Type 0
@@ -31,8 +31,8 @@ TakesNothing _ = Unit {0}
 
 -- The hand has done duty after duty, none of which takes a resource out of a slot.
 pub data Steps (v : View) : View → Type 0 where
-  Begun : Steps v v
-  Next : (u : View) (found : ℕ) → Steps v u → TakesNothing u.agenda → Steps v (done u found)
+  Refl : Steps v v
+  Next : (u : View) (found : ℕ) → Steps v u → TakesNothing u.agenda → Steps v (view_after u found)
 
 -- The hand has done so, and these duties are left, but for those that need no step.
 pub record HasStepped (v : View) (ds : List Duty) (u : View) : Type 0 where
@@ -42,4 +42,4 @@ pub record HasStepped (v : View) (ds : List Duty) (u : View) : Type 0 where
 
 -- If the object dies, the hand has chained it.
 abbrev pub ended : Bool → View → View
-ended dies v = if dies then done v free_word else v
+ended dies v = if dies then view_after v free_word else v

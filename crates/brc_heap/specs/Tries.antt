@@ -7,7 +7,7 @@ use Rattle.brc_model.specs.declared.duty.Reason.{Reason}
 use Rattle.brc_model.specs.declared.duty.Duty.TheVariants.{ReleaseLoad, DecideAtZero, SharedLoad, SetMark, Look, MergeSwap, MergeLoad}
 use Rattle.brc_model.specs.Duties.{once_merged}
 use Rattle.brc_table.specs.declared.view.View.{View}
-use Rattle.brc_table.specs.Views.{done}
+use Rattle.brc_table.specs.Views.{view_after}
 use Rattle.brc_effect.specs.declared.outcomes.ZeroStep.{ZeroStep}
 use Rattle.brc_effect.specs.declared.outcomes.ZeroStep.TheVariants as zero_step
 use Rattle.brc_effect.specs.declared.outcomes.SharedRelease.{SharedRelease}
@@ -23,7 +23,7 @@ pub record LoadedLocal (x word : ℕ) (v u : View) : Type 0 where
   pub holding : Holding
   pub rest : List Duty
   pub next : v.agenda ≡ ReleaseLoad x holding ∷ rest
-  pub is : u ≡ done v word
+  pub is : u ≡ view_after v word
 
 -- The first duty is to decide what becomes of the object of row x, whose last local reference is gone.
 pub record DecidesNext (x : ℕ) (ds : List Duty) : Type 0 where
@@ -62,7 +62,7 @@ pub record LooksNext (x : ℕ) (ds : List Duty) : Type 0 where
 
 -- the hand has stored the local word that it loaded with one less, if it counts there and the object isn't immortal
 abbrev pub lowered : View → ℕ → View
-lowered v word = if is_immortal_word word then v else if counts_here v word then done v word else v
+lowered v word = if is_immortal_word word then v else if counts_here v word then view_after v word else v
 
 -- Says whether the object dies, so that the hand chains it at once.
 abbrev pub zero_dies : ZeroStep → Bool

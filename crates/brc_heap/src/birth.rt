@@ -9,7 +9,7 @@ ghost use Rattle.brc_model.specs.Limits.{cell_limit};
 ghost use Rattle.brc_model.specs.Machine.{has_room};
 ghost use Rattle.brc_table.specs.Homes.{resources};
 ghost use Rattle.brc_table.specs.Views.{next_row};
-ghost use Rattle.brc_table.specs.Seen.{has_seen_kind};
+ghost use Rattle.brc_table.specs.KnownWords.{knows_kind};
 ghost use Rattle.brc_table.specs.Hands.{IsOf, IsRunning};
 ghost use Rattle.brc_heap.specs.Calls.{kind_word, IsBornWith, born, HasBorn};
 
@@ -50,7 +50,7 @@ impl<T: Drop> Heap<T> {
         ensures slots { hand.new.slots ≡ hand.old.slots }
         ensures events { hand.new.view ≡ born hand.old.view (kind_word kind arg) }
         ensures born { HasBorn hand.old.view hand.new.view }
-        ensures seen { has_seen_kind result (kind_word kind arg) hand.new.view ≡ true }
+        ensures seen { knows_kind result (kind_word kind arg) hand.new.view ≡ true }
     {
         hand.rows_are_there();
         self.words().layout_is_plain();

@@ -6,7 +6,7 @@ ghost use Rattle.brc_model.specs.declared.actor.Status.TheVariants.{Gone};
 ghost use Rattle.brc_model.specs.declared.duty.Duty.{Duty};
 ghost use Rattle.brc_model.specs.declared.duty.Duty.TheVariants.{Die};
 ghost use Rattle.brc_table.specs.declared.view.View.{View};
-ghost use Rattle.brc_table.specs.Views.{done};
+ghost use Rattle.brc_table.specs.Views.{view_after};
 ghost use Rattle.brc_table.specs.Hands.{IsOf};
 ghost use Rattle.brc_heap.specs.Steps.{HasStepped};
 
@@ -24,7 +24,7 @@ impl<T: Drop> Heap<T> {
         ensures table { hand.new.table ≡ hand.old.table }
         ensures carried { hand.new.carried ≡ hand.old.carried }
         ensures slots { hand.new.slots ≡ hand.old.slots }
-        ensures view { hand.new.view ≡ done hand.old.view free_word }
+        ensures view { hand.new.view ≡ view_after hand.old.view free_word }
         ensures stepped { (v : View) (rest : List Duty) → HasStepped v (Die row ∷ rest) hand.old.view
             → HasStepped v rest hand.new.view }
     {

@@ -3,9 +3,9 @@
 ghost use Rattle.std.specs.Prelude.{◌≡◌, ◌<◌, [], ℕ, true};
 ghost use Rattle.brc_word.specs.Words.{argument_part};
 ghost use Rattle.brc_model.specs.Kinds.{kind_numbered, kind_of_word};
-ghost use Rattle.brc_table.specs.Views.{done, asking};
-ghost use Rattle.brc_table.specs.Seen.{has_seen_kind};
-ghost use Rattle.brc_table.specs.Hands.{IsOf, IsRunning, MayLook, HasNoWork};
+ghost use Rattle.brc_table.specs.Views.{view_after, asking};
+ghost use Rattle.brc_table.specs.KnownWords.{knows_kind};
+ghost use Rattle.brc_table.specs.Hands.{IsOf, IsRunning, MayRead, HasNoWork};
 ghost use Rattle.brc_heap.specs.Calls.{Leaves, SeesKind};
 
 use crate::heap::Heap;
@@ -35,7 +35,7 @@ impl<T: Drop> Heap<T> {
     pub fn kind_of(&self, hand: &mut Hand<T>, row: u32) -> Kind
         requires table { IsOf self.now hand.old }
         requires running { IsRunning hand.old.view }
-        requires usable { MayLook hand.old.view row }
+        requires usable { MayRead hand.old.view row }
         requires idle { HasNoWork hand.old.view row }
         ensures table { IsOf self.now hand.new }
         ensures carried { hand.new.carried ≡ hand.old.carried }
@@ -54,7 +54,7 @@ impl<T: Drop> Heap<T> {
     pub fn arg_of(&self, hand: &mut Hand<T>, row: u32) -> u32
         requires table { IsOf self.now hand.old }
         requires running { IsRunning hand.old.view }
-        requires usable { MayLook hand.old.view row }
+        requires usable { MayRead hand.old.view row }
         requires idle { HasNoWork hand.old.view row }
         ensures table { IsOf self.now hand.new }
         ensures carried { hand.new.carried ≡ hand.old.carried }

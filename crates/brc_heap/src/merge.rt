@@ -7,7 +7,7 @@ ghost use Rattle.brc_model.specs.declared.duty.Reason.{Reason};
 ghost use Rattle.brc_model.specs.declared.duty.Reason.TheVariants.{Own};
 ghost use Rattle.brc_model.specs.declared.duty.Duty.TheVariants.{MergeSwap, MergeLoad};
 ghost use Rattle.brc_table.specs.Turns.{MayGoOn, turned_to};
-ghost use Rattle.brc_table.specs.Views.{done, resumed, turned, work_about};
+ghost use Rattle.brc_table.specs.Views.{view_after, resumed, turned, work_about};
 ghost use Rattle.brc_table.specs.Hands.{IsOf, carried_of};
 ghost use Rattle.brc_table.specs.Calls.{CanAct};
 ghost use Rattle.brc_heap.specs.Steps.{HasStepped, ended};
@@ -125,7 +125,7 @@ impl<T: Drop> Heap<T> {
         ensures carried { hand.new.carried ≡ hand.old.carried }
         ensures slots { hand.new.slots ≡ hand.old.slots }
         ensures events { (local : ℕ) × (result ≡ carries_of local)
-            × (hand.new.view ≡ done (turned_to work hand.old.view row) local) }
+            × (hand.new.view ≡ view_after (turned_to work hand.old.view row) local) }
         ensures left { (r : Reason) (rest : List Duty)
             → (turned_to work hand.old.view row).agenda ≡ MergeSwap row r ∷ rest
             → HasStepped (turned_to work hand.old.view row) (swap_left row r result ++ rest) hand.new.view }

@@ -11,7 +11,7 @@ ghost use Rattle.brc_word.specs.Words.{owner_part, local_part};
 ghost use Rattle.brc_model.specs.Layout.{block_of};
 ghost use Rattle.brc_model.specs.Within.{OwnerFits};
 ghost use Rattle.brc_table.specs.declared.view.View.{View};
-ghost use Rattle.brc_table.specs.Views.{done, resumed, releasing, without_reference, work_about};
+ghost use Rattle.brc_table.specs.Views.{view_after, resumed, releasing, without_reference, work_about};
 ghost use Rattle.brc_table.specs.Turns.{MayGoOn, turned_to};
 ghost use Rattle.brc_table.specs.Hands.{IsOf, IsRunning, HoldsOne, KeepsLock, HasNoWork};
 ghost use Rattle.brc_table.specs.Calls.{CanAct};
@@ -71,7 +71,7 @@ impl<T: Drop> Heap<T> {
         ensures answer { result ≡ local_answer hand.old.view word }
         ensures view { hand.new.view ≡ lowered hand.old.view word }
         ensures left { (v : View) (holding : Holding) (rest : List Duty) → v.agenda ≡ ReleaseLoad row holding ∷ rest
-            → hand.old.view ≡ done v word → HasStepped v (local_left row result ++ rest) hand.new.view }
+            → hand.old.view ≡ view_after v word → HasStepped v (local_left row result ++ rest) hand.new.view }
     {
         let release = local_release(word, hand.thread(), hand.is_running());
         match release {
@@ -114,7 +114,7 @@ impl<T: Drop> Heap<T> {
         ensures carried { hand.new.carried ≡ hand.old.carried }
         ensures slots { hand.new.slots ≡ hand.old.slots }
         ensures events { (word : ℕ) × (result ≡ zero_answer word)
-            × (hand.new.view ≡ ended (zero_dies result) (done (turned_to work hand.old.view row) word)) }
+            × (hand.new.view ≡ ended (zero_dies result) (view_after (turned_to work hand.old.view row) word)) }
         ensures left { (rest : List Duty) → (turned_to work hand.old.view row).agenda ≡ DecideAtZero row ∷ rest
             → HasStepped (turned_to work hand.old.view row) (zero_left row result ++ rest) hand.new.view }
     {

@@ -11,7 +11,7 @@ use Rattle.brc_model.specs.declared.actor.Status.TheVariants.{Running, Gone}
 use Rattle.brc_model.specs.Machine.{status_by}
 use Rattle.brc_model.specs.Duties.{ready, claimed, once_merged, merge_result}
 use Rattle.brc_table.specs.declared.view.View.{View}
-use Rattle.brc_table.specs.Views.{did, done, claiming}
+use Rattle.brc_table.specs.Views.{view_by, view_after, claiming}
 
 -- The hand runs, and this is what it has to do.
 pub record Works (v : View) (work : List Duty) : Type 0 where
@@ -23,12 +23,12 @@ never_gone works = λ gone. absurd (let e : Running ≡ Gone = sym works.status 
 
 -- A step leaves a running hand with what comes next.
 works_next : (v : View) (d : Duty) (rest : List Duty) (found : ℕ) (work : List Duty) → Works v (d ∷ rest)
-    → status_by Running d ≡ Running → (did v (d ∷ rest) found).agenda ≡ work → Works (done v found) work
+    → status_by Running d ≡ Running → (view_by v (d ∷ rest) found).agenda ≡ work → Works (view_after v found) work
 works_next v d rest found work works quiet next = record {
   status =
-      ap (λ (ds : List Duty). (did v ds found).status) works.agenda
+      ap (λ (ds : List Duty). (view_by v ds found).status) works.agenda
       ∙ (ap (λ (s : Status). status_by s d) works.status ∙ quiet);
-  agenda = ap (λ (ds : List Duty). (did v ds found).agenda) works.agenda ∙ next;
+  agenda = ap (λ (ds : List Duty). (view_by v ds found).agenda) works.agenda ∙ next;
 }
 
 claim_by : (head x : ℕ) → ready head ((claimed x 1 ++ Settle ∷ []) ++ []) ≡ MergeSwap x Handed ∷ Settle ∷ []
@@ -37,9 +37,9 @@ claim_by (suc head) x = refl
 
 -- The claim of a set mark leaves the merge to be done.
 pub claim_next : (v : View) (x found : ℕ) → v.status ≡ Running → found ≡ 1
-    → Works (done (claiming v x) found) (MergeSwap x Handed ∷ Settle ∷ [])
+    → Works (view_after (claiming v x) found) (MergeSwap x Handed ∷ Settle ∷ [])
 claim_next v x found running set =
-    subst (λ (f : ℕ). Works (done (claiming v x) f) (MergeSwap x Handed ∷ Settle ∷ [])) (sym set)
+    subst (λ (f : ℕ). Works (view_after (claiming v x) f) (MergeSwap x Handed ∷ Settle ∷ [])) (sym set)
     (record { status = running; agenda = claim_by v.head x })
 
 swap_by : (head x local : ℕ) (rest : List Duty) (none : Bool) → none ≡ false
@@ -50,7 +50,7 @@ swap_by zero x local rest false some = refl
 swap_by (suc head) x local rest false some = refl
 
 pub swap_next : (v : View) (x local : ℕ) (rest : List Duty) → Works v (MergeSwap x Handed ∷ rest)
-    → (local == 0) ≡ false → Works (done v local) (MergeLoad x (local_part local) Handed ∷ rest)
+    → (local == 0) ≡ false → Works (view_after v local) (MergeLoad x (local_part local) Handed ∷ rest)
 swap_next v x local rest works some =
     works_next v (MergeSwap x Handed) rest local (MergeLoad x (local_part local) Handed ∷ rest) works refl
     (swap_by v.head x local rest (local == 0) some)
@@ -61,7 +61,7 @@ load_by zero x c word rest = refl
 load_by (suc head) x c word rest = refl
 
 pub load_next : (v : View) (x c word : ℕ) (rest : List Duty) → Works v (MergeLoad x c Handed ∷ rest)
-    → Works (done v word) (MergeExchange x c word Handed ∷ rest)
+    → Works (view_after v word) (MergeExchange x c word Handed ∷ rest)
 load_next v x c word rest works =
     works_next v (MergeLoad x c Handed) rest word (MergeExchange x c word Handed ∷ rest) works refl
     (load_by v.head x c word rest)
@@ -75,7 +75,7 @@ won_by (suc head) x c word rest true is = refl
 
 -- The merge that wins leaves the handed reference to be given up.
 pub won_next : (v : View) (x c word found : ℕ) (rest : List Duty) → Works v (MergeExchange x c word Handed ∷ rest)
-    → found ≡ word → Works (done v found) (SharedLoad x Handed ∷ rest)
+    → found ≡ word → Works (view_after v found) (SharedLoad x Handed ∷ rest)
 won_next v x c word found rest works won =
     works_next v (MergeExchange x c word Handed) rest found (SharedLoad x Handed ∷ rest) works refl
     (won_by v.head x c word rest (found == word) (eq-eqb found word won))
@@ -86,7 +86,7 @@ shared_by zero x word rest = refl
 shared_by (suc head) x word rest = refl
 
 pub shared_next : (v : View) (x word : ℕ) (rest : List Duty) → Works v (SharedLoad x Handed ∷ rest)
-    → Works (done v word) (SharedExchange x Handed word ∷ rest)
+    → Works (view_after v word) (SharedExchange x Handed word ∷ rest)
 shared_next v x word rest works =
     works_next v (SharedLoad x Handed) rest word (SharedExchange x Handed word ∷ rest) works refl
     (shared_by v.head x word rest)
@@ -98,22 +98,22 @@ moved {v} {u} {work} same works = subst (λ (w : View). Works w work) (sym same)
 
 -- After the swap the shared word is to be loaded.
 pub at_load : (v one two : View) (x set local : ℕ) → v.status ≡ Running → set ≡ 1
-    → one ≡ done (claiming v x) set → (local == 0) ≡ false → two ≡ done one local
+    → one ≡ view_after (claiming v x) set → (local == 0) ≡ false → two ≡ view_after one local
     → Works two (MergeLoad x (local_part local) Handed ∷ Settle ∷ [])
 at_load v one two x set local running is first some second =
     moved second (swap_next one x local (Settle ∷ []) (moved first (claim_next v x set running is)) some)
 
 -- After the load it is to be exchanged, and after an exchange that wins the handed reference is given up.
 pub at_exchange : (two three : View) (x c word : ℕ) → Works two (MergeLoad x c Handed ∷ Settle ∷ [])
-    → three ≡ done two word → Works three (MergeExchange x c word Handed ∷ Settle ∷ [])
+    → three ≡ view_after two word → Works three (MergeExchange x c word Handed ∷ Settle ∷ [])
 at_exchange two three x c word works third = moved third (load_next two x c word (Settle ∷ []) works)
 
 pub at_release : (three four : View) (x c word found : ℕ)
-    → Works three (MergeExchange x c word Handed ∷ Settle ∷ []) → found ≡ word → four ≡ done three found
+    → Works three (MergeExchange x c word Handed ∷ Settle ∷ []) → found ≡ word → four ≡ view_after three found
     → Works four (SharedLoad x Handed ∷ Settle ∷ [])
 at_release three four x c word found works won fourth =
     moved fourth (won_next three x c word found (Settle ∷ []) works won)
 
 pub at_last : (four five : View) (x word : ℕ) → Works four (SharedLoad x Handed ∷ Settle ∷ [])
-    → five ≡ done four word → Works five (SharedExchange x Handed word ∷ Settle ∷ [])
+    → five ≡ view_after four word → Works five (SharedExchange x Handed word ∷ Settle ∷ [])
 at_last four five x word works fifth = moved fifth (shared_next four x word (Settle ∷ []) works)

@@ -9,7 +9,7 @@ use Rattle.brc_model.specs.Duties.{ready}
 use Rattle.brc_model.specs.OpenWork.{is_about}
 use Rattle.brc_table.specs.Hands.{MayWait}
 use Rattle.brc_table.specs.declared.view.View.{View}
-use Rattle.brc_table.specs.Views.{open_work, work_about, turned, did, done}
+use Rattle.brc_table.specs.Views.{open_work, work_about, turned, view_by, view_after}
 use Rattle.brc_table.specs.Accesses.{IsNext}
 use Rattle.brc_table.specs.Calls.{CanAct}
 
@@ -31,22 +31,22 @@ look_ready zero x = refl
 look_ready (suc head) x = refl
 
 -- The hand's work about the row is then to look.
-looks_next : (v : View) (x : ℕ) → work_about x v ≡ SetMark x ∷ [] → work_about x (done (turned v x) 0) ≡ Look x ∷ []
+looks_next : (v : View) (x : ℕ) → work_about x v ≡ SetMark x ∷ [] → work_about x (view_after (turned v x) 0) ≡ Look x ∷ []
 looks_next v x is =
     let others = filter (λ d. not (is_about x d)) (open_work v) in
-    ap (λ (ds : List Duty). work_about x (did (turned v x) ds 0)) is
+    ap (λ (ds : List Duty). work_about x (view_by (turned v x) ds 0)) is
     ∙ (ap (λ (ds : List Duty). filter (is_about x) (ds ++ others)) (look_ready v.head x)
     ∙ (ap (λ (b : Bool). cond b (Look x ∷ filter (is_about x) others) (filter (is_about x) others)) (eq-eqb x x refl)
     ∙ ap (λ (ds : List Duty). Look x ∷ ds) (none_left (is_about x) (open_work v))))
 
-pub looks : (v u : View) (x : ℕ) → work_about x v ≡ SetMark x ∷ [] → u ≡ done (turned v x) 0
+pub looks : (v u : View) (x : ℕ) → work_about x v ≡ SetMark x ∷ [] → u ≡ view_after (turned v x) 0
     → IsNext (Look x) (work_about x u)
 looks v u x is after =
     subst (λ (w : View). IsNext (Look x) (work_about x w)) (sym after)
     (subst (IsNext (Look x)) (sym (looks_next v x is)) refl)
 
-pub still_marks : (v u : View) (x : ℕ) → CanAct v → work_about x v ≡ SetMark x ∷ [] → u ≡ done (turned v x) 0
+pub still_marks : (v u : View) (x : ℕ) → CanAct v → work_about x v ≡ SetMark x ∷ [] → u ≡ view_after (turned v x) 0
     → CanAct u
 still_marks v u x acts is after =
-    subst CanAct (sym after) (subst (λ (ds : List Duty). CanAct (did (turned v x) ds 0)) (sym is)
+    subst CanAct (sym after) (subst (λ (ds : List Duty). CanAct (view_by (turned v x) ds 0)) (sym is)
     (acts.0, subst MayWait (sym (look_ready v.head x)) refl))

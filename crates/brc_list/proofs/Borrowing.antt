@@ -8,8 +8,8 @@ use Rattle.brc_model.specs.Layout.{row_count}
 use Rattle.brc_model.specs.Machine.{same_address}
 use Rattle.brc_table.specs.declared.view.View.{View}
 use Rattle.brc_table.specs.declared.view.Event.{Event}
-use Rattle.brc_table.specs.Views.{done, loading_cell}
-use Rattle.brc_table.specs.Seen.{cell_known}
+use Rattle.brc_table.specs.Views.{view_after, loading_cell}
+use Rattle.brc_table.specs.KnownWords.{cell_known}
 use Rattle.brc_table.specs.Hands.{Borrows}
 
 -- A step on the cell shows what it left there.
@@ -24,7 +24,7 @@ same_cell list cell =
 
 -- The hand has loaded the cell, which has the item.
 pub item_borrowed : (v : View) (list cell x : ℕ) → v.locked ≡ Some list → suc x ≤ row_count v.layout
-    → Borrows (done (loading_cell v list cell) (suc x)) x
+    → Borrows (view_after (loading_cell v list cell) (suc x)) x
 item_borrowed v list cell x locked there =
     let event : Event = record { address = Cell list cell; found = suc x; left = suc x } in
     record {

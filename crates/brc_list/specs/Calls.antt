@@ -4,8 +4,8 @@ use Rattle.brc_model.specs.declared.duty.Duty.{Duty}
 use Rattle.brc_model.specs.declared.duty.Duty.TheVariants.{TakeSlot}
 use Rattle.brc_model.specs.Layout.{row_count}
 use Rattle.brc_table.specs.declared.view.View.{View}
-use Rattle.brc_table.specs.Views.{done, open_work, loading_cell}
-use Rattle.brc_table.specs.Seen.{has_seen_kind, cell_seen}
+use Rattle.brc_table.specs.Views.{view_after, open_work, loading_cell}
+use Rattle.brc_table.specs.KnownWords.{knows_kind, known_cell}
 use Rattle.brc_table.specs.Swaps.{swapped, with_item, without_item}
 use Rattle.brc_table.specs.Hands.{MayWait}
 
@@ -23,7 +23,7 @@ pub record Keeps (v u : View) : Type 0 where
   pub taken_slot : u.in_slot ≡ v.in_slot
   pub waits : MayWait u.agenda
   pub work : open_work u ≡ open_work v
-  pub kinds : (y word : ℕ) → has_seen_kind y word v ≡ true → has_seen_kind y word u ≡ true
+  pub kinds : (y word : ℕ) → knows_kind y word v ≡ true → knows_kind y word u ≡ true
 
 -- The first duty is to take the resource of the dying row's object out of its slot.
 abbrev pub TakesSlot : ℕ → List Duty → Type 0
@@ -55,11 +55,11 @@ KeepsButSlot v u = Keeps (record v { in_slot = u.in_slot }) u
 -- The hand has loaded the list's cell. It has what the hand last saw or stored there since it locked or chained the
 -- list, if it did, and now the hand has seen it. What it has seen of the other cells is as before.
 pub record SeesItem (x cell word : ℕ) (v u : View) : Type 0 where
-  pub view_is : u ≡ done (loading_cell v x cell) word
+  pub view_is : u ≡ view_after (loading_cell v x cell) word
   pub there : word ≤ row_count v.layout
-  pub stays : (before : ℕ) → cell_seen x cell v ≡ Some before → word ≡ before
-  pub seen : cell_seen x cell u ≡ Some word
-  pub others : (i : ℕ) → i ≢ cell → cell_seen x i u ≡ cell_seen x i v
+  pub stays : (before : ℕ) → known_cell x cell v ≡ Some before → word ≡ before
+  pub seen : known_cell x cell u ≡ Some word
+  pub others : (i : ℕ) → i ≢ cell → known_cell x i u ≡ known_cell x i v
 
 -- The hand has put the word into the list's cell. It finds what it last saw or stored there, and now it has seen the
 -- new word. The reference to the item that was in the cell is its own, and that to the new item is the cell's. What it
@@ -67,7 +67,7 @@ pub record SeesItem (x cell word : ℕ) (v u : View) : Type 0 where
 pub record SwapsItem (x cell word found : ℕ) (v u : View) : Type 0 where
   pub view_is : u ≡ swapped v x cell word found
   pub there : found ≤ row_count v.layout
-  pub stays : (before : ℕ) → cell_seen x cell v ≡ Some before → found ≡ before
-  pub seen : cell_seen x cell u ≡ Some word
-  pub others : (i : ℕ) → i ≢ cell → cell_seen x i u ≡ cell_seen x i v
+  pub stays : (before : ℕ) → known_cell x cell v ≡ Some before → found ≡ before
+  pub seen : known_cell x cell u ≡ Some word
+  pub others : (i : ℕ) → i ≢ cell → known_cell x i u ≡ known_cell x i v
   pub references : u.references ≡ with_item v.layout found (without_item v.layout word v.references)

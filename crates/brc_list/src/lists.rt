@@ -4,12 +4,12 @@ ghost use Rattle.std.specs.Prelude.{◌≡◌, ◌<◌, ◌==◌, if◌then◌el
 ghost use Rattle.brc_word.specs.Words.{free_word};
 ghost use Rattle.brc_model.specs.Duties.{cells_of, resources_of};
 ghost use Rattle.brc_model.specs.Layout.{IsCounted};
-ghost use Rattle.brc_table.specs.Views.{done, asking, locking, unlocking};
+ghost use Rattle.brc_table.specs.Views.{view_after, asking, locking, unlocking};
 ghost use Rattle.brc_table.specs.Plays.{overwritten};
-ghost use Rattle.brc_table.specs.Seen.{has_seen_kind, KnowsCell};
+ghost use Rattle.brc_table.specs.KnownWords.{knows_kind, KnowsCell};
 ghost use Rattle.brc_table.specs.Swaps.{MayPut};
 ghost use Rattle.brc_table.specs.Uses.{FirstSlot, behind_slot};
-ghost use Rattle.brc_table.specs.Hands.{most_references, IsOf, IsRunning, HoldsOne, Borrows, MayLook, MayLoad, MayChange, HasNoWork, HasNoRetain};
+ghost use Rattle.brc_table.specs.Hands.{most_references, IsOf, IsRunning, HoldsOne, Borrows, MayRead, MayLoad, MayChange, HasNoWork, HasNoRetain};
 ghost use Rattle.brc_list.specs.Calls.{Keeps, KeepsBesides, KeepsButSlot, SeesItem, SwapsItem, HasSlot, row_in, word_of};
 
 use brc_heap::{Hand, Heap};
@@ -59,8 +59,8 @@ impl<'h, T: Drop> Lists<'h, T> {
         ensures slots { hand.new.slots
             ≡ (if result then (row, hand.new.view.in_slot) ∷ hand.old.slots else hand.old.slots) }
         ensures kind { (word : ℕ) → result ≡ true → 0 < word
-            → has_seen_kind row word hand.old.view ≡ true → hand.new.view.in_slot ≡ resources_of word }
-        ensures events { (found : ℕ) × (hand.new.view ≡ done (locking hand.old.view row hand.new.view.in_slot) found)
+            → knows_kind row word hand.old.view ≡ true → hand.new.view.in_slot ≡ resources_of word }
+        ensures events { (found : ℕ) × (hand.new.view ≡ view_after (locking hand.old.view row hand.new.view.in_slot) found)
             × (result ≡ (found == free_word)) }
         ensures locked { hand.new.view.locked ≡ (if result then Some row else None) }
         ensures keeps { KeepsButSlot hand.old.view hand.new.view }
@@ -82,7 +82,7 @@ impl<'h, T: Drop> Lists<'h, T> {
         ensures carried { hand.new.carried ≡ hand.old.carried }
         ensures slots { hand.new.slots ≡ behind_slot hand.old.slots }
         ensures events { hand.new.view
-            ≡ done (unlocking hand.old.view row) (overwritten (unlocking hand.old.view row)) }
+            ≡ view_after (unlocking hand.old.view row) (overwritten (unlocking hand.old.view row)) }
         ensures unlocked { hand.new.view.locked ≡ None }
         ensures keeps { Keeps hand.old.view hand.new.view }
     {
@@ -94,13 +94,13 @@ impl<'h, T: Drop> Lists<'h, T> {
     pub fn size(&self, hand: &mut Hand<T>, row: u32) -> u32
         requires table { IsOf self.now hand.old }
         requires running { IsRunning hand.old.view }
-        requires usable { MayLook hand.old.view row }
+        requires usable { MayRead hand.old.view row }
         requires idle { HasNoWork hand.old.view row }
         ensures table { IsOf self.now hand.new }
         ensures carried { hand.new.carried ≡ hand.old.carried }
         ensures slots { hand.new.slots ≡ hand.old.slots }
-        ensures events { (word : ℕ) × (hand.new.view ≡ done (asking hand.old.view row) word)
-            × (result ≡ cells_of word) × ((before : ℕ) → 0 < before → has_seen_kind row before hand.old.view ≡ true
+        ensures events { (word : ℕ) × (hand.new.view ≡ view_after (asking hand.old.view row) word)
+            × (result ≡ cells_of word) × ((before : ℕ) → 0 < before → knows_kind row before hand.old.view ≡ true
             → word ≡ before) }
         ensures cells { (i : ℕ) → i < result → KnowsCell hand.new.view row i }
         ensures locked { hand.new.view.locked ≡ hand.old.view.locked }

@@ -6,10 +6,10 @@
 -- `Stopped` (what a thread holds that has stopped), `Coded` (a thread's lock and account are those of its place),
 -- `Decided` (the place that a word found or an exit decides), `Kinds`, `KindsLeft` and `KindsActions` (instruction by
 -- instruction, variables have the kinds that the checker says), `Items`, `ItemsUsed`, `ItemsLeft` and `ItemsActions`
--- (instruction by instruction, what is borrowed is in the locked list), `Begins` (what a thread takes up), `Lockable`
+-- (instruction by instruction, what is borrowed is in the locked list), `TakingUp` (what a thread takes up), `Lockable`
 -- and `Standing` (what it knows at an instruction), `TakingSilent`, `TakingBirths`, `TakingLocks`, `TakingKinds`,
 -- `TakingItems`, `TakingInside`, `TakingHost`, `TakingStores`, `TakingStops` and `Taking` (instruction by instruction,
--- and after a stop), `Begun` and `TakenSits`, `Counting` (the counting machine below), `ActionsFit` and `Actions`,
+-- and after a stop), `TakenUp` and `TakenSits`, `Counting` (the counting machine below), `ActionsFit` and `Actions`,
 -- which has the
 -- theorem, and `Fit` (an instruction has what it needs).
 
@@ -31,7 +31,7 @@ pub mod Items
 pub mod ItemsUsed
 pub mod ItemsLeft
 pub mod ItemsActions
-pub mod Begins
+pub mod TakingUp
 pub mod Lockable
 pub mod Standing
 pub mod TakingSilent
@@ -44,7 +44,7 @@ pub mod TakingHost
 pub mod TakingStores
 pub mod TakingStops
 pub mod Taking
-pub mod Begun
+pub mod TakenUp
 pub mod TakenSits
 pub mod Counting
 pub mod ActionsFit

@@ -6,14 +6,14 @@ use Rattle.brc_lang.specs.declared.module.Function.{Function}
 use Rattle.brc_word.specs.Words.{half, free_word}
 use Rattle.brc_model.specs.declared.thread.Choice.{Choice}
 use Rattle.brc_model.specs.declared.thread.Choice.TheVariants.{Ok, Fault, Claim, Stop}
-use Rattle.brc_model.specs.declared.slot.Exit.{Exit}
-use Rattle.brc_model.specs.declared.slot.Exit.TheVariants.{Success, Fault as FaultExit}
+use Rattle.brc_model.specs.declared.state.Exit.{Exit}
+use Rattle.brc_model.specs.declared.state.Exit.TheVariants.{Success, Fault as FaultExit}
 use Rattle.brc_model.specs.declared.actor.Status.{Status}
 use Rattle.brc_model.specs.declared.actor.Status.TheVariants.{Running, Leaving, Gone}
 use Rattle.brc_model.specs.declared.actor.Context.{Context}
 use Rattle.brc_model.specs.declared.actor.Place.{Place}
 use Rattle.brc_model.specs.declared.actor.Place.TheVariants.{Idle, InCall, Inside, Stopping, Exiting}
-use Rattle.brc_model.specs.declared.slot.State.{State}
+use Rattle.brc_model.specs.declared.state.State.{State}
 use Rattle.brc_model.specs.declared.actor.Stage.{Stage}
 use Rattle.brc_model.specs.declared.actor.Stage.TheVariants.{InRange, OutOfRange, Found, Retained, Loaded, Lent, Called, Granted}
 use Rattle.brc_model.specs.declared.duty.Holding.{Holding}
@@ -56,8 +56,8 @@ abbrev pub turns_at : Context → ℕ → ℕ
 turns_at context at = slice_index_or context.turns at 0
 
 -- the context after the instruction `again` at the point has gone back once more
-abbrev pub turned : Context → ℕ → Context
-turned context at = record {
+abbrev pub with_turn : Context → ℕ → Context
+with_turn context at = record {
   left = context.left;
   turns = slice_set context.turns at (turns_at context at + 1);
   outer = context.outer;
@@ -67,7 +67,7 @@ turned context at = record {
 -- past it
 abbrev pub again_place : Context → ℕ → List (Option ℕ) → ℕ → ℕ → Place
 again_place context at variables to times =
-    if nat_lt (turns_at context at) times then InCall (turned context at) to variables
+    if nat_lt (turns_at context at) times then InCall (with_turn context at) to variables
     else InCall context (at + 1) variables
 
 -- the kind words of a file and of a socket
@@ -192,7 +192,7 @@ dispatch_instruction layout t used before context at variables (Some Fail) = Sil
 -- Returns what a thread does inside an instruction that takes several steps, by how far it is. An item is borrowed as
 -- it is found, or fetched with a reference of its own. A stored item's reference is the variable's (`set`), or a new
 -- one (`put`); the item that stood in the cell is released. (Python/C API manual, List Objects.) What the host grants
--- becomes an object. A resource is out of its slot while a call of the host uses it, and goes back however the call
+-- becomes an object. A resource is out of its state of a variable while a call of the host uses it, and goes back however the call
 -- ends.
 abbrev pub dispatch_inside : Layout → ℕ → ℕ → Context → ℕ → List (Option ℕ) → Stage → Option Instr → Action
 dispatch_inside layout t used context at variables InRange (Some (Borrow to list index otherwise)) =

@@ -17,7 +17,7 @@ use Rattle.brc_model.specs.Moves.{gain}
 use Rattle.brc_model.specs.Layout.{row_count, row_at, block_of, is_immortal_row, IsCounted}
 use Rattle.brc_model.specs.Limits.{cell_limit}
 use Rattle.brc_model.specs.declared.actor.Actor.{Actor}
-use Rattle.brc_model.specs.Machine.{Machine, Unborn, has_room, is_running, used_by, with_actor, with_moves, done_by}
+use Rattle.brc_model.specs.Machine.{Machine, Unborn, has_room, is_running, used_by, with_actor, with_moves, machine_by_duty}
 use Rattle.brc_model.specs.BadDuties.{is_bad_duty}
 use Rattle.brc_model.specs.Accounts.{Accounts, HoldsNone, most_lent}
 use Rattle.brc_model.specs.OpenWork.{exits, finalised, may_wait}
@@ -38,7 +38,7 @@ pub record ComesNext (m : Machine) (t : ℕ) (a : Actor) (d : Duty) (rest : List
 -- Doing a thread's next duty isn't bad, and keeps the invariant.
 abbrev pub DutiesAreKept : Type 0
 DutiesAreKept = (p : Accounts) (n : ℕ) (m : Machine) (t : ℕ) (a : Actor) (d : Duty) (rest : List Duty) → Counts p n m
-    → ComesNext m t a d rest → (is_bad_duty m t a d ≡ false) × Counts p n (done_by m t a d rest)
+    → ComesNext m t a d rest → (is_bad_duty m t a d ≡ false) × Counts p n (machine_by_duty m t a d rest)
 
 -- What a thread can rely on at its next duty: the word is there, the value found suits the duty, and a store knows the
 -- value that it overwrites.

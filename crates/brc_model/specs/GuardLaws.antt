@@ -8,7 +8,7 @@ use Rattle.brc_model.specs.declared.address.Address.TheVariants.{Local, Gate, Ma
 use Rattle.brc_model.specs.Layout.{block_of}
 use Rattle.brc_model.specs.Duties.{address_of}
 use Rattle.brc_model.specs.declared.actor.Actor.{Actor}
-use Rattle.brc_model.specs.Machine.{Machine, Unborn, Dying, same_address, done_by}
+use Rattle.brc_model.specs.Machine.{Machine, Unborn, Dying, same_address, machine_by_duty}
 use Rattle.brc_model.specs.Knowledge.{HasChained, GuardsCells}
 use Rattle.brc_model.specs.Accounts.{Accounts, HoldsNone}
 use Rattle.brc_model.specs.OpenWork.{is_finalising}
@@ -34,17 +34,17 @@ pub record HoldsGate (m : Machine) (t x : ℕ) : Type 0 where
 abbrev pub CellsAreGuarded : Type 0
 CellsAreGuarded =
     (p : Accounts) (n : ℕ) (m : Machine) (t : ℕ) (a : Actor) (d : Duty) (rest : List Duty) (x i : ℕ) → Counts p n m
-    → ComesNext m t a d rest → (done_by m t a d rest).memory (Cell x i) ≢ m.memory (Cell x i)
+    → ComesNext m t a d rest → (machine_by_duty m t a d rest).memory (Cell x i) ≢ m.memory (Cell x i)
     → HoldsGate m t x ⊎ ((m.life x ≡ Dying t) × (is_finalising d x ≡ true))
 
 -- What a thread's step leaves of the cells that threads guard. Of a list that another thread has locked or chained it
 -- leaves every cell. It chains no row for another thread, and one for its own only by a step on the row's gate.
 pub record LeavesGuarded (m : Machine) (t : ℕ) (a : Actor) (d : Duty) (rest : List Duty) : Type 0 where
   pub others : (u : ℕ) (b : Actor) (x : ℕ) → slice_get m.actors u ≡ Some b → u ≢ t
-      → GuardsCells (done_by m t a d rest) u b x
-      → GuardsCells m u b x × ((i : ℕ) → (done_by m t a d rest).memory (Cell x i) ≡ m.memory (Cell x i))
+      → GuardsCells (machine_by_duty m t a d rest) u b x
+      → GuardsCells m u b x × ((i : ℕ) → (machine_by_duty m t a d rest).memory (Cell x i) ≡ m.memory (Cell x i))
   pub own : (x : ℕ) → same_address (address_of m.layout t a.head d) (Gate x) ≡ false
-      → HasChained (done_by m t a d rest) t x → HasChained m t x
+      → HasChained (machine_by_duty m t a d rest) t x → HasChained m t x
 
 abbrev pub GuardedCellsStay : Type 0
 GuardedCellsStay = (p : Accounts) (n : ℕ) (m : Machine) (t : ℕ) (a : Actor) (d : Duty) (rest : List Duty) → Counts p n m
@@ -55,7 +55,7 @@ GuardedCellsStay = (p : Accounts) (n : ℕ) (m : Machine) (t : ℕ) (a : Actor) 
 abbrev pub SlotsAreGuarded : Type 0
 SlotsAreGuarded =
     (p : Accounts) (n : ℕ) (m : Machine) (t : ℕ) (a : Actor) (d : Duty) (rest : List Duty) (x : ℕ) → Counts p n m
-    → ComesNext m t a d rest → (done_by m t a d rest).memory (Slot x) ≢ m.memory (Slot x)
+    → ComesNext m t a d rest → (machine_by_duty m t a d rest).memory (Slot x) ≢ m.memory (Slot x)
     → HoldsGate m t x ⊎ ((m.life x ≡ Dying t) ⊎ ((m.life x ≡ Unborn) × (block_of m.layout x ≡ t)))
 
 -- While the thread of a row's block runs, a step that changes the row's local word is that thread's.
@@ -63,7 +63,7 @@ abbrev pub OwnersCountAlone : Type 0
 OwnersCountAlone =
     (p : Accounts) (n : ℕ) (m : Machine) (t : ℕ) (a : Actor) (d : Duty) (rest : List Duty) (x : ℕ) → Counts p n m
     → ComesNext m t a d rest → Runs m (block_of m.layout x)
-    → (done_by m t a d rest).memory (Local x) ≢ m.memory (Local x) → t ≡ block_of m.layout x
+    → (machine_by_duty m t a d rest).memory (Local x) ≢ m.memory (Local x) → t ≡ block_of m.layout x
 
 -- The thread has nothing to do, holds no reference, no lock and no resource, and its dying chain is empty.
 pub record HoldsNothing (account : Accounts) (t : ℕ) (a : Actor) : Type 0 where

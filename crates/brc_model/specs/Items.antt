@@ -4,17 +4,17 @@
 use Rattle.std.specs.Prelude.{◌≡◌, ℕ, ◌+◌, ◌<◌, Bool, true, false, List, Option, Some, slice_get}
 use Rattle.brc_lang.specs.declared.module.Instr.{Instr}
 use Rattle.brc_lang.specs.declared.module.Instr.TheVariants.{Borrow, Fetch, Set, Put}
-use Rattle.brc_model.specs.declared.slot.Slot.{Slot}
-use Rattle.brc_model.specs.declared.slot.Slot.TheVariants.{Locked}
-use Rattle.brc_model.specs.declared.slot.State.{State}
-use Rattle.brc_model.specs.declared.slot.Exit.{Exit}
+use Rattle.brc_model.specs.declared.state.VarState.{VarState}
+use Rattle.brc_model.specs.declared.state.VarState.TheVariants.{Locked}
+use Rattle.brc_model.specs.declared.state.State.{State}
+use Rattle.brc_model.specs.declared.state.Exit.{Exit}
 use Rattle.brc_model.specs.declared.actor.Place.{Place}
 use Rattle.brc_model.specs.declared.actor.Place.TheVariants.{Idle, InCall, Inside, Stopping, Exiting}
 use Rattle.brc_model.specs.declared.actor.Stage.{Stage}
 use Rattle.brc_model.specs.declared.actor.Stage.TheVariants.{InRange, Found, Retained}
 use Rattle.brc_model.specs.declared.address.Address.{Address}
 use Rattle.brc_model.specs.declared.address.Address.TheVariants.{KindOf, Cell}
-use Rattle.brc_model.specs.Slots.{slot_of}
+use Rattle.brc_model.specs.VarStates.{var_of}
 use Rattle.brc_model.specs.Paths.{At, path_end}
 use Rattle.brc_model.specs.Threads.{code_of, row_of}
 use Rattle.brc_model.specs.Duties.{cells_of}
@@ -28,14 +28,14 @@ pub record IsItem (memory : Address → ℕ) (locked : Option ℕ) (x : ℕ) : T
   pub is_locked : locked ≡ Some list
   pub holds : memory (Cell list cell) ≡ x + 1
 
-abbrev pub borrows_item : Slot → Bool
+abbrev pub borrows_item : VarState → Bool
 borrows_item (Locked k) = true
 borrows_item _ = false
 
 -- Each variable that borrows from the locked list names an item of it.
 abbrev pub HaveItems : (Address → ℕ) → Option ℕ → State → List (Option ℕ) → Type 0
 HaveItems memory locked s variables =
-    (v x : ℕ) → borrows_item (slot_of s v) ≡ true → row_of variables v ≡ Some x → IsItem memory locked x
+    (v x : ℕ) → borrows_item (var_of s v) ≡ true → row_of variables v ≡ Some x → IsItem memory locked x
 
 -- The list in the variable has a cell with the index.
 abbrev pub HasCell : (Address → ℕ) → List (Option ℕ) → ℕ → ℕ → Type 0

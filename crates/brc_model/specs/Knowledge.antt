@@ -78,8 +78,8 @@ abbrev pub HasChained : Machine → ℕ → ℕ → Type 0
 HasChained m t x = (m.life x ≡ Dying t) × IsDyingWord t (m.memory (Gate x))
 
 -- The thread may look at the object: something keeps the object alive for it, or it has chained the object.
-abbrev pub MayLook : Machine → ℕ → Actor → ℕ → Type 0
-MayLook m t a x = IsBacked m t a x ⊎ HasChained m t x
+abbrev pub MayRead : Machine → ℕ → Actor → ℕ → Type 0
+MayRead m t a x = IsBacked m t a x ⊎ HasChained m t x
 
 -- No other thread changes the row's cells: the thread has locked the list, or has chained it.
 abbrev pub GuardsCells : Machine → ℕ → Actor → ℕ → Type 0
@@ -152,12 +152,12 @@ HeadFits m t a (BirthSlot x h) rest =
 HeadFits m t a (BirthLocal x h) rest =
     IsNext m t a x × (rest ≡ []) × HasCountedKind m.memory x
     × (m.memory (Slot x) ≡ resources_of (m.memory (KindOf x)))
-HeadFits m t a (KindLoad x) rest = MayLook m t a x
+HeadFits m t a (KindLoad x) rest = MayRead m t a x
 HeadFits m t a (LockGate x) rest = (IsCounted m.layout x) × IsBacked m t a x × (a.locked ≡ None)
 HeadFits m t a (UnlockGate x) rest =
     (IsCounted m.layout x) × IsBacked m t a x × (a.locked ≡ Some x) × HasNoRetainAside a × (a.lent ≡ None)
 HeadFits m t a (CellLoad x i) rest =
-    (IsCounted m.layout x) × MayLook m t a x × GuardsCells m t a x × (i < cells_of (m.memory (KindOf x)))
+    (IsCounted m.layout x) × MayRead m t a x × GuardsCells m t a x × (i < cells_of (m.memory (KindOf x)))
 HeadFits m t a (CellSwap x i y h) rest = (a.locked ≡ Some x) × (i < cells_of (m.memory (KindOf x)))
 HeadFits m t a (LendSlot x) rest =
     (IsCounted m.layout x) × (a.locked ≡ Some x) × (a.lent ≡ None) × (has_resource (m.memory (KindOf x)) ≡ true)

@@ -1,19 +1,19 @@
--- What the checker says of kinds is true: the object that a variable names has the kind that the variable's slot says,
+-- What the checker says of kinds is true: the object that a variable names has the kind that the variable's state says,
 -- by the kind word that the object's birth stored. (Python/C API manual, Common Object Structures: an object keeps its
 -- type.)
 use Rattle.std.specs.Prelude.{◌≡◌, ◌≢◌, ◌⊎◌, ℕ, List, Option, Some, slice_get}
 use Rattle.brc_lang.specs.declared.kind.Kind.{Kind}
 use Rattle.brc_lang.specs.declared.kind.Kind.TheVariants as kinds
 use Rattle.brc_lang.specs.declared.module.Instr.{Instr}
-use Rattle.brc_model.specs.declared.slot.Slot.{Slot}
-use Rattle.brc_model.specs.declared.slot.State.{State}
-use Rattle.brc_model.specs.declared.slot.Exit.{Exit}
+use Rattle.brc_model.specs.declared.state.VarState.{VarState}
+use Rattle.brc_model.specs.declared.state.State.{State}
+use Rattle.brc_model.specs.declared.state.Exit.{Exit}
 use Rattle.brc_model.specs.declared.actor.Place.{Place}
 use Rattle.brc_model.specs.declared.actor.Place.TheVariants.{Idle, InCall, Inside, Stopping, Exiting}
 use Rattle.brc_model.specs.declared.address.Address.TheVariants.{KindOf}
 use Rattle.brc_model.specs.declared.thread.Choice.{Choice}
 use Rattle.brc_model.specs.Kinds.{kind_of_word}
-use Rattle.brc_model.specs.Slots.{slot_of, kind_of}
+use Rattle.brc_model.specs.VarStates.{var_of, kind_of}
 use Rattle.brc_model.specs.Paths.{At, path_end}
 use Rattle.brc_model.specs.Threads.{code_of, row_of}
 use Rattle.brc_model.specs.Layout.{none_row, root_row}
@@ -24,14 +24,14 @@ use Rattle.brc_model.specs.StepMachine.{StepMachine, next_machine}
 abbrev pub IsTrueKind : Kind → ℕ → Type 0
 IsTrueKind kind word = (kind ≡ kinds.Any) ⊎ (kind_of_word word ≡ kind)
 
--- The slot's kind is that of the row's kind word, if the variable names a row.
-abbrev pub HasTrueKind : (ℕ → ℕ) → Slot → Option ℕ → Type 0
-HasTrueKind words slot row = (x : ℕ) → row ≡ Some x → IsTrueKind (kind_of slot) (words x)
+-- The variable's kind is that of the row's kind word, if the variable names a row.
+abbrev pub HasTrueKind : (ℕ → ℕ) → VarState → Option ℕ → Type 0
+HasTrueKind words var row = (x : ℕ) → row ≡ Some x → IsTrueKind (kind_of var) (words x)
 
 abbrev pub HaveTrueKinds : (ℕ → ℕ) → State → List (Option ℕ) → Type 0
-HaveTrueKinds words s variables = (v : ℕ) → HasTrueKind words (slot_of s v) (row_of variables v)
+HaveTrueKinds words s variables = (v : ℕ) → HasTrueKind words (var_of s v) (row_of variables v)
 
--- In a call, each variable has the kind of its slot in the state in which paths reach the thread's point.
+-- In a call, each variable has the kind of its state of a variable in the state in which paths reach the thread's point.
 abbrev pub KnowsKinds : List Instr → (ℕ → ℕ) → Place → Type 0
 KnowsKinds code words (Idle left) = Unit {0}
 KnowsKinds code words (InCall context at variables) =

@@ -1,6 +1,6 @@
 pub mod Limits
 pub mod Layout
-pub mod Slots
+pub mod VarStates
 pub mod Paths
 pub mod Tables
 pub mod Kinds

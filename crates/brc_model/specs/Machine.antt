@@ -136,8 +136,8 @@ actor_by layout t a d rest found = record {
 }
 
 -- Returns the machine after the duty of thread t, which is one step on one word. `rest` are the duties behind it.
-abbrev pub done_by : Machine → ℕ → Actor → Duty → List Duty → Machine
-done_by m t a d rest =
+abbrev pub machine_by_duty : Machine → ℕ → Actor → Duty → List Duty → Machine
+machine_by_duty m t a d rest =
     let address = address_of m.layout t a.head d in
     let found = m.memory address in
     record {

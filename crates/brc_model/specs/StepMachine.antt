@@ -13,9 +13,9 @@ use Rattle.brc_model.specs.declared.actor.Place.TheVariants.{Idle}
 use Rattle.brc_model.specs.declared.duty.Holding.TheVariants.{AsCaller}
 use Rattle.brc_model.specs.declared.duty.Duty.{Duty}
 use Rattle.brc_model.specs.declared.duty.Duty.TheVariants.{CloseResource}
-use Rattle.brc_model.specs.declared.slot.State.{State}
-use Rattle.brc_model.specs.declared.slot.Exit.{Exit}
-use Rattle.brc_model.specs.declared.slot.Exit.TheVariants.{Success, Fault}
+use Rattle.brc_model.specs.declared.state.State.{State}
+use Rattle.brc_model.specs.declared.state.Exit.{Exit}
+use Rattle.brc_model.specs.declared.state.Exit.TheVariants.{Success, Fault}
 use Rattle.brc_model.specs.declared.address.Address.{Address}
 use Rattle.brc_model.specs.declared.address.Address.TheVariants.{Local, Shared, Gate, KindOf, Mark, Cell, Slot, Resource, ThreadWord}
 use Rattle.brc_model.specs.Limits.{cell_limit, most_faults}
@@ -24,7 +24,7 @@ use Rattle.brc_model.specs.declared.layout.Layout.{Layout}
 use Rattle.brc_model.specs.Layout.{root_row, front_rows, by_row}
 use Rattle.brc_model.specs.Duties.{address_of}
 use Rattle.brc_model.specs.declared.actor.Actor.{Actor}
-use Rattle.brc_model.specs.Machine.{idle_actor, Life, Unborn, Live, Machine, actor_by, done_by}
+use Rattle.brc_model.specs.Machine.{idle_actor, Life, Unborn, Live, Machine, actor_by, machine_by_duty}
 use Rattle.brc_model.specs.Actions.{StepActor, Action, Skip, Stuck, Silent, Calls, Does, exit_of, action_of}
 
 -- ---- the machine
@@ -117,7 +117,7 @@ called_by m t a exit place =
 -- The word found decides the thread's place. A close that faults is counted, and isn't done again.
 abbrev pub does_by : StepMachine → ℕ → StepActor → Exit → Duty → List Duty → (ℕ → Place) → StepMachine
 does_by m t a exit d rest place =
-    let done = done_by (counting m) t a.actor d rest in
+    let done = machine_by_duty (counting m) t a.actor d rest in
     let found = m.memory (address_of m.layout t a.actor.head d) in
     record {
       functions = m.functions;

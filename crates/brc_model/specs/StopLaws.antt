@@ -1,9 +1,9 @@
 -- What a thread has to give up where it stops in a call.
 use Rattle.std.specs.Prelude.{◌≡◌, ◌↔◌, ℕ, true, map, List, ◌∷◌, Option, Some, slice_get}
-use Rattle.brc_model.specs.declared.slot.State.{State}
+use Rattle.brc_model.specs.declared.state.State.{State}
 use Rattle.brc_model.specs.declared.actor.Context.{Context}
 use Rattle.brc_model.specs.declared.thread.Choice.TheVariants.{Stop}
-use Rattle.brc_model.specs.Slots.{slot_of, is_owned}
+use Rattle.brc_model.specs.VarStates.{var_of, is_owned}
 use Rattle.brc_model.specs.Threads.{row_of}
 use Rattle.brc_model.specs.Action.{StepActor}
 use Rattle.brc_model.specs.Stops.{owned_rows, none_of, row_locked, stopping}
@@ -20,8 +20,8 @@ pub record GivesUpOwned (w : World) (t at : ℕ) (a : StepActor) (context : Cont
   -- what the state says is locked is what the thread has locked
   pub lock : a.actor.locked ≡ row_locked state.locked variables
   -- a variable's row is given up exactly if the variable owns a reference
-  pub owned : (v x : ℕ) → (row_of (owned_rows state.slots variables) v ≡ Some x)
-      ↔ ((is_owned (slot_of state v) ≡ true) × (row_of variables v ≡ Some x))
+  pub owned : (v x : ℕ) → (row_of (owned_rows state.vars variables) v ≡ Some x)
+      ↔ ((is_owned (var_of state v) ≡ true) × (row_of variables v ≡ Some x))
   -- the stop itself changes nothing but the thread's place
   pub leads : slice_get (step w t Stop).actors t
-      ≡ Some (at_place a (stopping a.actor.locked (owned_rows state.slots variables ∷ map none_of context.outer)))
+      ≡ Some (at_place a (stopping a.actor.locked (owned_rows state.vars variables ∷ map none_of context.outer)))

@@ -2,23 +2,23 @@
 -- that is says the state that the module's table gives its point.
 use Rattle.std.specs.Prelude.{ℕ, Bool, suc, ◌||◌, if◌then◌else◌, is_some, map, List, [], ◌∷◌, length, Option, None, Some, slice_set}
 use Rattle.std.specs.List.{list_any}
-use Rattle.brc_model.specs.declared.slot.Slot.{Slot}
-use Rattle.brc_model.specs.declared.slot.State.{State}
+use Rattle.brc_model.specs.declared.state.VarState.{VarState}
+use Rattle.brc_model.specs.declared.state.State.{State}
 use Rattle.brc_model.specs.declared.actor.Context.{Context}
 use Rattle.brc_model.specs.declared.actor.OpenCall.{OpenCall}
 use Rattle.brc_model.specs.declared.actor.Place.{Place}
 use Rattle.brc_model.specs.declared.actor.Place.TheVariants.{Idle, InCall, Stopping}
 use Rattle.brc_model.specs.declared.duty.Holding.TheVariants.{ByVariable}
 use Rattle.brc_model.specs.declared.duty.Duty.TheVariants.{ReleaseLoad, Settle}
-use Rattle.brc_model.specs.Slots.{is_owned}
+use Rattle.brc_model.specs.VarStates.{is_owned}
 use Rattle.brc_model.specs.Threads.{row_of}
 use Rattle.brc_model.specs.Action.{Action, Skip, Stuck, Silent, Does, always, with_row}
 
--- the rows of the variables whose slots own a reference
-abbrev pub owned_rows : List Slot → List (Option ℕ) → List (Option ℕ)
+-- the rows of the variables whose states own a reference
+abbrev pub owned_rows : List VarState → List (Option ℕ) → List (Option ℕ)
 owned_rows [] rows = []
-owned_rows (slot ∷ slots) [] = []
-owned_rows (slot ∷ slots) (row ∷ rows) = (if is_owned slot then row else None) ∷ owned_rows slots rows
+owned_rows (var ∷ vars) [] = []
+owned_rows (var ∷ vars) (row ∷ rows) = (if is_owned var then row else None) ∷ owned_rows vars rows
 
 -- the row that the thread has to unlock: that of the locked variable, if there is one
 abbrev pub row_locked : Option ℕ → List (Option ℕ) → Option ℕ
@@ -67,7 +67,7 @@ give_up (rows ∷ outer) = if list_any is_some rows then give_up_first rows oute
 abbrev pub stop_in_call : Context → List (Option ℕ) → Option State → Action
 stop_in_call context variables None = Stuck
 stop_in_call context variables (Some s) =
-    Silent [] (stopping (row_locked s.locked variables) (owned_rows s.slots variables ∷ map none_of context.outer))
+    Silent [] (stopping (row_locked s.locked variables) (owned_rows s.vars variables ∷ map none_of context.outer))
 
 -- Returns what a thread does that stops at the place. Between two calls it holds nothing by variables.
 abbrev pub stop_action : (ℕ → Option State) → Place → Action

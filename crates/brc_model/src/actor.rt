@@ -1,5 +1,5 @@
 use crate::duty::Duty;
-use crate::slot::Exit;
+use crate::state::Exit;
 use brc_lang::Variable;
 use std::collections::LinkedList;
 

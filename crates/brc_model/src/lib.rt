@@ -1,4 +1,4 @@
-//! The model of accepted modules: slot states, paths, the abstract state of references, the step world, and the laws
+//! The model of accepted modules: variables' states, paths, the abstract state of references, the step world, and the laws
 //! about them.
 //!
 //! The crate runs nothing. It has the types that the definitions in specs/ use, and public functions with empty bodies,
@@ -19,8 +19,8 @@ mod layout;
 mod resource_laws;
 mod row_laws;
 mod rule_laws;
-mod slot;
 mod slot_laws;
+mod state;
 mod thread;
 mod work_laws;
 mod world_laws;
@@ -54,11 +54,11 @@ pub use row_laws::{
     used_rows_are_born, variables_have_their_kinds,
 };
 pub use rule_laws::steps_go_by_rules;
-pub use slot::{Exit, Slot, State};
 pub use slot_laws::{
     given_slots_are_unlocked, locked_slots_are_full, needed_slots_are_unlocked, slots_are_free,
     slots_are_known, slots_end,
 };
+pub use state::{Exit, State, VarState};
 pub use thread::{Call, Choice};
 pub use work_laws::{
     births_begin, cell_loads_begin, claims_begin, exits_begin, immortals_are_free, kinds_are_asked,

@@ -8,7 +8,7 @@ ghost use Rattle.brc_model.specs.Paths.{IsAcceptable};
 ghost use Rattle.brc_model.specs.Limits.{row_limit, thread_limit, total_limit};
 ghost use Rattle.brc_model.specs.Safety.{AreCalls};
 ghost use Rattle.brc_model.specs.Tables.{AreTrueWhereReached};
-ghost use Rattle.brc_model.specs.declared.slot.State.{State};
+ghost use Rattle.brc_model.specs.declared.state.State.{State};
 ghost use Rattle.brc_model.specs.declared.thread.Call.{Call};
 ghost use Rattle.brc_model.specs.declared.thread.Choice.{Choice};
 ghost use Rattle.brc_model.specs.declared.thread.Choice.TheVariants.{Ok, Fault, Claim, Stop};

@@ -9,7 +9,7 @@ use Rattle.brc_model.specs.Duties.{ready}
 use Rattle.brc_model.specs.Layout.{root_row}
 use Rattle.brc_model.specs.OpenWork.{is_about}
 use Rattle.brc_table.specs.declared.view.View.{View}
-use Rattle.brc_table.specs.Views.{did, done, open_work, without_one, without_reference}
+use Rattle.brc_table.specs.Views.{view_by, view_after, open_work, without_one, without_reference}
 use Rattle.brc_table.specs.Calls.{IsFree, MayLeave}
 use Rattle.brc_heap.proofs.Handing.{root_counted}
 use Rattle.brc_free.specs.Works.{HasWorked, ComesToSettle, AtOnce, to_settle}
@@ -56,6 +56,6 @@ finish_first zero = refl
 finish_first (suc head) = refl
 
 -- and then nothing is left.
-pub finished : (v u w : View) (cs : List HostCall) → HasWorked v cs (Finish ∷ []) u → w ≡ done u 2
-    → w ≡ did u (Finish ∷ []) 2
-finished v u w cs at is = is ∙ ap (λ (ds : List Duty). did u ds 2) (at.agenda ∙ finish_first u.head)
+pub finished : (v u w : View) (cs : List HostCall) → HasWorked v cs (Finish ∷ []) u → w ≡ view_after u 2
+    → w ≡ view_by u (Finish ∷ []) 2
+finished v u w cs at is = is ∙ ap (λ (ds : List Duty). view_by u ds 2) (at.agenda ∙ finish_first u.head)

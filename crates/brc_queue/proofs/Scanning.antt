@@ -8,7 +8,7 @@ use Rattle.brc_model.specs.declared.duty.Duty.TheVariants.{MergeSwap, Settle, Sc
 use Rattle.brc_model.specs.Layout.{row_at}
 use Rattle.brc_model.specs.Duties.{ready, claimed}
 use Rattle.brc_table.specs.declared.view.View.{View}
-use Rattle.brc_table.specs.Views.{did, done, claiming}
+use Rattle.brc_table.specs.Views.{view_by, view_after, claiming}
 use Rattle.brc_heap.specs.Steps.{Keeps}
 use Rattle.brc_free.specs.Works.{HasWorked, claimed_left}
 use Rattle.brc_queue.specs.Scans.{scan_left}
@@ -18,7 +18,7 @@ use Rattle.brc_free.proofs.Working.{keeps_beside, worked_first, worked_on, worke
 -- ---- a claim
 
 -- The mark wasn't set, and nothing is left to do.
-pub claim_none : (v w : View) (x found : ℕ) → v.head ≡ 0 → (found == 1) ≡ false → w ≡ done (claiming v x) found
+pub claim_none : (v w : View) (x found : ℕ) → v.head ≡ 0 → (found == 1) ≡ false → w ≡ view_after (claiming v x) found
     → w.agenda ≡ ready w.head []
 claim_none v w x found empty none is =
     ap (λ (z : View). z.agenda) is
@@ -26,10 +26,10 @@ claim_none v w x found empty none is =
     ∙ ap (λ (head : ℕ). ready head (Settle ∷ [])) empty)
 
 -- What the step of a claim keeps.
-pub claim_keeps : (v w : View) (x found : ℕ) → w ≡ done (claiming v x) found → Keeps v w
+pub claim_keeps : (v w : View) (x found : ℕ) → w ≡ view_after (claiming v x) found → Keeps v w
 claim_keeps v w x found is =
     subst (Keeps v) (sym is)
-    (keeps_then v (claiming v x) (done (claiming v x) found) (keeps_beside v (ClaimMark x ∷ []))
+    (keeps_then v (claiming v x) (view_after (claiming v x) found) (keeps_beside v (ClaimMark x ∷ []))
     (did_keeps (claiming v x) (ClaimMark x) [] found (record {
       status = refl;
       used = refl;
@@ -46,7 +46,7 @@ scan_first (suc head) i n rest = refl
 one_less : (n : ℕ) → suc n - 1 ≡ n
 one_less n = omega (arith)
 
-scanned : (v w : View) (i n found : ℕ) (rest : List Duty) → v.agenda ≡ Scan i (suc n) ∷ rest → w ≡ done v found
+scanned : (v w : View) (i n found : ℕ) (rest : List Duty) → v.agenda ≡ Scan i (suc n) ∷ rest → w ≡ view_after v found
     → HasWorked v [] (claimed (row_at v.layout v.thread i) found ++ Settle ∷ Scan (i + 1) (suc n - 1) ∷ rest) w
 scanned v w i n found rest next is =
     worked_on v v w [] (Scan i (suc n)) rest
@@ -66,7 +66,7 @@ scanned v w i n found rest next is =
 
 -- The mark wasn't set, and the next row is scanned.
 pub scanned_none : (v w : View) (i n found : ℕ) (rest : List Duty) → v.agenda ≡ Scan i (suc n) ∷ rest
-    → w ≡ done v found → (found == 1) ≡ false → w.head ≡ 0 → HasWorked v [] (Scan (i + 1) (suc n - 1) ∷ rest) w
+    → w ≡ view_after v found → (found == 1) ≡ false → w.head ≡ 0 → HasWorked v [] (Scan (i + 1) (suc n - 1) ∷ rest) w
 scanned_none v w i n found rest next is none still =
     let at = subst (λ (ds : List Duty). HasWorked v [] (ds ++ Settle ∷ Scan (i + 1) (suc n - 1) ∷ rest) w)
     (ap (λ (b : Bool). if b then MergeSwap (row_at v.layout v.thread i) Handed ∷ [] else []) none)
@@ -81,13 +81,13 @@ scanned_none v w i n found rest next is none still =
 
 -- A scan leaves the chain as it is.
 pub scan_head : (v w : View) (i n found : ℕ) (rest : List Duty) → v.agenda ≡ Scan i (suc n) ∷ rest
-    → w ≡ done v found → v.head ≡ 0 → w.head ≡ 0
+    → w ≡ view_after v found → v.head ≡ 0 → w.head ≡ 0
 scan_head v w i n found rest next is empty =
-    ap (λ (z : View). z.head) (is ∙ ap (λ (ds : List Duty). did v ds found) next) ∙ empty
+    ap (λ (z : View). z.head) (is ∙ ap (λ (ds : List Duty). view_by v ds found) next) ∙ empty
 
 -- The mark was set, and the object is merged next.
 pub scanned_one : (v w : View) (i n found : ℕ) (rest : List Duty) → v.agenda ≡ Scan i (suc n) ∷ rest
-    → w ≡ done v found → (found == 1) ≡ true
+    → w ≡ view_after v found → (found == 1) ≡ true
     → HasWorked v [] (MergeSwap (row_at v.layout v.thread i) Handed ∷ Settle ∷ Scan (i + 1) (suc n - 1) ∷ rest) w
 scanned_one v w i n found rest next is one =
     subst (λ (ds : List Duty). HasWorked v [] (ds ++ Settle ∷ Scan (i + 1) (suc n - 1) ∷ rest) w)

@@ -6,7 +6,7 @@ use Rattle.brc_model.specs.declared.duty.Duty.TheVariants.{Scan, Finish}
 use Rattle.brc_model.specs.Layout.{root_row, row_at}
 use Rattle.brc_model.specs.Duties.{ready}
 use Rattle.brc_table.specs.declared.view.View.{View}
-use Rattle.brc_table.specs.Views.{done, claiming, leaving}
+use Rattle.brc_table.specs.Views.{view_after, claiming, leaving}
 use Rattle.brc_heap.specs.Calls.{released_locally}
 use Rattle.brc_free.specs.Works.{HasWorked, to_settle}
 
@@ -14,14 +14,14 @@ use Rattle.brc_free.specs.Works.{HasWorked, to_settle}
 -- given up the reference that was handed over with it, and settled, with these closes of the host.
 pub record Claims (i : ℕ) (closes : List HostCall) (v w : View) : Type 0 where
   pub found : ℕ
-  pub follows : HasWorked (done (claiming v (row_at v.layout v.thread i)) found) closes [] w
+  pub follows : HasWorked (view_after (claiming v (row_at v.layout v.thread i)) found) closes [] w
   pub settled : w.head ≡ 0
 
 -- The hand has taken the marks of the first rows of its block, by rising number, with these closes of the host.
-pub data LooksThrough (v : View) : ℕ → List HostCall → View → Type 0 where
-  Begun : LooksThrough v 0 [] v
-  Next : (i : ℕ) (closes more : List HostCall) (u w : View) → LooksThrough v i closes u → Claims i more u w
-      → LooksThrough v (i + 1) (closes ++ more) w
+pub data HasScanned (v : View) : ℕ → List HostCall → View → Type 0 where
+  Refl : HasScanned v 0 [] v
+  Next : (i : ℕ) (closes more : List HostCall) (u w : View) → HasScanned v i closes u → Claims i more u w
+      → HasScanned v (i + 1) (closes ++ more) w
 
 -- To scan the marks of all used rows, and then to say that the thread is gone, is what comes next.
 abbrev pub ScansNext : View → Type 0
@@ -52,5 +52,5 @@ pub record HasLeft (closes : List HostCall) (v w : View) : Type 0 where
   pub releases : HasWorked (released_locally v root_row word) [] [] released
   pub settles : HasWorked (to_settle [] released) first [] settled
   pub empty : settled.head ≡ 0
-  pub scans : HasWorked (done (leaving settled) 1) later (Finish ∷ []) scanned
-  pub gone : w ≡ done scanned 2
+  pub scans : HasWorked (view_after (leaving settled) 1) later (Finish ∷ []) scanned
+  pub gone : w ≡ view_after scanned 2

@@ -6,7 +6,7 @@ ghost use Rattle.brc_host.specs.HostCalls.{HostCall, HasAnswered, close_faults};
 ghost use Rattle.brc_table.specs.Hands.{IsOf};
 ghost use Rattle.brc_table.specs.Calls.{IsFree};
 ghost use Rattle.brc_heap.specs.Steps.{Keeps};
-ghost use Rattle.brc_queue.specs.Scans.{Claims, LooksThrough};
+ghost use Rattle.brc_queue.specs.Scans.{Claims, HasScanned};
 
 use crate::queue::Queue;
 use brc_effect::states::SET;
@@ -38,7 +38,7 @@ impl<'h, T: Drop> Queue<'h, T> {
         ensures settled { hand.new.view.head ≡ 0 }
         ensures keeps { Keeps hand.old.view hand.new.view }
         ensures work { (closes : List HostCall)
-            × LooksThrough hand.old.view hand.old.view.used closes hand.new.view
+            × HasScanned hand.old.view hand.old.view.used closes hand.new.view
             × (result ≡ raised (close_faults closes) 0)
             × HasAnswered H.answers H.counts host.old closes host.new }
     {

@@ -4,7 +4,7 @@ ghost use Rattle.std.specs.Prelude.{◌≡◌, List, [], ◌∷◌, ◌++◌, �
 ghost use Rattle.brc_model.specs.declared.duty.Duty.{Duty};
 ghost use Rattle.brc_model.specs.declared.duty.Duty.TheVariants.{SetMark, Look};
 ghost use Rattle.brc_table.specs.Turns.{MayGoOn, turned_to};
-ghost use Rattle.brc_table.specs.Views.{done, work_about};
+ghost use Rattle.brc_table.specs.Views.{view_after, work_about};
 ghost use Rattle.brc_table.specs.Hands.{IsOf};
 ghost use Rattle.brc_table.specs.Calls.{CanAct};
 ghost use Rattle.brc_heap.specs.Calls.{Leaves};
@@ -65,7 +65,7 @@ impl<'h, T: Drop> Queue<'h, T> {
         ensures table { hand.new.table ≡ hand.old.table }
         ensures carried { hand.new.carried ≡ hand.old.carried }
         ensures slots { hand.new.slots ≡ hand.old.slots }
-        ensures events { hand.new.view ≡ done (turned_to work hand.old.view row) 0 }
+        ensures events { hand.new.view ≡ view_after (turned_to work hand.old.view row) 0 }
         ensures left { (rest : List Duty) → (turned_to work hand.old.view row).agenda ≡ SetMark row ∷ rest
             → HasStepped (turned_to work hand.old.view row) (Look row ∷ rest) hand.new.view }
     {

@@ -79,8 +79,8 @@ pub merged : {heap : TableState} {before after : HandState} {rows : List ℕ} {r
     → after.view.references ≡ before.view.references
     → (result ≢ merge.Again → carried_of after shared_row ≡ None) → result ≡ merge.Kept
     → HasWork heap after rows (SharedLoad shared_row Handed ∷ [])
-merged {heap} {before} {after} {rows} {result} has table left references done kept =
+merged {heap} {before} {after} {rows} {result} has table left references view_after kept =
     after_call shared_row (SharedLoad shared_row Handed ∷ []) rows has refl table
     (subst (λ (r : MergeStep). Leaves shared_row (merge_left shared_row left.0 Handed r) before.view after.view) kept
     left.1) (references ∙ has.references)
-    (done (λ again. absurd (let e : merge.Kept ≡ merge.Again = sym kept ∙ again in cc)))
+    (view_after (λ again. absurd (let e : merge.Kept ≡ merge.Again = sym kept ∙ again in cc)))

@@ -23,8 +23,8 @@ use Rattle.brc_schedule.specs.Fault.{IsPlan, IsBeginning}
 use Rattle.brc_schedule.proofs.Words.{size_spelled, call_spelled, steps_spelled}
 use Rattle.brc_schedule.proofs.Results.{bind_ok, chosen}
 
-abbrev Goes : Beginning → List ℕ → Beginning → Type 0
-Goes b text c = (beginning c ≡ beginning b ++ line text) × IsBeginning c
+abbrev AddsLine : Beginning → List ℕ → Beginning → Type 0
+AddsLine b text c = (beginning c ≡ beginning b ++ line text) × IsBeginning c
 
 beginning_is : (x y : Beginning) → ◌≡◌ {A = Result Beginning FaultCode} (Ok x) (Ok y) → x ≡ y
 beginning_is x y e = cc
@@ -69,16 +69,16 @@ steps_push steps x =
 -- ---- a line of each kind
 
 module _ (laws : TextsRoundTrip) where
-  opened_goes : (text : List ℕ) (c : Beginning) → next_of Opened (words text) ≡ Ok c → Goes Opened text c
+  opened_goes : (text : List ℕ) (c : Beginning) → next_of Opened (words text) ≡ Ok c → AddsLine Opened text c
   opened_goes text c e =
       let n = bind_ok (size_in (codes "workers") worker_limit (words text)) (λ w. Ok (Staffed w)) c e in
       let s = size_spelled laws (codes "workers") worker_limit (words text) n.0 (omega arith) n.1 in
       let is : text ≡ spaced (size_words (codes "workers") n.0) = laws.word_laws.joined text _ s.0 in
-      subst (Goes Opened text) (beginning_is (Staffed n.0) c n.2)
+      subst (AddsLine Opened text) (beginning_is (Staffed n.0) c n.2)
       (ap (λ (x : List ℕ). first_line ++ line x) (sym is), (s.1, s.2))
 
   staffed_goes : (workers : ℕ) (text : List ℕ) (c : Beginning) → IsBeginning (Staffed workers)
-      → next_of (Staffed workers) (words text) ≡ Ok c → Goes (Staffed workers) text c
+      → next_of (Staffed workers) (words text) ≡ Ok c → AddsLine (Staffed workers) text c
   staffed_goes workers text c fits e =
       let n =
       bind_ok (size_in (codes "rows") row_limit (words text))
@@ -91,12 +91,12 @@ module _ (laws : TextsRoundTrip) where
       let plan : IsPlan made =
       record { sizes = sizes; few = omega arith; calls = tt; steps = tt; in_order = λ some. absurd (omega arith) } in
       let above = first_line ++ workers_line workers in
-      subst (Goes (Staffed workers) text) (beginning_is (Planned made) c n.2)
+      subst (AddsLine (Staffed workers) text) (beginning_is (Planned made) c n.2)
       (no_lists (above ++ rows_line n.0) ∙ ap (λ (x : List ℕ). above ++ line x) (sym is), plan)
 
   call_goes : (s t : Schedule) (line_text : List ℕ) → IsPlan s → length s.calls < s.workers
       → (call_in (length s.calls + 1) (words line_text) >>= λ call. Ok (with_call s call)) ≡ Ok t
-      → Goes (Planned s) line_text (Planned t)
+      → AddsLine (Planned s) line_text (Planned t)
   call_goes s t line_text plan few e =
       let k = bind_ok (call_in (length s.calls + 1) (words line_text)) (λ call. Ok (with_call s call)) t e in
       let most : s.workers ≤ worker_limit = (let sizes = plan.sizes in sizes.most_workers) in
@@ -115,7 +115,7 @@ module _ (laws : TextsRoundTrip) where
         steps = plan.steps;
         in_order = λ some. absurd (let n = ap (λ (x : List Steps). length x) none in omega arith);
       } in
-      subst (λ (u : Schedule). Goes (Planned s) line_text (Planned u)) (plan_is (with_call s k.0) t k.2) (
+      subst (λ (u : Schedule). AddsLine (Planned s) line_text (Planned u)) (plan_is (with_call s k.0) t k.2) (
         before_none head (calls_from 1 s.calls) (line line_text) (calls_from 1 (s.calls ++ k.0 ∷ []))
             (steps_text s.steps)
             more (ap steps_text none),
@@ -124,7 +124,7 @@ module _ (laws : TextsRoundTrip) where
 
   steps_go : (s t : Schedule) (line_text : List ℕ) → IsPlan s → s.workers ≤ length s.calls
       → (steps_in s.workers (words line_text) >>= λ steps. Ok (with_steps s steps)) ≡ Ok t
-      → Goes (Planned s) line_text (Planned t)
+      → AddsLine (Planned s) line_text (Planned t)
   steps_go s t line_text plan all e =
       let k = bind_ok (steps_in s.workers (words line_text)) (λ steps. Ok (with_steps s steps)) t e in
       let most : s.workers ≤ worker_limit = (let sizes = plan.sizes in sizes.most_workers) in
@@ -141,14 +141,14 @@ module _ (laws : TextsRoundTrip) where
       } in
       let more : steps_text (s.steps ++ k.0 ∷ []) ≡ steps_text s.steps ++ line line_text =
       steps_push s.steps k.0 ∙ ap (λ (x : List ℕ). steps_text s.steps ++ line x) (sym is) in
-      subst (λ (u : Schedule). Goes (Planned s) line_text (Planned u)) (plan_is (with_steps s k.0) t k.2)
+      subst (λ (u : Schedule). AddsLine (Planned s) line_text (Planned u)) (plan_is (with_steps s k.0) t k.2)
       (ap (λ (x : List ℕ). head ++ x) more ∙ sym (append_assoc head (steps_text s.steps) (line line_text)), fits)
 
   planned_goes : (s : Schedule) (line_text : List ℕ) (c : Beginning) → IsPlan s
-      → next_of (Planned s) (words line_text) ≡ Ok c → Goes (Planned s) line_text c
+      → next_of (Planned s) (words line_text) ≡ Ok c → AddsLine (Planned s) line_text c
   planned_goes s line_text c plan e =
       let t = bind_ok (planned_in s (words line_text)) (λ t. Ok (Planned t)) c e in
-      subst (Goes (Planned s) line_text) (beginning_is (Planned t.0) c t.2)
+      subst (AddsLine (Planned s) line_text) (beginning_is (Planned t.0) c t.2)
       (elim (chosen (ltb (length s.calls) s.workers) _ _ (Ok t.0) t.1) [
         | inl h ↦ call_goes s t.0 line_text plan (ltb-true _ _ h.0) h.1
         | inr h ↦ steps_go s t.0 line_text plan (ltb-false _ _ h.0) h.1

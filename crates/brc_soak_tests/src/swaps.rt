@@ -3,7 +3,7 @@
 ghost use Rattle.std.specs.Prelude.{◌≡◌, ◌≢◌, ◌<◌, ◌≤◌, ◌+◌, ◌^◌, List, ℕ, true, None, Some, if◌then◌else◌, OnSome};
 ghost use Rattle.brc_model.specs.Layout.{IsCounted};
 ghost use Rattle.brc_table.specs.Views.{holds};
-ghost use Rattle.brc_table.specs.Seen.{KnowsCell};
+ghost use Rattle.brc_table.specs.KnownWords.{KnowsCell};
 ghost use Rattle.brc_soak_tests.specs.Ready.{IsResting, Tells, IsWhole, counted, with_found};
 
 use crate::ledger::Ledger;

@@ -20,7 +20,7 @@ use Rattle.brc_model.specs.SlotLaws.{Stays, Gives, use_of}
 use Rattle.brc_model.specs.Stores.{Overwrites}
 use Rattle.brc_table.specs.ModelLaws.{ModelLaws}
 use Rattle.brc_table.specs.declared.view.View.{View}
-use Rattle.brc_table.specs.Views.{actor_of, event_of, did, taken_after, holds, RowsAreThere}
+use Rattle.brc_table.specs.Views.{actor_of, event_of, view_by, taken_after, holds, RowsAreThere}
 use Rattle.brc_table.specs.Rule.{Stands}
 use Rattle.brc_table.specs.Homes.{SlotsStand, TableStands}
 use Rattle.brc_table.specs.Plays.{FindsKnown}
@@ -118,14 +118,14 @@ module _ (laws : ModelLaws) (layout : Layout) (v u : View)
       }
 
   -- What a table asks of the word that the step leaves.
-  abbrev pub Leaves : (ℕ → ℕ) → Type 0
-  Leaves f =
+  abbrev pub KeepsDuty : (ℕ → ℕ) → Type 0
+  KeepsDuty f =
       ((found : ℕ) → Knows u d (read_of u d found)
       → read_of u d (f found) ≡ new_word u.thread u.head d (read_of u d found))
       × ((words : List ℕ) (views : List View) (id : ℕ) (does : Does layout words views id u d rest)
       → KeepsThreads does.stands.machine.layout words
       (set words (place_of u d) (f (slice_index words (place_of u d)))) u
-      (did u (d ∷ rest) (read_of u d (slice_index words (place_of u d)))))
+      (view_by u (d ∷ rest) (read_of u d (slice_index words (place_of u d)))))
 
   module _ {T : Type 0} (s : State (Option T) View) (holds : TableStands layout s.words s.homes s.views) (id : ℕ)
       (here : get_elem? s.views id ≡ some v) where
@@ -150,7 +150,7 @@ module _ (laws : ModelLaws) (layout : Layout) (v u : View)
 
     -- the hand after the step
     abbrev pub w : View
-    w = did u (d ∷ rest) (read_of u d word)
+    w = view_by u (d ∷ rest) (read_of u d word)
 
     pub known : Knows u d (read_of u d word)
     known =
@@ -170,15 +170,15 @@ module _ (laws : ModelLaws) (layout : Layout) (v u : View)
         (finds laws.kept laws.within laws.guarded layout s.words (set s.views id u) id u d rest does
         ∙ ap (read_of u d) same)
 
-    module _ (f : ℕ → ℕ) (leaves : Leaves f) where
+    module _ (f : ℕ → ℕ) (leaves : KeepsDuty f) where
       after : Passes layout (set s.words (place_of u d) (f word))
-          (set (set s.views id u) id (did u (d ∷ rest) (read_of u d (slice_index s.words (place_of u d))))) [] None
+          (set (set s.views id u) id (view_by u (d ∷ rest) (read_of u d (slice_index s.words (place_of u d))))) [] None
           first.stands.machine
       after =
           passes_after laws.kept laws.within laws.guarded layout s.words (set s.views id u) id u d rest does (f word)
           (leaves.0 word known ∙ ap (λ (k : ℕ). new_word u.thread u.head d (read_of u d k)) (sym same))
           (subst (λ (k : ℕ). KeepsThreads does.stands.machine.layout s.words (set s.words (place_of u d) (f k)) u
-          (did u (d ∷ rest) (read_of u d (slice_index s.words (place_of u d))))) same
+          (view_by u (d ∷ rest) (read_of u d (slice_index s.words (place_of u d))))) same
           (leaves.1 s.words (set s.views id u) id does))
 
       moved : Passes layout (set s.words index (f word)) (set s.views id w) [] None first.stands.machine
@@ -186,9 +186,9 @@ module _ (laws : ModelLaws) (layout : Layout) (v u : View)
           subst (λ (l : List View). Passes layout (set s.words index (f word)) l [] None first.stands.machine)
           (set-set s.views id u w)
           (subst (λ (k : ℕ). Passes layout (set s.words index (f word))
-          (set (set s.views id u) id (did u (d ∷ rest) (read_of u d k))) [] None first.stands.machine) same
+          (set (set s.views id u) id (view_by u (d ∷ rest) (read_of u d k))) [] None first.stands.machine) same
           (subst (λ (i : ℕ). Passes layout (set s.words i (f word))
-          (set (set s.views id u) id (did u (d ∷ rest) (read_of u d (slice_index s.words (place_of u d))))) [] None
+          (set (set s.views id u) id (view_by u (d ∷ rest) (read_of u d (slice_index s.words (place_of u d))))) [] None
           first.stands.machine) (sym next.index_is) after))
 
       pub now : Passes layout (set s.words index (f word)) (set s.views id w) v.taken v.locked holds.stands.machine
@@ -229,9 +229,9 @@ module _ (laws : ModelLaws) (layout : Layout) (v u : View)
   -- it knows.
   pub allows : {T : Type 0} (slots id : ℕ) (me : Me (Option T) View) (f : ℕ → ℕ)
       (then : ℕ → Me (Option T) View → Type 0)
-      → me.0 ≡ v → ((found : ℕ) → use_of d found ≡ Stays) → Leaves f
-      → ((found : ℕ) → Knows u d (read_of u d found) → RowsAreThere (did u (d ∷ rest) (read_of u d found))
-      → then found (did u (d ∷ rest) (read_of u d found), me.1))
+      → me.0 ≡ v → ((found : ℕ) → use_of d found ≡ Stays) → KeepsDuty f
+      → ((found : ℕ) → Knows u d (read_of u d found) → RowsAreThere (view_by u (d ∷ rest) (read_of u d found))
+      → then found (view_by u (d ∷ rest) (read_of u d found), me.1))
       → Allows (λ (s : State (Option T) View). TableStands layout s.words s.homes s.views) slots id me index f then
   allows slots id me f then is_me stays leaves goes s holds homes here below =
       let mine = here ∙ ap some is_me in (
@@ -270,7 +270,7 @@ module _ (laws : ModelLaws) (layout : Layout) (v u : View)
   itself word = object_reads (address_of u.layout u.thread u.head d) word is_at.object
 
   pub object_leaves : (f : ℕ → ℕ) → ((found : ℕ) → Knows u d found → f found ≡ new_word u.thread u.head d found)
-      → Leaves laws layout v u d rest index becomes (object_next u d rest index is_at) f
+      → KeepsDuty laws layout v u d rest index becomes (object_next u d rest index is_at) f
   object_leaves f leaves = (
     λ found known.
         itself (f found) ∙ (leaves found (subst (Knows u d) (itself found) known)
@@ -278,7 +278,7 @@ module _ (laws : ModelLaws) (layout : Layout) (v u : View)
     λ words views i does.
         let m = does.stands.machine in
         let raw = slice_index words (place_of u d) in
-        object_step m.layout words u (did u (d ∷ rest) (read_of u d raw)) (event_of u d (read_of u d raw)) (f raw)
+        object_step m.layout words u (view_by u (d ∷ rest) (read_of u d raw)) (event_of u d (read_of u d raw)) (f raw)
         does.stands.plain.few_workers
         (omega (
           arith,

@@ -5,14 +5,14 @@ use Rattle.brc_model.specs.declared.layout.Layout.{Layout}
 use Rattle.brc_model.specs.CountingLaws.{WorkIsPutAside, KindsAreAsked, ImmortalsAreFree}
 use Rattle.brc_table.specs.declared.view.View.{View}
 use Rattle.brc_table.specs.Views.{actor_of, asking, open_work}
-use Rattle.brc_table.specs.Hands.{MayLook, HasNoWork, IsRunning}
+use Rattle.brc_table.specs.Hands.{MayRead, HasNoWork, IsRunning}
 use Rattle.brc_table.specs.Begins.{Becomes}
 use Rattle.brc_table.proofs.AtHand.{rested, is_ready, alone, has_at_hand, with_at_hand}
 use Rattle.brc_table.proofs.Becoming.{then_begins, rearranged}
 
 -- A hand begins to ask for the kind of an object that it may use, or is to finalise.
 pub asking_becomes : WorkIsPutAside → KindsAreAsked → ImmortalsAreFree → (layout : Layout) (v : View) (x : ℕ)
-    → IsRunning v → HasNoWork v x → MayLook v x → Becomes layout v (asking v x)
+    → IsRunning v → HasNoWork v x → MayRead v x → Becomes layout v (asking v x)
 asking_becomes put law free layout v x running none (inl may) =
     then_begins put layout v (asking v x) running.1 (refl, (λ y locks. refl), refl)
     (λ words views id stands here.

@@ -24,7 +24,7 @@ use Rattle.brc_table.specs.declared.view.View.{View}
 use Rattle.brc_table.specs.declared.view.Joined.{Joined}
 use Rattle.brc_table.specs.Places.{place, HasWord, word_count}
 use Rattle.brc_table.specs.Views.{actor_of, holds}
-use Rattle.brc_table.specs.Seen.{has_seen_kind, cell_seen}
+use Rattle.brc_table.specs.KnownWords.{knows_kind, known_cell}
 use Rattle.brc_table.specs.Rule.{reading, Guards, IsGone, Stands}
 use Rattle.brc_table.specs.Threads.{ThreadsStand}
 use Rattle.brc_table.specs.Views.{is_given}
@@ -63,8 +63,8 @@ pub record Changes (layout : Layout) (words : List ℕ) (views : List View) (v u
   pub cells_stay : (other x : ℕ) (w : View) → w.thread ≢ v.thread → get_elem? views other ≡ some w → Guards machine w x
       → Guards old.machine w x × ((i : ℕ) → machine.memory (Cell x i) ≡ old.machine.memory (Cell x i))
   -- what this hand has seen is there
-  pub kinds_here : (x word : ℕ) → 0 < word → has_seen_kind x word u ≡ true → machine.memory (KindOf x) ≡ word
-  pub cells_here : (x i word : ℕ) → Guards machine u x → cell_seen x i u ≡ Some word
+  pub kinds_here : (x word : ℕ) → 0 < word → knows_kind x word u ≡ true → machine.memory (KindOf x) ≡ word
+  pub cells_here : (x i word : ℕ) → Guards machine u x → known_cell x i u ≡ Some word
       → machine.memory (Cell x i) ≡ word
   -- a hand that is gone stays so, and uses no further row
   pub gone_stays : v.status ≡ Gone → (u.status ≡ Gone) × (u.used ≡ v.used)
@@ -104,19 +104,19 @@ module _ (layout : Layout) (words : List ℕ) (views : List View) (id : ℕ) (v 
       (at_set views id other u w is)
 
   kinds_after : (other x word : ℕ) (w : View) → get_elem? (set views id u) other ≡ some w → 0 < word
-      → has_seen_kind x word w ≡ true → new.machine.memory (KindOf x) ≡ word
+      → knows_kind x word w ≡ true → new.machine.memory (KindOf x) ≡ word
   kinds_after other x word w is more seen =
       ⊎_elim
-      (λ t. new.kinds_here x word more (subst (λ (z : View). has_seen_kind x word z ≡ true) (sym t.1) seen))
+      (λ t. new.kinds_here x word more (subst (λ (z : View). knows_kind x word z ≡ true) (sym t.1) seen))
       (λ t. new.kinds_stay x word more (old.kinds_seen other x word w t.1 more seen))
       (at_set views id other u w is)
 
   cells_after : (other x i word : ℕ) (w : View) → get_elem? (set views id u) other ≡ some w → Guards new.machine w x
-      → cell_seen x i w ≡ Some word → new.machine.memory (Cell x i) ≡ word
+      → known_cell x i w ≡ Some word → new.machine.memory (Cell x i) ≡ word
   cells_after other x i word w is guards seen =
       ⊎_elim
       (λ t. new.cells_here x i word (subst (λ (z : View). Guards new.machine z x) (sym t.1) guards)
-      (subst (λ (z : View). cell_seen x i z ≡ Some word) (sym t.1) seen))
+      (subst (λ (z : View). known_cell x i z ≡ Some word) (sym t.1) seen))
       (λ t. let stay = new.cells_stay other x w (elsewhere other w t.0 t.1) t.1 guards in
       stay.1 i ∙ old.cells_seen other x i word w t.1 stay.0 seen)
       (at_set views id other u w is)

@@ -16,11 +16,11 @@ use Rattle.brc_model.specs.OpenWork.{is_about}
 use Rattle.brc_model.specs.Counting.{IsPlainLayout}
 use Rattle.std.proofs.Math.Nat.{mul-le-mul}
 use Rattle.brc_table.specs.declared.view.View.{View}
-use Rattle.brc_table.specs.Seen.{has_seen_kind}
+use Rattle.brc_table.specs.KnownWords.{knows_kind}
 use Rattle.brc_table.specs.Accesses.{IsNext}
 use Rattle.brc_table.specs.Uses.{IsDue}
 use Rattle.brc_table.specs.Views.{RowsAreThere, slot_filled_by, work_about}
-use Rattle.brc_table.specs.Hands.{HoldsOne, MayUse, MayLook}
+use Rattle.brc_table.specs.Hands.{HoldsOne, MayUse, MayRead}
 use Rattle.brc_table.specs.Calls.{OwnsFirst}
 use Rattle.brc_table.proofs.RowsThere.{immortal_there}
 
@@ -39,7 +39,7 @@ usable_there v x plain rows (inl holding) = held_there v x plain rows holding
 usable_there v x plain rows (inr borrowed) = borrowed.there
 
 -- So has an object at which it may look.
-pub looks_there : (v : View) (x : ℕ) → IsPlainLayout v.layout → RowsAreThere v → MayLook v x → x < row_count v.layout
+pub looks_there : (v : View) (x : ℕ) → IsPlainLayout v.layout → RowsAreThere v → MayRead v x → x < row_count v.layout
 looks_there v x plain rows (inl usable) = usable_there v x plain rows usable
 looks_there v x plain rows (inr first) = omega (arith, rows.head, first)
 
@@ -114,13 +114,13 @@ own_next v x _ is same = absurd same
 
 -- What is due in the slot.
 pub own_due : (v : View) (x word : ℕ) (ds : List Duty) → v.agenda ≡ ds → OwnsFirst x ds → 0 < word
-    → has_seen_kind x word v ≡ true
+    → knows_kind x word v ≡ true
     → IsDue (slot_filled_by ds v) (slot_filled_by ds v).agenda (resources_of word)
 own_due v x word (BirthSlot y h ∷ []) is same some seen =
-    (word, some, subst (λ (z : ℕ). has_seen_kind z word v ≡ true) (sym same) seen, refl)
+    (word, some, subst (λ (z : ℕ). knows_kind z word v ≡ true) (sym same) seen, refl)
 own_due v x word (BirthLocal y h ∷ []) is same some seen =
     subst (λ (ds : List Duty). IsDue v ds (resources_of word)) (sym is)
-    (word, some, subst (λ (z : ℕ). has_seen_kind z word v ≡ true) (sym same) seen, refl)
+    (word, some, subst (λ (z : ℕ). knows_kind z word v ≡ true) (sym same) seen, refl)
 own_due v x word _ is same some seen = absurd same
 
 pub owns_first_there : (v : View) (x : ℕ) (ds : List Duty) → RowsAreThere v → v.agenda ≡ ds → OwnsFirst x ds

@@ -19,7 +19,7 @@ use Rattle.brc_model.specs.Layout.{none_row, first_immortal_list, is_immortal_ro
 use Rattle.brc_model.specs.Duties.{continuation, ready}
 use Rattle.brc_model.specs.References.{one_if}
 use Rattle.brc_model.specs.declared.actor.Actor.{Actor}
-use Rattle.brc_model.specs.Machine.{Machine, same_address, written, is_running, life_by, actor_by, done_by, with_actor}
+use Rattle.brc_model.specs.Machine.{Machine, same_address, written, is_running, life_by, actor_by, machine_by_duty, with_actor}
 use Rattle.brc_model.specs.Accounts.{Account, Accounts}
 use Rattle.brc_model.specs.OpenWork.{is_about, about_of}
 use Rattle.brc_model.specs.Counting.{Counts, IsPlainLayout, with_account, with_one_less, working, HasNoneAbout}
@@ -106,7 +106,7 @@ module _ (kept : DutiesAreKept) (law : ReleasesBegin) (layout : Layout) (words :
         (omega (arith, has.just))
         (λ e. absurd (false≢true (sym ((s.counts.kept.core.each t a (s.acts id v here)).0.locks none_row e).counted)))
 
-    after : Counts p n (done_by (with_actor m t busy) t busy (ReleaseLoad none_row AsCaller) [])
+    after : Counts p n (machine_by_duty (with_actor m t busy) t busy (ReleaseLoad none_row AsCaller) [])
     after =
         (kept p n (with_actor m t busy) t busy (ReleaseLoad none_row AsCaller) [] begun (record {
           found = slice_get-set_same m.actors t busy (slice_get_within m.actors t a (s.acts id v here));
@@ -128,7 +128,7 @@ module _ (kept : DutiesAreKept) (law : ReleasesBegin) (layout : Layout) (words :
         ap left_to_do immortal ∙ sym free.agenda
 
     abbrev dropped : Machine
-    dropped = done_by (with_actor m t busy) t busy (ReleaseLoad none_row AsCaller) []
+    dropped = machine_by_duty (with_actor m t busy) t busy (ReleaseLoad none_row AsCaller) []
 
     -- Each row lives as before.
     still : (x : ℕ) → dropped.life x ≡ m.life x
@@ -141,7 +141,7 @@ module _ (kept : DutiesAreKept) (law : ReleasesBegin) (layout : Layout) (words :
     abbrev changes : Changes layout words views v v s words
     changes = record {
       accounts = p;
-      machine = done_by (with_actor m t busy) t busy (ReleaseLoad none_row AsCaller) [];
+      machine = machine_by_duty (with_actor m t busy) t busy (ReleaseLoad none_row AsCaller) [];
       counts = after;
       layout_same = refl;
       length_is = refl;

@@ -20,7 +20,7 @@ use Rattle.brc_model.specs.Layout.{row_count, block_of, index_of, root_row, IsCo
 use Rattle.brc_model.specs.Duties.{address_of, new_word}
 use Rattle.brc_model.specs.Knowledge.{status_word}
 use Rattle.brc_model.specs.declared.actor.Actor.{Actor}
-use Rattle.brc_model.specs.Machine.{Machine, done_by, written}
+use Rattle.brc_model.specs.Machine.{Machine, machine_by_duty, written}
 use Rattle.brc_model.specs.Progress.{Runs}
 use Rattle.brc_model.specs.Watched.{looks_at, scans_over}
 use Rattle.brc_model.specs.Watched as machine
@@ -115,13 +115,13 @@ module _ (layout : Layout) (words : List ℕ) (views : List View) (v : View) (d 
 
   -- The machine's word changes, too.
   changed : ((word : ℕ) → reading a word ≡ word)
-      → (done_by now v.thread (actor_of v) d it.rest).memory a ≢ now.memory a
+      → (machine_by_duty now v.thread (actor_of v) d it.rest).memory a ≢ now.memory a
   changed plain same =
       let found : now.memory a ≡ slice_index words (place a) =
       it.stands.reads a has ∙ plain (slice_index words (place a)) in
       let at : address_of now.layout v.thread v.head d ≡ a =
       subst (λ (l : Layout). address_of l v.thread v.head d ≡ a) (sym it.stands.layout_is) it.at in
-      let after : (done_by now v.thread (actor_of v) d it.rest).memory a ≡ new_word v.thread v.head d (now.memory a) =
+      let after : (machine_by_duty now v.thread (actor_of v) d it.rest).memory a ≡ new_word v.thread v.head d (now.memory a) =
       ap (λ (b : Address). written now.memory b (new_word v.thread v.head d (now.memory b)) a) at
       ∙ written_here now.memory a (new_word v.thread v.head d (now.memory a)) in
       it.other (ap (new_word v.thread v.head d) (sym found) ∙ (sym after ∙ (same ∙ found)))

@@ -4,7 +4,7 @@ mod Changing
 mod SlotsKept
 mod SlotsUsed
 mod ThreadsKept
-mod SeenWords
+mod KnownKept
 mod Stepping
 mod CellGuards
 mod RowsThere

@@ -12,13 +12,13 @@ use Rattle.brc_model.specs.declared.layout.Layout.{Layout}
 use Rattle.brc_model.specs.Duties.{resources_of}
 use Rattle.brc_model.specs.SlotLaws.{LockedSlotsAreFull}
 use Rattle.brc_table.specs.declared.view.View.{View}
-use Rattle.brc_table.specs.Views.{actor_of, event_of, did}
-use Rattle.brc_table.specs.Seen.{shows_kind, has_seen_kind}
+use Rattle.brc_table.specs.Views.{actor_of, event_of, view_by}
+use Rattle.brc_table.specs.KnownWords.{shows_kind, knows_kind}
 use Rattle.brc_table.specs.Homes.{TableStands}
 
 -- A kind word that the hand has seen is still seen after its first duty.
-pub still_seen : (x word : ℕ) (v : View) (d : Duty) (rest : List Duty) (found : ℕ) → has_seen_kind x word v ≡ true
-    → has_seen_kind x word (did v (d ∷ rest) found) ≡ true
+pub still_seen : (x word : ℕ) (v : View) (d : Duty) (rest : List Duty) (found : ℕ) → knows_kind x word v ≡ true
+    → knows_kind x word (view_by v (d ∷ rest) found) ≡ true
 still_seen x word v d rest found seen =
     let behind = event_of v d found ∷ [] in
     list_any-append (shows_kind x word) v.trace behind
@@ -36,5 +36,5 @@ module _ (full : LockedSlotsAreFull) {T : Type 0} (layout : Layout) (words : Lis
       locked refl
 
   -- So it does by the kind word that the hand has seen.
-  pub slot_seen : (word : ℕ) → 0 < word → has_seen_kind x word v ≡ true → v.in_slot ≡ resources_of word
+  pub slot_seen : (word : ℕ) → 0 < word → knows_kind x word v ≡ true → v.in_slot ≡ resources_of word
   slot_seen word more seen = slot_full ∙ ap resources_of (holds.stands.kinds_seen id x word v here more seen)

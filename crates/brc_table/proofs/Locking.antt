@@ -9,7 +9,7 @@ use Rattle.brc_model.specs.Duties.{cells_of}
 use Rattle.brc_model.specs.CountingLaws.{WorkIsPutAside, LocksBegin, UnlocksBegin, CellLoadsBegin, ImmortalsAreFree}
 use Rattle.brc_table.specs.declared.view.View.{View}
 use Rattle.brc_table.specs.Views.{RowsAreThere, actor_of, open_work, locking, unlocking, loading_cell}
-use Rattle.brc_table.specs.Seen.{KnowsCell}
+use Rattle.brc_table.specs.KnownWords.{KnowsCell}
 use Rattle.brc_table.specs.Hands.{HoldsOne, MayLoad, HasNoWork, HasNoRetain, IsRunning}
 use Rattle.brc_table.specs.Begins.{Becomes}
 use Rattle.brc_table.proofs.AtHand.{rested, is_ready, alone, has_one, with_one}

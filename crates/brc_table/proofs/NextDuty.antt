@@ -26,7 +26,7 @@ use Rattle.brc_table.specs.Rule.{reading}
 use Rattle.brc_table.specs.Places.{HasWord, IsObjectWord, IsTableWord}
 use Rattle.brc_table.specs.Plays.{overwritten, overwritten_by}
 use Rattle.brc_table.specs.Uses.{first_use, first_due, held_after}
-use Rattle.brc_table.specs.Views.{RowsAreThere, did, done, work_about}
+use Rattle.brc_table.specs.Views.{RowsAreThere, view_by, view_after, work_about}
 use Rattle.brc_table.proofs.Bare.{IsLike, alike}
 use Rattle.brc_table.proofs.Duties.{first_there, rows_few, work_there}
 use Rattle.brc_table.proofs.ExitDuties.{own_row_there}
@@ -167,23 +167,23 @@ module _ (u : View) (d : Duty) (next : IsNext d u.agenda) (has : HasAccess d) wh
       ∙ ap (held_after slots (use_of d 0)) (c.like.due c.rest [] found))
 
   -- What the step leaves of the thread.
-  pub status_next : (found : ℕ) → (done u found).status ≡ status_by u.status d
-  status_next found = ap (λ (ds : List Duty). (did u ds found).status) c.is ∙ c.like.status u.status
+  pub status_next : (found : ℕ) → (view_after u found).status ≡ status_by u.status d
+  status_next found = ap (λ (ds : List Duty). (view_by u ds found).status) c.is ∙ c.like.status u.status
 
-  pub head_next : (found : ℕ) → (done u found).head ≡ new_head u.head d found
-  head_next found = ap (λ (ds : List Duty). (did u ds found).head) c.is ∙ c.like.head u.head found
+  pub head_next : (found : ℕ) → (view_after u found).head ≡ new_head u.head d found
+  head_next found = ap (λ (ds : List Duty). (view_by u ds found).head) c.is ∙ c.like.head u.head found
 
-  pub used_next : (found : ℕ) → (done u found).used ≡ used_by u.used d
-  used_next found = ap (λ (ds : List Duty). (did u ds found).used) c.is ∙ c.like.used u.used
+  pub used_next : (found : ℕ) → (view_after u found).used ≡ used_by u.used d
+  used_next found = ap (λ (ds : List Duty). (view_by u ds found).used) c.is ∙ c.like.used u.used
 
-  pub thread_next : (found : ℕ) → (done u found).thread ≡ u.thread
-  thread_next found = ap (λ (ds : List Duty). (did u ds found).thread) c.is
+  pub thread_next : (found : ℕ) → (view_after u found).thread ≡ u.thread
+  thread_next found = ap (λ (ds : List Duty). (view_by u ds found).thread) c.is
 
-  pub layout_next : (found : ℕ) → (done u found).layout ≡ u.layout
-  layout_next found = ap (λ (ds : List Duty). (did u ds found).layout) c.is
+  pub layout_next : (found : ℕ) → (view_after u found).layout ≡ u.layout
+  layout_next found = ap (λ (ds : List Duty). (view_by u ds found).layout) c.is
 
-  pub given_next : (found : ℕ) → (done u found).given ≡ u.given
-  given_next found = ap (λ (ds : List Duty). (did u ds found).given) c.is
+  pub given_next : (found : ℕ) → (view_after u found).given ≡ u.given
+  given_next found = ap (λ (ds : List Duty). (view_by u ds found).given) c.is
 
 -- The row of work that is about it is there.
 pub work_row_there : (v : View) (x : ℕ) (d : Duty) → RowsAreThere v → IsNext d (work_about x v)

@@ -17,7 +17,7 @@ use Rattle.brc_model.specs.Counting.{IsPlainLayout, hands_machine, hands_account
 use Rattle.brc_model.specs.CountingLaws.{HandsBegin}
 use Rattle.brc_table.specs.declared.view.View.{View}
 use Rattle.brc_table.specs.Views.{actor_of, holds, is_given, main_view}
-use Rattle.brc_table.specs.Seen.{has_seen_kind, cell_seen, has_started, started_word, has_seen_gone}
+use Rattle.brc_table.specs.KnownWords.{knows_kind, known_cell, has_started, started_word, knows_gone}
 use Rattle.brc_table.specs.Rule.{IsGone, Stands}
 use Rattle.brc_table.specs.Homes.{times_taken, TableStands}
 use Rattle.brc_table.specs.Threads.{thread_word}
@@ -99,9 +99,9 @@ module _ (begin : HandsBegin) (layout : Layout) (plain : IsPlainLayout layout) (
     named = refl;
     rooted = refl;
     kinds_seen = λ id x word v is more seen.
-        absurd (false≢true (sym (of_main (λ w. has_seen_kind x word w ≡ false) id v is refl) ∙ seen));
+        absurd (false≢true (sym (of_main (λ w. knows_kind x word w ≡ false) id v is refl) ∙ seen));
     cells_seen = λ id x i word v is locked seen.
-        absurd (let none = of_main (λ w. cell_seen x i w ≡ None) id v is refl in
+        absurd (let none = of_main (λ w. known_cell x i w ≡ None) id v is refl in
         let wrong : None ≡ Some word = sym none ∙ seen in cc);
     holding = λ id v x is counted.
         of_main (λ w. hands_accounts w.thread AsCaller x ≡ holds w x) id v is (main_holds layout x);
@@ -122,7 +122,7 @@ module _ (begin : HandsBegin) (layout : Layout) (plain : IsPlainLayout layout) (
       given_started = λ id t v is given.
           absurd (false≢true (sym (of_main (λ w. is_given t w ≡ false) id v is refl) ∙ given));
       gone_seen = λ id t v is low seen.
-          absurd (false≢true (sym (of_main (λ w. has_seen_gone t w ≡ false) id v is refl) ∙ seen));
+          absurd (false≢true (sym (of_main (λ w. knows_gone t w ≡ false) id v is refl) ∙ seen));
       unstarted = λ id t v is first_thread pos low none.
           worker_waits t pos low ∙ sym (of_main (λ w. started_word t w ≡ 0) id v is refl);
     };

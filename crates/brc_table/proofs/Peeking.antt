@@ -21,7 +21,7 @@ use Rattle.brc_table.specs.declared.view.View.{View}
 use Rattle.brc_table.specs.declared.view.Event.{Event}
 use Rattle.brc_table.specs.Places.{place, HasWord}
 use Rattle.brc_table.specs.Views.{actor_of, is_given, RowsAreThere}
-use Rattle.brc_table.specs.Seen.{shows_kind, cell_known, starts, has_started, shows_gone}
+use Rattle.brc_table.specs.KnownWords.{shows_kind, cell_known, starts, has_started, shows_gone}
 use Rattle.brc_table.specs.Threads.{thread_word}
 use Rattle.brc_table.specs.Homes.{TableStands}
 use Rattle.brc_table.specs.Begins.{Passes}

@@ -14,7 +14,7 @@ use Rattle.brc_model.specs.Within.{Suits}
 use Rattle.brc_table.specs.ModelLaws.{ModelLaws}
 use Rattle.brc_table.specs.declared.view.View.{View}
 use Rattle.brc_table.specs.Rule.{thread_reading}
-use Rattle.brc_table.specs.Views.{RowsAreThere, did, taken_after}
+use Rattle.brc_table.specs.Views.{RowsAreThere, view_by, taken_after}
 use Rattle.brc_table.specs.Places.{place, IsObjectWord, IsTableWord}
 use Rattle.brc_table.specs.Hands.{TableState, HandState}
 use Rattle.brc_table.specs.Homes.{rows_of, held_in, TableStands}
@@ -71,10 +71,10 @@ module _ (laws : ModelLaws) (words : TableState) (hand : HandState) (begins : Vi
         (learns (read_of u d word) after known uses)
 
     -- A duty that takes no slot and gives none back uses none.
-    uses_none : ((found : ℕ) → use_of d found ≡ Stays) → (found : ℕ) → RowsAreThere (did u (d ∷ rest) found)
-        → Uses begins me found (did u (d ∷ rest) found, me.1)
+    uses_none : ((found : ℕ) → use_of d found ≡ Stays) → (found : ℕ) → RowsAreThere (view_by u (d ∷ rest) found)
+        → Uses begins me found (view_by u (d ∷ rest) found, me.1)
     uses_none stays found rows = (
-      ap (λ (ds : List Duty). did u ds found) (sym next.agenda),
+      ap (λ (ds : List Duty). view_by u ds found) (sym next.agenda),
       rows,
       λ follows.
           follows ∙ (sym becoming.slots.taken ∙ sym (ap (taken_after u.taken) (stays found))),
@@ -91,7 +91,7 @@ module _ (laws : ModelLaws) (words : TableState) (hand : HandState) (begins : Vi
         allowed.allows laws layout me.0 u d rest index becoming next slots id me f
         (StepsBy begins me) refl all leaves
         (λ word knows there.
-        goes_on word (did u (d ∷ rest) (read_of u d word), me.1) knows (uses_none all (read_of u d word) there))
+        goes_on word (view_by u (d ∷ rest) (read_of u d word), me.1) knows (uses_none all (read_of u d word) there))
     permitted rows (Takes x) all due =
         taken.takes_allows laws layout me.0 u d rest index becoming next x slots id me f
         begins (StepsBy begins me) refl refl all leaves goes_on

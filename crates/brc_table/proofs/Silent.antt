@@ -15,7 +15,7 @@ use Rattle.brc_model.specs.declared.duty.Duty.TheVariants.{BirthSlot, BirthLocal
 use Rattle.brc_model.specs.declared.layout.Layout.{Layout}
 use Rattle.brc_model.specs.Duties.{address_of, new_word, continuation, ready}
 use Rattle.brc_model.specs.declared.actor.Actor.{Actor}
-use Rattle.brc_model.specs.Machine.{Machine, Life, written, is_running, life_by, actor_by, done_by}
+use Rattle.brc_model.specs.Machine.{Machine, Life, written, is_running, life_by, actor_by, machine_by_duty}
 use Rattle.brc_model.specs.CountingLaws.{ComesNext, DutiesAreKept}
 use Rattle.brc_model.specs.SlotLaws.{needs_slot, UsesSlot, NeededSlotsAreUnlocked}
 use Rattle.brc_table.specs.declared.view.View.{View}
@@ -189,10 +189,10 @@ module _ (kept : DutiesAreKept) (unlocked : NeededSlotsAreUnlocked) (layout : La
           unlocked s.accounts (1 + m.layout.workers) m t a d rest x s.counts comes silent.needs (locks ∙ ap Some same)
 
       -- Each row lives as before.
-      still : (y : ℕ) → (done_by m t a d rest).life y ≡ m.life y
+      still : (y : ℕ) → (machine_by_duty m t a d rest).life y ≡ m.life y
       still y = silent.lives m.life m.layout t (is_running v.status) v.head (m.memory address) y
 
-      guards_of : {y : ℕ} → Guards (done_by m t a d rest) u y → Guards (done_by m t a d rest) v y
+      guards_of : {y : ℕ} → Guards (machine_by_duty m t a d rest) u y → Guards (machine_by_duty m t a d rest) v y
       guards_of (inl locked) = inl locked
       guards_of (inr chained) = inr chained
 
@@ -202,7 +202,7 @@ module _ (kept : DutiesAreKept) (unlocked : NeededSlotsAreUnlocked) (layout : La
           let word = new_word t a.head d (m.memory address) in
           passes layout words views id v u s here words (record {
             accounts = s.accounts;
-            machine = done_by m t a d rest;
+            machine = machine_by_duty m t a d rest;
             counts = (kept s.accounts (1 + m.layout.workers) m t a d rest s.counts comes).1;
             layout_same = refl;
             length_is = refl;
@@ -219,7 +219,7 @@ module _ (kept : DutiesAreKept) (unlocked : NeededSlotsAreUnlocked) (layout : La
             no_variables = s.no_variables;
             kinds_stay = λ y w more is. kind_away x address at m.memory word y ∙ is;
             cells_stay = λ other y w apart is guards. (
-              guards_before m (done_by m t a d rest) w y (still y) (gate_away x address at m.memory word y) guards,
+              guards_before m (machine_by_duty m t a d rest) w y (still y) (gate_away x address at m.memory word y) guards,
               λ i. cell_away x address at m.memory word y i,
             );
             kinds_here = λ y w more seen.
@@ -227,7 +227,7 @@ module _ (kept : DutiesAreKept) (unlocked : NeededSlotsAreUnlocked) (layout : La
             cells_here = λ y i w guards seen.
                 cell_away x address at m.memory word y i
                 ∙ s.cells_seen id y i w v here
-                (guards_before m (done_by m t a d rest) v y (still y) (gate_away x address at m.memory word y)
+                (guards_before m (machine_by_duty m t a d rest) v y (still y) (gate_away x address at m.memory word y)
                 (guards_of guards)) seen;
             threads = λ i there. threads_same layout words views i v u s there refl refl refl;
           }) v.taken v.locked

@@ -16,8 +16,8 @@ use Rattle.brc_model.specs.CountingLaws.{WorkIsPutAside, LocksBegin, ImmortalsAr
 use Rattle.brc_model.specs.SlotLaws.{Stays, Takes, use_of}
 use Rattle.brc_table.specs.ModelLaws.{ModelLaws}
 use Rattle.brc_table.specs.declared.view.View.{View}
-use Rattle.brc_table.specs.Views.{done, did, taken_after, locking}
-use Rattle.brc_table.specs.Seen.{has_seen_kind}
+use Rattle.brc_table.specs.Views.{view_after, view_by, taken_after, locking}
+use Rattle.brc_table.specs.KnownWords.{knows_kind}
 use Rattle.brc_table.specs.Places.{in_tile}
 use Rattle.brc_table.specs.Hands.{HoldsOne, HasNoWork, IsRunning}
 use Rattle.brc_table.specs.Homes.{held_in, TableStands}
@@ -61,7 +61,7 @@ module _ (laws : ModelLaws) where
         let leaves =
         allowed.object_leaves laws layout v u (LockGate x) [] index becomes is_at f
         (λ found knows. either_is found free_word gate free_word (locked_word v.thread) refl names) in
-        let w = did u (LockGate x ∷ []) word in
+        let w = view_by u (LockGate x ∷ []) word in
         let rows =
         allowed.rows_now laws layout v u (LockGate x) [] index becomes next s holds id mine
         f leaves in
@@ -81,7 +81,7 @@ module _ (laws : ModelLaws) where
                 slot.there,
                 now,
                 (
-                  ap (λ (z : View). done (locking z x n) word) (sym is_me),
+                  ap (λ (z : View). view_after (locking z x n) word) (sym is_me),
                   rows,
                   λ follows.
                       ap (λ (l : List ℕ). x ∷ l) (follows ∙ ap (λ (z : View). z.taken) is_me)
@@ -94,7 +94,7 @@ module _ (laws : ModelLaws) where
                       now id x w (set_view s.views id v w mine) (ap (λ (b : Bool). cond b (Some x) v.locked) is_free)
                       kind more
                       (still_seen x kind u (LockGate x) [] word
-                      (subst (λ (z : View). has_seen_kind x kind z ≡ true) is_me seen)),
+                      (subst (λ (z : View). knows_kind x kind z ≡ true) is_me seen)),
                 ),
               )
           | inr other ↦
@@ -112,7 +112,7 @@ module _ (laws : ModelLaws) where
                       holds id mine f leaves stays;
                 },
                 (
-                  ap (λ (z : View). done (locking z x n) word) (sym is_me),
+                  ap (λ (z : View). view_after (locking z x n) word) (sym is_me),
                   rows,
                   λ follows.
                       follows ∙ (ap (λ (z : View). z.taken) is_me ∙ sym (ap (taken_after u.taken) stays)),

@@ -18,8 +18,8 @@ use Rattle.brc_model.specs.Within.{IsThere}
 use Rattle.brc_model.specs.SlotLaws.{SlotUse, Stays, Takes, Gives, use_of, Unlocks, SlotsAreKnown}
 use Rattle.brc_table.specs.ModelLaws.{ModelLaws}
 use Rattle.brc_table.specs.declared.view.View.{View}
-use Rattle.brc_table.specs.Views.{actor_of, did, behind_first, taken_after}
-use Rattle.brc_table.specs.Seen.{has_seen_kind}
+use Rattle.brc_table.specs.Views.{actor_of, view_by, behind_first, taken_after}
+use Rattle.brc_table.specs.KnownWords.{knows_kind}
 use Rattle.brc_model.specs.Knowledge.{HeadOf}
 use Rattle.brc_table.specs.Homes.{resources, rows_of, held_in, TableStands}
 use Rattle.brc_table.specs.Begins.{Becomes}
@@ -72,7 +72,7 @@ due_is law layout words views id v u (BirthLocal y h) rest does found x n is sam
     (record { found = s.acts id u does.here; agenda = does.agenda; alive = does.alive }) in
     let row = gives_row x y is in
     let seen : s.machine.memory (KindOf x) ≡ due.0 =
-    s.kinds_seen id x due.0 u does.here due.1 (subst (λ (z : ℕ). has_seen_kind z due.0 u ≡ true) row due.2) in
+    s.kinds_seen id x due.0 u does.here due.1 (subst (λ (z : ℕ). knows_kind z due.0 u ≡ true) row due.2) in
     due.3 ∙ (ap resources_of (sym seen ∙ ap (λ (z : ℕ). s.machine.memory (KindOf z)) (sym row))
     ∙ (sym filled ∙ ap (λ (z : ℕ). s.machine.memory (Slot z)) row))
 due_is law layout words views id v u (SettleEnd y) rest does found x n is same in_slot locked due =
@@ -130,7 +130,7 @@ module _ (laws : ModelLaws)
         (leaves : allowed.Leaves laws layout v u d rest index becomes next f) where
       -- The rule holds after the step.
       pub stands_now : TableStands layout (set s.words index (f (slice_index s.words index)))
-          (set s.homes x (home.some slot)) (set s.views id (did u (d ∷ rest) found))
+          (set s.homes x (home.some slot)) (set s.views id (view_by u (d ∷ rest) found))
       stands_now =
           let now =
           allowed.now laws layout v u d rest index becomes next s holds id here f leaves in
@@ -140,7 +140,7 @@ module _ (laws : ModelLaws)
           record {
             stands = now.stands;
             slots =
-                slots_given m now.stands.machine s.homes s.views id v (did u (d ∷ rest) found) holds.slots here
+                slots_given m now.stands.machine s.homes s.views id v (view_by u (d ∷ rest) found) holds.slots here
                 (allowed.layout_stays laws layout v u d rest index becomes next s holds id
                 here f leaves) x rows taken
                 (ap (taken_after u.taken) gives_it ∙ ap behind_first (becomes.slots.taken ∙ taken)) slot row_low
@@ -171,7 +171,7 @@ module _ (laws : ModelLaws)
       let word = slice_index s.words index in
       let found_now = read_of u d word in
       let gives_it = all found_now in
-      let w = did u (d ∷ rest) found_now in
+      let w = view_by u (d ∷ rest) found_now in
       let now = stands_now s holds id mine gives_it (rows_of ps) (sym follows) slot due f leaves in
       let is_u : begins seat ≡ u = ap begins is_me ∙ becomes_is in (
         w,
@@ -180,8 +180,8 @@ module _ (laws : ModelLaws)
         now,
         goes word (w, ps)
             (allowed.known laws layout v u d rest index becomes next s holds id mine) (
-              ap (λ (ds : List Duty). did u ds found_now) (sym next.agenda)
-                  ∙ ap (λ (z : View). did z z.agenda found_now) (sym is_u),
+              ap (λ (ds : List Duty). view_by u ds found_now) (sym next.agenda)
+                  ∙ ap (λ (z : View). view_by z z.agenda found_now) (sym is_u),
               allowed.rows_now laws layout v u d rest index becomes next s holds id mine f
                   leaves,
               λ same.

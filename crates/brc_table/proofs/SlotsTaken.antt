@@ -21,7 +21,7 @@ use Rattle.brc_model.specs.Within.{IsThere}
 use Rattle.brc_model.specs.SlotLaws.{SlotUse, Stays, Takes, Gives, use_of, UsesSlot, SlotsAreKnown}
 use Rattle.brc_table.specs.ModelLaws.{ModelLaws}
 use Rattle.brc_table.specs.declared.view.View.{View}
-use Rattle.brc_table.specs.Views.{actor_of, did, taken_after}
+use Rattle.brc_table.specs.Views.{actor_of, view_by, taken_after}
 use Rattle.brc_table.specs.Homes.{resources, held_in, times_taken, IsHome, HoldsHome, TableStands}
 use Rattle.brc_table.specs.Begins.{Becomes}
 use Rattle.brc_table.specs.Uses.{first_use, first_due, held_after, Uses}
@@ -160,7 +160,7 @@ module _ (laws : ModelLaws) (layout : Layout) (v u : View) (d : Duty)
         -- The rule holds after the step.
         pub stands_now : TableStands layout (set s.words index (f (slice_index s.words index)))
             (set s.homes x home.none)
-            (set s.views id (did u (d ∷ rest) found))
+            (set s.views id (view_by u (d ∷ rest) found))
         stands_now =
             let now =
             allowed.now laws layout v u d rest index becomes next s holds id here f leaves
@@ -168,7 +168,7 @@ module _ (laws : ModelLaws) (layout : Layout) (v u : View) (d : Duty)
             record {
               stands = now.stands;
               slots =
-                  slots_taken m now.stands.machine s.homes s.views id v (did u (d ∷ rest) found) holds.slots here
+                  slots_taken m now.stands.machine s.homes s.views id v (view_by u (d ∷ rest) found) holds.slots here
                   (allowed.layout_stays laws layout v u d rest index becomes next s holds id
                   here f leaves) x
                   (ap (taken_after u.taken) takes_it ∙ ap (λ (rows : List ℕ). x ∷ rows) becomes.slots.taken) is_home
@@ -193,7 +193,7 @@ module _ (laws : ModelLaws) (layout : Layout) (v u : View) (d : Duty)
       let found_now = read_of u d word in
       let takes_it = all found_now in
       let slot = slot_home s holds id mine takes_it in
-      let w = did u (d ∷ rest) found_now in
+      let w = view_by u (d ∷ rest) found_now in
       let leave_lock = takes_no_lock d x all u.locked found_now in
       let now =
       stands_now s holds id mine takes_it f leaves (λ y locks. leave_lock ∙ locks)
@@ -212,8 +212,8 @@ module _ (laws : ModelLaws) (layout : Layout) (v u : View) (d : Duty)
         now,
         goes word after
             (allowed.known laws layout v u d rest index becomes next s holds id mine) (
-              ap (λ (ds : List Duty). did u ds found_now) (sym next.agenda)
-                  ∙ ap (λ (z : View). did z z.agenda found_now) (sym is_u),
+              ap (λ (ds : List Duty). view_by u ds found_now) (sym next.agenda)
+                  ∙ ap (λ (z : View). view_by z z.agenda found_now) (sym is_u),
               allowed.rows_now laws layout v u d rest index becomes next s holds id mine f
                   leaves,
               λ follows.

@@ -12,7 +12,7 @@ use Rattle.brc_model.specs.Duties.{continuation, new_head, ready, has_resource, 
 use Rattle.brc_model.specs.Machine.{is_running, locked_by}
 use Rattle.brc_model.specs.SlotLaws.{SlotUse, Stays, Takes, Gives, use_of, needs_slot, UsesSlot}
 use Rattle.brc_table.specs.declared.view.View.{View}
-use Rattle.brc_table.specs.Views.{actor_of, did}
+use Rattle.brc_table.specs.Views.{actor_of, view_by}
 
 pub or_true : (b : Bool) → (b || true) ≡ true
 or_true true = refl
@@ -62,7 +62,7 @@ needs_on layout t running head _ found x is not_given = absurd cc
 
 needs_left : (v : View) (d : Duty) (rest : List Duty) (found x : ℕ) → (use_of d found ≡ Gives x → ⊥)
     → (needs_slot x d || list_any (needs_slot x) rest) ≡ true
-    → list_any (needs_slot x) (did v (d ∷ rest) found).agenda ≡ true
+    → list_any (needs_slot x) (view_by v (d ∷ rest) found).agenda ≡ true
 needs_left v d rest found x not_given is =
     let next = continuation v.layout v.thread (is_running v.status) v.head d found in
     needs_ready x (new_head v.head d found) (next ++ rest) ∙ (list_any-append (needs_slot x) next rest
@@ -81,7 +81,7 @@ needs_left v d rest found x not_given is =
 -- A hand uses what it used, if it doesn't give the slot back, and keeps its lock.
 pub used_left : (v : View) (d : Duty) (rest : List Duty) (found x : ℕ) → v.agenda ≡ d ∷ rest
     → (use_of d found ≡ Gives x → ⊥) → (v.locked ≡ Some x → locked_by v.locked d found ≡ Some x)
-    → UsesSlot (actor_of v) x → UsesSlot (actor_of (did v (d ∷ rest) found)) x
+    → UsesSlot (actor_of v) x → UsesSlot (actor_of (view_by v (d ∷ rest) found)) x
 used_left v d rest found x agenda not_given lock (inl locks) = inl (lock locks)
 used_left v d rest found x agenda not_given lock (inr needs) =
     inr (needs_left v d rest found x not_given (sym (ap (list_any (needs_slot x)) agenda) ∙ needs))
@@ -101,7 +101,7 @@ takes_same : (x y : ℕ) → Takes y ≡ Takes x → y ≡ x
 takes_same x y is = let row : SlotUse → ℕ = λ u. elim u [ Stays ↦ 0 | Takes z ↦ z | Gives z ↦ 0 ] in ap row is
 
 pub used_now : (v : View) (d : Duty) (rest : List Duty) (found x : ℕ) → use_of d found ≡ Takes x
-    → UsesSlot (actor_of (did v (d ∷ rest) found)) x
+    → UsesSlot (actor_of (view_by v (d ∷ rest) found)) x
 used_now v (LockGate y) rest found x takes = elim (cases_Bool (found == free_word)) [
   | inl free ↦
       let same : y ≡ x =

@@ -26,7 +26,7 @@ use Rattle.brc_table.specs.Views.{actor_of, holds, is_given, giving, worker_view
 use Rattle.brc_table.specs.Rule.{Guards, IsGone, Stands}
 use Rattle.brc_table.specs.Homes.{TableStands}
 use Rattle.brc_table.proofs.SlotsKept.{slots_kept, slots_longer}
-use Rattle.brc_table.specs.Seen.{has_seen_kind, cell_seen, has_started, started_word, has_seen_gone}
+use Rattle.brc_table.specs.KnownWords.{knows_kind, known_cell, has_started, started_word, knows_gone}
 use Rattle.brc_table.specs.Threads.{thread_word, ThreadsStand}
 use Rattle.brc_table.specs.Hands.{HasNoWork}
 use Rattle.brc_table.specs.Giving.{MayGive}
@@ -172,22 +172,22 @@ module _ (law : ReferencesAreHandedOver) (layout : Layout) (words : List ℕ) (v
   told_after other z (Another apart is) = old.told other z is
   told_after other z (New same is) = subst (λ (w : View). w.layout ≡ machine.layout) is (old.told id v here)
 
-  kinds_after : (other x word : ℕ) (z : View) → Whose other z → 0 < word → has_seen_kind x word z ≡ true
+  kinds_after : (other x word : ℕ) (z : View) → Whose other z → 0 < word → knows_kind x word z ≡ true
       → old.machine.memory (KindOf x) ≡ word
   kinds_after other x word z (Mains same is) high seen =
-      old.kinds_seen id x word v here high (subst (λ (w : View). has_seen_kind x word w ≡ true) (sym is) seen)
+      old.kinds_seen id x word v here high (subst (λ (w : View). knows_kind x word w ≡ true) (sym is) seen)
   kinds_after other x word z (Another apart is) high seen = old.kinds_seen other x word z is high seen
   kinds_after other x word z (New same is) high seen =
-      absurd (false≢true (subst (λ (w : View). has_seen_kind x word w ≡ true) (sym is) seen))
+      absurd (false≢true (subst (λ (w : View). knows_kind x word w ≡ true) (sym is) seen))
 
-  cells_after : (other x i word : ℕ) (z : View) → Whose other z → Guards machine z x → cell_seen x i z ≡ Some word
+  cells_after : (other x i word : ℕ) (z : View) → Whose other z → Guards machine z x → known_cell x i z ≡ Some word
       → old.machine.memory (Cell x i) ≡ word
   cells_after other x i word z (Mains same is) guards seen =
       old.cells_seen id x i word v here (subst (λ (w : View). Guards machine w x) (sym is) guards)
-      (subst (λ (w : View). cell_seen x i w ≡ Some word) (sym is) seen)
+      (subst (λ (w : View). known_cell x i w ≡ Some word) (sym is) seen)
   cells_after other x i word z (Another apart is) guards seen = old.cells_seen other x i word z is guards seen
   cells_after other x i word z (New same is) guards seen =
-      absurd (let wrong : None ≡ Some word = subst (λ (w : View). cell_seen x i w ≡ Some word) (sym is) seen in cc)
+      absurd (let wrong : None ≡ Some word = subst (λ (w : View). known_cell x i w ≡ Some word) (sym is) seen in cc)
 
   holding_after : (other : ℕ) (z : View) (x : ℕ) → Whose other z → IsCounted machine.layout x
       → after z.thread AsCaller x ≡ holds z x
@@ -329,10 +329,10 @@ module _ (law : ReferencesAreHandedOver) (layout : Layout) (words : List ℕ) (v
         ];
         gone_seen = λ other k z is low seen. elim (whose other z is) [
           | Mains same this ↦
-              threads.gone_seen id k v here low (subst (λ (w : View). has_seen_gone k w ≡ true) (sym this) seen)
+              threads.gone_seen id k v here low (subst (λ (w : View). knows_gone k w ≡ true) (sym this) seen)
           | Another apart there ↦ threads.gone_seen other k z there low seen
           | New same this ↦
-              absurd (false≢true (subst (λ (w : View). has_seen_gone k w ≡ true) (sym this) seen))
+              absurd (false≢true (subst (λ (w : View). knows_gone k w ≡ true) (sym this) seen))
         ];
         unstarted = λ other k z is first pos low none. elim (whose other z is) [
           | Mains same this ↦

@@ -18,12 +18,12 @@ use Rattle.brc_table.specs.declared.view.View.{View}
 use Rattle.brc_table.specs.declared.view.Event.{Event}
 use Rattle.brc_table.specs.Places.{place, HasWord}
 use Rattle.brc_table.specs.Views.{actor_of, RowsAreThere}
-use Rattle.brc_table.specs.Seen.{shows_kind, cell_known, starts, has_started, started_word, shows_gone}
+use Rattle.brc_table.specs.KnownWords.{shows_kind, cell_known, starts, has_started, started_word, shows_gone}
 use Rattle.brc_table.specs.Threads.{thread_word}
 use Rattle.brc_table.specs.Homes.{TableStands}
 use Rattle.brc_table.specs.Begins.{Passes}
 use Rattle.brc_table.specs.Rule.{thread_reading, Stands}
-use Rattle.brc_table.specs.Giving.{MayStart, starting, Starts}
+use Rattle.brc_table.specs.Giving.{MayStart, starting, StoresRunning}
 use Rattle.brc_table.proofs.RowsThere.{rows_there}
 use Rattle.brc_table.proofs.Changing.{Changes, passes}
 use Rattle.brc_table.proofs.SlotsKept.{slots_kept}
@@ -168,7 +168,7 @@ module _ (accounts : AccountsAreThere) (chains : ChainsAreThere) (layout : Layou
   pub start_allowed : {T : Type 0} (slots id index : ℕ) (me : Me (Option T) View) → me.0 ≡ v → index ≡ t
       → Allows (λ (s : State (Option T) View). TableStands layout s.words s.homes s.views) slots id me index
       (λ found. 1)
-      (λ found after. Starts t me after)
+      (λ found after. StoresRunning t me after)
   start_allowed slots id index me is_me at s holds homes here below =
       let mine : get_elem? s.views id ≡ some v = here ∙ ap some is_me in
       let w = starting v t in
@@ -189,5 +189,5 @@ module _ (accounts : AccountsAreThere) (chains : ChainsAreThere) (layout : Layou
               (moved.stands.layout_is ∙ sym holds.stands.layout_is)
               (record { taken = refl; in_slot = λ x locks. refl; locked = refl; used = λ x uses. uses }) moved.slots;
         },
-        subst (λ (u : View). Starts t (u, me.1) (w, me.1)) (sym is_me) (refl, refl, rows),
+        subst (λ (u : View). StoresRunning t (u, me.1) (w, me.1)) (sym is_me) (refl, refl, rows),
       )

@@ -14,20 +14,20 @@ use Rattle.brc_model.specs.declared.layout.Layout.{Layout}
 use Rattle.brc_model.specs.Layout.{row_count}
 use Rattle.brc_model.specs.Limits.{worker_limit}
 use Rattle.brc_model.specs.Duties.{address_of, new_word}
-use Rattle.brc_model.specs.Machine.{Machine, same_address, written, actor_by, done_by, locked_by, lent_by}
+use Rattle.brc_model.specs.Machine.{Machine, same_address, written, actor_by, machine_by_duty, locked_by, lent_by}
 use Rattle.brc_model.specs.Within.{IsThere}
 use Rattle.brc_model.specs.CountingLaws.{ComesNext, DutiesAreKept, DutyWithin, DutiesAreWithin}
 use Rattle.brc_model.specs.GuardLaws.{LeavesGuarded, GuardedCellsStay}
 use Rattle.brc_table.specs.declared.view.View.{View}
 use Rattle.brc_table.specs.Places.{place, HasWord, IsObjectWord, IsTableWord, word_count}
-use Rattle.brc_table.specs.Views.{actor_of, event_of, did}
+use Rattle.brc_table.specs.Views.{actor_of, event_of, view_by}
 use Rattle.brc_table.specs.Rule.{reading, Guards, Stands}
 use Rattle.brc_table.specs.Begins.{Passes}
 use Rattle.brc_table.proofs.Lists.{and_first, and_second}
 use Rattle.brc_table.proofs.Places.{place_apart, place_within}
 use Rattle.brc_table.proofs.Changing.{Changes, passes}
 use Rattle.brc_table.proofs.ThreadsKept.{KeepsThreads, threads_kept}
-use Rattle.brc_table.proofs.SeenWords.{kind_stays, IsStep, kind_here, lock_before, cell_here}
+use Rattle.brc_table.proofs.KnownKept.{kind_stays, IsStep, kind_here, lock_before, cell_here}
 
 -- ---- words and addresses
 
@@ -158,20 +158,20 @@ module _ (kept : DutiesAreKept) (within : DutiesAreWithin) (stay : GuardedCellsS
   finds = does.stands.reads (address_of v.layout v.thread v.head d) has
 
   module _ (left : ℕ) (leaves : read_of v d left ≡ new_word v.thread v.head d found)
-      (keeps : KeepsThreads m.layout words (set words (place_of v d) left) v (did v (d ∷ rest) found)) where
+      (keeps : KeepsThreads m.layout words (set words (place_of v d) left) v (view_by v (d ∷ rest) found)) where
     stays : LeavesGuarded m v.thread (actor_of v) d rest
     stays = stay does.stands.accounts (1 + m.layout.workers) m v.thread (actor_of v) d rest does.stands.counts comes
 
     -- The hand begins to guard a list by a step on its gate.
     guarded_before : (x : ℕ) → same_address (address_of m.layout v.thread v.head d) (Gate x) ≡ false
         → m.memory (address_of m.layout v.thread v.head d) ≡ found
-        → Guards (done_by m v.thread (actor_of v) d rest) (did v (d ∷ rest) found) x → Guards m v x
+        → Guards (machine_by_duty m v.thread (actor_of v) d rest) (view_by v (d ∷ rest) found) x → Guards m v x
     guarded_before x apart seen (inl locked) =
         inl (lock_before m.layout v.thread v.head d x (m.memory (address_of m.layout v.thread v.head d)) v.locked apart
         (ap (locked_by v.locked d) seen ∙ locked))
     guarded_before x apart seen (inr chained) = inr (stays.own x apart chained)
 
-    changes : Changes layout words views v (did v (d ∷ rest) found) does.stands (set words (place_of v d) left)
+    changes : Changes layout words views v (view_by v (d ∷ rest) found) does.stands (set words (place_of v d) left)
     changes =
         let old = does.stands in
         let t = v.thread in let a = actor_of v in
@@ -183,7 +183,7 @@ module _ (kept : DutiesAreKept) (within : DutiesAreWithin) (stay : GuardedCellsS
         } in
         record {
           accounts = old.accounts;
-          machine = done_by m t a d rest;
+          machine = machine_by_duty m t a d rest;
           counts = (kept old.accounts (1 + m.layout.workers) m t a d rest old.counts comes).1;
           layout_same = refl;
           length_is = length-set words (place_of v d) left;
@@ -198,7 +198,7 @@ module _ (kept : DutiesAreKept) (within : DutiesAreWithin) (stay : GuardedCellsS
           actors =
               ap (λ (k : ℕ). set m.actors t (actor_by m.layout t a d rest k)) seen
               ∙ (ap (λ (l : Layout). set m.actors t (actor_by l t a d rest found)) (sym told)
-              ∙ ap (λ (l : Option ℕ). set m.actors t (record (actor_of (did v (d ∷ rest) found)) { lent = l }))
+              ∙ ap (λ (l : Option ℕ). set m.actors t (record (actor_of (view_by v (d ∷ rest) found)) { lent = l }))
               (lends_nothing v.layout t v.head d found does.word));
           thread_same = refl;
           told_same = refl;
@@ -217,11 +217,11 @@ module _ (kept : DutiesAreKept) (within : DutiesAreWithin) (stay : GuardedCellsS
               (λ before. old.kinds_seen id x word v does.here more before) shown;
           cells_here = λ x i word guards shown.
               cell_here m.layout m.memory t v.head d (event_of v d found) is_step v.trace x i word (Guards m v x)
-              (Guards (done_by m t a d rest) (did v (d ∷ rest) found) x)
+              (Guards (machine_by_duty m t a d rest) (view_by v (d ∷ rest) found) x)
               (λ apart now. guarded_before x apart seen now)
               (λ before known. old.cells_seen id x i word v does.here before known) guards shown;
           threads = λ i there.
-              threads_kept layout words (set words (place_of v d) left) views i v (did v (d ∷ rest) found) old there
+              threads_kept layout words (set words (place_of v d) left) views i v (view_by v (d ∷ rest) found) old there
               keeps;
         }
 
@@ -238,10 +238,10 @@ module _ (kept : DutiesAreKept) (within : DutiesAreWithin) (stay : GuardedCellsS
     no_slot (ThreadWord t) word x table = refl
 
     -- The rule holds after the step, which changes no slot.
-    pub passes_after : Passes layout (set words (place_of v d) left) (set views id (did v (d ∷ rest) found)) [] None m
+    pub passes_after : Passes layout (set words (place_of v d) left) (set views id (view_by v (d ∷ rest) found)) [] None m
     unfolding changes
     passes_after =
-        passes layout words views id v (did v (d ∷ rest) found) does.stands does.here (set words (place_of v d) left)
+        passes layout words views id v (view_by v (d ∷ rest) found) does.stands does.here (set words (place_of v d) left)
         changes [] None (λ x which.
         let a = actor_of v in
         let address = address_of m.layout v.thread a.head d in

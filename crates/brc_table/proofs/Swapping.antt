@@ -29,7 +29,7 @@ use Rattle.brc_model.specs.CellLaws.{cell_swapped, HasRoomFor, CellsAreSwapped, 
 use Rattle.brc_table.specs.declared.view.View.{View}
 use Rattle.brc_table.specs.Places.{HasWord, cell_place}
 use Rattle.brc_table.specs.Views.{actor_of, holds, RowsAreThere, without_reference}
-use Rattle.brc_table.specs.Seen.{cell_seen}
+use Rattle.brc_table.specs.KnownWords.{known_cell}
 use Rattle.brc_table.specs.Rule.{Guards, Stands}
 use Rattle.brc_table.specs.Homes.{SlotsStand, TableStands}
 use Rattle.brc_table.specs.Begins.{Passes}
@@ -46,7 +46,7 @@ use Rattle.brc_table.proofs.Lists.{set_view, set_itself}
 use Rattle.brc_table.proofs.Locking.{kind_some, known_low}
 use Rattle.brc_table.proofs.Stepping.{written_reads}
 use Rattle.brc_table.proofs.ThreadsKept.{object_step, threads_kept}
-use Rattle.brc_table.proofs.SeenWords.{IsStep, kind_here, cell_here}
+use Rattle.brc_table.proofs.KnownKept.{IsStep, kind_here, cell_here}
 
 -- ---- a duty that stores the word
 
@@ -298,7 +298,7 @@ module _ (put : WorkIsPutAside) (free : ImmortalsAreFree) (there : AccountsAreTh
         (λ y which. refl)
 
     -- The hand finds what it has last seen or stored there.
-    pub finds_seen : (seen : ℕ) → cell_seen x i v ≡ Some seen → found ≡ seen
+    pub finds_seen : (seen : ℕ) → known_cell x i v ≡ Some seen → found ≡ seen
     finds_seen seen is = sym finds ∙ s.cells_seen id x i seen (rested v) here guards is
 
     -- What it finds names a row.
@@ -346,7 +346,7 @@ module _ (put : WorkIsPutAside) (free : ImmortalsAreFree) (there : AccountsAreTh
       (set_view s.views id v w mine) in
       let low : found ≤ row_count v.layout =
       subst (λ (k : ℕ). k ≤ row_count v.layout) same (found_there s.words resting id stands.machine puts there_now) in
-      let seen : (k : ℕ) → cell_seen x i v ≡ Some k → found ≡ k =
+      let seen : (k : ℕ) → known_cell x i v ≡ Some k → found ≡ k =
       λ k is. sym same ∙ finds_seen s.words resting id stands.machine puts there_now k is in (
         w,
         keeps,

@@ -14,7 +14,7 @@ use Rattle.brc_model.specs.declared.layout.Layout.{Layout}
 use Rattle.brc_model.specs.Duties.{address_of, new_word}
 use Rattle.brc_table.specs.ModelLaws.{ModelLaws}
 use Rattle.brc_table.specs.declared.view.View.{View}
-use Rattle.brc_table.specs.Views.{actor_of, event_of, did}
+use Rattle.brc_table.specs.Views.{actor_of, event_of, view_by}
 use Rattle.brc_table.specs.Rule.{thread_reading, reading}
 use Rattle.brc_table.specs.Threads.{thread_word}
 use Rattle.brc_table.specs.Begins.{Becomes}
@@ -22,7 +22,7 @@ use Rattle.brc_table.specs.Places.{place}
 use Rattle.brc_table.proofs.Places.{place_within}
 use Rattle.brc_table.proofs.ThreadsKept.{KeepsThreads, reading_some, says_three, thread_step}
 use Rattle.brc_table.proofs.Stepping.{Does, place_of, read_of, has}
-use Rattle.brc_table.proofs.Allowed.{IsNextAt, Leaves}
+use Rattle.brc_table.proofs.Allowed.{IsNextAt, KeepsDuty}
 
 -- A thread that isn't gone has another status word.
 alive_word : (s : Status) → s ≢ Gone → status_word s ≡ 3 → ⊥
@@ -75,7 +75,7 @@ module _ (laws : ModelLaws) (layout : Layout) (v u : View)
       → (thread_word words on.thread ≡ 3 → f (thread_word words on.thread) ≡ 3)
       → KeepsThreads does.stands.machine.layout words
       (set words (place_of u d) (f (slice_index words (place_of u d)))) u
-      (did u (d ∷ rest) (read_of u d (slice_index words (place_of u d))))
+      (view_by u (d ∷ rest) (read_of u d (slice_index words (place_of u d))))
   keeps_from words views i does whose stays stays_gone =
       let thread = on.thread in
       let raw = slice_index words (place_of u d) in
@@ -90,8 +90,8 @@ module _ (laws : ModelLaws) (layout : Layout) (v u : View)
         does.stands.length_is,
       )) in
       subst (λ (k : ℕ). KeepsThreads does.stands.machine.layout words (set words k (f raw)) u
-      (did u (d ∷ rest) (read_of u d raw))) (sym at)
-      (thread_step does.stands.machine.layout words u (did u (d ∷ rest) (read_of u d raw))
+      (view_by u (d ∷ rest) (read_of u d raw))) (sym at)
+      (thread_step does.stands.machine.layout words u (view_by u (d ∷ rest) (read_of u d raw))
       (event_of u d (read_of u d raw)) thread (f raw) there (record { thread = refl; given = refl; trace = refl })
       (record {
         address = on.address;
@@ -110,7 +110,7 @@ module _ (laws : ModelLaws) (layout : Layout) (v u : View)
   thread_keeps : (words : List ℕ) (views : List View) (i : ℕ) (does : Does layout words views i u d rest)
       → KeepsThreads does.stands.machine.layout words
       (set words (place_of u d) (f (slice_index words (place_of u d)))) u
-      (did u (d ∷ rest) (read_of u d (slice_index words (place_of u d))))
+      (view_by u (d ∷ rest) (read_of u d (slice_index words (place_of u d))))
   thread_keeps words views i does = elim on.kind [
     | inl looks ↦
         let same : (k : ℕ) → f k ≡ k = λ k. leaves k ∙ looks k in
@@ -122,5 +122,5 @@ module _ (laws : ModelLaws) (layout : Layout) (v u : View)
         (λ is. absurd (not_gone words views i does own is))
   ]
 
-  pub thread_leaves : Leaves laws layout v u d rest index becomes next f
+  pub thread_leaves : KeepsDuty laws layout v u d rest index becomes next f
   thread_leaves = ((λ found known. left_says found), thread_keeps)

@@ -19,7 +19,7 @@ use Rattle.brc_table.specs.declared.view.View.{View}
 use Rattle.brc_table.specs.declared.view.Event.{Event}
 use Rattle.brc_table.specs.Places.{place, HasWord, IsObjectWord}
 use Rattle.brc_table.specs.Views.{actor_of, is_given}
-use Rattle.brc_table.specs.Seen.{starts, has_started, started_word, shows_gone, has_seen_gone}
+use Rattle.brc_table.specs.KnownWords.{starts, has_started, started_word, shows_gone, knows_gone}
 use Rattle.brc_table.specs.Rule.{thread_reading, Stands}
 use Rattle.brc_table.specs.Threads.{thread_word, ThreadsStand}
 use Rattle.brc_table.proofs.Lists.{and_first, and_second}
@@ -48,8 +48,8 @@ pub record KeepsThreads (layout : Layout) (words after : List ℕ) (v u : View) 
       → LeavesThread words after v u t ⊎ StartsThread words after v u t
   pub own : 0 < thread_word words v.thread → 0 < thread_word after v.thread
   pub own_gone : thread_word words v.thread ≡ 3 → thread_word after v.thread ≡ 3
-  pub gone : (t : ℕ) → t ≤ layout.workers → has_seen_gone t u ≡ true
-      → (has_seen_gone t v ≡ true) ⊎ (thread_word after t ≡ 3)
+  pub gone : (t : ℕ) → t ≤ layout.workers → knows_gone t u ≡ true
+      → (knows_gone t v ≡ true) ⊎ (thread_word after t ≡ 3)
 
 module _ (layout : Layout) (words after : List ℕ) (views : List View) (id : ℕ) (v u : View)
     (old : Stands layout words views) (here : get_elem? views id ≡ some v)
@@ -98,7 +98,7 @@ module _ (layout : Layout) (words after : List ℕ) (views : List View) (id : �
     ]
   ]
 
-  gone_here : (t : ℕ) → t ≤ workers → has_seen_gone t u ≡ true → thread_word after t ≡ 3
+  gone_here : (t : ℕ) → t ≤ workers → knows_gone t u ≡ true → thread_word after t ≡ 3
   gone_here t low seen = elim (keeps.gone t low seen) [
     | inl before ↦ still_gone t low (old.threads.gone_seen id t v here low before)
     | inr now ↦ now
@@ -155,7 +155,7 @@ module _ (layout : Layout) (words after : List ℕ) (views : List View) (id : �
         (at_set views id other u w is);
     gone_seen = λ other t w is low seen.
         ⊎_elim
-        (λ e. gone_here t low (ap (has_seen_gone t) e.1 ∙ seen))
+        (λ e. gone_here t low (ap (knows_gone t) e.1 ∙ seen))
         (λ e. still_gone t low (old.threads.gone_seen other t w e.1 low seen))
         (at_set views id other u w is);
     unstarted = λ other t main is first pos low none.
@@ -325,9 +325,9 @@ thread_step layout words v u e t left there steps on =
         | inr other ↦ elsewhere v.thread other.1 ∙ is
       ];
       gone = λ k low seen.
-          let parts : (has_seen_gone k v || shows_gone k e) ≡ true =
+          let parts : (knows_gone k v || shows_gone k e) ≡ true =
           sym (ap (list_any (shows_gone k)) steps.trace ∙ any_more (shows_gone k) v.trace e) ∙ seen in
-          elim (cases_Bool (has_seen_gone k v)) [
+          elim (cases_Bool (knows_gone k v)) [
             | inl before ↦ inl before
             | inr not ↦
                 let now : shows_gone k e ≡ true = sym (ap (λ (b : Bool). b || shows_gone k e) not) ∙ parts in

@@ -14,7 +14,7 @@ use Rattle.brc_table.specs.declared.view.View.{View}
 use Rattle.brc_table.specs.Homes.{resources, times_taken, IsHome}
 use Rattle.brc_table.specs.Places.{place}
 use Rattle.brc_table.specs.Rule.{Stands}
-use Rattle.brc_table.specs.Seen.{has_seen_gone}
+use Rattle.brc_table.specs.KnownWords.{knows_gone}
 use Rattle.brc_table.specs.Threads.{thread_word}
 use Rattle.brc_table.specs.Peeks.{NeverStarted}
 use Rattle.brc_table.specs.Views.{actor_of}
@@ -51,7 +51,7 @@ pub record EndsWith (v : View) (end : EndState) : Type 0 where
 
 -- The hand has seen that the thread is gone; or it is main's, and has never started the thread.
 abbrev pub SeesEnd : View → ℕ → Type 0
-SeesEnd v t = (has_seen_gone t v ≡ true) ⊎ NeverStarted v t
+SeesEnd v t = (knows_gone t v ≡ true) ⊎ NeverStarted v t
 
 -- Each thread is gone, or was never started.
 abbrev pub HaveEnded : Layout → List ℕ → Type 0

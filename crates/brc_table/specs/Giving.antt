@@ -5,7 +5,7 @@ use Rattle.brc_model.specs.declared.address.Address.TheVariants.{ThreadWord}
 use Rattle.brc_model.specs.Layout.{root_row}
 use Rattle.brc_table.specs.declared.view.View.{View}
 use Rattle.brc_table.specs.Views.{RowsAreThere, holds, is_given}
-use Rattle.brc_table.specs.Seen.{has_started, started_word}
+use Rattle.brc_table.specs.KnownWords.{has_started, started_word}
 use Rattle.brc_table.specs.Hands.{HasNoWork, KeepsLock}
 
 -- Main has a reference to the root to hand over, another one if it has locked the root, and nothing to do about the
@@ -36,5 +36,5 @@ starting v thread = record v {
 }
 
 -- What the store makes of main's hand.
-abbrev pub Starts : {S : Type 0} → ℕ → Me S View → Me S View → Type 0
-Starts thread me after = (after.0 ≡ starting me.0 thread) × (after.1 ≡ me.1) × RowsAreThere after.0
+abbrev pub StoresRunning : {S : Type 0} → ℕ → Me S View → Me S View → Type 0
+StoresRunning thread me after = (after.0 ≡ starting me.0 thread) × (after.1 ≡ me.1) × RowsAreThere after.0

@@ -10,7 +10,7 @@ use Rattle.brc_model.specs.OpenWork.{may_wait}
 use Rattle.brc_table.specs.declared.view.View.{View}
 use Rattle.brc_model.specs.Knowledge.{is_retain}
 use Rattle.brc_table.specs.Views.{holds, work_about, open_work}
-use Rattle.brc_table.specs.Seen.{cell_seen}
+use Rattle.brc_table.specs.KnownWords.{known_cell}
 
 -- A table, as contracts see it: which one it is, and its size.
 pub record TableState : Type 0 where
@@ -53,7 +53,7 @@ pub record Borrows (v : View) (x : ℕ) : Type 0 where
   pub list : ℕ
   pub cell : ℕ
   pub locked : v.locked ≡ Some list
-  pub seen : cell_seen list cell v ≡ Some (suc x)
+  pub seen : known_cell list cell v ≡ Some (suc x)
   pub there : x < row_count v.layout
 
 -- The hand may use the object: it holds a reference to it, or it borrows it.
@@ -65,8 +65,8 @@ abbrev pub IsFirst : View → ℕ → Type 0
 IsFirst v x = v.head ≡ suc x
 
 -- The hand may look at the object: it may use it, or is to finalise it.
-abbrev pub MayLook : View → ℕ → Type 0
-MayLook v x = MayUse v x ⊎ IsFirst v x
+abbrev pub MayRead : View → ℕ → Type 0
+MayRead v x = MayUse v x ⊎ IsFirst v x
 
 -- The hand may change the list's cells, and no other hand does: it has locked the list, or is to finalise it.
 abbrev pub MayChange : View → ℕ → Type 0

@@ -1,6 +1,6 @@
 pub mod Places
 pub mod Views
-pub mod Seen
+pub mod KnownWords
 pub mod Threads
 pub mod Rule
 pub mod Homes

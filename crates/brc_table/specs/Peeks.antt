@@ -4,7 +4,7 @@ use Rattle.atomic_table.specs.Table.{Me}
 use Rattle.brc_model.specs.declared.address.Address.TheVariants.{ThreadWord}
 use Rattle.brc_table.specs.declared.view.View.{View}
 use Rattle.brc_table.specs.Views.{RowsAreThere, is_given, IsJoined}
-use Rattle.brc_table.specs.Seen.{has_started}
+use Rattle.brc_table.specs.KnownWords.{has_started}
 
 -- the hand after it has found this word of the thread
 abbrev pub peeked : View → ℕ → ℕ → View

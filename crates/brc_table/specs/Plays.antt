@@ -10,7 +10,7 @@ use Rattle.brc_model.specs.Within.{Suits, FindsOwner}
 use Rattle.brc_word.specs.Words.{half, merged_word, dead_word}
 use Rattle.brc_effect.specs.Accesses.{known_before}
 use Rattle.brc_table.specs.declared.view.View.{View}
-use Rattle.brc_table.specs.Seen.{has_seen_kind, cell_seen}
+use Rattle.brc_table.specs.KnownWords.{knows_kind, known_cell}
 use Rattle.brc_table.specs.Hands.{MayChange}
 
 -- The value found suits the view's first duty.
@@ -29,11 +29,11 @@ FirstFindsOwner v (d ∷ rest) found = FindsOwner v.layout d found
 -- for a handed reference that wins leaves that reference counted.
 abbrev pub FindsKnown : View → List Duty → ℕ → Type 0
 FindsKnown v (KindLoad x ∷ rest) found =
-    ((word : ℕ) → 0 < word → has_seen_kind x word v ≡ true → found ≡ word)
+    ((word : ℕ) → 0 < word → knows_kind x word v ≡ true → found ≡ word)
     × (v.locked ≡ Some x → v.in_slot ≡ resources_of found)
     × (x ≡ none_row → found ≡ half)
 FindsKnown v (CellLoad x i ∷ rest) found =
-    (word : ℕ) → MayChange v x → cell_seen x i v ≡ Some word → found ≡ word
+    (word : ℕ) → MayChange v x → known_cell x i v ≡ Some word → found ≡ word
 FindsKnown v (MergeExchange x c w Handed ∷ rest) found = found ≡ w → merged_word w c ≢ dead_word
 FindsKnown v _ found = Unit {0}
 

@@ -20,7 +20,7 @@ use Rattle.brc_table.specs.declared.view.View.{View}
 use Rattle.brc_table.specs.declared.view.Joined.{Joined}
 use Rattle.brc_table.specs.Places.{place, HasWord, word_count}
 use Rattle.brc_table.specs.Views.{actor_of, holds, is_given}
-use Rattle.brc_table.specs.Seen.{has_seen_kind, cell_seen}
+use Rattle.brc_table.specs.KnownWords.{knows_kind, known_cell}
 use Rattle.brc_table.specs.Threads.{ThreadsStand}
 
 -- what a thread word says of the thread: one that isn't started yet counts as running
@@ -65,10 +65,10 @@ pub record Stands (layout : Layout) (words : List ℕ) (views : List View) : Typ
   pub rooted : machine.memory (KindOf root_row) ≡ list_word cell_limit
   -- a kind word that a hand has seen is still there
   pub kinds_seen : (id x word : ℕ) (v : View) → get_elem? views id ≡ some v → 0 < word
-      → has_seen_kind x word v ≡ true → machine.memory (KindOf x) ≡ word
+      → knows_kind x word v ≡ true → machine.memory (KindOf x) ≡ word
   -- while a hand guards a list's cells, a cell has what the hand last saw or stored there
   pub cells_seen : (id x i word : ℕ) (v : View) → get_elem? views id ≡ some v → Guards machine v x
-      → cell_seen x i v ≡ Some word → machine.memory (Cell x i) ≡ word
+      → known_cell x i v ≡ Some word → machine.memory (Cell x i) ≡ word
   -- no hand holds a reference by a variable
   pub no_variables : (t depth i x : ℕ) → accounts t (ByVariable depth i) x ≡ 0
   -- no thread has two hands

@@ -8,7 +8,7 @@ use Rattle.brc_model.specs.declared.layout.Layout.{Layout}
 use Rattle.brc_model.specs.Layout.{row_count}
 use Rattle.brc_table.specs.declared.view.View.{View}
 use Rattle.brc_table.specs.Views.{RowsAreThere, with_reference, without_reference, open_work}
-use Rattle.brc_table.specs.Seen.{KnowsCell, cell_seen}
+use Rattle.brc_table.specs.KnownWords.{KnowsCell, known_cell}
 use Rattle.brc_table.specs.Hands.{most_references, HoldsOne, KeepsLock, MayChange, HasNoWork, HasNoRetain, IsRunning}
 
 -- the references with that to the item of the word, and without it
@@ -49,4 +49,4 @@ pub record MaySwap (v : View) (x i word : ℕ) : Type 0 where
 abbrev pub Swaps : {S : Type 0} → ℕ → ℕ → ℕ → Me S View → ℕ → Me S View → Type 0
 Swaps x i word me found after =
     (after.0 ≡ swapped me.0 x i word found) × (after.1 ≡ me.1) × (found ≤ row_count me.0.layout) × RowsAreThere after.0
-    × ((seen : ℕ) → cell_seen x i me.0 ≡ Some seen → found ≡ seen)
+    × ((seen : ℕ) → known_cell x i me.0 ≡ Some seen → found ≡ seen)

@@ -7,7 +7,7 @@ use Rattle.brc_model.specs.declared.layout.Layout.{Layout}
 use Rattle.brc_table.specs.declared.view.View.{View}
 use Rattle.brc_table.specs.Places.{place}
 use Rattle.brc_table.specs.Views.{is_given}
-use Rattle.brc_table.specs.Seen.{has_started, started_word, has_seen_gone}
+use Rattle.brc_table.specs.KnownWords.{has_started, started_word, knows_gone}
 
 abbrev pub thread_word : List ℕ → ℕ → ℕ
 thread_word words t = slice_index words (place (ThreadWord t))
@@ -23,7 +23,7 @@ pub record ThreadsStand (layout : Layout) (words : List ℕ) (views : List View)
   pub started_seen : (id t : ℕ) (v : View) → get_elem? views id ≡ some v → t ≤ layout.workers
       → has_started t v ≡ true → 0 < thread_word words t
   pub gone_seen : (id t : ℕ) (v : View) → get_elem? views id ≡ some v → t ≤ layout.workers
-      → has_seen_gone t v ≡ true → thread_word words t ≡ 3
+      → knows_gone t v ≡ true → thread_word words t ≡ 3
   -- a worker whose hand isn't given out is started by main, or not at all
   pub unstarted : (id t : ℕ) (main : View) → get_elem? views id ≡ some main → main.thread ≡ 0 → 0 < t
       → t ≤ layout.workers → is_given t main ≡ false → thread_word words t ≡ started_word t main

@@ -8,8 +8,8 @@ use Rattle.brc_model.specs.declared.duty.Duty.TheVariants.{UnlockGate, BirthLoca
 use Rattle.brc_model.specs.Duties.{resources_of}
 use Rattle.brc_model.specs.SlotLaws.{SlotUse, Stays, Takes, Gives, use_of}
 use Rattle.brc_table.specs.declared.view.View.{View}
-use Rattle.brc_table.specs.Views.{RowsAreThere, done, locking}
-use Rattle.brc_table.specs.Seen.{has_seen_kind}
+use Rattle.brc_table.specs.Views.{RowsAreThere, view_after, locking}
+use Rattle.brc_table.specs.KnownWords.{knows_kind}
 use Rattle.brc_table.specs.Homes.{rows_of, held_in}
 use Rattle.brc_table.specs.Hands.{HandState}
 
@@ -49,7 +49,7 @@ first_due _ found = 0
 -- end of a birth as many as the kind word says, and at the end of a deallocation none.
 abbrev pub IsDue : View → List Duty → ℕ → Type 0
 IsDue v (UnlockGate x ∷ rest) n = n ≡ v.in_slot
-IsDue v (BirthLocal x h ∷ rest) n = (word : ℕ) × (0 < word) × (has_seen_kind x word v ≡ true) × (n ≡ resources_of word)
+IsDue v (BirthLocal x h ∷ rest) n = (word : ℕ) × (0 < word) × (knows_kind x word v ≡ true) × (n ≡ resources_of word)
 IsDue v (SettleEnd x ∷ rest) n = n ≡ 0
 IsDue v _ n = ⊥
 
@@ -58,7 +58,7 @@ IsDue v _ n = ⊥
 pub record HoldsItsOwn (hand : HandState) (x : ℕ) : Type 0 where
   pub word : ℕ
   pub some : 0 < word
-  pub seen : has_seen_kind x word hand.view ≡ true
+  pub seen : knows_kind x word hand.view ≡ true
   pub first : FirstSlot hand.slots x (resources_of word)
 
 -- ---- steps
@@ -70,7 +70,7 @@ Follows me after = rows_of me.1 ≡ me.0.taken → rows_of after.1 ≡ after.0.t
 -- The hand first becomes `begins` of what it was, and then does its first duty, which takes a slot or gives one back.
 abbrev pub Uses : {T : Type 0} → (View → View) → Me (Option T) View → ℕ → Me (Option T) View → Type 0
 Uses begins me found after =
-    (after.0 ≡ done (begins me.0) found) × RowsAreThere after.0 × Follows me after
+    (after.0 ≡ view_after (begins me.0) found) × RowsAreThere after.0 × Follows me after
     × (held_in after.1 ≡ held_after (held_in me.1) (first_use (begins me.0).agenda found)
     (first_due (begins me.0).agenda found))
 
@@ -78,7 +78,7 @@ Uses begins me found after =
 -- as the kind word says that the hand has seen.
 abbrev pub Locks : {T : Type 0} → ℕ → Me (Option T) View → ℕ → Me (Option T) View → Type 0
 Locks x me found after =
-    (after.0 ≡ done (locking me.0 x after.0.in_slot) found) × RowsAreThere after.0 × Follows me after
+    (after.0 ≡ view_after (locking me.0 x after.0.in_slot) found) × RowsAreThere after.0 × Follows me after
     × (held_in after.1 ≡ (if found == free_word then (x, after.0.in_slot) ∷ held_in me.1 else held_in me.1))
-    × ((word : ℕ) → found ≡ free_word → 0 < word → has_seen_kind x word me.0 ≡ true
+    × ((word : ℕ) → found ≡ free_word → 0 < word → knows_kind x word me.0 ≡ true
     → after.0.in_slot ≡ resources_of word)

@@ -19,7 +19,7 @@ use Rattle.brc_table.specs.declared.view.View.{View}
 use Rattle.brc_table.specs.declared.view.Event.{Event}
 use Rattle.brc_table.specs.declared.view.Joined.{Joined}
 use Rattle.brc_table.specs.Spares.{is_spent_for}
-use Rattle.brc_table.specs.Seen.{has_seen_kind}
+use Rattle.brc_table.specs.KnownWords.{knows_kind}
 
 -- The thread of the counting machine that the view is of. A hand lends a resource by no duty: it takes the resource out
 -- of a slot that nobody else can see.
@@ -55,7 +55,7 @@ pub record RowsAreThere (v : View) : Type 0 where
   pub cells : NamesFewCells v.agenda
   pub locked : (x : ℕ) → v.locked ≡ Some x → x < row_count v.layout
   pub unfinalised : (x : ℕ) → v.locked ≡ Some x → IsUnfinalised x v.head v.agenda
-  pub kinds : (x word : ℕ) → has_seen_kind x word v ≡ true → cells_of word ≤ cell_limit
+  pub kinds : (x word : ℕ) → knows_kind x word v ≡ true → cells_of word ≤ cell_limit
 
 -- how many references the hand holds to the object
 abbrev pub holds : View → ℕ → ℕ
@@ -94,9 +94,9 @@ taken_after rows Stays = rows
 taken_after rows (Takes x) = x ∷ rows
 taken_after rows (Gives x) = behind_first rows
 
-abbrev pub did : View → List Duty → ℕ → View
-did v [] found = v
-did v (d ∷ rest) found = record v {
+abbrev pub view_by : View → List Duty → ℕ → View
+view_by v [] found = v
+view_by v (d ∷ rest) found = record v {
   status = status_by v.status d;
   agenda = ready (new_head v.head d found)
       (continuation v.layout v.thread (is_running v.status) v.head d found ++ rest);
@@ -108,12 +108,12 @@ did v (d ∷ rest) found = record v {
 }
 
 -- the view after its first duty has found this word
-abbrev pub done : View → ℕ → View
-done v found = did v v.agenda found
+abbrev pub view_after : View → ℕ → View
+view_after v found = view_by v v.agenda found
 
 -- the view after several duties, each of which finds the next of these words
 abbrev pub resumed : View → List ℕ → View
-resumed v founds = fold done v founds
+resumed v founds = fold view_after v founds
 
 -- ---- open work
 

@@ -7,7 +7,7 @@ ghost use Rattle.brc_model.specs.Duties.{cells_of};
 ghost use Rattle.brc_model.specs.Kinds.{kind_of_word, is_counted_kind};
 ghost use Rattle.brc_model.specs.Limits.{cell_limit};
 ghost use Rattle.brc_model.specs.Machine.{has_room};
-ghost use Rattle.brc_table.specs.Views.{done, bearing, next_row, slot_filled};
+ghost use Rattle.brc_table.specs.Views.{view_after, bearing, next_row, slot_filled};
 ghost use Rattle.brc_table.specs.Plays.{overwritten};
 ghost use Rattle.brc_table.specs.Hands.{IsOf, IsRunning};
 ghost use Rattle.brc_table.specs.Uses.{HoldsItsOwn, behind_slot};
@@ -35,7 +35,7 @@ impl<T: Drop> Words<T> {
         ensures row { result ≡ next_row hand.old.view }
         ensures table { hand.new.table ≡ hand.old.table }
         ensures carried { hand.new.carried ≡ hand.old.carried }
-        ensures view { hand.new.view ≡ done (bearing hand.old.view word) 0 }
+        ensures view { hand.new.view ≡ view_after (bearing hand.old.view word) 0 }
         ensures slots { hand.new.slots ≡ (result, 0) ∷ hand.old.slots }
     {
         work_is_put_aside();
@@ -64,7 +64,7 @@ impl<T: Drop> Words<T> {
         requires slot { HoldsItsOwn hand.old row }
         ensures table { hand.new.table ≡ hand.old.table }
         ensures carried { hand.new.carried ≡ hand.old.carried }
-        ensures view { hand.new.view ≡ done (slot_filled hand.old.view) (overwritten (slot_filled hand.old.view)) }
+        ensures view { hand.new.view ≡ view_after (slot_filled hand.old.view) (overwritten (slot_filled hand.old.view)) }
         ensures slots { hand.new.slots ≡ behind_slot hand.old.slots }
     {
         duties_are_kept();

@@ -4,8 +4,8 @@
 ghost use Rattle.std.specs.Prelude.{◌≡◌, ◌<◌, ◌≤◌, ℕ, Some, length};
 ghost use Rattle.brc_model.specs.Layout.{row_count};
 ghost use Rattle.brc_model.specs.Limits.{cell_limit};
-ghost use Rattle.brc_table.specs.Views.{done, loading_cell};
-ghost use Rattle.brc_table.specs.Seen.{KnowsCell, cell_seen};
+ghost use Rattle.brc_table.specs.Views.{view_after, loading_cell};
+ghost use Rattle.brc_table.specs.KnownWords.{KnowsCell, known_cell};
 ghost use Rattle.brc_table.specs.Swaps.{swapped, MayPut, MaySwap};
 ghost use Rattle.brc_table.specs.Hands.{most_references, IsOf, IsRunning, MayLoad, MayChange, HasNoWork, HasNoRetain};
 
@@ -33,9 +33,9 @@ impl<T: Drop> Words<T> {
         ensures table { hand.new.table ≡ hand.old.table }
         ensures carried { hand.new.carried ≡ hand.old.carried }
         ensures slots { hand.new.slots ≡ hand.old.slots }
-        ensures view { hand.new.view ≡ done (loading_cell hand.old.view row cell) result }
+        ensures view { hand.new.view ≡ view_after (loading_cell hand.old.view row cell) result }
         ensures there { result ≤ row_count hand.old.view.layout }
-        ensures stays { (word : ℕ) → cell_seen row cell hand.old.view ≡ Some word → result ≡ word }
+        ensures stays { (word : ℕ) → known_cell row cell hand.old.view ≡ Some word → result ≡ word }
     {
         work_is_put_aside();
         cell_loads_begin();
@@ -61,7 +61,7 @@ impl<T: Drop> Words<T> {
         ensures slots { hand.new.slots ≡ hand.old.slots }
         ensures view { hand.new.view ≡ swapped hand.old.view row cell item result }
         ensures there { result ≤ row_count hand.old.view.layout }
-        ensures stays { (word : ℕ) → cell_seen row cell hand.old.view ≡ Some word → result ≡ word }
+        ensures stays { (word : ℕ) → known_cell row cell hand.old.view ≡ Some word → result ≡ word }
     {
         hand.rows_are_there();
         self.swap_item::<Brand>(hand, row, cell, item)
@@ -82,7 +82,7 @@ impl<T: Drop> Words<T> {
         ensures slots { hand.new.slots ≡ hand.old.slots }
         ensures view { hand.new.view ≡ swapped hand.old.view row cell item result }
         ensures there { result ≤ row_count hand.old.view.layout }
-        ensures stays { (seen : ℕ) → cell_seen row cell hand.old.view ≡ Some seen → result ≡ seen }
+        ensures stays { (seen : ℕ) → known_cell row cell hand.old.view ≡ Some seen → result ≡ seen }
     {
         work_is_put_aside();
         immortals_are_free();

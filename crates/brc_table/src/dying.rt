@@ -4,7 +4,7 @@
 
 ghost use Rattle.std.specs.Prelude.{◌≡◌, ◌≢◌, ◌<◌};
 ghost use Rattle.brc_model.specs.declared.actor.Status.TheVariants.{Gone};
-ghost use Rattle.brc_table.specs.Views.{done, settling, slot_emptied};
+ghost use Rattle.brc_table.specs.Views.{view_after, settling, slot_emptied};
 ghost use Rattle.brc_table.specs.Hands.{IsOf};
 ghost use Rattle.brc_table.specs.Uses.{FirstSlot, behind_slot};
 ghost use Rattle.brc_table.specs.Calls.{MaySettle, ClosesRow};
@@ -24,7 +24,7 @@ impl<T: Drop> Words<T> {
         ensures table { hand.new.table ≡ hand.old.table }
         ensures carried { hand.new.carried ≡ hand.old.carried }
         ensures slots { hand.new.slots ≡ hand.old.slots }
-        ensures view { hand.new.view ≡ done (settling hand.old.view) result }
+        ensures view { hand.new.view ≡ view_after (settling hand.old.view) result }
     {
         settles_begin();
         hand.rows_are_there();
@@ -43,7 +43,7 @@ impl<T: Drop> Words<T> {
         requires slot { FirstSlot hand.old.slots row 0 }
         ensures table { hand.new.table ≡ hand.old.table }
         ensures carried { hand.new.carried ≡ hand.old.carried }
-        ensures view { hand.new.view ≡ done (slot_emptied hand.old.view) result }
+        ensures view { hand.new.view ≡ view_after (slot_emptied hand.old.view) result }
         ensures slots { hand.new.slots ≡ behind_slot hand.old.slots }
     {
         duties_are_kept();

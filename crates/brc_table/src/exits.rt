@@ -5,7 +5,7 @@
 
 ghost use Rattle.std.specs.Prelude.{◌≡◌, ◌<◌};
 ghost use Rattle.brc_model.specs.Layout.{block_of, row_at, row_count};
-ghost use Rattle.brc_table.specs.Views.{done, claiming, leaving};
+ghost use Rattle.brc_table.specs.Views.{view_after, claiming, leaving};
 ghost use Rattle.brc_table.specs.Hands.{IsOf};
 ghost use Rattle.brc_table.specs.Calls.{IsFree, MayLeave};
 
@@ -39,7 +39,7 @@ impl<T: Drop> Words<T> {
         ensures table { hand.new.table ≡ hand.old.table }
         ensures carried { hand.new.carried ≡ hand.old.carried }
         ensures slots { hand.new.slots ≡ hand.old.slots }
-        ensures view { hand.new.view ≡ done (claiming hand.old.view row) result }
+        ensures view { hand.new.view ≡ view_after (claiming hand.old.view row) result }
     {
         claims_begin();
         self.step_from::<Brand>(hand, &Duty::ClaimMark { row })
@@ -53,7 +53,7 @@ impl<T: Drop> Words<T> {
         ensures table { hand.new.table ≡ hand.old.table }
         ensures carried { hand.new.carried ≡ hand.old.carried }
         ensures slots { hand.new.slots ≡ hand.old.slots }
-        ensures view { hand.new.view ≡ done (leaving hand.old.view) 1 }
+        ensures view { hand.new.view ≡ view_after (leaving hand.old.view) 1 }
     {
         releases_begin();
         exits_begin();

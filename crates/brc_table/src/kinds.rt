@@ -5,9 +5,9 @@ ghost use Rattle.std.specs.Prelude.{◌≡◌, ◌<◌, ℕ, true, Some};
 ghost use Rattle.brc_model.specs.Duties.{resources_of};
 ghost use Rattle.brc_word.specs.Words.{half};
 ghost use Rattle.brc_model.specs.Layout.{none_row};
-ghost use Rattle.brc_table.specs.Views.{done, asking};
-ghost use Rattle.brc_table.specs.Seen.{has_seen_kind};
-ghost use Rattle.brc_table.specs.Hands.{IsOf, IsRunning, MayLook, HasNoWork};
+ghost use Rattle.brc_table.specs.Views.{view_after, asking};
+ghost use Rattle.brc_table.specs.KnownWords.{knows_kind};
+ghost use Rattle.brc_table.specs.Hands.{IsOf, IsRunning, MayRead, HasNoWork};
 
 use crate::hand::Hand;
 use crate::words::Words;
@@ -23,13 +23,13 @@ impl<T: Drop> Words<T> {
     pub fn kind_load(&self, hand: &mut Hand<T>, row: u32) -> u64
         requires table { IsOf self.now hand.old }
         requires running { IsRunning hand.old.view }
-        requires usable { MayLook hand.old.view row }
+        requires usable { MayRead hand.old.view row }
         requires idle { HasNoWork hand.old.view row }
         ensures table { hand.new.table ≡ hand.old.table }
         ensures carried { hand.new.carried ≡ hand.old.carried }
         ensures slots { hand.new.slots ≡ hand.old.slots }
-        ensures view { hand.new.view ≡ done (asking hand.old.view row) result }
-        ensures stays { (word : ℕ) → 0 < word → has_seen_kind row word hand.old.view ≡ true → result ≡ word }
+        ensures view { hand.new.view ≡ view_after (asking hand.old.view row) result }
+        ensures stays { (word : ℕ) → 0 < word → knows_kind row word hand.old.view ≡ true → result ≡ word }
         ensures slot { hand.old.view.locked ≡ Some row → hand.old.view.in_slot ≡ resources_of result }
         ensures named { row ≡ none_row → result ≡ half }
     {

@@ -5,8 +5,8 @@ ghost use Rattle.std.specs.Prelude.{◌≡◌, ◌<◌, ◌==◌, ℕ, true, Non
 ghost use Rattle.brc_word.specs.Words.{free_word, locked_word};
 ghost use Rattle.brc_model.specs.Duties.{resources_of};
 ghost use Rattle.brc_model.specs.Layout.{IsCounted, row_count};
-ghost use Rattle.brc_table.specs.Views.{done, locking, unlocking};
-ghost use Rattle.brc_table.specs.Seen.{has_seen_kind};
+ghost use Rattle.brc_table.specs.Views.{view_after, locking, unlocking};
+ghost use Rattle.brc_table.specs.KnownWords.{knows_kind};
 ghost use Rattle.brc_table.specs.Plays.{overwritten};
 ghost use Rattle.brc_table.specs.Uses.{FirstSlot, behind_slot};
 ghost use Rattle.brc_table.specs.Hands.{IsOf, IsRunning, HoldsOne, HasNoWork, HasNoRetain};
@@ -36,11 +36,11 @@ impl<T: Drop> Words<T> {
         requires unlocked { hand.old.view.locked ≡ None }
         ensures table { hand.new.table ≡ hand.old.table }
         ensures carried { hand.new.carried ≡ hand.old.carried }
-        ensures view { hand.new.view ≡ done (locking hand.old.view row hand.new.view.in_slot) result }
+        ensures view { hand.new.view ≡ view_after (locking hand.old.view row hand.new.view.in_slot) result }
         ensures slots { hand.new.slots
             ≡ (if result == free_word then (row, hand.new.view.in_slot) ∷ hand.old.slots else hand.old.slots) }
         ensures kind { (word : ℕ) → result ≡ free_word → 0 < word
-            → has_seen_kind row word hand.old.view ≡ true → hand.new.view.in_slot ≡ resources_of word }
+            → knows_kind row word hand.old.view ≡ true → hand.new.view.in_slot ≡ resources_of word }
     {
         self.layout_is_plain();
         hand.rows_are_there();
@@ -61,7 +61,7 @@ impl<T: Drop> Words<T> {
         requires slot { FirstSlot hand.old.slots row hand.old.view.in_slot }
         ensures table { hand.new.table ≡ hand.old.table }
         ensures carried { hand.new.carried ≡ hand.old.carried }
-        ensures view { hand.new.view ≡ done (unlocking hand.old.view row) (overwritten (unlocking hand.old.view row)) }
+        ensures view { hand.new.view ≡ view_after (unlocking hand.old.view row) (overwritten (unlocking hand.old.view row)) }
         ensures slots { hand.new.slots ≡ behind_slot hand.old.slots }
     {
         work_is_put_aside();
@@ -87,11 +87,11 @@ impl<T: Drop> Words<T> {
         requires gate { gate ≡ locked_word hand.old.view.thread }
         ensures table { hand.new.table ≡ hand.old.table }
         ensures carried { hand.new.carried ≡ hand.old.carried }
-        ensures view { hand.new.view ≡ done (locking hand.old.view row hand.new.view.in_slot) result }
+        ensures view { hand.new.view ≡ view_after (locking hand.old.view row hand.new.view.in_slot) result }
         ensures slots { hand.new.slots
             ≡ (if result == free_word then (row, hand.new.view.in_slot) ∷ hand.old.slots else hand.old.slots) }
         ensures kind { (word : ℕ) → result ≡ free_word → 0 < word
-            → has_seen_kind row word hand.old.view ≡ true → hand.new.view.in_slot ≡ resources_of word }
+            → knows_kind row word hand.old.view ≡ true → hand.new.view.in_slot ≡ resources_of word }
     {
         work_is_put_aside();
         locks_begin();

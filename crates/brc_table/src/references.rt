@@ -4,7 +4,7 @@
 ghost use Rattle.std.specs.Prelude.{◌≡◌, ◌+◌, ◌<◌, ◌≤◌, length};
 ghost use Rattle.brc_model.specs.Within.{OwnerFits};
 ghost use Rattle.brc_word.specs.Words.{owner_part, local_part};
-ghost use Rattle.brc_table.specs.Views.{done, retaining, releasing};
+ghost use Rattle.brc_table.specs.Views.{view_after, retaining, releasing};
 ghost use Rattle.brc_table.specs.Hands.{IsOf, IsRunning, HoldsOne, MayUse, KeepsLock, HasNoWork, most_references};
 
 use crate::hand::Hand;
@@ -27,7 +27,7 @@ impl<T: Drop> Words<T> {
         ensures table { hand.new.table ≡ hand.old.table }
         ensures carried { hand.new.carried ≡ hand.old.carried }
         ensures slots { hand.new.slots ≡ hand.old.slots }
-        ensures view { hand.new.view ≡ done (retaining hand.old.view row) result }
+        ensures view { hand.new.view ≡ view_after (retaining hand.old.view row) result }
         ensures owner { OwnerFits hand.old.view.layout row result }
     {
         work_is_put_aside();
@@ -55,7 +55,7 @@ impl<T: Drop> Words<T> {
         ensures table { hand.new.table ≡ hand.old.table }
         ensures carried { hand.new.carried ≡ hand.old.carried }
         ensures slots { hand.new.slots ≡ hand.old.slots }
-        ensures view { hand.new.view ≡ done (releasing hand.old.view row) result }
+        ensures view { hand.new.view ≡ view_after (releasing hand.old.view row) result }
         ensures owner { OwnerFits hand.old.view.layout row result }
         ensures counted { owner_part result ≡ hand.old.view.thread + 1 → 1 ≤ local_part result }
     {

@@ -1,7 +1,7 @@
 //! Main starts the workers, and gives out their hands.
 
 ghost use Rattle.std.specs.Prelude.{◌≡◌, ℕ, true, []};
-ghost use Rattle.brc_table.specs.Seen.{has_started};
+ghost use Rattle.brc_table.specs.KnownWords.{has_started};
 ghost use Rattle.brc_table.specs.Views.{giving, worker_view};
 ghost use Rattle.brc_table.specs.Hands.{IsOf, CarriesNothing};
 ghost use Rattle.brc_table.specs.Giving.{MayGive, MayStart, starting};
@@ -43,9 +43,9 @@ pub(crate) struct Started<W> {
 }
 
 impl<S, W: Worker> Play<S, View> for Started<W> {
-    ghost use Rattle.brc_table.specs.Giving.{Starts};
+    ghost use Rattle.brc_table.specs.Giving.{StoresRunning};
 
-    ghost then = { λ s me stored after. Starts W.number me after };
+    ghost then = { λ s me stored after. StoresRunning W.number me after };
 }
 
 impl<T: Drop> Words<T> {

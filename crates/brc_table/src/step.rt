@@ -9,7 +9,7 @@ ghost use Rattle.brc_table.specs.Places.{HasWord};
 ghost use Rattle.brc_model.specs.SlotLaws.{use_of};
 ghost use Rattle.brc_model.specs.Stores.{Overwrites};
 ghost use Rattle.brc_table.specs.declared.view.View.{View};
-ghost use Rattle.brc_table.specs.Views.{done, turned};
+ghost use Rattle.brc_table.specs.Views.{view_after, turned};
 ghost use Rattle.brc_table.specs.Homes.{TableStands};
 ghost use Rattle.brc_table.specs.Plays.{SuitsFirst, FirstFindsOwner, FindsKnown, overwritten};
 ghost use Rattle.brc_table.specs.Uses.{first_due, held_after};
@@ -51,7 +51,7 @@ impl<T: Drop> Words<T> {
         ensures carried { hand.new.carried ≡ hand.old.carried }
         ensures slots { hand.new.slots
             ≡ held_after hand.old.slots (use_of duty 0) (first_due (duty ∷ []) result) }
-        ensures view { hand.new.view ≡ done hand.old.view result }
+        ensures view { hand.new.view ≡ view_after hand.old.view result }
         ensures overwrites { Overwrites hand.old.view.thread duty result }
         ensures suits { SuitsFirst hand.old.view hand.old.view.agenda result }
         ensures owner { FirstFindsOwner hand.old.view hand.old.view.agenda result }
@@ -78,7 +78,7 @@ impl<T: Drop> Words<T> {
         ensures carried { hand.new.carried ≡ hand.old.carried }
         ensures slots { hand.new.slots
             ≡ held_after hand.old.slots (use_of duty 0) (first_due (duty ∷ []) result) }
-        ensures view { hand.new.view ≡ done (turned_to work hand.old.view (row_of duty)) result }
+        ensures view { hand.new.view ≡ view_after (turned_to work hand.old.view (row_of duty)) result }
         ensures overwrites { Overwrites hand.old.view.thread duty result }
         ensures suits { SuitsFirst (turned_to work hand.old.view (row_of duty))
             (turned_to work hand.old.view (row_of duty)).agenda result }
@@ -108,7 +108,7 @@ impl<T: Drop> Words<T> {
         ensures carried { hand.new.carried ≡ hand.old.carried }
         ensures slots { hand.new.slots
             ≡ held_after hand.old.slots (use_of duty 0) (first_due (duty ∷ []) result) }
-        ensures view { hand.new.view ≡ done (turned hand.old.view (row_of duty)) result }
+        ensures view { hand.new.view ≡ view_after (turned hand.old.view (row_of duty)) result }
         ensures overwrites { Overwrites hand.old.view.thread duty result }
         ensures suits { SuitsFirst (turned hand.old.view (row_of duty))
             (turned hand.old.view (row_of duty)).agenda result }
@@ -141,7 +141,7 @@ impl<T: Drop> Words<T> {
         ensures carried { hand.new.carried ≡ hand.old.carried }
         ensures slots { hand.new.slots
             ≡ held_after hand.old.slots (use_of duty.now 0) (first_due (duty.now ∷ []) result) }
-        ensures view { hand.new.view ≡ done (B.begins hand.old.view) result }
+        ensures view { hand.new.view ≡ view_after (B.begins hand.old.view) result }
         ensures overwrites { Overwrites hand.old.view.thread duty.now result }
         ensures suits { SuitsFirst (B.begins hand.old.view) (B.begins hand.old.view).agenda result }
         ensures owner { FirstFindsOwner (B.begins hand.old.view) (B.begins hand.old.view).agenda result }

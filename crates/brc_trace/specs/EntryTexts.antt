@@ -8,7 +8,7 @@ use Rattle.brc_report.specs.declared.paint.Role.TheVariants as roles
 use Rattle.brc_report.specs.Paint.{mark_text, reset_text}
 use Rattle.brc_model.specs.declared.address.Address.{Address}
 use Rattle.brc_model.specs.declared.duty.Duty.{Duty}
-use Rattle.brc_model.specs.declared.slot.Exit.{Exit}
+use Rattle.brc_model.specs.declared.state.Exit.{Exit}
 use Rattle.brc_model.specs.Trace.{is_word}
 use Rattle.brc_world.specs.declared.event.Event.{Event}
 use Rattle.brc_world.specs.declared.event.Event.TheVariants.{Silent, Calls, Does}

@@ -9,8 +9,8 @@ use Rattle.brc_model.specs.declared.address.Address.TheVariants.{Shared}
 use Rattle.brc_model.specs.declared.duty.Reason.TheVariants.{Own}
 use Rattle.brc_model.specs.declared.duty.Duty.{Duty}
 use Rattle.brc_model.specs.declared.duty.Duty.TheVariants.{RetainLoad, RetainStore, RetainAdd, ReleaseLoad, ReleaseStore, DecideAtZero, SharedExchange, MergeExchange, CloseResource, SettleEnd, BirthLocal, LockGate, UnlockGate}
-use Rattle.brc_model.specs.declared.slot.Exit.{Exit}
-use Rattle.brc_model.specs.declared.slot.Exit.TheVariants as exits
+use Rattle.brc_model.specs.declared.state.Exit.{Exit}
+use Rattle.brc_model.specs.declared.state.Exit.TheVariants as exits
 use Rattle.brc_trace.specs.declared.outcome.Fate.{Fate}
 use Rattle.brc_trace.specs.declared.outcome.Fate.TheVariants.{Gained, GivenUp, Queued, Merged, Locked, Unlocked, Born, Dies, CloseFaults, Closed}
 use Rattle.brc_trace.specs.declared.outcome.Outcome.{Outcome}

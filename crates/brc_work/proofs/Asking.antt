@@ -6,17 +6,17 @@ use Rattle.std.proofs.lemmas.Bool.Decides.{eqb_tells}
 use Rattle.std.proofs.lemmas.List.{length-set}
 use Rattle.brc_lang.specs.declared.kind.Kind.{Kind}
 use Rattle.brc_model.specs.declared.layout.Layout.{Layout}
-use Rattle.brc_model.specs.declared.slot.Slot.{Slot}
-use Rattle.brc_model.specs.declared.slot.Slot.TheVariants.{Empty, Owned, Caller, Locked}
-use Rattle.brc_model.specs.declared.slot.State.{State}
+use Rattle.brc_model.specs.declared.state.VarState.{VarState}
+use Rattle.brc_model.specs.declared.state.VarState.TheVariants.{Empty, Owned, Caller, Locked}
+use Rattle.brc_model.specs.declared.state.State.{State}
 use Rattle.brc_model.specs.Items.{borrows_item}
 use Rattle.brc_model.specs.Kinds.{kind_of_word}
 use Rattle.brc_model.specs.Layout.{is_immortal_row}
-use Rattle.brc_model.specs.Slots.{slot_of, kind_of, is_empty, is_one_of, with_resource, with_kind, put}
+use Rattle.brc_model.specs.VarStates.{var_of, kind_of, is_empty, is_one_of, with_resource, with_kind, put}
 use Rattle.brc_model.specs.Threads.{row_of}
 use Rattle.brc_model.proofs.Basics.Blocks.{only_none}
 use Rattle.brc_model.proofs.Basics.Lists.{some_is}
-use Rattle.brc_model.proofs.Dispatch.Grounded.{slot_of-put_same, slot_of-put_other}
+use Rattle.brc_model.proofs.Dispatch.Grounded.{var_of-put_same, var_of-put_other}
 use Rattle.brc_model.proofs.Dispatch.TakingHost.{resource_word}
 use Rattle.brc_table.specs.declared.view.View.{View}
 use Rattle.brc_table.specs.Hands.{HandState}
@@ -37,14 +37,14 @@ seen_knows v u x (suc word) kind plain sees is = elim (cases_Bool (is_immortal_r
   | inr counted ↦ HasSeen (suc word) counted (omega arith) sees.seen is
 ]
 
-owns_kind : (y : ℕ) (slot : Slot) (kind : Kind) (row : Option ℕ) → owns y (with_kind slot kind) row ≡ owns y slot row
+owns_kind : (y : ℕ) (slot : VarState) (kind : Kind) (row : Option ℕ) → owns y (with_kind slot kind) row ≡ owns y slot row
 owns_kind y Empty kind row = refl
 owns_kind y (Owned k) kind None = refl
 owns_kind y (Owned k) kind (Some x) = refl
 owns_kind y (Caller k) kind row = refl
 owns_kind y (Locked k) kind row = refl
 
-lists_kind : (layout : Layout) (slot : Slot) (kind : Kind) (row : Option ℕ)
+lists_kind : (layout : Layout) (slot : VarState) (kind : Kind) (row : Option ℕ)
     → lists layout (with_kind slot kind) row ≡ lists layout slot row
 lists_kind layout Empty kind row = refl
 lists_kind layout (Owned k) kind None = refl
@@ -53,7 +53,7 @@ lists_kind layout (Caller k) kind row = refl
 lists_kind layout (Locked k) kind row = refl
 
 -- A variable that has only another kind owns what it owned.
-sum_kind : (f : Slot → Option ℕ → ℕ) (i : ℕ) (slots : List Slot) (rows : List (Option ℕ)) (slot : Slot)
+sum_kind : (f : VarState → Option ℕ → ℕ) (i : ℕ) (vars : List VarState) (rows : List (Option ℕ)) (slot : VarState)
     → f slot (get_or rows i None) ≡ f (get_or slots i Empty) (get_or rows i None)
     → over_variables f (set slots i slot) rows ≡ over_variables f slots rows
 sum_kind f i [] rows slot same = refl
@@ -63,37 +63,37 @@ sum_kind f zero (s ∷ slots) (r ∷ rows) slot same = omega (arith, same)
 sum_kind f (suc i) (s ∷ slots) (r ∷ rows) slot same =
     let rest = sum_kind f i slots rows slot same in omega (arith, rest)
 
-kind_lasting : (slot : Slot) (kind : Kind) → borrows_item (with_kind slot kind) ≡ borrows_item slot
+kind_lasting : (slot : VarState) (kind : Kind) → borrows_item (with_kind slot kind) ≡ borrows_item slot
 kind_lasting Empty kind = refl
 kind_lasting (Owned k) kind = refl
 kind_lasting (Caller k) kind = refl
 kind_lasting (Locked k) kind = refl
 
-kind_used : (slot : Slot) (kind : Kind) → is_empty (with_kind slot kind) ≡ is_empty slot
+kind_used : (slot : VarState) (kind : Kind) → is_empty (with_kind slot kind) ≡ is_empty slot
 kind_used Empty kind = refl
 kind_used (Owned k) kind = refl
 kind_used (Caller k) kind = refl
 kind_used (Locked k) kind = refl
 
-kind_is : (slot : Slot) (kind : Kind) → is_empty slot ≡ false → kind_of (with_kind slot kind) ≡ kind
+kind_is : (slot : VarState) (kind : Kind) → is_empty slot ≡ false → kind_of (with_kind slot kind) ≡ kind
 kind_is Empty kind used = let wrong : true ≡ false = used in absurd cc
 kind_is (Owned k) kind used = refl
 kind_is (Caller k) kind used = refl
 kind_is (Locked k) kind used = refl
 
 -- A variable in use is one of the sixteen.
-pub used_low : (slots : List Slot) (i : ℕ) → is_empty (get_or slots i Empty) ≡ false → i < length slots
+pub used_low : (vars : List VarState) (i : ℕ) → is_empty (get_or slots i Empty) ≡ false → i < length slots
 used_low [] i used = let wrong : true ≡ false = used in absurd cc
 used_low (s ∷ slots) zero used = omega arith
 used_low (s ∷ slots) (suc i) used = let rest = used_low slots i used in omega (arith, rest)
 
 module _ (base : Base) (s : State) (rows : List (Option ℕ)) (hand after : HandState) (from x word : ℕ) (kind : Kind)
     (fits : Fits base s rows hand) (did : ActsElsewhere hand after)
-    (same : after.view.references ≡ hand.view.references) (used : is_empty (slot_of s from) ≡ false)
+    (same : after.view.references ≡ hand.view.references) (used : is_empty (var_of s from) ≡ false)
     (names : row_of rows from ≡ Some x) (sees : SeesKind x word hand.view after.view)
     (is : kind_of_word word ≡ kind) where
   abbrev next : State
-  next = put s from (with_kind (slot_of s from) kind)
+  next = put s from (with_kind (var_of s from) kind)
 
   later : Fits base s rows after
   later = same_fits base s rows hand after fits did same
@@ -104,17 +104,17 @@ module _ (base : Base) (s : State) (rows : List (Option ℕ)) (hand after : Hand
       (seen_knows hand.view after.view x word kind
       (subst (λ (l : Layout). l.immortal_lists ≡ 0) (sym later.follows.layout) fits.plain) sees is)
 
-  low : from < length s.slots → slot_of next from ≡ with_kind (slot_of s from) kind
-  low there = slot_of-put_same s from (with_kind (slot_of s from) kind) there
+  low : from < length s.vars → var_of next from ≡ with_kind (var_of s from) kind
+  low there = var_of-put_same s from (with_kind (var_of s from) kind) there
 
-  in_slots : from < length s.slots
-  in_slots = used_low s.slots from used
+  in_vars : from < length s.vars
+  in_vars = used_low s.vars from used
 
   -- The hand knows what the locked object's slot has, since it has just asked for the kind.
-  locked_kind : (i : ℕ) (lock : LockFits base.first.slots s rows after i) → LockFits base.first.slots next rows after i
+  locked_kind : (i : ℕ) (lock : LockFits base.first.vars s rows after i) → LockFits base.first.vars next rows after i
   locked_kind i lock = elim (eqb_tells i from) [
     | inl this ↦
-        let slot_is : slot_of next i ≡ with_kind (slot_of s from) kind = ap (slot_of next) this.1 ∙ low in_slots in
+        let slot_is : var_of next i ≡ with_kind (var_of s from) kind = ap (var_of next) this.1 ∙ low in_vars in
         let object_is : lock.object ≡ x =
         some_is lock.object x (sym lock.names ∙ (ap (row_of rows) this.1 ∙ names)) in
         record {
@@ -122,22 +122,22 @@ module _ (base : Base) (s : State) (rows : List (Option ℕ)) (hand after : Hand
           names = lock.names;
           counted = lock.counted;
           lasting =
-              ap borrows_item slot_is ∙ (kind_lasting (slot_of s from) kind
-              ∙ (ap (λ (k : ℕ). borrows_item (slot_of s k)) (sym this.1) ∙ lock.lasting));
-          used = ap is_empty slot_is ∙ (kind_used (slot_of s from) kind ∙ used);
+              ap borrows_item slot_is ∙ (kind_lasting (var_of s from) kind
+              ∙ (ap (λ (k : ℕ). borrows_item (var_of s k)) (sym this.1) ∙ lock.lasting));
+          used = ap is_empty slot_is ∙ (kind_used (var_of s from) kind ∙ used);
           locked = lock.locked;
           slots = lock.slots;
           resource = λ has.
               let can : is_one_of kind with_resource ≡ true =
               sym (ap (λ (k : Kind). is_one_of k with_resource)
-              (ap kind_of slot_is ∙ kind_is (slot_of s from) kind used)) ∙ has in
+              (ap kind_of slot_is ∙ kind_is (var_of s from) kind used)) ∙ has in
               did.acts.in_slot
               ∙ (sees.slot (sym did.acts.locked ∙ (lock.locked ∙ ap Some object_is))
               ∙ ap (λ (b : Bool). if b then 1 else 0) (resource_word kind word (inr is) can));
         }
     | inr apart ↦
-        let slot_is = slot_of-put_other s from i (with_kind (slot_of s from) kind) apart.1 in
-        let says = says_same (slot_of s i) (slot_of next i) slot_is in
+        let slot_is = var_of-put_other s from i (with_kind (var_of s from) kind) apart.1 in
+        let says = says_same (var_of s i) (var_of next i) slot_is in
         record {
           object = lock.object;
           names = lock.names;
@@ -150,8 +150,8 @@ module _ (base : Base) (s : State) (rows : List (Option ℕ)) (hand after : Hand
         }
   ]
 
-  locks_kind : (locked : Option ℕ) → LocksAs locked base.first.slots s rows after
-      → LocksAs locked base.first.slots next rows after
+  locks_kind : (locked : Option ℕ) → LocksAs locked base.first.vars s rows after
+      → LocksAs locked base.first.vars next rows after
   locks_kind None lock = lock
   locks_kind (Some i) lock = locked_kind i lock
 
@@ -163,25 +163,25 @@ module _ (base : Base) (s : State) (rows : List (Option ℕ)) (hand after : Hand
     plain = fits.plain;
     follows = later.follows;
     rests = later.rests;
-    some_slots = length-set s.slots from (with_kind (slot_of s from) kind) ∙ fits.some_slots;
+    some_vars = length-set s.vars from (with_kind (var_of s from) kind) ∙ fits.some_vars;
     some_rows = fits.some_rows;
     each = λ i. elim (eqb_tells i from) [
       | inl this ↦
-          subst (λ (k : ℕ). SlotFits base.held after.view (slot_of next k) (row_of rows k)) (sym this.1)
-          (subst (λ (w : Slot). SlotFits base.held after.view w (row_of rows from)) (sym (low in_slots))
-          (fits_with_kind base.held after.view (slot_of s from) (row_of rows from) kind knows (later.each from)))
+          subst (λ (k : ℕ). SlotFits base.held after.view (var_of next k) (row_of rows k)) (sym this.1)
+          (subst (λ (w : VarState). SlotFits base.held after.view w (row_of rows from)) (sym (low in_vars))
+          (fits_with_kind base.held after.view (var_of s from) (row_of rows from) kind knows (later.each from)))
       | inr apart ↦
-          subst (λ (w : Slot). SlotFits base.held after.view w (row_of rows i))
-          (sym (slot_of-put_other s from i (with_kind (slot_of s from) kind) apart.1)) (later.each i)
+          subst (λ (w : VarState). SlotFits base.held after.view w (row_of rows i))
+          (sym (var_of-put_other s from i (with_kind (var_of s from) kind) apart.1)) (later.each i)
     ];
     held = λ y counted.
         later.held y counted
         ∙ ap (λ (n : ℕ). base.held y + n)
-        (sym (sum_kind (owns y) from s.slots rows (with_kind (slot_of s from) kind)
-        (owns_kind y (slot_of s from) kind (row_of rows from))));
+        (sym (sum_kind (owns y) from s.vars rows (with_kind (var_of s from) kind)
+        (owns_kind y (var_of s from) kind (row_of rows from))));
     few =
         subst (λ (n : ℕ). length after.view.references ≤ base.most + n)
-        (sym (sum_kind (lists base.first.view.layout) from s.slots rows (with_kind (slot_of s from) kind)
-        (lists_kind base.first.view.layout (slot_of s from) kind (row_of rows from)))) later.few;
+        (sym (sum_kind (lists base.first.view.layout) from s.vars rows (with_kind (var_of s from) kind)
+        (lists_kind base.first.view.layout (var_of s from) kind (row_of rows from)))) later.few;
     lock = locks_kind s.locked later.lock;
   }

@@ -16,7 +16,7 @@ use Rattle.brc_model.specs.declared.address.Address.TheVariants.{Local, Shared, 
 use Rattle.brc_model.specs.declared.duty.Duty.{Duty}
 use Rattle.brc_model.specs.declared.duty.Duty.TheVariants.{CloseResource}
 use Rattle.brc_model.specs.declared.layout.Layout.{Layout}
-use Rattle.brc_model.specs.declared.slot.State.{State}
+use Rattle.brc_model.specs.declared.state.State.{State}
 use Rattle.brc_model.specs.declared.thread.Choice.{Choice}
 use Rattle.brc_model.specs.declared.thread.Choice.TheVariants.{Ok, Fault, Claim, Stop}
 use Rattle.brc_model.specs.Actions.{StepActor, Action, Skip, Stuck, Silent, Calls, Does, always, dispatch_inside, dispatch, agenda_action, status_action, action_of, is_before_instruction, stop_action, stop_in_call}
@@ -29,7 +29,7 @@ use Rattle.brc_model.specs.Threads.{code_of}
 use Rattle.brc_model.specs.Trace.{WordEvent, is_word, MakesStep, GoesSilently, CallsHost, DoesDuty, CanMake, Nothing, Then}
 use Rattle.brc_model.specs.Trace as model
 use Rattle.brc_table.specs.declared.view.Event.{Event}
-use Rattle.brc_work.specs.Traces.{Makes, Begun, Silently, Asks, Starts, Reads, Continues, Closes, word_events, events_of, read_birth, exit_of, is_birth, has_read}
+use Rattle.brc_work.specs.Traces.{Makes, Refl, Silently, Asks, Dispatches, Reads, Continues, Closes, word_events, events_of, read_birth, exit_of, is_birth, has_read}
 use Rattle.brc_work.specs.Automata.{IsPlain, MakesPlainly, IsNoClaim, ClaimsNothing, HasNoClaim, CanMakeUnclaimed, AsksNothing, GoesAlone, word_event, thread_at, HandsMakeAsThreads, ThreadsAloneMakeAsHands, HandsStopAsThreads}
 
 -- ---- events
@@ -133,14 +133,14 @@ module _ (functions : List Function) (states : ℕ → ℕ → Option State) (la
 
     pub plain_can : (n : ℕ) (cs : List HostCall) (es : List Event) (q : Place) (b : Actor)
         (made : Makes layout t (code functions function) p a n cs es q b) → IsPlain made → Can es q b
-    plain_can n cs es q b Begun plain = (Nothing (thread_at function p a), tt)
+    plain_can n cs es q b Refl plain = (Nothing (thread_at function p a), tt)
     plain_can n cs es q b (Silently k ds fs r s c moves before none is) plain =
         silent_more fs r s c c (plain_can k ds fs r c before plain.1)
         (GoesSilently Ok moves s (dispatches r c (Silent moves s) plain.0 none is)) tt
     plain_can n cs es q b (Asks k ds fs r c row after i call before none is here asks) plain =
         silent_more fs r (after (exit_of call)) c c (plain_can k ds fs r c before plain.1)
         (CallsHost Ok row after (exit_of call) (dispatches r c (Calls row after) plain.0 none is)) tt
-    plain_can n cs es q b (Starts k ds fs r c d rest next found before none is other) plain =
+    plain_can n cs es q b (Dispatches k ds fs r c d rest next found before none is other) plain =
         duty_more fs r (next found) c d rest found (plain_can k ds fs r c before plain.1)
         (DoesDuty Ok d rest next found (dispatches r c (Does d rest next) plain.0 none is)) tt
     plain_can n cs es q b (Reads k ds fs context at variables c to file most past count found before none is few) plain
@@ -194,7 +194,7 @@ module _ (functions : List Function) (states : ℕ → ℕ → Option State) (la
   dispatched es q b (Calls row place) so alive none is =
       tt
   dispatched es q b (Does d rest place) so alive none is =
-      λ found other. (_, so.1, Starts so.0 so.1 es q b d rest place found so.2 none is other, (alive, so.3))
+      λ found other. (_, so.1, Dispatches so.0 so.1 es q b d rest place found so.2 none is other, (alive, so.3))
 
   by_agenda : (es : List Event) (q : Place) (b : Actor) (agenda : List Duty) → Plainly es q b → b.status ≢ Gone
       → b.agenda ≡ agenda → GoesOn es q b (agenda_action functions layout t (thread_at function q b) agenda)
@@ -277,7 +277,7 @@ threads_alone_as_hands functions states layout t function p q a b es can =
     (there_and_back es)
     (can_plain functions states layout t p a (thread_at function p a) (thread_at function q b) [] (map word_event es)
     can.0
-    can.1 (0, [], Begun, tt))
+    can.1 (0, [], Refl, tt))
 
 -- ---- stops
 

@@ -30,7 +30,7 @@ use Rattle.brc_model.proofs.Promises.Turns.{CountsTurns, EachPlace, FitsCode, co
 use Rattle.brc_table.specs.declared.view.Event.{Event}
 use Rattle.brc_table.specs.declared.view.View.{View}
 use Rattle.brc_work.specs.Runs.{StopsBy, Between, Within, greatest_bound}
-use Rattle.brc_work.specs.Traces.{Makes, Begun, Silently, Asks, Starts, Reads, Continues, Closes, begun_at, begun_by, exit_of, MakesTrace, MakesCalls, NoCall, OneMore}
+use Rattle.brc_work.specs.Traces.{Makes, Refl, Silently, Asks, Dispatches, Reads, Continues, Closes, begun_at, begun_by, exit_of, MakesTrace, MakesCalls, NoCall, OneMore}
 
 -- ---- what a step begins
 
@@ -72,7 +72,7 @@ module _ (layout : Layout) (t : ℕ) (code : List Instr) (fits : FitsCode code) 
 
   pub makes_lower : (n : ℕ) (cs : List HostCall) (es : List Event) (q : Place) (b : Actor)
       → Makes layout t code p a n cs es q b → Lowered n q
-  makes_lower n cs es q b Begun = (counts, omega arith)
+  makes_lower n cs es q b Refl = (counts, omega arith)
   makes_lower n cs es q b (Silently k ds fs r s c moves before none is) =
       let had = makes_lower k ds fs r c before in
       let leads = subst (LeadsTo (Lowers code r) r) is (dispatch_lowers layout t c.used code r fits had.0) in
@@ -84,7 +84,7 @@ module _ (layout : Layout) (t : ℕ) (code : List Instr) (fits : FitsCode code) 
         subst (EachPlace CountsTurns) is (dispatch_turns c.used r had.0) exit,
         omega (arith, had.1, leads, begun_before r),
       )
-  makes_lower n cs es q b (Starts k ds fs r c d rest next found before none is off) =
+  makes_lower n cs es q b (Dispatches k ds fs r c d rest next found before none is off) =
       let had = makes_lower k ds fs r c before in
       let leads = subst (LeadsTo (Lowers code r) r) is (dispatch_lowers layout t c.used code r fits had.0) found in (
         subst (EachPlace CountsTurns) is (dispatch_turns c.used r had.0) found,

@@ -7,14 +7,14 @@ use Rattle.brc_host.specs.HostCalls.{HostCall}
 use Rattle.brc_model.specs.declared.duty.Duty.{Duty}
 use Rattle.brc_model.specs.OpenWork.{is_about}
 use Rattle.brc_table.specs.declared.view.View.{View}
-use Rattle.brc_table.specs.Views.{open_work, asking, done}
-use Rattle.brc_table.specs.Seen.{cell_known, cell_seen}
+use Rattle.brc_table.specs.Views.{open_work, asking, view_after}
+use Rattle.brc_table.specs.KnownWords.{cell_known, known_cell}
 use Rattle.brc_table.specs.Hands.{HandState}
 use Rattle.brc_heap.specs.Calls.{Leaves, HasBorn}
 use Rattle.brc_list.specs.Calls.{Keeps}
 use Rattle.brc_free.specs.Works.{HasReleased, HasWorked, to_settle}
 use Rattle.brc_work.specs.Acts.{KeepsCells, Acts, ActsElsewhere}
-use Rattle.brc_work.specs.Fits.{Rests, Follows}
+use Rattle.brc_work.specs.Fits.{Rests, IsLater}
 
 -- ---- lists
 
@@ -35,7 +35,7 @@ no_work hand rests = ap (λ (ds : List Duty). ds ++ hand.view.aside) rests.agend
 -- The hand is the same one, later.
 pub follows_by : (hand after : HandState) → after.table ≡ hand.table → after.view.layout ≡ hand.view.layout
     → after.view.thread ≡ hand.view.thread → after.view.given ≡ hand.view.given → after.carried ≡ hand.carried
-    → hand.view.used ≤ after.view.used → Follows hand after
+    → hand.view.used ≤ after.view.used → IsLater hand after
 follows_by hand after table layout thread given carried used = record {
   table = table;
   layout = layout;
@@ -108,9 +108,9 @@ kept_acts hand after rests kept table carried slots locked =
     }
 
 -- A look at a kind word changes nothing that the hand has seen of cells.
-pub asked_cells : (v u : View) (x word : ℕ) → u ≡ done (asking v x) word → KeepsCells v u
+pub asked_cells : (v u : View) (x word : ℕ) → u ≡ view_after (asking v x) word → KeepsCells v u
 asked_cells v u x word is y i before locked seen =
-    ap (cell_seen y i) is ∙ (fold-append (cell_known y i) None v.trace _ ∙ seen)
+    ap (known_cell y i) is ∙ (fold-append (cell_known y i) None v.trace _ ∙ seen)
 
 -- A hand that has done nothing.
 pub itself_acts : (hand : HandState) → Rests hand → ActsElsewhere hand hand
@@ -209,7 +209,7 @@ kept_rests hand after rests kept =
     }
 
 pub kept_follows : (hand after : HandState) → Keeps hand.view after.view → after.table ≡ hand.table
-    → after.carried ≡ hand.carried → Follows hand after
+    → after.carried ≡ hand.carried → IsLater hand after
 kept_follows hand after kept table carried =
     follows_by hand after table kept.layout kept.thread kept.given carried (omega (arith, kept.used))
 

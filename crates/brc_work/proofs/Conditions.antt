@@ -2,27 +2,27 @@
 use Rattle.std.proofs.Common.{◌≡◌, ℕ, Bool, true, false, Option, None, Some, refl, sym, ap}
 use Rattle.std.specs.Prelude.{◌||◌, not, is_some}
 use Rattle.std.proofs.lemmas.Bool.{eqb-true}
-use Rattle.brc_model.specs.declared.slot.Slot.{Slot}
-use Rattle.brc_model.specs.declared.slot.Slot.TheVariants.{Empty, Owned, Caller, Locked}
-use Rattle.brc_model.specs.declared.slot.State.{State}
-use Rattle.brc_model.specs.Slots.{slot_of, is_empty, is_owned, is_borrowed, names}
+use Rattle.brc_model.specs.declared.state.VarState.{VarState}
+use Rattle.brc_model.specs.declared.state.VarState.TheVariants.{Empty, Owned, Caller, Locked}
+use Rattle.brc_model.specs.declared.state.State.{State}
+use Rattle.brc_model.specs.VarStates.{var_of, is_empty, is_owned, is_borrowed, names}
 use Rattle.brc_model.proofs.Basics.Lists.{first_false}
-use Rattle.brc_model.proofs.Dispatch.Grounded.{owned_slot}
+use Rattle.brc_model.proofs.Dispatch.Grounded.{owned_var}
 use Rattle.brc_work.specs.Changes.{CanFill, CanGive}
 
 -- The last condition of a code isn't broken.
 pub kept : (a : Bool) → (a || false) ≡ false → a ≡ false
 kept a is = first_false a false is
 
-pub can_fill : (s : State) (to : ℕ) → (is_owned (slot_of s to) || false) ≡ false → (names s.locked to || false) ≡ false
+pub can_fill : (s : State) (to : ℕ) → (is_owned (var_of s to) || false) ≡ false → (names s.locked to || false) ≡ false
     → CanFill s to
 can_fill s to free unlocked =
-    record { free = kept (is_owned (slot_of s to)) free; unlocked = kept (names s.locked to) unlocked }
+    record { free = kept (is_owned (var_of s to)) free; unlocked = kept (names s.locked to) unlocked }
 
-pub can_give : (s : State) (from : ℕ) → is_empty (slot_of s from) ≡ false → is_borrowed (slot_of s from) ≡ false
+pub can_give : (s : State) (from : ℕ) → is_empty (var_of s from) ≡ false → is_borrowed (var_of s from) ≡ false
     → names s.locked from ≡ false → CanGive s from
 can_give s from used own unlocked =
-    record { owned = owned_slot (slot_of s from) used own; unlocked = unlocked }
+    record { owned = owned_var (var_of s from) used own; unlocked = unlocked }
 
 -- What isn't false is true.
 pub not_false : (a : Bool) → not a ≡ false → a ≡ true
@@ -39,7 +39,7 @@ none_is None is = refl
 none_is (Some x) is = let wrong : true ≡ false = is in absurd cc
 
 -- A variable that owns a reference is in use.
-pub owned_used : (slot : Slot) → is_owned slot ≡ true → is_empty slot ≡ false
+pub owned_used : (var : VarState) → is_owned var ≡ true → is_empty var ≡ false
 owned_used Empty owned = let wrong : false ≡ true = owned in absurd cc
 owned_used (Owned k) owned = refl
 owned_used (Caller k) owned = refl

@@ -7,7 +7,7 @@ use Rattle.brc_host.specs.declared.counts.HostCounts.{HostCounts}
 use Rattle.brc_host.proofs.Answering.{one_call, answered_then, host_faults_then, close_faults_then}
 use Rattle.brc_table.specs.declared.view.View.{View}
 use Rattle.brc_free.proofs.Working.{works_close}
-use Rattle.brc_queue.specs.Scans.{LooksThrough, Begun, Next, HasLeft}
+use Rattle.brc_queue.specs.Scans.{HasScanned, Refl, Next, HasLeft}
 use Rattle.brc_work.specs.declared.ran.Ran.{Ran}
 use Rattle.brc_work.specs.declared.ran.Ran.TheVariants.{Done, Stopped}
 use Rattle.brc_work.specs.declared.totals.Totals.{Totals}
@@ -113,8 +113,8 @@ done_with totals (Stopped before) = refl
 -- ---- closes
 
 -- A hand that looks through its queue asks for closes alone,
-pub looks_close : (v w : View) (i : ℕ) (cs : List HostCall) → LooksThrough v i cs w → host_faults cs ≡ 0
-looks_close v w i cs Begun = refl
+pub looks_close : (v w : View) (i : ℕ) (cs : List HostCall) → HasScanned v i cs w → host_faults cs ≡ 0
+looks_close v w i cs Refl = refl
 looks_close v w i cs (Next j closes more u x looks claims) =
     host_faults_then closes more
     ∙ (ap (λ (n : ℕ). n + host_faults more) (looks_close v u j closes looks)

@@ -14,8 +14,8 @@ use Rattle.brc_model.specs.declared.actor.Status.TheVariants.{Running, Leaving, 
 use Rattle.brc_model.specs.declared.duty.Duty.{Duty}
 use Rattle.brc_model.specs.declared.duty.Duty.TheVariants.{CloseResource}
 use Rattle.brc_model.specs.declared.layout.Layout.{Layout}
-use Rattle.brc_model.specs.declared.slot.Exit.{Exit}
-use Rattle.brc_model.specs.declared.slot.State.{State}
+use Rattle.brc_model.specs.declared.state.Exit.{Exit}
+use Rattle.brc_model.specs.declared.state.State.{State}
 use Rattle.brc_model.specs.declared.thread.Choice.{Choice}
 use Rattle.brc_model.specs.declared.thread.Choice.TheVariants.{Ok, Fault, Claim, Stop}
 use Rattle.brc_model.specs.Actions.{StepActor, Action, Skip, Stuck, Silent, Calls, Does, dispatch, agenda_action, status_action, action_of}
@@ -25,7 +25,7 @@ use Rattle.brc_model.specs.Threads.{code_of}
 use Rattle.brc_model.specs.Trace.{WordEvent, MakesStep, GoesSilently, CallsHost, DoesDuty, CanMake, Nothing, Then}
 use Rattle.brc_model.specs.Trace as model
 use Rattle.brc_table.specs.declared.view.Event.{Event}
-use Rattle.brc_work.specs.Traces.{Makes, Begun, Silently, Asks, Starts, Reads, Continues, Closes, events_of}
+use Rattle.brc_work.specs.Traces.{Makes, Refl, Silently, Asks, Dispatches, Reads, Continues, Closes, events_of}
 use Rattle.brc_work.specs.Automata.{IsPlain, IsNoClaim, ClaimsNothing, HasNoClaim, MakesPlainly, word_event, thread_at, ThreadsMakeAsHands}
 use Rattle.brc_work.proofs.Automata.{hand_event, same_events, there_and_back}
 use Rattle.brc_work.proofs.Remembering.{Remembers, nothing_outside, nothing_busy, IsKnown, Other, OfRead, Leads, dispatch_leads}
@@ -58,7 +58,7 @@ module _ (functions : List Function) (states : ℕ → ℕ → Option State) (la
         → Remembers code cs (es ++ events_of layout t b d found) (actor_by layout t b d rest found) (place found)
         → Ready (es ++ events_of layout t b d found) (place found) (actor_by layout t b d rest found)
     does q d rest place found made plain is (Other other) has =
-        (_, cs, Starts n cs es q b d rest place found made none is other, (alive, plain), has)
+        (_, cs, Dispatches n cs es q b d rest place found made none is other, (alive, plain), has)
     does q d rest place found made plain is
         (OfRead context at variables to file most otherwise before here read) has
         =
@@ -180,5 +180,5 @@ threads_as_hands functions states layout t function p q a b es outside can =
     let code = code_of (slice_get functions function) in
     let so = can_ready functions states layout t p a (thread_at function p a) (thread_at function q b) []
     (map word_event es)
-    can.0 can.1 (0, [], Begun, tt, nothing_outside code [] [] a p outside) in
+    can.0 can.1 (0, [], Refl, tt, nothing_outside code [] [] a p outside) in
     subst (λ (fs : List Event). MakesPlainly layout t code p a fs q b) (there_and_back es) (so.0, so.1, so.2, so.3)

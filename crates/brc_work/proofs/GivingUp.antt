@@ -8,12 +8,12 @@ use Rattle.brc_lang.specs.declared.check_code.CheckCode.TheVariants.{EmptyUsed, 
 use Rattle.brc_lang.specs.declared.module.Instr.{Instr}
 use Rattle.brc_lang.specs.declared.module.Instr.TheVariants as instructions
 use Rattle.brc_model.specs.declared.actor.Place.TheVariants.{Stopping}
-use Rattle.brc_model.specs.declared.slot.Exit.TheVariants.{Success}
-use Rattle.brc_model.specs.declared.slot.Slot.{Slot}
-use Rattle.brc_model.specs.declared.slot.Slot.TheVariants.{Empty, Owned, Caller, Locked}
+use Rattle.brc_model.specs.declared.state.Exit.TheVariants.{Success}
+use Rattle.brc_model.specs.declared.state.VarState.{VarState}
+use Rattle.brc_model.specs.declared.state.VarState.TheVariants.{Empty, Owned, Caller, Locked}
 use Rattle.brc_model.specs.Actions.{always}
-use Rattle.brc_model.specs.declared.slot.State.{State}
-use Rattle.brc_model.specs.Slots.{slot_of, is_owned, is_empty, names, put, without_item, after, applies, lowest}
+use Rattle.brc_model.specs.declared.state.State.{State}
+use Rattle.brc_model.specs.VarStates.{var_of, is_owned, is_empty, names, put, without_item, after, applies, lowest}
 use Rattle.brc_model.specs.Stops.{row_locked, owned_rows, stopping}
 use Rattle.brc_model.specs.Threads.{row_of}
 use Rattle.brc_model.proofs.Dispatch.Stopped.{owned_exactly}
@@ -38,9 +38,9 @@ HaveGiven heap state first hand k rows after =
     IsOf heap after
     × ((base : Base) (s : State) → Fits base s first hand → OwnsAsMuch state s
     → Fits base (emptied k s) rows (unchained after))
-    × ((i : ℕ) → i < k → row_of (owned_rows state.slots rows) i ≡ None)
+    × ((i : ℕ) → i < k → row_of (owned_rows state.vars rows) i ≡ None)
     × ((code : List Instr)
-    → Stops code (place_of state.slots first) hand.view state.slots rows after.view)
+    → Stops code (place_of state.vars first) hand.view state.vars rows after.view)
 
 -- A hand whose chain is empty.
 as_unchained : (hand : HandState) → hand.view.head ≡ 0 → hand ≡ unchained hand
@@ -53,10 +53,10 @@ module _ (heap : TableState) (state : State) (first : List (Option ℕ)) (hand :
     is.of,
     λ base s fits alike. subst (Fits base s first) (as_unchained hand fits.rests.settled) fits,
     λ i low. absurd (omega (arith, low)),
-    λ code. stops_first code hand.view state.slots first is.fits.rests.agenda is.fits.rests.settled,
+    λ code. stops_first code hand.view state.vars first is.fits.rests.agenda is.fits.rests.settled,
   )
 
-  pub can_loosen : (s : State) (k : ℕ) → OwnsAsMuch state s → is_owned (slot_of state k) ≡ true
+  pub can_loosen : (s : State) (k : ℕ) → OwnsAsMuch state s → is_owned (var_of state k) ≡ true
       → CanGive (emptied k s) k
   can_loosen s k alike owned = record {
     owned = ap is_owned (emptied_later k k s (omega arith)) ∙ (alike.owned k ∙ owned);
@@ -67,7 +67,7 @@ module _ (heap : TableState) (state : State) (first : List (Option ℕ)) (hand :
     fits_now : Fits is.base (emptied k is.state) rows (unchained now)
     fits_now = given.1 is.base is.state is.fits is.can_do
 
-    pub one_given : (after_rows : List (Option ℕ)) (after : HandState) → is_owned (slot_of state k) ≡ true
+    pub one_given : (after_rows : List (Option ℕ)) (after : HandState) → is_owned (var_of state k) ≡ true
         → IsOf heap after
         → GoesChained (λ s. CanGive s k) (λ s. put s k Empty) rows now after_rows after
         → Loosens k rows now.view after_rows after.view
@@ -80,21 +80,21 @@ module _ (heap : TableState) (state : State) (first : List (Option ℕ)) (hand :
           (sym (alike.owned k ∙ owned)) (goes base (emptied k s) (given.1 base s fits alike)
           (can_loosen s k alike owned)),
       λ i low.
-          subst (λ (rs : List (Option ℕ)). row_of (owned_rows state.slots rs) i ≡ None) (sym loosens.emptied)
-          (emptied_left state.slots rows k i low given.2),
+          subst (λ (rs : List (Option ℕ)). row_of (owned_rows state.vars rs) i ≡ None) (sym loosens.emptied)
+          (emptied_left state.vars rows k i low given.2),
       λ code.
-          stops_on code (place_of state.slots first) hand.view state.slots rows after_rows k now.view after.view
+          stops_on code (place_of state.vars first) hand.view state.vars rows after_rows k now.view after.view
           (given.3 code) fits_now.rests.agenda loosens
-          ((owned_exactly state.slots rows k loosens.row).1 (owned, loosens.names)) given.2,
+          ((owned_exactly state.vars rows k loosens.row).1 (owned, loosens.names)) given.2,
     )
 
-    pub none_more : is_owned (slot_of state k) ≡ false → HaveGiven heap state first hand (suc k) rows now
+    pub none_more : is_owned (var_of state k) ≡ false → HaveGiven heap state first hand (suc k) rows now
     none_more bare = (
       given.0,
       λ base s fits alike.
           subst (λ (b : Bool). Fits base (cond b (put (emptied k s) k Empty) (emptied k s)) rows (unchained now))
           (sym (alike.owned k ∙ bare)) (given.1 base s fits alike),
-      λ i low. unowned_left state.slots rows k i low bare given.2,
+      λ i low. unowned_left state.vars rows k i low bare given.2,
       given.3,
     )
 
@@ -106,7 +106,7 @@ module _ (heap : TableState) (state : State) (first : List (Option ℕ)) (hand :
           (s : State) → Fits base s first hand → OwnsAsMuch state s → HasReturned base after
       all_returned table carried slots base s fits alike =
           let at_end = given.1 base s fits alike in
-          let ended = ends base (emptied 16 s) rows (unchained now) at_end (all_emptied s fits.some_slots)
+          let ended = ends base (emptied 16 s) rows (unchained now) at_end (all_emptied s fits.some_vars)
           (emptied_locked 16 s ∙ alike.unlocked) in
           let keeps = worked.keeps in
           record {
@@ -136,8 +136,8 @@ module _ (heap : TableState) (state : State) (first : List (Option ℕ)) (hand :
       pub all_made : MakesReleases cs state first hand.view after.view
       all_made = λ code.
           let at_end = given.1 is.base is.state is.fits is.can_do in
-          stops_last code (place_of state.slots first) hand.view state.slots rows cs now.view after.view (given.3 code)
-          (nothing_left state.slots rows at_end.some_rows given.2) at_end.rests.agenda worked empty
+          stops_last code (place_of state.vars first) hand.view state.vars rows cs now.view after.view (given.3 code)
+          (nothing_left state.vars rows at_end.some_rows given.2) at_end.rests.agenda worked empty
 
 -- ---- the lock
 
@@ -148,7 +148,7 @@ names_itself x = elim (eqb_tells x x) [
 ]
 
 -- What is locked may be unlocked.
-pub may_unlock : (s : State) (object : ℕ) → is_empty (slot_of s object) ≡ false → s.locked ≡ Some object
+pub may_unlock : (s : State) (object : ℕ) → is_empty (var_of s object) ≡ false → s.locked ≡ Some object
     → lowest (instructions.Unlock object) s ≡ None
 may_unlock s object used locked =
     let applied = applies (instructions.Unlock object) s in
@@ -159,7 +159,7 @@ may_unlock s object used locked =
     (ap (λ (o : Option ℕ). names o object) locked ∙ names_itself object)
 
 -- What borrows from the list is empty once the list is unlocked. So the same variables own references.
-owned_alike : (slots : List Slot) (i : ℕ)
+owned_alike : (vars : List VarState) (i : ℕ)
     → is_owned (slice_index_or (map without_item slots) i Empty) ≡ is_owned (slice_index_or slots i Empty)
 owned_alike [] i = refl
 owned_alike (Empty ∷ slots) zero = refl
@@ -175,18 +175,18 @@ pub record IsUnlocked (heap : TableState) (state : State) (rows : List (Option �
   pub of : IsOf heap now
   pub fits : (base : Base) → Fits base state rows hand → Fits base left rows now
   pub made : (code : List Instr)
-      → MakesTrace 0 [] code (stopping (row_locked state.locked rows) (owned_rows state.slots rows ∷ [])) hand.view
-      (place_of state.slots rows) now.view
+      → MakesTrace 0 [] code (stopping (row_locked state.locked rows) (owned_rows state.vars rows ∷ [])) hand.view
+      (place_of state.vars rows) now.view
 
 module _ (heap : TableState) (state : State) (rows : List (Option ℕ)) (hand : HandState) where
   pub unlocked_now : (now : HandState) (object : ℕ) → state.locked ≡ Some object → IsOf heap now → hand.view.agenda ≡ []
       → HasDone (instructions.Unlock object) Success rows hand rows now → Unlocks object rows hand.view now.view
       → IsUnlocked heap state rows hand now
   unlocked_now now object locked of none done unlocks =
-      let calls = owned_rows state.slots rows ∷ [] in
+      let calls = owned_rows state.vars rows ∷ [] in
       record {
         left = after (instructions.Unlock object) Success state;
-        alike = record { unlocked = refl; owned = λ i. owned_alike state.slots i };
+        alike = record { unlocked = refl; owned = λ i. owned_alike state.vars i };
         of = of;
         fits = λ base fits. done base state fits
             (may_unlock state object (lock_of base state rows hand fits object locked).used locked);
@@ -206,9 +206,9 @@ module _ (heap : TableState) (state : State) (rows : List (Option ℕ)) (hand : 
     of = of;
     fits = λ base fits. fits;
     made = λ code.
-        subst (λ (o : Option ℕ). MakesTrace 0 [] code (stopping (row_locked o rows) (owned_rows state.slots rows ∷ []))
-        hand.view (place_of state.slots rows) hand.view) (sym locked)
-        (no_trace code (place_of state.slots rows) [] hand.view);
+        subst (λ (o : Option ℕ). MakesTrace 0 [] code (stopping (row_locked o rows) (owned_rows state.vars rows ∷ []))
+        hand.view (place_of state.vars rows) hand.view) (sym locked)
+        (no_trace code (place_of state.vars rows) [] hand.view);
   }
 
 pub no_lock_left : (o : Option ℕ) → ((x : ℕ) → o ≢ Some x) → o ≡ None

@@ -5,12 +5,12 @@ use Rattle.std.proofs.lemmas.Bool.{cases_Bool, eq-eqb, false≢true}
 use Rattle.brc_lang.specs.declared.kind.Kind.{Kind}
 use Rattle.brc_model.specs.References.{one_if}
 use Rattle.brc_model.specs.declared.layout.Layout.{Layout}
-use Rattle.brc_model.specs.declared.slot.Slot.{Slot}
-use Rattle.brc_model.specs.declared.slot.Slot.TheVariants.{Empty, Owned, Caller, Locked}
-use Rattle.brc_model.specs.declared.slot.State.{State}
+use Rattle.brc_model.specs.declared.state.VarState.{VarState}
+use Rattle.brc_model.specs.declared.state.VarState.TheVariants.{Empty, Owned, Caller, Locked}
+use Rattle.brc_model.specs.declared.state.State.{State}
 use Rattle.brc_model.specs.Items.{borrows_item}
 use Rattle.brc_model.specs.Layout.{is_immortal_row, IsCounted}
-use Rattle.brc_model.specs.Slots.{slot_of, kind_of, is_empty, is_owned, is_one_of, lockable, with_resource, with_kind, names}
+use Rattle.brc_model.specs.VarStates.{var_of, kind_of, is_empty, is_owned, is_one_of, lockable, with_resource, with_kind, names}
 use Rattle.brc_model.specs.Duties.{resources_of}
 use Rattle.brc_model.specs.Threads.{row_of}
 use Rattle.brc_model.proofs.Basics.Blocks.{root_counted}
@@ -19,7 +19,7 @@ use Rattle.brc_model.proofs.Dispatch.TakingHost.{resource_word}
 use Rattle.brc_model.proofs.Dispatch.Grounded.{owned_low}
 use Rattle.brc_table.specs.declared.view.View.{View}
 use Rattle.brc_table.specs.Views.{holds}
-use Rattle.brc_table.specs.Seen.{has_seen_kind}
+use Rattle.brc_table.specs.KnownWords.{knows_kind}
 use Rattle.brc_table.specs.Hands.{HandState, HoldsOne, KeepsLock, Borrows, MayUse, most_references}
 use Rattle.brc_work.specs.Changes.{CanGive}
 use Rattle.brc_work.specs.Fits.{Base, KnowsKind, Unknown, OfNone, OfRoot, HasSeen, SlotFits, owns, LockFits, LocksAs, Fits}
@@ -28,14 +28,14 @@ use Rattle.brc_work.proofs.Owning.{sum_at, sum_both, sum_lists}
 -- ---- what a slot says of its row
 
 -- A variable in use names an object.
-pub named : (held : ℕ → ℕ) (v : View) (slot : Slot) (row : Option ℕ) → is_empty slot ≡ false → SlotFits held v slot row
+pub named : (held : ℕ → ℕ) (v : View) (slot : VarState) (row : Option ℕ) → is_empty slot ≡ false → SlotFits held v slot row
     → (x : ℕ) × (row ≡ Some x)
 named held v Empty row used fits = let wrong : true ≡ false = used in absurd cc
 named held v (Owned k) row used fits = (fits.object, fits.is)
 named held v (Caller k) row used fits = (fits.names.object, fits.names.is)
 named held v (Locked k) row used fits = (fits.names.object, fits.names.is)
 
-owns_one : (slot : Slot) (row : Option ℕ) (x : ℕ) → is_owned slot ≡ true → row ≡ Some x → owns x slot row ≡ 1
+owns_one : (slot : VarState) (row : Option ℕ) (x : ℕ) → is_owned slot ≡ true → row ≡ Some x → owns x slot row ≡ 1
 owns_one Empty row x owned is = let wrong : false ≡ true = owned in absurd cc
 owns_one (Owned k) row x owned is =
     ap (owns x (Owned k)) is ∙ ap one_if (eq-eqb x x refl)
@@ -45,21 +45,21 @@ owns_one (Locked k) row x owned is = let wrong : false ≡ true = owned in absur
 -- ---- what the hand holds
 
 module _ (base : Base) (s : State) (rows : List (Option ℕ)) (hand : HandState) (fits : Fits base s rows hand) where
-  low_slot : (i : ℕ) → is_owned (slot_of s i) ≡ true → i < length s.slots
-  low_slot i owned = omega (arith, owned_low s i fits.some_slots owned, fits.some_slots)
+  low_slot : (i : ℕ) → is_owned (var_of s i) ≡ true → i < length s.vars
+  low_slot i owned = omega (arith, owned_low s i fits.some_vars owned, fits.some_vars)
 
-  low_row : (i : ℕ) → is_owned (slot_of s i) ≡ true → i < length rows
-  low_row i owned = omega (arith, owned_low s i fits.some_slots owned, fits.some_rows)
+  low_row : (i : ℕ) → is_owned (var_of s i) ≡ true → i < length rows
+  low_row i owned = omega (arith, owned_low s i fits.some_vars owned, fits.some_rows)
 
   here : (x : ℕ) → IsCounted hand.view.layout x → IsCounted base.first.view.layout x
   here x counted = subst (λ (l : Layout). IsCounted l x) fits.follows.layout counted
 
   -- It holds a reference to what a variable owns,
-  pub owned_held : (i x : ℕ) → is_owned (slot_of s i) ≡ true → row_of rows i ≡ Some x → IsCounted hand.view.layout x
+  pub owned_held : (i x : ℕ) → is_owned (var_of s i) ≡ true → row_of rows i ≡ Some x → IsCounted hand.view.layout x
       → 1 ≤ holds hand.view x
   owned_held i x owned is counted =
-      let one = owns_one (slot_of s i) (row_of rows i) x owned is in
-      let all = sum_at (owns x) i s.slots rows (low_slot i owned) (low_row i owned) in
+      let one = owns_one (var_of s i) (row_of rows i) x owned is in
+      let all = sum_at (owns x) i s.vars rows (low_slot i owned) (low_row i owned) in
       omega (arith, one, all, fits.held x (here x counted))
 
   -- and one to what it holds further out,
@@ -67,42 +67,42 @@ module _ (base : Base) (s : State) (rows : List (Option ℕ)) (hand : HandState)
   outer_held x more counted = omega (arith, more, fits.held x (here x counted))
 
   -- besides one by a variable.
-  owned_outer : (i x : ℕ) → is_owned (slot_of s i) ≡ true → row_of rows i ≡ Some x → 1 ≤ base.held x
+  owned_outer : (i x : ℕ) → is_owned (var_of s i) ≡ true → row_of rows i ≡ Some x → 1 ≤ base.held x
       → IsCounted hand.view.layout x → 2 ≤ holds hand.view x
   owned_outer i x owned is more counted =
-      let one = owns_one (slot_of s i) (row_of rows i) x owned is in
-      let all = sum_at (owns x) i s.slots rows (low_slot i owned) (low_row i owned) in
+      let one = owns_one (var_of s i) (row_of rows i) x owned is in
+      let all = sum_at (owns x) i s.vars rows (low_slot i owned) (low_row i owned) in
       omega (arith, one, all, more, fits.held x (here x counted))
 
   -- What the caller lends it holds further out.
-  lent_outer : (i x : ℕ) (k : Kind) → slot_of s i ≡ Caller k → row_of rows i ≡ Some x → IsCounted hand.view.layout x
+  lent_outer : (i x : ℕ) (k : Kind) → var_of s i ≡ Caller k → row_of rows i ≡ Some x → IsCounted hand.view.layout x
       → 1 ≤ base.held x
   lent_outer i x k is row counted =
       let lent : SlotFits base.held hand.view (Caller k) (row_of rows i) =
-      subst (λ (w : Slot). SlotFits base.held hand.view w (row_of rows i)) is (fits.each i) in
+      subst (λ (w : VarState). SlotFits base.held hand.view w (row_of rows i)) is (fits.each i) in
       let same : lent.names.object ≡ x = some_is lent.names.object x (sym lent.names.is ∙ row) in
       subst (λ (y : ℕ). 1 ≤ base.held y) same (lent.lent (subst (IsCounted hand.view.layout) (sym same) counted))
 
   -- Two variables that own a reference to the same object hold two.
-  pub both_held : (i j x : ℕ) → i ≢ j → is_owned (slot_of s i) ≡ true → row_of rows i ≡ Some x
-      → is_owned (slot_of s j) ≡ true → row_of rows j ≡ Some x → IsCounted hand.view.layout x → 2 ≤ holds hand.view x
+  pub both_held : (i j x : ℕ) → i ≢ j → is_owned (var_of s i) ≡ true → row_of rows i ≡ Some x
+      → is_owned (var_of s j) ≡ true → row_of rows j ≡ Some x → IsCounted hand.view.layout x → 2 ≤ holds hand.view x
   both_held i j x apart owned is owned_too is_too counted =
-      let one = owns_one (slot_of s i) (row_of rows i) x owned is in
-      let two = owns_one (slot_of s j) (row_of rows j) x owned_too is_too in
+      let one = owns_one (var_of s i) (row_of rows i) x owned is in
+      let two = owns_one (var_of s j) (row_of rows j) x owned_too is_too in
       let all =
-      sum_both (owns x) i j s.slots rows apart (low_slot i owned) (low_row i owned) (low_slot j owned_too)
+      sum_both (owns x) i j s.vars rows apart (low_slot i owned) (low_row i owned) (low_slot j owned_too)
       (low_row j owned_too) in
       omega (arith, one, two, all, fits.held x (here x counted))
 
   -- It holds a reference to what a variable owns, or none is counted,
-  pub owned_one : (i x : ℕ) → is_owned (slot_of s i) ≡ true → row_of rows i ≡ Some x → HoldsOne hand.view x
+  pub owned_one : (i x : ℕ) → is_owned (var_of s i) ≡ true → row_of rows i ≡ Some x → HoldsOne hand.view x
   owned_one i x owned is = elim (cases_Bool (is_immortal_row hand.view.layout x)) [
     | inl immortal ↦ inl immortal
     | inr counted ↦ inr (owned_held i x owned is counted)
   ]
 
   -- or what the caller lends,
-  lasting_slot : (i x : ℕ) (slot : Slot) → slot_of s i ≡ slot → is_empty slot ≡ false → borrows_item slot ≡ false
+  lasting_slot : (i x : ℕ) (slot : VarState) → var_of s i ≡ slot → is_empty slot ≡ false → borrows_item slot ≡ false
       → row_of rows i ≡ Some x → HoldsOne hand.view x
   lasting_slot i x Empty is used lasting row = let wrong : true ≡ false = used in absurd cc
   lasting_slot i x (Owned k) is used lasting row = owned_one i x (ap is_owned is) row
@@ -113,32 +113,32 @@ module _ (base : Base) (s : State) (rows : List (Option ℕ)) (hand : HandState)
       ]
   lasting_slot i x (Locked k) is used lasting row = let wrong : true ≡ false = lasting in absurd cc
 
-  pub lasting_one : (i x : ℕ) → is_empty (slot_of s i) ≡ false → borrows_item (slot_of s i) ≡ false
+  pub lasting_one : (i x : ℕ) → is_empty (var_of s i) ≡ false → borrows_item (var_of s i) ≡ false
       → row_of rows i ≡ Some x → HoldsOne hand.view x
-  lasting_one i x used lasting row = lasting_slot i x (slot_of s i) refl used lasting row
+  lasting_one i x used lasting row = lasting_slot i x (var_of s i) refl used lasting row
 
   -- and it may use what a variable in use names.
-  usable_slot : (i x : ℕ) (slot : Slot) → slot_of s i ≡ slot → is_empty slot ≡ false → row_of rows i ≡ Some x
+  usable_slot : (i x : ℕ) (slot : VarState) → var_of s i ≡ slot → is_empty slot ≡ false → row_of rows i ≡ Some x
       → MayUse hand.view x
   usable_slot i x Empty is used row = let wrong : true ≡ false = used in absurd cc
   usable_slot i x (Owned k) is used row = inl (lasting_slot i x (Owned k) is refl refl row)
   usable_slot i x (Caller k) is used row = inl (lasting_slot i x (Caller k) is refl refl row)
   usable_slot i x (Locked k) is used row =
       let item : SlotFits base.held hand.view (Locked k) (row_of rows i) =
-      subst (λ (w : Slot). SlotFits base.held hand.view w (row_of rows i)) is (fits.each i) in
+      subst (λ (w : VarState). SlotFits base.held hand.view w (row_of rows i)) is (fits.each i) in
       let same : item.names.object ≡ x = some_is item.names.object x (sym item.names.is ∙ row) in
       inr (subst (Borrows hand.view) same item.borrows)
 
-  pub usable : (i x : ℕ) → is_empty (slot_of s i) ≡ false → row_of rows i ≡ Some x → MayUse hand.view x
-  usable i x used row = usable_slot i x (slot_of s i) refl used row
+  pub usable : (i x : ℕ) → is_empty (var_of s i) ≡ false → row_of rows i ≡ Some x → MayUse hand.view x
+  usable i x used row = usable_slot i x (var_of s i) refl used row
 
-  pub names_object : (i : ℕ) → is_empty (slot_of s i) ≡ false → (x : ℕ) × (row_of rows i ≡ Some x)
-  names_object i used = named base.held hand.view (slot_of s i) (row_of rows i) used (fits.each i)
+  pub names_object : (i : ℕ) → is_empty (var_of s i) ≡ false → (x : ℕ) × (row_of rows i ≡ Some x)
+  names_object i used = named base.held hand.view (var_of s i) (row_of rows i) used (fits.each i)
 
   -- ---- the lock
 
-  locked_slot : (i j x : ℕ) (slot : Slot) → slot_of s i ≡ slot → LockFits base.first.slots s rows hand i → i ≢ j
-      → row_of rows i ≡ Some x → is_owned (slot_of s j) ≡ true → row_of rows j ≡ Some x
+  locked_slot : (i j x : ℕ) (slot : VarState) → var_of s i ≡ slot → LockFits base.first.vars s rows hand i → i ≢ j
+      → row_of rows i ≡ Some x → is_owned (var_of s j) ≡ true → row_of rows j ≡ Some x
       → IsCounted hand.view.layout x → 2 ≤ holds hand.view x
   locked_slot i j x Empty is lock apart row owned other counted =
       let wrong : true ≡ false = sym (ap is_empty is) ∙ lock.used in absurd cc
@@ -150,24 +150,24 @@ module _ (base : Base) (s : State) (rows : List (Option ℕ)) (hand : HandState)
       let wrong : true ≡ false = sym (ap borrows_item is) ∙ lock.lasting in absurd cc
 
   -- A reference that may be given up isn't the last one to the locked object.
-  gives_up : (from x : ℕ) (locked : Option ℕ) → s.locked ≡ locked → LocksAs locked base.first.slots s rows hand
+  gives_up : (from x : ℕ) (locked : Option ℕ) → s.locked ≡ locked → LocksAs locked base.first.vars s rows hand
       → CanGive s from → row_of rows from ≡ Some x → KeepsLock hand.view x
   gives_up from x None is lock can row locked = absurd (none_some x (sym lock.0 ∙ locked))
   gives_up from x (Some i) is lock can row locked =
       let same : lock.object ≡ x = some_is lock.object x (sym lock.locked ∙ locked) in
       let apart : i ≢ from = λ e.
       false≢true (sym can.unlocked ∙ (ap (λ (l : Option ℕ). names l from) is ∙ eq-eqb from i (sym e))) in
-      locked_slot i from x (slot_of s i) refl lock apart (lock.names ∙ ap Some same) can.owned row
+      locked_slot i from x (var_of s i) refl lock apart (lock.names ∙ ap Some same) can.owned row
       (subst (IsCounted hand.view.layout) same lock.counted)
 
   pub keeps_lock : (from x : ℕ) → CanGive s from → row_of rows from ≡ Some x → KeepsLock hand.view x
   keeps_lock from x can row = gives_up from x s.locked refl fits.lock can row
 
   -- The locked object is one that the hand holds.
-  pub lock_of : (i : ℕ) → s.locked ≡ Some i → LockFits base.first.slots s rows hand i
-  lock_of i is = subst (λ (l : Option ℕ). LocksAs l base.first.slots s rows hand) is fits.lock
+  pub lock_of : (i : ℕ) → s.locked ≡ Some i → LockFits base.first.vars s rows hand i
+  lock_of i is = subst (λ (l : Option ℕ). LocksAs l base.first.vars s rows hand) is fits.lock
 
-  pub locked_held : (i : ℕ) (lock : LockFits base.first.slots s rows hand i) → 1 ≤ holds hand.view lock.object
+  pub locked_held : (i : ℕ) (lock : LockFits base.first.vars s rows hand i) → 1 ≤ holds hand.view lock.object
   locked_held i lock = elim (lasting_one i lock.object lock.used lock.lasting lock.names) [
     | inl immortal ↦ absurd (false≢true (sym lock.counted ∙ immortal))
     | inr more ↦ more
@@ -178,13 +178,13 @@ module _ (base : Base) (s : State) (rows : List (Option ℕ)) (hand : HandState)
   -- It may make one more.
   pub few_more : length hand.view.references + 1 < most_references
   few_more =
-      let most = sum_lists base.first.view.layout s.slots rows in
-      omega (arith, fits.few, fits.room, most, fits.some_slots)
+      let most = sum_lists base.first.view.layout s.vars rows in
+      omega (arith, fits.few, fits.room, most, fits.some_vars)
 
   pub few_held : length hand.view.references < most_references
   few_held =
-      let most = sum_lists base.first.view.layout s.slots rows in
-      omega (arith, fits.few, fits.room, most, fits.some_slots)
+      let most = sum_lists base.first.view.layout s.vars rows in
+      omega (arith, fits.few, fits.room, most, fits.some_vars)
 
 -- ---- kinds
 
@@ -202,7 +202,7 @@ lockable_counted v kind x (HasSeen word counted some seen is) can = counted
 pub record SeesResource (v : View) (x : ℕ) : Type 0 where
   pub word : ℕ
   pub some : 0 < word
-  pub seen : has_seen_kind x word v ≡ true
+  pub seen : knows_kind x word v ≡ true
   pub has : resources_of word ≡ 1
 
 -- A file or a socket has a resource.
@@ -222,7 +222,7 @@ sees_resource v kind x (HasSeen word counted some seen is) can = record {
 }
 
 -- What a variable in use names is known to be of its slot's kind.
-pub knows_slot : (held : ℕ → ℕ) (v : View) (slot : Slot) (row : Option ℕ) (x : ℕ) → is_empty slot ≡ false
+pub knows_slot : (held : ℕ → ℕ) (v : View) (slot : VarState) (row : Option ℕ) (x : ℕ) → is_empty slot ≡ false
     → SlotFits held v slot row → row ≡ Some x → KnowsKind v (kind_of slot) x
 knows_slot held v Empty row x used fits is = let wrong : true ≡ false = used in absurd cc
 knows_slot held v (Owned k) row x used fits is =
@@ -233,7 +233,7 @@ knows_slot held v (Locked k) row x used fits is =
     subst (KnowsKind v k) (some_is fits.names.object x (sym fits.names.is ∙ is)) fits.names.knows
 
 -- The slot with another kind, which the hand knows to be the object's.
-pub fits_with_kind : (held : ℕ → ℕ) (v : View) (slot : Slot) (row : Option ℕ) (kind : Kind)
+pub fits_with_kind : (held : ℕ → ℕ) (v : View) (slot : VarState) (row : Option ℕ) (kind : Kind)
     → ((x : ℕ) → row ≡ Some x → KnowsKind v kind x) → SlotFits held v slot row
     → SlotFits held v (with_kind slot kind) row
 fits_with_kind held v Empty row kind knows fits = tt

@@ -1,7 +1,7 @@
 -- What a worker does with the resource of the file or socket that it has locked.
 use Rattle.std.proofs.Common.{◌≡◌, ℕ, true, List, ◌∷◌, Option, Some, sym, ap, ◌∙◌}
-use Rattle.brc_model.specs.declared.slot.State.{State}
-use Rattle.brc_model.specs.Slots.{slot_of, kind_of, is_one_of, with_resource, names}
+use Rattle.brc_model.specs.declared.state.State.{State}
+use Rattle.brc_model.specs.VarStates.{var_of, kind_of, is_one_of, with_resource, names}
 use Rattle.brc_model.specs.Threads.{row_of}
 use Rattle.brc_model.proofs.Basics.Lists.{some_is}
 use Rattle.brc_table.specs.declared.view.View.{View}
@@ -20,17 +20,17 @@ pub record OnFile (hand : HandState) (row : ℕ) : Type 0 where
 
 pub on_file : (base : Base) (s : State) (rows : List (Option ℕ)) (hand : HandState) (file row : ℕ)
     → Fits base s rows hand → names s.locked file ≡ true
-    → is_one_of (kind_of (slot_of s file)) with_resource ≡ true → row_of rows file ≡ Some row → OnFile hand row
+    → is_one_of (kind_of (var_of s file)) with_resource ≡ true → row_of rows file ≡ Some row → OnFile hand row
 on_file base s rows hand file row fits is has named =
     let lock = lock_of base s rows hand fits file (locked_is s.locked file is) in
     let same : lock.object ≡ row = some_is lock.object row (sym lock.names ∙ named) in
     record {
       locked = lock.locked ∙ ap Some same;
       whole = lock.resource has;
-      rest = base.first.slots;
+      rest = base.first.vars;
       slots =
-          lock.slots ∙ (ap (λ (x : ℕ). (x, hand.view.in_slot) ∷ base.first.slots) same
-          ∙ ap (λ (n : ℕ). (row, n) ∷ base.first.slots) (lock.resource has));
+          lock.slots ∙ (ap (λ (x : ℕ). (x, hand.view.in_slot) ∷ base.first.vars) same
+          ∙ ap (λ (n : ℕ). (row, n) ∷ base.first.vars) (lock.resource has));
     }
 
 pub there : (hand : HandState) (row : ℕ) → OnFile hand row → FirstSlot hand.slots row 1

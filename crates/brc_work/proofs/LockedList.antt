@@ -6,16 +6,16 @@ use Rattle.std.proofs.lemmas.Bool.{cases_Bool, eq-eqb}
 use Rattle.std.proofs.lemmas.Bool.Decides.{eqb_tells}
 use Rattle.brc_model.specs.References.{one_if}
 use Rattle.brc_model.specs.declared.layout.Layout.{Layout}
-use Rattle.brc_model.specs.declared.slot.State.{State}
+use Rattle.brc_model.specs.declared.state.State.{State}
 use Rattle.brc_model.specs.Layout.{is_immortal_row, IsCounted}
-use Rattle.brc_model.specs.Slots.{names}
+use Rattle.brc_model.specs.VarStates.{names}
 use Rattle.brc_model.specs.Threads.{row_of}
 use Rattle.brc_model.proofs.Basics.Lists.{some_is, none_some}
 use Rattle.brc_table.specs.declared.view.View.{View}
 use Rattle.brc_model.specs.OpenWork.{is_about}
-use Rattle.brc_table.specs.Seen.{cell_seen, has_seen_kind, KnowsCell}
+use Rattle.brc_table.specs.KnownWords.{known_cell, knows_kind, KnowsCell}
 use Rattle.brc_table.specs.Swaps.{MayPut}
-use Rattle.brc_table.specs.Views.{holds, without_one, with_reference, without_reference, asking, done}
+use Rattle.brc_table.specs.Views.{holds, without_one, with_reference, without_reference, asking, view_after}
 use Rattle.brc_table.specs.Hands.{HandState, HoldsOne, HasNoWork, KeepsLock}
 use Rattle.brc_table.proofs.Accounts.{count_with_reference}
 use Rattle.brc_list.specs.Calls.{Keeps, KeepsBesides, SeesItem, SwapsItem, row_in}
@@ -53,7 +53,7 @@ on_list base s rows hand list row fits is named =
 -- The hand has asked how many cells the list has,
 pub sized_acts : (hand after : HandState) (x word : ℕ) → Rests hand → Keeps hand.view after.view
     → after.table ≡ hand.table → after.carried ≡ hand.carried → after.slots ≡ hand.slots
-    → after.view.locked ≡ hand.view.locked → after.view ≡ done (asking hand.view x) word → ActsElsewhere hand after
+    → after.view.locked ≡ hand.view.locked → after.view ≡ view_after (asking hand.view x) word → ActsElsewhere hand after
 sized_acts hand after x word rests kept table carried slots locked view = record {
   acts = kept_acts hand after rests kept table carried slots locked;
   cells = asked_cells hand.view after.view x word view;
@@ -63,12 +63,12 @@ sized_acts hand after x word rests kept table carried slots locked view = record
 pub item_cells : (v u : View) (x cell word : ℕ) → v.locked ≡ Some x → SeesItem x cell word v u → KeepsCells v u
 item_cells v u x cell word locks sees y i before locked seen =
     let same : x ≡ y = some_is x y (sym locks ∙ locked) in
-    let here : cell_seen x i v ≡ Some before = ap (λ (z : ℕ). cell_seen z i v) same ∙ seen in
-    ap (λ (z : ℕ). cell_seen z i u) (sym same)
+    let here : known_cell x i v ≡ Some before = ap (λ (z : ℕ). known_cell z i v) same ∙ seen in
+    ap (λ (z : ℕ). known_cell z i u) (sym same)
     ∙ elim (eqb_tells i cell) [
       | inl this ↦
-          ap (λ (j : ℕ). cell_seen x j u) this.1
-          ∙ (sees.seen ∙ ap Some (sees.stays before (ap (λ (j : ℕ). cell_seen x j v) (sym this.1) ∙ here)))
+          ap (λ (j : ℕ). known_cell x j u) this.1
+          ∙ (sees.seen ∙ ap Some (sees.stays before (ap (λ (j : ℕ). known_cell x j v) (sym this.1) ∙ here)))
       | inr apart ↦ sees.others i apart.1 ∙ here
     ]
 
@@ -186,7 +186,7 @@ pub idle_about : (hand : HandState) (x : ℕ) → Rests hand → HasNoWork hand.
 idle_about hand x rests = ap (filter (is_about x)) (no_work hand rests)
 
 -- It still knows the cell.
-pub knows_cell : (v u : View) (x cell : ℕ) → ((y word : ℕ) → has_seen_kind y word v ≡ true → has_seen_kind y word u
+pub knows_cell : (v u : View) (x cell : ℕ) → ((y word : ℕ) → knows_kind y word v ≡ true → knows_kind y word u
     ≡ true)
     → KnowsCell v x cell → KnowsCell u x cell
 knows_cell v u x cell kinds knows =
@@ -238,7 +238,7 @@ out_is hand after x cell item old found result swaps is this =
 -- The worker has asked how many cells its list has.
 pub sized_fits : (base : Base) (s : State) (rows : List (Option ℕ)) (hand after : HandState) (x word : ℕ)
     → Fits base s rows hand → Keeps hand.view after.view → after.table ≡ hand.table → after.carried ≡ hand.carried
-    → after.slots ≡ hand.slots → after.view.locked ≡ hand.view.locked → after.view ≡ done (asking hand.view x) word
+    → after.slots ≡ hand.slots → after.view.locked ≡ hand.view.locked → after.view ≡ view_after (asking hand.view x) word
     → Fits base s rows after
 sized_fits base s rows hand after x word fits kept table carried slots locked view =
     same_fits base s rows hand after fits (sized_acts hand after x word fits.rests kept table carried slots locked view)

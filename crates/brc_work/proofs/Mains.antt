@@ -13,7 +13,7 @@ use Rattle.brc_model.specs.OpenWork.{is_about}
 use Rattle.brc_table.specs.Hands.{IsRunning, HasNoWork, MayWait, most_references}
 use Rattle.brc_table.specs.Views.{holds, is_given, HasJoined}
 use Rattle.brc_heap.specs.Calls.{HasGiven}
-use Rattle.brc_heap.proofs.Sight.{same_sight, sight_then}
+use Rattle.brc_heap.proofs.KnownKept.{same_sight, sight_then}
 use Rattle.brc_work.specs.Mains.{MayFanOut, KeepsMain, JoinsMore}
 
 -- Main has given out no hand yet.

@@ -18,9 +18,9 @@ use Rattle.brc_model.specs.declared.duty.Duty.{Duty}
 use Rattle.brc_model.specs.declared.duty.Duty.TheVariants.{KindLoad, LockGate, UnlockGate, CellLoad, LendSlot, ReturnSlot, ReleaseLoad, Settle}
 use Rattle.brc_model.specs.declared.duty.Holding.TheVariants.{ByVariable}
 use Rattle.brc_model.specs.declared.layout.Layout.{Layout}
-use Rattle.brc_model.specs.declared.slot.Exit.{Exit}
-use Rattle.brc_model.specs.declared.slot.Exit.TheVariants.{Success, Fault as FaultExit}
-use Rattle.brc_model.specs.Actions.{Action, Skip, Stuck, Silent, Calls, Does, always, with_row, number_word, list_word, birth_action, lend_action, first_context, turns_at, turned, by_range, by_item, dispatch_instruction, dispatch_inside, dispatch}
+use Rattle.brc_model.specs.declared.state.Exit.{Exit}
+use Rattle.brc_model.specs.declared.state.Exit.TheVariants.{Success, Fault as FaultExit}
+use Rattle.brc_model.specs.Actions.{Action, Skip, Stuck, Silent, Calls, Does, always, with_row, number_word, list_word, birth_action, lend_action, first_context, turns_at, with_turn, by_range, by_item, dispatch_instruction, dispatch_inside, dispatch}
 use Rattle.brc_model.specs.Layout.{row_at}
 use Rattle.brc_model.specs.declared.actor.Actor.{Actor}
 use Rattle.brc_model.specs.Machine.{has_room, actor_by}
@@ -230,7 +230,7 @@ module _ (layout : Layout) (t : ℕ) (code : List Instr) (cs : List HostCall) (e
       row_leads (row_of variables from) _ (λ row found. (Other refl, tt))
   instruction_leads context at variables (Some (Goto to)) is here other clear = tt
   instruction_leads context at variables (Some (Again to times)) is here other clear =
-      either (Remembers code cs es b) (nat_lt (turns_at context at) times) (InCall (turned context at) to variables)
+      either (Remembers code cs es b) (nat_lt (turns_at context at) times) (InCall (with_turn context at) to variables)
       (InCall context (at + 1) variables) (λ more. tt) tt
   instruction_leads context at variables (Some (Ret from)) is here other clear =
       row_leads (row_of variables from) _ (λ row found. (Other refl, tt))

@@ -7,15 +7,15 @@ use Rattle.brc_lang.specs.declared.module.Function.{Function}
 use Rattle.brc_lang.specs.declared.module.Instr.{Instr}
 use Rattle.brc_lang.specs.declared.module.Module.{Module}
 use Rattle.brc_lang.specs.declared.module.Instr.TheVariants.{Num, List as ListObject, NoneObject, Newref, Move, Drop, Lock, Unlock, Borrow, Fetch, Set, Put, Goto, Again, Ret, Fail, As, Open, Connect, Read, Write}
-use Rattle.brc_model.specs.declared.slot.Exit.TheVariants.{Success, Fault as FaultExit}
+use Rattle.brc_model.specs.declared.state.Exit.TheVariants.{Success, Fault as FaultExit}
 use Rattle.brc_lang.specs.declared.check_code.CheckCode.TheVariants.{EmptyUsed, WrongKind, NotOwned, StillOwns, LeftOwned, LeftLocked, SecondLock, NotLocked, LockedChanged}
-use Rattle.brc_model.specs.declared.slot.State.{State}
-use Rattle.brc_model.specs.declared.slot.Exit.{Exit}
+use Rattle.brc_model.specs.declared.state.State.{State}
+use Rattle.brc_model.specs.declared.state.Exit.{Exit}
 use Rattle.brc_model.specs.Layout.{root_row}
 use Rattle.brc_model.specs.Paths.{At, IsAcceptableCode}
-use Rattle.brc_model.specs.declared.slot.Slot.{Slot}
-use Rattle.brc_model.specs.declared.slot.Slot.TheVariants.{Empty}
-use Rattle.brc_model.specs.Slots.{slot_of, is_owned, applies, rising, lowest, after, target, entry}
+use Rattle.brc_model.specs.declared.state.VarState.{VarState}
+use Rattle.brc_model.specs.declared.state.VarState.TheVariants.{Empty}
+use Rattle.brc_model.specs.VarStates.{var_of, is_owned, applies, rising, lowest, after, target, entry}
 use Rattle.brc_model.specs.Tables.{Reaches, AreTrueWhereReached}
 use Rattle.brc_model.specs.Threads.{code_of, row_of, entry_variables}
 use Rattle.brc_model.proofs.Basics.Lists.{some_is, get_or-replicate_default}
@@ -71,7 +71,7 @@ goes_to base code at next s i exit rows hand accepted reaches found leads fits =
 -- ---- the end of a call
 
 pub ends : (base : Base) (s : State) (rows : List (Option ℕ)) (hand : HandState) → Fits base s rows hand
-    → list_any is_owned s.slots ≡ false → s.locked ≡ None → HasReturned base hand
+    → list_any is_owned s.vars ≡ false → s.locked ≡ None → HasReturned base hand
 ends base s rows hand fits none unlocked =
     let lock = no_lock base s rows hand fits unlocked in
     record {
@@ -79,23 +79,23 @@ ends base s rows hand fits none unlocked =
       rests = fits.rests;
       unlocked = lock.0;
       slots = lock.1;
-      held = λ y counted. omega (arith, fits.held y counted, sum_none (owns y) (owns_no y) s.slots rows none);
+      held = λ y counted. omega (arith, fits.held y counted, sum_none (owns y) (owns_no y) s.vars rows none);
       few =
           let none_listed =
-          sum_none (lists base.first.view.layout) (lists_no base.first.view.layout) s.slots rows none in
+          sum_none (lists base.first.view.layout) (lists_no base.first.view.layout) s.vars rows none in
           omega (arith, fits.few, none_listed);
     }
 
 -- ---- its beginning
 
 first_slot : (hand : HandState) → IsReady hand → (i : ℕ)
-    → SlotFits (outermost hand).held hand.view (slot_of entry i) (row_of entry_variables i)
+    → SlotFits (outermost hand).held hand.view (var_of entry i) (row_of entry_variables i)
 first_slot hand ready zero = record {
   names = record { object = root_row; is = refl; knows = OfRoot refl refl };
   lent = λ counted. ready.root;
 }
 first_slot hand ready (suc i) =
-    subst (λ (slot : Slot). SlotFits (outermost hand).held hand.view slot (row_of entry_variables (suc i)))
+    subst (λ (slot : VarState). SlotFits (outermost hand).held hand.view slot (row_of entry_variables (suc i)))
     (sym (get_or-replicate_default 15 i Empty)) tt
 
 pub begins : (hand : HandState) → IsReady hand → hand.view.layout.immortal_lists ≡ 0
@@ -106,7 +106,7 @@ begins hand ready plain = record {
   plain = plain;
   follows = follows_by hand hand refl refl refl refl refl (omega arith);
   rests = ready.rests;
-  some_slots = refl;
+  some_vars = refl;
   some_rows = refl;
   each = first_slot hand ready;
   held = λ y counted. omega (arith, entry_owned y);

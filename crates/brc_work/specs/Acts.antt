@@ -1,23 +1,23 @@
 -- What a worker's call does to its hand, as far as its variables are concerned.
 use Rattle.std.specs.Prelude.{◌≡◌, ℕ, true, Some}
 use Rattle.brc_table.specs.declared.view.View.{View}
-use Rattle.brc_table.specs.Seen.{has_seen_kind, cell_seen}
+use Rattle.brc_table.specs.KnownWords.{knows_kind, known_cell}
 use Rattle.brc_table.specs.Views.{with_reference, without_reference}
 use Rattle.brc_table.specs.Hands.{HandState}
-use Rattle.brc_work.specs.Fits.{Rests, Follows}
+use Rattle.brc_work.specs.Fits.{Rests, IsLater}
 
 -- The hand has seen the kinds that it had seen.
 pub record KnowsMore (v u : View) : Type 0 where
   pub layout : u.layout ≡ v.layout
-  pub kinds : (x word : ℕ) → has_seen_kind x word v ≡ true → has_seen_kind x word u ≡ true
+  pub kinds : (x word : ℕ) → knows_kind x word v ≡ true → knows_kind x word u ≡ true
 
 -- What the hand has seen in the list that it has locked is still there.
 abbrev pub KeepsCells : View → View → Type 0
-KeepsCells v u = (x i word : ℕ) → v.locked ≡ Some x → cell_seen x i v ≡ Some word → cell_seen x i u ≡ Some word
+KeepsCells v u = (x i word : ℕ) → v.locked ≡ Some x → known_cell x i v ≡ Some word → known_cell x i u ≡ Some word
 
 -- The hand has done something, and rests again. It has locked what it had locked.
 pub record Acts (hand after : HandState) : Type 0 where
-  pub follows : Follows hand after
+  pub follows : IsLater hand after
   pub rests : Rests after
   pub more : KnowsMore hand.view after.view
   pub locked : after.view.locked ≡ hand.view.locked

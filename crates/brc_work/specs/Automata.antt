@@ -11,7 +11,7 @@ use Rattle.brc_model.specs.declared.actor.Place.{Place}
 use Rattle.brc_model.specs.declared.actor.Place.TheVariants.{Idle, InCall, Inside}
 use Rattle.brc_model.specs.declared.actor.Status.TheVariants.{Running, Gone}
 use Rattle.brc_model.specs.declared.layout.Layout.{Layout}
-use Rattle.brc_model.specs.declared.slot.State.{State}
+use Rattle.brc_model.specs.declared.state.State.{State}
 use Rattle.brc_model.specs.declared.thread.Choice.{Choice}
 use Rattle.brc_model.specs.declared.thread.Choice.TheVariants.{Ok, Fault, Claim, Stop}
 use Rattle.brc_model.specs.Actions.{StepActor}
@@ -20,17 +20,17 @@ use Rattle.brc_model.specs.Stops.{row_locked, owned_rows, stopping}
 use Rattle.brc_model.specs.Threads.{code_of}
 use Rattle.brc_model.specs.Trace.{WordEvent, MakesStep, GoesSilently, CallsHost, DoesDuty, CanMake, Nothing, Then}
 use Rattle.brc_table.specs.declared.view.Event.{Event}
-use Rattle.brc_work.specs.Traces.{Makes, Begun, Silently, Asks, Starts, Reads, Continues, Closes, is_birth, has_read}
+use Rattle.brc_work.specs.Traces.{Makes, Refl, Silently, Asks, Dispatches, Reads, Continues, Closes, is_birth, has_read}
 
 -- ---- a hand's thread
 
 -- No step makes another number than 0 of what `read` has read, and the thread isn't gone before any.
 abbrev pub IsPlain : {layout : Layout} {t : ℕ} {code : List Instr} {p : Place} {a : Actor} {cs : List HostCall}
     {n : ℕ} {es : List Event} {q : Place} {b : Actor} → Makes layout t code p a n cs es q b → Type 0
-IsPlain Begun = Unit {0}
+IsPlain Refl = Unit {0}
 IsPlain (Silently n cs es q r b moves before none is) = (b.status ≢ Gone) × IsPlain before
 IsPlain (Asks n cs es q b row after i call before none is here asks) = (b.status ≢ Gone) × IsPlain before
-IsPlain (Starts n cs es q b d rest next found before none is other) = (b.status ≢ Gone) × IsPlain before
+IsPlain (Dispatches n cs es q b d rest next found before none is other) = (b.status ≢ Gone) × IsPlain before
 IsPlain (Reads n cs es context at variables b to file most otherwise count found before none is few) =
     (count ≡ 0) × (b.status ≢ Gone) × IsPlain before
 IsPlain (Continues n cs es q b d rest found before is other) = (b.status ≢ Gone) × IsPlain before
@@ -142,7 +142,7 @@ pub record StopsMakeAsHands (functions : List Function) (states : ℕ → ℕ �
   pub in_call : (turns : List ℕ) (left at : ℕ) (variables : List (Option ℕ)) (s : State)
       → states function at ≡ Some s → MakesStep functions states layout t
       (thread_at function (InCall (record { left = left; turns = turns; outer = [] }) at variables) a) []
-      (thread_at function (stopping (row_locked s.locked variables) (owned_rows s.slots variables ∷ [])) a)
+      (thread_at function (stopping (row_locked s.locked variables) (owned_rows s.vars variables ∷ [])) a)
   pub between : (left : ℕ) → MakesStep functions states layout t (thread_at function (Idle (suc left)) a) []
       (thread_at function (Idle 0) a)
 

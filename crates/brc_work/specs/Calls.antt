@@ -5,14 +5,14 @@ use Rattle.brc_lang.specs.Grammar.{IsInstruction}
 use Rattle.brc_lang.specs.Limits.{instruction_limit}
 use Rattle.brc_lang.specs.declared.module.Instr.{Instr}
 use Rattle.brc_lang.specs.declared.module.Instr.TheVariants.{Ret, Fail}
-use Rattle.brc_model.specs.Slots.{lowest}
-use Rattle.brc_model.specs.declared.slot.State.{State}
+use Rattle.brc_model.specs.VarStates.{lowest}
+use Rattle.brc_model.specs.declared.state.State.{State}
 use Rattle.brc_model.specs.Layout.{IsCounted}
 use Rattle.brc_model.specs.Paths.{IsAcceptableCode}
 use Rattle.brc_model.specs.Tables.{Reaches}
 use Rattle.brc_table.specs.Hands.{TableState, HandState, IsOf}
 use Rattle.brc_table.specs.Views.{holds}
-use Rattle.brc_work.specs.Fits.{Rests, Follows, Base, outermost, Fits}
+use Rattle.brc_work.specs.Fits.{Rests, IsLater, Base, outermost, Fits}
 
 -- The code of a function that the checker accepts.
 pub record IsCode (code : List Instr) : Type 0 where
@@ -35,10 +35,10 @@ pub record IsAt (heap : TableState) (code : List Instr) (at : ℕ) (rows : List 
 
 -- The call has ended: the hand holds what the base says and nothing beside, and has locked nothing.
 pub record HasReturned (base : Base) (hand : HandState) : Type 0 where
-  pub follows : Follows base.first hand
+  pub follows : IsLater base.first hand
   pub rests : Rests hand
   pub unlocked : hand.view.locked ≡ None
-  pub slots : hand.slots ≡ base.first.slots
+  pub slots : hand.slots ≡ base.first.vars
   pub held : (y : ℕ) → IsCounted base.first.view.layout y → holds hand.view y ≡ base.held y
   pub few : length hand.view.references ≤ base.most
 

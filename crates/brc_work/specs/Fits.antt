@@ -5,19 +5,19 @@ use Rattle.brc_lang.specs.declared.kind.Kind.{Kind}
 use Rattle.brc_lang.specs.declared.kind.Kind.TheVariants as kinds
 use Rattle.brc_lang.specs.declared.module.Instr.{Instr}
 use Rattle.brc_model.specs.declared.actor.Status.TheVariants.{Running}
-use Rattle.brc_model.specs.declared.slot.Slot.{Slot}
-use Rattle.brc_model.specs.declared.slot.Slot.TheVariants.{Empty, Owned, Caller, Locked}
-use Rattle.brc_model.specs.declared.slot.State.{State}
-use Rattle.brc_model.specs.declared.slot.Exit.{Exit}
+use Rattle.brc_model.specs.declared.state.VarState.{VarState}
+use Rattle.brc_model.specs.declared.state.VarState.TheVariants.{Empty, Owned, Caller, Locked}
+use Rattle.brc_model.specs.declared.state.State.{State}
+use Rattle.brc_model.specs.declared.state.Exit.{Exit}
 use Rattle.brc_model.specs.Kinds.{kind_of_word}
 use Rattle.brc_model.specs.declared.layout.Layout.{Layout}
 use Rattle.brc_model.specs.Layout.{none_row, root_row, is_immortal_row, IsCounted}
 use Rattle.brc_model.specs.Items.{borrows_item}
-use Rattle.brc_model.specs.Slots.{slot_of, kind_of, is_empty, is_one_of, with_resource, lowest, after}
+use Rattle.brc_model.specs.VarStates.{var_of, kind_of, is_empty, is_one_of, with_resource, lowest, after}
 use Rattle.brc_model.specs.Threads.{row_of}
 use Rattle.brc_table.specs.declared.view.View.{View}
 use Rattle.brc_table.specs.Hands.{TableState, HandState, IsOf, Borrows, most_references}
-use Rattle.brc_table.specs.Seen.{has_seen_kind}
+use Rattle.brc_table.specs.KnownWords.{knows_kind}
 use Rattle.brc_table.specs.Views.{holds}
 
 -- ---- what the variables name
@@ -28,7 +28,7 @@ pub data KnowsKind (v : View) (kind : Kind) (x : ℕ) : Type 0 where
   Unknown : kind ≡ kinds.Any → KnowsKind v kind x
   OfNone : x ≡ none_row → kind ≡ kinds.None → KnowsKind v kind x
   OfRoot : x ≡ root_row → kind ≡ kinds.List → KnowsKind v kind x
-  HasSeen : (word : ℕ) → IsCounted v.layout x → 0 < word → has_seen_kind x word v ≡ true → kind_of_word word ≡ kind
+  HasSeen : (word : ℕ) → IsCounted v.layout x → 0 < word → knows_kind x word v ≡ true → kind_of_word word ≡ kind
       → KnowsKind v kind x
 
 -- The variable names an object of the kind.
@@ -49,7 +49,7 @@ pub record NamesLent (held : ℕ → ℕ) (v : View) (kind : Kind) (row : Option
   pub lent : IsCounted v.layout names.object → 1 ≤ held names.object
 
 -- What the slot says of its variable is true. A slot that is empty says nothing.
-abbrev pub SlotFits : (ℕ → ℕ) → View → Slot → Option ℕ → Type 0
+abbrev pub SlotFits : (ℕ → ℕ) → View → VarState → Option ℕ → Type 0
 SlotFits held v Empty row = Unit {0}
 SlotFits held v (Owned kind) row = Names v kind row
 SlotFits held v (Caller kind) row = NamesLent held v kind row
@@ -58,17 +58,17 @@ SlotFits held v (Locked kind) row = NamesItem v kind row
 -- ---- what they own
 
 -- how many references to object y a variable with this slot owns, if it names this row
-abbrev pub owns : ℕ → Slot → Option ℕ → ℕ
+abbrev pub owns : ℕ → VarState → Option ℕ → ℕ
 owns y (Owned kind) (Some x) = if x == y then 1 else 0
 owns y _ _ = 0
 
 -- how many references to counted objects it owns
-abbrev pub lists : Layout → Slot → Option ℕ → ℕ
+abbrev pub lists : Layout → VarState → Option ℕ → ℕ
 lists layout (Owned kind) (Some x) = if is_immortal_row layout x then 0 else 1
 lists layout _ _ = 0
 
 -- the sum of a number over all variables
-abbrev pub over_variables : (Slot → Option ℕ → ℕ) → List Slot → List (Option ℕ) → ℕ
+abbrev pub over_variables : (VarState → Option ℕ → ℕ) → List VarState → List (Option ℕ) → ℕ
 over_variables f (slot ∷ slots) (row ∷ rows) = f slot row + over_variables f slots rows
 over_variables f _ _ = 0
 
@@ -81,11 +81,11 @@ pub record LockFits (first : List (ℕ × ℕ)) (s : State) (rows : List (Option
   pub object : ℕ
   pub names : row_of rows i ≡ Some object
   pub counted : IsCounted hand.view.layout object
-  pub lasting : borrows_item (slot_of s i) ≡ false
-  pub used : is_empty (slot_of s i) ≡ false
+  pub lasting : borrows_item (var_of s i) ≡ false
+  pub used : is_empty (var_of s i) ≡ false
   pub locked : hand.view.locked ≡ Some object
   pub slots : hand.slots ≡ (object, hand.view.in_slot) ∷ first
-  pub resource : is_one_of (kind_of (slot_of s i)) with_resource ≡ true → hand.view.in_slot ≡ 1
+  pub resource : is_one_of (kind_of (var_of s i)) with_resource ≡ true → hand.view.in_slot ≡ 1
 
 -- What the state says of the lock is true. Without a lock the hand has the slots that it had first.
 abbrev pub LocksAs : Option ℕ → List (ℕ × ℕ) → State → List (Option ℕ) → HandState → Type 0
@@ -113,7 +113,7 @@ pub record IsReady (hand : HandState) : Type 0 where
   pub few : length hand.view.references < call_references
 
 -- It is the same hand of the same table, later.
-pub record Follows (first hand : HandState) : Type 0 where
+pub record IsLater (first hand : HandState) : Type 0 where
   pub table : hand.table ≡ first.table
   pub layout : hand.view.layout ≡ first.view.layout
   pub thread : hand.view.thread ≡ first.view.thread
@@ -139,16 +139,16 @@ pub record Fits (base : Base) (s : State) (rows : List (Option ℕ)) (hand : Han
   pub ready : IsReady base.first
   pub room : base.most + 17 < most_references
   pub plain : base.first.view.layout.immortal_lists ≡ 0
-  pub follows : Follows base.first hand
+  pub follows : IsLater base.first hand
   pub rests : Rests hand
-  pub some_slots : length s.slots ≡ 16
+  pub some_vars : length s.vars ≡ 16
   pub some_rows : length rows ≡ 16
-  pub each : (i : ℕ) → SlotFits base.held hand.view (slot_of s i) (row_of rows i)
+  pub each : (i : ℕ) → SlotFits base.held hand.view (var_of s i) (row_of rows i)
   pub held : (y : ℕ) → IsCounted base.first.view.layout y
-      → holds hand.view y ≡ base.held y + over_variables (owns y) s.slots rows
+      → holds hand.view y ≡ base.held y + over_variables (owns y) s.vars rows
   pub few : length hand.view.references
-      ≤ base.most + over_variables (lists base.first.view.layout) s.slots rows
-  pub lock : LocksAs s.locked base.first.slots s rows hand
+      ≤ base.most + over_variables (lists base.first.view.layout) s.vars rows
+  pub lock : LocksAs s.locked base.first.vars s rows hand
 
 -- ---- instructions
 

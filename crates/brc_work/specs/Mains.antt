@@ -5,7 +5,7 @@ use Rattle.brc_table.specs.declared.view.View.{View}
 use Rattle.brc_table.specs.declared.view.Joined.{Joined}
 use Rattle.brc_table.specs.Hands.{IsRunning, HasNoWork, MayWait, most_references}
 use Rattle.brc_table.specs.Views.{holds, open_work, is_given, HasJoined, IsJoined}
-use Rattle.brc_heap.specs.Calls.{KeepsSight}
+use Rattle.brc_heap.specs.Calls.{KeepsKnown}
 
 -- Main may give out hands: it runs, holds the root and has nothing to do about it, and has given out no hand before.
 pub record MayFanOut (v : View) : Type 0 where
@@ -33,6 +33,6 @@ pub record KeepsMain (v u : View) : Type 0 where
   pub used : u.used ≡ v.used
   pub references : u.references ≡ v.references
   pub head : u.head ≡ v.head
-  pub sight : KeepsSight v u
+  pub sight : KeepsKnown v u
   pub waits : MayWait u.agenda
   pub work : open_work u ≡ open_work v

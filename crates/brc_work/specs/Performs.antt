@@ -13,9 +13,9 @@ use Rattle.brc_model.specs.declared.actor.Stage.TheVariants.{Granted}
 use Rattle.brc_model.specs.declared.duty.Duty.TheVariants.{ReleaseLoad, BirthKind, CellSwap, Settle}
 use Rattle.brc_model.specs.declared.duty.Holding.{Holding}
 use Rattle.brc_model.specs.declared.layout.Layout.{Layout}
-use Rattle.brc_model.specs.declared.slot.Exit.{Exit}
+use Rattle.brc_model.specs.declared.state.Exit.{Exit}
 use Rattle.brc_model.specs.Actions.{Does, always, with_row, number_word, dispatch, dispatch_instruction}
-use Rattle.brc_model.specs.Slots.{target}
+use Rattle.brc_model.specs.VarStates.{target}
 use Rattle.brc_model.specs.Threads.{row_of}
 use Rattle.brc_table.specs.declared.view.View.{View}
 use Rattle.brc_table.specs.Views.{next_row}
@@ -24,7 +24,7 @@ use Rattle.brc_work.specs.Traces.{Traces, MakesTrace, instruction_at, has_read, 
 -- ---- places
 
 -- A thread at the place begins the instruction at the point next, in this context and variables.
-pub record ComesTo (code : List Instr) (place : Place) (context : Context) (at : ℕ) (rows : List (Option ℕ)) : Type 0
+pub record DispatchesAt (code : List Instr) (place : Place) (context : Context) (at : ℕ) (rows : List (Option ℕ)) : Type 0
   where
     pub does : (layout : Layout) (t used : ℕ) → dispatch layout t used code place
         ≡ dispatch_instruction layout t used place context at rows (slice_get code at)
@@ -36,7 +36,7 @@ pub record ComesTo (code : List Instr) (place : Place) (context : Context) (at :
 pub record IsBefore (i : Instr) (code : List Instr) (place : Place) (context : Context) (at : ℕ)
     (rows : List (Option ℕ))
     : Type 0 where
-  pub comes : ComesTo code place context at rows
+  pub comes : DispatchesAt code place context at rows
   pub found : slice_get code at ≡ Some i
   pub low : at < instruction_limit
 
@@ -76,7 +76,7 @@ Waits i rows v u = (code : List Instr) (place : Place) (context : Context) (at :
 abbrev pub StepsTo : List HostCall → List Instr → ℕ → List ℕ → List (Option ℕ) → View → Option ℕ → List ℕ
     → List (Option ℕ) → View → Type 0
 StepsTo calls code at turns rows v next after_turns after_rows u = (place : Place) (left : ℕ)
-    → ComesTo code place (record { left = left; turns = turns; outer = [] }) at rows
+    → DispatchesAt code place (record { left = left; turns = turns; outer = [] }) at rows
     → MakesTrace 1 calls code place v (place_after (record { left = left; turns = after_turns; outer = [] }) next
     after_rows) u
 

@@ -5,11 +5,11 @@ use Rattle.brc_host.specs.HostCalls.{HostCall}
 use Rattle.brc_lang.specs.declared.module.Instr.{Instr}
 use Rattle.brc_model.specs.declared.actor.Context.{Context}
 use Rattle.brc_model.specs.declared.actor.Place.TheVariants.{Idle, InCall}
-use Rattle.brc_model.specs.declared.slot.State.{State}
+use Rattle.brc_model.specs.declared.state.State.{State}
 use Rattle.brc_model.specs.Stops.{row_locked, owned_rows, stopping}
 use Rattle.brc_model.specs.Tables.{Reaches}
 use Rattle.brc_table.specs.declared.view.View.{View}
-use Rattle.brc_queue.specs.Scans.{LooksThrough}
+use Rattle.brc_queue.specs.Scans.{HasScanned}
 use Rattle.brc_work.specs.Traces.{MakesTrace, MakesCalls}
 
 -- the greatest number of instructions that a run may begin: no run begins as many
@@ -33,7 +33,7 @@ pub record StopsInCall (code : List Instr) (begun : ℕ) (calls : List HostCall)
   pub calls_are : calls ≡ before ++ closes
   pub comes : MakesTrace begun before code (Idle 1) v (InCall context at variables) there
   pub gives_up : MakesTrace 0 closes code
-      (stopping (row_locked state.locked variables) (owned_rows state.slots variables ∷ [])) there (Idle 0) u
+      (stopping (row_locked state.locked variables) (owned_rows state.vars variables ∷ [])) there (Idle 0) u
 
 -- A call by a hand that may begin `may` instructions, and `left` after the call. It has ended, or the hand has stopped
 -- in it.
@@ -49,7 +49,7 @@ pub record LooksAndCalls (code : List Instr) (may left : ℕ) (ended : Bool) (ca
     pub closes : List HostCall
     pub within : List HostCall
     pub calls_are : calls ≡ closes ++ within
-    pub looks : LooksThrough v v.used closes looked
+    pub looks : HasScanned v v.used closes looked
     pub called : CallsOnce code may left ended within looked u
 
 -- The hand, which may begin this many instructions, has stopped with fewer calls made than it was to make.
@@ -59,7 +59,7 @@ pub data StopsBy (code : List Instr) (times steps : ℕ) (v : View) : List HostC
       → StopsBy code times steps v calls u
   -- in a call
   Within : (made begun more : ℕ) (calls closes within : List HostCall) (u w x : View) → made < times
-      → MakesCalls code v made begun calls u → LooksThrough u u.used closes w → begun + more ≡ steps
+      → MakesCalls code v made begun calls u → HasScanned u u.used closes w → begun + more ≡ steps
       → StopsInCall code more within w x → StopsBy code times steps v (calls ++ (closes ++ within)) x
 
 -- What the hand has made in a run, with these calls of the host. It was to make `times` calls of the code, and may

@@ -4,13 +4,13 @@ use Rattle.std.specs.Prelude.{◌≡◌, ℕ, List, [], ◌∷◌, Option, None,
 use Rattle.brc_host.specs.HostCalls.{HostCall}
 use Rattle.brc_lang.specs.declared.module.Instr.{Instr}
 use Rattle.brc_model.specs.declared.actor.Place.TheVariants.{Idle}
-use Rattle.brc_model.specs.declared.slot.State.{State}
-use Rattle.brc_model.specs.Slots.{slot_of, is_owned}
+use Rattle.brc_model.specs.declared.state.State.{State}
+use Rattle.brc_model.specs.VarStates.{var_of, is_owned}
 use Rattle.brc_model.specs.Stops.{row_locked, owned_rows, stopping}
 use Rattle.brc_model.specs.Threads.{row_of}
 use Rattle.brc_table.specs.declared.view.View.{View}
 use Rattle.brc_table.specs.Hands.{TableState, HandState, IsOf}
-use Rattle.brc_table.specs.Views.{done, unlocking}
+use Rattle.brc_table.specs.Views.{view_after, unlocking}
 use Rattle.brc_heap.specs.Calls.{released_locally}
 use Rattle.brc_free.specs.Works.{HasWorked}
 use Rattle.brc_work.specs.Fits.{Base, Fits}
@@ -41,7 +41,7 @@ pub record Unlocks (object : ℕ) (rows : List (Option ℕ)) (v u : View) : Type
   pub row : ℕ
   pub found : ℕ
   pub names : row_of rows object ≡ Some row
-  pub is : u ≡ done (unlocking v row) found
+  pub is : u ≡ view_after (unlocking v row) found
 
 -- The hand has given up the variable's reference. What has died is in its dying chain.
 pub record Loosens (from : ℕ) (rows : List (Option ℕ)) (v : View) (after_rows : List (Option ℕ)) (u : View) : Type 0
@@ -56,14 +56,14 @@ pub record Loosens (from : ℕ) (rows : List (Option ℕ)) (v : View) (after_row
 -- its calls.
 abbrev pub MakesStop : List HostCall → State → List (Option ℕ) → View → View → Type 0
 MakesStop calls s rows v u = (code : List Instr)
-    → MakesTrace 0 calls code (stopping (row_locked s.locked rows) (owned_rows s.slots rows ∷ [])) v (Idle 0) u
+    → MakesTrace 0 calls code (stopping (row_locked s.locked rows) (owned_rows s.vars rows ∷ [])) v (Idle 0) u
 
 -- Nothing is locked in the state s, and the same variables own references as in the other state.
 pub record OwnsAsMuch (state s : State) : Type 0 where
   pub unlocked : s.locked ≡ None
-  pub owned : (i : ℕ) → is_owned (slot_of s i) ≡ is_owned (slot_of state i)
+  pub owned : (i : ℕ) → is_owned (var_of s i) ≡ is_owned (var_of state i)
 
 -- The same where nothing is locked.
 abbrev pub MakesReleases : List HostCall → State → List (Option ℕ) → View → View → Type 0
 MakesReleases calls s rows v u = (code : List Instr)
-    → MakesTrace 0 calls code (stopping None (owned_rows s.slots rows ∷ [])) v (Idle 0) u
+    → MakesTrace 0 calls code (stopping None (owned_rows s.vars rows ∷ [])) v (Idle 0) u

@@ -21,8 +21,8 @@ use Rattle.brc_model.specs.declared.address.Address.TheVariants.{Slot, Resource}
 use Rattle.brc_model.specs.declared.duty.Duty.{Duty}
 use Rattle.brc_model.specs.declared.duty.Duty.TheVariants.{LockGate, BirthKind, CloseResource}
 use Rattle.brc_model.specs.declared.layout.Layout.{Layout}
-use Rattle.brc_model.specs.declared.slot.Exit.{Exit}
-use Rattle.brc_model.specs.declared.slot.Exit.TheVariants.{Success, Fault}
+use Rattle.brc_model.specs.declared.state.Exit.{Exit}
+use Rattle.brc_model.specs.declared.state.Exit.TheVariants.{Success, Fault}
 use Rattle.brc_model.specs.Actions.{Silent, Calls, Does, dispatch, number_word, by_variable}
 use Rattle.brc_model.specs.Duties.{address_of, new_word}
 use Rattle.brc_model.specs.Layout.{row_at}
@@ -31,7 +31,7 @@ use Rattle.brc_model.specs.Machine.{actor_by}
 use Rattle.brc_table.specs.declared.view.View.{View}
 use Rattle.brc_table.specs.declared.view.Event.{Event}
 use Rattle.brc_table.specs.Views.{actor_of}
-use Rattle.brc_queue.specs.Scans.{LooksThrough}
+use Rattle.brc_queue.specs.Scans.{HasScanned}
 
 -- ---- events
 
@@ -121,7 +121,7 @@ read_birth layout t a context to count = BirthKind (row_at layout t a.used) (by_
 -- events to a place and an actor: whatever words it finds, and whatever the host answers.
 pub data Makes (layout : Layout) (t : ℕ) (code : List Instr) (p : Place) (a : Actor)
     : ℕ → List HostCall → List Event → Place → Actor → Type 0 where
-  Begun : Makes layout t code p a 0 [] [] p a
+  Refl : Makes layout t code p a 0 [] [] p a
   -- a silent step
   Silently : (n : ℕ) (cs : List HostCall) (es : List Event) (q r : Place) (b : Actor) (moves : List Move)
       → Makes layout t code p a n cs es q b → b.agenda ≡ [] → dispatch layout t b.used code q ≡ Silent moves r
@@ -132,7 +132,7 @@ pub data Makes (layout : Layout) (t : ℕ) (code : List Instr) (p : Place) (a : 
       → dispatch layout t b.used code q ≡ Calls row after → instruction_at code q ≡ Some i → Requests es i call
       → Makes layout t code p a (n + begun_at q) (cs ++ call ∷ []) es (after (exit_of call)) b
   -- the duty that an instruction begins with, but for the birth of what `read` has read
-  Starts : (n : ℕ) (cs : List HostCall) (es : List Event) (q : Place) (b : Actor) (d : Duty) (rest : List Duty)
+  Dispatches : (n : ℕ) (cs : List HostCall) (es : List Event) (q : Place) (b : Actor) (d : Duty) (rest : List Duty)
       (next : ℕ → Place) (found : ℕ) → Makes layout t code p a n cs es q b → b.agenda ≡ []
       → dispatch layout t b.used code q ≡ Does d rest next → (is_birth d && has_read code q) ≡ false
       → Makes layout t code p a (n + begun_by q d found) cs (es ++ events_of layout t b d found) (next found)
@@ -180,6 +180,6 @@ MakesTrace begun calls code p v q u = Traces begun calls code p [] v q [] u
 pub data MakesCalls (code : List Instr) (v : View) : ℕ → ℕ → List HostCall → View → Type 0 where
   NoCall : MakesCalls code v 0 0 [] v
   OneMore : (n begun within : ℕ) (calls closes more : List HostCall) (u w x : View)
-      → MakesCalls code v n begun calls u → LooksThrough u u.used closes w
+      → MakesCalls code v n begun calls u → HasScanned u u.used closes w
       → MakesTrace within more code (Idle 1) w (Idle 0) x
       → MakesCalls code v (n + 1) (begun + within) (calls ++ (closes ++ more)) x

@@ -2,16 +2,16 @@
 
 ghost use Rattle.std.specs.Prelude.{◌≡◌, true, []};
 ghost use Rattle.brc_lang.specs.declared.module.Instr.TheVariants as instructions;
-ghost use Rattle.brc_model.specs.declared.slot.Slot.TheVariants.{Owned};
+ghost use Rattle.brc_model.specs.declared.state.VarState.TheVariants.{Owned};
 ghost use Rattle.brc_model.specs.Duties.{resources_of};
 ghost use Rattle.brc_model.specs.Machine.{has_room};
-ghost use Rattle.brc_model.specs.Slots.{put};
+ghost use Rattle.brc_model.specs.VarStates.{put};
 ghost use Rattle.brc_model.specs.Limits.{cell_limit};
 ghost use Rattle.std.specs.Prelude.{◌≤◌};
 ghost use Rattle.brc_table.specs.Hands.{IsOf};
 ghost use Rattle.brc_table.specs.Homes.{resources};
 ghost use Rattle.brc_heap.specs.Calls.{IsBornWith, kind_word};
-ghost use Rattle.brc_work.specs.Changes.{CanFill, IsIn, Goes};
+ghost use Rattle.brc_work.specs.Changes.{CanFill, IsIn, ChangesTo};
 ghost use Rattle.brc_work.specs.Fits.{MayDo, HasDone};
 ghost use Rattle.brc_work.specs.Performs.{Performs, MakesBirth};
 
@@ -84,7 +84,7 @@ impl<'h, T: Drop> Worker<'h, T> {
         requires kind { IsBornWith kind arg }
         requires resource { resources resource ≡ resources_of (kind_word kind arg) }
         ensures of { IsOf self.now hand.new }
-        ensures goes { Goes (λ s. CanFill s to) (λ s. put s to (Owned kind)) rows.old hand.old rows.new hand.new }
+        ensures goes { ChangesTo (λ s. CanFill s to) (λ s. put s to (Owned kind)) rows.old hand.old rows.new hand.new }
         ensures made { MakesBirth to (kind_word kind arg) rows.old hand.old.view rows.new hand.new.view }
     {
         let row = self.heap.birth(hand, kind, arg, resource);

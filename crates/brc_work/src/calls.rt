@@ -2,11 +2,11 @@
 
 ghost use Rattle.std.specs.Prelude.{◌≡◌, ℕ, ◌<◌, ◌≤◌, true, false, Some, length, slice_get};
 ghost use Rattle.brc_lang.specs.Grammar.{IsInstruction};
-ghost use Rattle.brc_model.specs.declared.slot.Exit.TheVariants.{Success};
+ghost use Rattle.brc_model.specs.declared.state.Exit.TheVariants.{Success};
 ghost use Rattle.brc_model.specs.Threads.{code_of};
 ghost use Rattle.brc_table.specs.Hands.{IsOf};
 ghost use Rattle.brc_model.specs.Tables.{Reaches};
-ghost use Rattle.brc_model.specs.declared.slot.State.{State};
+ghost use Rattle.brc_model.specs.declared.state.State.{State};
 ghost use Rattle.brc_work.specs.Calls.{IsCode, IsAt, IsReached, GoesOn, HasCalled, HasEnded, ends_call};
 ghost use Rattle.brc_work.specs.Fits.{MayDo, HasDone, IsReady};
 ghost use Rattle.brc_work.specs.Performs.{Performs, PerformsAt, StepsTo};

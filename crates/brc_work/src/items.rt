@@ -4,7 +4,7 @@ ghost use Rattle.std.specs.Prelude.{◌≡◌, ◌<◌, ◌≤◌, suc, Some, le
 ghost use Rattle.brc_lang.specs.declared.module.Instr.TheVariants as instructions;
 ghost use Rattle.brc_model.specs.Layout.{IsCounted};
 ghost use Rattle.brc_table.specs.Hands.{IsOf, most_references};
-ghost use Rattle.brc_table.specs.Seen.{KnowsCell};
+ghost use Rattle.brc_table.specs.KnownWords.{KnowsCell};
 ghost use Rattle.brc_table.specs.Swaps.{MayPut};
 ghost use Rattle.brc_table.specs.Views.{holds};
 ghost use Rattle.brc_work.specs.Acts.{Acts, HasLess};

@@ -2,7 +2,7 @@
 
 ghost use Rattle.std.specs.Prelude.{◌≡◌, ◌⊎◌, Some, None, true, false, ℕ, []};
 ghost use Rattle.brc_lang.specs.declared.module.Instr.TheVariants as instructions;
-ghost use Rattle.brc_model.specs.declared.slot.Exit.TheVariants.{Success};
+ghost use Rattle.brc_model.specs.declared.state.Exit.TheVariants.{Success};
 ghost use Rattle.brc_table.specs.Hands.{IsOf};
 ghost use Rattle.brc_work.specs.Fits.{MayDo, HasDone, IsStill};
 ghost use Rattle.brc_work.specs.Stopping.{Unlocks};

@@ -2,12 +2,12 @@
 
 ghost use Rattle.std.specs.Prelude.{◌≡◌, []};
 ghost use Rattle.brc_lang.specs.declared.module.Instr.TheVariants as instructions;
-ghost use Rattle.brc_model.specs.declared.slot.Exit.TheVariants.{Success};
-ghost use Rattle.brc_model.specs.declared.slot.Slot.TheVariants.{Empty};
-ghost use Rattle.brc_model.specs.Slots.{put};
+ghost use Rattle.brc_model.specs.declared.state.Exit.TheVariants.{Success};
+ghost use Rattle.brc_model.specs.declared.state.VarState.TheVariants.{Empty};
+ghost use Rattle.brc_model.specs.VarStates.{put};
 ghost use Rattle.brc_table.specs.Hands.{IsOf, HoldsOne, KeepsLock};
 ghost use Rattle.brc_work.specs.Acts.{ActsElsewhere, HasLess};
-ghost use Rattle.brc_work.specs.Changes.{CanGive, IsIn, Goes};
+ghost use Rattle.brc_work.specs.Changes.{CanGive, IsIn, ChangesTo};
 ghost use Rattle.brc_work.specs.Fits.{Rests, MayDo, HasDone};
 ghost use Rattle.brc_work.specs.Performs.{Performs, GivesUp, MakesRelease};
 ghost use Rattle.brc_work.specs.Totals.{Asked};
@@ -76,7 +76,7 @@ impl<'h, T: Drop> Worker<'h, T> {
     )
         requires fits { IsIn self.now (λ s. CanGive s from) rows.old hand.old }
         ensures of { IsOf self.now hand.new }
-        ensures goes { Goes (λ s. CanGive s from) (λ s. put s from Empty) rows.old hand.old rows.new hand.new }
+        ensures goes { ChangesTo (λ s. CanGive s from) (λ s. put s from Empty) rows.old hand.old rows.new hand.new }
         ensures asked { Asked H.answers H.counts host.old host.new totals.old totals.new
             (λ calls. GivesUp calls from rows.old hand.old.view rows.new hand.new.view) }
     {

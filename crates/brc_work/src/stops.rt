@@ -1,9 +1,9 @@
 //! A worker that stops between two instructions of a call.
 
 ghost use Rattle.std.specs.Prelude.{◌≡◌, ℕ, None};
-ghost use Rattle.brc_model.specs.declared.slot.Slot.TheVariants.{Empty};
-ghost use Rattle.brc_model.specs.declared.slot.State.{State};
-ghost use Rattle.brc_model.specs.Slots.{is_owned, put};
+ghost use Rattle.brc_model.specs.declared.state.VarState.TheVariants.{Empty};
+ghost use Rattle.brc_model.specs.declared.state.State.{State};
+ghost use Rattle.brc_model.specs.VarStates.{is_owned, put};
 ghost use Rattle.brc_table.specs.Hands.{IsOf};
 ghost use Rattle.brc_work.specs.Calls.{HasReturned};
 ghost use Rattle.brc_work.specs.Changes.{CanGive, IsIn};
@@ -18,13 +18,13 @@ use brc_free::Finaliser;
 use brc_heap::Hand;
 use brc_host::Host;
 use brc_lang::Variable;
-use brc_model::{Slot, State};
+use brc_model::{VarState, State};
 use std::sync::Wait;
 
-fn is_owned(slot: Slot) -> bool
+fn is_owned(slot: VarState) -> bool
     ensures { result ≡ is_owned slot }
 {
-    matches!(slot, Slot::Owned(_))
+    matches!(slot, VarState::Owned(_))
 }
 
 impl<'h, T: Drop> Worker<'h, T> {
@@ -71,7 +71,7 @@ impl<'h, T: Drop> Worker<'h, T> {
     {
         let finaliser = Finaliser::new(self.heap, self.queue);
         for number in 0..Variable::COUNT {
-            if is_owned(state.slots[number]) {
+            if is_owned(state.vars[number]) {
                 self.loosen(rt, rows, hand, Variable::new(number as u8));
             }
         }

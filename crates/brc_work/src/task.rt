@@ -49,7 +49,7 @@ pub(crate) struct Remains<T: Drop> {
 /// A worker's promise: when its thread ends, its hand is gone, and unless the workers were called off before it began,
 /// it has made its calls, or was stopped by its bound, and has left.
 #[derive(Drop)]
-pub(crate) struct Leaves<T: Drop, H> {
+pub(crate) struct WorkerPromise<T: Drop, H> {
     pub(crate) heap: Snapshot<Heap<T>>,
     pub(crate) checked: Snapshot<Checked>,
     pub(crate) function: usize,
@@ -59,7 +59,7 @@ pub(crate) struct Leaves<T: Drop, H> {
     pub(crate) host: PhantomData<H>,
 }
 
-impl<T: Drop, H: Host<Res = T>> Promise<Remains<T>> for Leaves<T, H> {
+impl<T: Drop, H: Host<Res = T>> Promise<Remains<T>> for WorkerPromise<T, H> {
     ghost kept_by = { λ p done. Ends H.answers H.counts
         (job p.heap.value p.checked.value.«module» p.function p.times p.steps p.thread) done.hand done.ran done.called };
 }

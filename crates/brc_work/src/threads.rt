@@ -9,7 +9,7 @@ use crate::error::NoThread;
 use crate::gate::Gate;
 use crate::joining::join_hands;
 use crate::ran::Ran;
-use crate::task::{Leaves, Remains, Task};
+use crate::task::{WorkerPromise, Remains, Task};
 use crate::tasks::tasks_of;
 use brc_check::Checked;
 use brc_heap::{Hand, Heap};
@@ -24,7 +24,7 @@ use std::thread::{PromisedHandle, Threads};
 
 /// The thread of a worker, whose hand will be gone when the thread ends; or what the worker has left, if its thread
 /// couldn't be started.
-type Begun<T, H> = Result<PromisedHandle<Remains<T>, Leaves<T, H>>, Remains<T>>;
+type Refl<T, H> = Result<PromisedHandle<Remains<T>, WorkerPromise<T, H>>, Remains<T>>;
 
 /// Lets a worker for each host call the accepted module's function with this number, `times` times, each in a thread of
 /// its own; each begins at most `steps` instructions, and stops where it has begun as many, as `Worker::run` does.
@@ -98,7 +98,7 @@ fn run_all<'w, R: Threads + Wait + Sync, T: Send + Drop, H: Host<Res = T> + Send
     times: u32,
     steps: u64,
     tasks: Vec<Task<'w, T, H, G>>,
-    mut threads: Vec<Begun<T, H>>,
+    mut threads: Vec<Refl<T, H>>,
     answer: Vec<(Hand<T>, Ran)>,
 ) -> (Vec<(Hand<T>, Ran)>, bool)
     requires tasks { (k : ℕ) (t : _) → k < vec_len tasks → let task = slice_index_or tasks.items k t in
@@ -129,7 +129,7 @@ fn run_all<'w, R: Threads + Wait + Sync, T: Send + Drop, H: Host<Res = T> + Send
                 (slice_index_or result.0.items k w).0 (slice_index_or result.0.items k w).1 result.1) }
         {
             for task in tasks {
-                let promise = Leaves {
+                let promise = WorkerPromise {
                     heap: Snapshot::of(task.heap),
                     checked: Snapshot::of(task.checked),
                     function: task.function,
@@ -162,7 +162,7 @@ fn join_all<'w, R: Threads, T: Send + Drop, H: Host<Res = T>>(
     function: usize,
     times: u32,
     steps: u64,
-    threads: Vec<Begun<T, H>>,
+    threads: Vec<Refl<T, H>>,
     mut answer: Vec<(Hand<T>, Ran)>,
 ) -> (Vec<(Hand<T>, Ran)>, bool)
     requires empty { answer.items ≡ [] }
@@ -190,7 +190,7 @@ fn join_all<'w, R: Threads, T: Send + Drop, H: Host<Res = T>>(
 }
 
 /// Returns what the worker leaves: if it has a thread, once that has ended.
-fn left_by<R: Threads, T: Send + Drop, H: Host<Res = T>>(rt: &R, begun: Begun<T, H>) -> Remains<T>
+fn left_by<R: Threads, T: Send + Drop, H: Host<Res = T>>(rt: &R, begun: Refl<T, H>) -> Remains<T>
     ensures { (j : Job) → IfOk begun (λ s. let promise = s.promise in
         job promise.heap.value promise.checked.value.«module» promise.function promise.times promise.steps promise.thread ≡ j)
         → IfErr begun (λ done. Ends H.answers H.counts j done.hand done.ran done.called)

@@ -21,15 +21,15 @@ use Rattle.brc_world.specs.declared.did.Did.TheVariants as answers
 use Rattle.brc_world.specs.declared.dispatch.Start.{Start}
 use Rattle.brc_world.specs.declared.dispatch.Start.TheVariants as starts
 use Rattle.brc_world.specs.declared.thread.Thread.{Thread}
-use Rattle.brc_world.specs.Actors.{actor_of, context_in, found_by, memory_done, actor_done, memory_by, actor_by, faults_by, did_by, CanDo, CanAct, finds_mark, memory_claimed, actor_claimed, did_claim}
+use Rattle.brc_world.specs.Actors.{actor_of, context_in, found_by, words_after, actor_after, memory_by, actor_by, faults_by, answer_by, CanDo, CanAct, finds_mark, memory_claimed, actor_claimed, did_claim}
 use Rattle.brc_world.specs.declared.host_call.HostCall.{HostCall}
 use Rattle.brc_world.specs.declared.host_call.HostCall.TheVariants as calls
 use Rattle.brc_world.specs.declared.question.Question.{Question}
 use Rattle.brc_world.specs.declared.question.Question.TheVariants as questions
 use Rattle.brc_world.specs.Questions.{FindsItem, IsAbout, IsAnswerable, place_called}
-use Rattle.brc_world.specs.Starts.{start_by, first_start, unasking, duty_of, AsksWell, CanAnswer, entering, did_of, calls_counted, place_after, answered, started}
+use Rattle.brc_world.specs.Starts.{start_by, first_start, unasking, duty_of, AsksWell, CanAnswer, entering, answer_of, calls_counted, place_after, answered, started}
 use Rattle.brc_model.specs.declared.layout.Layout.{Layout}
-use Rattle.brc_model.specs.declared.slot.Exit.{Exit}
+use Rattle.brc_model.specs.declared.state.Exit.{Exit}
 use Rattle.brc_model.specs.StepMachine.{counted, closes}
 use Rattle.brc_world.specs.declared.faults.Faults.{Faults}
 
@@ -49,7 +49,7 @@ uncounted f = f
 -- words, the thread, and how the counts of faults change
 pub record IsStep (layout : Layout) (t : ℕ) (memory : Address → ℕ) (a : StepActor) (agenda : List Duty) (exit : Exit)
     (x : Action) (did : Did) (words : Address → ℕ) (b : StepActor) (change : Faults → Faults) : Type 0 where
-  pub answer : did ≡ did_by memory agenda x
+  pub answer : did ≡ answer_by memory agenda x
   pub memory_is : words ≡ memory_by layout t memory a x
   pub actor : b ≡ actor_by layout t memory a exit x
   pub faults : (f : Faults) → change f ≡ faults_by exit x f
@@ -58,8 +58,8 @@ pub record IsStep (layout : Layout) (t : ℕ) (memory : Address → ℕ) (a : St
 record DoneBy (layout : Layout) (t : ℕ) (memory : Address → ℕ) (a : StepActor) (agenda : List Duty) (exit : Exit)
     (x : Action) (d : Duty) (did : Did) : Type 0 where
   step : IsStep layout t memory a agenda exit x did
-      (memory_done layout t memory (started a x exit (found_by layout t memory a d)) d)
-      (actor_done layout t memory (started a x exit (found_by layout t memory a d)) d) (duty_counted exit d)
+      (words_after layout t memory (started a x exit (found_by layout t memory a d)) d)
+      (actor_after layout t memory (started a x exit (found_by layout t memory a d)) d) (duty_counted exit d)
   can : (n threads found : ℕ) → CanAct layout t n threads memory a x
       → CanDo layout t n threads memory (started a x exit found) d
 
@@ -104,10 +104,10 @@ module _ (layout : Layout) (t : ℕ) (memory : Address → ℕ) (a : StepActor) 
   called_by (Does (LockGate y) rest place) e found = absurd cc
   called_by (Does d rest place) e found = absurd cc
 
-  done_by : (agenda : List Duty) (c d : Duty) (rest : List Duty) (place : ℕ → Place) (did : Did)
-      → c ≡ d → did ≡ did_by memory agenda (Does c rest place)
+  does_by : (agenda : List Duty) (c d : Duty) (rest : List Duty) (place : ℕ → Place) (did : Did)
+      → c ≡ d → did ≡ answer_by memory agenda (Does c rest place)
       → DoneBy layout t memory a agenda exit (Does c rest place) d did
-  done_by agenda c d rest place did same answer =
+  does_by agenda c d rest place did same answer =
       subst (λ (e : Duty). DoneBy layout t memory a agenda exit (Does c rest place) e did) same
       (record {
         step = record { answer = answer; memory_is = refl; actor = refl; faults = λ f. refl };
@@ -122,7 +122,7 @@ module _ (layout : Layout) (t : ℕ) (memory : Address → ℕ) (a : StepActor) 
   does_by (Silent moves place) d e = absurd cc
   does_by (Calls row place) d e = absurd cc
   does_by (Does (LockGate y) rest place) d e = absurd cc
-  does_by (Does c rest place) d e = done_by [] c d rest place answers.Moved (doing_is d c e) refl
+  does_by (Does c rest place) d e = does_by [] c d rest place answers.Moved (doing_is d c e) refl
 
   locks_by : (x : Action) (row left next : ℕ) → starts.Locking row left next ≡ start_by x
       → DoneBy layout t memory a [] exit x (LockGate row) (entering (memory (Gate row)))
@@ -134,7 +134,7 @@ module _ (layout : Layout) (t : ℕ) (memory : Address → ℕ) (a : StepActor) 
       let same : y ≡ row = cc in
       subst (λ (z : ℕ). DoneBy layout t memory a [] exit (Does (LockGate y) rest place) (LockGate z)
       (entering (memory (Gate z)))) same
-      (done_by [] (LockGate y) (LockGate y) rest place (entering (memory (Gate y))) refl
+      (does_by [] (LockGate y) (LockGate y) rest place (entering (memory (Gate y))) refl
       (enters (memory (Gate y) == free_word)))
   locks_by (Does c rest place) row left next e = absurd cc
 
@@ -167,7 +167,7 @@ module _ (functions : List Function) (layout : Layout) (t : ℕ) (memory : Addre
       → DoneBy layout t memory a agenda exit (agenda_action functions layout t a agenda) d answers.Moved
   agenda_does [] d e = does_by layout t memory a exit (agenda_action functions layout t a []) d e
   agenda_does (c ∷ rest) d e =
-      done_by layout t memory a exit (c ∷ rest) c d rest (always a.place) answers.Moved (doing_is d c e) refl
+      does_by layout t memory a exit (c ∷ rest) c d rest (always a.place) answers.Moved (doing_is d c e) refl
 
   agenda_locks : (agenda : List Duty) (row left next : ℕ)
       → starts.Locking row left next ≡ first_start functions layout t a agenda
@@ -180,7 +180,7 @@ module _ (functions : List Function) (layout : Layout) (t : ℕ) (memory : Addre
   start_does : (agenda : List Duty) (start : Start) (d : Duty)
       → duty_of start ≡ Some d → unasking start ≡ first_start functions layout t a agenda
       → DoneBy layout t memory a agenda exit (agenda_action functions layout t a agenda) d
-      (did_of start (found_by layout t memory a d))
+      (answer_of start (found_by layout t memory a d))
   start_does agenda starts.Stuck d does e = absurd cc
   start_does agenda starts.Moved d does e = absurd cc
   start_does agenda (starts.Calling call) d does e = absurd cc
@@ -272,7 +272,7 @@ module _ (functions : List Function) (layout : Layout) (t : ℕ) (memory : Addre
 
   -- A step that does no duty is the model's, which accesses no word.
   pub silent_step : (start : Start) → HasStarted functions layout t a b start → duty_of start ≡ None
-      → StepsTo (did_of start 0) memory (answered start exit 0 b) (calls_counted start exit)
+      → StepsTo (answer_of start 0) memory (answered start exit 0 b) (calls_counted start exit)
   silent_step starts.Stuck begun none = stuck_step begun
   silent_step starts.Moved begun none = moved_step begun
   silent_step (starts.Calling call) begun none = called_step call begun
@@ -292,17 +292,17 @@ module _ (functions : List Function) (layout : Layout) (t : ℕ) (memory : Addre
   -- A step that does a duty is the model's step of that duty, after which the word found decides the thread's place.
   pub duty_step : (start : Start) (d : Duty)
       → HasStarted functions layout t a b start → duty_of start ≡ Some d
-      → StepsTo (did_of start (found_by layout t memory (actor_of b) d)) (memory_done layout t memory (actor_of b) d)
-      (at_place (actor_done layout t memory (actor_of b) d)
+      → StepsTo (answer_of start (found_by layout t memory (actor_of b) d)) (words_after layout t memory (actor_of b) d)
+      (at_place (actor_after layout t memory (actor_of b) d)
       (place_after start exit (found_by layout t memory (actor_of b) d) b)) (duty_counted exit d)
   duty_step start d begun does =
       let x = agenda_action functions layout t a a.actor.agenda in
       let found = found_by layout t memory (actor_of b) d in
       let done = λ (word : ℕ) (c : StepActor).
-      IsStep layout t memory a a.actor.agenda exit x (did_of start word) (memory_done layout t memory c d)
-      (actor_done layout t memory c d) (duty_counted exit d) in
-      of_status (did_of start found) (memory_done layout t memory (actor_of b) d)
-      (at_place (actor_done layout t memory (actor_of b) d) (place_after start exit found b)) (duty_counted exit d)
+      IsStep layout t memory a a.actor.agenda exit x (answer_of start word) (words_after layout t memory c d)
+      (actor_after layout t memory c d) (duty_counted exit d) in
+      of_status (answer_of start found) (words_after layout t memory (actor_of b) d)
+      (at_place (actor_after layout t memory (actor_of b) d) (place_after start exit found b)) (duty_counted exit d)
       begun.alive
       (subst (done found) (sym (begun.actor exit found))
       (subst (λ (word : ℕ). done word (started a x exit word)) (finds_same start d begun)
@@ -385,10 +385,10 @@ claim_did layout t memory a row Gone alive found = absurd (alive refl)
 
 pub claim_words : (layout : Layout) (t : ℕ) (memory : Address → ℕ) (a : StepActor) (row : ℕ)
     → finds_mark layout t memory a row ≡ true
-    → memory_done layout t memory a (ClaimMark row) ≡ memory_claimed layout t memory a row
+    → words_after layout t memory a (ClaimMark row) ≡ memory_claimed layout t memory a row
 claim_words layout t memory a row found = rw found refl
 
 pub claim_actor : (layout : Layout) (t : ℕ) (memory : Address → ℕ) (a : StepActor) (row : ℕ)
     → finds_mark layout t memory a row ≡ true
-    → actor_done layout t memory a (ClaimMark row) ≡ actor_claimed layout t memory a row
+    → actor_after layout t memory a (ClaimMark row) ≡ actor_claimed layout t memory a row
 claim_actor layout t memory a row found = rw found refl

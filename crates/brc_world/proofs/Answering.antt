@@ -7,14 +7,14 @@ use Rattle.brc_model.specs.declared.actor.Status.{Status}
 use Rattle.brc_model.specs.declared.actor.Status.TheVariants.{Running, Leaving, Gone}
 use Rattle.brc_model.specs.declared.address.Address.{Address}
 use Rattle.brc_model.specs.declared.duty.Duty.{Duty}
-use Rattle.brc_model.specs.declared.slot.Exit.{Exit}
+use Rattle.brc_model.specs.declared.state.Exit.{Exit}
 use Rattle.brc_model.specs.declared.thread.Choice.TheVariants.{Claim, Stop}
 use Rattle.brc_model.specs.Safety.{has_gone}
-use Rattle.brc_model.specs.declared.slot.State.{State}
+use Rattle.brc_model.specs.declared.state.State.{State}
 use Rattle.brc_model.specs.Actions.{StepActor, Action, Skip, Stuck, Silent, Calls, Does, status_action, may_stop, stop_action}
 use Rattle.brc_model.specs.World.{World, step}
 use Rattle.brc_world.specs.declared.did.Did.TheVariants as answers
-use Rattle.brc_world.specs.Actors.{memory_by, actor_by, faults_by, waits, did_by, finds_mark, did_claim, action_stopped, is_silent, silently, did_stop}
+use Rattle.brc_world.specs.Actors.{memory_by, actor_by, faults_by, waits, answer_by, finds_mark, did_claim, action_stopped, is_silent, silently, did_stop}
 use Rattle.brc_world.specs.Answers.{is_gone, is_gone_at, IsAnswer}
 use Rattle.brc_world.specs.Worlds.{choice_of}
 use Rattle.brc_world.proofs.Stepping.{faults_of, with_words, unchanged, IsQuiet, stop_quiet, stop_is}
@@ -56,7 +56,7 @@ module _ (w : World) (t : ℕ) (exit : Exit) where
       → (waits w.memory a.actor.agenda x ≡ true → next ≡ w)
       → next ≡ with_words w t (memory_by w.layout t w.memory a x) (actor_by w.layout t w.memory a exit x)
       (faults_by exit x (faults_of w))
-      → IsAnswer w t next (did_by w.memory a.actor.agenda x)
+      → IsAnswer w t next (answer_by w.memory a.actor.agenda x)
   action_answers a Skip found here moves stays is =
       absurd (moves (skip_goes_on w.memory a.actor.agenda) (is ∙ unchanged w t a found))
   action_answers a Stuck found here moves stays is = (here, is ∙ unchanged w t a found)
@@ -76,7 +76,7 @@ module _ (w : World) (t : ℕ) (exit : Exit) where
       → next ≡ with_words w t (memory_by w.layout t w.memory a (status_action w.functions w.layout t a s))
       (actor_by w.layout t w.memory a exit (status_action w.functions w.layout t a s))
       (faults_by exit (status_action w.functions w.layout t a s) (faults_of w))
-      → IsAnswer w t next (did_by w.memory a.actor.agenda (status_action w.functions w.layout t a s))
+      → IsAnswer w t next (answer_by w.memory a.actor.agenda (status_action w.functions w.layout t a s))
   going_answers a Gone found at moves stays is = gone_is w t a Gone found at
   going_answers a Running found at moves stays is =
       action_answers a (status_action w.functions w.layout t a Running) found (gone_is w t a Running found at)

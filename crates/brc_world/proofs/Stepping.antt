@@ -14,8 +14,8 @@ use Rattle.brc_model.specs.declared.duty.Duty.TheVariants.{ClaimMark}
 use Rattle.brc_model.specs.declared.thread.Choice.{Choice}
 use Rattle.brc_model.specs.declared.thread.Choice.TheVariants.{Ok, Claim, Fault, Stop}
 use Rattle.brc_model.specs.World.{IsReachable, World, world_of, machine_of, step}
-use Rattle.brc_model.specs.declared.slot.Exit.{Exit}
-use Rattle.brc_model.specs.declared.slot.Exit.TheVariants as exits
+use Rattle.brc_model.specs.declared.state.Exit.{Exit}
+use Rattle.brc_model.specs.declared.state.Exit.TheVariants as exits
 use Rattle.brc_model.specs.Actions.{StepActor, Action, Skip, Stuck, Silent, Calls, Does, always, may_claim, may_stop, stop_action, status_action, exit_of, action_of}
 use Rattle.brc_model.specs.StepMachine.{of_thread, machine_by}
 use Rattle.brc_model.specs.Within.{IsWithin, StepsWithin}
@@ -24,7 +24,7 @@ use Rattle.brc_world.specs.Worlds.{choice_of}
 use Rattle.brc_world.specs.Actors.{memory_by, actor_by, faults_by, finds_mark, memory_claimed, actor_claimed, CanDo, CanAct, CanClaim, action_stopped, silently}
 use Rattle.brc_model.specs.declared.layout.Layout.{Layout}
 use Rattle.brc_model.specs.Layout.{row_count}
-use Rattle.brc_model.specs.declared.slot.State.{State}
+use Rattle.brc_model.specs.declared.state.State.{State}
 use Rattle.brc_model.proofs.Basics.Lists.{either}
 use Rattle.brc_model.proofs.Dispatch.Decided.{stop_decides}
 

@@ -8,7 +8,7 @@ use Rattle.brc_model.specs.declared.address.Address.{Address}
 use Rattle.brc_model.specs.declared.duty.Duty.{Duty}
 use Rattle.brc_model.specs.declared.duty.Duty.TheVariants.{Settle, Scan, LockGate}
 use Rattle.brc_model.specs.declared.layout.Layout.{Layout}
-use Rattle.brc_model.specs.declared.slot.Exit.{Exit}
+use Rattle.brc_model.specs.declared.state.Exit.{Exit}
 use Rattle.brc_model.specs.Actions.{StepActor, Action, Does, always, agenda_action, status_action}
 use Rattle.brc_model.specs.Duties.{ready}
 use Rattle.brc_model.specs.World.{World, step, finds_locked, waits_for_lock}

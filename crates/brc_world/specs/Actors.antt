@@ -12,8 +12,8 @@ use Rattle.brc_model.specs.declared.actor.Place.TheVariants.{Idle, InCall, Insid
 use Rattle.brc_model.specs.Duties.{address_of, new_word}
 use Rattle.brc_model.specs.Within.{IsThere, Suits}
 use Rattle.brc_model.specs.Machine as model
-use Rattle.brc_model.specs.declared.slot.Exit.{Exit}
-use Rattle.brc_model.specs.declared.slot.State.{State}
+use Rattle.brc_model.specs.declared.state.Exit.{Exit}
+use Rattle.brc_model.specs.declared.state.State.{State}
 use Rattle.brc_model.specs.Actions.{StepActor, Action, Skip, Stuck, Silent, Calls, Does, may_claim, may_stop, stop_action}
 use Rattle.brc_model.specs.StepMachine.{at_place, step_actor, counted, closes}
 use Rattle.brc_model.specs.World.{finds_locked}
@@ -83,13 +83,13 @@ abbrev pub found_by : Layout → ℕ → (Address → ℕ) → StepActor → Dut
 found_by layout t memory a d = memory (address_of layout t a.actor.head d)
 
 -- the words after a duty
-abbrev pub memory_done : Layout → ℕ → (Address → ℕ) → StepActor → Duty → Address → ℕ
-memory_done layout t memory a d =
+abbrev pub words_after : Layout → ℕ → (Address → ℕ) → StepActor → Duty → Address → ℕ
+words_after layout t memory a d =
     model.written memory (address_of layout t a.actor.head d) (new_word t a.actor.head d (found_by layout t memory a d))
 
 -- the thread after a duty that was no longer in its agenda
-abbrev pub actor_done : Layout → ℕ → (Address → ℕ) → StepActor → Duty → StepActor
-actor_done layout t memory a d = step_actor layout t a d a.actor.agenda a.place (found_by layout t memory a d)
+abbrev pub actor_after : Layout → ℕ → (Address → ℕ) → StepActor → Duty → StepActor
+actor_after layout t memory a d = step_actor layout t a d a.actor.agenda a.place (found_by layout t memory a d)
 
 -- Returns the words after the thread's action.
 abbrev pub memory_by : Layout → ℕ → (Address → ℕ) → StepActor → Action → Address → ℕ
@@ -97,7 +97,7 @@ memory_by layout t memory a Skip = memory
 memory_by layout t memory a Stuck = memory
 memory_by layout t memory a (Silent moves place) = memory
 memory_by layout t memory a (Calls row place) = memory
-memory_by layout t memory a (Does d rest place) = memory_done layout t memory a d
+memory_by layout t memory a (Does d rest place) = words_after layout t memory a d
 
 -- Returns the thread after its action, which ends by the exit.
 abbrev pub actor_by : Layout → ℕ → (Address → ℕ) → StepActor → Exit → Action → StepActor
@@ -106,7 +106,7 @@ actor_by layout t memory a exit Stuck = a
 actor_by layout t memory a exit (Silent moves place) = at_place a place
 actor_by layout t memory a exit (Calls row place) = at_place a (place exit)
 actor_by layout t memory a exit (Does d rest place) =
-    actor_done layout t memory (with_agenda (at_place a (place (found_by layout t memory a d))) rest) d
+    actor_after layout t memory (with_agenda (at_place a (place (found_by layout t memory a d))) rest) d
 
 -- Returns the counts of faults after an action that ends by the exit: a host call or a close may have faulted.
 abbrev pub faults_by : Exit → Action → Faults → Faults
@@ -122,12 +122,12 @@ waits memory [] x = finds_locked memory x
 waits memory (d ∷ rest) x = false
 
 -- Returns the answer of a step with the action, of a thread with this agenda. A thread that waits changes nothing.
-abbrev pub did_by : (Address → ℕ) → List Duty → Action → Did
-did_by memory agenda Skip = answers.Gone
-did_by memory agenda Stuck = answers.Same
-did_by memory agenda (Silent moves place) = answers.Moved
-did_by memory agenda (Calls row place) = answers.Moved
-did_by memory agenda (Does d rest place) =
+abbrev pub answer_by : (Address → ℕ) → List Duty → Action → Did
+answer_by memory agenda Skip = answers.Gone
+answer_by memory agenda Stuck = answers.Same
+answer_by memory agenda (Silent moves place) = answers.Moved
+answer_by memory agenda (Calls row place) = answers.Moved
+answer_by memory agenda (Does d rest place) =
     if waits memory agenda (Does d rest place) then answers.Same else answers.Moved
 
 -- the thread can do the duty, in a world of n rows: the duty's word is there, its value suits the duty, and the thread
@@ -154,12 +154,12 @@ finds_mark layout t memory a row = may_claim layout t a row && not (memory (Mark
 -- the words after the thread claims the row
 abbrev pub memory_claimed : Layout → ℕ → (Address → ℕ) → StepActor → ℕ → Address → ℕ
 memory_claimed layout t memory a row =
-    if finds_mark layout t memory a row then memory_done layout t memory a (ClaimMark row) else memory
+    if finds_mark layout t memory a row then words_after layout t memory a (ClaimMark row) else memory
 
 -- the thread after it claims the row
 abbrev pub actor_claimed : Layout → ℕ → (Address → ℕ) → StepActor → ℕ → StepActor
 actor_claimed layout t memory a row =
-    if finds_mark layout t memory a row then actor_done layout t memory a (ClaimMark row) else a
+    if finds_mark layout t memory a row then actor_after layout t memory a (ClaimMark row) else a
 
 -- the answer of the claim
 abbrev pub did_claim : Layout → ℕ → (Address → ℕ) → StepActor → ℕ → Status → Did

@@ -5,7 +5,7 @@ use Rattle.brc_lang.specs.declared.module.Module.{Module}
 use Rattle.brc_lang.specs.Grammar.{IsModule}
 use Rattle.brc_model.specs.declared.thread.Call.{Call}
 use Rattle.brc_model.specs.declared.thread.Choice.{Choice}
-use Rattle.brc_model.specs.declared.slot.State.{State}
+use Rattle.brc_model.specs.declared.state.State.{State}
 use Rattle.brc_model.specs.Paths.{IsAcceptable}
 use Rattle.brc_model.specs.Tables.{AreTrueWhereReached}
 use Rattle.brc_model.specs.AbstractState.{AbstractState, is_among}

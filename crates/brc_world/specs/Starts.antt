@@ -12,7 +12,7 @@ use Rattle.brc_model.specs.declared.duty.Duty.{Duty}
 use Rattle.brc_model.specs.declared.duty.Duty.TheVariants.{ReleaseLoad, Settle, Leave, LockGate, UnlockGate}
 use Rattle.brc_model.specs.declared.duty.Holding.TheVariants.{AsCaller}
 use Rattle.brc_model.specs.declared.layout.Layout.{Layout}
-use Rattle.brc_model.specs.declared.slot.Exit.{Exit}
+use Rattle.brc_model.specs.declared.state.Exit.{Exit}
 use Rattle.brc_model.specs.Actions.{StepActor, Action, Skip, Stuck, Silent, Calls, Does, always, stopping, give_up, dispatch_instruction, dispatch_inside, dispatch}
 use Rattle.brc_model.specs.Layout.{root_row}
 use Rattle.brc_model.specs.StepMachine.{at_place, counted}
@@ -121,10 +121,10 @@ abbrev pub entering : ℕ → Did
 entering found = if found == free_word then answers.Moved else answers.Same
 
 -- the answer of a step with the start, whose duty finds this word if it has one
-abbrev pub did_of : Start → ℕ → Did
-did_of starts.Stuck found = answers.Same
-did_of (starts.Locking row left next) found = entering found
-did_of _ found = answers.Moved
+abbrev pub answer_of : Start → ℕ → Did
+answer_of starts.Stuck found = answers.Same
+answer_of (starts.Locking row left next) found = entering found
+answer_of _ found = answers.Moved
 
 -- the counts of faults after a step with the start that ends by the exit, but for those of closes
 abbrev pub calls_counted : Start → Exit → Faults → Faults
@@ -163,13 +163,13 @@ started a (Does d rest place) exit found = with_agenda (at_place a (place found)
 -- ---- a dispatch
 
 -- the thread can dispatch: it has nothing to do, room for eight duties, and a next instruction's number
-pub record CanBegin (a : Thread) : Type 0 where
+pub record CanDispatch (a : Thread) : Type 0 where
   pub empty : a.agenda.items ≡ []
   pub room : 8 ≤ vec_capacity a.agenda
   pub next : a.at + 1 < 2 ^ 64
 
 -- the thread `old` has begun the action: its step starts so, it is now `new`, and it has room for four duties
-pub record Begins (old : Thread) (x : Action) (start : Start) (new : Thread) : Type 0 where
+pub record HasDispatched (old : Thread) (x : Action) (start : Start) (new : Thread) : Type 0 where
   pub starts : unasking start ≡ start_by x
   pub question : AsksWell start
   pub actor : (exit : Exit) (found : ℕ) → answered start exit found new ≡ started (actor_of old) x exit found

@@ -2,11 +2,11 @@
 
 ghost use Rattle.std.specs.Prelude.{◌≡◌, ℕ, ◌+◌, ◌≤◌, slice_get, Some};
 ghost use Rattle.std.specs.Prelude.{[], reverse, vec_len, vec_capacity};
-ghost use Rattle.brc_model.specs.declared.slot.Exit.{Exit};
+ghost use Rattle.brc_model.specs.declared.state.Exit.{Exit};
 ghost use Rattle.brc_model.specs.Threads.{code_of, entry_variables};
 ghost use Rattle.brc_model.specs.Actions.{agenda_action, dispatch};
 ghost use Rattle.brc_world.specs.Actors.{actor_of};
-ghost use Rattle.brc_world.specs.Starts.{duty_of, first_start, exit_action, action_at, action_inside, unasking, answered, started, AsksWell, CanBegin, Begins};
+ghost use Rattle.brc_world.specs.Starts.{duty_of, first_start, exit_action, action_at, action_inside, unasking, answered, started, AsksWell, CanDispatch, HasDispatched};
 
 use crate::dispatch::birth::birth;
 use crate::dispatch::files::{ask_host, read, write};
@@ -93,7 +93,7 @@ pub fn first_duty(functions: &[Function], layout: Layout, number: u8, thread: &m
 fn dispatch(functions: &[Function], layout: Layout, number: u8, thread: &mut Thread) -> Start
     requires empty { thread.old.agenda.items ≡ [] }
     requires room { 8 ≤ vec_capacity thread.old.agenda }
-    ensures { Begins thread.old (dispatch layout number thread.old.used (code_of (slice_get functions.now
+    ensures { HasDispatched thread.old (dispatch layout number thread.old.used (code_of (slice_get functions.now
         thread.old.function)) (actor_of thread.old).place) result thread.new }
 {
     match thread.mode {
@@ -121,7 +121,7 @@ fn dispatch(functions: &[Function], layout: Layout, number: u8, thread: &mut Thr
 fn exit(thread: &mut Thread) -> Start
     requires empty { thread.old.agenda.items ≡ [] }
     requires room { 8 ≤ vec_capacity thread.old.agenda }
-    ensures { Begins thread.old (exit_action thread.old.used) result thread.new }
+    ensures { HasDispatched thread.old (exit_action thread.old.used) result thread.new }
 {
     thread.mode = Mode::Exiting;
     thread.agenda.push_reserved(Duty::Leave {
@@ -147,7 +147,7 @@ fn next_instruction(
 ) -> Start
     requires empty { thread.old.agenda.items ≡ [] }
     requires room { 8 ≤ vec_capacity thread.old.agenda }
-    ensures { Begins thread.old (action_at layout number left
+    ensures { HasDispatched thread.old (action_at layout number left
         (slice_get (code_of (slice_get functions.now thread.old.function)) thread.old.at) thread.old) result thread.new }
 {
     match code_of(functions, thread.function).get(thread.at) {
@@ -167,7 +167,7 @@ fn this_instruction(
 ) -> Start
     requires empty { thread.old.agenda.items ≡ [] }
     requires room { 8 ≤ vec_capacity thread.old.agenda }
-    ensures { Begins thread.old (action_inside layout number stage
+    ensures { HasDispatched thread.old (action_inside layout number stage
         (slice_get (code_of (slice_get functions.now thread.old.function)) thread.old.at) thread.old) result thread.new }
 {
     match code_of(functions, thread.function).get(thread.at) {
@@ -198,8 +198,8 @@ pub fn entry_variables() -> Variables
 /// Begins the instruction, in a call after which `left` calls remain.
 #[inline(always)]
 fn begin(instr: Instr, layout: Layout, number: u8, thread: &mut Thread, left: u32) -> Start
-    requires { CanBegin thread.old }
-    ensures { Begins thread.old (action_at layout number left (Some instr) thread.old) result thread.new }
+    requires { CanDispatch thread.old }
+    ensures { HasDispatched thread.old (action_at layout number left (Some instr) thread.old) result thread.new }
 {
     match instr {
         Instr::Num {

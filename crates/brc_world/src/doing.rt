@@ -11,9 +11,9 @@ ghost use Rattle.brc_model.specs.Limits.{worker_limit, total_limit};
 ghost use Rattle.brc_model.specs.StepMachine.{at_place};
 ghost use Rattle.brc_model.specs.Within.{IsThere, Suits};
 ghost use Rattle.brc_world.specs.Storage.{word_in, IsStored};
-ghost use Rattle.brc_world.specs.Actors.{actor_of, context_in, found_by, actor_done, memory_by, actor_by, faults_by, waits, did_by, CanAct, finds_mark, memory_claimed, actor_claimed, did_claim, CanClaim, action_stopped, is_silent, silently, did_stop};
+ghost use Rattle.brc_world.specs.Actors.{actor_of, context_in, found_by, actor_after, memory_by, actor_by, faults_by, waits, answer_by, CanAct, finds_mark, memory_claimed, actor_claimed, did_claim, CanClaim, action_stopped, is_silent, silently, did_stop};
 ghost use Rattle.brc_check.specs.Tables.{states_of};
-ghost use Rattle.brc_world.specs.Starts.{let_in, answered, did_of, CanAnswer};
+ghost use Rattle.brc_world.specs.Starts.{let_in, answered, answer_of, CanAnswer};
 
 use crate::agenda::{pass_over, push};
 use crate::did::Did;
@@ -53,7 +53,7 @@ pub fn do_duty(
     ensures word { IsStored memory.old (address_of layout number thread.old.head duty.now)
         (new_word number thread.old.head duty.now
         (found_by layout number (word_in memory.old) (actor_of thread.old) duty.now)) memory.new }
-    ensures actor { actor_of thread.new ≡ actor_done layout number (word_in memory.old) (actor_of thread.old) duty.now }
+    ensures actor { actor_of thread.new ≡ actor_after layout number (word_in memory.old) (actor_of thread.old) duty.now }
     ensures found { result ≡ found_by layout number (word_in memory.old) (actor_of thread.old) duty.now }
     ensures calls { thread.new.left ≡ thread.old.left }
     ensures point { thread.new.at ≡ thread.old.at }
@@ -81,7 +81,7 @@ pub fn do_duty(
 #[inline(always)]
 fn finish(thread: &mut Thread, start: &Start, exit: Exit, found: u64) -> Did
     requires { CanAnswer start.now found }
-    ensures did { result ≡ did_of start.now found }
+    ensures did { result ≡ answer_of start.now found }
     ensures actor { actor_of thread.new ≡ answered start.now exit found thread.old }
 {
     match *start {
@@ -158,7 +158,7 @@ pub fn act(
     requires known { number ≤ worker_limit }
     requires can { CanAct layout number (length memory.old.local) (length memory.old.thread) (word_in memory.old)
         (actor_of thread.old) (status_action functions.now layout number (actor_of thread.old) thread.old.status) }
-    ensures did { IfOk result (λ did. did ≡ did_by (word_in memory.old) (reverse thread.old.agenda.items)
+    ensures did { IfOk result (λ did. did ≡ answer_by (word_in memory.old) (reverse thread.old.agenda.items)
         (status_action functions.now layout number (actor_of thread.old) thread.old.status)) }
     ensures words { OnOk result (word_in memory.new ≡ memory_by layout number (word_in memory.old) (actor_of thread.old)
         (status_action functions.now layout number (actor_of thread.old) thread.old.status)) }

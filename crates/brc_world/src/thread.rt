@@ -4,7 +4,7 @@ ghost use Rattle.std.specs.Prelude.{◌≡◌, ◌<◌, ◌≤◌, true, is_some
 ghost use Rattle.std.specs.List.{list_any};
 ghost use Rattle.brc_model.specs.Limits.{total_limit};
 ghost use Rattle.brc_lang.specs.Limits.{variable_count};
-ghost use Rattle.brc_model.specs.Slots.{is_owned};
+ghost use Rattle.brc_model.specs.VarStates.{is_owned};
 ghost use Rattle.brc_model.specs.Threads.{row_of};
 ghost use Rattle.brc_model.specs.Actions.{owned_rows, first_named};
 ghost use Rattle.brc_world.specs.Modes.{mode_stopped};
@@ -12,7 +12,7 @@ ghost use Rattle.brc_effect.specs.Effects.{status_after, used_after, locked_afte
 
 use brc_effect::Change;
 use brc_lang::Variable;
-use brc_model::{Duty, Slot, Stage, Status};
+use brc_model::{Duty, VarState, Stage, Status};
 use std::fmt;
 
 /// The row that each variable names, or `None` for an empty variable.
@@ -181,19 +181,19 @@ pub fn first_named(variables: &Variables) -> usize
     Variable::COUNT
 }
 
-fn is_owned(slot: Slot) -> bool
-    ensures { result ≡ is_owned slot }
+fn is_owned(var: VarState) -> bool
+    ensures { result ≡ is_owned var }
 {
-    matches!(slot, Slot::Owned(_))
+    matches!(var, VarState::Owned(_))
 }
 
 /// Returns the variables without those whose slots own no reference.
-pub fn owned_rows(slots: &[Slot; Variable::COUNT], variables: &Variables) -> Variables
-    ensures { result ≡ owned_rows slots.now variables.now }
+pub fn owned_rows(vars: &[VarState; Variable::COUNT], variables: &Variables) -> Variables
+    ensures { result ≡ owned_rows vars.now variables.now }
 {
     let mut owned = *variables;
     for variable in 0..Variable::COUNT {
-        if !is_owned(slots[variable]) {
+        if !is_owned(vars[variable]) {
             owned[variable] = None;
         }
     }

@@ -20,7 +20,7 @@ use Rattle.brc_model.specs.Accounts.{HoldsAt}
 use Rattle.brc_model.specs.OpenWork.{exits}
 use Rattle.brc_model.proofs.Dispatch.Coded.{PlaceFits, idle_unlocked, is_departing, place_fits}
 use Rattle.brc_model.proofs.Dispatch.Lending.{lent_at}
-use Rattle.brc_model.proofs.Dispatch.Begins.{scene_of, idle_stays}
+use Rattle.brc_model.proofs.Dispatch.TakingUp.{scene_of, idle_stays}
 use Rattle.brc_model.proofs.Keeping.SilentMoves.{Stays}
 use Rattle.brc_model.proofs.Keeping.Sits.{Sits, AtRest}
 use Rattle.brc_model.proofs.Dispatch.TakenSits.{claim_sits}
@@ -35,7 +35,7 @@ use Rattle.brc_model.proofs.Dispatch.Decided.{stopping_decides}
 use Rattle.brc_model.proofs.Dispatch.TakingStops.{stop_taken}
 use Rattle.brc_model.proofs.Dispatch.Passing.{passes_on}
 use Rattle.brc_model.specs.Tables.{AreTrueWhereReached, Reaches}
-use Rattle.brc_model.specs.declared.slot.State.{State}
+use Rattle.brc_model.specs.declared.state.State.{State}
 pub use Rattle.brc_model.proofs.Dispatch.ActionsFit.{SilentFits, CallFits, DutyFits, ActionFits}
 use Rattle.brc_model.proofs.Dispatch.ActionsFit.{silent_fits, status_fits}
 
@@ -97,7 +97,7 @@ stop_at p n m t a (InCall context at variables) whole found rest is before fits 
     state_there p m.states a.function at s on.here (slice_get p.functions a.function) whole.states_true refl on.found
     (record { exits = fits.1.exits; reaches = fits.1.arrived }) in
     let lock = row_locked s.locked variables in
-    let calls = owned_rows s.slots variables ∷ map none_of context.outer in
+    let calls = owned_rows s.vars variables ∷ map none_of context.outer in
     subst (λ (o : Option State). ActionFits p whole.accounts n m t a (stop_in_call context variables o)) (sym known)
     (silent_fits p n m t a [] (stopping lock calls) whole found rest
     (stop_taken code (scene_of (counting m) t a.actor) context at variables s fits.1 fits.2 fits.3)

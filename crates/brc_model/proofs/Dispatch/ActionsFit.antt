@@ -15,7 +15,7 @@ use Rattle.brc_model.specs.declared.actor.Place.{Place}
 use Rattle.brc_model.specs.declared.actor.Place.TheVariants.{Idle, InCall, Inside, Stopping, Exiting}
 use Rattle.brc_model.specs.declared.actor.Actor.{Actor}
 use Rattle.brc_model.specs.Machine.{Machine, with_actor, locked_by, lent_by}
-use Rattle.brc_model.specs.declared.slot.Exit.{Exit}
+use Rattle.brc_model.specs.declared.state.Exit.{Exit}
 use Rattle.brc_model.specs.Actions.{StepActor, Action, Skip, Stuck, Silent, Calls, Does, agenda_action, status_action, dispatch}
 use Rattle.brc_model.specs.StepMachine.{StepMachine, counting}
 use Rattle.brc_model.proofs.Basics.Lists.{slice_get-set_same, set_found, none_some}
@@ -43,12 +43,12 @@ use Rattle.brc_model.proofs.Dispatch.AtOnce.{at_once, plain_locked, plain_lent}
 use Rattle.brc_model.proofs.Dispatch.Rooms.{awaits_birth}
 use Rattle.brc_model.proofs.Dispatch.Lending.{lent_at, FollowsLent, dispatch_lent, FindsFull}
 use Rattle.brc_model.proofs.Keeping.SilentSteps.{SilentSits}
-use Rattle.brc_model.proofs.Dispatch.Begins.{scene_of, holds_plain, Backs, ByOwn, ByList, Starts, Gives, Takes, Bears, Asks, Locks, Unlocks, Loads, Swaps, Follows, Nothing, Settles, Leaves, SilentTaken, IsTaken, Lends, Returns}
+use Rattle.brc_model.proofs.Dispatch.TakingUp.{scene_of, holds_plain, Backs, ByOwn, ByList, MayBegin, Gives, Takes, Bears, Asks, Locks, Unlocks, Loads, Swaps, MayFollow, Nothing, Settles, Exits, SilentTaken, IsTaken, Lends, Returns}
 use Rattle.brc_model.proofs.Keeping.SilentMoves.{bag_after}
 use Rattle.brc_model.proofs.Keeping.Sits.{sitting, AtRest}
 use Rattle.brc_model.specs.Counting.{with_account}
 use Rattle.brc_model.proofs.Keeping.Replaced.{with_account_itself}
-use Rattle.brc_model.proofs.Dispatch.Begun.{starts_settled, follows_plain}
+use Rattle.brc_model.proofs.Dispatch.TakenUp.{starts_settled, follows_plain}
 use Rattle.brc_model.proofs.Dispatch.TakenSits.{taken_sits, rests, dispatch_fits}
 use Rattle.brc_model.proofs.Dispatch.Counting.{its_found}
 use Rattle.brc_model.proofs.Stepping.FitsAfter.{found_by}
@@ -152,7 +152,7 @@ module _ {p : Accounts} {n : ℕ} {m : Machine} where
       (referenced_small row core (backed_referenced p n m t a row core (ByItem list cell has holds))) about few
 
   pub starts_small : (t : ℕ) (a : Actor) (d : Duty) (rest : List Duty) → CoreInvariant p n m → HasFewCells m
-      → slice_get m.actors t ≡ Some a → Starts (scene_of m t a) d rest → IsSmall (row_count m.layout) d
+      → slice_get m.actors t ≡ Some a → MayBegin (scene_of m t a) d rest → IsSmall (row_count m.layout) d
   starts_small t a d rest core few found (Gives row h behind some) =
       row_small (row_count m.layout) row d (referenced_small row core some) (λ y. refl) (omega arith)
   starts_small t a d rest core few found (Takes row h behind backs) =
@@ -174,11 +174,11 @@ module _ {p : Accounts} {n : ℕ} {m : Machine} where
       backs_small t row a d core backs (λ y. refl) (omega arith)
 
 follows_small : (k : ℕ) (layout : Layout) (t used : ℕ) (place : Place) (rest : List Duty)
-    → Follows layout t used place rest
+    → MayFollow layout t used place rest
     → AreSmall k rest
 follows_small k layout t used place rest (Nothing stays) = tt
 follows_small k layout t used place rest (Settles stays) = (settle_small k, tt)
-follows_small k layout t used place rest (Leaves leaves) = (settle_small k, (leave_small k 0 used, tt))
+follows_small k layout t used place rest (Exits leaves) = (settle_small k, (leave_small k 0 used, tt))
 
 -- A silent step leaves the thread what it has locked.
 place_held : (code : List Instr) (bag : List Reference) (t x : ℕ) (locked : Option ℕ) (place : Place)

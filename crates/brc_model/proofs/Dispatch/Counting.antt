@@ -5,8 +5,8 @@ use Rattle.brc_model.specs.declared.actor.Place.{Place}
 use Rattle.brc_model.specs.declared.duty.Duty.{Duty}
 use Rattle.brc_model.specs.Duties.{address_of}
 use Rattle.brc_model.specs.AbstractState.{Move}
-use Rattle.brc_model.specs.Machine.{with_actor, with_moves, done_by}
-use Rattle.brc_model.specs.declared.slot.Exit.{Exit}
+use Rattle.brc_model.specs.Machine.{with_actor, with_moves, machine_by_duty}
+use Rattle.brc_model.specs.declared.state.Exit.{Exit}
 use Rattle.brc_model.specs.Actions.{StepActor}
 use Rattle.brc_model.specs.StepMachine.{StepMachine, its_actor, counting, at_place, step_actor, silent_by, called_by, does_by}
 use Rattle.brc_model.proofs.Basics.Lists.{slice_get-image, map-set}
@@ -29,9 +29,9 @@ counting_called m t a exit place = counting_silent m t a [] (place exit)
 
 -- A duty's step is the counting machine's step.
 pub counting_done : (m : StepMachine) (t : ℕ) (a : StepActor) (exit : Exit) (d : Duty) (rest : List Duty)
-    (place : ℕ → Place) → done_by (counting m) t a.actor d rest ≡ counting (does_by m t a exit d rest place)
+    (place : ℕ → Place) → machine_by_duty (counting m) t a.actor d rest ≡ counting (does_by m t a exit d rest place)
 counting_done m t a exit d rest place =
-    let new = done_by (counting m) t a.actor d rest in
+    let new = machine_by_duty (counting m) t a.actor d rest in
     let found = m.memory (address_of m.layout t a.actor.head d) in
     let after = step_actor m.layout t a d rest (place found) found in
     λ i. record new { actors = sym (map-set its_actor m.actors t after) i }

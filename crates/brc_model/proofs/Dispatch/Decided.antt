@@ -4,9 +4,9 @@ use Rattle.std.proofs.Common.{ℕ, zero, suc, ◌<◌, cond, List, [], ◌∷◌
 use Rattle.std.specs.Prelude.{◌||◌, nat_lt, is_some, map, slice_set}
 use Rattle.std.specs.List.{list_any}
 use Rattle.std.proofs.lemmas.Bool.{ltb-true}
-use Rattle.brc_model.specs.declared.slot.Exit.{Exit}
-use Rattle.brc_model.specs.declared.slot.Exit.TheVariants.{Success, Fault}
-use Rattle.brc_model.specs.declared.slot.State.{State}
+use Rattle.brc_model.specs.declared.state.Exit.{Exit}
+use Rattle.brc_model.specs.declared.state.Exit.TheVariants.{Success, Fault}
+use Rattle.brc_model.specs.declared.state.State.{State}
 use Rattle.brc_model.specs.declared.actor.Place.{Place}
 use Rattle.brc_model.specs.declared.actor.Place.TheVariants.{Idle, InCall, Inside, Stopping, Exiting}
 use Rattle.brc_model.specs.declared.duty.Holding.TheVariants.{ByVariable}
@@ -48,7 +48,7 @@ stop_decides Q states (Idle left) skips stuck stops ends = ends
 stop_decides Q states (InCall context at variables) skips stuck stops ends =
     elim (states at) as (λ o. Q (stop_in_call context variables o)) [
       | None ↦ stuck
-      | Some s ↦ stops (row_locked s.locked variables) (owned_rows s.slots variables ∷ map none_of context.outer)
+      | Some s ↦ stops (row_locked s.locked variables) (owned_rows s.vars variables ∷ map none_of context.outer)
     ]
 stop_decides Q states (Inside context at variables stage) skips stuck stops ends = skips
 stop_decides Q states (Stopping lock calls) skips stuck stops ends = skips

@@ -10,7 +10,7 @@ use Rattle.brc_lang.specs.declared.kind.Kind.{Kind}
 use Rattle.brc_lang.specs.declared.kind.Kind.TheVariants as kinds
 use Rattle.brc_model.specs.Kinds.{kind_of_word}
 use Rattle.brc_lang.specs.declared.module.Module.{Module}
-use Rattle.brc_model.specs.declared.slot.State.{State}
+use Rattle.brc_model.specs.declared.state.State.{State}
 use Rattle.brc_model.specs.declared.actor.Place.{Place}
 use Rattle.brc_model.specs.declared.actor.Place.TheVariants.{Idle, InCall, Inside, Stopping, Exiting}
 use Rattle.brc_model.specs.declared.address.Address.{Address}
@@ -18,7 +18,7 @@ use Rattle.brc_model.specs.declared.address.Address.TheVariants.{KindOf}
 use Rattle.brc_model.specs.declared.duty.Duty.{Duty}
 use Rattle.brc_model.specs.declared.thread.Choice.{Choice}
 use Rattle.brc_model.specs.declared.thread.Choice.TheVariants.{Ok, Fault, Claim, Stop}
-use Rattle.brc_model.specs.Slots.{slot_of, is_empty, kind_of, names, entry, is_one_of, lockable, with_resource}
+use Rattle.brc_model.specs.VarStates.{var_of, is_empty, kind_of, names, entry, is_one_of, lockable, with_resource}
 use Rattle.brc_model.specs.Paths.{IsAcceptableCode}
 use Rattle.brc_model.specs.Threads.{code_of, row_of, entry_variables}
 use Rattle.brc_model.specs.KnownKinds.{IsTrueKind, HaveTrueKinds, KnowsKinds, kind_words}
@@ -41,7 +41,7 @@ use Rattle.brc_model.proofs.Dispatch.Holds.{Activation, call_of}
 record Meets (call : Activation) (memory : Address → ℕ) (locked : Option ℕ) (variables : List (Option ℕ)) (s : State)
     (i : Instr) : Type 0
   where
-    grounded : (v : ℕ) → IsGrounded call (slot_of s v) (row_of variables v)
+    grounded : (v : ℕ) → IsGrounded call (var_of s v) (row_of variables v)
     guards : LocksAgree s variables locked
     kinds : HaveTrueKinds (λ x. memory (KindOf x)) s variables
     met : AreMet i s
@@ -59,25 +59,25 @@ kind_fits asked kind word none (inr names) can = ap (λ (k : Kind). is_one_of k 
 -- The kind of the object that a variable names.
 named_fit : (call : Activation) (memory : Address → ℕ) (variables : List (Option ℕ)) (s : State) (v : ℕ)
     (asked : List Kind)
-    → is_one_of kinds.Any asked ≡ false → is_empty (slot_of s v) ≡ false
-    → is_one_of (kind_of (slot_of s v)) asked ≡ true
-    → IsGrounded call (slot_of s v) (row_of variables v) → HaveTrueKinds (λ x. memory (KindOf x)) s variables
+    → is_one_of kinds.Any asked ≡ false → is_empty (var_of s v) ≡ false
+    → is_one_of (kind_of (var_of s v)) asked ≡ true
+    → IsGrounded call (var_of s v) (row_of variables v) → HaveTrueKinds (λ x. memory (KindOf x)) s variables
     → is_one_of (kind_at memory (row_of variables v)) asked ≡ true
 named_fit call memory variables s v asked none some can grounded kinds_known =
-    let row = named_row call (slot_of s v) (row_of variables v) some grounded in
+    let row = named_row call (var_of s v) (row_of variables v) some grounded in
     ap (λ (o : Option ℕ). is_one_of (kind_at memory o) asked) row.1
-    ∙ kind_fits asked (kind_of (slot_of s v)) (memory (KindOf row.0)) none (kinds_known v row.0 row.1) can
+    ∙ kind_fits asked (kind_of (var_of s v)) (memory (KindOf row.0)) none (kinds_known v row.0 row.1) can
 
 -- The object of such a kind that the thread has locked.
 locked_fit : (call : Activation) (memory : Address → ℕ) (locked : Option ℕ) (variables : List (Option ℕ)) (s : State)
     (v : ℕ)
     (asked : List Kind) → is_one_of kinds.Any asked ≡ false
-    → is_empty (slot_of s v) ≡ false → is_one_of (kind_of (slot_of s v)) asked ≡ true
-    → names s.locked v ≡ true → ((v : ℕ) → IsGrounded call (slot_of s v) (row_of variables v))
+    → is_empty (var_of s v) ≡ false → is_one_of (kind_of (var_of s v)) asked ≡ true
+    → names s.locked v ≡ true → ((v : ℕ) → IsGrounded call (var_of s v) (row_of variables v))
     → LocksAgree s variables locked → HaveTrueKinds (λ x. memory (KindOf x)) s variables
     → (is_one_of (kind_at memory (row_of variables v)) asked && has_locked locked (row_of variables v)) ≡ true
 locked_fit call memory locked variables s v asked none some can this grounded guards kinds_known =
-    let row = named_row call (slot_of s v) (row_of variables v) some (grounded v) in
+    let row = named_row call (var_of s v) (row_of variables v) some (grounded v) in
     let has = guards_row s variables v row.0 s.locked locked this row.1 guards in
     ap (λ (b : Bool). b && has_locked locked (row_of variables v))
     (named_fit call memory variables s v asked none some can (grounded v) kinds_known)
@@ -88,17 +88,17 @@ instruction_fit : (call : Activation) (memory : Address → ℕ) (locked : Optio
     (s : State) (i : Instr)
     → Meets call memory locked variables s i → has_needs memory locked variables i ≡ true
 instruction_fit call memory locked variables s (Lock object) meets =
-    let some : is_empty (slot_of s object) ≡ false = first_false _ _ meets.met.not_empty in
-    let row = named_row call (slot_of s object) (row_of variables object) some (meets.grounded object) in
+    let some : is_empty (var_of s object) ≡ false = first_false _ _ meets.met.not_empty in
+    let row = named_row call (var_of s object) (row_of variables object) some (meets.grounded object) in
     let can = not-false _ (first_false _ _ meets.met.right_kind) in
-    let word = lockable_word (kind_of (slot_of s object)) (memory (KindOf row.0))
+    let word = lockable_word (kind_of (var_of s object)) (memory (KindOf row.0))
     (meets.kinds object row.0 row.1) can in
     let free = guards_none s variables s.locked locked (first_false _ _ meets.met.first_lock) meets.guards in
     ap (λ (o : Option ℕ). is_one_of (kind_at memory o) lockable && not (is_some locked)) row.1
     ∙ ap (λ (b : Bool). b && not (is_some locked)) word ∙ no_lock locked free
 instruction_fit call memory locked variables s (Unlock object) meets =
-    let some : is_empty (slot_of s object) ≡ false = first_false _ _ meets.met.not_empty in
-    let row = named_row call (slot_of s object) (row_of variables object) some (meets.grounded object) in
+    let some : is_empty (var_of s object) ≡ false = first_false _ _ meets.met.not_empty in
+    let row = named_row call (var_of s object) (row_of variables object) some (meets.grounded object) in
     let this = not-false _ (first_false _ _ meets.met.has_lock) in
     let has = guards_row s variables object row.0 s.locked locked this row.1 meets.guards in
     ap (λ (o : Option ℕ). has_locked o (row_of variables object)) has
@@ -117,7 +117,7 @@ instruction_fit call memory locked variables s (Set list index from otherwise) m
     (not-false _ (first_false _ _ meets.met.right_kind)) (not-false _ (first_false _ _ meets.met.has_lock))
     meets.grounded meets.guards meets.kinds
 instruction_fit call memory locked variables s (Put list index from otherwise) meets =
-    let row = named_row call (slot_of s from) (row_of variables from) (first_false _ _ meets.met.not_empty)
+    let row = named_row call (var_of s from) (row_of variables from) (first_false _ _ meets.met.not_empty)
     (meets.grounded from) in
     ap (λ (b : Bool). b && is_some (row_of variables from))
     (locked_fit call memory locked variables s list (kinds.List ∷ []) refl

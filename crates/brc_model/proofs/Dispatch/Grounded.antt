@@ -9,11 +9,11 @@ use Rattle.std.proofs.Math.ListN.{get_or-map}
 use Rattle.brc_lang.specs.declared.kind.Kind.{Kind}
 use Rattle.brc_lang.specs.declared.module.Instr.{Instr}
 use Rattle.brc_lang.specs.Grammar.{IsInstruction, LeadsForward}
-use Rattle.brc_model.specs.declared.slot.Slot.{Slot}
-use Rattle.brc_model.specs.declared.slot.Slot.TheVariants.{Empty, Owned, Caller, Locked}
-use Rattle.brc_model.specs.declared.slot.State.{State}
-use Rattle.brc_model.specs.declared.slot.Exit.{Exit}
-use Rattle.brc_model.specs.Slots.{slot_of, is_empty, is_owned, is_borrowed, with_kind, names, put, entry, without_item, without_items}
+use Rattle.brc_model.specs.declared.state.VarState.{VarState}
+use Rattle.brc_model.specs.declared.state.VarState.TheVariants.{Empty, Owned, Caller, Locked}
+use Rattle.brc_model.specs.declared.state.State.{State}
+use Rattle.brc_model.specs.declared.state.Exit.{Exit}
+use Rattle.brc_model.specs.VarStates.{var_of, is_empty, is_owned, is_borrowed, with_kind, names, put, entry, without_item, without_items}
 use Rattle.brc_model.specs.Paths.{At, path_end}
 use Rattle.brc_model.specs.declared.duty.Holding.{Holding}
 use Rattle.brc_model.specs.declared.duty.Holding.TheVariants.{ByVariable, AsCaller, InFlight}
@@ -24,9 +24,9 @@ use Rattle.brc_model.proofs.Basics.Lists.{get_or-replicate_default}
 use Rattle.brc_model.proofs.Dispatch.Holds.{Activation, call_of, IsOuter, IsActivation, outermost, of_variables}
 use Rattle.brc_model.specs.Layout.{root_row}
 
--- What a slot says of the row in its variable. What a variable borrows from its caller the thread holds outside the
+-- What a variable's state says of the row in its variable. What a variable borrows from its caller the thread holds outside the
 -- call. (Python/C API manual, Reference Count Details: the caller lends its arguments for the whole call.)
-abbrev pub IsGrounded : Activation → Slot → Option ℕ → Type 0
+abbrev pub IsGrounded : Activation → VarState → Option ℕ → Type 0
 IsGrounded call Empty row = Unit {0}
 IsGrounded call (Owned k) row = (r : ℕ) × (row ≡ Some r)
 IsGrounded call (Caller k) row =
@@ -38,21 +38,21 @@ pub record IsInside (call : Activation) (at : ℕ) (variables : List (Option ℕ
   pub is_call : IsActivation call
   pub exits : List Exit
   pub arrived : path_end call.code exits ≡ At at s
-  pub slots : length s.slots ≡ 16
+  pub vars : length s.vars ≡ 16
   pub rows : length variables ≡ 16
-  pub grounded : (v : ℕ) → IsGrounded call (slot_of s v) (row_of variables v)
+  pub grounded : (v : ℕ) → IsGrounded call (var_of s v) (row_of variables v)
 
--- Some path reaches the point in this state, and there are as many variables as slots.
+-- Some path reaches the point in this state, and there are as many variables as states.
 pub record IsReached (code : List Instr) (at : ℕ) (variables : List (Option ℕ)) (s : State) : Type 0 where
   pub exits : List Exit
   pub arrived : path_end code exits ≡ At at s
-  pub slots : length s.slots ≡ 16
+  pub vars : length s.vars ≡ 16
   pub rows : length variables ≡ 16
 
 pub reached : (call : Activation) (at : ℕ) (variables : List (Option ℕ)) (s : State) → IsInside call at variables s
     → IsReached call.code at variables s
 reached call at variables s inside =
-    record { exits = inside.exits; arrived = inside.arrived; slots = inside.slots; rows = inside.rows }
+    record { exits = inside.exits; arrived = inside.arrived; vars = inside.vars; rows = inside.rows }
 
 pub record AreInstructions (code : List Instr) : Type 0 where
   pub forward : LeadsForward code
@@ -60,11 +60,11 @@ pub record AreInstructions (code : List Instr) : Type 0 where
 
 -- ---- a variable changes
 
-pub slot_of-put_same : (s : State) (x : ℕ) (slot : Slot) → x < length s.slots → slot_of (put s x slot) x ≡ slot
-slot_of-put_same s x slot h = get_or-set_same s.slots x slot Empty h
+pub var_of-put_same : (s : State) (x : ℕ) (var : VarState) → x < length s.vars → var_of (put s x var) x ≡ var
+var_of-put_same s x var h = get_or-set_same s.vars x var Empty h
 
-pub slot_of-put_other : (s : State) (x v : ℕ) (slot : Slot) → v ≢ x → slot_of (put s x slot) v ≡ slot_of s v
-slot_of-put_other s x v slot ne = get_or-set_other s.slots x v slot Empty ne
+pub var_of-put_other : (s : State) (x v : ℕ) (var : VarState) → v ≢ x → var_of (put s x var) v ≡ var_of s v
+var_of-put_other s x v var ne = get_or-set_other s.vars x v var Empty ne
 
 pub row_of-set_same : (rows : List (Option ℕ)) (x : ℕ) (row : Option ℕ) → x < length rows
     → row_of (slice_set rows x row) x ≡ row
@@ -74,84 +74,84 @@ pub row_of-set_other : (rows : List (Option ℕ)) (x v : ℕ) (row : Option ℕ)
     → row_of (slice_set rows x row) v ≡ row_of rows v
 row_of-set_other rows x v row ne = get_or-set_other rows x v row None ne
 
-pub grounded-put : (call : Activation) (s : State) (rows : List (Option ℕ)) (x : ℕ) (slot : Slot) (row : Option ℕ) → x
-    < length s.slots
-    → x < length rows → IsGrounded call slot row
-    → ((v : ℕ) → IsGrounded call (slot_of s v) (row_of rows v)) → (v : ℕ)
-    → IsGrounded call (slot_of (put s x slot) v) (row_of (slice_set rows x row) v)
-grounded-put call s rows x slot row in_slots in_rows new old v =
+pub grounded-put : (call : Activation) (s : State) (rows : List (Option ℕ)) (x : ℕ) (var : VarState) (row : Option ℕ) → x
+    < length s.vars
+    → x < length rows → IsGrounded call var row
+    → ((v : ℕ) → IsGrounded call (var_of s v) (row_of rows v)) → (v : ℕ)
+    → IsGrounded call (var_of (put s x var) v) (row_of (slice_set rows x row) v)
+grounded-put call s rows x var row in_vars in_rows new old v =
     elim (eqb_tells v x) [
       | inl this ↦
-          let P : ℕ → Type 0 = λ w. IsGrounded call (slot_of (put s x slot) w) (row_of (slice_set rows x row) w) in
-          let there : IsGrounded call (slot_of (put s x slot) x) row =
-          subst (λ (w : Slot). IsGrounded call w row) (sym (slot_of-put_same s x slot in_slots)) new in
-          subst P (sym this.1) (subst (λ (w : Option ℕ). IsGrounded call (slot_of (put s x slot) x) w)
+          let P : ℕ → Type 0 = λ w. IsGrounded call (var_of (put s x var) w) (row_of (slice_set rows x row) w) in
+          let there : IsGrounded call (var_of (put s x var) x) row =
+          subst (λ (w : VarState). IsGrounded call w row) (sym (var_of-put_same s x var in_vars)) new in
+          subst P (sym this.1) (subst (λ (w : Option ℕ). IsGrounded call (var_of (put s x var) x) w)
           (sym (row_of-set_same rows x row in_rows)) there)
       | inr other ↦
-          let there : IsGrounded call (slot_of (put s x slot) v) (row_of rows v) =
-          subst (λ (w : Slot). IsGrounded call w (row_of rows v)) (sym (slot_of-put_other s x v slot other.1)) (old v)
+          let there : IsGrounded call (var_of (put s x var) v) (row_of rows v) =
+          subst (λ (w : VarState). IsGrounded call w (row_of rows v)) (sym (var_of-put_other s x v var other.1)) (old v)
           in
-          subst (λ (w : Option ℕ). IsGrounded call (slot_of (put s x slot) v) w)
+          subst (λ (w : Option ℕ). IsGrounded call (var_of (put s x var) v) w)
           (sym (row_of-set_other rows x v row other.1)) there
     ]
 
 -- ---- a variable's kind becomes known
 
-kind_grounded : (call : Activation) (slot : Slot) (k : Kind) (row : Option ℕ) → IsGrounded call slot row
-    → IsGrounded call (with_kind slot k) row
+kind_grounded : (call : Activation) (var : VarState) (k : Kind) (row : Option ℕ) → IsGrounded call var row
+    → IsGrounded call (with_kind var k) row
 kind_grounded call Empty k row grounded = tt
 kind_grounded call (Owned old) k row grounded = grounded
 kind_grounded call (Caller old) k row grounded = grounded
 kind_grounded call (Locked old) k row grounded = grounded
 
 pub grounded-with_kind : (call : Activation) (s : State) (rows : List (Option ℕ)) (x : ℕ) (k : Kind) → x
-    < length s.slots
-    → ((v : ℕ) → IsGrounded call (slot_of s v) (row_of rows v)) → (v : ℕ)
-    → IsGrounded call (slot_of (put s x (with_kind (slot_of s x) k)) v) (row_of rows v)
-grounded-with_kind call s rows x k in_slots old v =
-    let slot = with_kind (slot_of s x) k in
+    < length s.vars
+    → ((v : ℕ) → IsGrounded call (var_of s v) (row_of rows v)) → (v : ℕ)
+    → IsGrounded call (var_of (put s x (with_kind (var_of s x) k)) v) (row_of rows v)
+grounded-with_kind call s rows x k in_vars old v =
+    let var = with_kind (var_of s x) k in
     elim (eqb_tells v x) [
       | inl this ↦
-          let P : ℕ → Type 0 = λ w. IsGrounded call (slot_of (put s x slot) w) (row_of rows w) in
-          subst P (sym this.1) (subst (λ (w : Slot). IsGrounded call w (row_of rows x))
-          (sym (slot_of-put_same s x slot in_slots)) (kind_grounded call (slot_of s x) k (row_of rows x) (old x)))
+          let P : ℕ → Type 0 = λ w. IsGrounded call (var_of (put s x var) w) (row_of rows w) in
+          subst P (sym this.1) (subst (λ (w : VarState). IsGrounded call w (row_of rows x))
+          (sym (var_of-put_same s x var in_vars)) (kind_grounded call (var_of s x) k (row_of rows x) (old x)))
       | inr other ↦
-          subst (λ (w : Slot). IsGrounded call w (row_of rows v)) (sym (slot_of-put_other s x v slot other.1)) (old v)
+          subst (λ (w : VarState). IsGrounded call w (row_of rows v)) (sym (var_of-put_other s x v var other.1)) (old v)
     ]
 
-kind_owned : (slot : Slot) (k : Kind) → is_owned (with_kind slot k) ≡ is_owned slot
+kind_owned : (var : VarState) (k : Kind) → is_owned (with_kind var k) ≡ is_owned var
 kind_owned Empty k = refl
 kind_owned _ k = cc
 
-slot-with_kind : (s : State) (x v : ℕ) (k : Kind) → x < length s.slots
-    → is_owned (slot_of (put s x (with_kind (slot_of s x) k)) v) ≡ is_owned (slot_of s v)
-slot-with_kind s x v k in_slots =
-    let slot = with_kind (slot_of s x) k in
+var-with_kind : (s : State) (x v : ℕ) (k : Kind) → x < length s.vars
+    → is_owned (var_of (put s x (with_kind (var_of s x) k)) v) ≡ is_owned (var_of s v)
+var-with_kind s x v k in_vars =
+    let var = with_kind (var_of s x) k in
     elim (eqb_tells v x) [
       | inl this ↦
-          subst (λ (w : ℕ). is_owned (slot_of (put s x slot) w) ≡ is_owned (slot_of s w)) (sym this.1)
-          (ap is_owned (slot_of-put_same s x slot in_slots) ∙ kind_owned (slot_of s x) k)
-      | inr other ↦ ap is_owned (slot_of-put_other s x v slot other.1)
+          subst (λ (w : ℕ). is_owned (var_of (put s x var) w) ≡ is_owned (var_of s w)) (sym this.1)
+          (ap is_owned (var_of-put_same s x var in_vars) ∙ kind_owned (var_of s x) k)
+      | inr other ↦ ap is_owned (var_of-put_other s x v var other.1)
     ]
 
 -- Another kind for a variable doesn't change what the thread is to hold.
 pub says-with_kind : (call : Activation) (s : State) (variables : List (Option ℕ)) (x : ℕ) (k : Kind) (h : Holding)
-    (object : ℕ) → x < length s.slots
+    (object : ℕ) → x < length s.vars
     → of_variables call s variables h object
-    ≡ of_variables call (put s x (with_kind (slot_of s x) k)) variables h object
-says-with_kind call s variables x k AsCaller object in_slots = refl
-says-with_kind call s variables x k InFlight object in_slots = refl
-says-with_kind call s variables x k (ByVariable depth v) object in_slots =
+    ≡ of_variables call (put s x (with_kind (var_of s x) k)) variables h object
+says-with_kind call s variables x k AsCaller object in_vars = refl
+says-with_kind call s variables x k InFlight object in_vars = refl
+says-with_kind call s variables x k (ByVariable depth v) object in_vars =
     ap (λ (b : Bool). cond (depth == call.depth) (b && names (row_of variables v) object)
-    (call.outside (ByVariable depth v) object)) (sym (slot-with_kind s x v k in_slots))
+    (call.outside (ByVariable depth v) object)) (sym (var-with_kind s x v k in_vars))
 
 -- ---- the variables that borrow from the locked list become empty
 
-pub slot_of-without : (s : State) (v : ℕ) → slot_of (without_items s) v ≡ without_item (slot_of s v)
-slot_of-without s v = get_or-map without_item s.slots v Empty
+pub var_of-without : (s : State) (v : ℕ) → var_of (without_items s) v ≡ without_item (var_of s v)
+var_of-without s v = get_or-map without_item s.vars v Empty
 
-without_grounded : (call : Activation) (slot : Slot) (row : Option ℕ) → IsGrounded call slot row
-    → IsGrounded call (without_item slot) row
+without_grounded : (call : Activation) (var : VarState) (row : Option ℕ) → IsGrounded call var row
+    → IsGrounded call (without_item var) row
 without_grounded call Empty row grounded = tt
 without_grounded call (Owned k) row grounded = grounded
 without_grounded call (Caller k) row grounded = grounded
@@ -159,13 +159,13 @@ without_grounded call (Locked k) row grounded = tt
 
 -- What is true of the variables is true of them once those that borrowed from the locked list are empty.
 pub grounded-without : (call : Activation) (s : State) (rows : List (Option ℕ))
-    → ((v : ℕ) → IsGrounded call (slot_of s v) (row_of rows v))
-    → (v : ℕ) → IsGrounded call (slot_of (without_items s) v) (row_of rows v)
+    → ((v : ℕ) → IsGrounded call (var_of s v) (row_of rows v))
+    → (v : ℕ) → IsGrounded call (var_of (without_items s) v) (row_of rows v)
 grounded-without call s rows old v =
-    subst (λ (slot : Slot). IsGrounded call slot (row_of rows v)) (sym (slot_of-without s v))
-    (without_grounded call (slot_of s v) (row_of rows v) (old v))
+    subst (λ (var : VarState). IsGrounded call var (row_of rows v)) (sym (var_of-without s v))
+    (without_grounded call (var_of s v) (row_of rows v) (old v))
 
-without_owned : (slot : Slot) → is_owned (without_item slot) ≡ is_owned slot
+without_owned : (var : VarState) → is_owned (without_item var) ≡ is_owned var
 without_owned Empty = refl
 without_owned _ = cc
 
@@ -177,35 +177,35 @@ says-without call s variables InFlight object = refl
 says-without call s variables (ByVariable depth v) object =
     ap (λ (b : Bool). cond (depth == call.depth) (b && names (row_of variables v) object)
     (call.outside (ByVariable depth v) object))
-    (sym (without_owned (slot_of s v)) ∙ ap is_owned (sym (slot_of-without s v)))
+    (sym (without_owned (var_of s v)) ∙ ap is_owned (sym (var_of-without s v)))
 
--- ---- what a slot says
+-- ---- what a variable's state says
 
 -- A variable that owns a reference is one of the sixteen.
-pub owned_low : (s : State) (v : ℕ) → length s.slots ≡ 16 → is_owned (slot_of s v) ≡ true → v < 16
-owned_low s v slots owned =
+pub owned_low : (s : State) (v : ℕ) → length s.vars ≡ 16 → is_owned (var_of s v) ≡ true → v < 16
+owned_low s v vars owned =
     elim (cases_lt v 16) [
       | inl lt ↦ lt
       | inr past ↦
-          let empty : slot_of s v ≡ Empty = get_or_past s.slots v Empty (omega (arith, slots, past)) in
+          let empty : var_of s v ≡ Empty = get_or_past s.vars v Empty (omega (arith, vars, past)) in
           let no : false ≡ true = sym (ap is_owned empty) ∙ owned in
           absurd cc
     ]
 
 -- A variable that isn't empty names a row.
-pub named_row : (call : Activation) (slot : Slot) (row : Option ℕ) → is_empty slot ≡ false → IsGrounded call slot row
+pub named_row : (call : Activation) (var : VarState) (row : Option ℕ) → is_empty var ≡ false → IsGrounded call var row
     → (x : ℕ) × (row ≡ Some x)
 named_row call Empty row some grounded = absurd cc
 named_row call (Owned k) row some grounded = grounded
 named_row call (Caller k) row some grounded = (grounded.0, grounded.1)
 named_row call (Locked k) row some grounded = grounded
 
--- A slot that is neither empty nor borrowed owns its reference.
-pub owned_slot : (slot : Slot) → is_empty slot ≡ false → is_borrowed slot ≡ false → is_owned slot ≡ true
-owned_slot Empty e b = absurd cc
-owned_slot _ e b = cc
+-- A variable's state that is neither empty nor borrowed owns its reference.
+pub owned_var : (var : VarState) → is_empty var ≡ false → is_borrowed var ≡ false → is_owned var ≡ true
+owned_var Empty e b = absurd cc
+owned_var _ e b = cc
 
-pub owned_row : (call : Activation) (slot : Slot) (row : Option ℕ) → is_owned slot ≡ true → IsGrounded call slot row
+pub owned_row : (call : Activation) (var : VarState) (row : Option ℕ) → is_owned var ≡ true → IsGrounded call var row
     → (r : ℕ) × (row ≡ Some r)
 owned_row call Empty row owned grounded = absurd cc
 owned_row call (Owned k) row owned grounded = grounded
@@ -215,10 +215,10 @@ owned_row call (Locked k) row owned grounded = absurd cc
 -- ---- the beginning of a call
 
 entry_grounded : (code : List Instr) (context : Context) (v : ℕ)
-    → IsGrounded (call_of code context) (slot_of entry v) (row_of entry_variables v)
+    → IsGrounded (call_of code context) (var_of entry v) (row_of entry_variables v)
 entry_grounded code context zero = (root_row, refl, AsCaller, tt, refl)
 entry_grounded code context (suc v) =
-    subst (λ (slot : Slot). IsGrounded (call_of code context) slot (row_of entry_variables (suc v)))
+    subst (λ (var : VarState). IsGrounded (call_of code context) var (row_of entry_variables (suc v)))
     (sym (get_or-replicate_default 15 v Empty)) tt
 
 pub entry_in_call : (code : List Instr) (left : ℕ)
@@ -227,7 +227,7 @@ entry_in_call code left = record {
   is_call = outermost code (first_context left) refl;
   exits = [];
   arrived = refl;
-  slots = refl;
+  vars = refl;
   rows = refl;
   grounded = entry_grounded code (first_context left);
 }

@@ -5,10 +5,10 @@ use Rattle.std.specs.Prelude.{◌==◌, ◌&&◌, slice_set, is_some}
 use Rattle.std.proofs.lemmas.Bool.{false≢true, eq-eqb, eqb-true, ne_eqb}
 use Rattle.std.proofs.lemmas.Bool.Decides.{eqb_tells}
 use Rattle.brc_lang.specs.declared.kind.Kind.{Kind}
-use Rattle.brc_model.specs.declared.slot.Slot.{Slot}
-use Rattle.brc_model.specs.declared.slot.Slot.TheVariants.{Empty, Owned, Caller, Locked}
-use Rattle.brc_model.specs.declared.slot.State.{State}
-use Rattle.brc_model.specs.Slots.{slot_of, is_owned, with_kind, names, put, without_item, without_items}
+use Rattle.brc_model.specs.declared.state.VarState.{VarState}
+use Rattle.brc_model.specs.declared.state.VarState.TheVariants.{Empty, Owned, Caller, Locked}
+use Rattle.brc_model.specs.declared.state.State.{State}
+use Rattle.brc_model.specs.VarStates.{var_of, is_owned, with_kind, names, put, without_item, without_items}
 use Rattle.brc_model.specs.declared.duty.Holding.{Holding}
 use Rattle.brc_model.specs.declared.duty.Holding.TheVariants.{ByVariable, AsCaller, InFlight}
 use Rattle.brc_model.specs.declared.duty.Duty.{Duty}
@@ -18,10 +18,10 @@ use Rattle.brc_model.specs.References.{held, one_if, reference_of}
 use Rattle.brc_model.specs.Accounts.{extra}
 use Rattle.brc_model.proofs.Basics.Lists.{some_is}
 use Rattle.brc_model.proofs.Dispatch.Holds.{Activation, IsOuter, HoldsVariables, variable_has}
-use Rattle.brc_model.proofs.Dispatch.Grounded.{IsGrounded, slot_of-put_same, slot_of-put_other, row_of-set_other, slot_of-without}
+use Rattle.brc_model.proofs.Dispatch.Grounded.{IsGrounded, var_of-put_same, var_of-put_other, row_of-set_other, var_of-without}
 
--- The slot's reference doesn't hang on the locked list.
-abbrev pub is_kept : Slot → Bool
+-- The variable's reference doesn't hang on the locked list.
+abbrev pub is_kept : VarState → Bool
 is_kept (Owned k) = true
 is_kept (Caller k) = true
 is_kept _ = false
@@ -30,7 +30,7 @@ is_kept _ = false
 abbrev pub Guards : State → List (Option ℕ) → Option ℕ → Option ℕ → Type 0
 Guards s variables None locked = locked ≡ None
 Guards s variables (Some c) locked =
-    (x : ℕ) × (locked ≡ Some x) × (row_of variables c ≡ Some x) × (is_kept (slot_of s c) ≡ true)
+    (x : ℕ) × (locked ≡ Some x) × (row_of variables c ≡ Some x) × (is_kept (var_of s c) ≡ true)
 
 -- The state says of the lock what is true of the thread.
 abbrev pub LocksAgree : State → List (Option ℕ) → Option ℕ → Type 0
@@ -42,42 +42,42 @@ names_apart : (c x : ℕ) → names (Some c) x ≡ false → c ≢ x
 names_apart c x free e = false≢true (sym free ∙ eq-eqb x c (sym e))
 
 -- A variable that isn't the locked one changes.
-pub guards-put : (s : State) (variables : List (Option ℕ)) (x : ℕ) (slot : Slot) (row : Option ℕ)
+pub guards-put : (s : State) (variables : List (Option ℕ)) (x : ℕ) (var : VarState) (row : Option ℕ)
     (o locked : Option ℕ) → names o x ≡ false → Guards s variables o locked
-    → Guards (put s x slot) (slice_set variables x row) o locked
-guards-put s variables x slot row None locked free guards = guards
-guards-put s variables x slot row (Some c) locked free guards =
+    → Guards (put s x var) (slice_set variables x row) o locked
+guards-put s variables x var row None locked free guards = guards
+guards-put s variables x var row (Some c) locked free guards =
     let apart = names_apart c x free in (
       guards.0,
       guards.1,
       row_of-set_other variables x c row apart ∙ guards.2,
-      ap is_kept (slot_of-put_other s x c slot apart) ∙ guards.3,
+      ap is_kept (var_of-put_other s x c var apart) ∙ guards.3,
     )
 
-kind_kept : (slot : Slot) (k : Kind) → is_kept (with_kind slot k) ≡ is_kept slot
+kind_kept : (var : VarState) (k : Kind) → is_kept (with_kind var k) ≡ is_kept var
 kind_kept Empty k = refl
 kind_kept _ k = cc
 
-kept-with_kind : (s : State) (x c : ℕ) (k : Kind) → x < length s.slots
-    → is_kept (slot_of (put s x (with_kind (slot_of s x) k)) c) ≡ is_kept (slot_of s c)
-kept-with_kind s x c k in_slots =
-    let slot = with_kind (slot_of s x) k in
+kept-with_kind : (s : State) (x c : ℕ) (k : Kind) → x < length s.vars
+    → is_kept (var_of (put s x (with_kind (var_of s x) k)) c) ≡ is_kept (var_of s c)
+kept-with_kind s x c k in_vars =
+    let var = with_kind (var_of s x) k in
     elim (eqb_tells c x) [
       | inl this ↦
-          subst (λ (w : ℕ). is_kept (slot_of (put s x slot) w) ≡ is_kept (slot_of s w)) (sym this.1)
-          (ap is_kept (slot_of-put_same s x slot in_slots) ∙ kind_kept (slot_of s x) k)
-      | inr other ↦ ap is_kept (slot_of-put_other s x c slot other.1)
+          subst (λ (w : ℕ). is_kept (var_of (put s x var) w) ≡ is_kept (var_of s w)) (sym this.1)
+          (ap is_kept (var_of-put_same s x var in_vars) ∙ kind_kept (var_of s x) k)
+      | inr other ↦ ap is_kept (var_of-put_other s x c var other.1)
     ]
 
 -- A variable's kind becomes known.
 pub guards-with_kind : (s : State) (variables : List (Option ℕ)) (x : ℕ) (k : Kind) (o locked : Option ℕ)
-    → x < length s.slots → Guards s variables o locked
-    → Guards (put s x (with_kind (slot_of s x) k)) variables o locked
-guards-with_kind s variables x k None locked in_slots guards = guards
-guards-with_kind s variables x k (Some c) locked in_slots guards =
-    (guards.0, guards.1, guards.2, kept-with_kind s x c k in_slots ∙ guards.3)
+    → x < length s.vars → Guards s variables o locked
+    → Guards (put s x (with_kind (var_of s x) k)) variables o locked
+guards-with_kind s variables x k None locked in_vars guards = guards
+guards-with_kind s variables x k (Some c) locked in_vars guards =
+    (guards.0, guards.1, guards.2, kept-with_kind s x c k in_vars ∙ guards.3)
 
-without_kept : (slot : Slot) → is_kept slot ≡ true → is_kept (without_item slot) ≡ true
+without_kept : (var : VarState) → is_kept var ≡ true → is_kept (without_item var) ≡ true
 without_kept Empty kept = absurd cc
 without_kept _ kept = cc
 
@@ -86,7 +86,7 @@ pub guards-without : (s : State) (variables : List (Option ℕ)) (o locked : Opt
     → Guards (without_items s) variables o locked
 guards-without s variables None locked guards = guards
 guards-without s variables (Some c) locked guards =
-    (guards.0, guards.1, guards.2, ap is_kept (slot_of-without s c) ∙ without_kept (slot_of s c) guards.3)
+    (guards.0, guards.1, guards.2, ap is_kept (var_of-without s c) ∙ without_kept (var_of s c) guards.3)
 
 -- If the state says that nothing is locked, the thread has locked nothing.
 pub guards_none : (s : State) (variables : List (Option ℕ)) (o locked : Option ℕ) → is_some o ≡ false
@@ -119,8 +119,8 @@ pub record HeldLocked (bag : List Reference) (t depth x : ℕ) (o : Option ℕ) 
   pub held_so : 0 < held (reference_of t by x) bag
 
 kept_held : (bag : List Reference) (t : ℕ) (call : Activation) (s : State) (variables : List (Option ℕ)) (c x : ℕ)
-    (slot : Slot) → slot_of s c ≡ slot → is_kept slot ≡ true → row_of variables c ≡ Some x
-    → IsGrounded call slot (row_of variables c)
+    (var : VarState) → var_of s c ≡ var → is_kept var ≡ true → row_of variables c ≡ Some x
+    → IsGrounded call var (row_of variables c)
     → HoldsVariables bag t call s variables → HeldLocked bag t call.depth x (Some c)
 kept_held bag t call s variables c x Empty is kept named grounded holds = absurd cc
 kept_held bag t call s variables c x (Owned k) is kept named grounded holds =
@@ -144,13 +144,13 @@ kept_held bag t call s variables c x (Locked k) is kept named grounded holds = a
 pub guards_held : (bag : List Reference) (t : ℕ) (call : Activation) (s : State) (variables : List (Option ℕ))
     (o locked : Option ℕ) (x : ℕ)
     → Guards s variables o locked → locked ≡ Some x
-    → ((v : ℕ) → IsGrounded call (slot_of s v) (row_of variables v))
+    → ((v : ℕ) → IsGrounded call (var_of s v) (row_of variables v))
     → HoldsVariables bag t call s variables → HeldLocked bag t call.depth x o
 guards_held bag t call s variables None locked x guards is grounded holds =
     let wrong : None ≡ Some x = sym guards ∙ is in absurd cc
 guards_held bag t call s variables (Some c) locked x guards is grounded holds =
     let same : Some guards.0 ≡ Some x = sym guards.1 ∙ is in
-    kept_held bag t call s variables c x (slot_of s c) refl guards.3 (guards.2 ∙ same) (grounded c) holds
+    kept_held bag t call s variables c x (var_of s c) refl guards.3 (guards.2 ∙ same) (grounded c) holds
 
 -- A variable of a call isn't how its thread holds what it holds outside the call.
 outer_beside : (depth from : ℕ) (by : Holding) → IsOuter depth by → same_holding (ByVariable depth from) by ≡ false

@@ -6,9 +6,9 @@ use Rattle.std.specs.List.{list_any}
 use Rattle.std.proofs.lemmas.Bool.{eq-eqb, ne_eqb}
 use Rattle.std.proofs.lemmas.Bool.Decides.{eqb_tells}
 use Rattle.brc_lang.specs.declared.module.Instr.{Instr}
-use Rattle.brc_model.specs.declared.slot.Slot.TheVariants.{Empty}
-use Rattle.brc_model.specs.declared.slot.State.{State}
-use Rattle.brc_model.specs.Slots.{slot_of, is_owned, names, entry}
+use Rattle.brc_model.specs.declared.state.VarState.TheVariants.{Empty}
+use Rattle.brc_model.specs.declared.state.State.{State}
+use Rattle.brc_model.specs.VarStates.{var_of, is_owned, names, entry}
 use Rattle.brc_model.specs.declared.actor.Context.{Context}
 use Rattle.brc_model.specs.declared.duty.Holding.{Holding}
 use Rattle.brc_model.specs.declared.duty.Holding.TheVariants.{ByVariable, AsCaller, InFlight}
@@ -65,7 +65,7 @@ outermost code context none =
 -- The references of a thread in a call: what its owning variables name, and what the thread holds outside the call.
 abbrev pub of_variables : Activation → State → List (Option ℕ) → Holding → ℕ → Bool
 of_variables call s variables (ByVariable depth v) object =
-    if depth == call.depth then is_owned (slot_of s v) && names (row_of variables v) object
+    if depth == call.depth then is_owned (var_of s v) && names (row_of variables v) object
     else call.outside (ByVariable depth v) object
 of_variables call s variables AsCaller object = call.outside AsCaller object
 of_variables call s variables InFlight object = false
@@ -94,9 +94,9 @@ inside_none call s variables InFlight object = refl
 -- At its own depth a call holds what its owning variables name.
 pub own_depth : (call : Activation) (s : State) (variables : List (Option ℕ)) (v object : ℕ)
     → of_variables call s variables (ByVariable call.depth v) object
-    ≡ (is_owned (slot_of s v) && names (row_of variables v) object)
+    ≡ (is_owned (var_of s v) && names (row_of variables v) object)
 own_depth call s variables v object =
-    ap (λ (b : Bool). cond b (is_owned (slot_of s v) && names (row_of variables v) object)
+    ap (λ (b : Bool). cond b (is_owned (var_of s v) && names (row_of variables v) object)
     (call.outside (ByVariable call.depth v) object)) (eq-eqb call.depth call.depth refl)
 
 -- At another depth the thread holds what it holds outside the call.
@@ -104,7 +104,7 @@ pub other_depth : (call : Activation) (s : State) (variables : List (Option ℕ)
     → (depth == call.depth) ≡ false
     → of_variables call s variables (ByVariable depth v) object ≡ call.outside (ByVariable depth v) object
 other_depth call s variables depth v object apart =
-    ap (λ (b : Bool). cond b (is_owned (slot_of s v) && names (row_of variables v) object)
+    ap (λ (b : Bool). cond b (is_owned (var_of s v) && names (row_of variables v) object)
     (call.outside (ByVariable depth v) object)) apart
 
 -- What holds by the call's own variables, and by those of all other depths, holds by any variable.
@@ -129,7 +129,7 @@ outer_holds call s variables InFlight object outer = absurd outer
 pub record HoldsVariables (bag : List Reference) (t : ℕ) (call : Activation) (s : State) (rows : List (Option ℕ))
     : Type 0 where
   pub by_variable : (v object : ℕ) → held (reference_of t (ByVariable call.depth v) object) bag
-      ≡ one_if (is_owned (slot_of s v) && names (row_of rows v) object)
+      ≡ one_if (is_owned (var_of s v) && names (row_of rows v) object)
   pub outside : (by : Holding) (object : ℕ) → IsOuter call.depth by
       → held (reference_of t by object) bag ≡ one_if (call.outside by object)
 
@@ -160,27 +160,27 @@ holds_inside bag t call flight s rows holds = record {
 }
 
 pub variable_has : (bag : List Reference) (t : ℕ) (call : Activation) (s : State) (rows : List (Option ℕ))
-    (from row : ℕ) → is_owned (slot_of s from) ≡ true → row_of rows from ≡ Some row
+    (from row : ℕ) → is_owned (var_of s from) ≡ true → row_of rows from ≡ Some row
     → HoldsVariables bag t call s rows → held (reference_of t (ByVariable call.depth from) row) bag ≡ 1
 variable_has bag t call s rows from row owned is holds =
     holds.by_variable from row ∙ ap (λ (b : Bool). one_if (b && names (row_of rows from) row)) owned
     ∙ ap (λ (o : Option ℕ). one_if (names o row)) is ∙ ap one_if (eq-eqb row row refl)
 
 pub owned_has : (bag : List Reference) (t : ℕ) (call : Activation) (s : State) (rows : List (Option ℕ))
-    (from row : ℕ) → is_owned (slot_of s from) ≡ true → row_of rows from ≡ Some row
+    (from row : ℕ) → is_owned (var_of s from) ≡ true → row_of rows from ≡ Some row
     → Holds bag t (of_variables call s rows) → held (reference_of t (ByVariable call.depth from) row) bag ≡ 1
 owned_has bag t call s rows from row owned is holds =
     variable_has bag t call s rows from row owned is (holds_variables bag t call s rows holds)
 
 -- ---- the beginning and the end of a call
 
-entry_owns_none : (v : ℕ) → is_owned (slot_of entry v) ≡ false
+entry_owns_none : (v : ℕ) → is_owned (var_of entry v) ≡ false
 entry_owns_none zero = refl
 entry_owns_none (suc v) = ap is_owned (get_or-replicate_default 15 v Empty)
 
--- If no slot owns a reference, the thread holds what it holds outside the call.
+-- If no variable owns a reference, the thread holds what it holds outside the call.
 pub owning_none : (call : Activation) (s : State) (rows : List (Option ℕ))
-    → ((v : ℕ) → is_owned (slot_of s v) ≡ false) → ((v object : ℕ) → call.outside (ByVariable call.depth v) object
+    → ((v : ℕ) → is_owned (var_of s v) ≡ false) → ((v object : ℕ) → call.outside (ByVariable call.depth v) object
     ≡ false)
     → ((object : ℕ) → call.outside InFlight object ≡ false)
     → (h : Holding) (object : ℕ) → of_variables call s rows h object ≡ call.outside h object
@@ -205,16 +205,16 @@ holds-entered bag t code context holds =
           ∙ ap one_if (sym (owning_none call entry entry_variables entry_owns_none (λ v o. refl) (λ o. refl) h object));
     }
 
--- If no slot owns a reference, the thread holds the root alone, as after a call.
+-- If no variable owns a reference, the thread holds the root alone, as after a call.
 pub ended_says : (code : List Instr) (context : Context) (s : State) (variables : List (Option ℕ)) (k : Holding)
-    (object : ℕ) → list_any is_owned s.slots ≡ false
+    (object : ℕ) → list_any is_owned s.vars ≡ false
     → of_variables (call_of code context) s variables k object ≡ the_root k object
 ended_says code context s variables k object none =
-    owning_none (call_of code context) s variables (λ v. none_at is_owned s.slots v Empty none refl) (λ v o. refl)
+    owning_none (call_of code context) s variables (λ v. none_at is_owned s.vars v Empty none refl) (λ v o. refl)
     (λ o. refl) k object
 
 pub holds-ended : (bag : List Reference) (t : ℕ) (code : List Instr) (context : Context) (s : State)
-    (rows : List (Option ℕ)) → list_any is_owned s.slots ≡ false
+    (rows : List (Option ℕ)) → list_any is_owned s.vars ≡ false
     → Holds bag t (of_variables (call_of code context) s rows) → Holds bag t the_root
 holds-ended bag t code context s rows none holds = record {
   each = λ h object. holds.each h object ∙ ap one_if (ended_says code context s rows h object none);

@@ -1,4 +1,4 @@
--- What slots and variables say of items: a variable that borrows from the locked list names an item of it.
+-- What the states and the rows of variables say of items: a variable that borrows from the locked list names an item of it.
 use Rattle.std.proofs.Common.{◌≡◌, ℕ, zero, suc, ◌<◌, true, false, List, inl, inr, length, Option, None, Some, sym, refl, ap, ◌∙◌, subst, arith}
 use Rattle.std.specs.Prelude.{slice_get, slice_set}
 use Rattle.std.proofs.lemmas.Bool.{false≢true}
@@ -12,15 +12,15 @@ use Rattle.brc_model.specs.declared.actor.Stage.{Stage}
 use Rattle.brc_model.specs.declared.actor.Stage.TheVariants.{InRange, Found, Retained}
 use Rattle.brc_model.specs.declared.address.Address.{Address}
 use Rattle.brc_model.specs.declared.address.Address.TheVariants.{KindOf, Cell}
-use Rattle.brc_model.specs.declared.slot.Slot.{Slot}
-use Rattle.brc_model.specs.declared.slot.Slot.TheVariants.{Empty}
-use Rattle.brc_model.specs.declared.slot.State.{State}
-use Rattle.brc_model.specs.Slots.{slot_of, with_kind, put, without_item, without_items, entry}
+use Rattle.brc_model.specs.declared.state.VarState.{VarState}
+use Rattle.brc_model.specs.declared.state.VarState.TheVariants.{Empty}
+use Rattle.brc_model.specs.declared.state.State.{State}
+use Rattle.brc_model.specs.VarStates.{var_of, with_kind, put, without_item, without_items, entry}
 use Rattle.brc_model.specs.Threads.{row_of, entry_variables}
 use Rattle.brc_model.specs.Duties.{cells_of}
 use Rattle.brc_model.specs.Items.{IsItem, borrows_item, HaveItems, HasCell, StageKnows, KnowsItems}
 use Rattle.brc_model.proofs.Basics.Lists.{none_some, get_or-replicate_default}
-use Rattle.brc_model.proofs.Dispatch.Grounded.{slot_of-put_same, slot_of-put_other, slot_of-without, row_of-set_same, row_of-set_other}
+use Rattle.brc_model.proofs.Dispatch.Grounded.{var_of-put_same, var_of-put_other, var_of-without, row_of-set_same, row_of-set_other}
 use Rattle.brc_model.proofs.Frame.Kinds.{StoredStay}
 
 -- ---- what a step leaves
@@ -79,67 +79,67 @@ module _ (memory new : Address → ℕ) (locked : Option ℕ) (stays : ItemsStay
 
 -- ---- a variable changes
 
--- What the new slot borrows has to be an item; the other variables are as they were.
-pub items_put : (memory : Address → ℕ) (locked : Option ℕ) (s : State) (rows : List (Option ℕ)) (x : ℕ) (slot : Slot)
-    (row : Option ℕ) → x < length s.slots → x < length rows
-    → ((y : ℕ) → borrows_item slot ≡ true → row ≡ Some y → IsItem memory locked y) → HaveItems memory locked s rows
-    → HaveItems memory locked (put s x slot) (slice_set rows x row)
-items_put memory locked s rows x slot row in_slots in_rows new old v y borrows is =
+-- What the new state borrows has to be an item; the other variables are as they were.
+pub items_put : (memory : Address → ℕ) (locked : Option ℕ) (s : State) (rows : List (Option ℕ)) (x : ℕ) (var : VarState)
+    (row : Option ℕ) → x < length s.vars → x < length rows
+    → ((y : ℕ) → borrows_item var ≡ true → row ≡ Some y → IsItem memory locked y) → HaveItems memory locked s rows
+    → HaveItems memory locked (put s x var) (slice_set rows x row)
+items_put memory locked s rows x var row in_vars in_rows new old v y borrows is =
     elim (eqb_tells v x) [
       | inl this ↦
-          let slot_is : slot_of (put s x slot) v ≡ slot =
-          ap (slot_of (put s x slot)) this.1 ∙ slot_of-put_same s x slot in_slots in
+          let var_is : var_of (put s x var) v ≡ var =
+          ap (var_of (put s x var)) this.1 ∙ var_of-put_same s x var in_vars in
           let row_is : row_of (slice_set rows x row) v ≡ row =
           ap (row_of (slice_set rows x row)) this.1 ∙ row_of-set_same rows x row in_rows in
-          new y (sym (ap borrows_item slot_is) ∙ borrows) (sym row_is ∙ is)
+          new y (sym (ap borrows_item var_is) ∙ borrows) (sym row_is ∙ is)
       | inr other ↦
-          old v y (sym (ap borrows_item (slot_of-put_other s x v slot other.1)) ∙ borrows)
+          old v y (sym (ap borrows_item (var_of-put_other s x v var other.1)) ∙ borrows)
           (sym (row_of-set_other rows x v row other.1) ∙ is)
     ]
 
--- A slot that doesn't borrow from the list needs no item.
-pub needs_none : (memory : Address → ℕ) (locked : Option ℕ) (slot : Slot) (row : Option ℕ)
-    → borrows_item slot ≡ false
-    → (y : ℕ) → borrows_item slot ≡ true → row ≡ Some y → IsItem memory locked y
-needs_none memory locked slot row free y borrows is = absurd (false≢true (sym free ∙ borrows))
+-- A variable's state that doesn't borrow from the list needs no item.
+pub needs_none : (memory : Address → ℕ) (locked : Option ℕ) (var : VarState) (row : Option ℕ)
+    → borrows_item var ≡ false
+    → (y : ℕ) → borrows_item var ≡ true → row ≡ Some y → IsItem memory locked y
+needs_none memory locked var row free y borrows is = absurd (false≢true (sym free ∙ borrows))
 
-kind_borrows : (slot : Slot) (k : Kind) → borrows_item (with_kind slot k) ≡ borrows_item slot
+kind_borrows : (var : VarState) (k : Kind) → borrows_item (with_kind var k) ≡ borrows_item var
 kind_borrows Empty k = refl
 kind_borrows _ k = cc
 
 -- A variable's kind becomes known.
 pub items_with_kind : (memory : Address → ℕ) (locked : Option ℕ) (s : State) (rows : List (Option ℕ)) (x : ℕ)
-    (k : Kind) → x < length s.slots → HaveItems memory locked s rows
-    → HaveItems memory locked (put s x (with_kind (slot_of s x) k)) rows
-items_with_kind memory locked s rows x k in_slots old v y borrows is =
-    let slot = with_kind (slot_of s x) k in
+    (k : Kind) → x < length s.vars → HaveItems memory locked s rows
+    → HaveItems memory locked (put s x (with_kind (var_of s x) k)) rows
+items_with_kind memory locked s rows x k in_vars old v y borrows is =
+    let var = with_kind (var_of s x) k in
     elim (eqb_tells v x) [
       | inl this ↦
-          let same : borrows_item (slot_of (put s x slot) v) ≡ borrows_item (slot_of s v) =
-          ap (λ (w : ℕ). borrows_item (slot_of (put s x slot) w)) this.1
-          ∙ ap borrows_item (slot_of-put_same s x slot in_slots) ∙ kind_borrows (slot_of s x) k
-          ∙ ap (λ (w : ℕ). borrows_item (slot_of s w)) (sym this.1) in
+          let same : borrows_item (var_of (put s x var) v) ≡ borrows_item (var_of s v) =
+          ap (λ (w : ℕ). borrows_item (var_of (put s x var) w)) this.1
+          ∙ ap borrows_item (var_of-put_same s x var in_vars) ∙ kind_borrows (var_of s x) k
+          ∙ ap (λ (w : ℕ). borrows_item (var_of s w)) (sym this.1) in
           old v y (sym same ∙ borrows) is
-      | inr other ↦ old v y (sym (ap borrows_item (slot_of-put_other s x v slot other.1)) ∙ borrows) is
+      | inr other ↦ old v y (sym (ap borrows_item (var_of-put_other s x v var other.1)) ∙ borrows) is
     ]
 
 -- ---- where nothing is borrowed
 
 -- No variable borrows from a list.
 abbrev pub BorrowsNone : State → Type 0
-BorrowsNone s = (v : ℕ) → borrows_item (slot_of s v) ≡ false
+BorrowsNone s = (v : ℕ) → borrows_item (var_of s v) ≡ false
 
 pub none_borrowed : (memory : Address → ℕ) (locked : Option ℕ) (s : State) (rows : List (Option ℕ)) → BorrowsNone s
     → HaveItems memory locked s rows
 none_borrowed memory locked s rows none v x borrows is = absurd (false≢true (sym (none v) ∙ borrows))
 
-without_item_free : (slot : Slot) → borrows_item (without_item slot) ≡ false
+without_item_free : (var : VarState) → borrows_item (without_item var) ≡ false
 without_item_free Empty = refl
 without_item_free _ = cc
 
 -- Once the list is unlocked or changed, no variable borrows from it.
 pub without_items_free : (s : State) → BorrowsNone (without_items s)
-without_items_free s v = ap borrows_item (slot_of-without s v) ∙ without_item_free (slot_of s v)
+without_items_free s v = ap borrows_item (var_of-without s v) ∙ without_item_free (var_of s v)
 
 -- A thread that has locked nothing borrows nothing, so it has the items of whatever it locks.
 pub unlocked_items : (memory new : Address → ℕ) (before locked : Option ℕ) (s : State) (rows : List (Option ℕ))

@@ -15,19 +15,19 @@ use Rattle.brc_model.specs.declared.actor.Stage.TheVariants.{InRange, OutOfRange
 use Rattle.brc_model.specs.declared.address.Address.{Address}
 use Rattle.brc_model.specs.declared.address.Address.TheVariants.{KindOf, Cell}
 use Rattle.brc_model.specs.declared.duty.Duty.TheVariants.{KindLoad, CellLoad}
-use Rattle.brc_model.specs.declared.slot.Slot.{Slot}
-use Rattle.brc_model.specs.declared.slot.Slot.TheVariants.{Empty, Owned, Locked}
-use Rattle.brc_model.specs.declared.slot.State.{State}
-use Rattle.brc_model.specs.declared.slot.Exit.{Exit}
-use Rattle.brc_model.specs.declared.slot.Exit.TheVariants.{Success, Fault as FaultExit}
+use Rattle.brc_model.specs.declared.state.VarState.{VarState}
+use Rattle.brc_model.specs.declared.state.VarState.TheVariants.{Empty, Owned, Locked}
+use Rattle.brc_model.specs.declared.state.State.{State}
+use Rattle.brc_model.specs.declared.state.Exit.{Exit}
+use Rattle.brc_model.specs.declared.state.Exit.TheVariants.{Success, Fault as FaultExit}
 use Rattle.brc_model.specs.Kinds.{kind_of_word, same_kind}
-use Rattle.brc_model.specs.Slots.{slot_of, kind_of, names, put, after, target}
+use Rattle.brc_model.specs.VarStates.{var_of, kind_of, names, put, after, target}
 use Rattle.brc_model.specs.Threads.{row_of}
 use Rattle.brc_model.specs.Layout.{none_row, row_at}
 use Rattle.brc_model.specs.declared.layout.Layout.{Layout}
 use Rattle.brc_model.specs.Duties.{cells_of}
 use Rattle.brc_model.specs.Machine.{has_room}
-use Rattle.brc_model.specs.Actions.{Action, Does, with_row, by_range, by_item, number_word, list_word, birth_action, dispatch_instruction, dispatch_inside, turns_at, turned, grant_action, granted_birth, return_action, lend_action, file_word, sock_word}
+use Rattle.brc_model.specs.Actions.{Action, Does, with_row, by_range, by_item, number_word, list_word, birth_action, dispatch_instruction, dispatch_inside, turns_at, with_turn, grant_action, granted_birth, return_action, lend_action, file_word, sock_word}
 use Rattle.brc_model.specs.Items.{IsItem, borrows_item, HaveItems, HasCell, StageKnows, KnowsItems}
 use Rattle.brc_model.proofs.Basics.Lists.{some_is, either, first_false}
 use Rattle.brc_model.proofs.Dispatch.Guards.{LocksAgree, guards_none, guards_row}
@@ -59,23 +59,23 @@ module _ (code : List Instr) (memory : Address → ℕ) (locked : Option ℕ) (c
       (here.leads exit next to) arrived) items
 
   -- The exit changes one variable.
-  goes_on_put : (new : Address → ℕ) (next : ℕ) (i : Instr) (exit : Exit) (x : ℕ) (slot : Slot) (row : Option ℕ)
-      → ItemsStay memory new locked → (here : Here i) → target i exit at ≡ Some next → after i exit s ≡ put s x slot
-      → x < 16 → ((y : ℕ) → borrows_item slot ≡ true → row ≡ Some y → IsItem new locked y)
+  goes_on_put : (new : Address → ℕ) (next : ℕ) (i : Instr) (exit : Exit) (x : ℕ) (var : VarState) (row : Option ℕ)
+      → ItemsStay memory new locked → (here : Here i) → target i exit at ≡ Some next → after i exit s ≡ put s x var
+      → x < 16 → ((y : ℕ) → borrows_item var ≡ true → row ≡ Some y → IsItem new locked y)
       → KnowsItems code new locked (InCall context next (slice_set variables x row))
-  goes_on_put new next i exit x slot row stays here to is low item =
+  goes_on_put new next i exit x var row stays here to is low item =
       goes_on new locked next (slice_set variables x row) i exit here to
       (subst (λ (state : State). HaveItems new locked state (slice_set variables x row)) (sym is)
-      (items_put new locked s variables x slot row (omega (arith, low, here.inside.slots))
+      (items_put new locked s variables x var row (omega (arith, low, here.inside.vars))
       (omega (arith, low, here.inside.rows)) item (items_stay memory new locked stays s variables here.items)))
 
   -- The exit leaves in the variable what borrows nothing.
-  goes_on_free : (new : Address → ℕ) (next : ℕ) (i : Instr) (exit : Exit) (x : ℕ) (slot : Slot) (row : Option ℕ)
-      → ItemsStay memory new locked → (here : Here i) → target i exit at ≡ Some next → after i exit s ≡ put s x slot
-      → x < 16 → borrows_item slot ≡ false → KnowsItems code new locked
+  goes_on_free : (new : Address → ℕ) (next : ℕ) (i : Instr) (exit : Exit) (x : ℕ) (var : VarState) (row : Option ℕ)
+      → ItemsStay memory new locked → (here : Here i) → target i exit at ≡ Some next → after i exit s ≡ put s x var
+      → x < 16 → borrows_item var ≡ false → KnowsItems code new locked
       (InCall context next (slice_set variables x row))
-  goes_on_free new next i exit x slot row stays here to is low free =
-      goes_on_put new next i exit x slot row stays here to is low (needs_none new locked slot row free)
+  goes_on_free new next i exit x var row stays here to is low free =
+      goes_on_put new next i exit x var row stays here to is low (needs_none new locked var row free)
 
   -- The exit changes no variable.
   goes_on_same : (new : Address → ℕ) (next : ℕ) (i : Instr) (exit : Exit) → ItemsStay memory new locked
@@ -122,15 +122,15 @@ module _ (code : List Instr) (memory : Address → ℕ) (locked : Option ℕ) (c
 
   -- ---- each instruction
 
-  birth_uses : (layout : Layout) (t used : ℕ) (i : Instr) (to word otherwise : ℕ) (slot : Slot) → (here : Here i)
-      → to < 16 → borrows_item slot ≡ false
-      → target i Success at ≡ Some (at + 1) → after i Success s ≡ put s to slot
+  birth_uses : (layout : Layout) (t used : ℕ) (i : Instr) (to word otherwise : ℕ) (var : VarState) → (here : Here i)
+      → to < 16 → borrows_item var ≡ false
+      → target i Success at ≡ Some (at + 1) → after i Success s ≡ put s to var
       → target i FaultExit at ≡ Some otherwise → after i FaultExit s ≡ put s to Empty
       → LeavesItems code memory locked (birth_action layout t used context at variables to word otherwise)
-  birth_uses layout t used i to word otherwise slot here low free next owned else_at empty =
+  birth_uses layout t used i to word otherwise var here low free next owned else_at empty =
       either (LeavesItems code memory locked) (has_room layout t used) _ _
       (λ room new found done.
-      goes_on_free new (at + 1) i Success to slot (Some (row_at layout t used)) (done.keeps refl) here next owned low
+      goes_on_free new (at + 1) i Success to var (Some (row_at layout t used)) (done.keeps refl) here next owned low
       free)
       (goes_on_free memory otherwise i FaultExit to Empty None (all_stay memory locked) here else_at empty low refl)
 
@@ -148,11 +148,11 @@ module _ (code : List Instr) (memory : Address → ℕ) (locked : Option ℕ) (c
       (goes_inside memory Granted i (all_stay memory locked) here knows) refused) refused
 
   -- The birth that it awaits leaves in the variable what borrows nothing.
-  granted_uses : (layout : Layout) (t used : ℕ) (i : Instr) (to word : ℕ) (slot : Slot) → (here : Here i) → to < 16
-      → borrows_item slot ≡ false → target i Success at ≡ Some (at + 1) → after i Success s ≡ put s to slot
+  granted_uses : (layout : Layout) (t used : ℕ) (i : Instr) (to word : ℕ) (var : VarState) → (here : Here i) → to < 16
+      → borrows_item var ≡ false → target i Success at ≡ Some (at + 1) → after i Success s ≡ put s to var
       → LeavesItems code memory locked (granted_birth layout t used context at variables to word)
-  granted_uses layout t used i to word slot here low free next owned = λ new found done.
-      goes_on_free new (at + 1) i Success to slot (Some (row_at layout t used)) (done.keeps refl) here next owned low
+  granted_uses layout t used i to word var here low free next owned = λ new found done.
+      goes_on_free new (at + 1) i Success to var (Some (row_at layout t used)) (done.keeps refl) here next owned low
       free
 
   -- A thread lends a resource inside an instruction.
@@ -215,20 +215,20 @@ module _ (code : List Instr) (memory : Address → ℕ) (locked : Option ℕ) (c
       (all_stay memory locked) here refl refl here.operands refl
   instruction_uses layout t used before (Newref to from) knew here =
       row_uses (row_of variables from) _ (λ row is new found done.
-      goes_on_free new (at + 1) (Newref to from) Success to (Owned (kind_of (slot_of s from))) (Some row)
+      goes_on_free new (at + 1) (Newref to from) Success to (Owned (kind_of (var_of s from))) (Some row)
       (done.keeps refl) here refl refl here.operands.0 refl)
   instruction_uses layout t used before (MoveReference to from) knew here =
       row_uses (row_of variables from) _ (λ row is.
-      let slot = Owned (kind_of (slot_of s from)) in
+      let var = Owned (kind_of (var_of s from)) in
       let emptied : HaveItems memory locked (put s from Empty) (slice_set variables from None) =
-      items_put memory locked s variables from Empty None (omega (arith, here.operands.1, here.inside.slots))
+      items_put memory locked s variables from Empty None (omega (arith, here.operands.1, here.inside.vars))
       (omega (arith, here.operands.1, here.inside.rows)) (needs_none memory locked Empty None refl) here.items in
       goes_on memory locked (at + 1) (slice_set (slice_set variables from None) to (Some row)) (MoveReference to from)
       Success here refl
-      (items_put memory locked (put s from Empty) (slice_set variables from None) to slot (Some row)
-      (omega (arith, here.operands.0, here.inside.slots, length-set s.slots from Empty))
+      (items_put memory locked (put s from Empty) (slice_set variables from None) to var (Some row)
+      (omega (arith, here.operands.0, here.inside.vars, length-set s.vars from Empty))
       (omega (arith, here.operands.0, here.inside.rows, length-set variables from None))
-      (needs_none memory locked slot (Some row) refl) emptied))
+      (needs_none memory locked var (Some row) refl) emptied))
   instruction_uses layout t used before (Drop from) knew here =
       row_uses (row_of variables from) _ (λ row is new found done.
       goes_on_free new (at + 1) (Drop from) Success from Empty None (done.keeps refl) here refl refl here.operands refl)
@@ -277,14 +277,14 @@ module _ (code : List Instr) (memory : Address → ℕ) (locked : Option ℕ) (c
       (same_kind (kind_of_word found) kind) _ _
       (λ same.
       goes_on new locked (at + 1) variables (As from kind otherwise) Success here refl
-      (items_with_kind new locked s variables from kind (omega (arith, here.operands.0, here.inside.slots))
+      (items_with_kind new locked s variables from kind (omega (arith, here.operands.0, here.inside.vars))
       (items_stay memory new locked stays s variables here.items)))
       (goes_on_same new otherwise (As from kind otherwise) FaultExit stays here refl refl))
   instruction_uses layout t used before (Goto to) knew here =
       goes_on_same memory to (Goto to) Success (all_stay memory locked) here refl refl
   instruction_uses layout t used before (Again to times) knew here =
       either (KnowsItems code memory locked) (nat_lt (turns_at context at) times)
-      (InCall (turned context at) to variables) (InCall context (at + 1) variables)
+      (InCall (with_turn context at) to variables) (InCall context (at + 1) variables)
       (λ more. goes_on_same memory to (Again to times) FaultExit (all_stay memory locked) here refl refl)
       (goes_on_same memory (at + 1) (Again to times) Success (all_stay memory locked) here refl refl)
   instruction_uses layout t used before (Ret from) knew here =

@@ -1,4 +1,4 @@
--- What slots and variables say of kinds: a slot says nothing false of the object that its variable names.
+-- What the states and the rows of variables say of kinds: a variable's state says nothing false of the object that its variable names.
 use Rattle.std.proofs.Common.{◌≡◌, ℕ, zero, suc, ◌<◌, true, List, inl, inr, length, Option, Some, refl, sym, ap, ◌∙◌, subst}
 use Rattle.std.specs.Prelude.{slice_set}
 use Rattle.std.proofs.lemmas.Bool.Decides.{eqb_tells}
@@ -8,16 +8,16 @@ use Rattle.brc_lang.specs.declared.kind.Kind.TheVariants as kinds
 use Rattle.brc_lang.specs.declared.module.Instr.{Instr}
 use Rattle.brc_model.specs.declared.actor.Place.{Place}
 use Rattle.brc_model.specs.declared.actor.Place.TheVariants.{Idle, InCall, Inside, Stopping, Exiting}
-use Rattle.brc_model.specs.declared.slot.Slot.{Slot}
-use Rattle.brc_model.specs.declared.slot.Slot.TheVariants.{Empty, Owned, Caller, Locked}
-use Rattle.brc_model.specs.declared.slot.State.{State}
+use Rattle.brc_model.specs.declared.state.VarState.{VarState}
+use Rattle.brc_model.specs.declared.state.VarState.TheVariants.{Empty, Owned, Caller, Locked}
+use Rattle.brc_model.specs.declared.state.State.{State}
 use Rattle.brc_model.specs.Kinds.{kind_number, kind_numbered, kind_of_word, same_kind}
-use Rattle.brc_model.specs.Slots.{slot_of, kind_of, with_kind, put, without_item, without_items, entry}
+use Rattle.brc_model.specs.VarStates.{var_of, kind_of, with_kind, put, without_item, without_items, entry}
 use Rattle.brc_model.specs.Threads.{row_of, entry_variables}
 use Rattle.brc_model.specs.Layout.{none_row, root_row}
 use Rattle.brc_model.specs.KnownKinds.{IsTrueKind, HasTrueKind, HaveTrueKinds, KnowsKinds, AreNamed}
 use Rattle.brc_model.proofs.Basics.Lists.{some_is, get_or-replicate_default}
-use Rattle.brc_model.proofs.Dispatch.Grounded.{slot_of-put_same, slot_of-put_other, slot_of-without, row_of-set_same, row_of-set_other}
+use Rattle.brc_model.proofs.Dispatch.Grounded.{var_of-put_same, var_of-put_other, var_of-without, row_of-set_same, row_of-set_other}
 use Rattle.brc_model.proofs.Frame.Kinds.{StoredStay}
 
 -- ---- kinds of variables
@@ -34,7 +34,7 @@ true_kind_stays words new stays kind x (inr names) = elim (stays x) [
 true_kinds_stay : (words new : ℕ → ℕ) → StoredStay words new → (s : State) (rows : List (Option ℕ))
     → HaveTrueKinds words s rows → HaveTrueKinds new s rows
 true_kinds_stay words new stays s rows known v x is =
-    true_kind_stays words new stays (kind_of (slot_of s v)) x (known v x is)
+    true_kind_stays words new stays (kind_of (var_of s v)) x (known v x is)
 
 pub knows_still : (code : List Instr) (words new : ℕ → ℕ) → StoredStay words new → (place : Place)
     → KnowsKinds code words place → KnowsKinds code new place
@@ -46,27 +46,27 @@ knows_still code words new stays (Inside context at variables stage) knows =
 knows_still code words new stays (Stopping lock calls) knows = tt
 knows_still code words new stays Exiting knows = tt
 
-pub true_put : (words : ℕ → ℕ) (s : State) (rows : List (Option ℕ)) (x : ℕ) (slot : Slot) (row : Option ℕ)
-    → x < length s.slots
-    → x < length rows → HasTrueKind words slot row → HaveTrueKinds words s rows
-    → HaveTrueKinds words (put s x slot) (slice_set rows x row)
-true_put words s rows x slot row in_slots in_rows new old v =
+pub true_put : (words : ℕ → ℕ) (s : State) (rows : List (Option ℕ)) (x : ℕ) (var : VarState) (row : Option ℕ)
+    → x < length s.vars
+    → x < length rows → HasTrueKind words var row → HaveTrueKinds words s rows
+    → HaveTrueKinds words (put s x var) (slice_set rows x row)
+true_put words s rows x var row in_vars in_rows new old v =
     elim (eqb_tells v x) [
       | inl this ↦
-          let P : ℕ → Type 0 = λ w. HasTrueKind words (slot_of (put s x slot) w) (row_of (slice_set rows x row) w) in
-          let there : HasTrueKind words (slot_of (put s x slot) x) row =
-          subst (λ (w : Slot). HasTrueKind words w row) (sym (slot_of-put_same s x slot in_slots)) new in
-          subst P (sym this.1) (subst (λ (w : Option ℕ). HasTrueKind words (slot_of (put s x slot) x) w)
+          let P : ℕ → Type 0 = λ w. HasTrueKind words (var_of (put s x var) w) (row_of (slice_set rows x row) w) in
+          let there : HasTrueKind words (var_of (put s x var) x) row =
+          subst (λ (w : VarState). HasTrueKind words w row) (sym (var_of-put_same s x var in_vars)) new in
+          subst P (sym this.1) (subst (λ (w : Option ℕ). HasTrueKind words (var_of (put s x var) x) w)
           (sym (row_of-set_same rows x row in_rows)) there)
       | inr other ↦
-          let there : HasTrueKind words (slot_of (put s x slot) v) (row_of rows v) =
-          subst (λ (w : Slot). HasTrueKind words w (row_of rows v)) (sym (slot_of-put_other s x v slot other.1))
+          let there : HasTrueKind words (var_of (put s x var) v) (row_of rows v) =
+          subst (λ (w : VarState). HasTrueKind words w (row_of rows v)) (sym (var_of-put_other s x v var other.1))
           (old v) in
-          subst (λ (w : Option ℕ). HasTrueKind words (slot_of (put s x slot) v) w)
+          subst (λ (w : Option ℕ). HasTrueKind words (var_of (put s x var) v) w)
           (sym (row_of-set_other rows x v row other.1)) there
     ]
 
--- an empty slot says nothing
+-- an empty variable says nothing
 pub empty_true : (words : ℕ → ℕ) (row : Option ℕ) → HasTrueKind words Empty row
 empty_true words row x is = inl refl
 
@@ -79,34 +79,34 @@ same_kind_is one other same =
     sym (numbered_kind one) ∙ ap kind_numbered (eqb-true (kind_number one) (kind_number other) same)
     ∙ numbered_kind other
 
-slot_with_kind : (words : ℕ → ℕ) (slot : Slot) (kind : Kind) (row : Option ℕ)
-    → ((x : ℕ) → row ≡ Some x → IsTrueKind kind (words x)) → HasTrueKind words (with_kind slot kind) row
-slot_with_kind words Empty kind row names x is = inl refl
-slot_with_kind words (Owned k) kind row names x is = names x is
-slot_with_kind words (Caller k) kind row names x is = names x is
-slot_with_kind words (Locked k) kind row names x is = names x is
+var_with_kind : (words : ℕ → ℕ) (var : VarState) (kind : Kind) (row : Option ℕ)
+    → ((x : ℕ) → row ≡ Some x → IsTrueKind kind (words x)) → HasTrueKind words (with_kind var kind) row
+var_with_kind words Empty kind row names x is = inl refl
+var_with_kind words (Owned k) kind row names x is = names x is
+var_with_kind words (Caller k) kind row names x is = names x is
+var_with_kind words (Locked k) kind row names x is = names x is
 
--- A variable's slot may take the kind that its object's kind word names.
-pub true_with_kind : (words : ℕ → ℕ) (s : State) (rows : List (Option ℕ)) (x : ℕ) (kind : Kind) → x < length s.slots
+-- A variable's state may take the kind that its object's kind word names.
+pub true_with_kind : (words : ℕ → ℕ) (s : State) (rows : List (Option ℕ)) (x : ℕ) (kind : Kind) → x < length s.vars
     → ((y : ℕ) → row_of rows x ≡ Some y → IsTrueKind kind (words y)) → HaveTrueKinds words s rows
-    → HaveTrueKinds words (put s x (with_kind (slot_of s x) kind)) rows
-true_with_kind words s rows x kind in_slots names old v =
-    let slot = with_kind (slot_of s x) kind in
+    → HaveTrueKinds words (put s x (with_kind (var_of s x) kind)) rows
+true_with_kind words s rows x kind in_vars names old v =
+    let var = with_kind (var_of s x) kind in
     elim (eqb_tells v x) [
       | inl this ↦
-          let there : HasTrueKind words (slot_of (put s x slot) x) (row_of rows x) =
-          subst (λ (w : Slot). HasTrueKind words w (row_of rows x)) (sym (slot_of-put_same s x slot in_slots))
-          (slot_with_kind words (slot_of s x) kind (row_of rows x) names) in
-          subst (λ (w : ℕ). HasTrueKind words (slot_of (put s x slot) w) (row_of rows w)) (sym this.1) there
+          let there : HasTrueKind words (var_of (put s x var) x) (row_of rows x) =
+          subst (λ (w : VarState). HasTrueKind words w (row_of rows x)) (sym (var_of-put_same s x var in_vars))
+          (var_with_kind words (var_of s x) kind (row_of rows x) names) in
+          subst (λ (w : ℕ). HasTrueKind words (var_of (put s x var) w) (row_of rows w)) (sym this.1) there
       | inr other ↦
-          subst (λ (w : Slot). HasTrueKind words w (row_of rows v)) (sym (slot_of-put_other s x v slot other.1)) (old v)
+          subst (λ (w : VarState). HasTrueKind words w (row_of rows v)) (sym (var_of-put_other s x v var other.1)) (old v)
     ]
 
 -- ---- once nothing is borrowed from the locked list any more
 
 -- A variable that borrowed from the locked list is empty then, so it says nothing.
-without_item_true : (words : ℕ → ℕ) (slot : Slot) (row : Option ℕ) → HasTrueKind words slot row
-    → HasTrueKind words (without_item slot) row
+without_item_true : (words : ℕ → ℕ) (var : VarState) (row : Option ℕ) → HasTrueKind words var row
+    → HasTrueKind words (without_item var) row
 without_item_true words Empty row says = says
 without_item_true words (Owned k) row says = says
 without_item_true words (Caller k) row says = says
@@ -115,8 +115,8 @@ without_item_true words (Locked k) row says = empty_true words row
 pub true_without_items : (words : ℕ → ℕ) (s : State) (rows : List (Option ℕ)) → HaveTrueKinds words s rows
     → HaveTrueKinds words (without_items s) rows
 true_without_items words s rows known v =
-    subst (λ (slot : Slot). HasTrueKind words slot (row_of rows v)) (sym (slot_of-without s v))
-    (without_item_true words (slot_of s v) (row_of rows v) (known v))
+    subst (λ (var : VarState). HasTrueKind words var (row_of rows v)) (sym (var_of-without s v))
+    (without_item_true words (var_of s v) (row_of rows v) (known v))
 
 -- ---- the kind words of none and of the root
 
@@ -136,5 +136,5 @@ pub entry_true : (words : ℕ → ℕ) → AreNamed words → HaveTrueKinds word
 entry_true words named zero = λ x is.
     inr (ap (λ (y : ℕ). kind_of_word (words y)) (sym (some_is root_row x is)) ∙ named.root)
 entry_true words named (suc v) =
-    subst (λ (slot : Slot). HasTrueKind words slot (row_of entry_variables (suc v)))
+    subst (λ (var : VarState). HasTrueKind words var (row_of entry_variables (suc v)))
     (sym (get_or-replicate_default 15 v Empty)) (empty_true words (row_of entry_variables (suc v)))

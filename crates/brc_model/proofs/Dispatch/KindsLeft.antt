@@ -15,19 +15,19 @@ use Rattle.brc_model.specs.declared.actor.Stage.{Stage}
 use Rattle.brc_model.specs.declared.actor.Stage.TheVariants.{InRange, OutOfRange, Found, Retained, Loaded, Lent, Called, Granted}
 use Rattle.brc_model.specs.declared.duty.Duty.{Duty}
 use Rattle.brc_model.specs.declared.duty.Duty.TheVariants.{KindLoad, BirthKind, CellLoad}
-use Rattle.brc_model.specs.declared.slot.Slot.{Slot}
-use Rattle.brc_model.specs.declared.slot.Slot.TheVariants.{Empty, Owned, Locked}
-use Rattle.brc_model.specs.declared.slot.State.{State}
-use Rattle.brc_model.specs.declared.slot.Exit.{Exit}
-use Rattle.brc_model.specs.declared.slot.Exit.TheVariants.{Success, Fault as FaultExit}
+use Rattle.brc_model.specs.declared.state.VarState.{VarState}
+use Rattle.brc_model.specs.declared.state.VarState.TheVariants.{Empty, Owned, Locked}
+use Rattle.brc_model.specs.declared.state.State.{State}
+use Rattle.brc_model.specs.declared.state.Exit.{Exit}
+use Rattle.brc_model.specs.declared.state.Exit.TheVariants.{Success, Fault as FaultExit}
 use Rattle.brc_model.specs.Kinds.{kind_numbered, kind_of_word, same_kind}
-use Rattle.brc_model.specs.Slots.{slot_of, kind_of, put, after, target}
+use Rattle.brc_model.specs.VarStates.{var_of, kind_of, put, after, target}
 use Rattle.brc_model.specs.Paths.{At, path_end, IsAcceptableCode}
 use Rattle.brc_model.specs.Threads.{row_of}
 use Rattle.brc_model.specs.Layout.{none_row, row_at}
 use Rattle.brc_model.specs.declared.layout.Layout.{Layout}
 use Rattle.brc_model.specs.Machine.{has_room}
-use Rattle.brc_model.specs.Actions.{Action, Skip, Stuck, Silent, Calls, Does, with_row, by_range, by_item, number_word, list_word, birth_action, dispatch_instruction, dispatch_inside, turns_at, turned, file_word, sock_word, grant_action, granted_birth, return_action}
+use Rattle.brc_model.specs.Actions.{Action, Skip, Stuck, Silent, Calls, Does, with_row, by_range, by_item, number_word, list_word, birth_action, dispatch_instruction, dispatch_inside, turns_at, with_turn, file_word, sock_word, grant_action, granted_birth, return_action}
 use Rattle.brc_model.specs.KnownKinds.{IsTrueKind, HasTrueKind, HaveTrueKinds, KnowsKinds, AreNamed}
 use Rattle.brc_model.proofs.Basics.Lists.{some_is, either}
 use Rattle.brc_model.proofs.Dispatch.Grounded.{IsReached}
@@ -43,20 +43,20 @@ SeesKind words (KindLoad y) found = found ≡ words y
 SeesKind words d found = Unit {0}
 
 -- The place that a step of the thread leads to, by these kind words.
-abbrev pub Leaves : List Instr → (ℕ → ℕ) → Action → Type 0
-Leaves code words Skip = Unit {0}
-Leaves code words Stuck = Unit {0}
-Leaves code words (Silent moves place) = KnowsKinds code words place
-Leaves code words (Calls row place) = (exit : Exit) → KnowsKinds code words (place exit)
-Leaves code words (Does d rest place) = (found : ℕ) → SeesKind words d found → KnowsKinds code words (place found)
+abbrev pub LeavesKinds : List Instr → (ℕ → ℕ) → Action → Type 0
+LeavesKinds code words Skip = Unit {0}
+LeavesKinds code words Stuck = Unit {0}
+LeavesKinds code words (Silent moves place) = KnowsKinds code words place
+LeavesKinds code words (Calls row place) = (exit : Exit) → KnowsKinds code words (place exit)
+LeavesKinds code words (Does d rest place) = (found : ℕ) → SeesKind words d found → KnowsKinds code words (place found)
 
 row_leaves : (code : List Instr) (words : ℕ → ℕ) (row : Option ℕ) (work : ℕ → Action)
-    → ((x : ℕ) → row ≡ Some x → Leaves code words (work x)) → Leaves code words (with_row row work)
+    → ((x : ℕ) → row ≡ Some x → LeavesKinds code words (work x)) → LeavesKinds code words (with_row row work)
 row_leaves code words None work leaves = tt
 row_leaves code words (Some x) work leaves = leaves x refl
 
 -- A thread at an instruction of accepted code, in the state in which a path reaches it, whose variables have the kinds
--- of their slots.
+-- of their states.
 pub record KnowsAt (code : List Instr) (words : ℕ → ℕ) (at : ℕ) (variables : List (Option ℕ)) (s : State) (i : Instr)
     : Type 0 where
   pub accepted : IsAcceptableCode code
@@ -80,13 +80,13 @@ goes_on code words context at next variables rows s i exit here to known = λ ex
 -- The same, where the exit changes one variable.
 goes_on_put : (code : List Instr) (words : ℕ → ℕ) (context : Context) (at next : ℕ) (variables : List (Option ℕ))
     (s : State)
-    (i : Instr) (exit : Exit) (x : ℕ) (slot : Slot) (row : Option ℕ) → (here : KnowsAt code words at variables s i)
-    → target i exit at ≡ Some next → after i exit s ≡ put s x slot → x < 16 → HasTrueKind words slot row
+    (i : Instr) (exit : Exit) (x : ℕ) (var : VarState) (row : Option ℕ) → (here : KnowsAt code words at variables s i)
+    → target i exit at ≡ Some next → after i exit s ≡ put s x var → x < 16 → HasTrueKind words var row
     → KnowsKinds code words (InCall context next (slice_set variables x row))
-goes_on_put code words context at next variables s i exit x slot row here to is low new =
+goes_on_put code words context at next variables s i exit x var row here to is low new =
     goes_on code words context at next variables (slice_set variables x row) s i exit here to
     (subst (λ (state : State). HaveTrueKinds words state (slice_set variables x row)) (sym is)
-    (true_put words s variables x slot row (omega (arith, low, here.inside.slots))
+    (true_put words s variables x var row (omega (arith, low, here.inside.vars))
     (omega (arith, low, here.inside.rows)) new here.known))
 
 -- The same at a point, or inside the instruction there, of a thread whose variables haven't changed.
@@ -100,7 +100,7 @@ knows_here code words at variables s i here exits other arrived =
 -- A look at a list's kind word leads into the instruction, or past it.
 range_leaves : (code : List Instr) (words : ℕ → ℕ) (list : Option ℕ) (index : ℕ) (inside outside : Place)
     → KnowsKinds code words inside → KnowsKinds code words outside
-    → Leaves code words (with_row list (λ row. Does (KindLoad row) [] (by_range index inside outside)))
+    → LeavesKinds code words (with_row list (λ row. Does (KindLoad row) [] (by_range index inside outside)))
 range_leaves code words list index inside outside enters passes =
     row_leaves code words list _ (λ row is found seen.
     range_decides (KnowsKinds code words) inside outside index found (λ has. enters) passes)
@@ -108,7 +108,7 @@ range_leaves code words list index inside outside enters passes =
 -- A look at a cell leads past the instruction, or to the place for the item found.
 cell_leaves : (code : List Instr) (words : ℕ → ℕ) (list : Option ℕ) (index : ℕ) (empty : Place) (holds : ℕ → Place)
     → KnowsKinds code words empty → ((item : ℕ) → KnowsKinds code words (holds item))
-    → Leaves code words (with_row list (λ row. Does (CellLoad row index) [] (by_item empty holds)))
+    → LeavesKinds code words (with_row list (λ row. Does (CellLoad row index) [] (by_item empty holds)))
 cell_leaves code words list index empty holds none some =
     row_leaves code words list _ (λ row is found seen.
     item_decides (λ word. KnowsKinds code words) empty holds none some found)
@@ -120,10 +120,10 @@ birth_leaves : (code : List Instr) (words : ℕ → ℕ) (layout : Layout) (t us
     → to < 16 → kind_of_word word ≡ kind
     → target i Success at ≡ Some (at + 1) → after i Success s ≡ put s to (Owned kind)
     → target i FaultExit at ≡ Some otherwise → after i FaultExit s ≡ put s to Empty
-    → Leaves code words (birth_action layout t used context at variables to word otherwise)
+    → LeavesKinds code words (birth_action layout t used context at variables to word otherwise)
 birth_leaves code words layout t used context at variables s i to word otherwise kind here low names next owned else_at
     empty =
-    either (Leaves code words) (has_room layout t used) _ _
+    either (LeavesKinds code words) (has_room layout t used) _ _
     (λ room found stored.
     goes_on_put code words context at (at + 1) variables s i Success to (Owned kind) (Some (row_at layout t used)) here
     next owned low
@@ -137,12 +137,12 @@ grant_leaves : (code : List Instr) (words : ℕ → ℕ) (layout : Layout) (t us
     (variables : List (Option ℕ)) (s : State) (i : Instr) (to otherwise : ℕ)
     → (here : KnowsAt code words at variables s i)
     → to < 16 → target i FaultExit at ≡ Some otherwise → after i FaultExit s ≡ put s to Empty
-    → Leaves code words (grant_action layout t used context at variables to otherwise)
+    → LeavesKinds code words (grant_action layout t used context at variables to otherwise)
 grant_leaves code words layout t used context at variables s i to otherwise here low else_at empty =
     let refused : KnowsKinds code words (InCall context otherwise (slice_set variables to None)) =
     goes_on_put code words context at otherwise variables s i FaultExit to Empty None here else_at empty low
     (empty_true words None) in
-    either (Leaves code words) (has_room layout t used) _ _
+    either (LeavesKinds code words) (has_room layout t used) _ _
     (λ room. exit_decides (KnowsKinds code words) (Inside context at variables Granted)
     (InCall context otherwise (slice_set variables to None)) (knows_here code words at variables s i here) refused)
     refused
@@ -152,7 +152,7 @@ granted_leaves : (code : List Instr) (words : ℕ → ℕ) (layout : Layout) (t 
     (variables : List (Option ℕ)) (s : State) (i : Instr) (to word : ℕ) (kind : Kind)
     → (here : KnowsAt code words at variables s i) → to < 16 → kind_of_word word ≡ kind
     → target i Success at ≡ Some (at + 1) → after i Success s ≡ put s to (Owned kind)
-    → Leaves code words (granted_birth layout t used context at variables to word)
+    → LeavesKinds code words (granted_birth layout t used context at variables to word)
 granted_leaves code words layout t used context at variables s i to word kind here low names next owned =
     λ found stored.
     goes_on_put code words context at (at + 1) variables s i Success to (Owned kind) (Some (row_at layout t used)) here
@@ -162,7 +162,7 @@ granted_leaves code words layout t used context at variables s i to word kind he
 
 -- A thread that puts a resource back knows of the variables what it knows at the place where it then is.
 return_leaves : (code : List Instr) (words : ℕ → ℕ) (variables : List (Option ℕ)) (file : ℕ) (place : Place)
-    → KnowsKinds code words place → Leaves code words (return_action variables file place)
+    → KnowsKinds code words place → LeavesKinds code words (return_action variables file place)
 return_leaves code words variables file place knows =
     row_leaves code words (row_of variables file) _ (λ row is found seen. knows)
 
@@ -183,7 +183,7 @@ pub instruction_leaves : (code : List Instr) (words : ℕ → ℕ) (layout : Lay
     (context : Context) (at : ℕ)
     (variables : List (Option ℕ)) (s : State) (i : Instr) → KnowsKinds code words before
     → KnowsAt code words at variables s i
-    → Leaves code words (dispatch_instruction layout t used before context at variables (Some i))
+    → LeavesKinds code words (dispatch_instruction layout t used before context at variables (Some i))
 instruction_leaves code words layout t used before context at variables s (Num to value otherwise) knew here =
     birth_leaves code words layout t used context at variables s (Num to value otherwise) to
     (number_word value) otherwise
@@ -199,21 +199,21 @@ instruction_leaves code words layout t used before context at variables s (NoneO
 instruction_leaves code words layout t used before context at variables s (Newref to from) knew here =
     row_leaves code words (row_of variables from) _ (λ row is found stored.
     goes_on_put code words context at (at + 1) variables s (Newref to from) Success to
-    (Owned (kind_of (slot_of s from))) (Some row) here refl refl here.operands.0
-    (λ x this. subst (λ (y : ℕ). IsTrueKind (kind_of (slot_of s from)) (words y)) (some_is row x this)
+    (Owned (kind_of (var_of s from))) (Some row) here refl refl here.operands.0
+    (λ x this. subst (λ (y : ℕ). IsTrueKind (kind_of (var_of s from)) (words y)) (some_is row x this)
     (here.known from row is)))
 instruction_leaves code words layout t used before context at variables s (MoveReference to from) knew here =
     row_leaves code words (row_of variables from) _ (λ row is.
     let emptied : HaveTrueKinds words (put s from Empty) (slice_set variables from None) =
-    true_put words s variables from Empty None (omega (arith, here.operands.1, here.inside.slots))
+    true_put words s variables from Empty None (omega (arith, here.operands.1, here.inside.vars))
     (omega (arith, here.operands.1, here.inside.rows)) (empty_true words None) here.known in
     goes_on code words context at (at + 1) variables (slice_set (slice_set variables from None) to (Some row)) s
     (MoveReference to from) Success here refl
-    (true_put words (put s from Empty) (slice_set variables from None) to (Owned (kind_of (slot_of s from)))
+    (true_put words (put s from Empty) (slice_set variables from None) to (Owned (kind_of (var_of s from)))
     (Some row)
-    (omega (arith, here.operands.0, here.inside.slots, length-set s.slots from Empty))
+    (omega (arith, here.operands.0, here.inside.vars, length-set s.vars from Empty))
     (omega (arith, here.operands.0, here.inside.rows, length-set variables from None))
-    (λ x this. subst (λ (y : ℕ). IsTrueKind (kind_of (slot_of s from)) (words y)) (some_is row x this)
+    (λ x this. subst (λ (y : ℕ). IsTrueKind (kind_of (var_of s from)) (words y)) (some_is row x this)
     (here.known from row is)) emptied))
 instruction_leaves code words layout t used before context at variables s (Drop from) knew here =
     row_leaves code words (row_of variables from) _ (λ row is found stored.
@@ -258,7 +258,7 @@ instruction_leaves code words layout t used before context at variables s (Conne
     grant_leaves code words layout t used context at variables s (Connect to peer otherwise) to otherwise here
     here.operands.0 refl refl
 instruction_leaves code words layout t used before context at variables s (Read to file most otherwise) knew here =
-    either (Leaves code words) (has_room layout t used) _ _
+    either (LeavesKinds code words) (has_room layout t used) _ _
     (λ room. row_leaves code words (row_of variables file) _ (λ row is found seen.
     knows_here code words at variables s (Read to file most otherwise) here))
     (goes_on_put code words context at otherwise variables s (Read to file most otherwise) FaultExit to Empty None here
@@ -272,7 +272,7 @@ instruction_leaves code words layout t used before context at variables s (As fr
     (same_kind (kind_of_word found) kind) _ _
     (λ same.
     goes_on code words context at (at + 1) variables variables s (As from kind otherwise) Success here refl
-    (true_with_kind words s variables from kind (omega (arith, here.operands.0, here.inside.slots))
+    (true_with_kind words s variables from kind (omega (arith, here.operands.0, here.inside.vars))
     (λ x this. inr (ap (λ (y : ℕ). kind_of_word (words y)) (some_is x row (sym this ∙ is)) ∙ ap kind_of_word (sym seen)
     ∙ same_kind_is (kind_of_word found) kind same)) here.known))
     (goes_on code words context at otherwise variables variables s (As from kind otherwise) FaultExit here refl
@@ -280,9 +280,9 @@ instruction_leaves code words layout t used before context at variables s (As fr
 instruction_leaves code words layout t used before context at variables s (Goto to) knew here =
     goes_on code words context at to variables variables s (Goto to) Success here refl here.known
 instruction_leaves code words layout t used before context at variables s (Again to times) knew here =
-    either (KnowsKinds code words) (nat_lt (turns_at context at) times) (InCall (turned context at) to variables)
+    either (KnowsKinds code words) (nat_lt (turns_at context at) times) (InCall (with_turn context at) to variables)
     (InCall context (at + 1) variables)
-    (λ more. goes_on code words (turned context at) at to variables variables s (Again to times) FaultExit here refl
+    (λ more. goes_on code words (with_turn context at) at to variables variables s (Again to times) FaultExit here refl
     here.known)
     (goes_on code words context at (at + 1) variables variables s (Again to times) Success here refl here.known)
 instruction_leaves code words layout t used before context at variables s (Ret from) knew here =
@@ -302,18 +302,18 @@ set_leaves code words context at next variables s list index from otherwise exit
     goes_on code words context at next variables (slice_set variables from None) s (Set list index from otherwise) exit
     here to
     (true_without_items words (put s from Empty) (slice_set variables from None)
-    (true_put words s variables from Empty None (omega (arith, here.operands.0, here.inside.slots))
+    (true_put words s variables from Empty None (omega (arith, here.operands.0, here.inside.vars))
     (omega (arith, here.operands.0, here.inside.rows)) (empty_true words None) here.known))
 
 -- A variable whose kind isn't known yet says nothing.
-any_true : (words : ℕ → ℕ) (slot : Slot) (row : Option ℕ) → kind_of slot ≡ kinds.Any → HasTrueKind words slot row
-any_true words slot row any x is = inl any
+any_true : (words : ℕ → ℕ) (var : VarState) (row : Option ℕ) → kind_of var ≡ kinds.Any → HasTrueKind words var row
+any_true words var row any x is = inl any
 
 pub inside_leaves : (code : List Instr) (words : ℕ → ℕ) (layout : Layout) (t used : ℕ) (context : Context) (at : ℕ)
     (variables : List (Option ℕ))
     (stage : Stage)
     (s : State) (i : Instr) → KnowsAt code words at variables s i
-    → Leaves code words (dispatch_inside layout t used context at variables stage (Some i))
+    → LeavesKinds code words (dispatch_inside layout t used context at variables stage (Some i))
 inside_leaves code words layout t used context at variables InRange s (Borrow to list index otherwise) here =
     cell_leaves code words (row_of variables list) index (InCall context otherwise (slice_set variables to None))
     (λ item. InCall context (at + 1) (slice_set variables to (Some item)))

@@ -2,7 +2,7 @@
 -- place that says what the thread has lent then.
 use Rattle.brc_model.specs.declared.duty.Duty.{Duty}
 use Rattle.brc_model.proofs.Dispatch.Decided.{exit_decides, stopping_decides, give_up_decides}
-use Rattle.brc_model.specs.declared.slot.Exit.TheVariants.{Success, Fault}
+use Rattle.brc_model.specs.declared.state.Exit.TheVariants.{Success, Fault}
 use Rattle.std.proofs.Common.{◌≡◌, ℕ, zero, suc, ◌+◌, List, [], Option, None, Some, ◌∙◌, ap, sym, refl, cond}
 use Rattle.std.specs.Prelude.{◌==◌, slice_get, slice_set, nat_lt}
 use Rattle.brc_lang.specs.declared.module.Instr.{Instr}
@@ -10,7 +10,7 @@ use Rattle.brc_lang.specs.declared.module.Instr.TheVariants.{Num, List as ListOb
 use Rattle.brc_word.specs.Words.{free_word}
 use Rattle.brc_model.specs.declared.actor.Place.{Place}
 use Rattle.brc_model.specs.declared.actor.Context.{Context}
-use Rattle.brc_model.specs.declared.slot.Exit.{Exit}
+use Rattle.brc_model.specs.declared.state.Exit.{Exit}
 use Rattle.brc_model.specs.declared.actor.Place.TheVariants.{Idle, InCall, Inside, Stopping, Exiting}
 use Rattle.brc_model.specs.declared.actor.Stage.{Stage}
 use Rattle.brc_model.specs.declared.actor.Stage.TheVariants.{InRange, OutOfRange, Found, Retained, Loaded, Lent, Called, Granted}
@@ -20,7 +20,7 @@ use Rattle.brc_model.specs.Layout.{row_at}
 use Rattle.brc_model.specs.Duties.{cells_of}
 use Rattle.brc_model.specs.Machine.{lent_by, has_room}
 use Rattle.brc_model.specs.Threads.{row_of, entry_variables}
-use Rattle.brc_model.specs.Actions.{by_variable, Action, Skip, Stuck, Silent, Calls, Does, always, with_row, number_word, list_word, birth_action, first_context, turns_at, turned, by_range, by_item, dispatch_instruction, dispatch_inside, dispatch, lend_action, grant_action}
+use Rattle.brc_model.specs.Actions.{by_variable, Action, Skip, Stuck, Silent, Calls, Does, always, with_row, number_word, list_word, birth_action, first_context, turns_at, with_turn, by_range, by_item, dispatch_instruction, dispatch_inside, dispatch, lend_action, grant_action}
 use Rattle.brc_model.proofs.Basics.Lists.{either}
 
 -- The row whose resource a thread so far inside the instruction has lent.
@@ -183,7 +183,7 @@ instruction_lent code layout t used before context at variables (Some (As from k
     row_lent code lent (row_of variables from) _ (λ row found full. none)
 instruction_lent code layout t used before context at variables (Some (Again to times)) lent is none back =
     either (λ (place : Place). lent ≡ lent_at code place) (nat_lt (turns_at context at) times)
-    (InCall (turned context at) to variables) (InCall context (at + 1) variables) (λ more. none) none
+    (InCall (with_turn context at) to variables) (InCall context (at + 1) variables) (λ more. none) none
 instruction_lent code layout t used before context at variables (Some (Ret from)) lent is none back =
     row_lent code lent (row_of variables from) _ (λ row found full. none)
 instruction_lent code layout t used before context at variables (Some (NoneObject to)) lent is none back = none

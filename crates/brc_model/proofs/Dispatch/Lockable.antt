@@ -3,7 +3,7 @@ use Rattle.std.proofs.Common.{◌≡◌, ℕ, true, false, inl, inr, refl, sym, 
 use Rattle.brc_lang.specs.declared.kind.Kind.{Kind}
 use Rattle.brc_lang.specs.declared.kind.Kind.TheVariants as kinds
 use Rattle.brc_model.specs.Kinds.{kind_of_word}
-use Rattle.brc_model.specs.Slots.{is_one_of, lockable}
+use Rattle.brc_model.specs.VarStates.{is_one_of, lockable}
 use Rattle.brc_model.specs.KnownKinds.{IsTrueKind, AreNamed}
 use Rattle.brc_model.specs.declared.layout.Layout.{Layout}
 use Rattle.brc_model.specs.Layout.{is_immortal_row, IsCounted}

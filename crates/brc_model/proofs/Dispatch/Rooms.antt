@@ -1,13 +1,13 @@
 -- Where a thread awaits a birth: the host has granted it a resource, and its block has room for the object that it is
 -- to make of it. The thread has nothing else to do meanwhile.
-use Rattle.brc_model.specs.declared.slot.Exit.TheVariants.{Success, Fault as FaultExit}
+use Rattle.brc_model.specs.declared.state.Exit.TheVariants.{Success, Fault as FaultExit}
 use Rattle.std.proofs.Common.{◌≡◌, ℕ, zero, suc, ◌+◌, Bool, true, false, List, [], ◌∷◌, Option, None, Some, refl, sym, ap, ◌∙◌, cond}
 use Rattle.std.specs.Prelude.{◌==◌, nat_lt, slice_get, slice_set}
 use Rattle.brc_lang.specs.declared.module.Function.{Function}
 use Rattle.brc_lang.specs.declared.module.Instr.{Instr}
 use Rattle.brc_lang.specs.declared.module.Instr.TheVariants.{Num, List as ListObject, NoneObject, Newref, Move as MoveReference, Drop, Lock, Unlock, Borrow, Fetch, Set, Put, Goto, Again, Ret, Fail, As, Open, Connect, Read, Write}
 use Rattle.brc_word.specs.Words.{free_word}
-use Rattle.brc_model.specs.declared.slot.Exit.{Exit}
+use Rattle.brc_model.specs.declared.state.Exit.{Exit}
 use Rattle.brc_model.specs.declared.thread.Choice.{Choice}
 use Rattle.brc_model.specs.declared.thread.Choice.TheVariants.{Ok, Fault, Claim, Stop}
 use Rattle.brc_model.specs.declared.actor.Status.{Status}
@@ -23,12 +23,12 @@ use Rattle.brc_model.specs.declared.layout.Layout.{Layout}
 use Rattle.brc_model.specs.declared.actor.Actor.{Actor}
 use Rattle.brc_model.specs.Machine.{is_lending, has_room}
 use Rattle.brc_model.specs.Threads.{code_of, row_of, entry_variables}
-use Rattle.brc_model.specs.Actions.{StepActor, Action, Skip, Stuck, Silent, Calls, Does, with_row, number_word, list_word, birth_action, first_context, turns_at, turned, again_place, by_range, by_item, dispatch_instruction, dispatch_inside, dispatch, may_claim, agenda_action, status_action, action_of, lend_action, always, holds_some, stopping, may_stop, stop_action}
+use Rattle.brc_model.specs.Actions.{StepActor, Action, Skip, Stuck, Silent, Calls, Does, with_row, number_word, list_word, birth_action, first_context, turns_at, with_turn, again_place, by_range, by_item, dispatch_instruction, dispatch_inside, dispatch, may_claim, agenda_action, status_action, action_of, lend_action, always, holds_some, stopping, may_stop, stop_action}
 use Rattle.brc_model.specs.StepMachine.{StepMachine}
 use Rattle.brc_model.proofs.Basics.Lists.{either}
 use Rattle.brc_model.proofs.Dispatch.Decided.{range_decides, item_decides, stopping_decides, stop_decides, give_up_decides}
 use Rattle.brc_model.proofs.Dispatch.Claims.{claimer}
-use Rattle.brc_model.specs.declared.slot.State.{State}
+use Rattle.brc_model.specs.declared.state.State.{State}
 use Rattle.brc_model.specs.declared.duty.Holding.TheVariants.{ByVariable}
 
 -- Says whether a thread so far inside the instruction awaits a birth.
@@ -111,12 +111,12 @@ module _ (code : List Instr) (room : Bool) where
       item_decides (λ word. AwaitsNone code) empty holds none some found))
 
 module _ (code : List Instr) (layout : Layout) (t used : ℕ) where
-  abbrev Follows : Action → Type 0
-  Follows = FollowsRoom code (has_room layout t used)
+  abbrev LeavesRoom : Action → Type 0
+  LeavesRoom = FollowsRoom code (has_room layout t used)
 
   instruction_room : (before : Place) (context : Context) (at : ℕ) (variables : List (Option ℕ)) (i : Option Instr)
       → slice_get code at ≡ i → AwaitsNone code before
-      → Follows (dispatch_instruction layout t used before context at variables i)
+      → LeavesRoom (dispatch_instruction layout t used before context at variables i)
   instruction_room before context at variables None is none = tt
   instruction_room before context at variables (Some (Num to value otherwise)) is none =
       birth_none code (has_room layout t used) layout t used context at variables to (number_word value) otherwise
@@ -148,11 +148,11 @@ module _ (code : List Instr) (layout : Layout) (t used : ℕ) where
       range_room code (has_room layout t used) (row_of variables list) index (Inside context at variables InRange)
       (InCall context otherwise variables) refl refl
   instruction_room before context at variables (Some (Open to path mode otherwise)) is none =
-      either Follows (has_room layout t used) _ _ (λ room exit awaits. room) (λ e. absurd cc)
+      either LeavesRoom (has_room layout t used) _ _ (λ room exit awaits. room) (λ e. absurd cc)
   instruction_room before context at variables (Some (Connect to peer otherwise)) is none =
-      either Follows (has_room layout t used) _ _ (λ room exit awaits. room) (λ e. absurd cc)
+      either LeavesRoom (has_room layout t used) _ _ (λ room exit awaits. room) (λ e. absurd cc)
   instruction_room before context at variables (Some (Read to file most otherwise)) is none =
-      either Follows (has_room layout t used) (lend_action context at variables file)
+      either LeavesRoom (has_room layout t used) (lend_action context at variables file)
       (Silent [] (InCall context otherwise (slice_set variables to None)))
       (λ room.
       row_room code (has_room layout t used) (row_of variables file) _ (λ row found awaits. (refl, refl, room)))
@@ -164,7 +164,7 @@ module _ (code : List Instr) (layout : Layout) (t used : ℕ) where
   instruction_room before context at variables (Some (Goto to)) is none = λ e. absurd cc
   instruction_room before context at variables (Some (Again to times)) is none =
       silent_none code (has_room layout t used) (again_place context at variables to times)
-      (either (AwaitsNone code) (nat_lt (turns_at context at) times) (InCall (turned context at) to variables)
+      (either (AwaitsNone code) (nat_lt (turns_at context at) times) (InCall (with_turn context at) to variables)
       (InCall context (at + 1) variables) (λ more. refl) refl)
   instruction_room before context at variables (Some (Ret from)) is none =
       row_room code (has_room layout t used) (row_of variables from) _ (λ row found e. absurd cc)
@@ -172,7 +172,7 @@ module _ (code : List Instr) (layout : Layout) (t used : ℕ) where
 
   inside_room : (context : Context) (at : ℕ) (variables : List (Option ℕ)) (stage : Stage) (i : Option Instr)
       → slice_get code at ≡ i → (awaits_inside stage i ≡ true → has_room layout t used ≡ true)
-      → Follows (dispatch_inside layout t used context at variables stage i)
+      → LeavesRoom (dispatch_inside layout t used context at variables stage i)
   inside_room context at variables InRange (Some (Borrow to list index otherwise)) is has =
       cell_room code (has_room layout t used) (row_of variables list) index
       (InCall context otherwise (slice_set variables to None))
@@ -214,7 +214,7 @@ module _ (code : List Instr) (layout : Layout) (t used : ℕ) where
   inside_room context at variables stage i is has = tt
 
   dispatch_room : (place : Place) → (awaits_birth code place ≡ true → has_room layout t used ≡ true)
-      → Follows (dispatch layout t used code place)
+      → LeavesRoom (dispatch layout t used code place)
   dispatch_room Exiting has = tt
   dispatch_room (Idle zero) has = λ found e. absurd cc
   dispatch_room (Idle (suc left)) has =

@@ -1,10 +1,10 @@
 -- What a thread at an instruction of accepted code knows of one variable, and of what it has locked.
 use Rattle.std.proofs.Common.{◌≡◌, ℕ, ◌<◌, true, false, List, Option, Some, refl, ap, arith, ◌∙◌}
 use Rattle.brc_lang.specs.declared.module.Instr.{Instr}
-use Rattle.brc_model.specs.declared.slot.Slot.{Slot}
-use Rattle.brc_model.specs.declared.slot.Slot.TheVariants.{Empty, Owned, Caller, Locked}
-use Rattle.brc_model.specs.declared.slot.State.{State}
-use Rattle.brc_model.specs.Slots.{slot_of, is_empty, is_owned, names}
+use Rattle.brc_model.specs.declared.state.VarState.{VarState}
+use Rattle.brc_model.specs.declared.state.VarState.TheVariants.{Empty, Owned, Caller, Locked}
+use Rattle.brc_model.specs.declared.state.State.{State}
+use Rattle.brc_model.specs.VarStates.{var_of, is_empty, is_owned, names}
 use Rattle.brc_model.specs.declared.duty.Holding.{Holding}
 use Rattle.brc_model.specs.declared.duty.Holding.TheVariants.{ByVariable}
 use Rattle.brc_model.specs.declared.duty.Duty.{Duty}
@@ -21,7 +21,7 @@ use Rattle.brc_model.specs.Actions.{depth_of, by_variable}
 use Rattle.brc_model.proofs.Dispatch.Holds.{Activation, call_of, of_variables, Holds, HoldsVariables, holds_variables, variable_has, owned_has}
 use Rattle.brc_model.proofs.Dispatch.Grounded.{IsGrounded}
 use Rattle.brc_model.proofs.Dispatch.Guards.{HeldLocked, HeldBeside, guards_held, gives_keeps}
-use Rattle.brc_model.proofs.Dispatch.Begins.{Scene, StandsAt, Backs, ByOwn, ByList}
+use Rattle.brc_model.proofs.Dispatch.TakingUp.{Scene, StandsAt, Backs, ByOwn, ByList}
 
 -- The row that a variable names, and how the thread relies on it.
 pub record Named (g : Scene) (row : Option ℕ) : Type 0 where
@@ -30,21 +30,21 @@ pub record Named (g : Scene) (row : Option ℕ) : Type 0 where
   pub backs : Backs g object
 
 -- A variable that isn't empty names an object that the thread holds, or an item of the list that it has locked.
-pub named_slot : (g : Scene) (call : Activation) (s : State) (rows : List (Option ℕ)) (v : ℕ) (slot : Slot)
-    → slot_of s v ≡ slot
-    → is_empty slot ≡ false → IsGrounded call slot (row_of rows v) → HoldsVariables g.bag g.thread call s rows
+pub named_var : (g : Scene) (call : Activation) (s : State) (rows : List (Option ℕ)) (v : ℕ) (var : VarState)
+    → var_of s v ≡ var
+    → is_empty var ≡ false → IsGrounded call var (row_of rows v) → HoldsVariables g.bag g.thread call s rows
     → HaveItems g.memory g.locked s rows → Named g (row_of rows v)
-named_slot g call s rows v Empty is some grounded holds items = absurd cc
-named_slot g call s rows v (Owned k) is some grounded holds items =
+named_var g call s rows v Empty is some grounded holds items = absurd cc
+named_var g call s rows v (Owned k) is some grounded holds items =
     let one : held (reference_of g.thread (ByVariable call.depth v) grounded.0) g.bag ≡ 1 =
     variable_has g.bag g.thread call s rows v grounded.0 (ap is_owned is) grounded.1 holds in
     record { object = grounded.0; is_row = grounded.1; backs = ByOwn (ByVariable call.depth v) (omega (arith, one)) }
-named_slot g call s rows v (Caller k) is some grounded holds items =
+named_var g call s rows v (Caller k) is some grounded holds items =
     let by = grounded.2 in
     let one : held (reference_of g.thread by grounded.0) g.bag ≡ 1 =
     holds.outside by grounded.0 grounded.3 ∙ ap one_if grounded.4 in
     record { object = grounded.0; is_row = grounded.1; backs = ByOwn by (omega (arith, one)) }
-named_slot g call s rows v (Locked k) is some grounded holds items =
+named_var g call s rows v (Locked k) is some grounded holds items =
     let item = items v grounded.0 (ap borrows_item is) grounded.1 in
     record {
       object = grounded.0;
@@ -55,15 +55,15 @@ named_slot g call s rows v (Locked k) is some grounded holds items =
 -- The same at an instruction.
 pub named_at : (code : List Instr) (context : Context) (g : Scene) (before : Place) (at : ℕ) (rows : List (Option ℕ))
     (s : State)
-    (i : Instr) (v : ℕ) → StandsAt code context g before at rows s i → is_empty (slot_of s v) ≡ false
+    (i : Instr) (v : ℕ) → StandsAt code context g before at rows s i → is_empty (var_of s v) ≡ false
     → Named g (row_of rows v)
 named_at code context g before at rows s i v here some =
-    named_slot g (call_of code context) s rows v (slot_of s v) refl some (here.inside.grounded v)
+    named_var g (call_of code context) s rows v (var_of s v) refl some (here.inside.grounded v)
     (holds_variables g.bag g.thread (call_of code context) s rows here.holds) here.items
 
 pub given_referenced : (bag : List Reference) (t : ℕ) (call : Activation) (s : State) (variables : List (Option ℕ))
     (from row : ℕ)
-    → is_owned (slot_of s from) ≡ true → row_of variables from ≡ Some row
+    → is_owned (var_of s from) ≡ true → row_of variables from ≡ Some row
     → Holds bag t (of_variables call s variables) → 0 < references_to row bag
 given_referenced bag t call s variables from row owned is holds =
     let one : held (reference_of t (ByVariable call.depth from) row) bag ≡ 1 =

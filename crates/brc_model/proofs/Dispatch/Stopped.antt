@@ -6,9 +6,9 @@ use Rattle.std.proofs.lemmas.Bool.{eq-eqb, ne_eqb}
 use Rattle.std.proofs.lemmas.Bool.Decides.{eqb_tells}
 use Rattle.std.proofs.lemmas.List.{get_or_past, length-map}
 use Rattle.brc_lang.specs.declared.module.Instr.{Instr}
-use Rattle.brc_model.specs.declared.slot.Slot.{Slot}
-use Rattle.brc_model.specs.declared.slot.Slot.TheVariants.{Empty, Owned, Caller, Locked}
-use Rattle.brc_model.specs.declared.slot.State.{State}
+use Rattle.brc_model.specs.declared.state.VarState.{VarState}
+use Rattle.brc_model.specs.declared.state.VarState.TheVariants.{Empty, Owned, Caller, Locked}
+use Rattle.brc_model.specs.declared.state.State.{State}
 use Rattle.brc_model.specs.declared.actor.Context.{Context}
 use Rattle.brc_model.specs.declared.actor.OpenCall.{OpenCall}
 use Rattle.brc_model.specs.declared.duty.Holding.{Holding}
@@ -16,7 +16,7 @@ use Rattle.brc_model.specs.declared.duty.Holding.TheVariants.{ByVariable, AsCall
 use Rattle.brc_model.specs.AbstractState.{same_holding}
 use Rattle.brc_model.specs.References.{one_if}
 use Rattle.brc_model.specs.Accounts.{IsBounded}
-use Rattle.brc_model.specs.Slots.{slot_of, is_owned, names}
+use Rattle.brc_model.specs.VarStates.{var_of, is_owned, names}
 use Rattle.brc_model.specs.Threads.{row_of}
 use Rattle.brc_model.specs.Actions.{depth_of, owned_rows, row_locked, none_of, holds_some, first_named}
 use Rattle.brc_model.specs.declared.layout.Layout.{Layout}
@@ -82,63 +82,63 @@ names_none true = refl
 names_none false = refl
 
 -- Of the variables those name a row that own a reference.
-owned_names : (slots : List Slot) (rows : List (Option ℕ)) (v object : ℕ)
-    → names (row_of (owned_rows slots rows) v) object
-    ≡ (is_owned (slice_index_or slots v Empty) && names (row_of rows v) object)
+owned_names : (vars : List VarState) (rows : List (Option ℕ)) (v object : ℕ)
+    → names (row_of (owned_rows vars rows) v) object
+    ≡ (is_owned (slice_index_or vars v Empty) && names (row_of rows v) object)
 owned_names [] rows v object = refl
-owned_names (slot ∷ slots) [] v object = sym (names_none (is_owned (slice_index_or (slot ∷ slots) v Empty)))
-owned_names (slot ∷ slots) (row ∷ rows) zero object =
-    elim (is_owned slot) as (λ b. names (cond b row None) object ≡ (b && names row object)) [
+owned_names (var ∷ vars) [] v object = sym (names_none (is_owned (slice_index_or (var ∷ vars) v Empty)))
+owned_names (var ∷ vars) (row ∷ rows) zero object =
+    elim (is_owned var) as (λ b. names (cond b row None) object ≡ (b && names row object)) [
       | true ↦ refl
       | false ↦ refl
     ]
-owned_names (slot ∷ slots) (row ∷ rows) (suc v) object = owned_names slots rows v object
+owned_names (var ∷ vars) (row ∷ rows) (suc v) object = owned_names vars rows v object
 
 same_both : (b : Bool) (none : Option ℕ) → cond b none none ≡ none
 same_both true none = refl
 same_both false none = refl
 
 -- A variable's row is given up exactly if the variable owns a reference.
-owned_at : (slots : List Slot) (rows : List (Option ℕ)) (v : ℕ)
-    → row_of (owned_rows slots rows) v ≡ cond (is_owned (slice_index_or slots v Empty)) (row_of rows v) None
+owned_at : (vars : List VarState) (rows : List (Option ℕ)) (v : ℕ)
+    → row_of (owned_rows vars rows) v ≡ cond (is_owned (slice_index_or vars v Empty)) (row_of rows v) None
 owned_at [] rows v = refl
-owned_at (slot ∷ slots) [] v = sym (same_both (is_owned (slice_index_or (slot ∷ slots) v Empty)) None)
-owned_at (slot ∷ slots) (row ∷ rows) zero = refl
-owned_at (slot ∷ slots) (row ∷ rows) (suc v) = owned_at slots rows v
+owned_at (var ∷ vars) [] v = sym (same_both (is_owned (slice_index_or (var ∷ vars) v Empty)) None)
+owned_at (var ∷ vars) (row ∷ rows) zero = refl
+owned_at (var ∷ vars) (row ∷ rows) (suc v) = owned_at vars rows v
 
 owned_either : (b : Bool) (row : Option ℕ) (x : ℕ) → (cond b row None ≡ Some x) ↔ ((b ≡ true) × (row ≡ Some x))
 owned_either true row x = (λ e. (refl, e), λ e. e.1)
 owned_either false row x = (λ e. absurd (none_some x e), λ e. absurd cc)
 
-pub owned_exactly : (slots : List Slot) (rows : List (Option ℕ)) (v x : ℕ)
-    → (row_of (owned_rows slots rows) v ≡ Some x)
-    ↔ ((is_owned (slice_index_or slots v Empty) ≡ true) × (row_of rows v ≡ Some x))
-owned_exactly slots rows v x =
-    subst (λ (o : Option ℕ). (o ≡ Some x) ↔ ((is_owned (slice_index_or slots v Empty) ≡ true)
+pub owned_exactly : (vars : List VarState) (rows : List (Option ℕ)) (v x : ℕ)
+    → (row_of (owned_rows vars rows) v ≡ Some x)
+    ↔ ((is_owned (slice_index_or vars v Empty) ≡ true) × (row_of rows v ≡ Some x))
+owned_exactly vars rows v x =
+    subst (λ (o : Option ℕ). (o ≡ Some x) ↔ ((is_owned (slice_index_or vars v Empty) ≡ true)
     × (row_of rows v ≡ Some x)))
-    (sym (owned_at slots rows v)) (owned_either (is_owned (slice_index_or slots v Empty)) (row_of rows v) x)
+    (sym (owned_at vars rows v)) (owned_either (is_owned (slice_index_or vars v Empty)) (row_of rows v) x)
 
 -- No more rows are given up than there are variables.
-pub owned_long : (slots : List Slot) (rows : List (Option ℕ)) → length (owned_rows slots rows) ≤ length rows
+pub owned_long : (vars : List VarState) (rows : List (Option ℕ)) → length (owned_rows vars rows) ≤ length rows
 owned_long [] rows = omega arith
-owned_long (slot ∷ slots) [] = omega arith
-owned_long (slot ∷ slots) (row ∷ rows) = let rest = owned_long slots rows in omega (arith, rest)
+owned_long (var ∷ vars) [] = omega arith
+owned_long (var ∷ vars) (row ∷ rows) = let rest = owned_long vars rows in omega (arith, rest)
 
 -- A thread that stops in a call gives up what its variables own.
 pub stop_says : (code : List Instr) (context : Context) (s : State) (variables : List (Option ℕ)) (k : Holding)
     (object : ℕ)
     → of_variables (call_of code context) s variables k object
-    ≡ of_stopped (owned_rows s.slots variables ∷ map none_of context.outer) k object
+    ≡ of_stopped (owned_rows s.vars variables ∷ map none_of context.outer) k object
 stop_says code context s variables AsCaller object = refl
 stop_says code context s variables InFlight object = refl
 stop_says code context s variables (ByVariable depth v) object =
     let call = call_of code context in
-    let rows = owned_rows s.slots variables in
+    let rows = owned_rows s.vars variables in
     let outer = map none_of context.outer in
     let deep : length outer ≡ depth_of context = length-map context.outer none_of in
     by_depth call (λ k. of_variables call s variables k object ≡ of_stopped (rows ∷ outer) k object)
     (λ w.
-    own_depth call s variables w object ∙ sym (owned_names s.slots variables w object)
+    own_depth call s variables w object ∙ sym (owned_names s.vars variables w object)
     ∙ sym (ap (λ (l : List (Option ℕ)). names (row_of l w) object)
     (subst (λ (d : ℕ). rows_at (rows ∷ outer) d ≡ rows) deep (rows_here rows outer))))
     (λ d w apart.
@@ -154,17 +154,17 @@ as_root AsCaller x held = held
 as_root InFlight x held = absurd cc
 
 -- What a stopped thread has to unlock it holds: its own variable owns it, or its caller lends it.
-stop_holds : (code : List Instr) (context : Context) (s : State) (variables : List (Option ℕ)) (c x : ℕ) (slot : Slot)
-    → slot_of s c ≡ slot → is_kept slot ≡ true → row_of variables c ≡ Some x
-    → IsGrounded (call_of code context) slot (row_of variables c)
-    → (by : Holding) × (of_stopped (owned_rows s.slots variables ∷ map none_of context.outer) by x ≡ true)
+stop_holds : (code : List Instr) (context : Context) (s : State) (variables : List (Option ℕ)) (c x : ℕ) (var : VarState)
+    → var_of s c ≡ var → is_kept var ≡ true → row_of variables c ≡ Some x
+    → IsGrounded (call_of code context) var (row_of variables c)
+    → (by : Holding) × (of_stopped (owned_rows s.vars variables ∷ map none_of context.outer) by x ≡ true)
 stop_holds code context s variables c x Empty is kept named grounded = absurd cc
 stop_holds code context s variables c x (Owned k) is kept named grounded =
     let call = call_of code context in
     let by = ByVariable (depth_of context) c in (
       by,
       sym (stop_says code context s variables by x) ∙ own_depth call s variables c x
-          ∙ ap (λ (slot : Slot). is_owned slot && names (row_of variables c) x) is
+          ∙ ap (λ (var : VarState). is_owned var && names (row_of variables c) x) is
           ∙ ap (λ (row : Option ℕ). names row x) named ∙ eq-eqb x x refl,
     )
 stop_holds code context s variables c x (Caller k) is kept named grounded =
@@ -175,27 +175,27 @@ stop_holds code context s variables c x (Locked k) is kept named grounded = absu
 stop_held : (code : List Instr) (context : Context) (at : ℕ) (s : State) (variables : List (Option ℕ))
     (o locked : Option ℕ) → IsInside (call_of code context) at variables s → Guards s variables o locked → (x : ℕ)
     → row_locked o variables ≡ Some x
-    → (by : Holding) × (of_stopped (owned_rows s.slots variables ∷ map none_of context.outer) by x ≡ true)
+    → (by : Holding) × (of_stopped (owned_rows s.vars variables ∷ map none_of context.outer) by x ≡ true)
 stop_held code context at s variables None locked inside guards x is = absurd (none_some x is)
 stop_held code context at s variables (Some c) locked inside guards x is =
-    stop_holds code context s variables c x (slot_of s c) refl guards.3 is (inside.grounded c)
+    stop_holds code context s variables c x (var_of s c) refl guards.3 is (inside.grounded c)
 
 -- Where a thread stops in a call, its calls are few, and it holds what it has to unlock.
 pub stop_stopped : (code : List Instr) (context : Context) (at : ℕ) (s : State) (variables : List (Option ℕ))
     (locked : Option ℕ) → IsInside (call_of code context) at variables s → LocksAgree s variables locked
-    → IsStopped (row_locked s.locked variables) (owned_rows s.slots variables ∷ map none_of context.outer)
+    → IsStopped (row_locked s.locked variables) (owned_rows s.vars variables ∷ map none_of context.outer)
 stop_stopped code context at s variables locked inside guards = record {
   few =
       let deep : length (map none_of context.outer) ≡ depth_of context = length-map context.outer none_of in
       omega (arith, deep, inside.is_call.shallow);
   rows = λ depth. elim (eqb_tells depth (length (map none_of context.outer))) [
     | inl this ↦
-        let here = ap (λ (b : Bool). length (cond b (owned_rows s.slots variables)
+        let here = ap (λ (b : Bool). length (cond b (owned_rows s.vars variables)
         (rows_at (map none_of context.outer) depth))) this.0 in
-        omega (arith, here, owned_long s.slots variables, inside.rows)
+        omega (arith, here, owned_long s.vars variables, inside.rows)
     | inr apart ↦
         let none = ap (λ (l : List (Option ℕ)). length l)
-        (rows_further (owned_rows s.slots variables) (map none_of context.outer) depth apart.0
+        (rows_further (owned_rows s.vars variables) (map none_of context.outer) depth apart.0
         ∙ none_outer context.outer depth) in
         omega (arith, none)
   ];

@@ -19,9 +19,9 @@ use Rattle.brc_model.specs.Accounts.{Account, Accounts, HoldsAt}
 use Rattle.brc_model.specs.OpenWork.{Agenda, AgendaFits, has_leave, exits}
 use Rattle.brc_model.specs.Invariant.{CoreInvariant}
 use Rattle.brc_model.proofs.Frame.Aside.{HoldsAlone, alone_holds, alone_fits}
-use Rattle.brc_model.proofs.Dispatch.Begun.{starts_leave, follows_leave, starts_sit}
+use Rattle.brc_model.proofs.Dispatch.TakenUp.{starts_leave, follows_leave, starts_sit}
 use Rattle.brc_model.proofs.Dispatch.Coded.{PlaceSays, InCode, is_departing, departing_is, place_fits, placed_by, exited_none, says_bounded}
-use Rattle.brc_model.proofs.Dispatch.Begins.{scene_of, Taken, IsTaken}
+use Rattle.brc_model.proofs.Dispatch.TakingUp.{scene_of, Taken, IsTaken}
 use Rattle.brc_model.proofs.Basics.Lists.{none_some}
 use Rattle.brc_model.proofs.Dispatch.Taking.{SeesKinds, dispatch_taken}
 use Rattle.brc_model.proofs.Keeping.Sits.{Sits, AtRest, sitting}

@@ -5,10 +5,10 @@ use Rattle.std.specs.List.{list_any}
 use Rattle.std.proofs.lemmas.List.{length-set}
 use Rattle.brc_lang.specs.declared.module.Instr.{Instr}
 use Rattle.brc_lang.specs.declared.module.Instr.TheVariants.{Num, List as ListObject, NoneObject, Newref, Move as MoveReference, Drop, Lock, Unlock, Borrow, Fetch, Set, Put, Goto, Again, Ret, Fail, As, Open, Connect, Read, Write}
-use Rattle.brc_model.specs.declared.slot.Slot.TheVariants.{Empty, Owned}
-use Rattle.brc_model.specs.declared.slot.State.{State}
-use Rattle.brc_model.specs.declared.slot.Exit.TheVariants.{Success}
-use Rattle.brc_model.specs.Slots.{slot_of, is_empty, is_owned, kind_of, put, entry, names}
+use Rattle.brc_model.specs.declared.state.VarState.TheVariants.{Empty, Owned}
+use Rattle.brc_model.specs.declared.state.State.{State}
+use Rattle.brc_model.specs.declared.state.Exit.TheVariants.{Success}
+use Rattle.brc_model.specs.VarStates.{var_of, is_empty, is_owned, kind_of, put, entry, names}
 use Rattle.brc_model.specs.Paths.{IsAcceptableCode}
 use Rattle.brc_model.specs.declared.duty.Holding.{Holding}
 use Rattle.brc_model.specs.declared.duty.Holding.TheVariants.{ByVariable, AsCaller, InFlight}
@@ -24,7 +24,7 @@ use Rattle.brc_model.proofs.Basics.Bag.{held-le-references_to}
 use Rattle.brc_model.specs.References.{held, one_if, reference_of}
 use Rattle.brc_model.proofs.Basics.Lists.{first_false, none_some}
 use Rattle.brc_model.proofs.Dispatch.Holds.{once_each, ended_says, the_root, of_variables, Holds, holds-ended, holds-entered, of_inside, call_of}
-use Rattle.brc_model.proofs.Dispatch.Grounded.{IsInside, AreInstructions, owned_slot, owned_row, grounded-put, entry_in_call}
+use Rattle.brc_model.proofs.Dispatch.Grounded.{IsInside, AreInstructions, owned_var, owned_row, grounded-put, entry_in_call}
 use Rattle.brc_model.proofs.Dispatch.Guards.{LocksAgree, guards-put, guards_none}
 use Rattle.brc_model.proofs.Dispatch.Standing.{named_at, given_referenced, keeps_all, keeps_given}
 use Rattle.brc_model.specs.KnownKinds.{HaveTrueKinds, KnowsKinds}
@@ -43,7 +43,7 @@ use Rattle.brc_model.proofs.Dispatch.Coded.{PlaceFits, has_stage, in_flight}
 use Rattle.brc_model.proofs.Dispatch.Lending.{lent_to, lent_at}
 use Rattle.brc_model.proofs.Dispatch.Rooms.{awaits_inside, awaits_birth}
 use Rattle.brc_model.specs.Machine.{has_room}
-use Rattle.brc_model.proofs.Dispatch.Begins.{Scene, words_of, CountsLockable, StandsAt, holds_plain, holds_at_none, Gives, Takes, Nothing, Settles, Leaves, Taken, IsTaken, taken_with_row, idle_stays, in_call_stays, newref_held, emptied_held, SilentTaken, StandsInside}
+use Rattle.brc_model.proofs.Dispatch.TakingUp.{Scene, words_of, CountsLockable, StandsAt, holds_plain, holds_at_none, Gives, Takes, Nothing, Settles, Exits, Taken, IsTaken, taken_with_row, idle_stays, in_call_stays, newref_held, emptied_held, SilentTaken, StandsInside}
 use Rattle.brc_model.proofs.Keeping.SilentMoves.{Stays}
 use Rattle.brc_model.proofs.Dispatch.TakingSilent.{none_taken, move_taken, goto_taken, again_taken}
 use Rattle.brc_model.specs.Layout.{root_row}
@@ -55,36 +55,36 @@ module _ {code : List Instr} {g : Scene} {before : Place} {context : Context} {a
       → IsTaken code g (dispatch_instruction g.layout g.thread g.used before context at variables
       (Some (Newref to from)))
   newref_taken to from here =
-      let some : is_empty (slot_of s from) ≡ false = first_false _ _ here.met.not_empty in
-      let free : is_owned (slot_of s to) ≡ false = first_false _ _ here.met.free in
+      let some : is_empty (var_of s from) ≡ false = first_false _ _ here.met.not_empty in
+      let free : is_owned (var_of s to) ≡ false = first_false _ _ here.met.free in
       let live = named_at code context g before at variables s (Newref to from) from here some in
-      let in_slots : to < length s.slots = omega (arith, here.variables.0, here.inside.slots) in
+      let in_vars : to < length s.vars = omega (arith, here.variables.0, here.inside.vars) in
       let in_rows : to < length variables = omega (arith, here.variables.0, here.inside.rows) in
-      let slot = Owned (kind_of (slot_of s from)) in
-      let next : IsInside (call_of code context) (at + 1) (slice_set variables to (Some live.object)) (put s to slot) =
+      let var = Owned (kind_of (var_of s from)) in
+      let next : IsInside (call_of code context) (at + 1) (slice_set variables to (Some live.object)) (put s to var) =
       record {
         is_call = here.inside.is_call;
         exits = here.inside.exits ++ Success ∷ [];
         arrived = here.leads Success (at + 1) refl;
-        slots = length-set s.slots to slot ∙ here.inside.slots;
+        vars = length-set s.vars to var ∙ here.inside.vars;
         rows = length-set variables to (Some live.object) ∙ here.inside.rows;
         grounded =
-            grounded-put (call_of code context) s variables to slot (Some live.object) in_slots in_rows
+            grounded-put (call_of code context) s variables to var (Some live.object) in_vars in_rows
             (live.object, refl) here.inside.grounded;
       } in
       let held_now : HoldsAlone g.bag g.thread
-      (once_each (of_variables (call_of code context) (put s to slot) (slice_set variables to (Some live.object))))
+      (once_each (of_variables (call_of code context) (put s to var) (slice_set variables to (Some live.object))))
       (RetainLoad live.object (by_variable context to) ∷ []) =
       record {
-        each = newref_held g.bag g.thread (call_of code context) s variables to live.object slot in_slots in_rows
+        each = newref_held g.bag g.thread (call_of code context) s variables to live.object var in_vars in_rows
             free refl here.holds;
       } in
       let taken : (found : ℕ) → Taken code g found (InCall context (at + 1) (slice_set variables to (Some live.object)))
       (RetainLoad live.object (by_variable context to)) [] = λ found. record {
         placed = (
-          put s to slot,
+          put s to var,
           next,
-          guards-put s variables to slot (Some live.object) s.locked g.locked (first_false _ _ here.met.unlocked)
+          guards-put s variables to var (Some live.object) s.locked g.locked (first_false _ _ here.met.unlocked)
               here.guards,
           held_now,
         );
@@ -100,25 +100,25 @@ module _ {code : List Instr} {g : Scene} {before : Place} {context : Context} {a
   drop_taken : (from : ℕ) → StandsAt code context g before at variables s (Drop from)
       → IsTaken code g (dispatch_instruction g.layout g.thread g.used before context at variables (Some (Drop from)))
   drop_taken from here =
-      let owned = owned_slot (slot_of s from) (first_false _ _ here.met.not_empty) (first_false _ _ here.met.owned) in
-      let row = owned_row (call_of code context) (slot_of s from) (row_of variables from) owned
+      let owned = owned_var (var_of s from) (first_false _ _ here.met.not_empty) (first_false _ _ here.met.owned) in
+      let row = owned_row (call_of code context) (var_of s from) (row_of variables from) owned
       (here.inside.grounded from) in
-      let in_slots : from < length s.slots = omega (arith, here.variables, here.inside.slots) in
+      let in_vars : from < length s.vars = omega (arith, here.variables, here.inside.vars) in
       let in_rows : from < length variables = omega (arith, here.variables, here.inside.rows) in
       let next : IsInside (call_of code context) (at + 1) (slice_set variables from None) (put s from Empty) = record {
         is_call = here.inside.is_call;
         exits = here.inside.exits ++ Success ∷ [];
         arrived = here.leads Success (at + 1) refl;
-        slots = length-set s.slots from Empty ∙ here.inside.slots;
+        vars = length-set s.vars from Empty ∙ here.inside.vars;
         rows = length-set variables from None ∙ here.inside.rows;
-        grounded = grounded-put (call_of code context) s variables from Empty None in_slots in_rows tt
+        grounded = grounded-put (call_of code context) s variables from Empty None in_vars in_rows tt
             here.inside.grounded;
       } in
       let held_now : HoldsAlone g.bag g.thread (once_each (of_variables (call_of code context) (put s from Empty)
       (slice_set variables from None)))
       (ReleaseLoad row.0 (by_variable context from) ∷ Settle ∷ []) =
       record {
-        each = emptied_held g.bag g.thread (call_of code context) s variables from row.0 in_slots owned row.1
+        each = emptied_held g.bag g.thread (call_of code context) s variables from row.0 in_vars owned row.1
             here.holds;
       } in
       let free : names s.locked from ≡ false = first_false _ _ here.met.unlocked in
@@ -143,11 +143,11 @@ module _ {code : List Instr} {g : Scene} {before : Place} {context : Context} {a
   ret_taken : (from : ℕ) → StandsAt code context g before at variables s (Ret from)
       → IsTaken code g (dispatch_instruction g.layout g.thread g.used before context at variables (Some (Ret from)))
   ret_taken from here =
-      let owned = owned_slot (slot_of s from) (first_false _ _ here.met.not_empty) (first_false _ _ here.met.owned) in
-      let row = owned_row (call_of code context) (slot_of s from) (row_of variables from) owned
+      let owned = owned_var (var_of s from) (first_false _ _ here.met.not_empty) (first_false _ _ here.met.owned) in
+      let row = owned_row (call_of code context) (var_of s from) (row_of variables from) owned
       (here.inside.grounded from) in
-      let in_slots : from < length s.slots = omega (arith, here.variables, here.inside.slots) in
-      let none : list_any is_owned (put s from Empty).slots ≡ false = first_false _ _ here.met.none_left in
+      let in_vars : from < length s.vars = omega (arith, here.variables, here.inside.vars) in
+      let none : list_any is_owned (put s from Empty).vars ≡ false = first_false _ _ here.met.none_left in
       let held_now : HoldsAlone g.bag g.thread (once_each the_root)
       (ReleaseLoad row.0 (by_variable context from) ∷ Settle ∷ []) =
       record {
@@ -157,7 +157,7 @@ module _ {code : List Instr} {g : Scene} {before : Place} {context : Context} {a
             ap one_if (ended_says code context (put s from Empty) (slice_set variables from None) k object none) in
             omega (
               arith,
-              emptied_held g.bag g.thread (call_of code context) s variables from row.0 in_slots owned row.1 here.holds
+              emptied_held g.bag g.thread (call_of code context) s variables from row.0 in_vars owned row.1 here.holds
                   k object,
               said,
             );
@@ -316,7 +316,7 @@ dispatch_taken code g (Idle zero) accepted instructions stays fits sees =
       starts =
           Gives root_row AsCaller (Settle ∷ Leave 0 g.used ∷ [])
           (omega (arith, one, held-le-references_to (reference_of g.thread AsCaller root_row) g.bag));
-      follows = Leaves refl;
+      follows = Exits refl;
       keeps = λ x locked. absurd (none_some x (sym fits.0 ∙ locked));
     }
 dispatch_taken code g (Idle (suc left)) accepted instructions stays fits sees =

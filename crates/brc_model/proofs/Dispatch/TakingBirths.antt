@@ -9,11 +9,11 @@ use Rattle.brc_lang.specs.declared.kind.Kind.{Kind}
 use Rattle.brc_lang.specs.declared.kind.Kind.TheVariants as kinds
 use Rattle.brc_lang.specs.Limits.{variable_count}
 use Rattle.brc_word.specs.Words.{half, kind_part, argument_part}
-use Rattle.brc_model.specs.declared.slot.Slot.{Slot}
-use Rattle.brc_model.specs.declared.slot.Slot.TheVariants.{Empty, Owned}
-use Rattle.brc_model.specs.declared.slot.State.{State}
-use Rattle.brc_model.specs.declared.slot.Exit.TheVariants.{Success, Fault}
-use Rattle.brc_model.specs.Slots.{slot_of, is_owned, put, names}
+use Rattle.brc_model.specs.declared.state.VarState.{VarState}
+use Rattle.brc_model.specs.declared.state.VarState.TheVariants.{Empty, Owned}
+use Rattle.brc_model.specs.declared.state.State.{State}
+use Rattle.brc_model.specs.declared.state.Exit.TheVariants.{Success, Fault}
+use Rattle.brc_model.specs.VarStates.{var_of, is_owned, put, names}
 use Rattle.brc_model.specs.Paths.{At, path_end}
 use Rattle.brc_model.specs.declared.duty.Duty.TheVariants.{BirthKind}
 use Rattle.brc_model.specs.declared.actor.Place.{Place}
@@ -31,7 +31,7 @@ use Rattle.brc_model.proofs.Frame.Aside.{HoldsAlone}
 use Rattle.brc_model.proofs.Dispatch.Holds.{once_each, of_variables, Holds, call_of}
 use Rattle.brc_model.proofs.Dispatch.Grounded.{IsInside, grounded-put}
 use Rattle.brc_model.proofs.Dispatch.Guards.{LocksAgree, HeldBeside, guards-put}
-use Rattle.brc_model.proofs.Dispatch.Begins.{Scene, StandsAt, Bears, Nothing, Taken, SilentTaken, IsTaken, holds_at_none, in_call_stays, newref_held, cleared_held}
+use Rattle.brc_model.proofs.Dispatch.TakingUp.{Scene, StandsAt, Bears, Nothing, Taken, SilentTaken, IsTaken, holds_at_none, in_call_stays, newref_held, cleared_held}
 use Rattle.brc_model.proofs.Dispatch.Standing.{keeps_all}
 
 -- A number has no cells.
@@ -78,7 +78,7 @@ pub record BearsAt (code : List Instr) (context : Context) (g : Scene) (at : ℕ
   pub keeps : (x : ℕ) → g.locked ≡ Some x
       → HeldBeside g.bag g.thread x (BirthKind (row_at g.layout g.thread g.used) (by_variable context to) word)
   pub variable : to < variable_count
-  pub free : is_owned (slot_of s to) ≡ false
+  pub free : is_owned (var_of s to) ≡ false
   pub few_cells : cells_of word ≤ cell_limit
   pub counted : is_counted_kind (kind_of_word word) ≡ true
   pub owned_next : path_end code (inside.exits ++ Success ∷ []) ≡ At (at + 1) (put s to (Owned kind))
@@ -92,30 +92,30 @@ pub born : (code : List Instr) (g : Scene) (context : Context) (at : ℕ) (varia
     (BirthKind (row_at g.layout g.thread g.used) (by_variable context to) word) []
 born code g context at variables s to word otherwise kind here room found =
     let row = row_at g.layout g.thread g.used in
-    let slot : Slot = Owned kind in
-    let in_slots : to < length s.slots = omega (arith, here.variable, here.inside.slots) in
+    let var : VarState = Owned kind in
+    let in_vars : to < length s.vars = omega (arith, here.variable, here.inside.vars) in
     let in_rows : to < length variables = omega (arith, here.variable, here.inside.rows) in
-    let next : IsInside (call_of code context) (at + 1) (slice_set variables to (Some row)) (put s to slot) = record {
+    let next : IsInside (call_of code context) (at + 1) (slice_set variables to (Some row)) (put s to var) = record {
       is_call = here.inside.is_call;
       exits = here.inside.exits ++ Success ∷ [];
       arrived = here.owned_next;
-      slots = length-set s.slots to slot ∙ here.inside.slots;
+      vars = length-set s.vars to var ∙ here.inside.vars;
       rows = length-set variables to (Some row) ∙ here.inside.rows;
-      grounded = grounded-put (call_of code context) s variables to slot (Some row) in_slots in_rows (row, refl)
+      grounded = grounded-put (call_of code context) s variables to var (Some row) in_vars in_rows (row, refl)
           here.inside.grounded;
     } in
-    let held_now : HoldsAlone g.bag g.thread (once_each (of_variables (call_of code context) (put s to slot)
+    let held_now : HoldsAlone g.bag g.thread (once_each (of_variables (call_of code context) (put s to var)
     (slice_set variables to (Some row))))
     (BirthKind row (by_variable context to) word ∷ []) =
     record {
-      each = newref_held g.bag g.thread (call_of code context) s variables to row slot in_slots in_rows
+      each = newref_held g.bag g.thread (call_of code context) s variables to row var in_vars in_rows
           here.free refl here.holds;
     } in
     record {
       placed = (
-        put s to slot,
+        put s to var,
         next,
-        guards-put s variables to slot (Some row) s.locked g.locked here.unlocked here.guards,
+        guards-put s variables to var (Some row) s.locked g.locked here.unlocked here.guards,
         held_now,
       );
       starts = Bears (by_variable context to) word (ltb-true g.used (block_size g.layout g.thread) room) here.few_cells
@@ -129,22 +129,22 @@ pub refused : (code : List Instr) (g : Scene) (context : Context) (at : ℕ) (va
     (to otherwise : ℕ) → (inside : IsInside (call_of code context) at variables s)
     → Holds g.bag g.thread (of_variables (call_of code context) s variables)
     → LocksAgree s variables g.locked → names s.locked to ≡ false → to < variable_count
-    → is_owned (slot_of s to) ≡ false → path_end code (inside.exits ++ Fault ∷ []) ≡ At otherwise (put s to Empty)
+    → is_owned (var_of s to) ≡ false → path_end code (inside.exits ++ Fault ∷ []) ≡ At otherwise (put s to Empty)
     → SilentTaken code g [] (InCall context otherwise (slice_set variables to None))
 refused code g context at variables s to otherwise inside holds guards unlocked low free arrived =
-    let in_slots : to < length s.slots = omega (arith, low, inside.slots) in
+    let in_vars : to < length s.vars = omega (arith, low, inside.vars) in
     let in_rows : to < length variables = omega (arith, low, inside.rows) in
     let next : IsInside (call_of code context) otherwise (slice_set variables to None) (put s to Empty) = record {
       is_call = inside.is_call;
       exits = inside.exits ++ Fault ∷ [];
       arrived = arrived;
-      slots = length-set s.slots to Empty ∙ inside.slots;
+      vars = length-set s.vars to Empty ∙ inside.vars;
       rows = length-set variables to None ∙ inside.rows;
-      grounded = grounded-put (call_of code context) s variables to Empty None in_slots in_rows tt inside.grounded;
+      grounded = grounded-put (call_of code context) s variables to Empty None in_vars in_rows tt inside.grounded;
     } in
     let cleared : Holds g.bag g.thread (of_variables (call_of code context) (put s to Empty)
     (slice_set variables to None)) =
-    record { each = cleared_held g.bag g.thread (call_of code context) s variables to in_slots free holds } in
+    record { each = cleared_held g.bag g.thread (call_of code context) s variables to in_vars free holds } in
     record {
       moves_fit = Stays;
       placed = (

@@ -9,10 +9,10 @@ use Rattle.brc_lang.specs.declared.mode.Mode.{Mode}
 use Rattle.brc_lang.specs.declared.kind.Kind.{Kind}
 use Rattle.brc_lang.specs.declared.kind.Kind.TheVariants as kinds
 use Rattle.brc_word.specs.Words.{kind_part}
-use Rattle.brc_model.specs.declared.slot.Slot.TheVariants.{Empty, Owned}
-use Rattle.brc_model.specs.declared.slot.State.{State}
-use Rattle.brc_model.specs.declared.slot.Exit.{Exit}
-use Rattle.brc_model.specs.declared.slot.Exit.TheVariants.{Success, Fault}
+use Rattle.brc_model.specs.declared.state.VarState.TheVariants.{Empty, Owned}
+use Rattle.brc_model.specs.declared.state.State.{State}
+use Rattle.brc_model.specs.declared.state.Exit.{Exit}
+use Rattle.brc_model.specs.declared.state.Exit.TheVariants.{Success, Fault}
 use Rattle.brc_model.specs.declared.duty.Duty.TheVariants.{BirthKind, KindLoad, LendSlot, ReturnSlot}
 use Rattle.brc_model.specs.declared.actor.Place.{Place}
 use Rattle.brc_model.specs.declared.actor.Context.{Context}
@@ -20,7 +20,7 @@ use Rattle.brc_model.specs.declared.actor.Place.TheVariants.{InCall, Inside}
 use Rattle.brc_model.specs.declared.actor.Stage.{Stage}
 use Rattle.brc_model.specs.declared.actor.Stage.TheVariants.{Loaded, Lent, Called, Granted}
 use Rattle.brc_model.specs.Kinds.{kind_numbered, kind_of_word, is_counted_kind}
-use Rattle.brc_model.specs.Slots.{slot_of, is_empty, is_owned, kind_of, names, put, is_one_of, with_resource}
+use Rattle.brc_model.specs.VarStates.{var_of, is_empty, is_owned, kind_of, names, put, is_one_of, with_resource}
 use Rattle.brc_model.specs.Paths.{At, path_end}
 use Rattle.brc_model.specs.Threads.{row_of}
 use Rattle.brc_model.specs.KnownKinds.{IsTrueKind}
@@ -37,7 +37,7 @@ use Rattle.brc_model.proofs.Dispatch.Guards.{LocksAgree, HeldBeside, guards_row}
 use Rattle.brc_model.proofs.Dispatch.Lending.{lent_to}
 use Rattle.brc_model.proofs.Dispatch.Coded.{has_stage, in_flight, fits_with}
 use Rattle.brc_model.proofs.Dispatch.Decided.{exit_decides}
-use Rattle.brc_model.proofs.Dispatch.Begins.{Scene, words_of, StandsAt, StandsInside, Backs, Asks, Lends, Returns, Nothing, Taken, SilentTaken, IsTaken, taken_with_row, holds_at_none, in_call_stays, inside_stays}
+use Rattle.brc_model.proofs.Dispatch.TakingUp.{Scene, words_of, StandsAt, StandsInside, Backs, Asks, Lends, Returns, Nothing, Taken, SilentTaken, IsTaken, taken_with_row, holds_at_none, in_call_stays, inside_stays}
 use Rattle.brc_model.proofs.Dispatch.Standing.{named_at, keeps_all}
 use Rattle.brc_model.proofs.Dispatch.TakingBirths.{born, refused, number_cells, number_counts}
 use Rattle.brc_model.proofs.Dispatch.TakingItems.{inside_fits, holds_nothing_in_flight}
@@ -120,7 +120,7 @@ module _ (code : List Instr) (g : Scene) (context : Context) (at : ℕ) (rows : 
         is_call = here.inside.is_call;
         exits = here.inside.exits ++ exit ∷ [];
         arrived = arrived;
-        slots = here.inside.slots;
+        vars = here.inside.vars;
         rows = here.inside.rows;
         grounded = here.inside.grounded;
       } in
@@ -139,7 +139,7 @@ module _ (code : List Instr) (g : Scene) (context : Context) (at : ℕ) (rows : 
   -- The other point, where the variable is empty.
   at_other : (i : Instr) (to otherwise : ℕ) → (here : Rests code context g at rows s i) → names s.locked to ≡ false
       → to < 16
-      → is_owned (slot_of s to) ≡ false
+      → is_owned (var_of s to) ≡ false
       → path_end code (here.inside.exits ++ Fault ∷ []) ≡ At otherwise (put s to Empty)
       → SilentTaken code g [] (InCall context otherwise (slice_set rows to None))
   at_other i to otherwise here unlocked low free arrived =
@@ -149,7 +149,7 @@ module _ (code : List Instr) (g : Scene) (context : Context) (at : ℕ) (rows : 
 
   grant_taken : (i : Instr) (to otherwise : ℕ) → (here : Rests code context g at rows s i) → names s.locked to ≡ false
       → to < 16
-      → is_owned (slot_of s to) ≡ false → in_flight (Some i) Granted rows ≡ None → has_stage (Some i) Granted ≡ true
+      → is_owned (var_of s to) ≡ false → in_flight (Some i) Granted rows ≡ None → has_stage (Some i) Granted ≡ true
       → path_end code (here.inside.exits ++ Fault ∷ []) ≡ At otherwise (put s to Empty)
       → IsTaken code g (grant_action g.layout g.thread g.used context at rows to otherwise)
   grant_taken i to otherwise here unlocked low free none staged arrived =
@@ -160,7 +160,7 @@ module _ (code : List Instr) (g : Scene) (context : Context) (at : ℕ) (rows : 
 
   granted_taken : (i : Instr) (to word otherwise : ℕ) (kind : Kind)
       → (here : StandsInside code context g at rows s Granted i) → in_flight (Some i) Granted rows ≡ None
-      → names s.locked to ≡ false → to < 16 → is_owned (slot_of s to) ≡ false → cells_of word ≤ cell_limit
+      → names s.locked to ≡ false → to < 16 → is_owned (var_of s to) ≡ false → cells_of word ≤ cell_limit
       → is_counted_kind (kind_of_word word) ≡ true
       → path_end code (here.inside.exits ++ Success ∷ []) ≡ At (at + 1) (put s to (Owned kind))
       → path_end code (here.inside.exits ++ Fault ∷ []) ≡ At otherwise (put s to Empty)
@@ -201,7 +201,7 @@ module _ (code : List Instr) (g : Scene) (context : Context) (at : ℕ) (rows : 
       taken_with_row code g row (row_of rows file) (λ x. Does (LendSlot x) [] (always place)) is taken
 
   return_taken : (stage : Stage) (i : Instr) (file : ℕ) (place : Place) → StandsInside code context g at rows s stage i
-      → is_empty (slot_of s file) ≡ false → lent_to stage (Some i) rows ≡ row_of rows file
+      → is_empty (var_of s file) ≡ false → lent_to stage (Some i) rows ≡ row_of rows file
       → SilentTaken code g [] place → IsTaken code g (return_action rows file place)
   return_taken stage i file place here some lends there =
       let named = named_inside code g context at rows s stage i file here some in
@@ -268,7 +268,7 @@ module _ (code : List Instr) (g : Scene) (context : Context) (at : ℕ) (rows : 
       (Silent [] (InCall context otherwise (slice_set rows to None)))
       (λ room.
       lend_taken i file row rests named.is_row named.backs (not-false _ (first_false _ _ here.met.has_lock)) here.unlent
-      (resource_word (kind_of (slot_of s file)) (words_of g row) (here.kinds file row named.is_row)
+      (resource_word (kind_of (var_of s file)) (words_of g row) (here.kinds file row named.is_row)
       (not-false _ (first_false _ _ here.met.right_kind))) refl refl
       (keeps_all code context g before at rows s i (LendSlot row) here (λ k object. refl)))
       (at_other i to otherwise rests (first_false _ _ here.met.unlocked) here.variables.0
@@ -323,7 +323,7 @@ module _ (code : List Instr) (g : Scene) (context : Context) (at : ℕ) (rows : 
       let i = Write file number otherwise in
       let place = Inside context at rows Loaded in
       let named = named_at code context g before at rows s i number here
-      (first_false _ _ (second_false (is_empty (slot_of s file)) _ here.met.not_empty)) in
+      (first_false _ _ (second_false (is_empty (var_of s file)) _ here.met.not_empty)) in
       let row = named.object in
       let there = at_stage Loaded i (rests_at before i here) refl refl in
       let taken : (found : ℕ) → Taken code g found place (KindLoad row) [] = λ found. record {
@@ -345,7 +345,7 @@ module _ (code : List Instr) (g : Scene) (context : Context) (at : ℕ) (rows : 
       let row = named.object in
       lend_taken i file row (rests_within Loaded i here refl) named.is_row named.backs
       (not-false _ (first_false _ _ here.met.has_lock)) here.lent
-      (resource_word (kind_of (slot_of s file)) (words_of g row) (here.kinds file row named.is_row)
+      (resource_word (kind_of (var_of s file)) (words_of g row) (here.kinds file row named.is_row)
       (not-false _ (first_false _ _ here.met.right_kind))) refl refl
       (all_kept code g context at rows s Loaded i (LendSlot row) here (λ k object. refl))
 

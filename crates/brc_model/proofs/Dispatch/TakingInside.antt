@@ -7,11 +7,11 @@ use Rattle.std.proofs.lemmas.Bool.{not-false}
 use Rattle.brc_lang.specs.declared.module.Instr.{Instr}
 use Rattle.brc_lang.specs.declared.module.Instr.TheVariants.{Borrow, Fetch}
 use Rattle.brc_lang.specs.declared.kind.Kind.TheVariants as kinds
-use Rattle.brc_model.specs.declared.slot.Slot.{Slot}
-use Rattle.brc_model.specs.declared.slot.Slot.TheVariants.{Empty, Owned, Locked}
-use Rattle.brc_model.specs.declared.slot.State.{State}
-use Rattle.brc_model.specs.declared.slot.Exit.{Exit}
-use Rattle.brc_model.specs.declared.slot.Exit.TheVariants.{Success, Fault}
+use Rattle.brc_model.specs.declared.state.VarState.{VarState}
+use Rattle.brc_model.specs.declared.state.VarState.TheVariants.{Empty, Owned, Locked}
+use Rattle.brc_model.specs.declared.state.State.{State}
+use Rattle.brc_model.specs.declared.state.Exit.{Exit}
+use Rattle.brc_model.specs.declared.state.Exit.TheVariants.{Success, Fault}
 use Rattle.brc_model.specs.declared.duty.Holding.{Holding}
 use Rattle.brc_model.specs.declared.duty.Holding.TheVariants.{InFlight}
 use Rattle.brc_model.specs.declared.duty.Duty.{Duty}
@@ -21,7 +21,7 @@ use Rattle.brc_model.specs.declared.actor.Context.{Context}
 use Rattle.brc_model.specs.declared.actor.Place.TheVariants.{InCall, Inside}
 use Rattle.brc_model.specs.declared.actor.Stage.{Stage}
 use Rattle.brc_model.specs.declared.actor.Stage.TheVariants.{InRange, Found}
-use Rattle.brc_model.specs.Slots.{slot_of, is_empty, is_owned, names, put, without_item, without_items}
+use Rattle.brc_model.specs.VarStates.{var_of, is_empty, is_owned, names, put, without_item, without_items}
 use Rattle.brc_model.specs.Paths.{At, path_end}
 use Rattle.brc_model.specs.Threads.{row_of}
 use Rattle.brc_model.specs.Duties.{cells_of}
@@ -34,8 +34,8 @@ use Rattle.brc_model.proofs.Dispatch.Holds.{of_variables, of_inside, inside_none
 use Rattle.brc_model.proofs.Dispatch.Grounded.{IsGrounded, IsInside, grounded-put, grounded-without}
 use Rattle.brc_model.proofs.Dispatch.Guards.{outer_flight, HeldLocked, HeldBeside, guards-put, guards_row, guards_held}
 use Rattle.brc_model.proofs.Dispatch.Coded.{in_flight}
-use Rattle.brc_model.proofs.Dispatch.Begins.{Scene, words_of, StandsInside, Backs, ByList, Takes, Loads, Nothing, Taken, IsTaken, taken_with_row, in_call_stays, inside_stays, newref_held, unowned_held, cleared_held}
-use Rattle.brc_model.proofs.Dispatch.Standing.{Named, named_slot}
+use Rattle.brc_model.proofs.Dispatch.TakingUp.{Scene, words_of, StandsInside, Backs, ByList, Takes, Loads, Nothing, Taken, IsTaken, taken_with_row, in_call_stays, inside_stays, newref_held, unowned_held, cleared_held}
+use Rattle.brc_model.proofs.Dispatch.Standing.{Named, named_var}
 use Rattle.brc_model.proofs.Dispatch.Decided.{item_decides}
 use Rattle.brc_model.proofs.Dispatch.TakingItems.{inside_fits, holds_nothing_in_flight}
 
@@ -57,9 +57,9 @@ module _ (code : List Instr) (g : Scene) (context : Context) (at : ℕ) (rows : 
       holds_inside g.bag g.thread (call_of code context) (in_flight (Some i) stage rows) s rows here.holds
 
   pub named_inside : (stage : Stage) (i : Instr) (v : ℕ) → StandsInside code context g at rows s stage i
-      → is_empty (slot_of s v) ≡ false → Named g (row_of rows v)
+      → is_empty (var_of s v) ≡ false → Named g (row_of rows v)
   named_inside stage i v here some =
-      named_slot g (call_of code context) s rows v (slot_of s v) refl some (here.inside.grounded v)
+      named_var g (call_of code context) s rows v (var_of s v) refl some (here.inside.grounded v)
       (variables_held stage i here) here.items
 
   pub lock_inside : (stage : Stage) (i : Instr) → StandsInside code context g at rows s stage i → (x : ℕ) → g.locked
@@ -103,20 +103,20 @@ module _ (code : List Instr) (g : Scene) (context : Context) (at : ℕ) (rows : 
   -- ---- the next point
 
   -- The exit leads to a point where one variable has changed.
-  next_put : (stage : Stage) (i : Instr) (exit : Exit) (next to : ℕ) (slot : Slot) (row : Option ℕ)
-      → (here : StandsInside code context g at rows s stage i) → to < 16 → IsGrounded (call_of code context) slot row
-      → path_end code (here.inside.exits ++ exit ∷ []) ≡ At next (put s to slot)
-      → IsInside (call_of code context) next (slice_set rows to row) (put s to slot)
-  next_put stage i exit next to slot row here low grounded arrived =
-      let in_slots : to < length s.slots = omega (arith, low, here.inside.slots) in
+  next_put : (stage : Stage) (i : Instr) (exit : Exit) (next to : ℕ) (var : VarState) (row : Option ℕ)
+      → (here : StandsInside code context g at rows s stage i) → to < 16 → IsGrounded (call_of code context) var row
+      → path_end code (here.inside.exits ++ exit ∷ []) ≡ At next (put s to var)
+      → IsInside (call_of code context) next (slice_set rows to row) (put s to var)
+  next_put stage i exit next to var row here low grounded arrived =
+      let in_vars : to < length s.vars = omega (arith, low, here.inside.vars) in
       let in_rows : to < length rows = omega (arith, low, here.inside.rows) in
       record {
         is_call = here.inside.is_call;
         exits = here.inside.exits ++ exit ∷ [];
         arrived = arrived;
-        slots = length-set s.slots to slot ∙ here.inside.slots;
+        vars = length-set s.vars to var ∙ here.inside.vars;
         rows = length-set rows to row ∙ here.inside.rows;
-        grounded = grounded-put (call_of code context) s rows to slot row in_slots in_rows grounded
+        grounded = grounded-put (call_of code context) s rows to var row in_vars in_rows grounded
             here.inside.grounded;
       }
 
@@ -129,7 +129,7 @@ module _ (code : List Instr) (g : Scene) (context : Context) (at : ℕ) (rows : 
     is_call = here.inside.is_call;
     exits = here.inside.exits ++ exit ∷ [];
     arrived = arrived;
-    slots = length-map s.slots without_item ∙ here.inside.slots;
+    vars = length-map s.vars without_item ∙ here.inside.vars;
     rows = here.inside.rows;
     grounded = grounded-without (call_of code context) s rows here.inside.grounded;
   }
@@ -140,17 +140,17 @@ module _ (code : List Instr) (g : Scene) (context : Context) (at : ℕ) (rows : 
       → path_end code (here.inside.exits ++ exit ∷ []) ≡ At next (without_items (put s from Empty))
       → IsInside (call_of code context) next (slice_set rows from None) (without_items (put s from Empty))
   next_given stage i exit next from here low arrived =
-      let in_slots : from < length s.slots = omega (arith, low, here.inside.slots) in
+      let in_vars : from < length s.vars = omega (arith, low, here.inside.vars) in
       let in_rows : from < length rows = omega (arith, low, here.inside.rows) in
       record {
         is_call = here.inside.is_call;
         exits = here.inside.exits ++ exit ∷ [];
         arrived = arrived;
-        slots = length-map (put s from Empty).slots without_item ∙ length-set s.slots from Empty ∙ here.inside.slots;
+        vars = length-map (put s from Empty).vars without_item ∙ length-set s.vars from Empty ∙ here.inside.vars;
         rows = length-set rows from None ∙ here.inside.rows;
         grounded =
             grounded-without (call_of code context) (put s from Empty) (slice_set rows from None)
-            (grounded-put (call_of code context) s rows from Empty None in_slots in_rows tt here.inside.grounded);
+            (grounded-put (call_of code context) s rows from Empty None in_vars in_rows tt here.inside.grounded);
       }
 
   -- ---- borrow and fetch: the cell is loaded
@@ -158,13 +158,13 @@ module _ (code : List Instr) (g : Scene) (context : Context) (at : ℕ) (rows : 
   -- The cell is empty, so the variable is empty at the fault exit.
   nothing_found : (i : Instr) (to row index otherwise found : ℕ)
       → (here : StandsInside code context g at rows s InRange i) → in_flight (Some i) InRange rows ≡ None → to < 16
-      → is_owned (slot_of s to) ≡ false → names s.locked to ≡ false
+      → is_owned (var_of s to) ≡ false → names s.locked to ≡ false
       → Backs g row → g.locked ≡ Some row → index < cells_of (words_of g row)
       → path_end code (here.inside.exits ++ Fault ∷ []) ≡ At otherwise (put s to Empty)
       → Taken code g found (InCall context otherwise (slice_set rows to None)) (CellLoad row index) []
   nothing_found i to row index otherwise found here is low free unlocked backs has within arrived =
-      let in_slots : to < length s.slots = omega (arith, low, here.inside.slots) in
-      let cleared = cleared_held g.bag g.thread (call_of code context) s rows to in_slots free
+      let in_vars : to < length s.vars = omega (arith, low, here.inside.vars) in
+      let cleared = cleared_held g.bag g.thread (call_of code context) s rows to in_vars free
       (holds_still InRange i here is) in
       record {
         placed = (
@@ -184,19 +184,19 @@ module _ (code : List Instr) (g : Scene) (context : Context) (at : ℕ) (rows : 
       (Some (Borrow to list index otherwise)))
   borrow_inside to list index otherwise here =
       let i = Borrow to list index otherwise in
-      let free : is_owned (slot_of s to) ≡ false = first_false _ _ here.met.free in
+      let free : is_owned (var_of s to) ≡ false = first_false _ _ here.met.free in
       let unlocked : names s.locked to ≡ false = first_false _ _ here.met.unlocked in
       let named = named_inside InRange i list here (first_false _ _ here.met.not_empty) in
       let row = named.object in
       let has =
       uses_locked InRange i list row here (not-false _ (first_false _ _ here.met.has_lock)) named.is_row in
       let within : index < cells_of (words_of g row) = here.cell row named.is_row in
-      let in_slots : to < length s.slots = omega (arith, here.variables.0, here.inside.slots) in
+      let in_vars : to < length s.vars = omega (arith, here.variables.0, here.inside.vars) in
       let empty = InCall context otherwise (slice_set rows to None) in
       let there : (item : ℕ) → Place = λ item. InCall context (at + 1) (slice_set rows to (Some item)) in
       let found_item : (item : ℕ) → Taken code g (suc item) (there item) (CellLoad row index) [] = λ item.
       let same =
-      unowned_held g.bag g.thread (call_of code context) s rows to (Locked kinds.Any) (Some item) in_slots free refl
+      unowned_held g.bag g.thread (call_of code context) s rows to (Locked kinds.Any) (Some item) in_vars free refl
       (holds_still InRange i here refl) in
       record {
         placed = (
@@ -222,7 +222,7 @@ module _ (code : List Instr) (g : Scene) (context : Context) (at : ℕ) (rows : 
       (Some (Fetch to list index otherwise)))
   fetch_inside to list index otherwise here =
       let i = Fetch to list index otherwise in
-      let free : is_owned (slot_of s to) ≡ false = first_false _ _ here.met.free in
+      let free : is_owned (var_of s to) ≡ false = first_false _ _ here.met.free in
       let unlocked : names s.locked to ≡ false = first_false _ _ here.met.unlocked in
       let named = named_inside InRange i list here (first_false _ _ here.met.not_empty) in
       let row = named.object in
@@ -255,19 +255,19 @@ module _ (code : List Instr) (g : Scene) (context : Context) (at : ℕ) (rows : 
       (Some (Fetch to list index otherwise)))
   found_inside to list index otherwise item here =
       let i = Fetch to list index otherwise in
-      let slot : Slot = Owned kinds.Any in
-      let free : is_owned (slot_of s to) ≡ false = first_false _ _ here.met.free in
+      let var : VarState = Owned kinds.Any in
+      let free : is_owned (var_of s to) ≡ false = first_false _ _ here.met.free in
       let unlocked : names s.locked to ≡ false = first_false _ _ here.met.unlocked in
-      let in_slots : to < length s.slots = omega (arith, here.variables.0, here.inside.slots) in
+      let in_vars : to < length s.vars = omega (arith, here.variables.0, here.inside.vars) in
       let in_rows : to < length rows = omega (arith, here.variables.0, here.inside.rows) in
       λ found. record {
         placed = (
-          put s to slot,
-          next_put (Found item) i Success (at + 1) to slot (Some item) here here.variables.0 (item, refl)
+          put s to var,
+          next_put (Found item) i Success (at + 1) to var (Some item) here here.variables.0 (item, refl)
               (here.leads Success (at + 1) refl),
-          guards-put s rows to slot (Some item) s.locked g.locked unlocked here.guards,
+          guards-put s rows to var (Some item) s.locked g.locked unlocked here.guards,
           record {
-            each = newref_held g.bag g.thread (call_of code context) s rows to item slot in_slots in_rows free refl
+            each = newref_held g.bag g.thread (call_of code context) s rows to item var in_vars in_rows free refl
                 (holds_still (Found item) i here refl);
           },
         );

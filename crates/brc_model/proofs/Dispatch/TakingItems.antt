@@ -5,9 +5,9 @@ use Rattle.std.specs.Prelude.{nat_lt, slice_get, slice_set}
 use Rattle.std.proofs.lemmas.List.{length-set, length-map}
 use Rattle.brc_lang.specs.declared.module.Instr.{Instr}
 use Rattle.brc_lang.specs.declared.module.Instr.TheVariants.{Borrow, Fetch, Set, Put}
-use Rattle.brc_model.specs.declared.slot.Slot.TheVariants.{Empty}
-use Rattle.brc_model.specs.declared.slot.State.{State}
-use Rattle.brc_model.specs.declared.slot.Exit.TheVariants.{Fault}
+use Rattle.brc_model.specs.declared.state.VarState.TheVariants.{Empty}
+use Rattle.brc_model.specs.declared.state.State.{State}
+use Rattle.brc_model.specs.declared.state.Exit.TheVariants.{Fault}
 use Rattle.brc_model.specs.declared.duty.Duty.{Duty}
 use Rattle.brc_model.specs.declared.duty.Duty.TheVariants.{KindLoad}
 use Rattle.brc_model.specs.declared.actor.Place.{Place}
@@ -15,7 +15,7 @@ use Rattle.brc_model.specs.declared.actor.Context.{Context}
 use Rattle.brc_model.specs.declared.actor.Place.TheVariants.{InCall, Inside, Exiting}
 use Rattle.brc_model.specs.declared.actor.Stage.{Stage}
 use Rattle.brc_model.specs.declared.actor.Stage.TheVariants.{InRange, OutOfRange}
-use Rattle.brc_model.specs.Slots.{slot_of, is_empty, is_owned, names, put, without_item, without_items}
+use Rattle.brc_model.specs.VarStates.{var_of, is_empty, is_owned, names, put, without_item, without_items}
 use Rattle.brc_model.specs.Paths.{At, path_end}
 use Rattle.brc_model.specs.Threads.{row_of}
 use Rattle.brc_model.specs.Duties.{cells_of}
@@ -28,7 +28,7 @@ use Rattle.brc_model.proofs.Dispatch.Holds.{once_each, Activation, of_variables,
 use Rattle.brc_model.proofs.Dispatch.Grounded.{IsInside, grounded-put, grounded-without, says-without}
 use Rattle.brc_model.proofs.Dispatch.Guards.{LocksAgree, guards-put, guards-without}
 use Rattle.brc_model.proofs.Dispatch.Coded.{has_stage, in_flight, PlaceFits}
-use Rattle.brc_model.proofs.Dispatch.Begins.{Scene, StandsAt, Backs, Asks, Nothing, Taken, IsTaken, taken_with_row, in_call_stays, inside_stays, cleared_held}
+use Rattle.brc_model.proofs.Dispatch.TakingUp.{Scene, StandsAt, Backs, Asks, Nothing, Taken, IsTaken, taken_with_row, in_call_stays, inside_stays, cleared_held}
 use Rattle.brc_model.proofs.Dispatch.Standing.{named_at, keeps_all}
 
 -- ---- a place inside an instruction
@@ -66,7 +66,7 @@ module _ {code : List Instr} {g : Scene} {before : Place} {context : Context} {a
     {s : State} where
   -- The thread holds what it held while it loads the list's kind word, wherever it then is.
   asks_first : (i : Instr) (list row found : ℕ) (place : Place) → StandsAt code context g before at variables s i
-      → is_empty (slot_of s list) ≡ false → row_of variables list ≡ Some row → (place ≢ Exiting)
+      → is_empty (var_of s list) ≡ false → row_of variables list ≡ Some row → (place ≢ Exiting)
       → PlaceFits code g.bag g.thread (KindLoad row ∷ []) g.locked place → Taken code g found place (KindLoad row) []
   asks_first i list row found place here some is stays fits =
       let named = named_at code context g before at variables s i list here some in
@@ -91,23 +91,23 @@ module _ {code : List Instr} {g : Scene} {before : Place} {context : Context} {a
 asks_empty : (code : List Instr) (g : Scene) (before : Place) (context : Context) (at : ℕ)
     (variables : List (Option ℕ)) (s : State)
     (i : Instr) (row to otherwise : ℕ)
-    → (here : StandsAt code context g before at variables s i) → to < 16 → is_owned (slot_of s to) ≡ false
+    → (here : StandsAt code context g before at variables s i) → to < 16 → is_owned (var_of s to) ≡ false
     → names s.locked to ≡ false
     → path_end code (here.inside.exits ++ Fault ∷ []) ≡ At otherwise (put s to Empty)
     → PlaceFits code g.bag g.thread (KindLoad row ∷ []) g.locked
     (InCall context otherwise (slice_set variables to None))
 asks_empty code g before context at variables s i row to otherwise here low free unlocked arrived =
-    let in_slots : to < length s.slots = omega (arith, low, here.inside.slots) in
+    let in_vars : to < length s.vars = omega (arith, low, here.inside.vars) in
     let in_rows : to < length variables = omega (arith, low, here.inside.rows) in
     let next : IsInside (call_of code context) otherwise (slice_set variables to None) (put s to Empty) = record {
       is_call = here.inside.is_call;
       exits = here.inside.exits ++ Fault ∷ [];
       arrived = arrived;
-      slots = length-set s.slots to Empty ∙ here.inside.slots;
+      vars = length-set s.vars to Empty ∙ here.inside.vars;
       rows = length-set variables to None ∙ here.inside.rows;
-      grounded = grounded-put (call_of code context) s variables to Empty None in_slots in_rows tt here.inside.grounded;
+      grounded = grounded-put (call_of code context) s variables to Empty None in_vars in_rows tt here.inside.grounded;
     } in
-    let cleared = cleared_held g.bag g.thread (call_of code context) s variables to in_slots free here.holds in (
+    let cleared = cleared_held g.bag g.thread (call_of code context) s variables to in_vars free here.holds in (
       put s to Empty,
       next,
       guards-put s variables to Empty None s.locked g.locked unlocked here.guards,
@@ -118,8 +118,8 @@ asks_empty code g before context at variables s i row to otherwise here low free
 brings_taken : (code : List Instr) (g : Scene) (before : Place) (context : Context) (at : ℕ)
     (variables : List (Option ℕ)) (s : State)
     (i : Instr) (to list index otherwise : ℕ)
-    → (here : StandsAt code context g before at variables s i) → to < 16 → is_owned (slot_of s to) ≡ false
-    → names s.locked to ≡ false → is_empty (slot_of s list) ≡ false
+    → (here : StandsAt code context g before at variables s i) → to < 16 → is_owned (var_of s to) ≡ false
+    → names s.locked to ≡ false → is_empty (var_of s list) ≡ false
     → in_flight (Some i) InRange variables ≡ None → has_stage (Some i) InRange ≡ true
     → path_end code (here.inside.exits ++ Fault ∷ []) ≡ At otherwise (put s to Empty)
     → IsTaken code g (with_row (row_of variables list)
@@ -170,7 +170,7 @@ module _ {code : List Instr} {g : Scene} {before : Place} {context : Context} {a
       (Some (Set list index from otherwise)))
   set_taken list index from otherwise here =
       let i = Set list index from otherwise in
-      let some : is_empty (slot_of s list) ≡ false = first_false _ _ (second_false _ _ here.met.not_empty) in
+      let some : is_empty (var_of s list) ≡ false = first_false _ _ (second_false _ _ here.met.not_empty) in
       let named = named_at code context g before at variables s i list here some in
       let row = named.object in
       let at_stage : (stage : Stage) → in_flight (Some i) stage variables ≡ None → has_stage (Some i) stage ≡ true
@@ -195,8 +195,8 @@ module _ {code : List Instr} {g : Scene} {before : Place} {context : Context} {a
       (Some (Put list index from otherwise)))
   put_taken list index from otherwise here =
       let i = Put list index from otherwise in
-      let some : is_empty (slot_of s list) ≡ false = first_false _ _
-      (second_false (is_empty (slot_of s from)) _ here.met.not_empty) in
+      let some : is_empty (var_of s list) ≡ false = first_false _ _
+      (second_false (is_empty (var_of s from)) _ here.met.not_empty) in
       let named = named_at code context g before at variables s i list here some in
       let row = named.object in
       let changed = without_items s in
@@ -204,7 +204,7 @@ module _ {code : List Instr} {g : Scene} {before : Place} {context : Context} {a
         is_call = here.inside.is_call;
         exits = here.inside.exits ++ Fault ∷ [];
         arrived = here.leads Fault otherwise refl;
-        slots = length-map s.slots without_item ∙ here.inside.slots;
+        vars = length-map s.vars without_item ∙ here.inside.vars;
         rows = here.inside.rows;
         grounded = grounded-without (call_of code context) s variables here.inside.grounded;
       } in

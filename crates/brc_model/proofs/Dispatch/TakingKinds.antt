@@ -4,9 +4,9 @@ use Rattle.std.proofs.lemmas.List.{length-set}
 use Rattle.brc_lang.specs.declared.module.Instr.{Instr}
 use Rattle.brc_lang.specs.declared.module.Instr.TheVariants.{As}
 use Rattle.brc_lang.specs.declared.kind.Kind.{Kind}
-use Rattle.brc_model.specs.declared.slot.State.{State}
-use Rattle.brc_model.specs.declared.slot.Exit.TheVariants.{Success, Fault}
-use Rattle.brc_model.specs.Slots.{slot_of, is_empty, put, with_kind}
+use Rattle.brc_model.specs.declared.state.State.{State}
+use Rattle.brc_model.specs.declared.state.Exit.TheVariants.{Success, Fault}
+use Rattle.brc_model.specs.VarStates.{var_of, is_empty, put, with_kind}
 use Rattle.brc_model.specs.Threads.{row_of}
 use Rattle.brc_model.specs.declared.duty.Duty.TheVariants.{KindLoad}
 use Rattle.brc_model.specs.Kinds.{kind_of_word, same_kind}
@@ -21,7 +21,7 @@ use Rattle.brc_model.proofs.Dispatch.Grounded.{IsInside, grounded-with_kind, say
 use Rattle.brc_model.proofs.Dispatch.Guards.{LocksAgree, HeldBeside, guards-with_kind}
 use Rattle.brc_model.proofs.Dispatch.Standing.{named_at, keeps_all}
 use Rattle.brc_model.proofs.Frame.Aside.{HoldsAlone}
-use Rattle.brc_model.proofs.Dispatch.Begins.{Scene, Backs, StandsAt, Asks, Nothing, Taken, IsTaken, taken_with_row, in_call_stays}
+use Rattle.brc_model.proofs.Dispatch.TakingUp.{Scene, Backs, StandsAt, Asks, Nothing, Taken, IsTaken, taken_with_row, in_call_stays}
 
 -- The thread holds what it held, wherever it goes on after it has loaded the kind.
 asks_taken : (code : List Instr) (g : Scene) (context : Context) (next found : ℕ)
@@ -49,28 +49,28 @@ module _ {code : List Instr} {g : Scene} {before : Place} {context : Context} {a
       → IsTaken code g (dispatch_instruction g.layout g.thread g.used before context at variables
       (Some (As from kind otherwise)))
   as_taken from kind otherwise here =
-      let some : is_empty (slot_of s from) ≡ false = first_false _ _ here.met.not_empty in
+      let some : is_empty (var_of s from) ≡ false = first_false _ _ here.met.not_empty in
       let live = named_at code context g before at variables s (As from kind otherwise) from here some in
-      let in_slots : from < length s.slots = omega (arith, here.variables.0, here.inside.slots) in
-      let narrowed = put s from (with_kind (slot_of s from) kind) in
+      let in_vars : from < length s.vars = omega (arith, here.variables.0, here.inside.vars) in
+      let narrowed = put s from (with_kind (var_of s from) kind) in
       let next : IsInside (call_of code context) (at + 1) variables narrowed = record {
         is_call = here.inside.is_call;
         exits = here.inside.exits ++ Success ∷ [];
         arrived = here.leads Success (at + 1) refl;
-        slots = length-set s.slots from (with_kind (slot_of s from) kind) ∙ here.inside.slots;
+        vars = length-set s.vars from (with_kind (var_of s from) kind) ∙ here.inside.vars;
         rows = here.inside.rows;
-        grounded = grounded-with_kind (call_of code context) s variables from kind in_slots here.inside.grounded;
+        grounded = grounded-with_kind (call_of code context) s variables from kind in_vars here.inside.grounded;
       } in
       let holds : Holds g.bag g.thread (of_variables (call_of code context) narrowed variables) = record {
         each = λ h object.
             here.holds.each h object ∙ ap one_if (says-with_kind (call_of code context) s variables from kind h object
-            in_slots);
+            in_vars);
       } in
       let aside : IsInside (call_of code context) otherwise variables s = record {
         is_call = here.inside.is_call;
         exits = here.inside.exits ++ Fault ∷ [];
         arrived = here.leads Fault otherwise refl;
-        slots = here.inside.slots;
+        vars = here.inside.vars;
         rows = here.inside.rows;
         grounded = here.inside.grounded;
       } in
@@ -83,7 +83,7 @@ module _ {code : List Instr} {g : Scene} {before : Place} {context : Context} {a
       λ found. either (λ (next : ℕ). Taken code g found (InCall context next variables) (KindLoad live.object) [])
       (same_kind (kind_of_word found) kind) _ _ (λ same.
       asks_taken code g context (at + 1) found variables narrowed live.object next
-      (guards-with_kind s variables from kind s.locked g.locked in_slots here.guards) holds live.backs keeps)
+      (guards-with_kind s variables from kind s.locked g.locked in_vars here.guards) holds live.backs keeps)
       (asks_taken code g context otherwise found variables s live.object aside here.guards here.holds live.backs keeps)
       in
       taken_with_row code g live.object (row_of variables from)

@@ -6,17 +6,17 @@ use Rattle.std.proofs.lemmas.Bool.{not-false}
 use Rattle.brc_lang.specs.declared.module.Instr.{Instr}
 use Rattle.brc_lang.specs.declared.module.Instr.TheVariants.{Lock, Unlock}
 use Rattle.brc_word.specs.Words.{free_word}
-use Rattle.brc_model.specs.declared.slot.Slot.{Slot}
-use Rattle.brc_model.specs.declared.slot.Slot.TheVariants.{Locked}
-use Rattle.brc_model.specs.declared.slot.State.{State}
-use Rattle.brc_model.specs.declared.slot.Exit.TheVariants.{Success}
+use Rattle.brc_model.specs.declared.state.VarState.{VarState}
+use Rattle.brc_model.specs.declared.state.VarState.TheVariants.{Locked}
+use Rattle.brc_model.specs.declared.state.State.{State}
+use Rattle.brc_model.specs.declared.state.Exit.TheVariants.{Success}
 use Rattle.brc_model.specs.declared.duty.Holding.{Holding}
 use Rattle.brc_model.specs.declared.duty.Holding.TheVariants.{ByVariable, AsCaller, InFlight}
 use Rattle.brc_model.specs.declared.duty.Duty.TheVariants.{LockGate, UnlockGate}
 use Rattle.brc_model.specs.declared.actor.Place.{Place}
 use Rattle.brc_model.specs.declared.actor.Context.{Context}
 use Rattle.brc_model.specs.declared.actor.Place.TheVariants.{InCall, Exiting}
-use Rattle.brc_model.specs.Slots.{slot_of, is_empty, kind_of, names, without_item, without_items, with_lock, is_one_of, lockable}
+use Rattle.brc_model.specs.VarStates.{var_of, is_empty, kind_of, names, without_item, without_items, with_lock, is_one_of, lockable}
 use Rattle.brc_model.specs.Threads.{row_of}
 use Rattle.brc_model.specs.References.{one_if}
 use Rattle.brc_model.specs.Actions.{Does, always, dispatch_instruction}
@@ -28,15 +28,15 @@ use Rattle.brc_model.proofs.Dispatch.Grounded.{IsInside, grounded-without, says-
 use Rattle.brc_model.proofs.Dispatch.Guards.{is_kept, guards_none, guards_row}
 use Rattle.brc_model.proofs.Dispatch.Coded.{PlaceFits, fits_with}
 use Rattle.brc_model.proofs.Dispatch.Lockable.{lockable_word}
-use Rattle.brc_model.proofs.Dispatch.Begins.{Scene, StandsAt, Locks, Unlocks, Nothing, Taken, IsTaken, taken_with_row, in_call_stays, words_of}
+use Rattle.brc_model.proofs.Dispatch.TakingUp.{Scene, StandsAt, Locks, Unlocks, Nothing, Taken, IsTaken, taken_with_row, in_call_stays, words_of}
 use Rattle.brc_model.proofs.Dispatch.Standing.{named_at, keeps_all}
 
 -- ---- lock
 
 -- A variable that isn't empty keeps its object, since no variable borrows an item while nothing is locked.
-slot_kept : (slot : Slot) → is_empty slot ≡ false → (borrows_item slot ≡ true → ⊥) → is_kept slot ≡ true
-slot_kept (Locked k) some none = absurd (none refl)
-slot_kept _ some none = cc
+var_kept : (var : VarState) → is_empty var ≡ false → (borrows_item var ≡ true → ⊥) → is_kept var ≡ true
+var_kept (Locked k) some none = absurd (none refl)
+var_kept _ some none = cc
 
 -- A lock changes nothing of what the thread is to hold.
 says_locked : (call : Activation) (s : State) (variables : List (Option ℕ)) (o : Option ℕ) (h : Holding) (object : ℕ)
@@ -66,20 +66,20 @@ module _ {code : List Instr} {g : Scene} {before : Place} {context : Context} {a
   pub lock_taken : (object : ℕ) → StandsAt code context g before at variables s (Lock object)
       → IsTaken code g (dispatch_instruction g.layout g.thread g.used before context at variables (Some (Lock object)))
   lock_taken object here =
-      let some : is_empty (slot_of s object) ≡ false = first_false _ _ here.met.not_empty in
+      let some : is_empty (var_of s object) ≡ false = first_false _ _ here.met.not_empty in
       let live = named_at code context g before at variables s (Lock object) object here some in
       let none : g.locked ≡ None =
       guards_none s variables s.locked g.locked (first_false _ _ here.met.first_lock) here.guards in
-      let no_items : borrows_item (slot_of s object) ≡ true → ⊥ = λ borrows.
+      let no_items : borrows_item (var_of s object) ≡ true → ⊥ = λ borrows.
       none_some _ (sym none ∙ (here.items object live.object borrows live.is_row).is_locked) in
-      let can : is_one_of (kind_of (slot_of s object)) lockable ≡ true =
+      let can : is_one_of (kind_of (var_of s object)) lockable ≡ true =
       not-false _ (first_false _ _ here.met.right_kind) in
       let locked = with_lock s (Some object) in
       let next : IsInside (call_of code context) (at + 1) variables locked = record {
         is_call = here.inside.is_call;
         exits = here.inside.exits ++ Success ∷ [];
         arrived = here.leads Success (at + 1) refl;
-        slots = here.inside.slots;
+        vars = here.inside.vars;
         rows = here.inside.rows;
         grounded = here.inside.grounded;
       } in
@@ -94,7 +94,7 @@ module _ {code : List Instr} {g : Scene} {before : Place} {context : Context} {a
       } in
       let goes : PlaceFits code g.bag g.thread (LockGate live.object ∷ []) (Some live.object)
       (InCall context (at + 1) variables) =
-      (locked, next, (live.object, refl, live.is_row, slot_kept (slot_of s object) some no_items), held_now) in
+      (locked, next, (live.object, refl, live.is_row, var_kept (var_of s object) some no_items), held_now) in
       let back = fits_with code g.bag g.thread (LockGate live.object ∷ []) g.locked before (λ k o. refl) (λ k o. refl)
       here.back in
       let taken : (found : ℕ)
@@ -106,7 +106,7 @@ module _ {code : List Instr} {g : Scene} {before : Place} {context : Context} {a
       record {
         placed = placed.0;
         starts = Locks live.object live.backs (here.counted live.object
-            (lockable_word (kind_of (slot_of s object)) (words_of g live.object)
+            (lockable_word (kind_of (var_of s object)) (words_of g live.object)
             (here.kinds object live.object live.is_row) can)) none;
         follows = Nothing placed.1;
         keeps = λ x is. absurd (let wrong : None ≡ Some x = sym none ∙ is in cc);
@@ -121,7 +121,7 @@ module _ {code : List Instr} {g : Scene} {before : Place} {context : Context} {a
       → IsTaken code g (dispatch_instruction g.layout g.thread g.used before context at variables
       (Some (Unlock object)))
   unlock_taken object here =
-      let some : is_empty (slot_of s object) ≡ false = first_false _ _ here.met.not_empty in
+      let some : is_empty (var_of s object) ≡ false = first_false _ _ here.met.not_empty in
       let live = named_at code context g before at variables s (Unlock object) object here some in
       let this : names s.locked object ≡ true = not-false _ (first_false _ _ here.met.has_lock) in
       let has : g.locked ≡ Some live.object =
@@ -131,7 +131,7 @@ module _ {code : List Instr} {g : Scene} {before : Place} {context : Context} {a
         is_call = here.inside.is_call;
         exits = here.inside.exits ++ Success ∷ [];
         arrived = here.leads Success (at + 1) refl;
-        slots = length-map s.slots without_item ∙ here.inside.slots;
+        vars = length-map s.vars without_item ∙ here.inside.vars;
         rows = here.inside.rows;
         grounded = grounded-without (call_of code context) s variables here.inside.grounded;
       } in

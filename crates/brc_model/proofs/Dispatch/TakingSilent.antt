@@ -6,12 +6,12 @@ use Rattle.std.proofs.lemmas.List.{length-set}
 use Rattle.brc_lang.specs.declared.module.Instr.{Instr}
 use Rattle.brc_lang.specs.declared.module.Instr.TheVariants.{NoneObject, Move as MoveReference, Goto, Again}
 use Rattle.brc_lang.specs.declared.kind.Kind.TheVariants as kinds
-use Rattle.brc_model.specs.declared.slot.Slot.{Slot}
-use Rattle.brc_model.specs.declared.slot.Slot.TheVariants.{Empty, Owned}
-use Rattle.brc_model.specs.declared.slot.State.{State}
-use Rattle.brc_model.specs.declared.slot.Exit.{Exit}
-use Rattle.brc_model.specs.declared.slot.Exit.TheVariants.{Success, Fault}
-use Rattle.brc_model.specs.Slots.{slot_of, is_owned, kind_of, put, names, after, target}
+use Rattle.brc_model.specs.declared.state.VarState.{VarState}
+use Rattle.brc_model.specs.declared.state.VarState.TheVariants.{Empty, Owned}
+use Rattle.brc_model.specs.declared.state.State.{State}
+use Rattle.brc_model.specs.declared.state.Exit.{Exit}
+use Rattle.brc_model.specs.declared.state.Exit.TheVariants.{Success, Fault}
+use Rattle.brc_model.specs.VarStates.{var_of, is_owned, kind_of, put, names, after, target}
 use Rattle.brc_model.specs.Paths.{At}
 use Rattle.brc_model.specs.declared.duty.Holding.{Holding}
 use Rattle.brc_model.specs.declared.duty.Holding.TheVariants.{ByVariable}
@@ -20,17 +20,17 @@ use Rattle.brc_model.specs.Threads.{row_of}
 use Rattle.brc_model.specs.declared.actor.Place.{Place}
 use Rattle.brc_model.specs.declared.actor.Context.{Context}
 use Rattle.brc_model.specs.declared.actor.Place.TheVariants.{InCall}
-use Rattle.brc_model.specs.Actions.{turns_at, turned, dispatch_instruction, Silent, by_variable}
+use Rattle.brc_model.specs.Actions.{turns_at, with_turn, dispatch_instruction, Silent, by_variable}
 use Rattle.brc_model.specs.Moves.{gain, pass_on}
 use Rattle.brc_model.proofs.Basics.Bag.{held_has, held-without, held-cons}
 use Rattle.brc_model.specs.References.{held, one_if, reference_of}
 use Rattle.brc_model.proofs.Basics.Lists.{either, first_false, second_false}
 use Rattle.brc_model.proofs.Dispatch.Holds.{Activation, of_variables, Holds, owned_has, call_of}
-use Rattle.brc_model.proofs.Dispatch.Grounded.{IsInside, owned_slot, owned_row, grounded-put, slot_of-put_same, slot_of-put_other}
+use Rattle.brc_model.proofs.Dispatch.Grounded.{IsInside, owned_var, owned_row, grounded-put, var_of-put_same, var_of-put_other}
 use Rattle.brc_model.proofs.Stepping.Counts.{same_is}
 use Rattle.brc_model.proofs.Dispatch.Guards.{guards-put}
 use Rattle.brc_model.proofs.Dispatch.Coded.{PlaceFits}
-use Rattle.brc_model.proofs.Dispatch.Begins.{Scene, StandsAt, holds_at_none, IsTaken, taken_with_row, in_call_stays, newref_held, emptied_held, SilentTaken}
+use Rattle.brc_model.proofs.Dispatch.TakingUp.{Scene, StandsAt, holds_at_none, IsTaken, taken_with_row, in_call_stays, newref_held, emptied_held, SilentTaken}
 use Rattle.brc_model.proofs.Keeping.SilentMoves.{Stays, GainsNone, PassesOn}
 use Rattle.std.proofs.lemmas.Bool.Decides.{eqb_tells}
 use Rattle.brc_model.specs.Layout.{none_row}
@@ -55,26 +55,26 @@ module _ {code : List Instr} {g : Scene} {before : Place} {context : Context} {a
       → IsTaken code g (dispatch_instruction g.layout g.thread g.used before context at variables
       (Some (NoneObject to)))
   none_taken to here =
-      let slot : Slot = Owned kinds.None in
-      let free : is_owned (slot_of s to) ≡ false = first_false _ _ here.met.free in
-      let in_slots : to < length s.slots = omega (arith, here.variables, here.inside.slots) in
+      let var : VarState = Owned kinds.None in
+      let free : is_owned (var_of s to) ≡ false = first_false _ _ here.met.free in
+      let in_vars : to < length s.vars = omega (arith, here.variables, here.inside.vars) in
       let in_rows : to < length variables = omega (arith, here.variables, here.inside.rows) in
-      let next : IsInside (call_of code context) (at + 1) (slice_set variables to (Some none_row)) (put s to slot) =
+      let next : IsInside (call_of code context) (at + 1) (slice_set variables to (Some none_row)) (put s to var) =
       record {
         is_call = here.inside.is_call;
         exits = here.inside.exits ++ Success ∷ [];
         arrived = here.leads Success (at + 1) refl;
-        slots = length-set s.slots to slot ∙ here.inside.slots;
+        vars = length-set s.vars to var ∙ here.inside.vars;
         rows = length-set variables to (Some none_row) ∙ here.inside.rows;
         grounded =
-            grounded-put (call_of code context) s variables to slot (Some none_row) in_slots in_rows (none_row, refl)
+            grounded-put (call_of code context) s variables to var (Some none_row) in_vars in_rows (none_row, refl)
             here.inside.grounded;
       } in
       let holds : Holds (reference_of g.thread (by_variable context to) none_row ∷ g.bag) g.thread
-      (of_variables (call_of code context) (put s to slot) (slice_set variables to (Some none_row))) =
+      (of_variables (call_of code context) (put s to var) (slice_set variables to (Some none_row))) =
       record {
         each = gained_holds g.bag g.thread (by_variable context to) none_row _
-            (newref_held g.bag g.thread (call_of code context) s variables to none_row slot in_slots in_rows free refl
+            (newref_held g.bag g.thread (call_of code context) s variables to none_row var in_vars in_rows free refl
             here.holds);
       } in
       let taken : SilentTaken code g (gain g.thread (by_variable context to) none_row)
@@ -82,9 +82,9 @@ module _ {code : List Instr} {g : Scene} {before : Place} {context : Context} {a
       record {
         moves_fit = GainsNone (by_variable context to);
         placed = (
-          put s to slot,
+          put s to var,
           next,
-          guards-put s variables to slot (Some none_row) s.locked g.locked
+          guards-put s variables to var (Some none_row) s.locked g.locked
               (first_false _ _ here.met.unlocked) here.guards,
           holds_at_none _ g.thread _ holds,
         );
@@ -97,12 +97,12 @@ module _ {code : List Instr} {g : Scene} {before : Place} {context : Context} {a
 -- Losing the reference that a variable owns, and emptying the variable, makes the bag fit what the thread is to hold.
 lost_holds : (bag : List Reference) (t : ℕ) (call : Activation) (s : State) (variables : List (Option ℕ))
     (from row : ℕ)
-    → from < length s.slots → is_owned (slot_of s from) ≡ true → row_of variables from ≡ Some row
+    → from < length s.vars → is_owned (var_of s from) ≡ true → row_of variables from ≡ Some row
     → Holds bag t (of_variables call s variables)
     → list_any (same (reference_of t (ByVariable call.depth from) row)) bag ≡ true
     → Holds (without (reference_of t (ByVariable call.depth from) row) bag) t
     (of_variables call (put s from Empty) (slice_set variables from None))
-lost_holds bag t call s variables from row in_slots owned is holds has = record {
+lost_holds bag t call s variables from row in_vars owned is holds has = record {
   each = λ k object.
       let r = reference_of t k object in
       let by = ByVariable call.depth from in
@@ -110,20 +110,20 @@ lost_holds bag t call s variables from row in_slots owned is holds has = record 
       ap one_if (same_is t row by k object) in
       omega (
         arith,
-        emptied_held bag t call s variables from row in_slots owned is holds k object,
+        emptied_held bag t call s variables from row in_vars owned is holds k object,
         held-without r (reference_of t by row) bag has,
         one,
       );
 }
 
-still_free : (s : State) (from to : ℕ) → from < length s.slots → is_owned (slot_of s to) ≡ false
-    → is_owned (slot_of (put s from Empty) to) ≡ false
-still_free s from to in_slots free =
+still_free : (s : State) (from to : ℕ) → from < length s.vars → is_owned (var_of s to) ≡ false
+    → is_owned (var_of (put s from Empty) to) ≡ false
+still_free s from to in_vars free =
     elim (eqb_tells to from) [
       | inl this ↦
-          ap (λ (x : ℕ). is_owned (slot_of (put s from Empty) x)) this.1
-          ∙ ap is_owned (slot_of-put_same s from Empty in_slots)
-      | inr other ↦ ap is_owned (slot_of-put_other s from to Empty other.1) ∙ free
+          ap (λ (x : ℕ). is_owned (var_of (put s from Empty) x)) this.1
+          ∙ ap is_owned (var_of-put_same s from Empty in_vars)
+      | inr other ↦ ap is_owned (var_of-put_other s from to Empty other.1) ∙ free
     ]
 
 module _ {code : List Instr} {g : Scene} {before : Place} {context : Context} {at : ℕ} {variables : List (Option ℕ)}
@@ -132,53 +132,53 @@ module _ {code : List Instr} {g : Scene} {before : Place} {context : Context} {a
       → IsTaken code g (dispatch_instruction g.layout g.thread g.used before context at variables
       (Some (MoveReference to from)))
   move_taken to from here =
-      let owned = owned_slot (slot_of s from) (first_false _ _ here.met.not_empty) (first_false _ _ here.met.owned) in
-      let free : is_owned (slot_of s to) ≡ false = first_false _ _ here.met.free in
-      let row = owned_row (call_of code context) (slot_of s from) (row_of variables from) owned
+      let owned = owned_var (var_of s from) (first_false _ _ here.met.not_empty) (first_false _ _ here.met.owned) in
+      let free : is_owned (var_of s to) ≡ false = first_false _ _ here.met.free in
+      let row = owned_row (call_of code context) (var_of s from) (row_of variables from) owned
       (here.inside.grounded from) in
-      let slot : Slot = Owned (kind_of (slot_of s from)) in
+      let var : VarState = Owned (kind_of (var_of s from)) in
       let s1 = put s from Empty in
       let v1 = slice_set variables from None in
       let r = reference_of g.thread (by_variable context from) row.0 in
-      let in_slots : from < length s.slots = omega (arith, here.variables.1, here.inside.slots) in
+      let in_vars : from < length s.vars = omega (arith, here.variables.1, here.inside.vars) in
       let in_rows : from < length variables = omega (arith, here.variables.1, here.inside.rows) in
-      let to_slots : to < length s1.slots =
-      omega (arith, here.variables.0, here.inside.slots, length-set s.slots from Empty) in
+      let to_vars : to < length s1.vars =
+      omega (arith, here.variables.0, here.inside.vars, length-set s.vars from Empty) in
       let to_rows : to < length v1 =
       omega (arith, here.variables.0, here.inside.rows, length-set variables from None) in
-      let grounded = grounded-put (call_of code context) s variables from Empty None in_slots in_rows tt
+      let grounded = grounded-put (call_of code context) s variables from Empty None in_vars in_rows tt
       here.inside.grounded in
-      let next : IsInside (call_of code context) (at + 1) (slice_set v1 to (Some row.0)) (put s1 to slot) = record {
+      let next : IsInside (call_of code context) (at + 1) (slice_set v1 to (Some row.0)) (put s1 to var) = record {
         is_call = here.inside.is_call;
         exits = here.inside.exits ++ Success ∷ [];
         arrived = here.leads Success (at + 1) refl;
-        slots = length-set s1.slots to slot ∙ length-set s.slots from Empty ∙ here.inside.slots;
+        vars = length-set s1.vars to var ∙ length-set s.vars from Empty ∙ here.inside.vars;
         rows = length-set v1 to (Some row.0) ∙ length-set variables from None ∙ here.inside.rows;
-        grounded = grounded-put (call_of code context) s1 v1 to slot (Some row.0) to_slots to_rows (row.0, refl)
+        grounded = grounded-put (call_of code context) s1 v1 to var (Some row.0) to_vars to_rows (row.0, refl)
             grounded;
       } in
       let one : held r g.bag ≡ 1 = owned_has g.bag g.thread (call_of code context) s variables from row.0 owned row.1
       here.holds in
       let has = held_has r g.bag (omega (arith, one)) in
-      let fewer = lost_holds g.bag g.thread (call_of code context) s variables from row.0 in_slots owned row.1
+      let fewer = lost_holds g.bag g.thread (call_of code context) s variables from row.0 in_vars owned row.1
       here.holds has in
       let holds : Holds (reference_of g.thread (by_variable context to) row.0 ∷ without r g.bag) g.thread
-      (of_variables (call_of code context) (put s1 to slot) (slice_set v1 to (Some row.0))) =
+      (of_variables (call_of code context) (put s1 to var) (slice_set v1 to (Some row.0))) =
       record {
         each = gained_holds (without r g.bag) g.thread (by_variable context to) row.0 _
-            (newref_held (without r g.bag) g.thread (call_of code context) s1 v1 to row.0 slot to_slots to_rows
-            (still_free s from to in_slots free) refl fewer);
+            (newref_held (without r g.bag) g.thread (call_of code context) s1 v1 to row.0 var to_vars to_rows
+            (still_free s from to in_vars free) refl fewer);
       } in
       let from_free : names s.locked from ≡ false = first_false _ _ here.met.unlocked in
       let to_free : names s.locked to ≡ false = first_false _ _ (second_false _ _ here.met.unlocked) in
       let guards =
-      guards-put s1 v1 to slot (Some row.0) s.locked g.locked to_free
+      guards-put s1 v1 to var (Some row.0) s.locked g.locked to_free
       (guards-put s variables from Empty None s.locked g.locked from_free here.guards) in
       let taken : SilentTaken code g (pass_on g.thread (by_variable context from) (by_variable context to) row.0)
       (InCall context (at + 1) (slice_set v1 to (Some row.0))) =
       record {
         moves_fit = PassesOn (by_variable context from) (by_variable context to) row.0 has;
-        placed = (put s1 to slot, next, guards, holds_at_none _ g.thread _ holds);
+        placed = (put s1 to var, next, guards, holds_at_none _ g.thread _ holds);
         stays = in_call_stays context (at + 1) (slice_set v1 to (Some row.0));
       } in
       taken_with_row code g row.0 (row_of variables from)
@@ -196,7 +196,7 @@ module _ {code : List Instr} {g : Scene} {before : Place} {context : Context} {a
         is_call = here.inside.is_call;
         exits = here.inside.exits ++ exit ∷ [];
         arrived = here.leads exit next to ∙ ap (At next) same;
-        slots = here.inside.slots;
+        vars = here.inside.vars;
         rows = here.inside.rows;
         grounded = here.inside.grounded;
       } in
@@ -219,7 +219,7 @@ module _ {code : List Instr} {g : Scene} {before : Place} {context : Context} {a
       → IsTaken code g (dispatch_instruction g.layout g.thread g.used before context at variables
       (Some (Again to times)))
   again_taken to times here =
-      either (SilentTaken code g []) (nat_lt (turns_at context at) times) (InCall (turned context at) to variables)
+      either (SilentTaken code g []) (nat_lt (turns_at context at) times) (InCall (with_turn context at) to variables)
       (InCall context (at + 1) variables)
-      (λ more. jump_taken code g (turned context at) to variables (jump_fits to (Again to times) Fault here refl refl))
+      (λ more. jump_taken code g (with_turn context at) to variables (jump_fits to (Again to times) Fault here refl refl))
       (jump_taken code g context (at + 1) variables (jump_fits (at + 1) (Again to times) Success here refl refl))

@@ -7,7 +7,7 @@ use Rattle.std.proofs.lemmas.Bool.{eq-eqb}
 use Rattle.std.proofs.lemmas.Bool.Decides.{eqb_tells}
 use Rattle.std.proofs.lemmas.List.{length-set}
 use Rattle.brc_lang.specs.declared.module.Instr.{Instr}
-use Rattle.brc_model.specs.declared.slot.State.{State}
+use Rattle.brc_model.specs.declared.state.State.{State}
 use Rattle.brc_model.specs.declared.actor.Context.{Context}
 use Rattle.brc_model.specs.declared.actor.Place.{Place}
 use Rattle.brc_model.specs.declared.actor.Place.TheVariants.{Idle, Stopping, Exiting}
@@ -16,7 +16,7 @@ use Rattle.brc_model.specs.declared.duty.Duty.{Duty}
 use Rattle.brc_model.specs.declared.duty.Duty.TheVariants.{ReleaseLoad, Settle, UnlockGate}
 use Rattle.brc_model.specs.AbstractState.{Reference}
 use Rattle.brc_model.specs.References.{held, one_if, reference_of}
-use Rattle.brc_model.specs.Slots.{names}
+use Rattle.brc_model.specs.VarStates.{names}
 use Rattle.brc_model.specs.Threads.{row_of}
 use Rattle.brc_model.specs.Actions.{Does, always, owned_rows, row_locked, none_of, holds_some, stopping, first_named, give_up_first, give_up}
 use Rattle.brc_model.proofs.Basics.Bag.{held-le-references_to}
@@ -28,7 +28,7 @@ use Rattle.brc_model.proofs.Dispatch.Grounded.{IsInside}
 use Rattle.brc_model.proofs.Dispatch.Guards.{LocksAgree}
 use Rattle.brc_model.proofs.Dispatch.Stopped.{rows_at, rows_here, rows_further, rows_past, of_stopped, IsStopped, stop_says, stop_stopped, stop_lock, first_names, given_says, passed_says, stopped_says}
 use Rattle.brc_model.proofs.Dispatch.Coded.{PlaceFits}
-use Rattle.brc_model.proofs.Dispatch.Begins.{Scene, ByOwn, Gives, Unlocks, Nothing, Settles, Follows, Taken, SilentTaken, IsTaken, taken_with_row, idle_stays}
+use Rattle.brc_model.proofs.Dispatch.TakingUp.{Scene, ByOwn, Gives, Unlocks, Nothing, Settles, MayFollow, Taken, SilentTaken, IsTaken, taken_with_row, idle_stays}
 
 -- ---- where a thread is that has stopped
 
@@ -67,10 +67,10 @@ pub stop_taken : (code : List Instr) (g : Scene) (context : Context) (at : ℕ) 
     → IsInside (call_of code context) at variables s → LocksAgree s variables g.locked
     → HoldsAlone g.bag g.thread (once_each (of_variables (call_of code context) s variables)) []
     → SilentTaken code g []
-    (stopping (row_locked s.locked variables) (owned_rows s.slots variables ∷ map none_of context.outer))
+    (stopping (row_locked s.locked variables) (owned_rows s.vars variables ∷ map none_of context.outer))
 stop_taken code g context at variables s inside guards holds =
     let lock = row_locked s.locked variables in
-    let calls = owned_rows s.slots variables ∷ map none_of context.outer in
+    let calls = owned_rows s.vars variables ∷ map none_of context.outer in
     record {
       moves_fit = Stays;
       placed =
@@ -113,7 +113,7 @@ stopped_unlocks code g row calls fits unlent found =
 
 -- After its release a thread settles if this was its last reference.
 settles_last : (b : Bool) (g : Scene) (place : Place) → place ≢ Exiting
-    → Follows g.layout g.thread g.used place (cond b [] (Settle ∷ []))
+    → MayFollow g.layout g.thread g.used place (cond b [] (Settle ∷ []))
 settles_last true g place stays = Nothing stays
 settles_last false g place stays = Settles stays
 

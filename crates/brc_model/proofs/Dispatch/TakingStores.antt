@@ -5,9 +5,9 @@ use Rattle.std.specs.Prelude.{◌==◌, ◌&&◌, slice_set}
 use Rattle.std.proofs.lemmas.Bool.{eq-eqb, not-false}
 use Rattle.brc_lang.specs.declared.module.Instr.{Instr}
 use Rattle.brc_lang.specs.declared.module.Instr.TheVariants.{Borrow, Fetch, Set, Put, Open, Connect, Read, Write}
-use Rattle.brc_model.specs.declared.slot.Slot.TheVariants.{Empty}
-use Rattle.brc_model.specs.declared.slot.State.{State}
-use Rattle.brc_model.specs.declared.slot.Exit.TheVariants.{Success, Fault}
+use Rattle.brc_model.specs.declared.state.VarState.TheVariants.{Empty}
+use Rattle.brc_model.specs.declared.state.State.{State}
+use Rattle.brc_model.specs.declared.state.Exit.TheVariants.{Success, Fault}
 use Rattle.brc_model.specs.declared.duty.Holding.{Holding}
 use Rattle.brc_model.specs.declared.duty.Holding.TheVariants.{ByVariable, AsCaller, InFlight}
 use Rattle.brc_model.specs.declared.duty.Duty.TheVariants.{RetainLoad, ReleaseLoad, Settle, CellSwap}
@@ -15,7 +15,7 @@ use Rattle.brc_model.specs.declared.actor.Context.{Context}
 use Rattle.brc_model.specs.declared.actor.Place.TheVariants.{InCall, Inside}
 use Rattle.brc_model.specs.declared.actor.Stage.{Stage}
 use Rattle.brc_model.specs.declared.actor.Stage.TheVariants.{InRange, OutOfRange, Found, Retained, Loaded, Lent, Called, Granted}
-use Rattle.brc_model.specs.Slots.{slot_of, is_empty, is_owned, names, put, without_items}
+use Rattle.brc_model.specs.VarStates.{var_of, is_empty, is_owned, names, put, without_items}
 use Rattle.brc_model.specs.Threads.{row_of}
 use Rattle.brc_model.specs.AbstractState.{same_holding, references_to}
 use Rattle.brc_model.specs.References.{held, one_if, reference_of}
@@ -24,10 +24,10 @@ use Rattle.brc_model.proofs.Basics.Bag.{held-le-references_to}
 use Rattle.brc_model.proofs.Basics.Lists.{first_false, second_false}
 use Rattle.brc_model.proofs.Stepping.Counts.{flip_eqb}
 use Rattle.brc_model.proofs.Dispatch.Holds.{of_variables, of_inside, Holds, call_of}
-use Rattle.brc_model.proofs.Dispatch.Grounded.{owned_slot, owned_row, says-without}
+use Rattle.brc_model.proofs.Dispatch.Grounded.{owned_var, owned_row, says-without}
 use Rattle.brc_model.proofs.Dispatch.Guards.{guards-put, guards-without, gives_keeps}
 use Rattle.brc_model.proofs.Dispatch.Coded.{in_flight}
-use Rattle.brc_model.proofs.Dispatch.Begins.{Scene, StandsInside, Gives, Takes, Swaps, Nothing, Settles, Taken, IsTaken, taken_with_row, in_call_stays, inside_stays, emptied_held}
+use Rattle.brc_model.proofs.Dispatch.TakingUp.{Scene, StandsInside, Gives, Takes, Swaps, Nothing, Settles, Taken, IsTaken, taken_with_row, in_call_stays, inside_stays, emptied_held}
 use Rattle.brc_model.proofs.Dispatch.Standing.{given_referenced}
 use Rattle.brc_model.proofs.Dispatch.TakingItems.{inside_fits}
 use Rattle.brc_model.proofs.Dispatch.TakingHost.{open_granted, connect_granted, read_lent, read_returned, read_failed, read_granted, write_loaded, write_lent, write_returned, write_failed}
@@ -38,10 +38,10 @@ module _ (code : List Instr) (g : Scene) (context : Context) (at : ℕ) (rows : 
 
   -- What the variable that gives up its reference owns.
   record Given (stage : Stage) (from : ℕ) : Type 0 where
-    owned : is_owned (slot_of s from) ≡ true
+    owned : is_owned (var_of s from) ≡ true
     row : ℕ
     is_row : row_of rows from ≡ Some row
-    in_slots : from < length s.slots
+    in_vars : from < length s.vars
     some : 0 < references_to row g.bag
     each : (k : Holding) (object : ℕ) → held (reference_of g.thread k object) g.bag + 0
         ≡ one_if (of_variables (call_of code context) (without_items (put s from Empty)) (slice_set rows from None) k
@@ -53,23 +53,23 @@ module _ (code : List Instr) (g : Scene) (context : Context) (at : ℕ) (rows : 
       → in_flight (Some (Set list index from otherwise)) stage rows ≡ None → Given stage from
   gives_from stage list index from otherwise here still =
       let i = Set list index from otherwise in
-      let owned = owned_slot (slot_of s from) (first_false _ _ here.met.not_empty) (first_false _ _ here.met.owned) in
-      let row = owned_row (call_of code context) (slot_of s from) (row_of rows from) owned (here.inside.grounded from)
+      let owned = owned_var (var_of s from) (first_false _ _ here.met.not_empty) (first_false _ _ here.met.owned) in
+      let row = owned_row (call_of code context) (var_of s from) (row_of rows from) owned (here.inside.grounded from)
       in
-      let in_slots : from < length s.slots = omega (arith, here.variables.2, here.inside.slots) in
+      let in_vars : from < length s.vars = omega (arith, here.variables.2, here.inside.vars) in
       let holds = holds_still code g context at rows s stage i here still in
       record {
         owned = owned;
         row = row.0;
         is_row = row.1;
-        in_slots = in_slots;
+        in_vars = in_vars;
         some = given_referenced g.bag g.thread (call_of code context) s rows from row.0 owned row.1 holds;
         each = λ k object.
             let same = ap one_if (says-without (call_of code context) (put s from Empty) (slice_set rows from None) k
             object) in
             omega (
               arith,
-              emptied_held g.bag g.thread (call_of code context) s rows from row.0 in_slots owned row.1 holds k object,
+              emptied_held g.bag g.thread (call_of code context) s rows from row.0 in_vars owned row.1 holds k object,
               same,
             );
       }
@@ -84,7 +84,7 @@ module _ (code : List Instr) (g : Scene) (context : Context) (at : ℕ) (rows : 
       let given = gives_from InRange list index from otherwise here refl in
       let named =
       named_inside code g context at rows s InRange i list here
-      (first_false _ _ (second_false (is_empty (slot_of s from)) _ here.met.not_empty)) in
+      (first_false _ _ (second_false (is_empty (var_of s from)) _ here.met.not_empty)) in
       let row = named.object in
       let has =
       uses_locked code g context at rows s InRange i list row here (not-false _ (first_false _ _ here.met.has_lock))
@@ -209,7 +209,7 @@ module _ (code : List Instr) (g : Scene) (context : Context) (at : ℕ) (rows : 
       let item = source.object in
       let named =
       named_inside code g context at rows s Retained i list here
-      (first_false _ _ (second_false (is_empty (slot_of s from)) _ here.met.not_empty)) in
+      (first_false _ _ (second_false (is_empty (var_of s from)) _ here.met.not_empty)) in
       let row = named.object in
       let has =
       uses_locked code g context at rows s Retained i list row here (not-false _ (first_false _ _ here.met.has_lock))

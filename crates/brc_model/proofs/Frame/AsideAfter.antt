@@ -8,7 +8,7 @@ use Rattle.brc_model.specs.declared.duty.Duty.TheVariants.{Leave, Finish}
 use Rattle.brc_model.specs.Duties.{continuation, new_head, ready}
 use Rattle.brc_model.specs.declared.actor.Status.{Status}
 use Rattle.brc_model.specs.declared.actor.Actor.{Actor}
-use Rattle.brc_model.specs.Machine.{Machine, is_running, status_by, actor_by, done_by}
+use Rattle.brc_model.specs.Machine.{Machine, is_running, status_by, actor_by, machine_by_duty}
 use Rattle.brc_model.specs.References.{one_if}
 use Rattle.brc_model.specs.Accounts.{Accounts}
 use Rattle.brc_model.specs.Knowledge.{is_retain}
@@ -70,7 +70,7 @@ keeps_items false c none retains = refl
 module _ {p : Accounts} {n : ℕ} {m : Machine} {t : ℕ} {a : Actor} {d : Duty} {rest : List Duty} where
   waits_after : (aside : List Duty) → AtDuty p n m t a d rest → is_piece d ≡ true → IsBeside d aside
       → KeepsRetains d aside → AllWait m t a aside
-      → AllWait (done_by m t a d rest) t (actor_by m.layout t a d rest (found_by m t a d)) aside
+      → AllWait (machine_by_duty m t a d rest) t (actor_by m.layout t a d rest (found_by m t a d)) aside
   waits_after [] here piece apart keeps waits = tt
   waits_after (e ∷ es) here piece apart keeps waits =
       let whole = λ (x : ℕ). sum_by-cons (λ (f : Duty). cond (is_about x f) 1 0) e es in
@@ -85,7 +85,7 @@ module _ {p : Accounts} {n : ℕ} {m : Machine} {t : ℕ} {a : Actor} {d : Duty}
 
 pieces_after : (p : Accounts) (n : ℕ) (m : Machine) (t : ℕ) (a : Actor) (d : Duty) (rest : List Duty)
     → AtDuty p n m t a d rest → IsPiece (d ∷ rest)
-    → AsideFits (done_by m t a d rest) t (actor_by m.layout t a d rest (found_by m t a d))
+    → AsideFits (machine_by_duty m t a d rest) t (actor_by m.layout t a d rest (found_by m t a d))
 pieces_after p n m t a d [] here piece =
     let fits = (here.core.each t a here.found).2 in
     let found = found_by m t a d in
@@ -108,9 +108,9 @@ pieces_after p n m t a d (e ∷ rest) here piece = absurd piece
 module _ {p : Accounts} {n : ℕ} {m : Machine} {t : ℕ} {a : Actor} {d : Duty} {rest : List Duty} where
   -- After a thread's own step the duties that it has put aside still fit.
   pub aside_after : AtDuty p n m t a d rest
-      → AsideFits (done_by m t a d rest) t (actor_by m.layout t a d rest (found_by m t a d))
+      → AsideFits (machine_by_duty m t a d rest) t (actor_by m.layout t a d rest (found_by m t a d))
   aside_after here =
       elim (here.core.each t a here.found).2.pieces [
-        | inl none ↦ alone_fits (done_by m t a d rest) t (actor_by m.layout t a d rest (found_by m t a d)) none
+        | inl none ↦ alone_fits (machine_by_duty m t a d rest) t (actor_by m.layout t a d rest (found_by m t a d)) none
         | inr piece ↦ pieces_after p n m t a d rest here (subst IsPiece here.agenda piece)
       ]

@@ -8,7 +8,7 @@ use Rattle.brc_model.specs.declared.duty.Duty.TheVariants.{SettleCell, CellSwap}
 use Rattle.brc_model.specs.declared.address.Address.TheVariants.{Local, Shared}
 use Rattle.brc_model.specs.AbstractState.{Reference, AbstractState, same, same_holder, without, Move, Born, Gain, Lose, PassOn, Finalise, move}
 use Rattle.brc_model.specs.declared.actor.Actor.{Actor}
-use Rattle.brc_model.specs.Machine.{Machine, status_by, actor_by, done_by}
+use Rattle.brc_model.specs.Machine.{Machine, status_by, actor_by, machine_by_duty}
 use Rattle.brc_model.proofs.Basics.Bag.{held-cons}
 use Rattle.brc_model.specs.References.{held, one_if, reference_of}
 use Rattle.brc_model.specs.Accounts.{Accounts}
@@ -60,7 +60,7 @@ module _ {p : Accounts} {n : ℕ} {m : Machine} {t : ℕ} {a : Actor} where
   -- A step leaves what a duty about another row relies on.
   pub leaves_beside : (d : Duty) (rest : List Duty) (x : ℕ) → AtDuty p n m t a d rest
       → is_piece d ≡ true → status_by a.status d ≡ a.status → is_about x d ≡ false
-      → LeavesRow m (done_by m t a d rest) t a (actor_by m.layout t a d rest (found_by m t a d)) x
+      → LeavesRow m (machine_by_duty m t a d rest) t a (actor_by m.layout t a d rest (found_by m t a d)) x
   leaves_beside d rest x here piece status apart = record {
     layout = refl;
     status = status;
@@ -83,8 +83,8 @@ module _ {p : Accounts} {n : ℕ} {m : Machine} {t : ℕ} {a : Actor} where
       → status_by a.status d ≡ a.status
       → (e : Duty) → AreApart d e → may_wait e ≡ true → (is_retain e ≡ true → drops_items d ≡ false)
       → HeadFits m t a e []
-      → HeadFits (done_by m t a d rest) t (actor_by m.layout t a d rest (found_by m t a d)) e []
+      → HeadFits (machine_by_duty m t a d rest) t (actor_by m.layout t a d rest (found_by m t a d)) e []
   beside d rest here piece status e apart waits keeps fits =
-      known_kept m (done_by m t a d rest) t a (actor_by m.layout t a d rest (found_by m t a d)) e [] waits
+      known_kept m (machine_by_duty m t a d rest) t a (actor_by m.layout t a d rest (found_by m t a d)) e [] waits
       (λ x about. leaves_beside d rest x here piece status (apart_swapped d e apart x about))
       (λ retains. own_list_kept p n m t a d rest here (keeps retains)) fits

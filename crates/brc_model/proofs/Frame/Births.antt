@@ -6,7 +6,7 @@ use Rattle.brc_model.specs.declared.duty.Duty.{Duty}
 use Rattle.brc_model.specs.declared.duty.Duty.TheVariants.{SettleKind, TakeSlot, BirthKind, BirthSlot, KindLoad, LendSlot, ReturnSlot}
 use Rattle.brc_model.specs.declared.address.Address.TheVariants.{KindOf, Slot}
 use Rattle.brc_model.specs.declared.actor.Actor.{Actor}
-use Rattle.brc_model.specs.Machine.{Unborn, Dying, Machine, done_by}
+use Rattle.brc_model.specs.Machine.{Unborn, Dying, Machine, machine_by_duty}
 use Rattle.brc_model.specs.Accounts.{Accounts}
 use Rattle.brc_model.specs.Knowledge.{IsNext}
 use Rattle.brc_model.specs.Invariant.{AtDuty}
@@ -33,7 +33,7 @@ module _ (p : Accounts) (n : ℕ) (m : Machine) (t u : ℕ) (a b : Actor) where
   locked_born d rest y here locked = alive_born m y (locked_alive t a y here.core here.found locked)
 
   kind_left : (d : Duty) (rest : List Duty) (x : ℕ) → AtDuty p n m t a d rest → u ≢ t → IsNext m u b x
-      → (done_by m t a d rest).memory (KindOf x) ≡ m.memory (KindOf x)
+      → (machine_by_duty m t a d rest).memory (KindOf x) ≡ m.memory (KindOf x)
   kind_left (SettleKind y) rest x here ne next = written_load m.memory (KindOf y) (KindOf x)
   kind_left (KindLoad y) rest x here ne next = written_load m.memory (KindOf y) (KindOf x)
   kind_left (BirthKind y h w) rest x here ne next =
@@ -42,7 +42,7 @@ module _ (p : Accounts) (n : ℕ) (m : Machine) (t u : ℕ) (a b : Actor) where
   kind_left _ rest x here ne next = refl
 
   slot_left : (d : Duty) (rest : List Duty) (x : ℕ) → AtDuty p n m t a d rest → u ≢ t → IsNext m u b x
-      → m.life x ≡ Unborn → (done_by m t a d rest).memory (Slot x) ≡ m.memory (Slot x)
+      → m.life x ≡ Unborn → (machine_by_duty m t a d rest).memory (Slot x) ≡ m.memory (Slot x)
   slot_left (TakeSlot y) rest x here ne next unborn =
       let dies = (head_of here).1 in
       written_apart m.memory (Slot y) (Slot x) 0 (ne_eqb y x (born_apart y x unborn (dying_born y dies)))
@@ -62,7 +62,7 @@ module _ (p : Accounts) (n : ℕ) (m : Machine) (t u : ℕ) (a b : Actor) where
   -- A step leaves the kind word and the slot of the row to which another thread gives birth.
   pub births_left : (d : Duty) (rest : List Duty) (x : ℕ) → AtDuty p n m t a d rest → u ≢ t
       → slice_get m.actors u ≡ Some b → IsNext m u b x
-      → ((done_by m t a d rest).memory (KindOf x) ≡ m.memory (KindOf x))
-      × ((done_by m t a d rest).memory (Slot x) ≡ m.memory (Slot x))
+      → ((machine_by_duty m t a d rest).memory (KindOf x) ≡ m.memory (KindOf x))
+      × ((machine_by_duty m t a d rest).memory (Slot x) ≡ m.memory (Slot x))
   births_left d rest x here ne found next =
       (kind_left d rest x here ne next, slot_left d rest x here ne next (next_unborn p n m u b x here.core found next))

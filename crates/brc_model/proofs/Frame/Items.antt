@@ -9,7 +9,7 @@ use Rattle.brc_model.specs.declared.duty.Holding.{Holding}
 use Rattle.brc_model.specs.declared.address.Address.TheVariants.{KindOf, Cell}
 use Rattle.brc_model.specs.Duties.{address_of}
 use Rattle.brc_model.specs.declared.actor.Actor.{Actor}
-use Rattle.brc_model.specs.Machine.{Machine, Unborn, actor_by, done_by}
+use Rattle.brc_model.specs.Machine.{Machine, Unborn, actor_by, machine_by_duty}
 use Rattle.brc_model.specs.Accounts.{Accounts}
 use Rattle.brc_word.specs.Words.{locked_word}
 use Rattle.brc_model.specs.Invariant.{CoreInvariant, AtDuty}
@@ -33,7 +33,7 @@ module _ (p : Accounts) (n : ℕ) (m : Machine) (t : ℕ) (a : Actor) where
 
   -- No step changes the kind word of a born row.
   pub word_stays : (d : Duty) (rest : List Duty) (x : ℕ) → AtDuty p n m t a d rest → m.life x ≢ Unborn
-      → (done_by m t a d rest).memory (KindOf x) ≡ m.memory (KindOf x)
+      → (machine_by_duty m t a d rest).memory (KindOf x) ≡ m.memory (KindOf x)
   word_stays (SettleKind y) rest x here born = written_load m.memory (KindOf y) (KindOf x)
   word_stays (KindLoad y) rest x here born = written_load m.memory (KindOf y) (KindOf x)
   word_stays (BirthKind y h w) rest x here born =
@@ -46,7 +46,7 @@ module _ (p : Accounts) (n : ℕ) (m : Machine) (t : ℕ) (a : Actor) where
 
   -- A thread that empties a cell leaves those of a living list.
   settled_apart : (y j k : ℕ) (rest : List Duty) (x i : ℕ) → AtDuty p n m t a (SettleCell y j k) rest → Alive m x
-      → (done_by m t a (SettleCell y j k) rest).memory (Cell x i) ≡ m.memory (Cell x i)
+      → (machine_by_duty m t a (SettleCell y j k) rest).memory (Cell x i) ≡ m.memory (Cell x i)
   settled_apart y j k rest x i here alive =
       let dies = (head_of here).1 in
       written_apart m.memory (Cell y j) (Cell x i) 0
@@ -63,7 +63,7 @@ module _ (p : Accounts) (n : ℕ) (m : Machine) (t : ℕ) (a : Actor) where
   -- A thread that fills a cell leaves those of a list that another thread has locked.
   swapped_apart : (y j z : ℕ) (h : Holding) (rest : List Duty) (u x i : ℕ) (b : Actor)
       → AtDuty p n m t a (CellSwap y j z h) rest → u ≢ t → slice_get m.actors u ≡ Some b → b.locked ≡ Some x
-      → (done_by m t a (CellSwap y j z h) rest).memory (Cell x i) ≡ m.memory (Cell x i)
+      → (machine_by_duty m t a (CellSwap y j z h) rest).memory (Cell x i) ≡ m.memory (Cell x i)
   swapped_apart y j z h rest u x i b here ne found e =
       let mine = (head_of here).0 in
       let apart : y ≡ x → ⊥ = λ same. ne (one_locker u x b here.core here.found found e
@@ -73,7 +73,7 @@ module _ (p : Accounts) (n : ℕ) (m : Machine) (t : ℕ) (a : Actor) where
   -- A step of another thread leaves the cells of a list that a thread has locked.
   pub items_left : (d : Duty) (rest : List Duty) → AtDuty p n m t a d rest → (u x i : ℕ) (b : Actor) → u ≢ t
       → slice_get m.actors u ≡ Some b → b.locked ≡ Some x
-      → (done_by m t a d rest).memory (Cell x i) ≡ m.memory (Cell x i)
+      → (machine_by_duty m t a d rest).memory (Cell x i) ≡ m.memory (Cell x i)
   items_left (SettleCell y j k) rest here u x i b ne found e =
       settled_apart y j k rest x i here (locked_alive u b x here.core found e)
   items_left (CellLoad y j) rest here u x i b ne found e = written_load m.memory (Cell y j) (Cell x i)
@@ -83,7 +83,7 @@ module _ (p : Accounts) (n : ℕ) (m : Machine) (t : ℕ) (a : Actor) where
 
   -- So does the thread's own step, unless it drops items.
   pub own_items_left : (d : Duty) (rest : List Duty) → AtDuty p n m t a d rest → drops_items d ≡ false → (x i : ℕ)
-      → a.locked ≡ Some x → (done_by m t a d rest).memory (Cell x i) ≡ m.memory (Cell x i)
+      → a.locked ≡ Some x → (machine_by_duty m t a d rest).memory (Cell x i) ≡ m.memory (Cell x i)
   own_items_left (SettleCell y j k) rest here keeps x i e =
       settled_apart y j k rest x i here (locked_alive t a x here.core here.found e)
   own_items_left (CellLoad y j) rest here keeps x i e = written_load m.memory (Cell y j) (Cell x i)
@@ -94,7 +94,7 @@ module _ (p : Accounts) (n : ℕ) (m : Machine) (t : ℕ) (a : Actor) where
 
   -- A step of another thread leaves the list that a thread has locked as it is.
   pub lists_left : (d : Duty) (rest : List Duty) → AtDuty p n m t a d rest → (u x : ℕ) (b : Actor) → u ≢ t
-      → slice_get m.actors u ≡ Some b → b.locked ≡ Some x → LeavesList m (done_by m t a d rest) x
+      → slice_get m.actors u ≡ Some b → b.locked ≡ Some x → LeavesList m (machine_by_duty m t a d rest) x
   lists_left d rest here u x b ne found e = record {
     kind = word_stays d rest x here (alive_born m x (locked_alive u b x here.core found e));
     cells = λ i. items_left d rest here u x i b ne found e;
@@ -110,7 +110,7 @@ module _ (p : Accounts) (n : ℕ) (m : Machine) (t : ℕ) (a : Actor) where
 
   -- Such a step leaves the list as it is.
   pub own_list_kept : (d : Duty) (rest : List Duty) → AtDuty p n m t a d rest → drops_items d ≡ false
-      → KeepsList m (done_by m t a d rest) a (actor_by m.layout t a d rest (m.memory (address_of m.layout t a.head d)))
+      → KeepsList m (machine_by_duty m t a d rest) a (actor_by m.layout t a d rest (m.memory (address_of m.layout t a.head d)))
   own_list_kept d rest here keeps x e = (
     still_locked d rest x here keeps e,
     record {

@@ -6,7 +6,7 @@ use Rattle.brc_model.specs.declared.duty.Duty.{Duty}
 use Rattle.brc_model.specs.declared.duty.Duty.TheVariants.{SettleKind, BirthKind, KindLoad}
 use Rattle.brc_model.specs.declared.address.Address.TheVariants.{KindOf}
 use Rattle.brc_model.specs.declared.actor.Actor.{Actor}
-use Rattle.brc_model.specs.Machine.{Machine, done_by}
+use Rattle.brc_model.specs.Machine.{Machine, machine_by_duty}
 use Rattle.brc_model.specs.Accounts.{Accounts}
 use Rattle.brc_model.specs.Invariant.{AtDuty, kind_stored}
 use Rattle.brc_model.proofs.Basics.Written.{written_apart, written_load}
@@ -28,7 +28,7 @@ module _ {p : Accounts} {n : ℕ} {m : Machine} {t : ℕ} {a : Actor} {rest : Li
 
   -- A step stores a kind word in a row that has none.
   pub stored_at_duty : (d : Duty) → AtDuty p n m t a d rest
-      → StoredStay (λ x. m.memory (KindOf x)) (λ x. (done_by m t a d rest).memory (KindOf x))
+      → StoredStay (λ x. m.memory (KindOf x)) (λ x. (machine_by_duty m t a d rest).memory (KindOf x))
   stored_at_duty (SettleKind y) here = λ x. inr (written_load m.memory (KindOf y) (KindOf x))
   stored_at_duty (KindLoad y) here = λ x. inr (written_load m.memory (KindOf y) (KindOf x))
   stored_at_duty (BirthKind y h w) here = λ x.
@@ -41,7 +41,7 @@ module _ {p : Accounts} {n : ℕ} {m : Machine} {t : ℕ} {a : Actor} {rest : Li
 module _ {p : Accounts} {n : ℕ} {m : Machine} {t : ℕ} {a : Actor} {d : Duty} {rest : List Duty} where
   -- So a kind word that is stored stays.
   pub kind_stays : (x : ℕ) → AtDuty p n m t a d rest → (m.memory (KindOf x) ≡ 0 → ⊥)
-      → (done_by m t a d rest).memory (KindOf x) ≡ m.memory (KindOf x)
+      → (machine_by_duty m t a d rest).memory (KindOf x) ≡ m.memory (KindOf x)
   kind_stays x here some = elim (stored_at_duty d here x) [
     | inl none ↦ absurd (some none)
     | inr same ↦ same

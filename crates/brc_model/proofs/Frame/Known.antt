@@ -42,8 +42,8 @@ itself : (x : ℕ) → (x == x) ≡ true
 itself x = eq-eqb x x refl
 
 module _ (m new : Machine) (t : ℕ) (a after : Actor) where
-  abbrev Leaves : ℕ → Type 0
-  Leaves x = LeavesRow m new t a after x
+  abbrev LeavesIt : ℕ → Type 0
+  LeavesIt x = LeavesRow m new t a after x
 
   -- What keeps an object alive is left by a step that takes none of the thread's references to it and leaves the list
   -- that the thread has locked.
@@ -55,10 +55,10 @@ module _ (m new : Machine) (t : ℕ) (a after : Actor) where
   still_backed x references keeps (ByItem list i locked word) =
       let it = keeps list locked in ByItem list i it.0 (it.1.cells i ∙ word)
 
-  pub backed_kept : (x : ℕ) → Leaves x → KeepsList m new a after → IsBacked m t a x → IsBacked new t after x
+  pub backed_kept : (x : ℕ) → LeavesIt x → KeepsList m new a after → IsBacked m t a x → IsBacked new t after x
   backed_kept x leaves keeps backed = still_backed x leaves.references keeps backed
 
-  owns_kept : (x : ℕ) → Leaves x → OwnsLocally m t a x → OwnsLocally new t after x
+  owns_kept : (x : ℕ) → LeavesIt x → OwnsLocally m t a x → OwnsLocally new t after x
   owns_kept x leaves owns =
       let same = leaves.local owns in
       record {
@@ -67,29 +67,29 @@ module _ (m new : Machine) (t : ℕ) (a after : Actor) where
         low = subst (λ (w : ℕ). local_part w < immortal_local) (sym same) owns.low;
       }
 
-  block_kept : (x : ℕ) → Leaves x → block_of m.layout x ≡ t → block_of new.layout x ≡ t
+  block_kept : (x : ℕ) → LeavesIt x → block_of m.layout x ≡ t → block_of new.layout x ≡ t
   block_kept x leaves mine = ap (λ (r : Layout). block_of r x) leaves.layout ∙ mine
 
-  stopped_kept : (x : ℕ) → Leaves x → m.memory (ThreadWord (block_of m.layout x)) ≢ 1
+  stopped_kept : (x : ℕ) → LeavesIt x → m.memory (ThreadWord (block_of m.layout x)) ≢ 1
       → new.memory (ThreadWord (block_of new.layout x)) ≢ 1
   stopped_kept x leaves stopped =
       subst (λ (r : Layout). new.memory (ThreadWord (block_of r x)) ≢ 1) (sym leaves.layout)
       (leaves.stopped (block_of m.layout x) stopped)
 
-  may_merge_kept : (x : ℕ) → Leaves x → MayMerge m t x → MayMerge new t x
+  may_merge_kept : (x : ℕ) → LeavesIt x → MayMerge m t x → MayMerge new t x
   may_merge_kept x leaves (inl mine) = inl (block_kept x leaves mine)
   may_merge_kept x leaves (inr stopped) = inr (stopped_kept x leaves stopped)
 
-  may_carry_kept : (x : ℕ) (r : Reason) → Leaves x → MayCarry m t a x r → MayCarry new t after x r
+  may_carry_kept : (x : ℕ) (r : Reason) → LeavesIt x → MayCarry m t a x r → MayCarry new t after x r
   may_carry_kept x Own leaves own = (leaves.status ∙ own.0, block_kept x leaves own.1)
   may_carry_kept x Handed leaves handed = tt
 
-  counted_kept : (x : ℕ) → Leaves x → IsCounted m.layout x → IsCounted new.layout x
+  counted_kept : (x : ℕ) → LeavesIt x → IsCounted m.layout x → IsCounted new.layout x
   counted_kept x leaves counted = subst (λ (l : Layout). IsCounted l x) (sym leaves.layout) counted
 
   -- A duty keeps what it knows if the step leaves what it relies on at its row. A retain also relies on the list that
   -- the thread has locked.
-  pub known_kept : (e : Duty) (rest : List Duty) → may_wait e ≡ true → ((x : ℕ) → is_about x e ≡ true → Leaves x)
+  pub known_kept : (e : Duty) (rest : List Duty) → may_wait e ≡ true → ((x : ℕ) → is_about x e ≡ true → LeavesIt x)
       → (is_retain e ≡ true → KeepsList m new a after) → HeadFits m t a e rest → HeadFits new t after e rest
   known_kept (RetainLoad x h) rest waits leaves list fits = backed_kept x (leaves x (itself x)) (list refl) fits
   known_kept (RetainStore x h w) rest waits leaves list fits =

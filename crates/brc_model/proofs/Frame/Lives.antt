@@ -7,7 +7,7 @@ use Rattle.brc_model.specs.declared.duty.Duty.{Duty}
 use Rattle.brc_model.specs.declared.duty.Duty.TheVariants.{DecideAtZero, SharedExchange, MergeExchange, Die, SettleKind, SettleEnd, BirthKind, BirthLocal, KindLoad}
 use Rattle.brc_model.specs.Duties.{address_of, continuation}
 use Rattle.brc_model.specs.declared.actor.Actor.{Actor}
-use Rattle.brc_model.specs.Machine.{Life, Unborn, Live, Dying, Closed, Machine, is_running, dies_next, ended_row, born_row, with_life, life_by, done_by}
+use Rattle.brc_model.specs.Machine.{Life, Unborn, Live, Dying, Closed, Machine, is_running, dies_next, ended_row, born_row, with_life, life_by, machine_by_duty}
 use Rattle.brc_model.proofs.Basics.Lists.{some_is, none_some}
 use Rattle.brc_model.specs.Accounts.{Accounts}
 use Rattle.brc_model.specs.OpenWork.{dies_by}
@@ -129,7 +129,7 @@ born_left life t d next x was =
 module _ {p : Accounts} {n : ℕ} {m : Machine} {t : ℕ} {a : Actor} {rest : List Duty} where
   -- A kind word that names a counted kind still does after a step: a birth stores such kinds alone.
   kinds_left : (d : Duty) → AtDuty p n m t a d rest → (x : ℕ) → HasCountedKind m.memory x
-      → HasCountedKind (done_by m t a d rest).memory x
+      → HasCountedKind (machine_by_duty m t a d rest).memory x
   kinds_left (SettleKind y) here x was =
       ap (λ (w : ℕ). is_counted_kind (kind_of_word w)) (written_load m.memory (KindOf y) (KindOf x)) ∙ was
   kinds_left (KindLoad y) here x was =
@@ -150,7 +150,7 @@ dying_unlive l u dies lives =
 
 module _ {p : Accounts} {n : ℕ} {m : Machine} {t : ℕ} {a : Actor} {d : Duty} {rest : List Duty} where
   -- A thread's step leaves what the other threads rely on.
-  pub leaves_others : AtDuty p n m t a d rest → LeavesOthers m (done_by m t a d rest) t
+  pub leaves_others : AtDuty p n m t a d rest → LeavesOthers m (machine_by_duty m t a d rest) t
   leaves_others here = record {
     layout = refl;
     bag = λ u k object ne. moves_apart m.memory m.abstract u t k object d (m.memory (address_of m.layout t a.head d))

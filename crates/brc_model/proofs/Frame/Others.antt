@@ -20,7 +20,7 @@ use Rattle.brc_model.specs.Gates.{LocksFit}
 use Rattle.brc_model.specs.Invariant.{Fits, ActorFits}
 use Rattle.brc_model.specs.Accounts.{Accounts, HoldsAt, Account, IsBounded}
 use Rattle.brc_model.proofs.Frame.Known.{LeavesRow, LeavesList, KeepsList, backed_kept, known_kept}
-use Rattle.brc_model.specs.Knowledge.{OwnsLocally, IsNext, HasCountedKind, MayLook, HasChained, GuardsCells, BehindFits, HeadFits, HeadOf, AllBehind, BehindOf, IsDyingWord}
+use Rattle.brc_model.specs.Knowledge.{OwnsLocally, IsNext, HasCountedKind, MayRead, HasChained, GuardsCells, BehindFits, HeadFits, HeadOf, AllBehind, BehindOf, IsDyingWord}
 use Rattle.brc_model.proofs.Basics.Lists.{some_is, slice_get-set_same, slice_get-set_other}
 use Rattle.brc_model.proofs.Basics.Bag.{one_if_true}
 use Rattle.brc_model.specs.declared.layout.Layout.{Layout}
@@ -132,7 +132,7 @@ chained_kept m new t u x leaves ne chained =
 
 -- Another thread may still look at an object, and still guards the cells that it guarded.
 look_kept : (m new : Machine) (t u : ℕ) (b : Actor) (x : ℕ) → LeavesOthers m new t → u ≢ t
-    → slice_get m.actors u ≡ Some b → MayLook m u b x → MayLook new u b x
+    → slice_get m.actors u ≡ Some b → MayRead m u b x → MayRead new u b x
 look_kept m new t u b x leaves ne found (inl backed) =
     inl (backed_kept m new u b b x (row_left m new t u b leaves ne found x) (list_left m new t u b leaves ne found)
     backed)

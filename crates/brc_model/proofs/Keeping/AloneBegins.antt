@@ -12,7 +12,7 @@ use Rattle.brc_model.specs.declared.actor.Actor.{Actor}
 use Rattle.brc_model.specs.Machine.{Life, Machine, with_actor}
 use Rattle.brc_model.specs.References.{one_if}
 use Rattle.brc_model.specs.Accounts.{Account, Accounts, lacks, extra, HoldsNone}
-use Rattle.brc_model.specs.Knowledge.{MayLook, HeadFits}
+use Rattle.brc_model.specs.Knowledge.{MayRead, HeadFits}
 use Rattle.brc_model.specs.OpenWork.{dies_by, is_about, has_leave, Agenda, IsSettled}
 use Rattle.brc_model.specs.Gates.{LocksFit}
 use Rattle.brc_model.specs.Invariant.{CoreInvariant, Invariant}
@@ -171,7 +171,7 @@ exits_begin p n m t a counts ready none empty holds =
 module _ {p : Accounts} {n : ℕ} {m : Machine} {t : ℕ} {a : Actor} where
   -- The thread may look at the object for whose kind it asks.
   asked_looks : (x : ℕ) → CoreInvariant p n m → IsReady m t a → HasNoneAbout a x
-      → IsAtHand (p t) m a x ⊎ IsFirstOfChain a x → MayLook m t a x
+      → IsAtHand (p t) m a x ⊎ IsFirstOfChain a x → MayRead m t a x
   asked_looks x core ready alone (inl at_hand) = inl (at_hand_backed x core ready alone at_hand)
   asked_looks x core ready alone (inr first) = inr (first_chained t a x core ready.found first)
 
@@ -181,8 +181,8 @@ module _ {p : Accounts} {n : ℕ} {m : Machine} {t : ℕ} {a : Actor} where
   asked_row x core ready alone (inr first) = first_row t a x core ready.found first
 
 -- New work leaves what the thread may look at.
-pub looks_still : (m : Machine) (t : ℕ) (a : Actor) (x : ℕ) (d : Duty) → MayLook m t a x
-    → MayLook (with_actor m t (working a (d ∷ []) a.aside)) t (working a (d ∷ []) a.aside) x
+pub looks_still : (m : Machine) (t : ℕ) (a : Actor) (x : ℕ) (d : Duty) → MayRead m t a x
+    → MayRead (with_actor m t (working a (d ∷ []) a.aside)) t (working a (d ∷ []) a.aside) x
 looks_still m t a x d (inl backed) = inl (backed_still m t a x d backed)
 looks_still m t a x d (inr chained) = inr chained
 

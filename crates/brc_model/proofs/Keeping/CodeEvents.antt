@@ -7,7 +7,7 @@ use Rattle.brc_model.specs.declared.actor.Place.{Place}
 use Rattle.brc_model.specs.AbstractState.{Move, are_allowed}
 use Rattle.brc_model.specs.declared.thread.Choice.{Choice}
 use Rattle.brc_model.specs.Machine.{with_actor, with_moves}
-use Rattle.brc_model.specs.declared.slot.Exit.{Exit}
+use Rattle.brc_model.specs.declared.state.Exit.{Exit}
 use Rattle.brc_model.specs.Actions.{StepActor, Action, Skip, Stuck, Silent, Calls, Does, exit_of, action_of}
 use Rattle.brc_model.specs.StepMachine.{StepMachine, counting, of_thread, at_place, step_actor, silent_by, machine_by, next_machine, machine_after}
 use Rattle.brc_model.specs.Events.{is_bad_action, chooses_unfit, is_bad_event}

@@ -4,7 +4,7 @@ use Rattle.std.specs.Prelude.{slice_get, map, replicate}
 use Rattle.brc_lang.specs.declared.module.Module.{Module}
 use Rattle.brc_lang.specs.declared.module.Function.{Function}
 use Rattle.brc_lang.specs.Grammar.{IsInstruction, IsFunction, IsModule}
-use Rattle.brc_model.specs.declared.slot.State.{State}
+use Rattle.brc_model.specs.declared.state.State.{State}
 use Rattle.brc_model.specs.declared.thread.Call.{Call}
 use Rattle.brc_model.specs.Paths.{IsAcceptableCode, IsAcceptable}
 use Rattle.brc_model.specs.Threads.{code_of}

@@ -6,7 +6,7 @@ use Rattle.std.proofs.lemmas.Option.{slice_get_within}
 use Rattle.brc_model.specs.declared.duty.Duty.{Duty}
 use Rattle.brc_model.specs.declared.address.Address.TheVariants.{Mark}
 use Rattle.brc_model.specs.declared.actor.Actor.{Actor}
-use Rattle.brc_model.specs.Machine.{Machine, actor_by, done_by}
+use Rattle.brc_model.specs.Machine.{Machine, actor_by, machine_by_duty}
 use Rattle.brc_model.proofs.Frame.AsideAfter.{aside_after}
 use Rattle.brc_model.specs.OpenWork.{AsideFits}
 use Rattle.brc_model.specs.Accounts.{Accounts}
@@ -31,19 +31,19 @@ use Rattle.brc_model.specs.Layout.{IsCounted}
 
 module _ {p : Accounts} {n : ℕ} {m : Machine} {t : ℕ} {a : Actor} {d : Duty} {rest : List Duty} where
   others_and_own : AtDuty p n m t a d rest → FitsAfter p m t a d rest
-      → AsideFits (done_by m t a d rest) t (actor_by m.layout t a d rest (found_by m t a d)) → (u : ℕ) (b : Actor)
+      → AsideFits (machine_by_duty m t a d rest) t (actor_by m.layout t a d rest (found_by m t a d)) → (u : ℕ) (b : Actor)
       → slice_get (slice_set m.actors t (actor_by m.layout t a d rest (found_by m t a d))) u ≡ Some b
-      → Fits (p u) (done_by m t a d rest) u b
+      → Fits (p u) (machine_by_duty m t a d rest) u b
   others_and_own here own aside =
-      each_fits p p m (done_by m t a d rest) t a (actor_by m.layout t a d rest (found_by m t a d)) here.found
+      each_fits p p m (machine_by_duty m t a d rest) t a (actor_by m.layout t a d rest (found_by m t a d)) here.found
       (leaves_others here) (λ u ne. refl) (own.actor, own.agenda, aside) here.core.each
 
   -- ---- the core invariant
 
   pub keeps_by : AtDuty p n m t a d rest → NotGone a → FitsAfter p m t a d rest
-      → ((x : ℕ) → ((done_by m t a d rest).memory (Mark x) ≡ 0) ⊎
-      (((done_by m t a d rest).memory (Mark x) ≡ 1) × (IsCounted m.layout x) × IsWatched (done_by m t a d rest) x))
-      → CoreInvariant p n (done_by m t a d rest)
+      → ((x : ℕ) → ((machine_by_duty m t a d rest).memory (Mark x) ≡ 0) ⊎
+      (((machine_by_duty m t a d rest).memory (Mark x) ≡ 1) × (IsCounted m.layout x) × IsWatched (machine_by_duty m t a d rest) x))
+      → CoreInvariant p n (machine_by_duty m t a d rest)
   keeps_by here alive own marks =
       let within : t < n = omega (arith, slice_get_within m.actors t a here.found, here.core.threads) in
       record {

@@ -9,7 +9,7 @@ use Rattle.brc_model.specs.declared.duty.Duty.{Duty}
 use Rattle.brc_model.specs.declared.duty.Duty.TheVariants.{RetainLoad, RetainStore, RetainAdd, ReleaseLoad, ReleaseStore, DecideAtZero, SharedLoad, SharedExchange, SetMark, Look, TakeMark, MergeSwap, MergeLoad, MergeExchange, Die, Settle, SettleKind, SettleCell, TakeSlot, CloseResource, SettleEnd, Leave, Scan, Finish, ClaimMark, BirthKind, BirthSlot, BirthLocal, CellSwap}
 use Rattle.brc_model.specs.declared.actor.Status.TheVariants.{Running, Gone}
 use Rattle.brc_model.specs.declared.actor.Actor.{Actor}
-use Rattle.brc_model.specs.Machine.{Machine, actor_by, done_by, with_actor}
+use Rattle.brc_model.specs.Machine.{Machine, actor_by, machine_by_duty, with_actor}
 use Rattle.brc_model.specs.BadDuties.{is_bad_duty}
 use Rattle.brc_model.proofs.Basics.Lists.{slice_get-set_same, written_actor}
 use Rattle.brc_model.specs.Accounts.{Account, Accounts}
@@ -95,7 +95,7 @@ pub record Doing (p : Accounts) (n : ℕ) (m : Machine) (t : ℕ) (a : Actor) (d
 
 -- The first part of the theorem: a thread's next duty isn't bad, and doing it keeps the invariant.
 pub duty_kept : (p : Accounts) (n : ℕ) (m : Machine) (t : ℕ) (a : Actor) (d : Duty) (rest : List Duty)
-    → Doing p n m t a d rest → (is_bad_duty m t a d ≡ false) × Invariant p n (done_by m t a d rest)
+    → Doing p n m t a d rest → (is_bad_duty m t a d ≡ false) × Invariant p n (machine_by_duty m t a d rest)
 duty_kept p n m t a d rest doing =
     let here : AtDuty p n m t a d rest =
     record { core = doing.kept.core; found = doing.found; agenda = doing.agenda } in
@@ -142,7 +142,7 @@ module _ {p : Accounts} {n : ℕ} {m : Machine} {t : ℕ} {a : Actor} where
 pub taken_up : (p : Accounts) (n : ℕ) (m : Machine) (t : ℕ) (a : Actor) (d : Duty) (rest : List Duty)
     (account : Account)
     → Invariant p n m → AtRest p n m t a → Sits m t a (d ∷ rest) account → IsSettled a.head (d ∷ rest)
-    → (is_bad_duty m t a d ≡ false) × Invariant (with_account p t account) n (done_by m t a d rest)
+    → (is_bad_duty m t a d ≡ false) × Invariant (with_account p t account) n (machine_by_duty m t a d rest)
 taken_up p n m t a d rest account kept at sits settled =
     let now = sitting a (d ∷ rest) in
     let done =

@@ -12,8 +12,8 @@ use Rattle.brc_model.specs.declared.duty.Duty.{Duty}
 use Rattle.brc_model.specs.declared.duty.Duty.TheVariants.{KindLoad, BirthKind}
 use Rattle.brc_model.specs.Paths.{IsAcceptableCode}
 use Rattle.brc_model.specs.Threads.{code_of}
-use Rattle.brc_model.specs.declared.slot.State.{State}
-use Rattle.brc_model.specs.declared.slot.Exit.{Exit}
+use Rattle.brc_model.specs.declared.state.State.{State}
+use Rattle.brc_model.specs.declared.state.Exit.{Exit}
 use Rattle.brc_model.specs.Actions.{StepActor, Action, Skip, Stuck, Silent, Calls, Does, exit_of, action_of}
 use Rattle.brc_model.specs.StepMachine.{StepMachine, counting, of_thread, at_place, step_actor, machine_by, next_machine, first_machine, main_actor, worker_actor}
 use Rattle.brc_model.specs.KnownKinds.{KnowsKinds, kind_words, KindsAreKnown, KindsHold}
@@ -25,7 +25,7 @@ use Rattle.brc_model.proofs.Basics.Written.{written_here, written_load}
 use Rattle.brc_model.proofs.Stepping.FitsAfter.{found_by}
 use Rattle.brc_model.proofs.Frame.Kinds.{StoredStay, stored_at_duty}
 use Rattle.brc_model.proofs.Dispatch.Kinds.{knows_still, named_stay}
-use Rattle.brc_model.proofs.Dispatch.KindsLeft.{SeesKind, Leaves}
+use Rattle.brc_model.proofs.Dispatch.KindsLeft.{SeesKind, LeavesKinds}
 use Rattle.brc_model.proofs.Dispatch.KindsActions.{StandsKnowing, action_leaves}
 use Rattle.brc_model.proofs.Keeping.StepCases.{ShowsSteps, at_duty, thread_shows}
 use Rattle.brc_model.specs.Machine.{Machine}
@@ -87,7 +87,7 @@ sees m t a exit _ rest place = tt
 acted : (m : StepMachine) (t : ℕ) (a : StepActor) (exit : Exit) (x : Action) → slice_get m.actors t ≡ Some a
     → ((u : ℕ) (b : StepActor) → slice_get m.actors u ≡ Some b
     → KnowsKinds (code_of (slice_get m.functions b.function)) (kind_words (machine_by m t a exit x)) b.place)
-    → Leaves (code_of (slice_get m.functions a.function)) (kind_words (machine_by m t a exit x)) x
+    → LeavesKinds (code_of (slice_get m.functions a.function)) (kind_words (machine_by m t a exit x)) x
     → KindsAreKnown (machine_by m t a exit x)
 acted m t a exit Skip found others own = others
 acted m t a exit Stuck found others own = others

@@ -11,7 +11,7 @@ use Rattle.brc_model.specs.declared.actor.Actor.{Actor}
 use Rattle.brc_model.specs.Machine.{Machine, with_actor}
 use Rattle.brc_model.specs.References.{one_if}
 use Rattle.brc_model.specs.Accounts.{Accounts, lacks, extra}
-use Rattle.brc_model.specs.Knowledge.{IsBacked, ByReference, MayLook, GuardsCells, HeadFits}
+use Rattle.brc_model.specs.Knowledge.{IsBacked, ByReference, MayRead, GuardsCells, HeadFits}
 use Rattle.brc_model.specs.Invariant.{CoreInvariant}
 use Rattle.brc_model.specs.Ranges.{cells_named}
 use Rattle.brc_model.specs.Counting.{Counts, working, IsReady, HasNoneAbout}
@@ -82,7 +82,7 @@ unlocks_begin p n m t a x counts ready alone some locked none lent =
 
 -- The thread may look at the list of which it loads a cell, guards its cells, and the list is counted and has a row.
 record LoadsCells (m : Machine) (t : ℕ) (a : Actor) (x : ℕ) : Type 0 where
-  pub looks : MayLook m t a x
+  pub looks : MayRead m t a x
   pub guards : GuardsCells m t a x
   pub counted : IsCounted m.layout x
   pub there : x < row_count m.layout

@@ -12,7 +12,7 @@ use Rattle.brc_model.specs.References.{held, one_if, reference_of}
 use Rattle.brc_model.specs.declared.actor.Actor.{Actor}
 use Rattle.brc_model.specs.Machine.{Machine, with_moves}
 use Rattle.brc_model.specs.Accounts.{Account, Accounts, HoldsAt, IsBounded}
-use Rattle.brc_model.specs.Knowledge.{IsNext, MayLook, GuardsCells, BehindFits, HeadFits, HeadOf, AllBehind, BehindOf}
+use Rattle.brc_model.specs.Knowledge.{IsNext, MayRead, GuardsCells, BehindFits, HeadFits, HeadOf, AllBehind, BehindOf}
 use Rattle.brc_model.specs.OpenWork.{AllWait, about_of, exits, is_about}
 use Rattle.brc_model.specs.Gates.{LocksFit}
 use Rattle.brc_model.specs.Invariant.{Fits, IsWatched, ByRunning, ByExit, ByLook}
@@ -110,8 +110,8 @@ module _ (m : Machine) (moves : List Move) (t : ℕ) (a : Actor) (x : ℕ) (else
   list_left y locked = (locked, record { kind = refl; cells = λ i. refl })
 
   -- The thread may still look at another row's object, and still guards the cells that it guarded.
-  look_kept : (d : Duty) (y : ℕ) → is_about x d ≡ false → is_about y d ≡ true → MayLook m t a y
-      → MayLook (with_moves m moves) t a y
+  look_kept : (d : Duty) (y : ℕ) → is_about x d ≡ false → is_about y d ≡ true → MayRead m t a y
+      → MayRead (with_moves m moves) t a y
   look_kept d y other about (inl backed) =
       inl (backed_kept m (with_moves m moves) t a a y (row_left d y other about) list_left backed)
   look_kept d y other about (inr chained) = inr chained

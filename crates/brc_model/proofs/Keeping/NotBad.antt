@@ -24,7 +24,7 @@ use Rattle.brc_model.proofs.Basics.Bag.{same_holding-refl, held_has, no_cell_hol
 use Rattle.brc_model.specs.References.{held, one_if, reference_of, word_holds, cell_reference}
 use Rattle.brc_model.specs.RowInvariant.{decides}
 use Rattle.brc_model.specs.Accounts.{Accounts, extra_of, lacks_of}
-use Rattle.brc_model.specs.Knowledge.{IsBacked, MayLook, IsNext, IsEmpty}
+use Rattle.brc_model.specs.Knowledge.{IsBacked, MayRead, IsNext, IsEmpty}
 use Rattle.brc_model.specs.OpenWork.{Linked, dies_by}
 use Rattle.brc_model.specs.Invariant.{AtDuty, CoreInvariant, numbers_of}
 use Rattle.brc_model.proofs.Promises.Agreeing.{is_free_of}
@@ -89,7 +89,7 @@ module _ {p : Accounts} {n : ℕ} {m : Machine} where
       ]
 
   -- Nor is an object that the thread has chained itself.
-  look_free : (t : ℕ) (a : Actor) (x : ℕ) → CoreInvariant p n m → MayLook m t a x → is_freed_for t (m.life x) ≡ false
+  look_free : (t : ℕ) (a : Actor) (x : ℕ) → CoreInvariant p n m → MayRead m t a x → is_freed_for t (m.life x) ≡ false
   look_free t a x core (inl backed) = backed_free t a x core backed
   look_free t a x core (inr chained) = dying_free m t x chained.0
 

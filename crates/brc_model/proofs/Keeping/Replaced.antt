@@ -21,7 +21,7 @@ use Rattle.brc_model.specs.OpenWork.{scans}
 use Rattle.brc_model.specs.Counting.{HasNothingInFlight, with_account}
 use Rattle.brc_model.proofs.Frame.Others.{LeavesOthers, each_fits}
 use Rattle.brc_model.proofs.Frame.Locks.{gate_fits_kept}
-use Rattle.brc_model.specs.Slots.{names}
+use Rattle.brc_model.specs.VarStates.{names}
 use Rattle.brc_model.specs.References.{one_if}
 use Rattle.brc_model.specs.Resources.{lends, closing, ending, resources_at, ResourcesFit}
 use Rattle.brc_model.proofs.Objects.Finalisers.{Finalises}

@@ -8,7 +8,7 @@ use Rattle.brc_model.specs.Duties.{address_of}
 use Rattle.brc_model.specs.declared.actor.Status.{Status}
 use Rattle.brc_model.specs.declared.actor.Status.TheVariants.{Running}
 use Rattle.brc_model.specs.declared.actor.Actor.{Actor}
-use Rattle.brc_model.specs.Machine.{Machine, with_actor, actor_by, done_by}
+use Rattle.brc_model.specs.Machine.{Machine, with_actor, actor_by, machine_by_duty}
 use Rattle.brc_model.specs.RowInvariant.{waits, carries, merges, decides, agenda_weight, weight}
 use Rattle.brc_model.specs.Accounts.{Account, Accounts, HoldsAt, HoldsNone, IsBounded}
 use Rattle.brc_model.specs.OpenWork.{AsideFits, Agenda, exits, scans, finalised, AgendaFits}
@@ -120,9 +120,9 @@ module _ {p : Accounts} {n : ℕ} {m : Machine} {t : ℕ} {a : Actor} where
 -- ---- taking up a duty and doing it is one step
 
 pub taken_up_step : (m : Machine) (t : ℕ) (a : Actor) (d : Duty) (rest : List Duty)
-    → done_by (with_actor m t (sitting a (d ∷ rest))) t (sitting a (d ∷ rest)) d rest
-    ≡ done_by m t a d rest
+    → machine_by_duty (with_actor m t (sitting a (d ∷ rest))) t (sitting a (d ∷ rest)) d rest
+    ≡ machine_by_duty m t a d rest
 taken_up_step m t a d rest =
-    let new = done_by m t a d rest in
+    let new = machine_by_duty m t a d rest in
     let after = actor_by m.layout t a d rest (m.memory (address_of m.layout t a.head d)) in
     λ i. record new { actors = set-set m.actors t (sitting a (d ∷ rest)) after i }

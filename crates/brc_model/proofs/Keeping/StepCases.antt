@@ -7,8 +7,8 @@ use Rattle.brc_model.specs.AbstractState.{Move}
 use Rattle.brc_model.specs.declared.duty.Duty.{Duty}
 use Rattle.brc_model.specs.declared.thread.Choice.{Choice}
 use Rattle.brc_model.specs.declared.actor.Actor.{Actor}
-use Rattle.brc_model.specs.Machine.{Machine, done_by, with_actor, with_moves}
-use Rattle.brc_model.specs.declared.slot.Exit.{Exit}
+use Rattle.brc_model.specs.Machine.{Machine, machine_by_duty, with_actor, with_moves}
+use Rattle.brc_model.specs.declared.state.Exit.{Exit}
 use Rattle.brc_model.specs.Actions.{StepActor, Action, Skip, Stuck, Silent, Calls, Does, exit_of, action_of}
 use Rattle.brc_model.specs.StepMachine.{StepMachine, counting, of_thread, does_by, machine_by, next_machine}
 use Rattle.brc_model.proofs.Keeping.SilentMoves.{SilentMoves}
@@ -34,7 +34,7 @@ pub record ShowsSteps (Q : ℕ → Machine → Machine → Type 0) (n : ℕ) : T
       → Q t m (with_moves (with_actor m t a) moves)
   -- The thread does its first duty.
   pub does : (p : Accounts) (t : ℕ) (m : Machine) (a : Actor) (d : Duty) (rest : List Duty) → Doing p n m t a d rest
-      → Q t m (done_by m t a d rest)
+      → Q t m (machine_by_duty m t a d rest)
 
 module _ {p : Accounts} {n : ℕ} {m : Machine} {t : ℕ} {a : Actor} {d : Duty} {rest : List Duty} where
   -- The premise of the lemmas about one duty.

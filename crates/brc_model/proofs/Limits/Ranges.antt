@@ -11,7 +11,7 @@ use Rattle.brc_model.specs.declared.duty.Duty.TheVariants.{ReleaseLoad, MergeSwa
 use Rattle.brc_model.specs.declared.address.Address.TheVariants.{KindOf, Mark, Cell}
 use Rattle.brc_model.specs.Duties.{address_of, new_word, continuation, ready, cells_of}
 use Rattle.brc_model.specs.declared.actor.Actor.{Actor}
-use Rattle.brc_model.specs.Machine.{Life, Unborn, Live, Machine, written, is_running, actor_by, done_by}
+use Rattle.brc_model.specs.Machine.{Life, Unborn, Live, Machine, written, is_running, actor_by, machine_by_duty}
 use Rattle.brc_model.specs.References.{one_if, cell_reference}
 use Rattle.brc_model.specs.RowInvariant.{RowInvariant}
 use Rattle.brc_model.specs.Accounts.{Accounts}
@@ -204,7 +204,7 @@ module _ {p : Accounts} {n : ℕ} {m : Machine} where
   -- duty up.
   pub duty_ranges : (t : ℕ) (b a : Actor) (d : Duty) (rest : List Duty) → CoreInvariant p n m → Ranges n m
       → slice_get m.actors t ≡ Some b → a.head ≤ row_count m.layout → AreSmall (row_count m.layout) (d ∷ rest)
-      → AreSmall (row_count m.layout) a.aside → Ranges n (done_by m t a d rest)
+      → AreSmall (row_count m.layout) a.aside → Ranges n (machine_by_duty m t a d rest)
   duty_ranges t b a d rest core ranges found head small waiting =
       let word = m.memory (address_of m.layout t a.head d) in
       let next =

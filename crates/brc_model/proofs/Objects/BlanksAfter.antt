@@ -10,7 +10,7 @@ use Rattle.brc_model.specs.declared.duty.Duty.TheVariants.{SettleKind, TakeSlot,
 use Rattle.brc_model.specs.declared.address.Address.TheVariants.{KindOf, Slot}
 use Rattle.brc_model.specs.Duties.{has_resource, ready}
 use Rattle.brc_model.specs.declared.actor.Actor.{Actor}
-use Rattle.brc_model.specs.Machine.{Machine, used_by, actor_by, done_by}
+use Rattle.brc_model.specs.Machine.{Machine, used_by, actor_by, machine_by_duty}
 use Rattle.brc_model.proofs.Basics.Lists.{some_is, slice_get-set_same, slice_get-set_other}
 use Rattle.brc_model.proofs.Basics.Written.{zero_written, written_load}
 use Rattle.brc_model.proofs.Basics.Blocks.{next_block, next_index}
@@ -170,7 +170,7 @@ module _ {p : Accounts} {n : ℕ} {m : Machine} {t : ℕ} {a : Actor} {rest : Li
 
 module _ {p : Accounts} {n : ℕ} {m : Machine} {t : ℕ} {a : Actor} {d : Duty} {rest : List Duty} where
   -- After a thread's step the unused rows of every thread's block are blank.
-  pub blanks_after : AtDuty p n m t a d rest → (u : ℕ) (b : Actor) → slice_get (done_by m t a d rest).actors u ≡ Some b
+  pub blanks_after : AtDuty p n m t a d rest → (u : ℕ) (b : Actor) → slice_get (machine_by_duty m t a d rest).actors u ≡ Some b
       → BlankFits m.layout (memory_by m t a d) u b.used b.agenda
   blanks_after here u b is =
       let after = actor_by m.layout t a d rest (found_by m t a d) in

@@ -6,7 +6,7 @@ use Rattle.brc_model.specs.declared.duty.Duty.TheVariants.{SettleEnd}
 use Rattle.brc_model.specs.declared.address.Address.TheVariants.{KindOf, Cell}
 use Rattle.brc_model.specs.Duties.{cells_of}
 use Rattle.brc_model.specs.declared.actor.Actor.{Actor}
-use Rattle.brc_model.specs.Machine.{Life, Unborn, Live, Dying, Closed, Machine, ended_row, done_by}
+use Rattle.brc_model.specs.Machine.{Life, Unborn, Live, Dying, Closed, Machine, ended_row, machine_by_duty}
 use Rattle.brc_model.specs.Accounts.{Accounts}
 use Rattle.brc_model.specs.Invariant.{AtDuty, CellFits}
 use Rattle.brc_model.proofs.Basics.Lists.{some_is, none_some}
@@ -39,7 +39,7 @@ module _ {p : Accounts} {n : ℕ} {m : Machine} {t : ℕ} {a : Actor} {rest : Li
 module _ {p : Accounts} {n : ℕ} {m : Machine} {t : ℕ} {a : Actor} {d : Duty} {rest : List Duty} where
   -- After a thread's step each cell fits its row's life.
   pub cells_after : AtDuty p n m t a d rest → (x i : ℕ)
-      → CellFits ((done_by m t a d rest).life x) (memory_by m t a d (Cell x i))
+      → CellFits ((machine_by_duty m t a d rest).life x) (memory_by m t a d (Cell x i))
   cells_after here x i =
       let Fits : Life → Type 0 = λ l. CellFits l (memory_by m t a d (Cell x i)) in
       elim (life_step d x here) [

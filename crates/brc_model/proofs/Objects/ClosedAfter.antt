@@ -10,7 +10,7 @@ use Rattle.brc_model.specs.AbstractState.{is_among}
 use Rattle.brc_model.specs.declared.duty.Duty.{Duty}
 use Rattle.brc_model.specs.Duties.{address_of}
 use Rattle.brc_model.specs.declared.actor.Actor.{Actor}
-use Rattle.brc_model.specs.Machine.{Life, Unborn, Live, Dying, Closed, Machine, done_by}
+use Rattle.brc_model.specs.Machine.{Life, Unborn, Live, Dying, Closed, Machine, machine_by_duty}
 use Rattle.brc_model.proofs.Basics.Lists.{some_is}
 use Rattle.brc_model.specs.Accounts.{Accounts}
 use Rattle.brc_model.specs.OpenWork.{dies_by}
@@ -37,7 +37,7 @@ one_is x y e = elim (either_true (y == x) false e) [ inl same ↦ eqb-true y x s
 
 module _ {p : Accounts} {n : ℕ} {m : Machine} {t : ℕ} {a : Actor} {d : Duty} {rest : List Duty} where
   -- A closed row stays closed.
-  pub closed_stays : (x : ℕ) → AtDuty p n m t a d rest → m.life x ≡ Closed → (done_by m t a d rest).life x ≡ Closed
+  pub closed_stays : (x : ℕ) → AtDuty p n m t a d rest → m.life x ≡ Closed → (machine_by_duty m t a d rest).life x ≡ Closed
   closed_stays x here was =
       elim (life_step d x here) [
         | GoesOn same other ↦ same ∙ was
@@ -46,8 +46,8 @@ module _ {p : Accounts} {n : ℕ} {m : Machine} {t : ℕ} {a : Actor} {d : Duty}
         | IsBorn now unborn above born none ↦ absurd (unborn_not_closed (sym unborn ∙ was))
       ]
 
-  pub closed_is_after : (x : ℕ) → AtDuty p n m t a d rest → is_among x (done_by m t a d rest).abstract.closed ≡ true
-      → (done_by m t a d rest).life x ≡ Closed
+  pub closed_is_after : (x : ℕ) → AtDuty p n m t a d rest → is_among x (machine_by_duty m t a d rest).abstract.closed ≡ true
+      → (machine_by_duty m t a d rest).life x ≡ Closed
   closed_is_after x here is =
       elim (closed_step m t d (m.memory (address_of m.layout t a.head d))) [
         | SameClosed none same ↦ closed_stays x here (here.core.closed_is x (sym (ap (is_among x) same) ∙ is))
@@ -76,8 +76,8 @@ among_last x xs =
     ]
 
 module _ {p : Accounts} {n : ℕ} {m : Machine} {t : ℕ} {a : Actor} {d : Duty} {rest : List Duty} where
-  pub closed_has_after : (x : ℕ) → AtDuty p n m t a d rest → (done_by m t a d rest).life x ≡ Closed
-      → is_among x (done_by m t a d rest).abstract.closed ≡ true
+  pub closed_has_after : (x : ℕ) → AtDuty p n m t a d rest → (machine_by_duty m t a d rest).life x ≡ Closed
+      → is_among x (machine_by_duty m t a d rest).abstract.closed ≡ true
   closed_has_after x here is =
       let Q : List ℕ → Type 0 = λ l. is_among x l ≡ true in
       elim (closed_step m t d (m.memory (address_of m.layout t a.head d))) [
@@ -99,7 +99,7 @@ module _ {p : Accounts} {n : ℕ} {m : Machine} {t : ℕ} {a : Actor} {d : Duty}
             ])
       ]
 
-  pub closed_once_after : AtDuty p n m t a d rest → AllPairs (λ x y. x ≢ y) (done_by m t a d rest).abstract.closed
+  pub closed_once_after : AtDuty p n m t a d rest → AllPairs (λ x y. x ≢ y) (machine_by_duty m t a d rest).abstract.closed
   closed_once_after here =
       let Q : List ℕ → Type 0 = λ l. AllPairs (λ x y. x ≢ y) l in
       elim (closed_step m t d (m.memory (address_of m.layout t a.head d))) [
@@ -121,7 +121,7 @@ module _ {p : Accounts} {n : ℕ} {m : Machine} {t : ℕ} {a : Actor} {d : Duty}
   -- ---- rows that are dying
 
   pub immortals_live_after : (x : ℕ) → AtDuty p n m t a d rest → is_immortal_row m.layout x ≡ true
-      → (done_by m t a d rest).life x ≡ Live
+      → (machine_by_duty m t a d rest).life x ≡ Live
   immortals_live_after x here immortal =
       elim (life_step d x here) [
         | GoesOn now other ↦ now ∙ here.core.immortals_live x immortal
@@ -130,7 +130,7 @@ module _ {p : Accounts} {n : ℕ} {m : Machine} {t : ℕ} {a : Actor} {d : Duty}
         | IsBorn now unborn counted born none ↦ now
       ]
 
-  pub dying_after : (x u : ℕ) → AtDuty p n m t a d rest → n ≤ u → dies_by ((done_by m t a d rest).life x) u ≡ false
+  pub dying_after : (x u : ℕ) → AtDuty p n m t a d rest → n ≤ u → dies_by ((machine_by_duty m t a d rest).life x) u ≡ false
   dying_after x u here past =
       let within : t < n = omega (arith, slice_get_within m.actors t a here.found, here.core.threads) in
       elim (life_step d x here) [

@@ -6,7 +6,7 @@ use Rattle.brc_model.specs.declared.duty.Reason.TheVariants.{Own, Handed}
 use Rattle.brc_model.specs.declared.duty.Duty.{Duty}
 use Rattle.brc_model.specs.declared.duty.Duty.TheVariants.{DecideAtZero, SharedExchange, MergeExchange, SettleEnd, BirthLocal}
 use Rattle.brc_model.specs.declared.actor.Actor.{Actor}
-use Rattle.brc_model.specs.Machine.{Life, Unborn, Live, Dying, Closed, Machine, dies_next, ended_row, born_row, with_life, done_by}
+use Rattle.brc_model.specs.Machine.{Life, Unborn, Live, Dying, Closed, Machine, dies_next, ended_row, born_row, with_life, machine_by_duty}
 use Rattle.brc_model.specs.Moves.{reference_effects}
 use Rattle.brc_model.proofs.Basics.Lists.{some_is, none_some}
 use Rattle.brc_model.proofs.Basics.Moves.{MoveOf, Finalises, each_effect, moved_keeps}
@@ -97,7 +97,7 @@ module _ {p : Accounts} {n : ℕ} {m : Machine} {t : ℕ} {a : Actor} {d : Duty}
 
 module _ {p : Accounts} {n : ℕ} {m : Machine} {t : ℕ} {a : Actor} {rest : List Duty} where
   -- Every step changes a row's life in one of these four ways.
-  pub life_step : (d : Duty) (x : ℕ) → AtDuty p n m t a d rest → LifeStep m t d x ((done_by m t a d rest).life x)
+  pub life_step : (d : Duty) (x : ℕ) → AtDuty p n m t a d rest → LifeStep m t d x ((machine_by_duty m t a d rest).life x)
   life_step (BirthLocal y h) x here =
       let next : IsNext m t a y = (head_of here).0 in
       elim (eqb_tells y x) [

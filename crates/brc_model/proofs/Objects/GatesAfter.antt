@@ -9,7 +9,7 @@ use Rattle.brc_model.specs.declared.duty.Duty.{Duty}
 use Rattle.brc_model.specs.declared.duty.Duty.TheVariants.{Die, Settle, SettleEnd, LockGate, UnlockGate}
 use Rattle.brc_model.specs.declared.address.Address.TheVariants.{Gate}
 use Rattle.brc_model.specs.declared.actor.Actor.{Actor}
-use Rattle.brc_model.specs.Machine.{Life, Unborn, Live, Dying, Closed, Machine, is_locking, ended_row, actor_by, done_by}
+use Rattle.brc_model.specs.Machine.{Life, Unborn, Live, Dying, Closed, Machine, is_locking, ended_row, actor_by, machine_by_duty}
 use Rattle.brc_model.proofs.Basics.Lists.{some_is, none_some, slice_get-set_same}
 use Rattle.brc_model.proofs.Basics.Written.{written_here, written_apart, written_load, apart_gate}
 use Rattle.brc_model.proofs.Frame.Alive.{alive_backed}
@@ -61,12 +61,12 @@ ended_gate m t a _ x ended = absurd (let wrong : None ≡ Some x = ended in cc)
 module _ {p : Accounts} {n : ℕ} {m : Machine} {t : ℕ} {a : Actor} {rest : List Duty} where
   -- The gate of the row that the thread tries to lock.
   lock_tried : (x : ℕ) → AtDuty p n m t a (LockGate x) rest → LiveGate m.actors x (m.memory (Gate x))
-      → LiveGate (done_by m t a (LockGate x) rest).actors x (memory_by m t a (LockGate x) (Gate x))
+      → LiveGate (machine_by_duty m t a (LockGate x) rest).actors x (memory_by m t a (LockGate x) (Gate x))
   lock_tried x here live =
       let none : a.locked ≡ None = (head_of here).2 in
       let found = m.memory (Gate x) in
       let after = actor_by m.layout t a (LockGate x) rest found in
-      let new = (done_by m t a (LockGate x) rest).actors in
+      let new = (machine_by_duty m t a (LockGate x) rest).actors in
       elim (found == free_word)
       as (λ b. (found == free_word) ≡ b → LiveGate new x (memory_by m t a (LockGate x) (Gate x))) [
         | true ↦ λ free.
@@ -83,11 +83,11 @@ module _ {p : Accounts} {n : ℕ} {m : Machine} {t : ℕ} {a : Actor} {rest : Li
 
   -- A live row's gate still fits.
   live_gate_after : (d : Duty) (x : ℕ) → AtDuty p n m t a d rest → m.life x ≡ Live
-      → LiveGate m.actors x (m.memory (Gate x)) → LiveGate (done_by m t a d rest).actors x (memory_by m t a d (Gate x))
+      → LiveGate m.actors x (m.memory (Gate x)) → LiveGate (machine_by_duty m t a d rest).actors x (memory_by m t a d (Gate x))
   live_gate_after (LockGate y) x here lives live =
       let none : a.locked ≡ None = (head_of here).2 in
       let after = actor_by m.layout t a (LockGate y) rest (m.memory (Gate y)) in
-      let new = (done_by m t a (LockGate y) rest).actors in
+      let new = (machine_by_duty m t a (LockGate y) rest).actors in
       elim (eqb_tells y x) [
         | inl same ↦
             let there : LiveGate m.actors y (m.memory (Gate y)) =
@@ -101,7 +101,7 @@ module _ {p : Accounts} {n : ℕ} {m : Machine} {t : ℕ} {a : Actor} {rest : Li
   live_gate_after (UnlockGate y) x here lives live =
       let mine : a.locked ≡ Some y = (head_of here).2 in
       let after = actor_by m.layout t a (UnlockGate y) rest (m.memory (Gate y)) in
-      let new = (done_by m t a (UnlockGate y) rest).actors in
+      let new = (machine_by_duty m t a (UnlockGate y) rest).actors in
       elim (eqb_tells y x) [
         | inl same ↦ IsFree (ap (λ (b : Bool). cond b free_word (m.memory (Gate x))) same.0)
         | inr other ↦
@@ -111,7 +111,7 @@ module _ {p : Accounts} {n : ℕ} {m : Machine} {t : ℕ} {a : Actor} {rest : Li
       ]
   live_gate_after d x here lives live =
       let stays = gate_stays d x here (λ e. let wrong : Live ≡ Dying t = sym lives ∙ e in cc) refl in
-      subst (LiveGate (done_by m t a d rest).actors x) (sym stays)
+      subst (LiveGate (machine_by_duty m t a d rest).actors x) (sym stays)
       (live_gate_kept m.actors t a (actor_by m.layout t a d rest (found_by m t a d)) here.found x (m.memory (Gate x))
       refl live)
 
@@ -120,7 +120,7 @@ module _ {p : Accounts} {n : ℕ} {m : Machine} {t : ℕ} {a : Actor} {rest : Li
 module _ {p : Accounts} {n : ℕ} {m : Machine} {t : ℕ} {a : Actor} {d : Duty} {rest : List Duty} where
   -- The gate still fits a row whose life doesn't change.
   gate_goes_on : (x : ℕ) (l : Life) → AtDuty p n m t a d rest → m.life x ≡ l → GateFits m.actors x l (m.memory (Gate x))
-      → GateFits (done_by m t a d rest).actors x l (memory_by m t a d (Gate x))
+      → GateFits (machine_by_duty m t a d rest).actors x l (memory_by m t a d (Gate x))
   gate_goes_on x Unborn here is fits =
       dead_gate_stays d x here (λ e. let wrong : Unborn ≡ Dying t = sym is ∙ e in cc)
       (λ e. let wrong : Unborn ≡ Live = sym is ∙ e in cc) ∙ fits
@@ -132,9 +132,9 @@ module _ {p : Accounts} {n : ℕ} {m : Machine} {t : ℕ} {a : Actor} {d : Duty}
 
   -- After a thread's step each gate fits its row's life.
   pub gates_after : AtDuty p n m t a d rest → (x : ℕ)
-      → GateFits (done_by m t a d rest).actors x ((done_by m t a d rest).life x) (memory_by m t a d (Gate x))
+      → GateFits (machine_by_duty m t a d rest).actors x ((machine_by_duty m t a d rest).life x) (memory_by m t a d (Gate x))
   gates_after here x =
-      let Fits : Life → Type 0 = λ l. GateFits (done_by m t a d rest).actors x l (memory_by m t a d (Gate x)) in
+      let Fits : Life → Type 0 = λ l. GateFits (machine_by_duty m t a d rest).actors x l (memory_by m t a d (Gate x)) in
       elim (life_step d x here) [
         | GoesOn now other ↦ subst Fits (sym now) (gate_goes_on x (m.life x) here refl (here.core.gates x))
         | BeginsToDie now alive positive none ↦ subst Fits (sym now) tt

@@ -11,7 +11,7 @@ use Rattle.brc_model.specs.declared.duty.Duty.{Duty}
 use Rattle.brc_model.specs.declared.duty.Duty.TheVariants.{BirthLocal}
 use Rattle.brc_model.specs.declared.address.Address.TheVariants.{KindOf}
 use Rattle.brc_model.specs.declared.actor.Actor.{Actor}
-use Rattle.brc_model.specs.Machine.{Unborn, Machine, born_row, done_by}
+use Rattle.brc_model.specs.Machine.{Unborn, Machine, born_row, machine_by_duty}
 use Rattle.brc_model.specs.Moves.{reference_effects}
 use Rattle.brc_model.proofs.Basics.Blocks.{next_unborn}
 use Rattle.brc_model.proofs.Frame.Items.{word_stays}
@@ -63,7 +63,7 @@ same_kinds m t d found none =
 module _ {p : Accounts} {n : ℕ} {m : Machine} {t : ℕ} {a : Actor} {rest : List Duty} where
   -- No step changes the kind of a born row.
   kind_stays : (d : Duty) (x : ℕ) → AtDuty p n m t a d rest → m.life x ≢ Unborn
-      → (done_by m t a d rest).abstract.kinds x ≡ m.abstract.kinds x
+      → (machine_by_duty m t a d rest).abstract.kinds x ≡ m.abstract.kinds x
   kind_stays (BirthLocal y h) x here born =
       let next = (head_of here).0 in
       let apart : y ≡ x → ⊥ = λ e. born (ap m.life (sym e) ∙ next_unborn p n m t a y here.core here.found next) in
@@ -72,12 +72,12 @@ module _ {p : Accounts} {n : ℕ} {m : Machine} {t : ℕ} {a : Actor} {rest : Li
 
   -- A row that this step gives birth to is of the kind that its kind word names.
   kind_is_said : (d : Duty) (x : ℕ) → AtDuty p n m t a d rest → born_row d ≡ Some x
-      → kind_part (memory_by m t a d (KindOf x)) ≡ kind_number ((done_by m t a d rest).abstract.kinds x)
+      → kind_part (memory_by m t a d (KindOf x)) ≡ kind_number ((machine_by_duty m t a d rest).abstract.kinds x)
   kind_is_said (BirthLocal y h) x here is =
       let same : y ≡ x = some_is y x is in
       let said = (head_of here).2 in
       let word : ℕ = m.memory (KindOf y) in
-      let kind : (done_by m t a (BirthLocal y h) rest).abstract.kinds x ≡ kind_of_word word =
+      let kind : (machine_by_duty m t a (BirthLocal y h) rest).abstract.kinds x ≡ kind_of_word word =
       ap (λ (b : Bool). cond b (kind_of_word word) (m.abstract.kinds x)) (eq-eqb y x same) in
       ap (λ (z : ℕ). kind_part (m.memory (KindOf z))) (sym same) ∙ counted_number (kind_part word) said ∙ ap kind_number
       (sym kind)
@@ -85,8 +85,8 @@ module _ {p : Accounts} {n : ℕ} {m : Machine} {t : ℕ} {a : Actor} {rest : Li
 
 module _ {p : Accounts} {n : ℕ} {m : Machine} {t : ℕ} {a : Actor} {d : Duty} {rest : List Duty} where
   -- After a thread's step the kind word of each born row names its kind.
-  pub kinds_after : AtDuty p n m t a d rest → (x : ℕ) → (done_by m t a d rest).life x ≢ Unborn
-      → kind_part ((done_by m t a d rest).memory (KindOf x)) ≡ kind_number ((done_by m t a d rest).abstract.kinds x)
+  pub kinds_after : AtDuty p n m t a d rest → (x : ℕ) → (machine_by_duty m t a d rest).life x ≢ Unborn
+      → kind_part ((machine_by_duty m t a d rest).memory (KindOf x)) ≡ kind_number ((machine_by_duty m t a d rest).abstract.kinds x)
   kinds_after here x born =
       elim (before_or_now x here born) [
         | inl was ↦
@@ -114,8 +114,8 @@ module _ {p : Accounts} {n : ℕ} {m : Machine} {t : ℕ} {a : Actor} {rest : Li
 
 module _ {p : Accounts} {n : ℕ} {m : Machine} {t : ℕ} {a : Actor} {d : Duty} {rest : List Duty} where
   -- After a thread's step the kind word of no born row is 0.
-  pub kind_words_after : AtDuty p n m t a d rest → (x : ℕ) → (done_by m t a d rest).life x ≢ Unborn
-      → 0 < (done_by m t a d rest).memory (KindOf x)
+  pub kind_words_after : AtDuty p n m t a d rest → (x : ℕ) → (machine_by_duty m t a d rest).life x ≢ Unborn
+      → 0 < (machine_by_duty m t a d rest).memory (KindOf x)
   kind_words_after here x born =
       elim (before_or_now x here born) [
         | inl was ↦ omega (arith, word_stays p n m t a d rest x here was, here.core.kind_words x was)

@@ -6,7 +6,7 @@ use Rattle.brc_model.specs.declared.duty.Holding.{Holding}
 use Rattle.brc_model.specs.declared.duty.Duty.{Duty}
 use Rattle.brc_model.specs.declared.duty.Duty.TheVariants.{SettleKind, SettleCell, TakeSlot, CloseResource, SettleEnd, BirthSlot, LendSlot, ReturnSlot}
 use Rattle.brc_model.specs.declared.actor.Actor.{Actor}
-use Rattle.brc_model.specs.Machine.{Life, Unborn, Machine, done_by}
+use Rattle.brc_model.specs.Machine.{Life, Unborn, Machine, machine_by_duty}
 use Rattle.brc_model.specs.Accounts.{Accounts}
 use Rattle.brc_model.specs.Invariant.{AtDuty}
 use Rattle.brc_model.specs.Resources.{resources_at, ResourcesFit}
@@ -21,23 +21,23 @@ module _ {p : Accounts} {n : ℕ} {m : Machine} {t : ℕ} {a : Actor} where
 
   -- The row isn't born yet, and its resource isn't closed.
   after_birth_slot : (x : ℕ) (h : Holding) (rest : List Duty) → AtDuty p n m t a (BirthSlot x h) rest
-      → ResourcesFit ((done_by m t a (BirthSlot x h) rest).life x)
-      (resources_at (done_by m t a (BirthSlot x h) rest) x)
+      → ResourcesFit ((machine_by_duty m t a (BirthSlot x h) rest).life x)
+      (resources_at (machine_by_duty m t a (BirthSlot x h) rest) x)
   after_birth_slot x h rest here =
       let next = (head_of here).0 in
       let unborn = next_unborn p n m t a x here.core here.found next in
       let fit : ResourcesFit Unborn (resources_at m x) =
       subst (λ (l : Life). ResourcesFit l (resources_at m x)) unborn (here.core.resources x) in
-      subst (λ (l : Life). ResourcesFit l (resources_at (done_by m t a (BirthSlot x h) rest) x)) (sym unborn) fit
+      subst (λ (l : Life). ResourcesFit l (resources_at (machine_by_duty m t a (BirthSlot x h) rest) x)) (sym unborn) fit
 
   -- ---- every step
 
   here_or_elsewhere : (d : Duty) (rest : List Duty) (y x : ℕ) → AtDuty p n m t a d rest
       → ((y == x) ≡ false → moves_resource d x ≡ false)
-      → ResourcesFit ((done_by m t a d rest).life y) (resources_at (done_by m t a d rest) y)
-      → ResourcesFit ((done_by m t a d rest).life x) (resources_at (done_by m t a d rest) x)
+      → ResourcesFit ((machine_by_duty m t a d rest).life y) (resources_at (machine_by_duty m t a d rest) y)
+      → ResourcesFit ((machine_by_duty m t a d rest).life x) (resources_at (machine_by_duty m t a d rest) x)
   here_or_elsewhere d rest y x here apart own =
-      let new = done_by m t a d rest in
+      let new = machine_by_duty m t a d rest in
       elim (eqb_tells y x) [
         | inl same ↦ subst (λ (z : ℕ). ResourcesFit (new.life z) (resources_at new z)) same.1 own
         | inr other ↦ elsewhere p n m t a d rest x here (apart other.0)
@@ -45,7 +45,7 @@ module _ {p : Accounts} {n : ℕ} {m : Machine} {t : ℕ} {a : Actor} where
 
   -- After a step each resource is in one place.
   pub resources_after : (d : Duty) (rest : List Duty) (x : ℕ) → AtDuty p n m t a d rest
-      → ResourcesFit ((done_by m t a d rest).life x) (resources_at (done_by m t a d rest) x)
+      → ResourcesFit ((machine_by_duty m t a d rest).life x) (resources_at (machine_by_duty m t a d rest) x)
   resources_after (SettleKind y) rest x here =
       here_or_elsewhere (SettleKind y) rest y x here (λ e. e) (after_kind p n m t a y rest here)
   resources_after (SettleCell y i k) rest x here =

@@ -5,10 +5,10 @@ use Rattle.std.proofs.lemmas.Bool.{eq-eqb, ne_eqb, eqb-false}
 use Rattle.brc_model.specs.declared.duty.Duty.{Duty}
 use Rattle.brc_model.specs.declared.duty.Duty.TheVariants.{SettleKind, SettleCell, TakeSlot, CloseResource, SettleEnd, BirthSlot, BirthLocal, LendSlot, ReturnSlot}
 use Rattle.brc_model.specs.declared.address.Address.TheVariants.{KindOf, Slot, Resource}
-use Rattle.brc_model.specs.Slots.{names}
+use Rattle.brc_model.specs.VarStates.{names}
 use Rattle.brc_model.specs.Duties.{has_resource, resources_of}
 use Rattle.brc_model.specs.declared.actor.Actor.{Actor}
-use Rattle.brc_model.specs.Machine.{Life, Unborn, Live, Dying, Closed, Machine, ended_row, born_row, actor_by, done_by}
+use Rattle.brc_model.specs.Machine.{Life, Unborn, Live, Dying, Closed, Machine, ended_row, born_row, actor_by, machine_by_duty}
 use Rattle.brc_model.specs.References.{one_if}
 use Rattle.brc_model.specs.Accounts.{Accounts}
 use Rattle.brc_model.specs.OpenWork.{dies_by}
@@ -118,7 +118,7 @@ module _ (p : Accounts) (n : ℕ) (m : Machine) (t : ℕ) (a : Actor) where
   lends_same _ rest x here e = refl
 
   same_numbers : (d : Duty) (rest : List Duty) (x : ℕ) → AtDuty p n m t a d rest → moves_resource d x ≡ false
-      → SameNumbers (m.life x) (resources_at m x) (resources_at (done_by m t a d rest) x)
+      → SameNumbers (m.life x) (resources_at m x) (resources_at (machine_by_duty m t a d rest) x)
   same_numbers d rest x here e =
       let row = no_settling d x e in
       let not = no_step d x e in
@@ -134,10 +134,10 @@ module _ (p : Accounts) (n : ℕ) (m : Machine) (t : ℕ) (a : Actor) where
 
   -- A row that begins to die has no duty yet that settles it.
   begins_settling : (d : Duty) (rest : List Duty) (x : ℕ) → AtDuty p n m t a d rest → moves_resource d x ≡ false
-      → m.life x ≡ Live → IsSettling (resources_at (done_by m t a d rest) x)
+      → m.life x ≡ Live → IsSettling (resources_at (machine_by_duty m t a d rest) x)
   begins_settling d rest x here e lives =
       let old = resources_at m x in
-      let new = resources_at (done_by m t a d rest) x in
+      let new = resources_at (machine_by_duty m t a d rest) x in
       let same = same_numbers d rest x here e in
       let fit : ResourcesFit Live old = subst (λ (l : Life). ResourcesFit l old) lives (here.core.resources x) in
       let born : m.life x ≢ Unborn = λ u. let wrong : Live ≡ Unborn = sym lives ∙ u in cc in
@@ -158,7 +158,7 @@ module _ (p : Accounts) (n : ℕ) (m : Machine) (t : ℕ) (a : Actor) where
   born_slot _ rest x here born = absurd (none_some x born)
 
   is_born : (d : Duty) (rest : List Duty) (x : ℕ) → AtDuty p n m t a d rest → moves_resource d x ≡ false
-      → m.life x ≡ Unborn → born_row d ≡ Some x → ResourcesFit Live (resources_at (done_by m t a d rest) x)
+      → m.life x ≡ Unborn → born_row d ≡ Some x → ResourcesFit Live (resources_at (machine_by_duty m t a d rest) x)
   is_born d rest x here e unborn born =
       let same = same_numbers d rest x here e in
       let none : (u : ℕ) → dies_by (m.life x) u ≡ false = λ u. ap (λ (l : Life). dies_by l u) unborn in
@@ -178,10 +178,10 @@ module _ (p : Accounts) (n : ℕ) (m : Machine) (t : ℕ) (a : Actor) where
   ended_settles _ x ended = absurd (none_some x ended)
 
   pub elsewhere : (d : Duty) (rest : List Duty) (x : ℕ) → AtDuty p n m t a d rest → moves_resource d x ≡ false
-      → ResourcesFit ((done_by m t a d rest).life x) (resources_at (done_by m t a d rest) x)
+      → ResourcesFit ((machine_by_duty m t a d rest).life x) (resources_at (machine_by_duty m t a d rest) x)
   elsewhere d rest x here e =
       let old = resources_at m x in
-      let new = resources_at (done_by m t a d rest) x in
+      let new = resources_at (machine_by_duty m t a d rest) x in
       let P : Life → Type 0 = λ l. ResourcesFit l new in
       elim (life_step d x here) [
         | GoesOn now other ↦

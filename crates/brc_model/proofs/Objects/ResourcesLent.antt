@@ -7,7 +7,7 @@ use Rattle.brc_model.specs.declared.duty.Duty.TheVariants.{LendSlot, ReturnSlot}
 use Rattle.brc_model.specs.declared.address.Address.TheVariants.{KindOf, Slot}
 use Rattle.brc_model.specs.Duties.{resources_of}
 use Rattle.brc_model.specs.declared.actor.Actor.{Actor}
-use Rattle.brc_model.specs.Machine.{Life, Live, Machine, actor_by, done_by}
+use Rattle.brc_model.specs.Machine.{Life, Live, Machine, actor_by, machine_by_duty}
 use Rattle.brc_model.specs.RowInvariant.{weight}
 use Rattle.brc_model.specs.Accounts.{Accounts}
 use Rattle.brc_model.specs.OpenWork.{dies_by}
@@ -25,7 +25,7 @@ module _ (p : Accounts) (n : ℕ) (m : Machine) (t : ℕ) (a : Actor) where
   -- ---- a lent resource
 
   kept_weights : (d : Duty) (rest : List Duty) (x : ℕ) → AtDuty p n m t a d rest → settles_row d x ≡ false
-      → settles d x ≡ false → weight (closing x) (done_by m t a d rest).actors ≡ weight (closing x) m.actors
+      → settles d x ≡ false → weight (closing x) (machine_by_duty m t a d rest).actors ≡ weight (closing x) m.actors
   kept_weights d rest x here row not = settling_kept x (closing x) (of_closing x) p n m t a d rest here row not
 
   -- A thread that is about to lend a resource finds it in its slot.
@@ -62,10 +62,10 @@ module _ (p : Accounts) (n : ℕ) (m : Machine) (t : ℕ) (a : Actor) where
   returning_finds x rest here = lent_leaves_none x here.core here.found (head_of here)
 
   pub after_lend : (x : ℕ) (rest : List Duty) → AtDuty p n m t a (LendSlot x) rest
-      → ResourcesFit ((done_by m t a (LendSlot x) rest).life x) (resources_at (done_by m t a (LendSlot x) rest) x)
+      → ResourcesFit ((machine_by_duty m t a (LendSlot x) rest).life x) (resources_at (machine_by_duty m t a (LendSlot x) rest) x)
   after_lend x rest here =
       let d : Duty = LendSlot x in
-      let new = resources_at (done_by m t a d rest) x in
+      let new = resources_at (machine_by_duty m t a d rest) x in
       let head = head_of here in
       let lives = (locked_alive t a x here.core here.found head.1).life in
       let fit : ResourcesFit Live (resources_at m x) =
@@ -88,10 +88,10 @@ module _ (p : Accounts) (n : ℕ) (m : Machine) (t : ℕ) (a : Actor) where
       )
 
   pub after_return : (x : ℕ) (rest : List Duty) → AtDuty p n m t a (ReturnSlot x) rest
-      → ResourcesFit ((done_by m t a (ReturnSlot x) rest).life x) (resources_at (done_by m t a (ReturnSlot x) rest) x)
+      → ResourcesFit ((machine_by_duty m t a (ReturnSlot x) rest).life x) (resources_at (machine_by_duty m t a (ReturnSlot x) rest) x)
   after_return x rest here =
       let d : Duty = ReturnSlot x in
-      let new = resources_at (done_by m t a d rest) x in
+      let new = resources_at (machine_by_duty m t a d rest) x in
       let lent = head_of here in
       let locked = (here.core.each t a here.found).0.lent x lent in
       let lives = (locked_alive t a x here.core here.found locked).life in

@@ -9,7 +9,7 @@ use Rattle.brc_model.specs.declared.duty.Duty.TheVariants.{SettleKind, SettleCel
 use Rattle.brc_model.specs.declared.address.Address.TheVariants.{KindOf, Cell, Slot, Resource}
 use Rattle.brc_model.specs.Duties.{has_resource, resources_of, cells_of, cells_from}
 use Rattle.brc_model.specs.declared.actor.Actor.{Actor}
-use Rattle.brc_model.specs.Machine.{Life, Unborn, Live, Dying, Closed, Machine, ended_row, actor_by, done_by}
+use Rattle.brc_model.specs.Machine.{Life, Unborn, Live, Dying, Closed, Machine, ended_row, actor_by, machine_by_duty}
 use Rattle.brc_model.specs.References.{one_if}
 use Rattle.brc_model.specs.Accounts.{Accounts}
 use Rattle.brc_model.specs.Invariant.{AtDuty}
@@ -45,7 +45,7 @@ module _ (p : Accounts) (n : ℕ) (m : Machine) (t : ℕ) (a : Actor) where
 
   -- The row is still dying, unless the step closes it.
   still_dies : (d : Duty) (rest : List Duty) (x : ℕ) → AtDuty p n m t a d rest → ended_row d ≡ None
-      → m.life x ≡ Dying t → (done_by m t a d rest).life x ≡ Dying t
+      → m.life x ≡ Dying t → (machine_by_duty m t a d rest).life x ≡ Dying t
   still_dies d rest x here none dies =
       elim (life_step d x here) [
         | GoesOn now other ↦ now ∙ dies
@@ -82,7 +82,7 @@ module _ (p : Accounts) (n : ℕ) (m : Machine) (t : ℕ) (a : Actor) where
       omega (arith, fit.placed, closes, one_here x, resources_low (m.memory (KindOf x)))
 
   pub after_take : (x : ℕ) (rest : List Duty) → AtDuty p n m t a (TakeSlot x) rest
-      → ResourcesFit ((done_by m t a (TakeSlot x) rest).life x) (resources_at (done_by m t a (TakeSlot x) rest) x)
+      → ResourcesFit ((machine_by_duty m t a (TakeSlot x) rest).life x) (resources_at (machine_by_duty m t a (TakeSlot x) rest) x)
   after_take x rest here =
       let d : Duty = TakeSlot x in
       let next : List Duty = CloseResource x ∷ [] in
@@ -98,7 +98,7 @@ module _ (p : Accounts) (n : ℕ) (m : Machine) (t : ℕ) (a : Actor) where
       let closed_next = sum_by-cons (closing x) (CloseResource x) [] in
       let ends = settling_stepped x (ending x) (of_ending x) p n m t a d rest next here refl in
       let ends_next = sum_by-cons (ending x) (CloseResource x) [] in
-      let fits : IsSettling (resources_at (done_by m t a d rest) x) = record {
+      let fits : IsSettling (resources_at (machine_by_duty m t a d rest) x) = record {
         placed = omega (
           arith,
           fit.placed,
@@ -112,12 +112,12 @@ module _ (p : Accounts) (n : ℕ) (m : Machine) (t : ℕ) (a : Actor) where
         unclosed = λ yet. shut;
         shut = λ some. absurd (omega (arith, some, ends, ends_next, none_ended));
       } in
-      subst (λ (l : Life). ResourcesFit l (resources_at (done_by m t a d rest) x))
+      subst (λ (l : Life). ResourcesFit l (resources_at (machine_by_duty m t a d rest) x))
       (sym (still_dies d rest x here refl dies)) fits
 
   pub after_close : (x : ℕ) (rest : List Duty) → AtDuty p n m t a (CloseResource x) rest
-      → ResourcesFit ((done_by m t a (CloseResource x) rest).life x)
-      (resources_at (done_by m t a (CloseResource x) rest) x)
+      → ResourcesFit ((machine_by_duty m t a (CloseResource x) rest).life x)
+      (resources_at (machine_by_duty m t a (CloseResource x) rest) x)
   after_close x rest here =
       let d : Duty = CloseResource x in
       let next : List Duty = SettleEnd x ∷ [] in
@@ -134,17 +134,17 @@ module _ (p : Accounts) (n : ℕ) (m : Machine) (t : ℕ) (a : Actor) where
       let closes_next = sum_by-cons (closing x) (SettleEnd x) [] in
       let ends = settling_stepped x (ending x) (of_ending x) p n m t a d rest next here refl in
       let ends_next = sum_by-cons (ending x) (SettleEnd x) [] in
-      let fits : IsSettling (resources_at (done_by m t a d rest) x) = record {
+      let fits : IsSettling (resources_at (machine_by_duty m t a d rest) x) = record {
         placed = omega (arith, fit.placed, now, lent, closes, closes_next, one_here x);
         unclosed = λ yet. absurd (omega (arith, yet, ends, ends_next, one_here x));
         shut = λ some.
             omega (arith, fit.placed, now, closed, was, one_here x, resources_low (m.memory (KindOf x)));
       } in
-      subst (λ (l : Life). ResourcesFit l (resources_at (done_by m t a d rest) x))
+      subst (λ (l : Life). ResourcesFit l (resources_at (machine_by_duty m t a d rest) x))
       (sym (still_dies d rest x here refl dies)) fits
 
   pub after_end : (x : ℕ) (rest : List Duty) → AtDuty p n m t a (SettleEnd x) rest
-      → ResourcesFit ((done_by m t a (SettleEnd x) rest).life x) (resources_at (done_by m t a (SettleEnd x) rest) x)
+      → ResourcesFit ((machine_by_duty m t a (SettleEnd x) rest).life x) (resources_at (machine_by_duty m t a (SettleEnd x) rest) x)
   after_end x rest here =
       let d : Duty = SettleEnd x in
       let dies = (head_of here).1 in
@@ -155,8 +155,8 @@ module _ (p : Accounts) (n : ℕ) (m : Machine) (t : ℕ) (a : Actor) where
       let shut = fit.shut (omega (arith, was, one_here x)) in
       let lent = lenders-set x m.actors t a after here.found in
       let closes = settling_stepped x (closing x) (of_closing x) p n m t a d rest [] here refl in
-      let ended : (done_by m t a d rest).life x ≡ Closed = ap (λ (b : Bool). cond b Closed (m.life x)) this in
-      subst (λ (l : Life). ResourcesFit l (resources_at (done_by m t a d rest) x)) (sym ended)
+      let ended : (machine_by_duty m t a d rest).life x ≡ Closed = ap (λ (b : Bool). cond b Closed (m.life x)) this in
+      subst (λ (l : Life). ResourcesFit l (resources_at (machine_by_duty m t a d rest) x)) (sym ended)
       (omega (arith, fit.placed, lent, closes), shut)
 
   -- ---- a dying row whose kind is read, or whose cell is emptied
@@ -168,9 +168,9 @@ module _ (p : Accounts) (n : ℕ) (m : Machine) (t : ℕ) (a : Actor) where
       → lends x (actor_by m.layout t a d rest (found_by m t a d)) ≡ lends x a
       → closing x d ≡ 0 → ending x d ≡ 0 → sum_by (closing x) (next_of m t a d) ≡ 0
       → (0 < sum_by (ending x) (next_of m t a d) → resources_of (m.memory (KindOf x)) ≡ 0)
-      → ResourcesFit ((done_by m t a d rest).life x) (resources_at (done_by m t a d rest) x)
+      → ResourcesFit ((machine_by_duty m t a d rest).life x) (resources_at (machine_by_duty m t a d rest) x)
   settles_on d rest x here dies none slot closed lends closing_none ending_none closing_next ending_next =
-      let new = resources_at (done_by m t a d rest) x in
+      let new = resources_at (machine_by_duty m t a d rest) x in
       let fit = settling d rest x here dies in
       let after = actor_by m.layout t a d rest (found_by m t a d) in
       let kind = ap resources_of (word_stays p n m t a d rest x here (dying_born x dies)) in
@@ -203,8 +203,8 @@ module _ (p : Accounts) (n : ℕ) (m : Machine) (t : ℕ) (a : Actor) where
       (omega (arith, sum_by-cons f (SettleEnd x) [], end))
 
   pub after_cell : (x i k : ℕ) (rest : List Duty) → AtDuty p n m t a (SettleCell x i k) rest
-      → ResourcesFit ((done_by m t a (SettleCell x i k) rest).life x)
-      (resources_at (done_by m t a (SettleCell x i k) rest) x)
+      → ResourcesFit ((machine_by_duty m t a (SettleCell x i k) rest).life x)
+      (resources_at (machine_by_duty m t a (SettleCell x i k) rest) x)
   after_cell x i k rest here =
       let d : Duty = SettleCell x i k in
       let fits = head_of here in
@@ -213,7 +213,7 @@ module _ (p : Accounts) (n : ℕ) (m : Machine) (t : ℕ) (a : Actor) where
       ∙ cells_weigh (closing x) x (i + 1) k refl refl) (λ some. fits.5)
 
   pub after_kind : (x : ℕ) (rest : List Duty) → AtDuty p n m t a (SettleKind x) rest
-      → ResourcesFit ((done_by m t a (SettleKind x) rest).life x) (resources_at (done_by m t a (SettleKind x) rest) x)
+      → ResourcesFit ((machine_by_duty m t a (SettleKind x) rest).life x) (resources_at (machine_by_duty m t a (SettleKind x) rest) x)
   after_kind x rest here =
       let d : Duty = SettleKind x in
       let word = m.memory (KindOf x) in

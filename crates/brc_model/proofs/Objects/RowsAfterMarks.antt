@@ -9,7 +9,7 @@ use Rattle.brc_model.specs.declared.duty.Duty.TheVariants.{SetMark, Look, TakeMa
 use Rattle.brc_model.specs.declared.address.Address.TheVariants.{Local, Shared, Mark, Cell, KindOf}
 use Rattle.brc_model.specs.Duties.{claimed, has_resource, cells_of, cells_from}
 use Rattle.brc_model.specs.declared.actor.Actor.{Actor}
-use Rattle.brc_model.specs.Machine.{Life, Live, Dying, Closed, Machine, with_life, dies_next, life_by, done_by}
+use Rattle.brc_model.specs.Machine.{Life, Live, Dying, Closed, Machine, with_life, dies_next, life_by, machine_by_duty}
 use Rattle.brc_model.proofs.Frame.CellsHeld.{cell_held}
 use Rattle.brc_model.proofs.Frame.Cells.{taken_references}
 use Rattle.brc_model.specs.RowInvariant.{waits, carries, merges, decides, RowInvariant}
@@ -63,10 +63,10 @@ pub record Takes (m : Machine) (t : ℕ) (a : Actor) (d : Duty) (rest : List Dut
     pub this : IsApart y d
     pub others : AreApart y tail
     pub lives : (next : List Duty) → life_by m.life t d next y ≡ with_life m.life (dies_next next) (Dying t) y
-    pub local : m.memory (Local y) ≡ (done_by m t a d rest).memory (Local y)
-    pub shared : m.memory (Shared y) ≡ (done_by m t a d rest).memory (Shared y)
-    pub mark : (done_by m t a d rest).memory (Mark y) ≡ 0
-    pub references : references_to y m.abstract.references ≡ references_to y (done_by m t a d rest).abstract.references
+    pub local : m.memory (Local y) ≡ (machine_by_duty m t a d rest).memory (Local y)
+    pub shared : m.memory (Shared y) ≡ (machine_by_duty m t a d rest).memory (Shared y)
+    pub mark : (machine_by_duty m t a d rest).memory (Mark y) ≡ 0
+    pub references : references_to y m.abstract.references ≡ references_to y (machine_by_duty m t a d rest).abstract.references
 
 module _ {p : Accounts} {n : ℕ} {m : Machine} {t : ℕ} {a : Actor} {d : Duty} {rest : List Duty} where
   -- `MarkGone`, `ScanFindsNone` and `NothingToClaim`: if the mark wasn't set, the row is unchanged.

@@ -13,7 +13,7 @@ use Rattle.brc_model.specs.declared.address.Address.{Address}
 use Rattle.brc_model.specs.declared.address.Address.TheVariants.{Local, Shared}
 use Rattle.brc_model.specs.Duties.{once_merged}
 use Rattle.brc_model.specs.declared.actor.Actor.{Actor}
-use Rattle.brc_model.specs.Machine.{Live, Dying, Machine, written, life_by, done_by}
+use Rattle.brc_model.specs.Machine.{Live, Dying, Machine, written, life_by, machine_by_duty}
 use Rattle.brc_model.specs.RowInvariant.{waits, carries, merges, decides, weight, IsLive, InOwned, InSwapped, InMerged}
 use Rattle.brc_model.specs.Accounts.{Accounts}
 use Rattle.brc_model.specs.Invariant.{AtDuty, numbers_of}
@@ -151,10 +151,10 @@ module _ {p : Accounts} {n : ℕ} {m : Machine} {t : ℕ} {a : Actor} {rest : Li
   -- Once that thread has merged the row, no thread carries a count of it.
   carried_here : {y c w : ℕ} {r : Reason} (owner : ℕ) → AtDuty p n m t a (MergeExchange y c w r) rest
       → IsLive owner (numbers_of m y)
-      → weight (merges y) (done_by m t a (MergeExchange y c w r) rest).actors + 1 ≡ weight (merges y) m.actors
-      → weight (carries y) (done_by m t a (MergeExchange y c w r) rest).actors ≡ 0
+      → weight (merges y) (machine_by_duty m t a (MergeExchange y c w r) rest).actors + 1 ≡ weight (merges y) m.actors
+      → weight (carries y) (machine_by_duty m t a (MergeExchange y c w r) rest).actors ≡ 0
   carried_here {y = y} {c = c} {w = w} {r = r} owner s live fewer =
-      none_carried y (done_by m t a (MergeExchange y c w r) rest).actors
+      none_carried y (machine_by_duty m t a (MergeExchange y c w r) rest).actors
       (omega (arith, fewer, merging_low owner m y live))
 
   -- `MergesToZero`: if the merged count is 0, the object dies.

@@ -10,7 +10,7 @@ use Rattle.brc_model.specs.declared.duty.Duty.{Duty}
 use Rattle.brc_model.specs.declared.address.Address.{Address}
 use Rattle.brc_model.specs.declared.address.Address.TheVariants.{Local, Shared, Mark}
 use Rattle.brc_model.specs.declared.actor.Actor.{Actor}
-use Rattle.brc_model.specs.Machine.{Life, Live, Machine, written, same_address, with_life, ended_row, born_row, done_by}
+use Rattle.brc_model.specs.Machine.{Life, Live, Machine, written, same_address, with_life, ended_row, born_row, machine_by_duty}
 use Rattle.brc_model.proofs.Basics.Bag.{held_has, held-le-references_to, references_to-without}
 use Rattle.brc_model.specs.References.{held, one_if, reference_of}
 use Rattle.brc_model.specs.RowInvariant.{Numbers, InOwned, InSwapped, InMerged, IsLive}
@@ -96,7 +96,7 @@ module _ {p : Accounts} {n : ℕ} {m : Machine} {t : ℕ} {a : Actor} {d : Duty}
   pub row_apart : AtDuty p n m t a d rest → (x : ℕ) → IsCounted m.layout x → weighs d ≡ false
       → AreApart x (following m t a d)
       → ((life : ℕ → Life) (state : Life) → with_life (with_life life (ended_row d) state) (born_row d) Live x ≡ life x)
-      → KeepsWords m (done_by m t a d rest) x → KeepsRow m t a d rest x
+      → KeepsWords m (machine_by_duty m t a d rest) x → KeepsRow m t a d rest x
   row_apart s x some light next ends words =
       let this = light_apart x d light in
       let q : RowStays m t a d rest x (following m t a d) = record {

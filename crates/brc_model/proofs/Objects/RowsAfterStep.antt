@@ -6,7 +6,7 @@ use Rattle.brc_model.specs.declared.duty.Duty.{Duty}
 use Rattle.brc_model.specs.declared.address.Address.TheVariants.{Local, Shared, Mark}
 use Rattle.brc_model.specs.Duties.{address_of, continuation}
 use Rattle.brc_model.specs.declared.actor.Actor.{Actor}
-use Rattle.brc_model.specs.Machine.{Life, Unborn, Live, Dying, Closed, Machine, is_running, life_by, done_by}
+use Rattle.brc_model.specs.Machine.{Life, Unborn, Live, Dying, Closed, Machine, is_running, life_by, machine_by_duty}
 use Rattle.brc_model.specs.RowInvariant.{waits, carries, merges, decides, Numbers, IsLive, RowInvariant}
 use Rattle.brc_model.specs.Accounts.{Accounts}
 use Rattle.brc_model.specs.Invariant.{AtDuty, numbers_of}
@@ -28,11 +28,11 @@ following m t a d = continuation m.layout t (is_running a.status) a.head d (foun
 -- The row's invariant holds after the step.
 abbrev pub KeepsRow : Machine → ℕ → Actor → Duty → List Duty → ℕ → Type 0
 KeepsRow m t a d rest x =
-    RowInvariant (block_of m.layout x) ((done_by m t a d rest).life x) (numbers_of (done_by m t a d rest) x)
+    RowInvariant (block_of m.layout x) ((machine_by_duty m t a d rest).life x) (numbers_of (machine_by_duty m t a d rest) x)
 
 module _ {p : Accounts} {n : ℕ} {m : Machine} {t : ℕ} {a : Actor} {d : Duty} {rest : List Duty} where
   pub weighed : AtDuty p n m t a d rest → (next : List Duty) → following m t a d ≡ next → (x : ℕ)
-      → Weighed m (done_by m t a d rest) x d next
+      → Weighed m (machine_by_duty m t a d rest) x d next
   weighed s next follows x = weighed_after m t a d rest next s.found s.agenda follows x
 
 -- ---- the numbers after the step
@@ -62,12 +62,12 @@ same_numbers n k s =
 
 pub row_becomes : (m : Machine) (t : ℕ) (a : Actor) (d : Duty) (rest : List Duty) (x : ℕ) (next : List Duty)
     → following m t a d ≡ next → (life : Life) → life_by m.life t d next x ≡ life
-    → (k : Numbers) → IsSame k (numbers_of (done_by m t a d rest) x) → RowInvariant (block_of m.layout x) life k
+    → (k : Numbers) → IsSame k (numbers_of (machine_by_duty m t a d rest) x) → RowInvariant (block_of m.layout x) life k
     → KeepsRow m t a d rest x
 row_becomes m t a d rest x next follows life lives k same holds =
-    let now : (done_by m t a d rest).life x ≡ life = ap (λ (ds : List Duty). life_by m.life t d ds x) follows ∙ lives in
-    let numbers : k ≡ numbers_of (done_by m t a d rest) x = same_numbers k (numbers_of (done_by m t a d rest) x) same in
-    subst (λ (l : Life). RowInvariant (block_of m.layout x) l (numbers_of (done_by m t a d rest) x)) (sym now)
+    let now : (machine_by_duty m t a d rest).life x ≡ life = ap (λ (ds : List Duty). life_by m.life t d ds x) follows ∙ lives in
+    let numbers : k ≡ numbers_of (machine_by_duty m t a d rest) x = same_numbers k (numbers_of (machine_by_duty m t a d rest) x) same in
+    subst (λ (l : Life). RowInvariant (block_of m.layout x) l (numbers_of (machine_by_duty m t a d rest) x)) (sym now)
     (subst (λ (k : Numbers). RowInvariant (block_of m.layout x) life k) numbers holds)
 
 -- ---- steps that leave the row unchanged
@@ -76,10 +76,10 @@ pub record RowStays (m : Machine) (t : ℕ) (a : Actor) (d : Duty) (rest : List 
   where
     pub follows : following m t a d ≡ next
     pub lives : life_by m.life t d next x ≡ m.life x
-    pub local : m.memory (Local x) ≡ (done_by m t a d rest).memory (Local x)
-    pub shared : m.memory (Shared x) ≡ (done_by m t a d rest).memory (Shared x)
-    pub mark : m.memory (Mark x) ≡ (done_by m t a d rest).memory (Mark x)
-    pub references : references_to x m.abstract.references ≡ references_to x (done_by m t a d rest).abstract.references
+    pub local : m.memory (Local x) ≡ (machine_by_duty m t a d rest).memory (Local x)
+    pub shared : m.memory (Shared x) ≡ (machine_by_duty m t a d rest).memory (Shared x)
+    pub mark : m.memory (Mark x) ≡ (machine_by_duty m t a d rest).memory (Mark x)
+    pub references : references_to x m.abstract.references ≡ references_to x (machine_by_duty m t a d rest).abstract.references
     pub waiting : sum_by (waits x) next ≡ waits x d
     pub carried : sum_by (carries x) next ≡ carries x d
     pub merging : sum_by (merges x) next ≡ merges x d

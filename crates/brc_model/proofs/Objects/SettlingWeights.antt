@@ -10,7 +10,7 @@ use Rattle.brc_model.specs.declared.layout.Layout.{Layout}
 use Rattle.brc_model.specs.Layout.{row_at}
 use Rattle.brc_model.specs.Duties.{address_of, new_head, continuation, has_resource, cells_of, cells_from, release_found, claimed}
 use Rattle.brc_model.specs.declared.actor.Actor.{Actor}
-use Rattle.brc_model.specs.Machine.{Machine, is_running, actor_by, done_by}
+use Rattle.brc_model.specs.Machine.{Machine, is_running, actor_by, machine_by_duty}
 use Rattle.brc_model.specs.References.{one_if}
 use Rattle.brc_model.specs.RowInvariant.{weight}
 use Rattle.brc_model.specs.Accounts.{Accounts}
@@ -173,7 +173,7 @@ module _ (x : ℕ) (f : Duty → ℕ) (of : IsOfSettling x f) where
   -- The step replaces the weight of its duty by that of the duties that follow.
   pub settling_stepped : (p : Accounts) (n : ℕ) (m : Machine) (t : ℕ) (a : Actor) (d : Duty) (rest next : List Duty)
       → AtDuty p n m t a d rest → next_of m t a d ≡ next
-      → weight f (done_by m t a d rest).actors + f d ≡ weight f m.actors + sum_by f next
+      → weight f (machine_by_duty m t a d rest).actors + f d ≡ weight f m.actors + sum_by f next
   settling_stepped p n m t a d rest next here is =
       let word = m.memory (address_of m.layout t a.head d) in
       let all =
@@ -185,7 +185,7 @@ module _ (x : ℕ) (f : Duty → ℕ) (of : IsOfSettling x f) where
   -- So a step that doesn't settle the row leaves the weight as it is.
   pub settling_kept : (p : Accounts) (n : ℕ) (m : Machine) (t : ℕ) (a : Actor) (d : Duty) (rest : List Duty)
       → AtDuty p n m t a d rest → settles_row d x ≡ false → settles d x ≡ false
-      → weight f (done_by m t a d rest).actors ≡ weight f m.actors
+      → weight f (machine_by_duty m t a d rest).actors ≡ weight f m.actors
   settling_kept p n m t a d rest here apart not =
       omega (
         arith,

@@ -16,7 +16,7 @@ use Rattle.brc_model.specs.declared.duty.Duty.TheVariants.{BirthLocal}
 use Rattle.brc_model.specs.declared.address.Address.{Address}
 use Rattle.brc_model.specs.Duties.{address_of}
 use Rattle.brc_model.specs.declared.actor.Actor.{Actor}
-use Rattle.brc_model.specs.Machine.{Unborn, Live, Dying, Machine, used_by, born_row, actor_by, done_by}
+use Rattle.brc_model.specs.Machine.{Unborn, Live, Dying, Machine, used_by, born_row, actor_by, machine_by_duty}
 use Rattle.brc_model.specs.Moves.{reference_effects}
 use Rattle.brc_model.proofs.Basics.Lists.{some_is, slice_get-set_same, slice_get-set_other, none_some}
 use Rattle.brc_model.proofs.Basics.Blocks.{row_back, next_index, next_counted, next_block, next_unborn}
@@ -40,12 +40,12 @@ dying_not_unborn t e = cc
 
 module _ {p : Accounts} {n : ℕ} {m : Machine} {t : ℕ} {a : Actor} {d : Duty} {rest : List Duty} where
   -- A born row never becomes unborn.
-  pub stays_born : (x : ℕ) → AtDuty p n m t a d rest → m.life x ≢ Unborn → (done_by m t a d rest).life x ≢ Unborn
+  pub stays_born : (x : ℕ) → AtDuty p n m t a d rest → m.life x ≢ Unborn → (machine_by_duty m t a d rest).life x ≢ Unborn
   stays_born x here born = born_left m.life t d (next_of m t a d) x born
 
   -- An unborn row stays unborn unless the step is the last of its birth.
   pub stays_unborn : (x : ℕ) → AtDuty p n m t a d rest → m.life x ≡ Unborn → (born_row d ≡ Some x → ⊥)
-      → (done_by m t a d rest).life x ≡ Unborn
+      → (machine_by_duty m t a d rest).life x ≡ Unborn
   stays_unborn x here unborn other =
       elim (life_step d x here) [
         | GoesOn now ends ↦ now ∙ unborn
@@ -61,7 +61,7 @@ module _ {p : Accounts} {n : ℕ} {m : Machine} {t : ℕ} {a : Actor} {rest : Li
   born_next _ x here e = absurd (none_some x e)
 
   -- The row that a birth makes is live.
-  born_lives : (d : Duty) (x : ℕ) → AtDuty p n m t a d rest → born_row d ≡ Some x → (done_by m t a d rest).life x ≡ Live
+  born_lives : (d : Duty) (x : ℕ) → AtDuty p n m t a d rest → born_row d ≡ Some x → (machine_by_duty m t a d rest).life x ≡ Live
   born_lives (BirthLocal y h) x here e = ap (λ (b : Bool). cond b Live (m.life x)) (eq-eqb y x (some_is y x e))
   born_lives _ x here e = absurd (none_some x e)
 
@@ -73,23 +73,23 @@ either_born (BirthLocal x h) = inr (x, refl)
 either_born _ = inl refl
 
 module _ {p : Accounts} {n : ℕ} {m : Machine} {t : ℕ} {a : Actor} {d : Duty} {rest : List Duty} where
-  pub own_uses : AtDuty p n m t a d rest → UsesFit m.layout (done_by m t a d rest).life t (used_by a.used d)
+  pub own_uses : AtDuty p n m t a d rest → UsesFit m.layout (machine_by_duty m t a d rest).life t (used_by a.used d)
   own_uses here =
       let old = here.core.uses t a here.found in
       elim (either_born d) [
         | inl none ↦
             let same = uses_same a.used d none in
-            let now : UsesFit m.layout (done_by m t a d rest).life t a.used = record {
+            let now : UsesFit m.layout (machine_by_duty m t a d rest).life t a.used = record {
               main = old.main;
               few = old.few;
               born = λ x low high. stays_born x here (old.born x low high);
               unborn = λ x block past. stays_unborn x here (old.unborn x block past) (λ e. none_some x (sym none ∙ e));
             } in
-            subst (λ (u : ℕ). UsesFit m.layout (done_by m t a d rest).life t u) (sym same) now
+            subst (λ (u : ℕ). UsesFit m.layout (machine_by_duty m t a d rest).life t u) (sym same) now
         | inr this ↦
             let next = born_next d this.0 here this.1 in
             let at = next_index m t a this.0 next.0 in
-            let now : UsesFit m.layout (done_by m t a d rest).life t (a.used + 1) = record {
+            let now : UsesFit m.layout (machine_by_duty m t a d rest).life t (a.used + 1) = record {
               main = λ e. (let worker = next.0.worker in absurd (omega (arith, e, worker)));
               few = (let room = next.0.room in omega (arith, room));
               born = λ x block low.
@@ -100,18 +100,18 @@ module _ {p : Accounts} {n : ℕ} {m : Machine} {t : ℕ} {a : Actor} {d : Duty}
                         let same : x ≡ this.0 =
                         sym (row_back m.layout t x block) ∙ ap (row_at m.layout t) index ∙ sym next.0.row in
                         λ e. live_not_unborn (sym (born_lives d this.0 here this.1)
-                        ∙ sym (ap (done_by m t a d rest).life same) ∙ e)
+                        ∙ sym (ap (machine_by_duty m t a d rest).life same) ∙ e)
                   ];
               unborn = λ x block past. stays_unborn x here (old.unborn x block (omega (arith, past)))
                   (λ e. let same : index_of m.layout t this.0 ≡ index_of m.layout t x =
                   ap (index_of m.layout t) (some_is this.0 x (sym this.1 ∙ e)) in absurd
                   (omega (arith, at, past, same)));
             } in
-            subst (λ (u : ℕ). UsesFit m.layout (done_by m t a d rest).life t u) (sym next.1) now
+            subst (λ (u : ℕ). UsesFit m.layout (machine_by_duty m t a d rest).life t u) (sym next.1) now
       ]
 
   others_uses : (u : ℕ) (b : Actor) → AtDuty p n m t a d rest → u ≢ t → slice_get m.actors u ≡ Some b
-      → UsesFit m.layout (done_by m t a d rest).life u b.used
+      → UsesFit m.layout (machine_by_duty m t a d rest).life u b.used
   others_uses u b here ne found =
       let old = here.core.uses u b found in
       record {
@@ -124,8 +124,8 @@ module _ {p : Accounts} {n : ℕ} {m : Machine} {t : ℕ} {a : Actor} {d : Duty}
       }
 
   -- After a thread's step the used rows of each thread's block are born, and the others aren't.
-  pub uses_after : AtDuty p n m t a d rest → (u : ℕ) (b : Actor) → slice_get (done_by m t a d rest).actors u ≡ Some b
-      → UsesFit m.layout (done_by m t a d rest).life u b.used
+  pub uses_after : AtDuty p n m t a d rest → (u : ℕ) (b : Actor) → slice_get (machine_by_duty m t a d rest).actors u ≡ Some b
+      → UsesFit m.layout (machine_by_duty m t a d rest).life u b.used
   uses_after here u b is =
       let after = actor_by m.layout t a d rest (found_by m t a d) in
       elim (eqb_tells u t) [
@@ -133,9 +133,9 @@ module _ {p : Accounts} {n : ℕ} {m : Machine} {t : ℕ} {a : Actor} {d : Duty}
             let written_is : Some after ≡ Some b =
             sym (ap (slice_get (slice_set m.actors t after)) same.1
             ∙ slice_get-set_same m.actors t after (slice_get_within m.actors t a here.found)) ∙ is in
-            let own : UsesFit m.layout (done_by m t a d rest).life u after.used =
-            subst (λ (w : ℕ). UsesFit m.layout (done_by m t a d rest).life w after.used) (sym same.1) (own_uses here) in
-            subst (λ (c : Actor). UsesFit m.layout (done_by m t a d rest).life u c.used) (some_is after b written_is)
+            let own : UsesFit m.layout (machine_by_duty m t a d rest).life u after.used =
+            subst (λ (w : ℕ). UsesFit m.layout (machine_by_duty m t a d rest).life w after.used) (sym same.1) (own_uses here) in
+            subst (λ (c : Actor). UsesFit m.layout (machine_by_duty m t a d rest).life u c.used) (some_is after b written_is)
             own
         | inr apart ↦ others_uses u b here apart.1 (sym (slice_get-set_other m.actors t u after apart.1) ∙ is)
       ]
@@ -176,8 +176,8 @@ born_step m t d found =
     (moves_none m.memory t d found refl))
 
 module _ {p : Accounts} {n : ℕ} {m : Machine} {t : ℕ} {a : Actor} {d : Duty} {rest : List Duty} where
-  pub born_is_after : AtDuty p n m t a d rest → (x : ℕ) → is_among x (done_by m t a d rest).abstract.born ≡ true
-      → (IsCounted m.layout x) × ((done_by m t a d rest).life x ≢ Unborn)
+  pub born_is_after : AtDuty p n m t a d rest → (x : ℕ) → is_among x (machine_by_duty m t a d rest).abstract.born ≡ true
+      → (IsCounted m.layout x) × ((machine_by_duty m t a d rest).life x ≢ Unborn)
   born_is_after here x is =
       elim (born_step m t d (m.memory (address_of m.layout t a.head d))) [
         | SameBorn none same ↦
@@ -196,7 +196,7 @@ module _ {p : Accounts} {n : ℕ} {m : Machine} {t : ℕ} {a : Actor} {d : Duty}
       ]
 
   -- A row that is born after the step was born before it, or the step is the last of its birth.
-  pub before_or_now : (x : ℕ) → AtDuty p n m t a d rest → (done_by m t a d rest).life x ≢ Unborn
+  pub before_or_now : (x : ℕ) → AtDuty p n m t a d rest → (machine_by_duty m t a d rest).life x ≢ Unborn
       → (m.life x ≢ Unborn) ⊎ (born_row d ≡ Some x)
   before_or_now x here born =
       elim (life_step d x here) [
@@ -206,8 +206,8 @@ module _ {p : Accounts} {n : ℕ} {m : Machine} {t : ℕ} {a : Actor} {d : Duty}
         | IsBorn now unborn above this none ↦ inr this
       ]
 
-  pub born_has_after : AtDuty p n m t a d rest → (x : ℕ) → IsCounted m.layout x → (done_by m t a d rest).life x ≢ Unborn
-      → is_among x (done_by m t a d rest).abstract.born ≡ true
+  pub born_has_after : AtDuty p n m t a d rest → (x : ℕ) → IsCounted m.layout x → (machine_by_duty m t a d rest).life x ≢ Unborn
+      → is_among x (machine_by_duty m t a d rest).abstract.born ≡ true
   born_has_after here x above born =
       let Q : List ℕ → Type 0 = λ l. is_among x l ≡ true in
       elim (born_step m t d (m.memory (address_of m.layout t a.head d))) [
@@ -265,7 +265,7 @@ one_more x y l once none =
 
 module _ {p : Accounts} {n : ℕ} {m : Machine} {t : ℕ} {a : Actor} {d : Duty} {rest : List Duty} where
   pub born_once_after : AtDuty p n m t a d rest → (x : ℕ)
-      → count_by (λ y. y == x) (done_by m t a d rest).abstract.born ≤ 1
+      → count_by (λ y. y == x) (machine_by_duty m t a d rest).abstract.born ≤ 1
   born_once_after here x =
       let Q : List ℕ → Type 0 = λ l. count_by (λ y. y == x) l ≤ 1 in
       elim (born_step m t d (m.memory (address_of m.layout t a.head d))) [

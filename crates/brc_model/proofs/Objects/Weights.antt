@@ -7,7 +7,7 @@ use Rattle.brc_model.specs.declared.duty.Duty.{Duty}
 use Rattle.brc_model.specs.declared.duty.Duty.TheVariants.{MergeLoad, MergeExchange, Settle, Scan}
 use Rattle.brc_model.specs.Duties.{address_of, continuation, new_head, ready}
 use Rattle.brc_model.specs.declared.actor.Actor.{Actor}
-use Rattle.brc_model.specs.Machine.{Machine, is_running, done_by}
+use Rattle.brc_model.specs.Machine.{Machine, is_running, machine_by_duty}
 use Rattle.brc_model.specs.References.{one_if}
 use Rattle.brc_model.specs.RowInvariant.{waits, carries, merges, decides, agenda_weight, weight}
 
@@ -73,7 +73,7 @@ pub weighed_after : (m : Machine) (t : ℕ) (a : Actor) (d : Duty) (rest next : 
     → a.agenda ≡ d ∷ rest
     → continuation m.layout t (is_running a.status) a.head d (m.memory (address_of m.layout t a.head d)) ≡ next
     → (x : ℕ)
-    → Weighed m (done_by m t a d rest) x d next
+    → Weighed m (machine_by_duty m t a d rest) x d next
 weighed_after m t a d rest next is agenda follows x =
     let found = m.memory (address_of m.layout t a.head d) in
     let head = new_head a.head d found in

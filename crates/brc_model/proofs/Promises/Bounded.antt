@@ -10,7 +10,7 @@ use Rattle.brc_lang.specs.Grammar.{IsModule}
 use Rattle.brc_word.specs.Words.{free_word}
 use Rattle.brc_model.specs.declared.thread.Choice.{Choice}
 use Rattle.brc_model.specs.declared.thread.Choice.TheVariants.{Ok, Fault, Claim, Stop}
-use Rattle.brc_model.specs.declared.slot.Exit.{Exit}
+use Rattle.brc_model.specs.declared.state.Exit.{Exit}
 use Rattle.brc_model.specs.declared.address.Address.TheVariants.{Gate}
 use Rattle.brc_model.specs.declared.duty.Duty.{Duty}
 use Rattle.brc_model.specs.declared.duty.Duty.TheVariants.{LockGate, ClaimMark}
@@ -149,7 +149,7 @@ action_lowers m t a (Claim row) fits all =
 -- ---- an event
 
 -- After the event the thread is there, with its function, and can begin less by what it has begun.
-record Goes (m new : StepMachine) (t : ℕ) (a : StepActor) (begins : Bool) : Type 0 where
+record StaysBounded (m new : StepMachine) (t : ℕ) (a : StepActor) (begins : Bool) : Type 0 where
   functions : new.functions ≡ m.functions
   after : StepActor
   is_there : slice_get new.actors t ≡ Some after
@@ -160,7 +160,7 @@ record Goes (m new : StepMachine) (t : ℕ) (a : StepActor) (begins : Bool) : Ty
 action_goes : (m : StepMachine) (t : ℕ) (a : StepActor) (exit : Exit) (begins : Bool) (x : Action)
     → slice_get m.actors t ≡ Some a
     → ActionLowers (code_of (slice_get m.functions a.function)) m t a exit begins x
-    → Goes m (machine_by m t a exit x) t a begins
+    → StaysBounded m (machine_by m t a exit x) t a begins
 action_goes m t a exit begins Skip found lowers =
     record { functions = refl; after = a; is_there = found; function = refl; lowers = lowers }
 action_goes m t a exit begins Stuck found lowers =
@@ -200,19 +200,19 @@ begins m t choice o = of_thread false (λ a. begins_by m t a choice) o
 
 own_goes : (p : Module) (m : StepMachine) (event : ℕ × Choice) (t : ℕ) (a : StepActor) → IsModule p → TurnsHold p m
     → slice_get m.actors t ≡ Some a → event.0 ≡ t
-    → Goes m (next_machine m event) t a (begins m t event.1 (slice_get m.actors t))
+    → StaysBounded m (next_machine m event) t a (begins m t event.1 (slice_get m.actors t))
 own_goes p m event t a fits holds found same =
     let own =
     action_goes m t a (exit_of event.1) (begins_by m t a event.1) (action_of m.functions m.states m.layout t a event.1)
     found
     (action_lowers m t a event.1 (code_here p m a.function fits holds) (holds.counts t a found)) in
-    let at_slot : Goes m (after m t event.1 (slice_get m.actors t)) t a (begins m t event.1 (slice_get m.actors t)) =
-    subst (λ (o : Option StepActor). Goes m (after m t event.1 o) t a (begins m t event.1 o)) (sym found) own in
-    subst (λ (u : ℕ). Goes m (after m u event.1 (slice_get m.actors u)) t a
-    (begins m t event.1 (slice_get m.actors t))) (sym same) at_slot
+    let at_var : StaysBounded m (after m t event.1 (slice_get m.actors t)) t a (begins m t event.1 (slice_get m.actors t)) =
+    subst (λ (o : Option StepActor). StaysBounded m (after m t event.1 o) t a (begins m t event.1 o)) (sym found) own in
+    subst (λ (u : ℕ). StaysBounded m (after m u event.1 (slice_get m.actors u)) t a
+    (begins m t event.1 (slice_get m.actors t))) (sym same) at_var
 
 other_goes : (m : StepMachine) (event : ℕ × Choice) (t : ℕ) (a : StepActor) → slice_get m.actors t ≡ Some a
-    → t ≢ event.0 → Goes m (next_machine m event) t a false
+    → t ≢ event.0 → StaysBounded m (next_machine m event) t a false
 other_goes m event t a found ne =
     let leaves = thread_leaves m event.0 t event.1 (slice_get m.actors event.0) ne in
     record {
@@ -224,10 +224,10 @@ other_goes m event t a found ne =
     }
 
 event_goes : (p : Module) (m : StepMachine) (event : ℕ × Choice) (t : ℕ) (a : StepActor) → IsModule p → TurnsHold p m
-    → slice_get m.actors t ≡ Some a → Goes m (next_machine m event) t a (begins_at t m event)
+    → slice_get m.actors t ≡ Some a → StaysBounded m (next_machine m event) t a (begins_at t m event)
 event_goes p m event t a fits holds found =
     let P : Bool → Type 0 = λ own.
-    Goes m (next_machine m event) t a (cond own (begins m t event.1 (slice_get m.actors t)) false) in
+    StaysBounded m (next_machine m event) t a (cond own (begins m t event.1 (slice_get m.actors t)) false) in
     elim (eqb_tells event.0 t) [
       | inl same ↦ subst P (sym same.0) (own_goes p m event t a fits holds found same.1)
       | inr apart ↦ subst P (sym apart.0) (other_goes m event t a found (λ e. apart.1 (sym e)))

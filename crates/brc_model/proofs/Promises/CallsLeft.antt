@@ -13,7 +13,7 @@ use Rattle.brc_model.specs.declared.actor.Place.TheVariants.{Idle, InCall, Insid
 use Rattle.brc_model.specs.declared.layout.Layout.{Layout}
 use Rattle.brc_model.specs.References.{one_if}
 use Rattle.brc_model.specs.Threads.{entry_variables}
-use Rattle.brc_model.specs.Actions.{first_context, turns_at, turned, dispatch, is_before_instruction, stopping}
+use Rattle.brc_model.specs.Actions.{first_context, turns_at, with_turn, dispatch, is_before_instruction, stopping}
 use Rattle.brc_model.specs.Bounded.{times_of, call_limit}
 use Rattle.brc_model.proofs.Basics.Lists.{some_is, none_some}
 use Rattle.brc_model.proofs.Promises.Leading.{LeadsTo, HoldsAfter, HoldsBeyond, dispatch_leads}
@@ -34,39 +34,39 @@ turns_bounded context at (i ∷ code) =
     omega (arith, turns_bounded context (at + 1) code, sum_by-cons times_of i code)
 
 turns_elsewhere : (context : Context) (at other : ℕ) → other ≢ at
-    → turns_at (turned context at) other ≡ turns_at context other
+    → turns_at (with_turn context at) other ≡ turns_at context other
 turns_elsewhere context at other apart =
     get_or-set_other context.turns at other (turns_at context at + 1) 0 apart
 
 -- The points behind the one that goes back have the turns that they had.
 turns_behind : (context : Context) (at from : ℕ) (code : List Instr) → at < from
-    → turns_left (turned context at) from code ≡ turns_left context from code
+    → turns_left (with_turn context at) from code ≡ turns_left context from code
 turns_behind context at from [] behind = refl
 turns_behind context at from (i ∷ code) behind =
-    let here : turns_at (turned context at) from ≡ turns_at context from =
+    let here : turns_at (with_turn context at) from ≡ turns_at context from =
     turns_elsewhere context at from (λ e. omega (arith, e, behind)) in
-    let rest : turns_left (turned context at) (from + 1) code ≡ turns_left context (from + 1) code =
+    let rest : turns_left (with_turn context at) (from + 1) code ≡ turns_left context (from + 1) code =
     turns_behind context at (from + 1) code (omega arith) in
     omega (arith, here, rest)
 
 -- An instruction that goes back has one turn less.
 turn_taken : (context : Context) (at from n : ℕ) (code : List Instr) (i : Instr) → at ≡ from + n
     → slice_get code n ≡ Some i → at < length context.turns → turns_at context at < times_of i
-    → turns_left (turned context at) from code < turns_left context from code
+    → turns_left (with_turn context at) from code < turns_left context from code
 turn_taken context at from n [] i spot is low less = absurd (none_some i is)
 turn_taken context at from zero (j ∷ code) i spot is low less =
     let same : times_of j ≡ times_of i = ap times_of (some_is j i is) in
     let here : at ≡ from = omega arith in
-    let more : turns_at (turned context at) from ≡ turns_at context from + 1 =
-    subst (λ (k : ℕ). turns_at (turned context at) k ≡ turns_at context k + 1) here (one_turn_more context at low) in
+    let more : turns_at (with_turn context at) from ≡ turns_at context from + 1 =
+    subst (λ (k : ℕ). turns_at (with_turn context at) k ≡ turns_at context k + 1) here (one_turn_more context at low) in
     let fewer : turns_at context from < times_of i = subst (λ (k : ℕ). turns_at context k < times_of i) here less in
-    let rest : turns_left (turned context at) (from + 1) code ≡ turns_left context (from + 1) code =
+    let rest : turns_left (with_turn context at) (from + 1) code ≡ turns_left context (from + 1) code =
     turns_behind context at (from + 1) code (omega arith) in
     omega (arith, same, more, fewer, rest)
 turn_taken context at from (suc n) (j ∷ code) i spot is low less =
-    let here : turns_at (turned context at) from ≡ turns_at context from =
+    let here : turns_at (with_turn context at) from ≡ turns_at context from =
     turns_elsewhere context at from (λ e. omega (arith, e, spot)) in
-    let rest : turns_left (turned context at) (from + 1) code < turns_left context (from + 1) code =
+    let rest : turns_left (with_turn context at) (from + 1) code < turns_left context (from + 1) code =
     turn_taken context at (from + 1) n code i (omega arith) is low less in
     omega (arith, here, rest)
 
@@ -106,12 +106,12 @@ point_passed code context at next low later = omega arith
 -- So it can after a turn, wherever that leads.
 point_turned : (code : List Instr) (context : Context) (at to : ℕ) (i : Instr) → at < length code
     → slice_get code at ≡ Some i → at < length context.turns → turns_at context at < times_of i
-    → call_left code (turned context at) to < call_left code context at
+    → call_left code (with_turn context at) to < call_left code context at
 point_turned code context at to i low is counted less =
-    let fewer : turns_left (turned context at) 0 code < turns_left context 0 code =
+    let fewer : turns_left (with_turn context at) 0 code < turns_left context 0 code =
     turn_taken context at 0 at code i (omega arith) is counted less in
-    let turns : suc (turns_left (turned context at) 0 code) * length code ≤ turns_left context 0 code * length code =
-    mul-le (suc (turns_left (turned context at) 0 code)) (length code) (turns_left context 0 code) (length code)
+    let turns : suc (turns_left (with_turn context at) 0 code) * length code ≤ turns_left context 0 code * length code =
+    mul-le (suc (turns_left (with_turn context at) 0 code)) (length code) (turns_left context 0 code) (length code)
     (omega (arith, fewer)) (omega arith) in
     omega (arith, turns, low)
 

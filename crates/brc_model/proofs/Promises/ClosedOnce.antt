@@ -9,7 +9,7 @@ use Rattle.brc_model.specs.declared.thread.Choice.{Choice}
 use Rattle.brc_model.specs.declared.duty.Duty.{Duty}
 use Rattle.brc_model.specs.Duties.{address_of}
 use Rattle.brc_model.specs.declared.actor.Actor.{Actor}
-use Rattle.brc_model.specs.Machine.{Machine, ended_row, done_by}
+use Rattle.brc_model.specs.Machine.{Machine, ended_row, machine_by_duty}
 use Rattle.brc_model.specs.StepMachine.{StepMachine}
 use Rattle.brc_model.specs.Progress.{ClosedStays, ClosesAnew, ClosedOnce}
 use Rattle.brc_model.specs.References.{one_if}
@@ -26,7 +26,7 @@ use Rattle.brc_model.specs.Invariant.{AtDuty}
 abbrev StaysAmong : Machine → Machine → Type 0
 StaysAmong m new = (x : ℕ) → is_among x m.abstract.closed ≡ true → is_among x new.abstract.closed ≡ true
 
-stays_among : (m : Machine) (t : ℕ) (a : Actor) (d : Duty) (rest : List Duty) → StaysAmong m (done_by m t a d rest)
+stays_among : (m : Machine) (t : ℕ) (a : Actor) (d : Duty) (rest : List Duty) → StaysAmong m (machine_by_duty m t a d rest)
 stays_among m t a d rest = λ x was.
     elim (closed_step m t d (m.memory (address_of m.layout t a.head d))) [
       | SameClosed none same ↦ ap (is_among x) same ∙ was
@@ -66,7 +66,7 @@ module _ {p : Accounts} {n : ℕ} {m : Machine} {t : ℕ} {a : Actor} {d : Duty}
         | IsBorn now unborn above born none ↦ unborn_not_closed (sym unborn ∙ here.core.closed_is row was)
       ]
 
-  closes_at_duty : AtDuty p n m t a d rest → ClosesSo m (done_by m t a d rest)
+  closes_at_duty : AtDuty p n m t a d rest → ClosesSo m (machine_by_duty m t a d rest)
   closes_at_duty here =
       elim (closed_step m t d (m.memory (address_of m.layout t a.head d))) [
         | SameClosed none same ↦ inl same

@@ -9,7 +9,7 @@ use Rattle.brc_model.specs.declared.actor.Context.{Context}
 use Rattle.brc_model.specs.declared.actor.Place.TheVariants.{Idle, InCall, Inside, Stopping, Exiting}
 use Rattle.brc_model.specs.declared.actor.Stage.{Stage}
 use Rattle.brc_model.specs.declared.layout.Layout.{Layout}
-use Rattle.brc_model.specs.Actions.{Action, turns_at, turned, dispatch}
+use Rattle.brc_model.specs.Actions.{Action, turns_at, with_turn, dispatch}
 use Rattle.brc_model.proofs.Promises.Leading.{Leads, LeadsTo, HoldsBeyond, dispatch_leads, count_named}
 use Rattle.brc_model.proofs.Promises.Turns.{CountsTurns, FitsCode}
 use Rattle.brc_model.proofs.Dispatch.Decided.{stopping_decides}
@@ -31,7 +31,7 @@ leads_free P place d found next free leads = leads
 
 -- The point at which a thread goes back counts one turn more.
 pub one_turn_more : (context : Context) (at : ℕ) → at < length context.turns
-    → turns_at (turned context at) at ≡ turns_at context at + 1
+    → turns_at (with_turn context at) at ≡ turns_at context at + 1
 one_turn_more context at low = get_or-set_same context.turns at (turns_at context at + 1) 0 low
 
 one_call_less : (left : ℕ) → Idle left ≢ Idle (suc left)
@@ -42,10 +42,10 @@ one_point_on : (context : Context) (at next : ℕ) (variables later : List (Opti
 one_point_on context at next variables later on e = (let same : next ≡ at = cc in omega (arith, same, on))
 
 turned_apart : (context : Context) (at to : ℕ) (variables : List (Option ℕ)) → at < length context.turns
-    → InCall (turned context at) to variables ≢ InCall context at variables
+    → InCall (with_turn context at) to variables ≢ InCall context at variables
 turned_apart context at to variables low e =
-    let same : turned context at ≡ context = cc in
-    let turns : turns_at (turned context at) at ≡ turns_at context at = ap (λ (c : Context). turns_at c at) same in
+    let same : with_turn context at ≡ context = cc in
+    let turns : turns_at (with_turn context at) at ≡ turns_at context at = ap (λ (c : Context). turns_at c at) same in
     omega (arith, turns, one_turn_more context at low)
 
 other_stage : (context : Context) (at : ℕ) (variables : List (Option ℕ)) (stage further : Stage) → further ≢ stage

@@ -1,6 +1,6 @@
 -- A thread with nothing left to do has an empty dying chain: a settling is behind each duty that can make a row die. A
 -- thread that has stopped settles once, behind the last of its releases.
-use Rattle.brc_model.specs.declared.slot.Exit.TheVariants.{Success, Fault as FaultExit}
+use Rattle.brc_model.specs.declared.state.Exit.TheVariants.{Success, Fault as FaultExit}
 use Rattle.std.proofs.Common.{◌≡◌, ℕ, zero, suc, Bool, true, false, cond, List, [], ◌∷◌, ◌++◌, Option, None, Some, refl, sym, ap, ◌∙◌, subst}
 use Rattle.std.specs.Prelude.{not, slice_get}
 use Rattle.brc_lang.specs.declared.module.Instr.{Instr}
@@ -15,7 +15,7 @@ use Rattle.brc_model.specs.declared.actor.Place.TheVariants.{Idle, InCall, Insid
 use Rattle.brc_model.specs.declared.actor.Stage.{Stage}
 use Rattle.brc_model.specs.declared.actor.Stage.TheVariants.{InRange, OutOfRange, Found, Retained, Loaded, Lent, Called, Granted}
 use Rattle.brc_model.specs.Machine.{is_running, has_room}
-use Rattle.brc_model.specs.declared.slot.Exit.{Exit}
+use Rattle.brc_model.specs.declared.state.Exit.{Exit}
 use Rattle.brc_model.specs.Actions.{StepActor, Action, Skip, Stuck, Silent, Calls, Does, with_row, dispatch_instruction, dispatch_inside}
 use Rattle.brc_model.specs.StepMachine.{step_actor}
 use Rattle.brc_model.proofs.Basics.Lists.{either}

@@ -6,8 +6,8 @@ use Rattle.brc_model.proofs.Basics.Lists.{either}
 use Rattle.brc_lang.specs.declared.module.Module.{Module}
 use Rattle.brc_model.specs.declared.thread.Choice.{Choice}
 use Rattle.brc_model.specs.declared.thread.Choice.TheVariants.{Ok, Fault}
-use Rattle.brc_model.specs.declared.slot.Exit.{Exit}
-use Rattle.brc_model.specs.declared.slot.Exit.TheVariants.{Success, Fault as FaultExit}
+use Rattle.brc_model.specs.declared.state.Exit.{Exit}
+use Rattle.brc_model.specs.declared.state.Exit.TheVariants.{Success, Fault as FaultExit}
 use Rattle.brc_model.specs.Limits.{most_faults}
 use Rattle.brc_model.specs.Actions.{StepActor, Action, Skip, Stuck, Silent, Calls, Does, exit_of, status_action, action_of}
 use Rattle.brc_model.specs.StepMachine.{StepMachine, of_thread, counted, closes, machine_by, next_machine, first_machine, machine_after}

@@ -15,7 +15,7 @@ use Rattle.brc_model.specs.declared.address.Address.TheVariants.{Local, Gate, Ce
 use Rattle.brc_model.specs.Layout.{block_of}
 use Rattle.brc_model.specs.Duties.{address_of, new_word}
 use Rattle.brc_model.specs.declared.actor.Actor.{Actor}
-use Rattle.brc_model.specs.Machine.{Machine, Unborn, Live, Dying, Closed, same_address, written, done_by}
+use Rattle.brc_model.specs.Machine.{Machine, Unborn, Live, Dying, Closed, same_address, written, machine_by_duty}
 use Rattle.brc_model.specs.References.{one_if}
 use Rattle.brc_model.specs.RowInvariant.{decides}
 use Rattle.brc_model.specs.Accounts.{Account, Accounts, HoldsNone}
@@ -111,12 +111,12 @@ module _ {p : Accounts} {n : ℕ} {m : Machine} where
 module _ {p : Accounts} {n : ℕ} {m : Machine} {t : ℕ} {a : Actor} {d : Duty} {rest : List Duty} where
   -- No thread chains a row for another one.
   guarded_before : (u : ℕ) (b : Actor) (x : ℕ) → AtDuty p n m t a d rest → u ≢ t
-      → GuardsCells (done_by m t a d rest) u b x → GuardsCells m u b x
+      → GuardsCells (machine_by_duty m t a d rest) u b x → GuardsCells m u b x
   guarded_before u b x here apart (inl locked) = inl locked
   guarded_before u b x here apart (inr chained) =
       let leaves = leaves_others here in
       let dies : dies_by (m.life x) u ≡ true =
-      sym (leaves.lives u x apart) ∙ dying_is ((done_by m t a d rest).life x) u chained.0 in
+      sym (leaves.lives u x apart) ∙ dying_is ((machine_by_duty m t a d rest).life x) u chained.0 in
       inr (is_dying (m.life x) u dies, subst (IsDyingWord u) (leaves.gates u x apart dies) chained.1)
 
 module _ {p : Accounts} {n : ℕ} {m : Machine} where
@@ -147,7 +147,7 @@ module _ {p : Accounts} {n : ℕ} {m : Machine} where
 module _ {p : Accounts} {n : ℕ} {m : Machine} {t : ℕ} {a : Actor} {d : Duty} {rest : List Duty} where
   -- A thread chains a row by a step on the row's gate.
   chained_before : (x : ℕ) → AtDuty p n m t a d rest → same_address (address_of m.layout t a.head d) (Gate x) ≡ false
-      → HasChained (done_by m t a d rest) t x → HasChained m t x
+      → HasChained (machine_by_duty m t a d rest) t x → HasChained m t x
   chained_before x here apart chained =
       let word : IsDyingWord t (m.memory (Gate x)) =
       subst (IsDyingWord t)
@@ -157,8 +157,8 @@ module _ {p : Accounts} {n : ℕ} {m : Machine} {t : ℕ} {a : Actor} {d : Duty}
       elim (eqb_tells dying.0 t) [
         | inl same ↦ (dying.1 ∙ ap Dying same.1, word)
         | inr other ↦
-            let still : (done_by m t a d rest).life x ≡ Dying dying.0 =
-            life_kept m (done_by m t a d rest) t dying.0 x (leaves_others here) other.1 dying.1 in
+            let still : (machine_by_duty m t a d rest).life x ≡ Dying dying.0 =
+            life_kept m (machine_by_duty m t a d rest) t dying.0 x (leaves_others here) other.1 dying.1 in
             let both : Dying dying.0 ≡ Dying t = sym still ∙ chained.0 in
             let threads : dying.0 ≡ t = cc in
             absurd (other.1 threads)

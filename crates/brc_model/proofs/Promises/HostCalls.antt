@@ -6,10 +6,10 @@ use Rattle.brc_lang.specs.declared.module.Module.{Module}
 use Rattle.brc_lang.specs.Grammar.{IsModule}
 use Rattle.brc_lang.specs.declared.module.Instr.{Instr}
 use Rattle.brc_lang.specs.declared.module.Instr.TheVariants.{Read, Write}
-use Rattle.brc_model.specs.declared.slot.State.{State}
+use Rattle.brc_model.specs.declared.state.State.{State}
 use Rattle.brc_model.specs.declared.actor.Place.{Place}
 use Rattle.brc_model.specs.declared.actor.Stage.TheVariants.{Lent}
-use Rattle.brc_model.specs.Slots.{slot_of, is_empty}
+use Rattle.brc_model.specs.VarStates.{var_of, is_empty}
 use Rattle.brc_model.specs.Threads.{code_of, row_of}
 use Rattle.brc_model.specs.Paths.{IsAcceptable}
 use Rattle.brc_model.specs.Progress.{Always}
@@ -26,11 +26,11 @@ use Rattle.brc_model.proofs.Promises.RowLaws.{always}
 
 -- The instruction's conditions say that the variable isn't empty.
 file_some : (i : Instr) (s : State) (file : ℕ) → AreMet i s → file_of (Some i) ≡ Some file
-    → is_empty (slot_of s file) ≡ false
+    → is_empty (var_of s file) ≡ false
 file_some (Read to this most otherwise) s file met is =
-    subst (λ (v : ℕ). is_empty (slot_of s v) ≡ false) (some_is this file is) (first_false _ _ met.not_empty)
+    subst (λ (v : ℕ). is_empty (var_of s v) ≡ false) (some_is this file is) (first_false _ _ met.not_empty)
 file_some (Write this number otherwise) s file met is =
-    subst (λ (v : ℕ). is_empty (slot_of s v) ≡ false) (some_is this file is) (first_false _ _ met.not_empty)
+    subst (λ (v : ℕ). is_empty (var_of s v) ≡ false) (some_is this file is) (first_false _ _ met.not_empty)
 file_some _ s file met is = absurd cc
 
 -- What is lent is what the variable names.
@@ -50,7 +50,7 @@ lent_used p n m whole t at file a context variables found place uses =
     let says = subst (λ (x : Place). PlaceSays code x a.actor.locked (whole.accounts t)) place own.says in
     let on = passes_on code says.1.exits at says.0 own.accepted says.1.arrived in
     let some = file_some on.here says.0 file on.met (sym (ap file_of on.found) ∙ names) in
-    let row = named_row (call_of code context) (slot_of says.0 file) (row_of variables file) some
+    let row = named_row (call_of code context) (var_of says.0 file) (row_of variables file) some
     (says.1.grounded file) in
     record {
       row = row.0;

@@ -1,6 +1,6 @@
 -- Where each dispatch leads. An instruction of a call leads on to a later point, into itself or to the end of the call;
 -- a lock that isn't got leaves the thread where it was. What holds of all these places holds after the action.
-use Rattle.brc_model.specs.declared.slot.Exit.TheVariants.{Success, Fault}
+use Rattle.brc_model.specs.declared.state.Exit.TheVariants.{Success, Fault}
 use Rattle.std.proofs.Common.{◌≡◌, ◌≢◌, ℕ, zero, suc, ◌+◌, cond, Bool, false, List, [], Option, None, Some, refl, sym, ap, subst, arith, ◌<◌, length, ◌≤◌, ◌∷◌}
 use Rattle.std.specs.Prelude.{◌==◌, nat_lt, slice_get, slice_set, is_some, count_by}
 use Rattle.std.proofs.lemmas.Bool.{ltb-true}
@@ -18,9 +18,9 @@ use Rattle.brc_model.specs.declared.actor.Context.{Context}
 use Rattle.brc_model.specs.declared.actor.Place.TheVariants.{Idle, InCall, Inside, Stopping, Exiting}
 use Rattle.brc_model.specs.declared.actor.Stage.{Stage}
 use Rattle.brc_model.specs.declared.actor.Stage.TheVariants.{InRange, OutOfRange, Found, Retained, Loaded, Lent, Called, Granted}
-use Rattle.brc_model.specs.declared.slot.Exit.{Exit}
+use Rattle.brc_model.specs.declared.state.Exit.{Exit}
 use Rattle.brc_model.specs.Machine.{has_room}
-use Rattle.brc_model.specs.Actions.{Action, Skip, Stuck, Silent, Calls, Does, with_row, by_range, by_item, birth_action, first_context, turns_at, turned, dispatch_instruction, dispatch_inside, dispatch, number_word, list_word, grant_action, lend_action, stopping, holds_some, first_named, give_up_first, give_up, always}
+use Rattle.brc_model.specs.Actions.{Action, Skip, Stuck, Silent, Calls, Does, with_row, by_range, by_item, birth_action, first_context, turns_at, with_turn, dispatch_instruction, dispatch_inside, dispatch, number_word, list_word, grant_action, lend_action, stopping, holds_some, first_named, give_up_first, give_up, always}
 use Rattle.brc_model.proofs.Basics.Lists.{either, none_some}
 use Rattle.brc_model.proofs.Dispatch.Decided.{range_decides, item_decides, exit_decides}
 use Rattle.brc_model.specs.Bounded.{times_of}
@@ -49,7 +49,7 @@ pub record HoldsAfter (P : Place → Type 0) (code : List Instr) (context : Cont
     (variables : List (Option ℕ)) : Type 0 where
   pub on : (next : ℕ) (later : List (Option ℕ)) → at < next → P (InCall context next later)
   pub back : (to : ℕ) (i : Instr) → slice_get code at ≡ Some i → turns_at context at < times_of i
-      → P (InCall (turned context at) to variables)
+      → P (InCall (with_turn context at) to variables)
   pub into : (stage : Stage) → P (Inside context at variables stage)
   pub ends : P (Idle context.left)
 
@@ -161,7 +161,7 @@ module _ (P : Place → Type 0) (place : Place) (code : List Instr) (forward : L
           (λ same. omega arith) (forward at (As from kind otherwise) otherwise is refl).0))
       instruction_leads (Some (Goto to)) is = holds.on to variables (forward at (Goto to) to is refl).0
       instruction_leads (Some (Again to times)) is =
-          either P (nat_lt (turns_at context at) times) (InCall (turned context at) to variables)
+          either P (nat_lt (turns_at context at) times) (InCall (with_turn context at) to variables)
           (InCall context (at + 1) variables)
           (λ more. holds.back to (Again to times) is (ltb-true (turns_at context at) times more))
           (holds.on (at + 1) variables (omega arith))

@@ -1,6 +1,6 @@
 -- A thread that waits for a lock takes a step that changes nothing: it stores the gate's word as it found it, and is
 -- still at the instruction.
-use Rattle.brc_model.specs.declared.slot.Exit.TheVariants.{Success, Fault as FaultExit}
+use Rattle.brc_model.specs.declared.state.Exit.TheVariants.{Success, Fault as FaultExit}
 use Rattle.std.proofs.Common.{◌≡◌, ℕ, zero, suc, ◌+◌, Bool, true, false, cond, List, [], ◌∷◌, Option, None, Some, refl, sym, ap, ◌∙◌, arith}
 use Rattle.std.specs.Prelude.{◌==◌, not, slice_get, slice_set, sum_by}
 use Rattle.std.proofs.Math.Path.{fun_ext}
@@ -26,7 +26,7 @@ use Rattle.brc_model.specs.declared.layout.Layout.{Layout}
 use Rattle.brc_model.specs.Threads.{row_of, entry_variables, code_of}
 use Rattle.brc_model.specs.Duties.{ready}
 use Rattle.brc_model.specs.Machine.{has_room, written}
-use Rattle.brc_model.specs.declared.slot.Exit.{Exit}
+use Rattle.brc_model.specs.declared.state.Exit.{Exit}
 use Rattle.brc_model.specs.Actions.{StepActor, Action, Does, with_row, dispatch_instruction, dispatch_inside, dispatch, agenda_action, status_action, exit_of, action_of, first_context}
 use Rattle.brc_model.specs.StepMachine.{step_actor, machine_by}
 use Rattle.brc_model.specs.World.{World, world_of, machine_of, step, finds_locked, waits_for_lock, IsReachable}

@@ -10,7 +10,7 @@ use Rattle.brc_model.specs.declared.duty.Duty.{Duty}
 use Rattle.brc_model.specs.declared.duty.Duty.TheVariants.{RetainLoad, RetainStore, ReleaseLoad, ReleaseStore, MergeSwap, BirthLocal}
 use Rattle.brc_model.specs.declared.address.Address.TheVariants.{Local}
 use Rattle.brc_model.specs.declared.actor.Actor.{Actor}
-use Rattle.brc_model.specs.Machine.{Machine, written, with_actor, done_by, Unborn}
+use Rattle.brc_model.specs.Machine.{Machine, written, with_actor, machine_by_duty, Unborn}
 use Rattle.brc_model.specs.StepMachine.{StepMachine}
 use Rattle.brc_model.specs.Progress.{Runs, OnlyOwnersCount, OwnersStay}
 use Rattle.brc_model.proofs.Basics.Lists.{some_is, slice_get-set_same, slice_get-set_other}
@@ -63,7 +63,7 @@ CountsSo t m new =
     ≢ m.memory (Local x) → t ≡ owner
 
 module _ {p : Accounts} {n : ℕ} {m : Machine} {t : ℕ} {a : Actor} {d : Duty} {rest : List Duty} where
-  counts_at_duty : AtDuty p n m t a d rest → CountsSo t m (done_by m t a d rest)
+  counts_at_duty : AtDuty p n m t a d rest → CountsSo t m (machine_by_duty m t a d rest)
   counts_at_duty here = λ x owner owns runs changed.
       elim (eqb_tells t owner) [
         | inl same ↦ same.1

@@ -20,8 +20,8 @@ use Rattle.brc_model.specs.declared.actor.Status.{Status}
 use Rattle.brc_model.specs.declared.actor.Status.TheVariants.{Running, Leaving, Gone}
 use Rattle.brc_model.specs.declared.actor.Place.{Place}
 use Rattle.brc_model.specs.Machine.{is_running, written}
-use Rattle.brc_model.specs.declared.slot.Exit.{Exit}
-use Rattle.brc_model.specs.declared.slot.Exit.TheVariants.{Success}
+use Rattle.brc_model.specs.declared.state.Exit.{Exit}
+use Rattle.brc_model.specs.declared.state.Exit.TheVariants.{Success}
 use Rattle.brc_model.specs.Actions.{StepActor, Action, Skip, Stuck, Silent, Calls, Does, always, may_claim, agenda_action, status_action, exit_of, action_of, is_before_instruction, may_stop, stop_action, stop_in_call, row_locked, owned_rows, none_of}
 use Rattle.brc_model.specs.StepMachine.{StepMachine, of_thread, at_place, step_actor, does_by, machine_by, next_machine, first_machine, machine_after}
 use Rattle.brc_model.specs.World.{World, world_of, machine_of, step, finds_locked, waits_for_lock, IsReachable}
@@ -43,7 +43,7 @@ use Rattle.brc_lang.specs.declared.module.Function.{Function}
 use Rattle.brc_model.specs.declared.layout.Layout.{Layout}
 use Rattle.brc_model.proofs.Dispatch.Decided.{stopping_decides, stop_decides}
 use Rattle.brc_model.specs.declared.actor.Place.TheVariants.{Idle, InCall}
-use Rattle.brc_model.specs.declared.slot.State.{State}
+use Rattle.brc_model.specs.declared.state.State.{State}
 
 -- ---- a thread that isn't gone
 
@@ -256,7 +256,7 @@ stop_elsewhere states (InCall context at variables) before =
       | None ↦ tt
       | Some s ↦
           stopping_decides (λ (next : Place). next ≢ InCall context at variables) (row_locked s.locked variables)
-          (owned_rows s.slots variables ∷ map none_of context.outer) (λ e. cc) (λ e. cc)
+          (owned_rows s.vars variables ∷ map none_of context.outer) (λ e. cc) (λ e. cc)
     ]
 stop_elsewhere states _ before = cc
 

@@ -4,11 +4,11 @@ use Rattle.std.proofs.Common.{◌≡◌, ℕ, suc, true, List, ◌∷◌, length
 use Rattle.std.specs.Prelude.{map, slice_get}
 use Rattle.std.proofs.lemmas.Option.{slice_get_within}
 use Rattle.brc_lang.specs.declared.module.Module.{Module}
-use Rattle.brc_model.specs.declared.slot.State.{State}
+use Rattle.brc_model.specs.declared.state.State.{State}
 use Rattle.brc_model.specs.declared.actor.Context.{Context}
 use Rattle.brc_model.specs.declared.actor.Place.{Place}
 use Rattle.brc_model.specs.declared.actor.Place.TheVariants.{Idle, InCall}
-use Rattle.brc_model.specs.declared.slot.Exit.TheVariants.{Success}
+use Rattle.brc_model.specs.declared.state.Exit.TheVariants.{Success}
 use Rattle.brc_model.specs.declared.thread.Choice.TheVariants.{Stop}
 use Rattle.brc_model.specs.Threads.{code_of}
 use Rattle.brc_model.specs.Actions.{StepActor, may_stop, stop_in_call, stop_action, stopping, owned_rows, none_of, row_locked}
@@ -27,9 +27,9 @@ stop_leads : (m : StepMachine) (t at : ℕ) (a : StepActor) (context : Context) 
     → slice_get m.actors t ≡ Some a → may_stop a ≡ true → a.place ≡ InCall context at variables
     → m.states a.function at ≡ Some s → a.actor.locked ≡ row_locked s.locked variables
     → slice_get (step (world_of m) t Stop).actors t
-    ≡ Some (at_place a (stopping a.actor.locked (owned_rows s.slots variables ∷ map none_of context.outer)))
+    ≡ Some (at_place a (stopping a.actor.locked (owned_rows s.vars variables ∷ map none_of context.outer)))
 stop_leads m t at a context variables s found may is known lock =
-    let calls = owned_rows s.slots variables ∷ map none_of context.outer in
+    let calls = owned_rows s.vars variables ∷ map none_of context.outer in
     let there : Place → List StepActor = λ place.
     (machine_by m t a Success (stop_action (m.states a.function) place)).actors in
     ap (λ (w : World). slice_get w.actors t) (world_stops m t a found may)
@@ -56,7 +56,7 @@ gives_up p n m t at a context variables whole found may is =
       state = s;
       is_state = known;
       lock = lock;
-      owned = owned_exactly s.slots variables;
+      owned = owned_exactly s.vars variables;
       leads = stop_leads m t at a context variables s found may is known lock;
     }
 

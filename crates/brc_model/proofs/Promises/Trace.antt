@@ -6,14 +6,14 @@ use Rattle.std.proofs.lemmas.Bool.Decides.{eqb_tells}
 use Rattle.std.proofs.lemmas.Option.{slice_get_within}
 use Rattle.brc_lang.specs.declared.module.Function.{Function}
 use Rattle.brc_model.specs.declared.thread.Choice.{Choice}
-use Rattle.brc_model.specs.declared.slot.Exit.{Exit}
+use Rattle.brc_model.specs.declared.state.Exit.{Exit}
 use Rattle.brc_model.specs.Actions.{StepActor, Action, Skip, Stuck, Silent, Calls, Does, exit_of, action_of}
 use Rattle.brc_model.specs.StepMachine.{StepMachine, counting, of_thread, at_place, step_actor, machine_by, next_machine, machine_after}
 use Rattle.brc_model.specs.Trace.{WordEvent, MakesStep, GoesSilently, CallsHost, DoesDuty, CanMake, Nothing, Then, made_by, made_at, events_on}
 use Rattle.brc_model.proofs.Basics.Lists.{some_is, slice_get-set_same, slice_get-set_other}
 use Rattle.brc_model.proofs.Stepping.FitsAfter.{found_by}
 use Rattle.brc_model.specs.declared.layout.Layout.{Layout}
-use Rattle.brc_model.specs.declared.slot.State.{State}
+use Rattle.brc_model.specs.declared.state.State.{State}
 
 -- ---- an event of the thread
 
@@ -24,7 +24,7 @@ data Went (functions : List Function) (states : ℕ → ℕ → Option State) (l
   Stays : b ≡ a → made ≡ [] → Went functions states layout t a made b
   Steps : MakesStep functions states layout t a made b → Went functions states layout t a made b
 
-record Goes (m new : StepMachine) (t : ℕ) (a : StepActor) (made : List WordEvent) : Type 0 where
+record MakesWords (m new : StepMachine) (t : ℕ) (a : StepActor) (made : List WordEvent) : Type 0 where
   functions : new.functions ≡ m.functions
   states : new.states ≡ m.states
   layout : new.layout ≡ m.layout
@@ -32,7 +32,7 @@ record Goes (m new : StepMachine) (t : ℕ) (a : StepActor) (made : List WordEve
   is_there : slice_get new.actors t ≡ Some after
   went : Went m.functions m.states m.layout t a made after
 
-stays_there : (m : StepMachine) (t : ℕ) (a : StepActor) → slice_get m.actors t ≡ Some a → Goes m m t a []
+stays_there : (m : StepMachine) (t : ℕ) (a : StepActor) → slice_get m.actors t ≡ Some a → MakesWords m m t a []
 stays_there m t a found =
     record { functions = refl; states = refl; layout = refl; after = a; is_there = found; went = Stays refl refl }
 
@@ -42,7 +42,7 @@ set_goes m t a b found = slice_get-set_same m.actors t b (slice_get_within m.act
 
 action_goes : (m : StepMachine) (t : ℕ) (a : StepActor) (choice : Choice) (x : Action) → slice_get m.actors t ≡ Some a
     → action_of m.functions m.states m.layout t a choice ≡ x
-    → Goes m (machine_by m t a (exit_of choice) x) t a (made_by m t a x)
+    → MakesWords m (machine_by m t a (exit_of choice) x) t a (made_by m t a x)
 action_goes m t a choice Skip found is = stays_there m t a found
 action_goes m t a choice Stuck found is = stays_there m t a found
 action_goes m t a choice (Silent moves place) found is = record {
@@ -131,7 +131,7 @@ thread_leaves m u t choice (Some a) ne = action_leaves m u t a (exit_of choice)
 
 other_goes : (m : StepMachine) (event : ℕ × Choice) (t : ℕ) (a : StepActor) → slice_get m.actors t ≡ Some a
     → t ≢ event.0
-    → Goes m (next_machine m event) t a []
+    → MakesWords m (next_machine m event) t a []
 other_goes m event t a found ne =
     let leaves = thread_leaves m event.0 t event.1 (slice_get m.actors event.0) ne in
     record {
@@ -144,25 +144,25 @@ other_goes m event t a found ne =
     }
 
 own_goes : (m : StepMachine) (event : ℕ × Choice) (t : ℕ) (a : StepActor) → slice_get m.actors t ≡ Some a → event.0 ≡ t
-    → Goes m (next_machine m event) t a (made m t event.1 (slice_get m.actors t))
+    → MakesWords m (next_machine m event) t a (made m t event.1 (slice_get m.actors t))
 own_goes m event t a found same =
     let own = action_goes m t a event.1 (action_of m.functions m.states m.layout t a event.1) found refl in
-    let at_slot : Goes m (after m t event.1 (slice_get m.actors t)) t a
+    let at_var : MakesWords m (after m t event.1 (slice_get m.actors t)) t a
     (made m t event.1 (slice_get m.actors t)) =
-    subst (λ (o : Option StepActor). Goes m (after m t event.1 o) t a (made m t event.1 o)) (sym found) own in
-    subst (λ (u : ℕ). Goes m (after m u event.1 (slice_get m.actors u)) t a
-    (made m t event.1 (slice_get m.actors t))) (sym same) at_slot
+    subst (λ (o : Option StepActor). MakesWords m (after m t event.1 o) t a (made m t event.1 o)) (sym found) own in
+    subst (λ (u : ℕ). MakesWords m (after m u event.1 (slice_get m.actors u)) t a
+    (made m t event.1 (slice_get m.actors t))) (sym same) at_var
 
 event_goes : (m : StepMachine) (event : ℕ × Choice) (t : ℕ) (a : StepActor) → slice_get m.actors t ≡ Some a
-    → Goes m (next_machine m event) t a (made_at t m event)
+    → MakesWords m (next_machine m event) t a (made_at t m event)
 event_goes m event t a found =
     elim (eqb_tells event.0 t) [
       | inl same ↦
-          subst (λ (b : Bool). Goes m (next_machine m event) t a
+          subst (λ (b : Bool). MakesWords m (next_machine m event) t a
           (cond b (made m t event.1 (slice_get m.actors t)) [])) (sym same.0)
           (own_goes m event t a found same.1)
       | inr apart ↦
-          subst (λ (b : Bool). Goes m (next_machine m event) t a
+          subst (λ (b : Bool). MakesWords m (next_machine m event) t a
           (cond b (made m t event.1 (slice_get m.actors t)) [])) (sym apart.0)
           (other_goes m event t a found (λ e. apart.1 (sym e)))
     ]

@@ -9,7 +9,7 @@ use Rattle.brc_lang.specs.declared.module.Function.{Function}
 use Rattle.brc_lang.specs.declared.module.Module.{Module}
 use Rattle.brc_lang.specs.Grammar.{IsModule, IsFunction, LeadsForward}
 use Rattle.brc_word.specs.Words.{free_word}
-use Rattle.brc_model.specs.declared.slot.State.{State}
+use Rattle.brc_model.specs.declared.state.State.{State}
 use Rattle.brc_model.specs.declared.thread.Call.{Call}
 use Rattle.brc_model.specs.declared.thread.Choice.{Choice}
 use Rattle.brc_model.specs.declared.thread.Choice.TheVariants.{Ok, Fault, Claim, Stop}
@@ -23,7 +23,7 @@ use Rattle.brc_model.specs.declared.actor.Place.TheVariants.{Idle, InCall, Insid
 use Rattle.brc_model.specs.declared.layout.Layout.{Layout}
 use Rattle.brc_model.specs.Threads.{code_of, entry_variables}
 use Rattle.brc_model.specs.Actions.{StepActor, Action, Skip, Stuck, Silent, Calls, Does, always, first_context, turns_at, may_claim, dispatch, agenda_action, status_action, exit_of, action_of, may_stop, stop_action}
-use Rattle.brc_model.specs.declared.slot.Exit.{Exit}
+use Rattle.brc_model.specs.declared.state.Exit.{Exit}
 use Rattle.brc_model.specs.StepMachine.{StepMachine, main_actor, worker_actor, of_thread, machine_by, next_machine, first_machine, machine_after}
 use Rattle.brc_model.proofs.Basics.Lists.{either, some_is, none_some, slice_get-set_same, slice_get-set_other, slice_get-map, all_of_found}
 use Rattle.brc_model.proofs.Promises.Leading.{Leads, LeadsTo, HoldsAfter, HoldsBeyond, dispatch_leads}

@@ -9,7 +9,7 @@ use Rattle.brc_model.specs.declared.address.Address.TheVariants.{Gate, KindOf, C
 use Rattle.brc_model.specs.declared.layout.Layout.{Layout}
 use Rattle.brc_model.specs.Duties.{address_of, new_word, new_head, ready, resources_of, cells_from, release_found}
 use Rattle.brc_model.specs.declared.actor.Actor.{Actor}
-use Rattle.brc_model.specs.Machine.{Life, Unborn, Live, Dying, Machine, is_running, ended_row, actor_by, done_by, written}
+use Rattle.brc_model.specs.Machine.{Life, Unborn, Live, Dying, Machine, is_running, ended_row, actor_by, machine_by_duty, written}
 use Rattle.brc_model.specs.Layout.{IsCounted}
 use Rattle.brc_model.specs.References.{one_if}
 use Rattle.brc_model.specs.Accounts.{Accounts}
@@ -85,7 +85,7 @@ ended_finalising _ x ended = absurd (none_some x ended)
 module _ {p : Accounts} {n : ℕ} {m : Machine} {t : ℕ} {a : Actor} {d : Duty} {rest : List Duty} where
   -- A row that the thread finalises is still dying, unless the step closes it.
   life_stays : (x : ℕ) → AtDuty p n m t a d rest → is_finalising d x ≡ false → m.life x ≡ Dying t
-      → (done_by m t a d rest).life x ≡ Dying t
+      → (machine_by_duty m t a d rest).life x ≡ Dying t
   life_stays x here other dies =
       elim (life_step d x here) [
         | LifeGoesOn now still ↦ now ∙ dies
@@ -96,14 +96,14 @@ module _ {p : Accounts} {n : ℕ} {m : Machine} {t : ℕ} {a : Actor} {d : Duty}
 
   -- The row has as many resources as before.
   resources_stay : (x : ℕ) → AtDuty p n m t a d rest → m.life x ≡ Dying t
-      → resources_of ((done_by m t a d rest).memory (KindOf x)) ≡ resources_of (m.memory (KindOf x))
+      → resources_of ((machine_by_duty m t a d rest).memory (KindOf x)) ≡ resources_of (m.memory (KindOf x))
   resources_stay x here dies =
       ap resources_of (word_stays p n m t a d rest x here
       (λ unborn. let wrong : Dying t ≡ Unborn = sym dies ∙ unborn in cc))
 
   fits_still : (e : Duty) → AtDuty p n m t a d rest
       → ((x : ℕ) → is_finalising e x ≡ true → is_finalising d x ≡ false) → BehindFits m t e
-      → BehindFits (done_by m t a d rest) t e
+      → BehindFits (machine_by_duty m t a d rest) t e
   fits_still (SettleCell x i k) here apart fits =
       let other = apart x (eq-eqb x x refl) in (
         fits.0,
@@ -125,7 +125,7 @@ module _ {p : Accounts} {n : ℕ} {m : Machine} {t : ℕ} {a : Actor} {d : Duty}
 
   all_still : (ds : List Duty) → AtDuty p n m t a d rest
       → ((x : ℕ) → 0 < finalised ds x → is_finalising d x ≡ false) → AllBehind m t ds
-      → AllBehind (done_by m t a d rest) t ds
+      → AllBehind (machine_by_duty m t a d rest) t ds
   all_still [] here apart all = tt
   all_still (e ∷ ds) here apart all = (
     fits_still e here
@@ -135,7 +135,7 @@ module _ {p : Accounts} {n : ℕ} {m : Machine} {t : ℕ} {a : Actor} {d : Duty}
   )
 
   -- The duties behind the first know what they knew.
-  pub still_behind : AtDuty p n m t a d rest → AllBehind (done_by m t a d rest) t rest
+  pub still_behind : AtDuty p n m t a d rest → AllBehind (machine_by_duty m t a d rest) t rest
   still_behind here =
       all_still rest here (λ x some. one_finalises x here some)
       (subst (BehindOf m t) here.agenda (here.core.each t a here.found).0.behind)
@@ -201,7 +201,7 @@ cells_known m t x i k rest counted dies gate empty none all =
 module _ {p : Accounts} {n : ℕ} {m : Machine} {t : ℕ} {a : Actor} {rest : List Duty} where
   -- A row whose cells the thread empties is still dying.
   emptying_dies : (x i k : ℕ) → AtDuty p n m t a (SettleCell x i k) rest
-      → (done_by m t a (SettleCell x i k) rest).life x ≡ Dying t
+      → (machine_by_duty m t a (SettleCell x i k) rest).life x ≡ Dying t
   emptying_dies x i k here =
       let dies = (head_of here).1 in
       elim (life_step (SettleCell x i k) x here) [
@@ -213,27 +213,27 @@ module _ {p : Accounts} {n : ℕ} {m : Machine} {t : ℕ} {a : Actor} {rest : Li
 
   -- After a cell is emptied, its list's next duty knows what it needs.
   pub emptied_known : (x i k : ℕ) → AtDuty p n m t a (SettleCell x i k) rest
-      → AllBehind (done_by m t a (SettleCell x i k) rest) t (cells_from x (i + 1) k ++ rest)
+      → AllBehind (machine_by_duty m t a (SettleCell x i k) rest) t (cells_from x (i + 1) k ++ rest)
   emptied_known x i k here =
       let fits = head_of here in
-      cells_known (done_by m t a (SettleCell x i k) rest) t x (i + 1) k rest fits.0 (emptying_dies x i k here) fits.3
+      cells_known (machine_by_duty m t a (SettleCell x i k) rest) t x (i + 1) k rest fits.0 (emptying_dies x i k here) fits.3
       (one_emptied m.memory x i k fits.4) fits.5 (still_behind here)
 
-  next_behind : (d : Duty) → AtDuty p n m t a d rest → BehindOf (done_by m t a d rest) t (next_of m t a d ++ rest)
+  next_behind : (d : Duty) → AtDuty p n m t a d rest → BehindOf (machine_by_duty m t a d rest) t (next_of m t a d ++ rest)
   next_behind (SettleCell x i k) here =
-      let new = done_by m t a (SettleCell x i k) rest in
+      let new = machine_by_duty m t a (SettleCell x i k) rest in
       behind_tail new t (next_of m t a (SettleCell x i k) ++ rest)
       (released_behind new t (m.memory (Cell x i)) (cells_from x (i + 1) k) rest (emptied_known x i k here))
   next_behind d here =
-      behind_next (done_by m t a d rest) t d (next_of m t a d) rest
+      behind_next (machine_by_duty m t a d rest) t d (next_of m t a d) rest
       (continues m.layout t (is_running a.status) a.head d (m.memory (address_of m.layout t a.head d))) refl
       (still_behind here)
 
 module _ {p : Accounts} {n : ℕ} {m : Machine} {t : ℕ} {a : Actor} {d : Duty} {rest : List Duty} where
   -- The duties behind the first of the new agenda know what they need.
   pub behind_after : AtDuty p n m t a d rest
-      → BehindOf (done_by m t a d rest) t
+      → BehindOf (machine_by_duty m t a d rest) t
       (actor_by m.layout t a d rest (m.memory (address_of m.layout t a.head d))).agenda
   behind_after here =
-      behind_ready (done_by m t a d rest) t (new_head a.head d (m.memory (address_of m.layout t a.head d)))
+      behind_ready (machine_by_duty m t a d rest) t (new_head a.head d (m.memory (address_of m.layout t a.head d)))
       (next_of m t a d ++ rest) (next_behind d here)

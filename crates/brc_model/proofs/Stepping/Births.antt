@@ -7,7 +7,7 @@ use Rattle.brc_model.specs.declared.duty.Duty.{Duty}
 use Rattle.brc_model.specs.declared.duty.Duty.TheVariants.{BirthKind, BirthSlot, BirthLocal}
 use Rattle.brc_model.specs.Duties.{has_resource, resources_of}
 use Rattle.brc_model.specs.declared.actor.Actor.{Actor}
-use Rattle.brc_model.specs.Machine.{Life, Unborn, Live, Machine, done_by, actor_by}
+use Rattle.brc_model.specs.Machine.{Life, Unborn, Live, Machine, machine_by_duty, actor_by}
 use Rattle.brc_model.specs.References.{one_if}
 use Rattle.brc_model.specs.Accounts.{Accounts}
 use Rattle.brc_model.specs.Knowledge.{IsNext, HasCountedKind}
@@ -48,7 +48,7 @@ module _ {p : Accounts} {n : ℕ} {m : Machine} {t : ℕ} {a : Actor} {rest : Li
   thread_after_birth_kind x h w here alive =
       let d : Duty = BirthKind x h w in
       let fits = head_of here in
-      let new = done_by m t a d rest in
+      let new = machine_by_duty m t a d rest in
       let said : HasCountedKind new.memory x =
       ap (λ (v : ℕ). is_counted_kind (kind_of_word v)) (written_here m.memory (KindOf x) w) ∙ fits.2 in
       let empty : m.memory (Slot x) ≡ 0 = (blanks_here here).slots x (next_block m t a x fits.0)
@@ -82,7 +82,7 @@ module _ {p : Accounts} {n : ℕ} {m : Machine} {t : ℕ} {a : Actor} {rest : Li
   thread_after_birth_slot x h here alive =
       let d : Duty = BirthSlot x h in
       let fits = head_of here in
-      let new = done_by m t a d rest in
+      let new = machine_by_duty m t a d rest in
       own_next (BirthLocal x h) here alive refl refl refl refl
       (held_same m.abstract.references t (d ∷ rest) (BirthLocal x h ∷ rest) (λ k o. refl) (λ k o. refl))
       (agenda_here here alive) (λ b status head used locked. (
@@ -111,7 +111,7 @@ thread_after_birth_local p n m t a x h [] here alive =
     let d : Duty = BirthLocal x h in
     let fits = head_of here in
     let later = agenda_here here alive in
-    let new = done_by m t a d [] in
+    let new = machine_by_duty m t a d [] in
     let after = actor_by m.layout t a d [] (found_by m t a d) in
     own_shown [] a.status a.head here (record {
       head_is = refl;

@@ -10,7 +10,7 @@ use Rattle.brc_model.specs.declared.duty.Duty.TheVariants.{Die, Settle, SettleKi
 use Rattle.brc_model.specs.declared.address.Address.TheVariants.{Gate}
 use Rattle.brc_model.specs.Duties.{ready}
 use Rattle.brc_model.specs.declared.actor.Actor.{Actor}
-use Rattle.brc_model.specs.Machine.{Unborn, Live, Dying, Closed, Machine, with_life, done_by, written}
+use Rattle.brc_model.specs.Machine.{Unborn, Live, Dying, Closed, Machine, with_life, machine_by_duty, written}
 use Rattle.brc_model.specs.References.{one_if}
 use Rattle.brc_model.specs.Accounts.{Accounts}
 use Rattle.brc_model.specs.Knowledge.{IsDyingWord}
@@ -82,7 +82,7 @@ module _ {p : Accounts} {n : ℕ} {m : Machine} where
 
 module _ {p : Accounts} {n : ℕ} {m : Machine} {t : ℕ} {a : Actor} {rest : List Duty} where
   die_chain : (x : ℕ) (agenda : List Duty) → AtDuty p n m t a (Die x) rest
-      → ((y : ℕ) → finalised agenda y ≡ finalised rest y) → ChainFits (done_by m t a (Die x) rest) t (x + 1) agenda
+      → ((y : ℕ) → finalised agenda y ≡ finalised rest y) → ChainFits (machine_by_duty m t a (Die x) rest) t (x + 1) agenda
   die_chain x agenda here same =
       let old = chain_here here in
       let this : one_if (x == x) ≡ 1 = ap one_if (eq-eqb x x refl) in
@@ -126,7 +126,7 @@ module _ {p : Accounts} {n : ℕ} {m : Machine} {t : ℕ} {a : Actor} {rest : Li
         held = held_same m.abstract.references t (Die x ∷ rest) (ready (x + 1) rest) ready_so.more ready_so.less;
         chain = die_chain x (ready (x + 1) rest) here ready_so.hands;
         fits = agenda_shown m t a (Die x) rest (ready (x + 1) rest) a.status alive refl refl ready_so.fits;
-        knows = λ b status head used locked. ready_so.knows (done_by m t a (Die x) rest) b head (still_behind here);
+        knows = λ b status head used locked. ready_so.knows (machine_by_duty m t a (Die x) rest) b head (still_behind here);
       })
 
 -- ---- `Settle` takes the first row from the chain
@@ -184,7 +184,7 @@ module _ {p : Accounts} {n : ℕ} {m : Machine} {t : ℕ} {a : Actor} {rest : Li
       let front : (h : ℕ) → ready h (SettleKind (a.head - 1) ∷ Settle ∷ rest) ≡ later =
       λ h. ready_first h (SettleKind (a.head - 1)) (Settle ∷ rest) refl ∙ ap (λ (x : ℕ). SettleKind x ∷ Settle ∷ rest)
       row_is in
-      let new = done_by m t a Settle rest in
+      let new = machine_by_duty m t a Settle rest in
       record {
         head_is = head;
         status_is = refl;
@@ -218,7 +218,7 @@ module _ {p : Accounts} {n : ℕ} {m : Machine} {t : ℕ} {a : Actor} {rest : Li
   -- ---- `SettleEnd` closes the row
 
   end_chain : (x : ℕ) (agenda : List Duty) → AtDuty p n m t a (SettleEnd x) rest
-      → ((y : ℕ) → finalised agenda y ≡ finalised rest y) → ChainFits (done_by m t a (SettleEnd x) rest) t a.head agenda
+      → ((y : ℕ) → finalised agenda y ≡ finalised rest y) → ChainFits (machine_by_duty m t a (SettleEnd x) rest) t a.head agenda
   end_chain x agenda here kept =
       let old = chain_here here in
       let this : one_if (x == x) ≡ 1 = ap one_if (eq-eqb x x refl) in
@@ -265,6 +265,6 @@ module _ {p : Accounts} {n : ℕ} {m : Machine} {t : ℕ} {a : Actor} {rest : Li
         held = held_same m.abstract.references t (SettleEnd x ∷ rest) (ready a.head rest) ready_so.more ready_so.less;
         chain = end_chain x (ready a.head rest) here ready_so.hands;
         fits = agenda_shown m t a (SettleEnd x) rest (ready a.head rest) a.status alive refl refl ready_so.fits;
-        knows = λ b status head used locked. ready_so.knows (done_by m t a (SettleEnd x) rest) b head
+        knows = λ b status head used locked. ready_so.knows (machine_by_duty m t a (SettleEnd x) rest) b head
             (still_behind here);
       })

@@ -11,7 +11,7 @@ use Rattle.brc_model.specs.declared.address.Address.TheVariants.{Gate, Mark, Thr
 use Rattle.brc_model.specs.Duties.{claimed, ready}
 use Rattle.brc_model.specs.declared.actor.Status.TheVariants.{Leaving, Gone}
 use Rattle.brc_model.specs.declared.actor.Actor.{Actor}
-use Rattle.brc_model.specs.Machine.{Life, Machine, dies_next, done_by, Unborn}
+use Rattle.brc_model.specs.Machine.{Life, Machine, dies_next, machine_by_duty, Unborn}
 use Rattle.brc_model.specs.References.{one_if}
 use Rattle.brc_model.specs.Accounts.{Accounts, extra_of, lacks_of}
 use Rattle.brc_model.specs.Knowledge.{AllBehind}
@@ -91,8 +91,8 @@ module _ {p : Accounts} {n : ℕ} {m : Machine} {t : ℕ} {a : Actor} {d : Duty}
               held = step.held (ready a.head (behind ++ rest)) ready_so.more ready_so.less;
               fits = ready_so.fits;
               knows =
-                  λ b status head used locked. ready_so.knows (done_by m t a d rest) b head
-                  (step.knows (done_by m t a d rest) (still_behind here));
+                  λ b status head used locked. ready_so.knows (machine_by_duty m t a d rest) b head
+                  (step.knows (machine_by_duty m t a d rest) (still_behind here));
             })
       ] refl
 
@@ -133,13 +133,13 @@ module _ {p : Accounts} {n : ℕ} {m : Machine} {t : ℕ} {a : Actor} {d : Duty}
   -- The chain fits after a step that changes no gate and no life, if the duties finalise what they did before.
   exit_chain : (agenda : List Duty) → AtDuty p n m t a d rest
       → ((y : ℕ) → memory_by m t a d (Gate y) ≡ m.memory (Gate y))
-      → ((y : ℕ) → (done_by m t a d rest).life y ≡ m.life y) → ((y : ℕ) → finalised agenda y ≡ finalised (d ∷ rest) y)
-      → ChainFits (done_by m t a d rest) t a.head agenda
+      → ((y : ℕ) → (machine_by_duty m t a d rest).life y ≡ m.life y) → ((y : ℕ) → finalised agenda y ≡ finalised (d ∷ rest) y)
+      → ChainFits (machine_by_duty m t a d rest) t a.head agenda
   exit_chain agenda here gates lives hands =
-      chain_same m (done_by m t a d rest) t a.head (d ∷ rest) agenda (record {
+      chain_same m (machine_by_duty m t a d rest) t a.head (d ∷ rest) agenda (record {
         gates = λ y dies. gates y;
         hands = λ y.
-            let life : one_if (dies_by ((done_by m t a d rest).life y) t) ≡ one_if (dies_by (m.life y) t) =
+            let life : one_if (dies_by ((machine_by_duty m t a d rest).life y) t) ≡ one_if (dies_by (m.life y) t) =
             ap (λ (l : Life). one_if (dies_by l t)) (lives y) in
             omega (arith, hands y, life);
       }) (chain_here here)
@@ -159,7 +159,7 @@ thread_after_leave p n m t a x k [] here alive =
       held = held_same m.abstract.references t (Leave x k ∷ []) (ready a.head looks) ready_so.more ready_so.less;
       chain = exit_chain (ready a.head looks) here (λ y. refl) (λ y. refl) ready_so.hands;
       fits = agenda_shown m t a (Leave x k) [] (ready a.head looks) Leaving (λ e. cc) refl refl ready_so.fits;
-      knows = λ b status head used locked. ready_so.knows (done_by m t a (Leave x k) []) b head (tt, (tt, tt));
+      knows = λ b status head used locked. ready_so.knows (machine_by_duty m t a (Leave x k) []) b head (tt, (tt, tt));
     })
 thread_after_leave p n m t a x k (e ∷ rest) here alive = absurd (agenda_here here alive)
 

@@ -7,7 +7,7 @@ use Rattle.brc_model.specs.Duties.{address_of, new_word}
 use Rattle.brc_model.specs.declared.actor.Status.{Status}
 use Rattle.brc_model.specs.declared.actor.Status.TheVariants.{Running, Leaving, Gone}
 use Rattle.brc_model.specs.declared.actor.Actor.{Actor}
-use Rattle.brc_model.specs.Machine.{Dying, Closed, Machine, dies_next, ended_row, with_life, life_by, actor_by, done_by, written, born_row, used_by, Live}
+use Rattle.brc_model.specs.Machine.{Dying, Closed, Machine, dies_next, ended_row, with_life, life_by, actor_by, machine_by_duty, written, born_row, used_by, Live}
 use Rattle.brc_model.specs.Moves.{reference_effects}
 use Rattle.brc_model.specs.Accounts.{Accounts}
 use Rattle.brc_model.specs.OpenWork.{Agenda, AgendaFits}
@@ -31,7 +31,7 @@ memory_by m t a d = written m.memory (address_of m.layout t a.head d) (new_word 
 
 -- What the lemmas `thread_after_*` conclude: the thread fits after its step.
 abbrev pub FitsAfter : Accounts → Machine → ℕ → Actor → Duty → List Duty → Type 0
-FitsAfter p m t a d rest = ThreadFits p (done_by m t a d rest) t (actor_by m.layout t a d rest (found_by m t a d))
+FitsAfter p m t a d rest = ThreadFits p (machine_by_duty m t a d rest) t (actor_by m.layout t a d rest (found_by m t a d))
 
 -- The thread runs or is leaving.
 abbrev pub NotGone : Actor → Type 0

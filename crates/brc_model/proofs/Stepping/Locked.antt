@@ -14,7 +14,7 @@ use Rattle.brc_model.specs.declared.actor.Status.TheVariants.{Running, Leaving, 
 use Rattle.brc_model.specs.declared.layout.Layout.{Layout}
 use Rattle.brc_model.specs.Duties.{address_of, new_head}
 use Rattle.brc_model.specs.declared.actor.Actor.{Actor}
-use Rattle.brc_model.specs.Machine.{Machine, is_running, actor_by, done_by, is_locking}
+use Rattle.brc_model.specs.Machine.{Machine, is_running, actor_by, machine_by_duty, is_locking}
 use Rattle.brc_model.specs.References.{held, one_if, reference_of}
 use Rattle.brc_model.specs.Accounts.{Accounts, lacks, HoldsAt}
 use Rattle.brc_model.specs.OpenWork.{is_about, about_of, Later, Agenda, AgendaFits}
@@ -174,7 +174,7 @@ module _ {p : Accounts} {n : ℕ} {m : Machine} {t : ℕ} {a : Actor} {rest : Li
 
   -- The thread still holds the list after `Locks`.
   lock_taken : (x : ℕ) → AtDuty p n m t a (LockGate x) rest → m.memory (Gate x) ≡ free_word
-      → HasLocked (p t) m.layout (done_by m t a (LockGate x) rest).memory t
+      → HasLocked (p t) m.layout (machine_by_duty m t a (LockGate x) rest).memory t
       (actor_by m.layout t a (LockGate x) rest (m.memory (Gate x))) x
   lock_taken x here free =
       let fits = head_of here in
@@ -194,7 +194,7 @@ module _ {p : Accounts} {n : ℕ} {m : Machine} {t : ℕ} {a : Actor} {rest : Li
 
   -- A thread's step doesn't change the gate of the list that it has locked.
   gate_kept : (d : Duty) (x : ℕ) → AtDuty p n m t a d rest → a.locked ≡ Some x → is_locking d ≡ false
-      → (done_by m t a d rest).memory (Gate x) ≡ m.memory (Gate x)
+      → (machine_by_duty m t a d rest).memory (Gate x) ≡ m.memory (Gate x)
   gate_kept (Die y) x here e other =
       written_apart m.memory (Gate y) (Gate x) _
       (apart_gate y x (alive_apart m t x y (head_of here).1 (locked_alive t a x here.core here.found e)))
@@ -207,7 +207,7 @@ module _ {p : Accounts} {n : ℕ} {m : Machine} {t : ℕ} {a : Actor} {rest : Li
 module _ {p : Accounts} {n : ℕ} {m : Machine} {t : ℕ} {a : Actor} {d : Duty} {rest : List Duty} where
   -- The thread still holds the list after a step that neither locks nor unlocks.
   still_locked : AtDuty p n m t a d rest → is_locking d ≡ false → (x : ℕ) → a.locked ≡ Some x
-      → HasLocked (p t) m.layout (done_by m t a d rest).memory t
+      → HasLocked (p t) m.layout (machine_by_duty m t a d rest).memory t
       (actor_by m.layout t a d rest (m.memory (address_of m.layout t a.head d))) x
   still_locked here other x e =
       let it = (here.core.each t a here.found).0.locks x e in
@@ -224,16 +224,16 @@ module _ {p : Accounts} {n : ℕ} {m : Machine} {t : ℕ} {a : Actor} {d : Duty}
 module _ {p : Accounts} {n : ℕ} {m : Machine} {t : ℕ} {a : Actor} {rest : List Duty} where
   -- After its step a thread holds the list that it has locked, and the gate names the thread.
   pub locks_after : (d : Duty) → AtDuty p n m t a d rest
-      → LocksFit (p t) (done_by m t a d rest) t
+      → LocksFit (p t) (machine_by_duty m t a d rest) t
       (actor_by m.layout t a d rest (m.memory (address_of m.layout t a.head d)))
   locks_after (LockGate y) here x e =
       let none : a.locked ≡ None = (head_of here).2 in
       let found = m.memory (Gate y) in
       let after = actor_by m.layout t a (LockGate y) rest found in
       elim (found == free_word) as (λ b. (found == free_word) ≡ b → cond b (Some y) a.locked ≡ Some x
-      → HasLocked (p t) m.layout (done_by m t a (LockGate y) rest).memory t after x) [
+      → HasLocked (p t) m.layout (machine_by_duty m t a (LockGate y) rest).memory t after x) [
         | true ↦ λ free is.
-            subst (λ (z : ℕ). HasLocked (p t) m.layout (done_by m t a (LockGate y) rest).memory t after z)
+            subst (λ (z : ℕ). HasLocked (p t) m.layout (machine_by_duty m t a (LockGate y) rest).memory t after z)
             (some_is y x is) (lock_taken y here (eqb-true found free_word free))
         | false ↦ λ held is. absurd (none_some x (sym none ∙ is))
       ] refl e

@@ -11,7 +11,7 @@ use Rattle.brc_model.specs.declared.duty.Duty.TheVariants.{SharedLoad, SetMark, 
 use Rattle.brc_model.specs.declared.address.Address.TheVariants.{Local, Shared, ThreadWord}
 use Rattle.brc_model.specs.Duties.{merge_result}
 use Rattle.brc_model.specs.declared.actor.Actor.{Actor}
-use Rattle.brc_model.specs.Machine.{Machine, done_by}
+use Rattle.brc_model.specs.Machine.{Machine, machine_by_duty}
 use Rattle.brc_model.specs.References.{one_if}
 use Rattle.brc_model.specs.RowInvariant.{waits, decides, InOwned, InSwapped, InMerged}
 use Rattle.brc_model.specs.Accounts.{Accounts}
@@ -166,7 +166,7 @@ module _ {p : Accounts} {n : ℕ} {m : Machine} {t : ℕ} {a : Actor} {rest : Li
       (agenda_here here alive) (λ b status head used locked. (
         fits.0,
         fits.1,
-        may_carry_stays m (done_by m t a d rest) t x a b r refl status fits.2,
+        may_carry_stays m (machine_by_duty m t a d rest) t x a b r refl status fits.2,
       ))
 
 merge_next : (x c w found : ℕ) (dead : Bool) → (found == w) ≡ true → (merged_word w c == dead_word) ≡ dead
@@ -201,7 +201,7 @@ module _ {p : Accounts} {n : ℕ} {m : Machine} {t : ℕ} {a : Actor} {rest : Li
       let found = m.memory (Shared x) in
       let d : Duty = MergeExchange x c w Handed in
       let gives : Duty = SharedLoad x Handed in
-      let wrote : (done_by m t a d rest).memory (Shared x) ≡ merged_word w c =
+      let wrote : (machine_by_duty m t a d rest).memory (Shared x) ≡ merged_word w c =
       written_here m.memory (Shared x) (cond (found == w) (merged_word w c) found)
       ∙ ap (λ (b : Bool). cond b (merged_word w c) found) won in
       own_next gives here alive refl refl refl (ap (λ (b : Bool). cond b (gives ∷ []) (MergeLoad x c Handed ∷ [])) won)
@@ -228,6 +228,6 @@ module _ {p : Accounts} {n : ℕ} {m : Machine} {t : ℕ} {a : Actor} {rest : Li
             (agenda_here here alive) (λ b status head used locked. (
               fits.0,
               fits.1,
-              may_carry_stays m (done_by m t a d rest) t x a b r refl status fits.2,
+              may_carry_stays m (machine_by_duty m t a d rest) t x a b r refl status fits.2,
             ))
       ] refl

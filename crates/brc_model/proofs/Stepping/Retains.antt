@@ -13,7 +13,7 @@ use Rattle.brc_model.specs.Duties.{continuation, counts_locally}
 use Rattle.brc_model.specs.declared.actor.Status.{Status}
 use Rattle.brc_model.specs.declared.actor.Status.TheVariants.{Running, Leaving, Gone}
 use Rattle.brc_model.specs.declared.actor.Actor.{Actor}
-use Rattle.brc_model.specs.Machine.{Machine, is_running, done_by}
+use Rattle.brc_model.specs.Machine.{Machine, is_running, machine_by_duty}
 use Rattle.brc_model.specs.Moves.{gain}
 use Rattle.brc_model.proofs.Basics.Lists.{and_first, and_second}
 use Rattle.brc_model.specs.References.{held, reference_of}
@@ -91,7 +91,7 @@ module _ {p : Accounts} {n : ℕ} {m : Machine} {t : ℕ} {a : Actor} {rest : Li
       let mortal = backed_not_immortal x h pos here in
       let living = alive_backed t a x here.core pos fits in
       let bag = retain_bag m t a x h mortal in
-      let new = done_by m t a (RetainLoad x h) rest in
+      let new = machine_by_duty m t a (RetainLoad x h) rest in
       let backed : (b : Actor) → b.locked ≡ a.locked → IsBacked new t b x =
       λ b locked. still_backed m new t a b x (λ k. omega (arith, ap (held (reference_of t k x)) bag))
       (λ y e. (locked ∙ e, record { kind = refl; cells = λ i. refl })) fits in

@@ -11,7 +11,7 @@ use Rattle.brc_model.specs.declared.address.Address.TheVariants.{Gate, KindOf, C
 use Rattle.brc_model.specs.Duties.{cells_of, cells_from, release_found, has_resource, resources_of}
 use Rattle.brc_model.specs.declared.actor.Status.{Status}
 use Rattle.brc_model.specs.declared.actor.Actor.{Actor}
-use Rattle.brc_model.specs.Machine.{Dying, Machine, done_by, dies_next, Life}
+use Rattle.brc_model.specs.Machine.{Dying, Machine, machine_by_duty, dies_next, Life}
 use Rattle.brc_model.specs.Moves.{take_out}
 use Rattle.brc_model.specs.AbstractState.{Reference, same_holding, same, without, moved}
 use Rattle.brc_model.specs.References.{one_if, reference_of, cell_reference}
@@ -88,8 +88,8 @@ agenda_from _ used status rest inner later = later
 module _ {p : Accounts} {n : ℕ} {m : Machine} {t : ℕ} {a : Actor} {d : Duty} {rest : List Duty} where
   settles_on : (e : Duty) (x : ℕ) → AtDuty p n m t a d rest → NotGone a → SettlingStep m t a d x rest → KeepsHand e x
       → next_of m t a d ≡ e ∷ []
-      → ((done_by m t a d rest).life x ≡ Dying t → IsDyingWord t ((done_by m t a d rest).memory (Gate x)) → (b : Actor)
-      → HeadFits (done_by m t a d rest) t b e rest) → FitsAfter p m t a d rest
+      → ((machine_by_duty m t a d rest).life x ≡ Dying t → IsDyingWord t ((machine_by_duty m t a d rest).memory (Gate x)) → (b : Actor)
+      → HeadFits (machine_by_duty m t a d rest) t b e rest) → FitsAfter p m t a d rest
   settles_on e x here alive step keeps next knows =
       let dying : dies_next (e ∷ []) ≡ None = ap (λ (k : Hand). k.dying) keeps in
       let inner : is_inner e ≡ true = ap (λ (k : Hand). k.inner) keeps in
@@ -112,8 +112,8 @@ module _ {p : Accounts} {n : ℕ} {m : Machine} {t : ℕ} {a : Actor} {d : Duty}
 
   -- The next cell follows, or the row's closing if no cell is left.
   cells_step : (x i k : ℕ) → AtDuty p n m t a d rest → NotGone a → SettlingStep m t a d x rest
-      → next_of m t a d ≡ cells_from x i k → IsEmptyBut (done_by m t a d rest).memory x i k
-      → resources_of ((done_by m t a d rest).memory (KindOf x)) ≡ 0 → FitsAfter p m t a d rest
+      → next_of m t a d ≡ cells_from x i k → IsEmptyBut (machine_by_duty m t a d rest).memory x i k
+      → resources_of ((machine_by_duty m t a d rest).memory (KindOf x)) ≡ 0 → FitsAfter p m t a d rest
   cells_step x i k here alive step next_is empty no_resource =
       elim (nat_lt i k) as (λ b. nat_lt i k ≡ b → FitsAfter p m t a d rest) [
         | true ↦ λ e.
@@ -124,7 +124,7 @@ module _ {p : Accounts} {n : ℕ} {m : Machine} {t : ℕ} {a : Actor} {d : Duty}
         | false ↦ λ e.
             let next : next_of m t a d ≡ SettleEnd x ∷ [] =
             next_is ∙ ap (λ (b : Bool). cond b (SettleCell x i k ∷ []) (SettleEnd x ∷ [])) e in
-            let none = all_emptied (done_by m t a d rest).memory x i k (ltb-false i k e) empty in
+            let none = all_emptied (machine_by_duty m t a d rest).memory x i k (ltb-false i k e) empty in
             settles_on (SettleEnd x) x here alive step refl next
             (λ dies gate b. (step.above, dies, gate, none))
       ] refl
@@ -154,7 +154,7 @@ module _ {p : Accounts} {n : ℕ} {m : Machine} {t : ℕ} {a : Actor} {rest : Li
         held = λ e more less. held_same m.abstract.references t (SettleKind x ∷ rest) (e ∷ rest) more less;
         later = agenda_here here alive;
       } in
-      let same : resources_of ((done_by m t a (SettleKind x) rest).memory (KindOf x)) ≡ resources_of word =
+      let same : resources_of ((machine_by_duty m t a (SettleKind x) rest).memory (KindOf x)) ≡ resources_of word =
       ap resources_of (written_load m.memory (KindOf x) (KindOf x)) in
       elim (has_resource word) as (λ b. has_resource word ≡ b → FitsAfter p m t a (SettleKind x) rest) [
         | true ↦

@@ -6,7 +6,7 @@ use Rattle.brc_model.specs.Duties.{new_head}
 use Rattle.brc_model.specs.declared.actor.Status.{Status}
 use Rattle.brc_model.specs.declared.actor.Status.TheVariants.{Gone}
 use Rattle.brc_model.specs.declared.actor.Actor.{Actor}
-use Rattle.brc_model.specs.Machine.{Machine, status_by, actor_by, done_by, born_row, used_by, locked_by}
+use Rattle.brc_model.specs.Machine.{Machine, status_by, actor_by, machine_by_duty, born_row, used_by, locked_by}
 use Rattle.brc_model.specs.Accounts.{Accounts, HoldsAt}
 use Rattle.brc_model.specs.Knowledge.{HeadOf, status_word}
 use Rattle.brc_model.specs.OpenWork.{Agenda, ChainFits, AgendaFits}
@@ -26,10 +26,10 @@ pub record ShownStep (m : Machine) (t : ℕ) (a : Actor) (d : Duty) (rest agenda
   pub agenda_is : (actor_by m.layout t a d rest (found_by m t a d)).agenda ≡ agenda
   pub word : memory_by m t a d (ThreadWord t) ≡ status_word status
   pub held : HeldStep m.abstract.references (bag_by m t a d) t (d ∷ rest) agenda
-  pub chain : ChainFits (done_by m t a d rest) t head agenda
+  pub chain : ChainFits (machine_by_duty m t a d rest) t head agenda
   pub fits : AgendaFits (actor_by m.layout t a d rest (found_by m t a d)) status
   pub knows : (b : Actor) → b.status ≡ status → b.head ≡ head → b.used ≡ used_by a.used d
-      → b.locked ≡ locked_by a.locked d (found_by m t a d) → HeadOf (done_by m t a d rest) t b agenda
+      → b.locked ≡ locked_by a.locked d (found_by m t a d) → HeadOf (machine_by_duty m t a d rest) t b agenda
 
 module _ {p : Accounts} {n : ℕ} {m : Machine} {t : ℕ} {a : Actor} {d : Duty} {rest : List Duty} where
   -- The thread fits after a step that shows all this.
@@ -37,7 +37,7 @@ module _ {p : Accounts} {n : ℕ} {m : Machine} {t : ℕ} {a : Actor} {d : Duty}
       → ShownStep m t a d rest agenda status head → FitsAfter p m t a d rest
   own_shown agenda status head here step =
       let old = (here.core.each t a here.found).0 in
-      let new = done_by m t a d rest in
+      let new = machine_by_duty m t a d rest in
       let after = actor_by m.layout t a d rest (found_by m t a d) in
       let holds : HoldsAt new.abstract.references t (p t) agenda a.aside =
       holds_step m.abstract.references new.abstract.references t (p t) (d ∷ rest) agenda a.aside step.held

@@ -11,7 +11,7 @@ use Rattle.brc_model.specs.declared.address.Address.TheVariants.{Gate, ThreadWor
 use Rattle.brc_model.specs.Duties.{new_head, ready}
 use Rattle.brc_model.specs.declared.actor.Status.{Status}
 use Rattle.brc_model.specs.declared.actor.Actor.{Actor}
-use Rattle.brc_model.specs.Machine.{Life, Live, Dying, Closed, Machine, status_by, dies_next, ended_row, with_life, life_by, actor_by, done_by, born_row, locked_by}
+use Rattle.brc_model.specs.Machine.{Life, Live, Dying, Closed, Machine, status_by, dies_next, ended_row, with_life, life_by, actor_by, machine_by_duty, born_row, locked_by}
 use Rattle.brc_model.specs.References.{one_if, reference_of}
 use Rattle.brc_model.specs.Accounts.{Accounts, extra_of, lacks_of, HoldsAt}
 use Rattle.brc_model.specs.Knowledge.{HeadFits, HeadOf}
@@ -126,7 +126,7 @@ pub record SteadyStep (m : Machine) (t : ℕ) (a : Actor) (d : Duty) (rest next 
   pub held : HeldStep m.abstract.references (bag_by m t a d) t (d ∷ rest) agenda
   pub fits : Agenda a.used a.status agenda
   pub knows : (b : Actor) → b.status ≡ a.status → b.head ≡ a.head → b.used ≡ a.used
-      → b.locked ≡ locked_by a.locked d (found_by m t a d) → HeadOf (done_by m t a d rest) t b agenda
+      → b.locked ≡ locked_by a.locked d (found_by m t a d) → HeadOf (machine_by_duty m t a d rest) t b agenda
 
 module _ {p : Accounts} {n : ℕ} {m : Machine} {t : ℕ} {a : Actor} {d : Duty} {rest : List Duty} where
   -- The thread fits after the step of a steady duty that makes no row die.
@@ -134,7 +134,7 @@ module _ {p : Accounts} {n : ℕ} {m : Machine} {t : ℕ} {a : Actor} {d : Duty}
       → SteadyStep m t a d rest next agenda → FitsAfter p m t a d rest
   own_steady next agenda here alive steady step =
       let old = (here.core.each t a here.found).0 in
-      let new = done_by m t a d rest in
+      let new = machine_by_duty m t a d rest in
       let born = keeping_born d steady in
       let same_head = keeping_head a.head (found_by m t a d) d steady in
       let whole : (actor_by m.layout t a d rest (found_by m t a d)).agenda ≡ agenda =
@@ -179,7 +179,7 @@ module _ {p : Accounts} {n : ℕ} {m : Machine} {t : ℕ} {a : Actor} {d : Duty}
               omega (arith, moves.each k object, more, less);
         };
         fits = then.fits;
-        knows = λ b status head used locked. then.knows (done_by m t a d rest) b head (still_behind here);
+        knows = λ b status head used locked. then.knows (machine_by_duty m t a d rest) b head (still_behind here);
       })
 
   -- If one duty follows, it is the first of the new agenda.
@@ -187,7 +187,7 @@ module _ {p : Accounts} {n : ℕ} {m : Machine} {t : ℕ} {a : Actor} {d : Duty}
       → is_inner e ≡ true → next_of m t a d ≡ e ∷ []
       → HeldStep m.abstract.references (bag_by m t a d) t (d ∷ rest) (e ∷ rest) → Agenda a.used a.status (e ∷ rest)
       → ((b : Actor) → b.status ≡ a.status → b.head ≡ a.head → b.used ≡ a.used
-      → b.locked ≡ locked_by a.locked d (found_by m t a d) → HeadFits (done_by m t a d rest) t b e rest)
+      → b.locked ≡ locked_by a.locked d (found_by m t a d) → HeadFits (machine_by_duty m t a d rest) t b e rest)
       → FitsAfter p m t a d rest
   own_next e here alive kept other stays next moves fits knows =
       own_steady (e ∷ []) (e ∷ rest) here alive (and_first (is_steady d) (finalises_none d) kept) (record {
@@ -241,11 +241,11 @@ dying_hands life t x y lived =
 module _ {p : Accounts} {n : ℕ} {m : Machine} {t : ℕ} {a : Actor} {d : Duty} {rest : List Duty} where
   -- A row that begins to die isn't locked: who has locked it still holds it, and a dying row has no reference.
   dying_unlocked : (x : ℕ) → AtDuty p n m t a d rest → NotGone a → IsCounted m.layout x
-      → (done_by m t a d rest).life x ≡ Dying t
-      → HoldsAt (done_by m t a d rest).abstract.references t (p t) (Die x ∷ rest) a.aside → (u : ℕ) (b : Actor)
+      → (machine_by_duty m t a d rest).life x ≡ Dying t
+      → HoldsAt (machine_by_duty m t a d rest).abstract.references t (p t) (Die x ∷ rest) a.aside → (u : ℕ) (b : Actor)
       → slice_get m.actors u ≡ Some b → b.locked ≡ Some x → ⊥
   dying_unlocked x here alive counted dies holds u b found e =
-      let new = done_by m t a d rest in
+      let new = machine_by_duty m t a d rest in
       let row : IsDead (numbers_of new x) =
       subst (λ (l : Life). RowInvariant (block_of m.layout x) l (numbers_of new x)) dies
       (rows_after t a d rest here.core here.found here.agenda alive x counted) in
@@ -274,8 +274,8 @@ module _ {p : Accounts} {n : ℕ} {m : Machine} {t : ℕ} {a : Actor} {d : Duty}
 
   -- So its gate is free.
   dying_free : (x : ℕ) → AtDuty p n m t a d rest → NotGone a → DyingStep m t a d rest x
-      → (done_by m t a d rest).life x ≡ Dying t
-      → HoldsAt (done_by m t a d rest).abstract.references t (p t) (Die x ∷ rest) a.aside
+      → (machine_by_duty m t a d rest).life x ≡ Dying t
+      → HoldsAt (machine_by_duty m t a d rest).abstract.references t (p t) (Die x ∷ rest) a.aside
       → m.memory (Gate x) ≡ free_word
   dying_free x here alive step dies holds =
       let live : LiveGate m.actors x (m.memory (Gate x)) =
@@ -290,7 +290,7 @@ module _ {p : Accounts} {n : ℕ} {m : Machine} {t : ℕ} {a : Actor} {d : Duty}
       → FitsAfter p m t a d rest
   own_dying x here alive kept step =
       let old = (here.core.each t a here.found).0 in
-      let new = done_by m t a d rest in
+      let new = machine_by_duty m t a d rest in
       let agenda : List Duty = Die x ∷ rest in
       let steady = and_first (is_steady d) (finalises_none d) kept in
       let same_head = keeping_head a.head (found_by m t a d) d steady in

@@ -11,7 +11,7 @@ use Rattle.brc_model.specs.Duties.{new_head, ready}
 use Rattle.brc_model.specs.declared.actor.Status.{Status}
 use Rattle.brc_model.specs.declared.actor.Status.TheVariants.{Gone}
 use Rattle.brc_model.specs.declared.actor.Actor.{Actor}
-use Rattle.brc_model.specs.Machine.{Machine, is_running, actor_by, done_by, written}
+use Rattle.brc_model.specs.Machine.{Machine, is_running, actor_by, machine_by_duty, written}
 use Rattle.brc_model.proofs.Basics.Lists.{some_is, slice_get-set_other}
 use Rattle.brc_model.specs.References.{one_if}
 use Rattle.brc_model.specs.RowInvariant.{weight}
@@ -138,7 +138,7 @@ module _ {p : Accounts} {n : ℕ} {m : Machine} {t : ℕ} {a : Actor} {d : Duty}
 
 looks_step : (m : Machine) (t : ℕ) (a : Actor) (d : Duty) (rest : List Duty) (x : ℕ) → slice_get m.actors t ≡ Some a
     → a.agenda ≡ d ∷ rest
-    → weight (looks x) (done_by m t a d rest).actors + looks x d ≡ weight (looks x) m.actors
+    → weight (looks x) (machine_by_duty m t a d rest).actors + looks x d ≡ weight (looks x) m.actors
     + sum_by (looks x) (next_of m t a d)
 looks_step m t a d rest x found is =
     weight-stepped (looks x) (record { settle = refl; scan = λ i k. refl }) m.actors t a
@@ -148,16 +148,16 @@ looks_step m t a d rest x found is =
 module _ {p : Accounts} {n : ℕ} {m : Machine} {t : ℕ} {a : Actor} {d : Duty} {rest : List Duty} where
   -- If the duty isn't a look at the row, a look that some thread has under way stays under way.
   look_kept : (x : ℕ) → AtDuty p n m t a d rest → looks x d ≡ 0 → 0 < weight (looks x) m.actors
-      → IsWatched (done_by m t a d rest) x
+      → IsWatched (machine_by_duty m t a d rest) x
   look_kept x here none some = ByLook (omega (arith, looks_step m t a d rest x here.found here.agenda, none, some))
 
 module _ {p : Accounts} {n : ℕ} {m : Machine} {t : ℕ} {a : Actor} {rest : List Duty} where
   look_after : (d : Duty) (x : ℕ) → AtDuty p n m t a d rest → Spares m.layout t d x → 0 < weight (looks x) m.actors
-      → IsWatched (done_by m t a d rest) x
+      → IsWatched (machine_by_duty m t a d rest) x
   look_after (Look y) x here spares some =
       let word = m.memory (ThreadWord (block_of m.layout y)) in
       elim (eqb_tells y x) [
-        | inl same ↦ elim (word == 1) as (λ b. (word == 1) ≡ b → IsWatched (done_by m t a (Look y) rest) x) [
+        | inl same ↦ elim (word == 1) as (λ b. (word == 1) ≡ b → IsWatched (machine_by_duty m t a (Look y) rest) x) [
           | true ↦ λ e.
               ByRunning (written_load m.memory (ThreadWord (block_of m.layout y)) (ThreadWord (block_of m.layout x))
               ∙ ap (λ (z : ℕ). m.memory (ThreadWord (block_of m.layout z))) (sym same.1) ∙ eqb-true word 1 e)
@@ -188,7 +188,7 @@ module _ {p : Accounts} {n : ℕ} {m : Machine} where
 mine_after : (m : Machine) (t : ℕ) (a : Actor) (d : Duty) (rest : List Duty) (x : ℕ) → slice_get m.actors t ≡ Some a
     → block_of m.layout x ≡ t
     → scans (index_of m.layout t x) (actor_by m.layout t a d rest (found_by m t a d)).agenda ≡ true
-    → IsWatched (done_by m t a d rest) x
+    → IsWatched (machine_by_duty m t a d rest) x
 mine_after m t a d rest x found block e =
     let after = actor_by m.layout t a d rest (found_by m t a d) in
     ByExit after (ap (slice_get (set m.actors t after)) block ∙ set_found m.actors t a after found)
@@ -196,7 +196,7 @@ mine_after m t a d rest x found block e =
 
 running_after : (p : Accounts) (n : ℕ) (m : Machine) (t : ℕ) (a : Actor) (d : Duty) (rest : List Duty) (x : ℕ)
     → AtDuty p n m t a d rest → (a.status ≡ Gone → ⊥) → m.memory (Mark x) ≡ 1
-    → m.memory (ThreadWord (block_of m.layout x)) ≡ 1 → IsWatched (done_by m t a d rest) x
+    → m.memory (ThreadWord (block_of m.layout x)) ≡ 1 → IsWatched (machine_by_duty m t a d rest) x
 running_after p n m t a (Leave y k) [] x here alive marked runs =
     elim (eqb_tells (block_of m.layout x) t) [
       | inl same ↦
@@ -225,7 +225,7 @@ running_after p n m t a _ rest x here alive marked runs = ByRunning runs
 module _ {p : Accounts} {n : ℕ} {m : Machine} {t : ℕ} {a : Actor} {d : Duty} {rest : List Duty} where
   exit_after : (x : ℕ) (b : Actor) → AtDuty p n m t a d rest → NotGone a → m.memory (Mark x) ≡ 1 → Spares m.layout t d x
       → slice_get m.actors (block_of m.layout x) ≡ Some b
-      → scans (index_of m.layout (block_of m.layout x) x) b.agenda ≡ true → IsWatched (done_by m t a d rest) x
+      → scans (index_of m.layout (block_of m.layout x) x) b.agenda ≡ true → IsWatched (machine_by_duty m t a d rest) x
   exit_after x b here alive marked spares found e =
       elim (eqb_tells (block_of m.layout x) t) [
         | inl same ↦
@@ -244,7 +244,7 @@ module _ {p : Accounts} {n : ℕ} {m : Machine} {t : ℕ} {a : Actor} {d : Duty}
       ]
 
   watched_after : (x : ℕ) → AtDuty p n m t a d rest → NotGone a → m.memory (Mark x) ≡ 1 → Spares m.layout t d x
-      → IsWatched m x → IsWatched (done_by m t a d rest) x
+      → IsWatched m x → IsWatched (machine_by_duty m t a d rest) x
   watched_after x here alive marked spares (ByRunning runs) = running_after p n m t a d rest x here alive marked runs
   watched_after x here alive marked spares (ByExit b found e) = exit_after x b here alive marked spares found e
   watched_after x here alive marked spares (ByLook some) = look_after d x here spares some
@@ -256,7 +256,7 @@ MarkFits m x = (m.memory (Mark x) ≡ 0) ⊎ ((m.memory (Mark x) ≡ 1) × (IsCo
 
 module _ {p : Accounts} {n : ℕ} {m : Machine} {t : ℕ} {a : Actor} {d : Duty} {rest : List Duty} where
   mark_kept : (x : ℕ) → AtDuty p n m t a d rest → NotGone a → Spares m.layout t d x
-      → memory_by m t a d (Mark x) ≡ m.memory (Mark x) → MarkFits (done_by m t a d rest) x
+      → memory_by m t a d (Mark x) ≡ m.memory (Mark x) → MarkFits (machine_by_duty m t a d rest) x
   mark_kept x here alive spares same =
       elim (here.core.marks x) [
         | inl none ↦ inl (same ∙ none)
@@ -266,7 +266,7 @@ module _ {p : Accounts} {n : ℕ} {m : Machine} {t : ℕ} {a : Actor} {d : Duty}
   -- A duty that clears the mark of row `y` keeps every mark either clear or watched.
   mark_taken : (y x : ℕ) → AtDuty p n m t a d rest → NotGone a → (y ≢ x → Spares m.layout t d x)
       → ((z : ℕ) → memory_by m t a d (Mark z) ≡ written m.memory (Mark y) 0 (Mark z))
-      → MarkFits (done_by m t a d rest) x
+      → MarkFits (machine_by_duty m t a d rest) x
   mark_taken y x here alive spares now =
       elim (eqb_tells y x) [
         | inl same ↦
@@ -278,7 +278,7 @@ module _ {p : Accounts} {n : ℕ} {m : Machine} {t : ℕ} {a : Actor} {d : Duty}
 
 module _ {p : Accounts} {n : ℕ} {m : Machine} {t : ℕ} {a : Actor} {rest : List Duty} where
   -- After a thread's step each mark is clear, or set and watched.
-  pub marks_after : (d : Duty) → AtDuty p n m t a d rest → NotGone a → (x : ℕ) → MarkFits (done_by m t a d rest) x
+  pub marks_after : (d : Duty) → AtDuty p n m t a d rest → NotGone a → (x : ℕ) → MarkFits (machine_by_duty m t a d rest) x
   marks_after (SetMark y) here alive x =
       elim (eqb_tells y x) [
         | inl same ↦

@@ -17,12 +17,12 @@ use Rattle.brc_model.specs.declared.duty.Duty.{Duty}
 use Rattle.brc_model.specs.declared.duty.Duty.TheVariants.{BirthKind, BirthSlot, BirthLocal}
 use Rattle.brc_model.specs.declared.duty.Holding.{Holding}
 use Rattle.brc_model.specs.declared.duty.Holding.TheVariants.{AsCaller}
-use Rattle.brc_model.specs.declared.slot.Exit.TheVariants.{Success, Fault}
+use Rattle.brc_model.specs.declared.state.Exit.TheVariants.{Success, Fault}
 use Rattle.brc_table.specs.declared.view.Event.{Event}
 use Rattle.brc_table.specs.declared.view.View.{View}
-use Rattle.brc_table.specs.Views.{did, done, bearing, next_row, slot_filled, slot_filled_by}
+use Rattle.brc_table.specs.Views.{view_by, view_after, bearing, next_row, slot_filled, slot_filled_by}
 use Rattle.brc_heap.specs.Calls.{born}
-use Rattle.brc_work.specs.Traces.{Makes, Begun, Reads, Continues, Traces, MakesTrace, thread_with, events_of, begun_at, has_read}
+use Rattle.brc_work.specs.Traces.{Makes, Refl, Reads, Continues, Traces, MakesTrace, thread_with, events_of, begun_at, has_read}
 use Rattle.brc_work.specs.Performs.{Performs, MakesBirth}
 use Rattle.brc_work.proofs.Traces.Joining.{no_trace, quietly, turns_to, traces_then, traces_behind, traces_before, with_duties}
 use Rattle.brc_work.proofs.Traces.Duties.{comes_next, no_duty, IsSame, next_duties, starts_with, continues_with, same_thread}
@@ -35,7 +35,7 @@ birth_next has x holding = cond has (BirthSlot x holding ∷ []) (BirthLocal x h
 
 -- the hand before it stores the first local word
 abbrev pub begun : View → ℕ → View
-begun v word = record (done (bearing v word) 0) { agenda = BirthLocal (next_row v) AsCaller ∷ [] }
+begun v word = record (view_after (bearing v word) 0) { agenda = BirthLocal (next_row v) AsCaller ∷ [] }
 
 filled_is : (has : Bool) (head x : ℕ) (u : View) → u.agenda ≡ ready head (birth_next has x AsCaller ++ [])
     → slot_filled u ≡ record u { agenda = BirthLocal x AsCaller ∷ [] }
@@ -47,10 +47,10 @@ filled_is false (suc head) x u is =
     ap (λ (ds : List Duty). slot_filled_by ds u) is ∙ ap (λ (ds : List Duty). record u { agenda = ds }) is
 
 -- A birth is two stores.
-born_is : (v : View) (word : ℕ) → born v word ≡ did (begun v word) (BirthLocal (next_row v) AsCaller ∷ []) 0
+born_is : (v : View) (word : ℕ) → born v word ≡ view_by (begun v word) (BirthLocal (next_row v) AsCaller ∷ []) 0
 born_is v word =
-    ap (λ (u : View). done u 0)
-    (filled_is (has_resource word) v.head (next_row v) (done (bearing v word) 0) refl)
+    ap (λ (u : View). view_after u 0)
+    (filled_is (has_resource word) v.head (next_row v) (view_after (bearing v word) 0) refl)
 
 -- The thread puts the resource into the slot, if the object has one: by this no word changes.
 fills : (has : Bool) (code : List Instr) (q : Place) (x : ℕ) (holding : Holding) (u : View)
@@ -60,7 +60,7 @@ fills true code q x holding u =
     record {
       events = [];
       trace = sym (append-nil u.trace);
-      makes = Continues 0 [] [] q (thread_with u (BirthSlot x holding ∷ [])) (BirthSlot x holding) [] 0 Begun refl refl;
+      makes = Continues 0 [] [] q (thread_with u (BirthSlot x holding ∷ [])) (BirthSlot x holding) [] 0 Refl refl refl;
       layout = refl;
       thread = refl;
     } in
@@ -80,16 +80,16 @@ birth_same v word holding =
 -- After the store of the kind word the thread stores the first local word.
 born_after : {n : ℕ} {cs : List HostCall} (code : List Instr) (p q : Place) (v : View) (word : ℕ) (holding : Holding)
     → Traces n cs code p [] v q (next_duties (bearing v word) (BirthKind (next_row v) holding word) [] 0)
-    (done (bearing v word) 0)
+    (view_after (bearing v word) 0)
     → MakesTrace n cs code p v q (born v word)
 born_after {n} {cs} code p q v word holding first =
     let x = next_row v in
     let bears = bearing v word in
-    let stored = done bears 0 in
+    let stored = view_after bears 0 in
     let filled = begun v word in
     let duties = next_duties bears (BirthKind x holding word) [] 0 in
     let locally = BirthLocal x holding ∷ [] in
-    let last = did filled (BirthLocal x AsCaller ∷ []) 0 in
+    let last = view_by filled (BirthLocal x AsCaller ∷ []) 0 in
     subst (MakesTrace n cs code p v q) (sym (born_is v word))
     (traces_behind code p q q [] duties [] v stored last first
     (traces_then code q q q duties locally [] stored filled last
@@ -117,7 +117,7 @@ reads : (code : List Instr) (place : Place) (context : Context) (at : ℕ) (rows
     (InCall context (at + 1) (slice_set rows to (Some (next_row v))))
     (next_duties (bearing v (number_word count)) (BirthKind (next_row v) (by_variable context to) (number_word count))
     [] 0)
-    (done (bearing v (number_word count)) 0)
+    (view_after (bearing v (number_word count)) 0)
 reads code place context at rows v to file most otherwise count none found few got =
     let u = bearing v (number_word count) in
     let d = BirthKind (next_row v) (by_variable context to) (number_word count) in
@@ -148,7 +148,7 @@ bears to word rows after_rows v u none is named = record {
   first = λ code place next holding starts new.
       subst (MakesTrace (begun_at place) [] code place v next) (sym is)
       (born_after code place next v word holding
-      (traces_before code place place next [] [] _ v (bearing v word) (done (bearing v word) 0)
+      (traces_before code place place next [] [] _ v (bearing v word) (view_after (bearing v word) 0)
       (turns_to_birth code place place v word none (no_trace code place [] v))
       (starts_with code place (bearing v word) (BirthKind (next_row v) holding word)
       (BirthKind (next_row v) AsCaller word) [] [] 0 (birth_same v word holding) (always next) starts new)));

@@ -4,14 +4,14 @@ use Rattle.std.specs.Prelude.{slice_get, replicate}
 use Rattle.brc_host.specs.HostCalls.{HostCall}
 use Rattle.brc_lang.specs.Limits.{instruction_limit}
 use Rattle.brc_lang.specs.declared.module.Instr.{Instr}
-use Rattle.brc_model.specs.Slots.{target}
+use Rattle.brc_model.specs.VarStates.{target}
 use Rattle.brc_model.specs.Threads.{entry_variables}
 use Rattle.brc_model.specs.declared.actor.Place.{Place}
 use Rattle.brc_model.specs.declared.actor.Place.TheVariants.{Idle, InCall}
-use Rattle.brc_model.specs.declared.slot.Exit.{Exit}
+use Rattle.brc_model.specs.declared.state.Exit.{Exit}
 use Rattle.brc_table.specs.declared.view.View.{View}
 use Rattle.brc_work.specs.Traces.{MakesTrace}
-use Rattle.brc_work.specs.Performs.{ComesTo, PerformsAt, StepsTo, place_after}
+use Rattle.brc_work.specs.Performs.{DispatchesAt, PerformsAt, StepsTo, place_after}
 use Rattle.brc_work.proofs.Traces.Joining.{no_trace, calls_then}
 
 -- ---- steps
@@ -35,7 +35,7 @@ steps_by {cs} code at i exit next turns after_turns rows after_rows v u found lo
 pub record HasCome (begun : ℕ) (cs : List HostCall) (code : List Instr) (v : View) (at : ℕ) (turns : List ℕ)
     (rows : List (Option ℕ)) (u : View) : Type 0 where
   pub place : Place
-  pub comes : ComesTo code place (record { left = 0; turns = turns; outer = [] }) at rows
+  pub comes : DispatchesAt code place (record { left = 0; turns = turns; outer = [] }) at rows
   pub makes : MakesTrace begun cs code (Idle 1) v place u
 
 -- It begins at the first point.

@@ -11,8 +11,8 @@ use Rattle.brc_model.specs.declared.duty.Duty.{Duty}
 use Rattle.brc_model.specs.declared.duty.Duty.TheVariants.{Settle, Scan}
 use Rattle.brc_table.specs.declared.view.Event.{Event}
 use Rattle.brc_table.specs.declared.view.View.{View}
-use Rattle.brc_table.specs.Views.{did, done, event_of}
-use Rattle.brc_work.specs.Traces.{Makes, Begun, Starts, Continues, Traces, thread_with, events_of, begun_by, is_birth, is_close, has_read}
+use Rattle.brc_table.specs.Views.{view_by, view_after, event_of}
+use Rattle.brc_work.specs.Traces.{Makes, Refl, Dispatches, Continues, Traces, thread_with, events_of, begun_by, is_birth, is_close, has_read}
 use Rattle.brc_work.proofs.Traces.Joining.{only_these}
 
 -- ---- agendas
@@ -56,7 +56,7 @@ next_duties u d rest found =
 module _ (code : List Instr) (q : Place) (u : View) (d e : Duty) (rest behind : List Duty) (found : ℕ)
     (same : IsSame u d e found) where
   pub same_thread : actor_by u.layout u.thread (thread_with u []) d rest found
-      ≡ thread_with (did u (e ∷ behind) found) (next_duties u d rest found)
+      ≡ thread_with (view_by u (e ∷ behind) found) (next_duties u d rest found)
   same_thread = λ i. record {
     status = same.status i;
     agenda = next_duties u d rest found;
@@ -70,36 +70,36 @@ module _ (code : List Instr) (q : Place) (u : View) (d e : Duty) (rest behind : 
   -- The duty is the first one of an instruction,
   pub starts_with : (next : ℕ → Place) → dispatch u.layout u.thread u.used code q ≡ Does d rest next
       → (is_birth d && has_read code q) ≡ false
-      → Traces (begun_by q d found) [] code q [] u (next found) (next_duties u d rest found) (did u (e ∷ behind) found)
+      → Traces (begun_by q d found) [] code q [] u (next found) (next_duties u d rest found) (view_by u (e ∷ behind) found)
   starts_with next is new = record {
     events = events_of u.layout u.thread (thread_with u []) d found;
     trace = ap (λ (es : List Event). u.trace ++ es) (sym same.event);
     makes = subst (λ (a : Actor).
         Makes u.layout u.thread code q (thread_with u []) (begun_by q d found) []
         (events_of u.layout u.thread (thread_with u []) d found) (next found) a) same_thread
-        (only_these (Starts 0 [] [] q (thread_with u []) d rest next found Begun refl is new));
+        (only_these (Dispatches 0 [] [] q (thread_with u []) d rest next found Refl refl is new));
     layout = refl;
     thread = refl;
   }
 
   -- or the first one of the thread's agenda.
   pub continues_with : is_close d ≡ false
-      → Traces 0 [] code q (d ∷ rest) u q (next_duties u d rest found) (did u (e ∷ behind) found)
+      → Traces 0 [] code q (d ∷ rest) u q (next_duties u d rest found) (view_by u (e ∷ behind) found)
   continues_with off = record {
     events = events_of u.layout u.thread (thread_with u []) d found;
     trace = ap (λ (es : List Event). u.trace ++ es) (sym same.event);
     makes = subst (λ (a : Actor).
         Makes u.layout u.thread code q (thread_with u (d ∷ rest)) 0 []
         (events_of u.layout u.thread (thread_with u []) d found) q a) same_thread
-        (Continues 0 [] [] q (thread_with u (d ∷ rest)) d rest found Begun refl off);
+        (Continues 0 [] [] q (thread_with u (d ∷ rest)) d rest found Refl refl off);
     layout = refl;
     thread = refl;
   }
 
 -- A hand with nothing to do does nothing.
-pub does_nothing : (u : View) (found : ℕ) → u.agenda ≡ [] → done u found ≡ u
-does_nothing u found none = ap (λ (ds : List Duty). did u ds found) none
+pub does_nothing : (u : View) (found : ℕ) → u.agenda ≡ [] → view_after u found ≡ u
+does_nothing u found none = ap (λ (ds : List Duty). view_by u ds found) none
 
 pub does_first : (u : View) (found : ℕ) (e : Duty) (behind : List Duty) → u.agenda ≡ e ∷ behind
-    → done u found ≡ did u (e ∷ behind) found
-does_first u found e behind is = ap (λ (ds : List Duty). did u ds found) is
+    → view_after u found ≡ view_by u (e ∷ behind) found
+does_first u found e behind is = ap (λ (ds : List Duty). view_by u ds found) is

@@ -11,7 +11,7 @@ use Rattle.brc_lang.specs.declared.module.Instr.TheVariants as instructions
 use Rattle.brc_model.specs.Actions.{Silent, Calls, Does, always, by_exit, with_row, number_word, file_word, sock_word, grant_action, granted_birth, lend_action, return_action, dispatch, dispatch_instruction, dispatch_inside, by_variable}
 use Rattle.brc_model.specs.declared.actor.Actor.{Actor}
 use Rattle.brc_model.specs.Machine.{has_room, actor_by}
-use Rattle.brc_model.specs.Slots.{target}
+use Rattle.brc_model.specs.VarStates.{target}
 use Rattle.brc_model.specs.Threads.{row_of}
 use Rattle.brc_model.specs.declared.actor.Context.{Context}
 use Rattle.brc_model.specs.declared.actor.Place.{Place}
@@ -20,12 +20,12 @@ use Rattle.brc_model.specs.declared.actor.Stage.TheVariants.{Loaded, Lent, Calle
 use Rattle.brc_model.specs.declared.duty.Duty.{Duty}
 use Rattle.brc_model.specs.declared.duty.Duty.TheVariants.{KindLoad, LendSlot, ReturnSlot}
 use Rattle.brc_model.specs.declared.layout.Layout.{Layout}
-use Rattle.brc_model.specs.declared.slot.Exit.{Exit}
-use Rattle.brc_model.specs.declared.slot.Exit.TheVariants.{Success, Fault}
+use Rattle.brc_model.specs.declared.state.Exit.{Exit}
+use Rattle.brc_model.specs.declared.state.Exit.TheVariants.{Success, Fault}
 use Rattle.brc_table.specs.declared.view.Event.{Event}
 use Rattle.brc_table.specs.declared.view.View.{View}
-use Rattle.brc_table.specs.Views.{done, asking, next_row}
-use Rattle.brc_work.specs.Traces.{Makes, Asks, Starts, Requests, ForBytes, ForLine, MakesTrace, thread_with, exit_of, begun_at, is_read}
+use Rattle.brc_table.specs.Views.{view_after, asking, next_row}
+use Rattle.brc_work.specs.Traces.{Makes, Asks, Dispatches, Requests, ForBytes, ForLine, MakesTrace, thread_with, exit_of, begun_at, is_read}
 use Rattle.brc_work.specs.Performs.{IsBefore, Performs, MakesBirth, place_after}
 use Rattle.brc_work.proofs.Traces.Joining.{no_trace, traces_behind}
 use Rattle.brc_work.proofs.Traces.Duties.{no_duty}
@@ -156,7 +156,7 @@ module _ (code : List Instr) (context : Context) (at : ℕ) (rows : List (Option
       λ i. record (thread_with u []) { agenda = no_duty u.head i } in
       let no_more : one.events ++ [] ≡ one.events = append-nil one.events in
       let takes_it : Makes v.layout v.thread code start (thread_with v []) begun [] (one.events ++ []) lent b =
-      Starts n [] one.events p a (LendSlot row) [] (always lent) 1 one.makes refl
+      Dispatches n [] one.events p a (LendSlot row) [] (always lent) 1 one.makes refl
       (takes ∙ ap (works LendSlot lent) names) refl in
       let asks_it : Makes v.layout v.thread code start (thread_with v []) (begun + 0) (call ∷ []) one.events
       (called (exit_of call)) b =
@@ -166,7 +166,7 @@ module _ (code : List Instr) (context : Context) (at : ℕ) (rows : List (Option
       (no_duty u.head) calls found asks in
       let puts_it : Makes v.layout v.thread code start (thread_with v []) ((begun + 0) + 0) (call ∷ [])
       (one.events ++ []) q (actor_by v.layout v.thread b (ReturnSlot row) [] 0) =
-      Starts (begun + 0) (call ∷ []) one.events (called (exit_of call)) b (ReturnSlot row) [] (always q) 0 asks_it
+      Dispatches (begun + 0) (call ∷ []) one.events (called (exit_of call)) b (ReturnSlot row) [] (always q) 0 asks_it
       (no_duty u.head) (puts ∙ ap (works ReturnSlot q) names) refl in
       record {
         events = one.events;
@@ -237,7 +237,7 @@ sends word failed = asked.Write (decimal (argument_part word) ++ 10 ∷ []) fail
 
 module _ (file number otherwise object row word : ℕ) (rows : List (Option ℕ)) (v u : View) (idle : v.agenda ≡ [])
     (names_number : row_of rows number ≡ Some object) (names_file : row_of rows file ≡ Some row)
-    (is : u ≡ done (asking v object) word) where
+    (is : u ≡ view_after (asking v object) word) where
   -- The thread loads the number's kind word, and goes on where the host's answer says.
   asks_write : (failed : Bool) (q : Place) (code : List Instr) (place : Place) (context : Context) (at : ℕ)
       → IsBefore (instructions.Write file number otherwise) code place context at rows
@@ -253,7 +253,7 @@ module _ (file number otherwise object row word : ℕ) (rows : List (Option ℕ)
       (λ x. Does (KindLoad x) [] (always loaded)) refl names_number) in
       subst (λ (n : ℕ). MakesTrace (n + 0) (sends word failed ∷ []) code place v q u) before.comes.begun
       (subst (MakesTrace (begun_at place + 0) (sends word failed ∷ []) code place v q) (sym is)
-      (lends code context at rows file row names_file v (done (asking v object) word) place loaded q i
+      (lends code context at rows file row names_file v (view_after (asking v object) word) place loaded q i
       (sends word failed) one.0 before.found (ForLine file number otherwise [] (kind_event object word) failed one.1)
       (goes_on i code place context at rows before v.layout v.thread v.used Loaded)
       (goes_on i code place context at rows before v.layout v.thread v.used Lent)

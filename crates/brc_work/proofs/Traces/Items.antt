@@ -17,10 +17,10 @@ use Rattle.brc_model.specs.declared.duty.Duty.TheVariants.{RetainLoad, KindLoad,
 use Rattle.brc_model.specs.declared.duty.Holding.{Holding}
 use Rattle.brc_model.specs.declared.duty.Holding.TheVariants.{InFlight}
 use Rattle.brc_model.specs.declared.layout.Layout.{Layout}
-use Rattle.brc_model.specs.declared.slot.Exit.TheVariants.{Success, Fault}
+use Rattle.brc_model.specs.declared.state.Exit.TheVariants.{Success, Fault}
 use Rattle.brc_model.proofs.Basics.Lists.{some_is, none_some}
 use Rattle.brc_table.specs.declared.view.View.{View}
-use Rattle.brc_table.specs.Views.{done, asking, loading_cell}
+use Rattle.brc_table.specs.Views.{view_after, asking, loading_cell}
 use Rattle.brc_heap.specs.Calls.{retained}
 use Rattle.brc_list.specs.Calls.{row_in}
 use Rattle.brc_work.specs.Traces.{MakesTrace}
@@ -39,11 +39,11 @@ pub record HasSized (list row index cell size word : ℕ) (rows : List (Option �
   pub names : row_of rows list ≡ Some row
   pub same : cell ≡ index
   pub size_is : size ≡ cells_of word
-  pub view_is : u ≡ done (asking v row) word
+  pub view_is : u ≡ view_after (asking v row) word
 
 -- The hand has loaded the list's cell, and found this item there, or none.
 pub record HasFound (row cell word : ℕ) (item : Option ℕ) (v u : View) : Type 0 where
-  pub view_is : u ≡ done (loading_cell v row cell) word
+  pub view_is : u ≡ view_after (loading_cell v row cell) word
   pub item_is : row_in word ≡ item
 
 -- The place that the word of a cell with an item decides,
@@ -99,12 +99,12 @@ module _ (list row index cell size word : ℕ) (rows : List (Option ℕ)) (v mid
     has_cell low is = asks true (lt-ltb index (cells_of word) (omega (arith, sized.same, sized.size_is, low))) is
 
     -- With the cell the thread goes on, and the cell's word decides where it is then.
-    looks : (w : ℕ) (u : View) (holds : ℕ → Place) → u ≡ done (loading_cell mid row cell) w → LooksInto holds
+    looks : (w : ℕ) (u : View) (holds : ℕ → Place) → u ≡ view_after (loading_cell mid row cell) w → LooksInto holds
         → MakesTrace 0 [] code inside mid (by_item outside holds w) u
     looks w u holds view_is is =
         let next = by_item outside holds in
         subst (MakesTrace 0 [] code inside mid (next w))
-        (sym (view_is ∙ ap (λ (n : ℕ). done (loading_cell mid row n) w) sized.same))
+        (sym (view_is ∙ ap (λ (n : ℕ). view_after (loading_cell mid row n) w) sized.same))
         (looks_in code inside next mid idle row index w
         (goes_on_with i code place context at rows before mid.layout mid.thread mid.used InRange list row
         (λ x. Does (CellLoad x index) [] next) is sized.names))

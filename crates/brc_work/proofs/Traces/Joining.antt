@@ -11,7 +11,7 @@ use Rattle.brc_model.specs.declared.actor.Actor.{Actor}
 use Rattle.brc_table.specs.declared.view.Event.{Event}
 use Rattle.brc_table.specs.declared.view.View.{View}
 use Rattle.brc_table.specs.Views.{open_work}
-use Rattle.brc_work.specs.Traces.{Makes, Begun, Silently, Asks, Starts, Reads, Continues, Closes, Requests, ForFile, ForPeer, ForBytes, ForLine, Traces, thread_with, events_of, read_birth, begun_at, begun_by}
+use Rattle.brc_work.specs.Traces.{Makes, Refl, Silently, Asks, Dispatches, Reads, Continues, Closes, Requests, ForFile, ForPeer, ForBytes, ForLine, Traces, thread_with, events_of, read_birth, begun_at, begun_by}
 
 -- ---- numbers
 
@@ -59,7 +59,7 @@ module _ (layout : Layout) (t : ℕ) (code : List Instr) (p : Place) (a : Actor)
   -- A thread goes on.
   pub makes_then : (m : ℕ) (ds : List HostCall) (fs : List Event) (r : Place) (c : Actor)
       → Makes layout t code q b m ds fs r c → Makes layout t code p a (n + m) (cs ++ ds) (es ++ fs) r c
-  makes_then m ds fs r c Begun =
+  makes_then m ds fs r c Refl =
       subst (λ (l : ℕ). Makes layout t code p a l (cs ++ []) (es ++ []) q b) (none_after n)
       (subst (λ (ks : List HostCall). Makes layout t code p a n ks (es ++ []) q b) (sym (append-nil cs))
       (subst (λ (hs : List Event). Makes layout t code p a n cs hs q b) (sym (append-nil es)) one))
@@ -71,11 +71,11 @@ module _ (layout : Layout) (t : ℕ) (code : List Instr) (p : Place) (a : Actor)
       (with_calls ((n + k) + begun_at s) ks call (es ++ gs) r c
       (Asks (n + k) (cs ++ ks) (es ++ gs) s d row after i call (makes_then k ks gs s d other) none is names
       (asks_after es gs i call asks)))
-  makes_then m ds fs r c (Starts k ks gs s d duty rest next found other none is new) =
+  makes_then m ds fs r c (Dispatches k ks gs s d duty rest next found other none is new) =
       let more = events_of layout t d duty found in
       with_begun k (begun_by s duty found) (cs ++ ks) (es ++ (gs ++ more)) r c
       (with_events ((n + k) + begun_by s duty found) (cs ++ ks) gs more r c
-      (Starts (n + k) (cs ++ ks) (es ++ gs) s d duty rest next found (makes_then k ks gs s d other) none is new))
+      (Dispatches (n + k) (cs ++ ks) (es ++ gs) s d duty rest next found (makes_then k ks gs s d other) none is new))
   makes_then m ds fs r c (Reads k ks gs context at variables d to file most otherwise count found other none is few) =
       let got = Read most (Some count) in
       let in_read = Inside context at variables Granted in
@@ -105,7 +105,7 @@ only_these {layout} {t} {code} {p} {q} {a} {b} {n} {cs} {es} made =
 -- A hand that has made no step.
 pub no_trace : (code : List Instr) (p : Place) (ds : List Duty) (v : View) → Traces 0 [] code p ds v p ds v
 no_trace code p ds v =
-    record { events = []; trace = sym (append-nil v.trace); makes = Begun; layout = refl; thread = refl }
+    record { events = []; trace = sym (append-nil v.trace); makes = Refl; layout = refl; thread = refl }
 
 -- A view of the same thread with the same trace.
 pub quietly : (code : List Instr) (p : Place) (ds : List Duty) (v w : View) → w.trace ≡ v.trace → w.layout ≡ v.layout
@@ -113,7 +113,7 @@ pub quietly : (code : List Instr) (p : Place) (ds : List Duty) (v w : View) → 
 quietly code p ds v w trace layout thread same = record {
   events = [];
   trace = trace ∙ sym (append-nil v.trace);
-  makes = subst (λ (a : Actor). Makes v.layout v.thread code p (thread_with v ds) 0 [] [] p a) same Begun;
+  makes = subst (λ (a : Actor). Makes v.layout v.thread code p (thread_with v ds) 0 [] [] p a) same Refl;
   layout = layout;
   thread = thread;
 }

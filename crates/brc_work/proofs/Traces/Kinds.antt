@@ -11,16 +11,16 @@ use Rattle.brc_model.specs.declared.actor.Context.{Context}
 use Rattle.brc_model.specs.declared.actor.Place.{Place}
 use Rattle.brc_model.specs.declared.actor.Place.TheVariants.{InCall}
 use Rattle.brc_model.specs.declared.duty.Duty.TheVariants.{KindLoad}
-use Rattle.brc_model.specs.declared.slot.Exit.TheVariants.{Success, Fault}
+use Rattle.brc_model.specs.declared.state.Exit.TheVariants.{Success, Fault}
 use Rattle.brc_table.specs.declared.view.View.{View}
-use Rattle.brc_table.specs.Views.{done, asking}
+use Rattle.brc_table.specs.Views.{view_after, asking}
 use Rattle.brc_work.specs.Traces.{MakesTrace}
 use Rattle.brc_work.specs.Performs.{IsBefore, Performs}
 use Rattle.brc_work.proofs.Traces.Places.{begins_with, begins_one}
 use Rattle.brc_work.proofs.Traces.Starting.{asks_kind}
 
 module _ (from row word otherwise : ℕ) (kind seen : Kind) (rows : List (Option ℕ)) (v u : View) (none : v.agenda ≡ [])
-    (names : row_of rows from ≡ Some row) (is : u ≡ done (asking v row) word) (sees : seen ≡ kind_of_word word) where
+    (names : row_of rows from ≡ Some row) (is : u ≡ view_after (asking v row) word) (sees : seen ≡ kind_of_word word) where
   -- The thread goes on where the word found says.
   asked : (b : Bool) → same_kind seen kind ≡ b → (code : List Instr) (place : Place) (context : Context) (at : ℕ)
       → IsBefore (instructions.As from kind otherwise) code place context at rows

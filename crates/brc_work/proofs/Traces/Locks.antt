@@ -10,9 +10,9 @@ use Rattle.brc_model.specs.declared.actor.Context.{Context}
 use Rattle.brc_model.specs.declared.actor.Place.{Place}
 use Rattle.brc_model.specs.declared.actor.Place.TheVariants.{InCall}
 use Rattle.brc_model.specs.declared.duty.Duty.TheVariants.{LockGate, UnlockGate}
-use Rattle.brc_model.specs.declared.slot.Exit.TheVariants.{Success}
+use Rattle.brc_model.specs.declared.state.Exit.TheVariants.{Success}
 use Rattle.brc_table.specs.declared.view.View.{View}
-use Rattle.brc_table.specs.Views.{done, locking, unlocking}
+use Rattle.brc_table.specs.Views.{view_after, locking, unlocking}
 use Rattle.brc_work.specs.Traces.{MakesTrace, begun_at, begun_by}
 use Rattle.brc_work.specs.Performs.{IsBefore, Performs, Waits}
 use Rattle.brc_work.proofs.Traces.Joining.{no_trace, traces_then, traces_before}
@@ -20,7 +20,7 @@ use Rattle.brc_work.proofs.Traces.Places.{begins_with, begins_one}
 use Rattle.brc_work.proofs.Traces.Starting.{tries, unlocks}
 
 module _ (object row n found : ℕ) (rows : List (Option ℕ)) (v u : View) (none : v.agenda ≡ [])
-    (names : row_of rows object ≡ Some row) (is : u ≡ done (locking v row n) found) where
+    (names : row_of rows object ≡ Some row) (is : u ≡ view_after (locking v row n) found) where
   -- The thread is where the word found says, which also says whether the instruction has begun.
   tried : (b : Bool) → (found == free_word) ≡ b → (code : List Instr) (place : Place) (context : Context) (at : ℕ)
       → IsBefore (instructions.Lock object) code place context at rows
@@ -63,7 +63,7 @@ waits_first object rows v u w one other = λ code place context at before.
     (other code place context at before)
 
 pub makes_unlock : (object row found : ℕ) (rows : List (Option ℕ)) (v u : View) → v.agenda ≡ []
-    → row_of rows object ≡ Some row → u ≡ done (unlocking v row) found
+    → row_of rows object ≡ Some row → u ≡ view_after (unlocking v row) found
     → Performs [] (instructions.Unlock object) Success rows v rows u
 makes_unlock object row found rows v u none names is = λ code place context at before.
     let next = always (InCall context (at + 1) rows) in

@@ -12,8 +12,8 @@ use Rattle.brc_model.specs.declared.actor.Context.{Context}
 use Rattle.brc_model.specs.declared.actor.Place.{Place}
 use Rattle.brc_model.specs.declared.actor.Place.TheVariants.{Idle, InCall}
 use Rattle.brc_model.specs.declared.duty.Duty.TheVariants.{RetainLoad}
-use Rattle.brc_model.specs.declared.slot.Exit.{Exit}
-use Rattle.brc_model.specs.declared.slot.Exit.TheVariants.{Success}
+use Rattle.brc_model.specs.declared.state.Exit.{Exit}
+use Rattle.brc_model.specs.declared.state.Exit.TheVariants.{Success}
 use Rattle.brc_table.specs.declared.view.View.{View}
 use Rattle.brc_heap.specs.Calls.{retained}
 use Rattle.brc_work.specs.Traces.{MakesTrace}

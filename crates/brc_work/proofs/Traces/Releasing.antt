@@ -15,9 +15,9 @@ use Rattle.brc_model.specs.declared.duty.Holding.{Holding}
 use Rattle.brc_model.specs.declared.duty.Holding.TheVariants.{AsCaller}
 use Rattle.brc_model.specs.declared.duty.Reason.TheVariants.{Own}
 use Rattle.brc_table.specs.declared.view.View.{View}
-use Rattle.brc_table.specs.Views.{done, releasing, slot_emptied, slot_emptied_by, without_reference}
+use Rattle.brc_table.specs.Views.{view_after, releasing, slot_emptied, slot_emptied_by, without_reference}
 use Rattle.brc_heap.specs.Calls.{released_locally, counts_here}
-use Rattle.brc_free.specs.Works.{Begun as Unchanged, Next, HasWorked, closes_by, to_settle}
+use Rattle.brc_free.specs.Works.{Refl as Unchanged, Next, HasWorked, closes_by, to_settle}
 use Rattle.brc_work.specs.Performs.{MakesRelease, GivesUp}
 use Rattle.brc_work.specs.Traces.{Traces}
 use Rattle.brc_work.proofs.Traces.Joining.{turns_to, traces_then, traces_before}
@@ -54,9 +54,9 @@ load_same x holding v word =
 module _ {n : ℕ} (code : List Instr) (p : Place) (ds : List Duty) (w : View) (q : Place) (holding : Holding) (x : ℕ)
     (v : View) (later : Bool) (first : (word : ℕ)
     → Traces n [] code p ds w q (next_duties (releasing v x) (ReleaseLoad x holding) (settle_if later) word)
-    (done (releasing v x) word)) where
+    (view_after (releasing v x) word)) where
   -- The hand has loaded the local word,
-  loads : (word : ℕ) → WorksOn later n [] code p ds w q (done (releasing v x) word)
+  loads : (word : ℕ) → WorksOn later n [] code p ds w q (view_after (releasing v x) word)
   loads word =
       goes_on code p ds w q (releasing v x) (ReleaseLoad x holding) (ReleaseLoad x AsCaller) [] word
       (load_same x holding v word) refl refl refl refl (first word)
@@ -64,19 +64,19 @@ module _ {n : ℕ} (code : List Instr) (p : Place) (ds : List Duty) (w : View) (
   -- and stored it if it counts there.
   pub stores : (word : ℕ) → WorksOn later n [] code p ds w q (released_locally v x word)
   stores word =
-      let loaded = done (releasing v x) word in
+      let loaded = view_after (releasing v x) word in
       elim (cases_Bool (counts_here v word)) [
         | inl counts ↦
             subst (WorksOn later n [] code p ds w q)
-            (ap (λ (y : View). done y word) (after_load (is_immortal_word word) (counts_here v word) v.head x word
+            (ap (λ (y : View). view_after y word) (after_load (is_immortal_word word) (counts_here v word) v.head x word
             loaded refl)
-            ∙ ap (λ (b : Bool). cond b (done loaded word) loaded) (sym counts))
-            (subst (λ (cs : List HostCall). WorksOn later n cs code p ds w q (done (slot_emptied loaded) word))
+            ∙ ap (λ (b : Bool). cond b (view_after loaded word) loaded) (sym counts))
+            (subst (λ (cs : List HostCall). WorksOn later n cs code p ds w q (view_after (slot_emptied loaded) word))
             (no_close_after_load (is_immortal_word word) (counts_here v word) v.head x word loaded refl)
-            (works_on code p ds w q [] loaded _ (done (slot_emptied loaded) word) (loads word)
+            (works_on code p ds w q [] loaded _ (view_after (slot_emptied loaded) word) (loads word)
             (Next [] loaded word false Unchanged)))
         | inr shares ↦
-            subst (WorksOn later n [] code p ds w q) (ap (λ (b : Bool). cond b (done loaded word) loaded) (sym shares))
+            subst (WorksOn later n [] code p ds w q) (ap (λ (b : Bool). cond b (view_after loaded word) loaded) (sym shares))
             (loads
             word)
       ]
@@ -84,7 +84,7 @@ module _ {n : ℕ} (code : List Instr) (p : Place) (ds : List Duty) (w : View) (
 -- Where the thread settles behind it, all that dies by it is closed.
 settles : {n : ℕ} (code : List Instr) (p : Place) (ds : List Duty) (w : View) (q : Place) (holding : Holding) (x : ℕ)
     (v : View) → ((word : ℕ) → Traces n [] code p ds w q
-    (next_duties (releasing v x) (ReleaseLoad x holding) (settle_if true) word) (done (releasing v x) word))
+    (next_duties (releasing v x) (ReleaseLoad x holding) (settle_if true) word) (view_after (releasing v x) word))
     → (word : ℕ) (cs : List HostCall) (mid after : View) → HasWorked (released_locally v x word) [] [] mid
     → HasWorked (to_settle [] mid) cs [] after → after.head ≡ 0 → Traces n cs code p ds w q [] after
 settles code p ds w q holding x v first word cs mid after released settled empty =

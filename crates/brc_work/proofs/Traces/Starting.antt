@@ -14,13 +14,13 @@ use Rattle.brc_model.specs.declared.duty.Duty.{Duty}
 use Rattle.brc_model.specs.declared.duty.Duty.TheVariants.{RetainLoad, RetainStore, RetainAdd, KindLoad, LockGate, UnlockGate, CellLoad}
 use Rattle.brc_model.specs.declared.duty.Holding.{Holding}
 use Rattle.brc_model.specs.declared.duty.Holding.TheVariants.{AsCaller}
-use Rattle.brc_model.specs.declared.slot.Exit.{Exit}
+use Rattle.brc_model.specs.declared.state.Exit.{Exit}
 use Rattle.brc_model.specs.declared.address.Address.TheVariants.{KindOf}
 use Rattle.brc_table.specs.declared.view.Event.{Event}
 use Rattle.brc_table.specs.declared.view.View.{View}
-use Rattle.brc_table.specs.Views.{did, done, open_work, with_reference, retaining, asking, locking, unlocking, loading_cell}
+use Rattle.brc_table.specs.Views.{view_by, view_after, open_work, with_reference, retaining, asking, locking, unlocking, loading_cell}
 use Rattle.brc_heap.specs.Calls.{retained}
-use Rattle.brc_work.specs.Traces.{Makes, Begun, Starts, Silently, Asks, Requests, Traces, MakesTrace, thread_with, instruction_at, exit_of, begun_at, begun_by, is_birth, is_close, has_read}
+use Rattle.brc_work.specs.Traces.{Makes, Refl, Dispatches, Silently, Asks, Requests, Traces, MakesTrace, thread_with, instruction_at, exit_of, begun_at, begun_by, is_birth, is_close, has_read}
 use Rattle.brc_work.proofs.Traces.Joining.{only_these, no_trace, turns_to, traces_then, traces_before, with_duties}
 use Rattle.brc_work.proofs.Traces.Duties.{comes_next, no_duty, IsSame, next_duties, starts_with, continues_with, does_nothing, does_first}
 
@@ -31,7 +31,7 @@ module _ (code : List Instr) (p : Place) (v : View) where
   goes_silently q moves is = record {
     events = [];
     trace = sym (append-nil v.trace);
-    makes = only_these (Silently 0 [] [] p q (thread_with v []) moves Begun refl is);
+    makes = only_these (Silently 0 [] [] p q (thread_with v []) moves Refl refl is);
     layout = refl;
     thread = refl;
   }
@@ -44,7 +44,7 @@ module _ (code : List Instr) (p : Place) (v : View) where
   calls_host row after i call is names asks = record {
     events = [];
     trace = sym (append-nil v.trace);
-    makes = only_these (Asks 0 [] [] p (thread_with v []) row after i call Begun refl is names asks);
+    makes = only_these (Asks 0 [] [] p (thread_with v []) row after i call Refl refl is names asks);
     layout = refl;
     thread = refl;
   }
@@ -64,34 +64,34 @@ module _ (code : List Instr) (p : Place) (next : ℕ → Place) (v : View) (none
       → (is_birth d && has_read code p) ≡ false
       → IsSame (busy v (d ∷ []) references n) d d found
       → next_duties (busy v (d ∷ []) references n) d [] found ≡ []
-      → MakesTrace (begun_by p d found) [] code p v (next found) (did (busy v (d ∷ []) references n) (d ∷ []) found)
+      → MakesTrace (begun_by p d found) [] code p v (next found) (view_by (busy v (d ∷ []) references n) (d ∷ []) found)
   one_step d references n found is new same last =
       let turned = busy v (d ∷ []) references n in
-      traces_before code p p (next found) [] [] [] v turned (did turned (d ∷ []) found)
+      traces_before code p p (next found) [] [] [] v turned (view_by turned (d ∷ []) found)
       (turns_to code p [] (d ∷ []) v references n none)
-      (with_duties code p (next found) [] (next_duties turned d [] found) [] turned (did turned (d ∷ []) found) last
+      (with_duties code p (next found) [] (next_duties turned d [] found) [] turned (view_by turned (d ∷ []) found) last
       (starts_with code p turned d d [] [] found same next is new))
 
   -- A look at a kind,
   pub asks_kind : (x word : ℕ) → dispatch v.layout v.thread v.used code p ≡ Does (KindLoad x) [] next
-      → MakesTrace (begun_at p) [] code p v (next word) (done (asking v x) word)
+      → MakesTrace (begun_at p) [] code p v (next word) (view_after (asking v x) word)
   asks_kind x word is =
       one_step (KindLoad x) v.references v.in_slot word is refl
       (record { event = refl; status = refl; head = refl; used = refl; locked = refl; lent = refl }) (no_duty v.head)
 
   -- which makes one event: the word that it finds,
   pub asks_kind_once : (x word : ℕ) → dispatch v.layout v.thread v.used code p ≡ Does (KindLoad x) [] next
-      → (one : MakesTrace (begun_at p) [] code p v (next word) (done (asking v x) word))
+      → (one : MakesTrace (begun_at p) [] code p v (next word) (view_after (asking v x) word))
       × (one.events ≡ [] ++ kind_event x word ∷ [])
   asks_kind_once x word is =
       let aside : v.aside ≡ open_work v = ap (λ (ds : List Duty). ds ++ v.aside) (sym none) in
-      let one : MakesTrace (begun_at p) [] code p v (next word) (done (asking v x) word) = record {
+      let one : MakesTrace (begun_at p) [] code p v (next word) (view_after (asking v x) word) = record {
         events = kind_event x word ∷ [];
         trace = refl;
         makes = subst (λ (a : Actor).
             Makes v.layout v.thread code p (thread_with v []) (begun_at p) [] (kind_event x word ∷ []) (next word) a)
             (λ i. record (thread_with v []) { agenda = no_duty v.head i; aside = aside i })
-            (only_these (Starts 0 [] [] p (thread_with v []) (KindLoad x) [] next word Begun refl is refl));
+            (only_these (Dispatches 0 [] [] p (thread_with v []) (KindLoad x) [] next word Refl refl is refl));
         layout = refl;
         thread = refl;
       } in
@@ -99,20 +99,20 @@ module _ (code : List Instr) (p : Place) (next : ℕ → Place) (v : View) (none
 
   -- a try to lock,
   pub tries : (x n found : ℕ) → dispatch v.layout v.thread v.used code p ≡ Does (LockGate x) [] next
-      → MakesTrace (begun_by p (LockGate x) found) [] code p v (next found) (done (locking v x n) found)
+      → MakesTrace (begun_by p (LockGate x) found) [] code p v (next found) (view_after (locking v x n) found)
   tries x n found is =
       one_step (LockGate x) v.references n found is refl
       (record { event = refl; status = refl; head = refl; used = refl; locked = refl; lent = refl }) (no_duty v.head)
 
   pub unlocks : (x found : ℕ) → dispatch v.layout v.thread v.used code p ≡ Does (UnlockGate x) [] next
-      → MakesTrace (begun_at p) [] code p v (next found) (done (unlocking v x) found)
+      → MakesTrace (begun_at p) [] code p v (next found) (view_after (unlocking v x) found)
   unlocks x found is =
       one_step (UnlockGate x) v.references v.in_slot found is refl
       (record { event = refl; status = refl; head = refl; used = refl; locked = refl; lent = refl }) (no_duty v.head)
 
   -- and a look into a cell.
   pub looks_in : (x i word : ℕ) → dispatch v.layout v.thread v.used code p ≡ Does (CellLoad x i) [] next
-      → MakesTrace (begun_at p) [] code p v (next word) (done (loading_cell v x i) word)
+      → MakesTrace (begun_at p) [] code p v (next word) (view_after (loading_cell v x i) word)
   looks_in x i word is =
       one_step (CellLoad x i) v.references v.in_slot word is refl
       (record { event = refl; status = refl; head = refl; used = refl; locked = refl; lent = refl }) (no_duty v.head)
@@ -127,20 +127,20 @@ retain_next immortal counts x word holding =
 counted_by : (code : List Instr) (q : Place) (head x word found : ℕ) (d e : Duty) (u : View)
     → u.agenda ≡ e ∷ [] → IsSame u d e found
     → is_close d ≡ false → ready head (d ∷ []) ≡ d ∷ [] → next_duties u d [] found ≡ []
-    → Traces 0 [] code q (ready head (d ∷ [])) u q [] (done u found)
+    → Traces 0 [] code q (ready head (d ∷ [])) u q [] (view_after u found)
 counted_by code q head x word found d e u is same off first last =
-    subst (λ (ds : List Duty). Traces 0 [] code q ds u q [] (done u found)) (sym first)
+    subst (λ (ds : List Duty). Traces 0 [] code q ds u q [] (view_after u found)) (sym first)
     (subst (Traces 0 [] code q (d ∷ []) u q []) (sym (does_first u found e [] is))
-    (with_duties code q q (d ∷ []) (next_duties u d [] found) [] u (did u (e ∷ []) found) last
+    (with_duties code q q (d ∷ []) (next_duties u d [] found) [] u (view_by u (e ∷ []) found) last
     (continues_with code q u d e [] [] found same off)))
 
 -- The reference is counted in the local word, in the shared word or nowhere.
 counts : (immortal own : Bool) (code : List Instr) (q : Place) (head x word found : ℕ) (holding : Holding) (u : View)
     → u.agenda ≡ ready head (retain_next immortal own x word AsCaller ++ [])
-    → Traces 0 [] code q (ready head (retain_next immortal own x word holding ++ [])) u q [] (done u found)
+    → Traces 0 [] code q (ready head (retain_next immortal own x word holding ++ [])) u q [] (view_after u found)
 counts true own code q head x word found holding u is =
     let none = is ∙ no_duty head in
-    subst (λ (ds : List Duty). Traces 0 [] code q ds u q [] (done u found)) (sym (no_duty head))
+    subst (λ (ds : List Duty). Traces 0 [] code q ds u q [] (view_after u found)) (sym (no_duty head))
     (subst (Traces 0 [] code q [] u q []) (sym (does_nothing u found none)) (no_trace code q [] u))
 counts false true code q head x word found holding u is =
     counted_by code q head x word found (RetainStore x holding word) (RetainStore x AsCaller word) u
@@ -159,13 +159,13 @@ pub retains : (code : List Instr) (p : Place) (next : ℕ → Place) (v : View) 
     → MakesTrace (begun_at p) [] code p v (next word) (retained v x word found)
 retains code p next v none x word found holding is =
     let turned = retaining v x in
-    let loaded = done turned word in
+    let loaded = view_after turned word in
     let immortal = is_immortal_word word in
     let own = counts_locally v.thread (is_running v.status) word && nat_lt (local_part word) most_local in
     let duties = ready v.head (retain_next immortal own x word holding ++ []) in
-    traces_before code p p (next word) [] [] [] v turned (done loaded found)
+    traces_before code p p (next word) [] [] [] v turned (view_after loaded found)
     (turns_to code p [] (RetainLoad x AsCaller ∷ []) v (with_reference v.layout x v.references) v.in_slot none)
-    (traces_then code p (next word) (next word) [] duties [] turned loaded (done loaded found)
+    (traces_then code p (next word) (next word) [] duties [] turned loaded (view_after loaded found)
     (starts_with code p turned (RetainLoad x holding) (RetainLoad x AsCaller) [] [] word
     (record { event = refl; status = refl; head = refl; used = refl; locked = refl; lent = refl }) next is refl)
     (counts immortal own code (next word) v.head x word found holding loaded refl))

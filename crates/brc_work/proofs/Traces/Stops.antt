@@ -12,17 +12,17 @@ use Rattle.brc_model.specs.declared.duty.Duty.{Duty}
 use Rattle.brc_model.specs.declared.duty.Duty.TheVariants.{ReleaseLoad, Settle}
 use Rattle.brc_model.specs.declared.duty.Holding.TheVariants.{AsCaller, ByVariable}
 use Rattle.brc_model.specs.declared.layout.Layout.{Layout}
-use Rattle.brc_model.specs.declared.slot.Slot.{Slot}
-use Rattle.brc_model.specs.declared.slot.Slot.TheVariants.{Empty}
+use Rattle.brc_model.specs.declared.state.VarState.{VarState}
+use Rattle.brc_model.specs.declared.state.VarState.TheVariants.{Empty}
 use Rattle.brc_model.specs.Actions.{Does, always, with_row, dispatch}
 use Rattle.brc_model.specs.Duties.{ready}
-use Rattle.brc_model.specs.Slots.{is_owned}
+use Rattle.brc_model.specs.VarStates.{is_owned}
 use Rattle.brc_model.specs.Stops.{owned_rows, holds_some, stopping, first_named, give_up_first, give_up}
 use Rattle.brc_model.specs.Threads.{row_of}
 use Rattle.brc_model.proofs.Dispatch.Grounded.{row_of-set_other}
 use Rattle.brc_model.proofs.Dispatch.Stopped.{owned_exactly, owned_long}
 use Rattle.brc_table.specs.declared.view.View.{View}
-use Rattle.brc_table.specs.Views.{done, releasing, without_reference}
+use Rattle.brc_table.specs.Views.{view_after, releasing, without_reference}
 use Rattle.brc_heap.specs.Calls.{released_locally}
 use Rattle.brc_free.specs.Works.{HasWorked, to_settle}
 use Rattle.brc_work.specs.Stopping.{Loosens}
@@ -54,18 +54,18 @@ first_is (Some row ∷ rows) (suc k) x is below =
     let wrong : Some row ≡ None = below zero (omega arith) in absurd cc
 
 -- What is left once the variable is empty.
-owned_set : (slots : List Slot) (rows : List (Option ℕ)) (k : ℕ)
-    → slice_set (owned_rows slots rows) k None ≡ owned_rows slots (slice_set rows k None)
+owned_set : (vars : List VarState) (rows : List (Option ℕ)) (k : ℕ)
+    → slice_set (owned_rows vars rows) k None ≡ owned_rows vars (slice_set rows k None)
 owned_set [] rows k = refl
-owned_set (slot ∷ slots) [] k = refl
-owned_set (slot ∷ slots) (row ∷ rows) zero = elim (cases_Bool (is_owned slot)) [
-  | inl is ↦ ap (λ (b : Bool). None ∷ owned_rows slots rows) is
-      ∙ sym (ap (λ (b : Bool). cond b None None ∷ owned_rows slots rows) is)
-  | inr is ↦ ap (λ (b : Bool). None ∷ owned_rows slots rows) is
-      ∙ sym (ap (λ (b : Bool). cond b None None ∷ owned_rows slots rows) is)
+owned_set (var ∷ vars) [] k = refl
+owned_set (var ∷ vars) (row ∷ rows) zero = elim (cases_Bool (is_owned var)) [
+  | inl is ↦ ap (λ (b : Bool). None ∷ owned_rows vars rows) is
+      ∙ sym (ap (λ (b : Bool). cond b None None ∷ owned_rows vars rows) is)
+  | inr is ↦ ap (λ (b : Bool). None ∷ owned_rows vars rows) is
+      ∙ sym (ap (λ (b : Bool). cond b None None ∷ owned_rows vars rows) is)
 ]
-owned_set (slot ∷ slots) (row ∷ rows) (suc k) =
-    ap (λ (rest : List (Option ℕ)). cond (is_owned slot) row None ∷ rest) (owned_set slots rows k)
+owned_set (var ∷ vars) (row ∷ rows) (suc k) =
+    ap (λ (rest : List (Option ℕ)). cond (is_owned var) row None ∷ rest) (owned_set vars rows k)
 
 none_named : (rows : List (Option ℕ)) (n : ℕ) → length rows ≤ n → ((i : ℕ) → i < n → row_of rows i ≡ None)
     → list_any is_some rows ≡ false
@@ -76,10 +76,10 @@ none_named (row ∷ rows) (suc n) long each =
     ∙ none_named rows n (omega (arith, long)) (λ i low. each (suc i) (omega (arith, low)))
 
 -- Where all variables are empty that own something, nothing is left to give up.
-pub nothing_left : (slots : List Slot) (rows : List (Option ℕ)) → length rows ≡ 16
-    → ((i : ℕ) → i < 16 → row_of (owned_rows slots rows) i ≡ None) → list_any is_some (owned_rows slots rows) ≡ false
-nothing_left slots rows long each =
-    let less = owned_long slots rows in none_named (owned_rows slots rows) 16 (omega (arith, less, long)) each
+pub nothing_left : (vars : List VarState) (rows : List (Option ℕ)) → length rows ≡ 16
+    → ((i : ℕ) → i < 16 → row_of (owned_rows vars rows) i ≡ None) → list_any is_some (owned_rows vars rows) ≡ false
+nothing_left vars rows long each =
+    let less = owned_long vars rows in none_named (owned_rows vars rows) 16 (omega (arith, less, long)) each
 
 none_set : (rows : List (Option ℕ)) (k : ℕ) → row_of (slice_set rows k None) k ≡ None
 none_set [] k = refl
@@ -87,28 +87,28 @@ none_set (row ∷ rows) zero = refl
 none_set (row ∷ rows) (suc k) = none_set rows k
 
 -- A variable that has given up what it owned has nothing to give up; the others have what they had.
-pub emptied_left : (slots : List Slot) (rows : List (Option ℕ)) (k i : ℕ) → i < suc k
-    → ((j : ℕ) → j < k → row_of (owned_rows slots rows) j ≡ None)
-    → row_of (owned_rows slots (slice_set rows k None)) i ≡ None
-emptied_left slots rows k i low below =
-    subst (λ (l : List (Option ℕ)). row_of l i ≡ None) (owned_set slots rows k)
+pub emptied_left : (vars : List VarState) (rows : List (Option ℕ)) (k i : ℕ) → i < suc k
+    → ((j : ℕ) → j < k → row_of (owned_rows vars rows) j ≡ None)
+    → row_of (owned_rows vars (slice_set rows k None)) i ≡ None
+emptied_left vars rows k i low below =
+    subst (λ (l : List (Option ℕ)). row_of l i ≡ None) (owned_set vars rows k)
     (elim (eq-or-lt_of_le {n = i} {m = k} (omega (arith, low))) [
-      | inl this ↦ subst (λ (j : ℕ). row_of (slice_set (owned_rows slots rows) k None) j ≡ None) (sym this)
-          (none_set (owned_rows slots rows) k)
-      | inr less ↦ row_of-set_other (owned_rows slots rows) k i None (λ same. omega (arith, same, less)) ∙ below i less
+      | inl this ↦ subst (λ (j : ℕ). row_of (slice_set (owned_rows vars rows) k None) j ≡ None) (sym this)
+          (none_set (owned_rows vars rows) k)
+      | inr less ↦ row_of-set_other (owned_rows vars rows) k i None (λ same. omega (arith, same, less)) ∙ below i less
     ])
 
 -- Nor has a variable that owns nothing.
-pub unowned_left : (slots : List Slot) (rows : List (Option ℕ)) (k i : ℕ) → i < suc k
-    → is_owned (slice_index_or slots k Empty) ≡ false
-    → ((j : ℕ) → j < k → row_of (owned_rows slots rows) j ≡ None) → row_of (owned_rows slots rows) i ≡ None
-unowned_left slots rows k i low bare below = elim (eq-or-lt_of_le {n = i} {m = k} (omega (arith, low))) [
+pub unowned_left : (vars : List VarState) (rows : List (Option ℕ)) (k i : ℕ) → i < suc k
+    → is_owned (slice_index_or vars k Empty) ≡ false
+    → ((j : ℕ) → j < k → row_of (owned_rows vars rows) j ≡ None) → row_of (owned_rows vars rows) i ≡ None
+unowned_left vars rows k i low bare below = elim (eq-or-lt_of_le {n = i} {m = k} (omega (arith, low))) [
   | inl this ↦
-      subst (λ (j : ℕ). row_of (owned_rows slots rows) j ≡ None) (sym this)
-      (elim (row_of (owned_rows slots rows) k) as (λ o. row_of (owned_rows slots rows) k ≡ o → o ≡ None) [
+      subst (λ (j : ℕ). row_of (owned_rows vars rows) j ≡ None) (sym this)
+      (elim (row_of (owned_rows vars rows) k) as (λ o. row_of (owned_rows vars rows) k ≡ o → o ≡ None) [
         | None ↦ λ is. refl
         | Some x ↦ λ is.
-            let wrong : true ≡ false = sym ((owned_exactly slots rows k x).0 is).0 ∙ bare in absurd cc
+            let wrong : true ≡ false = sym ((owned_exactly vars rows k x).0 is).0 ∙ bare in absurd cc
       ] refl)
   | inr less ↦ below i less
 ]
@@ -120,25 +120,25 @@ settles_behind false = refl
 -- ---- what a stopped thread does
 
 -- the place of a thread that has these rows still to give up
-abbrev pub place_of : List Slot → List (Option ℕ) → Place
-place_of slots rows = stopping None (owned_rows slots rows ∷ [])
+abbrev pub place_of : List VarState → List (Option ℕ) → Place
+place_of vars rows = stopping None (owned_rows vars rows ∷ [])
 
-module _ (code : List Instr) (p : Place) (v : View) (slots : List Slot) where
+module _ (code : List Instr) (p : Place) (v : View) (vars : List VarState) where
   -- The thread has come from the place to where it has these rows still to give up. Only behind the last one it has to
   -- settle.
   abbrev pub Stops : List (Option ℕ) → View → Type 0
   Stops rows u =
-      WorksOn (not (holds_some (owned_rows slots rows ∷ []))) 0 [] code p [] v (place_of slots rows) u
+      WorksOn (not (holds_some (owned_rows vars rows ∷ []))) 0 [] code p [] v (place_of vars rows) u
 
   -- It gives up the first one.
-  first_given : (rows : List (Option ℕ)) (k x : ℕ) → row_of (owned_rows slots rows) k ≡ Some x
-      → ((i : ℕ) → i < k → row_of (owned_rows slots rows) i ≡ None) → (layout : Layout) (t used : ℕ)
-      → dispatch layout t used code (place_of slots rows)
+  first_given : (rows : List (Option ℕ)) (k x : ℕ) → row_of (owned_rows vars rows) k ≡ Some x
+      → ((i : ℕ) → i < k → row_of (owned_rows vars rows) i ≡ None) → (layout : Layout) (t used : ℕ)
+      → dispatch layout t used code (place_of vars rows)
       ≡ Does (ReleaseLoad x (ByVariable 0 k))
-      (settle_if (not (holds_some (owned_rows slots (slice_set rows k None) ∷ []))))
-      (always (place_of slots (slice_set rows k None)))
+      (settle_if (not (holds_some (owned_rows vars (slice_set rows k None) ∷ []))))
+      (always (place_of vars (slice_set rows k None)))
   first_given rows k x is below layout t used =
-      let left = owned_rows slots rows in
+      let left = owned_rows vars rows in
       let some = some_named left k x is in
       let after = λ (l : List (Option ℕ)). l ∷ [] in
       let does = λ (n : ℕ) (o : Option ℕ) (l : List (Option ℕ)).
@@ -148,43 +148,43 @@ module _ (code : List Instr) (p : Place) (v : View) (slots : List Slot) where
       ∙ (ap (λ (b : Bool). cond b (give_up_first left []) (give_up [])) some
       ∙ (ap (λ (n : ℕ). does n (row_of left n) (slice_set left n None)) (first_is left k x is below)
       ∙ (ap (λ (o : Option ℕ). does k o (slice_set left k None)) is
-      ∙ (ap (λ (l : List (Option ℕ)). does k (Some x) l) (owned_set slots rows k)
+      ∙ (ap (λ (l : List (Option ℕ)). does k (Some x) l) (owned_set vars rows k)
       ∙ ap (λ (ds : List Duty). Does (ReleaseLoad x (ByVariable 0 k)) ds
-      (always (place_of slots (slice_set rows k None))))
-      (settles_behind (holds_some (owned_rows slots (slice_set rows k None) ∷ [])))))))
+      (always (place_of vars (slice_set rows k None))))
+      (settles_behind (holds_some (owned_rows vars (slice_set rows k None) ∷ [])))))))
 
   -- A thread with something to give up has nothing to settle yet.
   nothing_later : (rows : List (Option ℕ)) (u : View) → Stops rows u → u.agenda ≡ []
-      → list_any is_some (owned_rows slots rows) ≡ true → Traces 0 [] code p [] v (place_of slots rows) [] u
+      → list_any is_some (owned_rows vars rows) ≡ true → Traces 0 [] code p [] v (place_of vars rows) [] u
   nothing_later rows u on none some =
-      let q = place_of slots rows in
+      let q = place_of vars rows in
       with_duties code p q [] (ready u.head []) [] v u (no_duty u.head)
       (with_agenda code p [] v q u [] none
       (subst (λ (b : Bool). WorksOn (not (b || false)) 0 [] code p [] v q u) some on))
 
   -- Another one is given up.
   pub stops_on : (rows after_rows : List (Option ℕ)) (k : ℕ) (u w : View) → Stops rows u → u.agenda ≡ []
-      → (loosens : Loosens k rows u after_rows w) → row_of (owned_rows slots rows) k ≡ Some loosens.row
-      → ((i : ℕ) → i < k → row_of (owned_rows slots rows) i ≡ None) → Stops after_rows w
+      → (loosens : Loosens k rows u after_rows w) → row_of (owned_rows vars rows) k ≡ Some loosens.row
+      → ((i : ℕ) → i < k → row_of (owned_rows vars rows) i ≡ None) → Stops after_rows w
   stops_on rows after_rows k u w on none loosens is below =
       let x = loosens.row in
       let word = loosens.word in
       let holding = ByVariable 0 k in
       let left = slice_set rows k None in
-      let q = place_of slots rows in
-      let next = place_of slots left in
-      let later = not (holds_some (owned_rows slots left ∷ [])) in
+      let q = place_of vars rows in
+      let next = place_of vars left in
+      let later = not (holds_some (owned_rows vars left ∷ [])) in
       let references = without_reference u.layout x u.references in
-      let so_far = nothing_later rows u on none (some_named (owned_rows slots rows) k x is) in
-      let stopping_is : q ≡ Stopping None (owned_rows slots rows ∷ []) =
-      ap (λ (b : Bool). cond (b || false) (Stopping None (owned_rows slots rows ∷ [])) (Idle 0))
-      (some_named (owned_rows slots rows) k x is) in
+      let so_far = nothing_later rows u on none (some_named (owned_rows vars rows) k x is) in
+      let stopping_is : q ≡ Stopping None (owned_rows vars rows ∷ []) =
+      ap (λ (b : Bool). cond (b || false) (Stopping None (owned_rows vars rows ∷ [])) (Idle 0))
+      (some_named (owned_rows vars rows) k x is) in
       let first = λ (n : ℕ).
-      traces_behind code p q next [] [] _ v u (done (releasing u x) n) so_far
-      (traces_then code q q next [] [] _ u (releasing u x) (done (releasing u x) n)
+      traces_behind code p q next [] [] _ v u (view_after (releasing u x) n) so_far
+      (traces_then code q q next [] [] _ u (releasing u x) (view_after (releasing u x) n)
       (turns_to code q [] (ReleaseLoad x AsCaller ∷ []) u references u.in_slot none)
       (subst (λ (r : Place). Traces (begun_at r) [] code q [] (releasing u x) next
-      (next_duties (releasing u x) (ReleaseLoad x holding) (settle_if later) n) (done (releasing u x) n)) stopping_is
+      (next_duties (releasing u x) (ReleaseLoad x holding) (settle_if later) n) (view_after (releasing u x) n)) stopping_is
       (starts_with code q (releasing u x) (ReleaseLoad x holding) (ReleaseLoad x AsCaller) (settle_if later) [] n
       (load_same x holding u n) (always next) (first_given rows k x is below u.layout u.thread u.used) refl))) in
       subst (λ (rs : List (Option ℕ)). Stops rs w) (sym loosens.emptied)
@@ -193,12 +193,12 @@ module _ (code : List Instr) (p : Place) (v : View) (slots : List Slot) where
 
   -- With nothing left to give up, the hand settles, and its thread is done with its calls.
   pub stops_last : (rows : List (Option ℕ)) (cs : List HostCall) (u w : View) → Stops rows u
-      → list_any is_some (owned_rows slots rows) ≡ false → u.agenda ≡ [] → HasWorked (to_settle [] u) cs [] w
+      → list_any is_some (owned_rows vars rows) ≡ false → u.agenda ≡ [] → HasWorked (to_settle [] u) cs [] w
       → w.head ≡ 0 → Traces 0 cs code p [] v (Idle 0) [] w
   stops_last rows cs u w on bare none settled empty =
-      let q = place_of slots rows in
+      let q = place_of vars rows in
       let ends : q ≡ Idle 0 =
-      ap (λ (b : Bool). cond (b || false) (Stopping None (owned_rows slots rows ∷ [])) (Idle 0)) bare in
+      ap (λ (b : Bool). cond (b || false) (Stopping None (owned_rows vars rows ∷ [])) (Idle 0)) bare in
       subst (λ (r : Place). Traces 0 cs code p [] v r [] w) ends
       (worked_off code p [] v q w (settled.agenda ∙ no_duty w.head) empty
       (works_on code p [] v q [] (to_settle [] u) cs w
@@ -206,11 +206,11 @@ module _ (code : List Instr) (p : Place) (v : View) (slots : List Slot) where
       (subst (λ (b : Bool). WorksOn (not (b || false)) 0 [] code p [] v q u) bare on)) settled.works))
 
 -- A thread that has just stopped.
-pub stops_first : (code : List Instr) (v : View) (slots : List Slot) (rows : List (Option ℕ)) → v.agenda ≡ []
-    → v.head ≡ 0 → Stops code (place_of slots rows) v slots rows v
-stops_first code v slots rows none empty =
-    let q = place_of slots rows in
-    let later = not (holds_some (owned_rows slots rows ∷ [])) in
+pub stops_first : (code : List Instr) (v : View) (vars : List VarState) (rows : List (Option ℕ)) → v.agenda ≡ []
+    → v.head ≡ 0 → Stops code (place_of vars rows) v vars rows v
+stops_first code v vars rows none empty =
+    let q = place_of vars rows in
+    let later = not (holds_some (owned_rows vars rows ∷ [])) in
     let nothing : [] ≡ behind_of v.head v.agenda (settle_if later) =
     sym (ap (λ (ds : List Duty). behind_of v.head ds (settle_if later)) none
     ∙ ap (λ (head : ℕ). ready head (settle_if later)) empty ∙ nothing_behind later) in

@@ -17,7 +17,7 @@ use Rattle.brc_table.specs.declared.view.View.{View}
 use Rattle.brc_table.specs.Swaps.{swapped}
 use Rattle.brc_table.specs.Views.{open_work}
 use Rattle.brc_list.specs.Calls.{row_in}
-use Rattle.brc_work.specs.Traces.{Makes, Begun, Starts, Traces, MakesTrace, thread_with, events_of, begun_at}
+use Rattle.brc_work.specs.Traces.{Makes, Refl, Dispatches, Traces, MakesTrace, thread_with, events_of, begun_at}
 use Rattle.brc_work.specs.Performs.{MakesSwap, MakesRelease}
 use Rattle.brc_work.proofs.Traces.Joining.{only_these, traces_then, with_duties}
 use Rattle.brc_work.proofs.Traces.Duties.{comes_next}
@@ -52,7 +52,7 @@ swaps code place next row cell item found holding v none is =
       makes = subst (λ (a : Actor).
           Makes v.layout v.thread code place (thread_with v []) (begun_at place) [] events next a)
           (λ i. record (thread_with v (swap_next v.head found)) { aside = aside i })
-          (only_these (Starts 0 [] [] place (thread_with v []) d (Settle ∷ []) (always next) found Begun refl is refl));
+          (only_these (Dispatches 0 [] [] place (thread_with v []) d (Settle ∷ []) (always next) found Refl refl is refl));
       layout = refl;
       thread = refl;
     }

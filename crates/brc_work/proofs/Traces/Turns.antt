@@ -5,11 +5,11 @@ use Rattle.std.proofs.lemmas.Bool.{lt-ltb, le-ltb}
 use Rattle.brc_lang.specs.Limits.{instruction_limit}
 use Rattle.brc_lang.specs.declared.module.Instr.{Instr}
 use Rattle.brc_lang.specs.declared.module.Instr.TheVariants as instructions
-use Rattle.brc_model.specs.Actions.{Silent, turns_at, turned}
+use Rattle.brc_model.specs.Actions.{Silent, turns_at, with_turn}
 use Rattle.brc_model.specs.declared.actor.Context.{Context}
 use Rattle.brc_model.specs.declared.actor.Place.{Place}
 use Rattle.brc_model.specs.declared.actor.Place.TheVariants.{InCall}
-use Rattle.brc_model.specs.declared.slot.Exit.TheVariants.{Success, Fault}
+use Rattle.brc_model.specs.declared.state.Exit.TheVariants.{Success, Fault}
 use Rattle.brc_table.specs.declared.view.View.{View}
 use Rattle.brc_work.specs.Traces.{MakesTrace}
 use Rattle.brc_work.specs.Performs.{IsBefore, Performs, CountsTurn}
@@ -25,9 +25,9 @@ makes_goto to rows v = λ code place context at before.
 counted : (b : Bool) (at to times : ℕ) (context : Context) (rows : List (Option ℕ)) (v : View)
     → nat_lt (turns_at context at) times ≡ b → (code : List Instr) (place : Place)
     → IsBefore (instructions.Again to times) code place context at rows
-    → MakesTrace 1 [] code place v (cond b (InCall (turned context at) to rows) (InCall context (at + 1) rows)) v
+    → MakesTrace 1 [] code place v (cond b (InCall (with_turn context at) to rows) (InCall context (at + 1) rows)) v
 counted b at to times context rows v answer code place before =
-    let back = InCall (turned context at) to rows in
+    let back = InCall (with_turn context at) to rows in
     let past = InCall context (at + 1) rows in
     begins_one before (goes_silently code place v (cond b back past) []
     (begins (instructions.Again to times) code place context at rows before v.layout v.thread v.used

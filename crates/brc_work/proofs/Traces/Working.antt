@@ -14,9 +14,9 @@ use Rattle.brc_model.specs.declared.duty.Duty.TheVariants.{RetainLoad, RetainSto
 use Rattle.brc_model.specs.declared.duty.Reason.TheVariants.{Own, Handed}
 use Rattle.brc_model.specs.declared.layout.Layout.{Layout}
 use Rattle.brc_table.specs.declared.view.View.{View}
-use Rattle.brc_table.specs.Views.{did, done, slot_emptied, slot_emptied_by}
-use Rattle.brc_free.specs.Works.{Works, Begun as Unchanged, Next, closes_by, to_settle}
-use Rattle.brc_work.specs.Traces.{Begun, Continues, Closes, Traces, thread_with, is_close}
+use Rattle.brc_table.specs.Views.{view_by, view_after, slot_emptied, slot_emptied_by}
+use Rattle.brc_free.specs.Works.{Works, Refl as Unchanged, Next, closes_by, to_settle}
+use Rattle.brc_work.specs.Traces.{Refl, Continues, Closes, Traces, thread_with, is_close}
 use Rattle.brc_work.proofs.Traces.Joining.{quietly, calls_on, traces_then, traces_behind, with_duties}
 use Rattle.brc_work.proofs.Traces.Duties.{comes_next, IsSame, next_duties, continues_with, does_nothing, does_first}
 
@@ -191,7 +191,7 @@ takes_slot code q u x failed rest =
     let taken : Traces 0 [] code q (TakeSlot x ∷ rest) u q (ready u.head (CloseResource x ∷ rest)) u = record {
       events = [];
       trace = sym (append-nil u.trace);
-      makes = Continues 0 [] [] q (thread_with u (TakeSlot x ∷ rest)) (TakeSlot x) rest 1 Begun refl refl;
+      makes = Continues 0 [] [] q (thread_with u (TakeSlot x ∷ rest)) (TakeSlot x) rest 1 Refl refl refl;
       layout = refl;
       thread = refl;
     } in
@@ -200,7 +200,7 @@ takes_slot code q u x failed rest =
     record {
       events = [];
       trace = sym (append-nil u.trace);
-      makes = Closes 0 [] [] q (thread_with u (CloseResource x ∷ rest)) x rest failed Begun refl;
+      makes = Closes 0 [] [] q (thread_with u (CloseResource x ∷ rest)) x rest failed Refl refl;
       layout = refl;
       thread = refl;
     } in
@@ -221,10 +221,10 @@ module _ {later : Bool} {n : ℕ} (code : List Instr) (p : Place) (ds : List Dut
       → (continuation u.layout u.thread (is_running u.status) u.head e found
       ≡ continuation u.layout u.thread (is_running u.status) u.head d found)
       → is_off_slots e ≡ true → takes_out e ≡ false → are_off_slots tail ≡ true
-      → Traces n cs code p ds v q (next_duties u d (tail ++ settle_if later) found) (did u (e ∷ tail) found)
-      → WorksOn later n cs code p ds v q (did u (e ∷ tail) found)
+      → Traces n cs code p ds v q (next_duties u d (tail ++ settle_if later) found) (view_by u (e ∷ tail) found)
+      → WorksOn later n cs code p ds v q (view_by u (e ∷ tail) found)
   goes_on u d e tail found same next off other behind one =
-      let after = did u (e ∷ tail) found in
+      let after = view_by u (e ∷ tail) found in
       let more = continuation u.layout u.thread (is_running u.status) u.head e found in
       let rest = settle_if later in
       let head = new_head u.head e found in
@@ -243,12 +243,12 @@ module _ {later : Bool} {n : ℕ} (code : List Instr) (p : Place) (ds : List Dut
   continues_on : {cs : List HostCall} (u : View) (d : Duty) (tail : List Duty) (found : ℕ)
       → is_off_slots d ≡ true
       → takes_out d ≡ false → are_off_slots tail ≡ true → Traces n cs code p ds v q (d ∷ (tail ++ settle_if later)) u
-      → WorksOn later n cs code p ds v q (did u (d ∷ tail) found)
+      → WorksOn later n cs code p ds v q (view_by u (d ∷ tail) found)
   continues_on u d tail found off other behind one =
       let rest = tail ++ settle_if later in
       let same = on_word u d found off other in
       goes_on u d d tail found same refl off other behind
-      (traces_behind code p q q ds (d ∷ rest) (next_duties u d rest found) v u (did u (d ∷ tail) found) one
+      (traces_behind code p q q ds (d ∷ rest) (next_duties u d rest found) v u (view_by u (d ∷ tail) found) one
       (continues_with code q u d d rest tail found same (no_close d off)))
 
   -- the thread's duties, where the hand's are these
@@ -261,12 +261,12 @@ module _ {later : Bool} {n : ℕ} (code : List Instr) (p : Place) (ds : List Dut
 
   plain_next : {cs : List HostCall} (u : View) (found : ℕ) (d : Duty) (tail : List Duty) → u.agenda ≡ d ∷ tail
       → takes_out d ≡ false → WorksOn later n cs code p ds v q u → WorksOn later n cs code p ds v q
-      (done (slot_emptied u) found)
+      (view_after (slot_emptied u) found)
   plain_next {cs} u found d tail is other on =
       let off : are_off_slots (d ∷ tail) ≡ true = ap are_off_slots (sym is) ∙ on.off in
       let same : slot_emptied u ≡ u = ap (λ (es : List Duty). slot_emptied_by es u) is ∙ unslotted u d tail other in
       subst (WorksOn later n cs code p ds v q)
-      (sym (ap (λ (w : View). done w found) same ∙ does_first u found d tail is))
+      (sym (ap (λ (w : View). view_after w found) same ∙ does_first u found d tail is))
       (continues_on u d tail found (first_off d tail off) other (behind_off d tail off)
       (with_agenda u (d ∷ tail) is on))
 
@@ -276,23 +276,23 @@ module _ {later : Bool} {n : ℕ} (code : List Instr) (p : Place) (ds : List Dut
 
   next_by : (cs : List HostCall) (u : View) (found : ℕ) (failed : Bool) (es : List Duty) → u.agenda ≡ es
       → WorksOn later n cs code p ds v q u → WorksOn later n (cs ++ closes_by es failed) code p ds v q
-      (done (slot_emptied u) found)
+      (view_after (slot_emptied u) found)
   next_by cs u found failed [] is on =
-      with_no_call cs (done (slot_emptied u) found)
+      with_no_call cs (view_after (slot_emptied u) found)
       (subst (WorksOn later n cs code p ds v q)
-      (sym (ap (λ (w : View). done w found) (ap (λ (es : List Duty). slot_emptied_by es u) is)
+      (sym (ap (λ (w : View). view_after w found) (ap (λ (es : List Duty). slot_emptied_by es u) is)
       ∙ does_nothing u found is))
       on)
   next_by cs u found failed (TakeSlot x ∷ tail) is on =
       let off : are_off_slots (TakeSlot x ∷ tail) ≡ true = ap are_off_slots (sym is) ∙ on.off in
       let rest = tail ++ settle_if later in
       subst (WorksOn later n (cs ++ Close failed ∷ []) code p ds v q)
-      (sym (ap (λ (es : List Duty). done (slot_emptied_by es u) found) is))
+      (sym (ap (λ (es : List Duty). view_after (slot_emptied_by es u) found) is))
       (continues_on u (SettleEnd x) tail found refl refl (behind_off (TakeSlot x) tail off)
       (calls_on cs (Close failed ∷ []) code p q q ds (TakeSlot x ∷ rest) (SettleEnd x ∷ rest) v u u
       (with_agenda u (TakeSlot x ∷ tail) is on) (takes_slot code q u x failed rest)))
   next_by cs u found failed (d ∷ tail) is on =
-      with_no_call cs (done (slot_emptied u) found) (plain_next u found d tail is refl on)
+      with_no_call cs (view_after (slot_emptied u) found) (plain_next u found d tail is refl on)
 
   -- A hand that does duty after duty,
   pub works_on : (cs : List HostCall) (u : View) (fs : List HostCall) (w : View) → WorksOn later n cs code p ds v q u
@@ -300,7 +300,7 @@ module _ {later : Bool} {n : ℕ} (code : List Instr) (p : Place) (ds : List Dut
       → WorksOn later n (cs ++ fs) code p ds v q w
   works_on cs u fs w on Unchanged = with_no_call cs u on
   works_on cs u fs w on (Next ks x found failed other) =
-      subst (λ (hs : List HostCall). WorksOn later n hs code p ds v q (done (slot_emptied x) found))
+      subst (λ (hs : List HostCall). WorksOn later n hs code p ds v q (view_after (slot_emptied x) found))
       (append_assoc cs ks (closes_by x.agenda failed))
       (next_by (cs ++ ks) x found failed x.agenda refl (works_on cs u ks x on other))
 

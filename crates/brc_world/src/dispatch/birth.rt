@@ -5,7 +5,7 @@ ghost use Rattle.brc_model.specs.Actions.{birth_action};
 ghost use Rattle.brc_model.specs.Layout.{row_at};
 ghost use Rattle.brc_model.specs.Machine.{has_room};
 ghost use Rattle.brc_world.specs.Actors.{context_in};
-ghost use Rattle.brc_world.specs.Starts.{CanBegin, Begins};
+ghost use Rattle.brc_world.specs.Starts.{CanDispatch, HasDispatched};
 
 use crate::dispatch::Start;
 use crate::thread::Thread;
@@ -25,8 +25,8 @@ pub(super) fn birth(
     thread: &mut Thread,
     left: u32,
 ) -> Start
-    requires { CanBegin thread.old }
-    ensures { Begins thread.old (birth_action layout number thread.old.used (context_in left thread.old)
+    requires { CanDispatch thread.old }
+    ensures { HasDispatched thread.old (birth_action layout number thread.old.used (context_in left thread.old)
         thread.old.at thread.old.variables to word otherwise) result thread.new }
 {
     let next = thread.at + 1;

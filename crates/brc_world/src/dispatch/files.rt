@@ -8,7 +8,7 @@ ghost use Rattle.brc_model.specs.declared.layout.Layout.{Layout};
 ghost use Rattle.brc_model.specs.Actions.{Silent, grant_action, granted_birth, lend_action};
 ghost use Rattle.brc_model.specs.Machine.{has_room};
 ghost use Rattle.brc_world.specs.Actors.{context_in};
-ghost use Rattle.brc_world.specs.Starts.{action_at, action_inside, CanBegin, Begins};
+ghost use Rattle.brc_world.specs.Starts.{action_at, action_inside, CanDispatch, HasDispatched};
 
 use crate::dispatch::Start;
 use crate::host_call::HostCall;
@@ -30,8 +30,8 @@ pub(super) fn ask_host(
     thread: &mut Thread,
     left: u32,
 ) -> Start
-    requires { CanBegin thread.old }
-    ensures { Begins thread.old (grant_action layout number thread.old.used (context_in left thread.old)
+    requires { CanDispatch thread.old }
+    ensures { HasDispatched thread.old (grant_action layout number thread.old.used (context_in left thread.old)
         thread.old.at thread.old.variables to otherwise) result thread.new }
 {
     if !has_room(layout, number, thread.used) {
@@ -52,8 +52,8 @@ pub(super) fn read(
     thread: &mut Thread,
     left: u32,
 ) -> Start
-    requires { CanBegin thread.old }
-    ensures { (most : ℕ) → Begins thread.old (action_at layout number left
+    requires { CanDispatch thread.old }
+    ensures { (most : ℕ) → HasDispatched thread.old (action_at layout number left
         (Some (instructions.Read to file most otherwise)) thread.old) result thread.new }
 {
     if has_room(layout, number, thread.used) {
@@ -66,8 +66,8 @@ pub(super) fn read(
 /// Ends an instruction for whose object the thread has no row left: the variable is empty.
 #[inline(always)]
 fn miss(to: Variable, otherwise: u8, thread: &mut Thread, left: u32) -> Start
-    requires { CanBegin thread.old }
-    ensures { Begins thread.old (Silent [] (InCall (context_in left thread.old) otherwise
+    requires { CanDispatch thread.old }
+    ensures { HasDispatched thread.old (Silent [] (InCall (context_in left thread.old) otherwise
         (slice_set thread.old.variables to None))) result thread.new }
 {
     thread.set(to, None);
@@ -78,8 +78,8 @@ fn miss(to: Variable, otherwise: u8, thread: &mut Thread, left: u32) -> Start
 /// Begins `write`: the load of the number's kind word, which has its value.
 #[inline(always)]
 pub(super) fn write(number: Variable, thread: &mut Thread, left: u32) -> Start
-    requires { CanBegin thread.old }
-    ensures { (layout : Layout) (t file otherwise : ℕ) → Begins thread.old (action_at layout t left
+    requires { CanDispatch thread.old }
+    ensures { (layout : Layout) (t file otherwise : ℕ) → HasDispatched thread.old (action_at layout t left
         (Some (instructions.Write file number otherwise)) thread.old) result thread.new }
 {
     match thread.row_of(number) {
@@ -95,8 +95,8 @@ pub(super) fn write(number: Variable, thread: &mut Thread, left: u32) -> Start
 /// Begins the lending of the file's resource to a host call.
 #[inline(always)]
 fn lend(file: Variable, thread: &mut Thread, left: u32) -> Start
-    requires { CanBegin thread.old }
-    ensures { Begins thread.old (lend_action (context_in left thread.old) thread.old.at thread.old.variables file)
+    requires { CanDispatch thread.old }
+    ensures { HasDispatched thread.old (lend_action (context_in left thread.old) thread.old.at thread.old.variables file)
         result thread.new }
 {
     match thread.row_of(file) {
@@ -112,8 +112,8 @@ fn lend(file: Variable, thread: &mut Thread, left: u32) -> Start
 /// Goes on with `write` once the number is loaded.
 #[inline(always)]
 pub(super) fn lend_to_write(instr: Instr, thread: &mut Thread) -> Start
-    requires { CanBegin thread.old }
-    ensures { (layout : Layout) (t : ℕ) → Begins thread.old (action_inside layout t stages.Loaded (Some instr)
+    requires { CanDispatch thread.old }
+    ensures { (layout : Layout) (t : ℕ) → HasDispatched thread.old (action_inside layout t stages.Loaded (Some instr)
         thread.old) result thread.new }
 {
     let left = thread.left;
@@ -126,8 +126,8 @@ pub(super) fn lend_to_write(instr: Instr, thread: &mut Thread) -> Start
 /// Goes on with `read` or `write` once the resource is lent: the host call, with nobody else at the resource.
 #[inline(always)]
 pub(super) fn use_lent(instr: Instr, thread: &mut Thread) -> Start
-    requires { CanBegin thread.old }
-    ensures { (layout : Layout) (t : ℕ) → Begins thread.old (action_inside layout t stages.Lent (Some instr)
+    requires { CanDispatch thread.old }
+    ensures { (layout : Layout) (t : ℕ) → HasDispatched thread.old (action_inside layout t stages.Lent (Some instr)
         thread.old) result thread.new }
 {
     match instr {
@@ -140,8 +140,8 @@ pub(super) fn use_lent(instr: Instr, thread: &mut Thread) -> Start
 /// (`write_keeps_the_resource`).
 #[inline(always)]
 pub(super) fn put_back(instr: Instr, exit: Exit, thread: &mut Thread) -> Start
-    requires { CanBegin thread.old }
-    ensures { (layout : Layout) (t : ℕ) → Begins thread.old (action_inside layout t (stages.Called exit) (Some instr)
+    requires { CanDispatch thread.old }
+    ensures { (layout : Layout) (t : ℕ) → HasDispatched thread.old (action_inside layout t (stages.Called exit) (Some instr)
         thread.old) result thread.new }
 {
     let next = thread.at + 1;
@@ -187,8 +187,8 @@ pub(super) fn put_back(instr: Instr, exit: Exit, thread: &mut Thread) -> Start
 /// (`read_without_birth`).
 #[inline(always)]
 pub(super) fn make_granted(instr: Instr, layout: Layout, number: u8, thread: &mut Thread) -> Start
-    requires { CanBegin thread.old }
-    ensures { Begins thread.old (action_inside layout number stages.Granted (Some instr) thread.old) result
+    requires { CanDispatch thread.old }
+    ensures { HasDispatched thread.old (action_inside layout number stages.Granted (Some instr) thread.old) result
         thread.new }
 {
     match instr {
@@ -202,8 +202,8 @@ pub(super) fn make_granted(instr: Instr, layout: Layout, number: u8, thread: &mu
 /// Begins the birth of an object of the kind word in the variable. The thread has a row left for it: it has seen that
 /// before it called the host.
 fn give_birth(to: Variable, word: u64, layout: Layout, number: u8, thread: &mut Thread) -> Start
-    requires { CanBegin thread.old }
-    ensures { Begins thread.old (granted_birth layout number thread.old.used
+    requires { CanDispatch thread.old }
+    ensures { HasDispatched thread.old (granted_birth layout number thread.old.used
         (context_in thread.old.left thread.old) thread.old.at thread.old.variables to word) result thread.new }
 {
     let next = thread.at + 1;

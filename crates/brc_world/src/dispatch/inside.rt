@@ -1,7 +1,7 @@
 //! The dispatch inside an instruction that takes several steps, by how far the thread is in it.
 
 ghost use Rattle.std.specs.Prelude.{Some};
-ghost use Rattle.brc_world.specs.Starts.{action_inside, CanBegin, Begins};
+ghost use Rattle.brc_world.specs.Starts.{action_inside, CanDispatch, HasDispatched};
 
 use crate::dispatch::Start;
 use crate::dispatch::files::{lend_to_write, make_granted, put_back, use_lent};
@@ -19,8 +19,8 @@ pub(super) fn go_on_inside(
     number: u8,
     thread: &mut Thread,
 ) -> Start
-    requires { CanBegin thread.old }
-    ensures { Begins thread.old (action_inside layout number stage (Some instr) thread.old) result thread.new }
+    requires { CanDispatch thread.old }
+    ensures { HasDispatched thread.old (action_inside layout number stage (Some instr) thread.old) result thread.new }
 {
     match stage {
         Stage::InRange => use_cell(instr, thread),

@@ -12,7 +12,7 @@ ghost use Rattle.brc_model.specs.Threads.{row_of};
 ghost use Rattle.brc_world.specs.declared.question.Question.TheVariants as questions;
 ghost use Rattle.brc_world.specs.Actors.{actor_of, context_in, with_agenda};
 ghost use Rattle.brc_world.specs.Questions.{place_answered};
-ghost use Rattle.brc_world.specs.Starts.{uses_cell, action_at, action_inside, CanBegin, Begins};
+ghost use Rattle.brc_world.specs.Starts.{uses_cell, action_at, action_inside, CanDispatch, HasDispatched};
 
 use crate::dispatch::Start;
 use crate::dispatch::references::release;
@@ -24,9 +24,9 @@ use brc_model::{Duty, Holding, Stage};
 /// Begins an instruction that uses a cell.
 #[inline(always)]
 pub(super) fn ask_for_cell(instr: Instr, thread: &mut Thread, left: u32) -> Start
-    requires can { CanBegin thread.old }
+    requires can { CanDispatch thread.old }
     requires item { uses_cell instr ≡ true }
-    ensures { (layout : Layout) (t : ℕ) → Begins thread.old (action_at layout t left (Some instr) thread.old) result
+    ensures { (layout : Layout) (t : ℕ) → HasDispatched thread.old (action_at layout t left (Some instr) thread.old) result
         thread.new }
 {
     match instr {
@@ -69,8 +69,8 @@ pub(super) fn ask_for_cell(instr: Instr, thread: &mut Thread, left: u32) -> Star
 /// (`index_at_the_end_in_range`).
 #[inline(always)]
 fn ask_range(list: Variable, index: u8, outside: Outside, thread: &mut Thread, left: u32) -> Start
-    requires { CanBegin thread.old }
-    ensures { Begins thread.old (with_row (row_of thread.old.variables list) (λ row. Does (KindLoad row) []
+    requires { CanDispatch thread.old }
+    ensures { HasDispatched thread.old (with_row (row_of thread.old.variables list) (λ row. Does (KindLoad row) []
         (λ found. place_answered (questions.Range index outside) found (context_in left thread.old) thread.old.at
         thread.old.variables)))
         result thread.new }
@@ -90,8 +90,8 @@ fn ask_range(list: Variable, index: u8, outside: Outside, thread: &mut Thread, l
 /// Goes on with an instruction whose list has the cell.
 #[inline(always)]
 pub(super) fn use_cell(instr: Instr, thread: &mut Thread) -> Start
-    requires { CanBegin thread.old }
-    ensures { (layout : Layout) (t : ℕ) → Begins thread.old (action_inside layout t stages.InRange (Some instr)
+    requires { CanDispatch thread.old }
+    ensures { (layout : Layout) (t : ℕ) → HasDispatched thread.old (action_inside layout t stages.InRange (Some instr)
         thread.old) result thread.new }
 {
     match instr {
@@ -126,8 +126,8 @@ pub(super) fn use_cell(instr: Instr, thread: &mut Thread) -> Start
 /// Goes on with `borrow`: the load of the cell. (C API manual, `PyList_GetItem`: the list keeps its reference, and the
 /// thread makes none.)
 fn borrow(to: Variable, list: Variable, index: u8, otherwise: u8, thread: &mut Thread) -> Start
-    requires { CanBegin thread.old }
-    ensures { (layout : Layout) (t : ℕ) → Begins thread.old (action_inside layout t stages.InRange
+    requires { CanDispatch thread.old }
+    ensures { (layout : Layout) (t : ℕ) → HasDispatched thread.old (action_inside layout t stages.InRange
         (Some (instructions.Borrow to list index otherwise)) thread.old) result thread.new }
 {
     let next = thread.at + 1;
@@ -142,8 +142,8 @@ fn borrow(to: Variable, list: Variable, index: u8, otherwise: u8, thread: &mut T
 
 /// Goes on with `fetch`: the load of the cell.
 fn fetch(to: Variable, list: Variable, index: u8, otherwise: u8, thread: &mut Thread) -> Start
-    requires { CanBegin thread.old }
-    ensures { (layout : Layout) (t : ℕ) → Begins thread.old (action_inside layout t stages.InRange
+    requires { CanDispatch thread.old }
+    ensures { (layout : Layout) (t : ℕ) → HasDispatched thread.old (action_inside layout t stages.InRange
         (Some (instructions.Fetch to list index otherwise)) thread.old) result thread.new }
 {
     match thread.row_of(list) {
@@ -169,8 +169,8 @@ fn load_cell(row: u32, index: u8, question: Question) -> Start
 /// reference.) The list is locked until then, so the item lives (`fetch_without_retain`).
 #[inline(always)]
 pub(super) fn retain_found(instr: Instr, item: u32, thread: &mut Thread) -> Start
-    requires { CanBegin thread.old }
-    ensures { (layout : Layout) (t : ℕ) → Begins thread.old (action_inside layout t (stages.Found item) (Some instr)
+    requires { CanDispatch thread.old }
+    ensures { (layout : Layout) (t : ℕ) → HasDispatched thread.old (action_inside layout t (stages.Found item) (Some instr)
         thread.old) result thread.new }
 {
     let next = thread.at + 1;
@@ -194,8 +194,8 @@ pub(super) fn retain_found(instr: Instr, item: u32, thread: &mut Thread) -> Star
 /// Ends `set`: the list takes the variable's reference over, and what the cell held is released. (C API manual,
 /// `PyList_SetItem`.)
 fn set(list: Variable, index: u8, from: Variable, otherwise: u8, thread: &mut Thread) -> Start
-    requires { CanBegin thread.old }
-    ensures { (layout : Layout) (t : ℕ) → Begins thread.old (action_inside layout t stages.InRange
+    requires { CanDispatch thread.old }
+    ensures { (layout : Layout) (t : ℕ) → HasDispatched thread.old (action_inside layout t stages.InRange
         (Some (instructions.Set list index from otherwise)) thread.old) result thread.new }
 {
     let next = thread.at + 1;
@@ -223,8 +223,8 @@ fn set(list: Variable, index: u8, from: Variable, otherwise: u8, thread: &mut Th
 /// reference is stolen on an error too.)
 #[inline(always)]
 pub(super) fn give_up_item(instr: Instr, thread: &mut Thread) -> Start
-    requires { CanBegin thread.old }
-    ensures { (layout : Layout) (t : ℕ) → Begins thread.old (action_inside layout t stages.OutOfRange (Some instr)
+    requires { CanDispatch thread.old }
+    ensures { (layout : Layout) (t : ℕ) → HasDispatched thread.old (action_inside layout t stages.OutOfRange (Some instr)
         thread.old) result thread.new }
 {
     let left = thread.left;
@@ -248,8 +248,8 @@ pub(super) fn give_up_item(instr: Instr, thread: &mut Thread) -> Start
 /// Goes on with `put`: the retain of what is to be stored. The variable keeps its reference, and the list gets one of
 /// its own (`put_without_retain`).
 fn retain_to_put(from: Variable, thread: &mut Thread) -> Start
-    requires { CanBegin thread.old }
-    ensures { (layout : Layout) (t list index otherwise : ℕ) → Begins thread.old (action_inside layout t
+    requires { CanDispatch thread.old }
+    ensures { (layout : Layout) (t list index otherwise : ℕ) → HasDispatched thread.old (action_inside layout t
         stages.InRange (Some (instructions.Put list index from otherwise)) thread.old) result thread.new }
 {
     match thread.row_of(from) {
@@ -267,8 +267,8 @@ fn retain_to_put(from: Variable, thread: &mut Thread) -> Start
 /// Ends `put`: the list takes the new reference over, and what the cell held is released.
 #[inline(always)]
 pub(super) fn put_retained(instr: Instr, thread: &mut Thread) -> Start
-    requires { CanBegin thread.old }
-    ensures { (layout : Layout) (t : ℕ) → Begins thread.old (action_inside layout t stages.Retained (Some instr)
+    requires { CanDispatch thread.old }
+    ensures { (layout : Layout) (t : ℕ) → HasDispatched thread.old (action_inside layout t stages.Retained (Some instr)
         thread.old) result thread.new }
 {
     let next = thread.at + 1;

@@ -3,7 +3,7 @@
 ghost use Rattle.std.specs.Prelude.{ℕ, Some};
 ghost use Rattle.brc_lang.specs.declared.module.Instr.TheVariants as instructions;
 ghost use Rattle.brc_model.specs.declared.layout.Layout.{Layout};
-ghost use Rattle.brc_world.specs.Starts.{action_at, CanBegin, Begins};
+ghost use Rattle.brc_world.specs.Starts.{action_at, CanDispatch, HasDispatched};
 
 use crate::dispatch::Start;
 use crate::question::Question;
@@ -20,8 +20,8 @@ pub(super) fn ask_kind(
     thread: &mut Thread,
     left: u32,
 ) -> Start
-    requires { CanBegin thread.old }
-    ensures { (layout : Layout) (t : ℕ) → Begins thread.old (action_at layout t left
+    requires { CanDispatch thread.old }
+    ensures { (layout : Layout) (t : ℕ) → HasDispatched thread.old (action_at layout t left
         (Some (instructions.As from kind otherwise)) thread.old) result thread.new }
 {
     let next = thread.at + 1;

@@ -3,7 +3,7 @@
 ghost use Rattle.std.specs.Prelude.{ℕ, Some};
 ghost use Rattle.brc_lang.specs.declared.module.Instr.TheVariants as instructions;
 ghost use Rattle.brc_model.specs.declared.layout.Layout.{Layout};
-ghost use Rattle.brc_world.specs.Starts.{action_at, CanBegin, Begins};
+ghost use Rattle.brc_world.specs.Starts.{action_at, CanDispatch, HasDispatched};
 
 use crate::dispatch::Start;
 use crate::thread::Thread;
@@ -15,8 +15,8 @@ use brc_model::Duty;
 /// same step again. A call that begins with a `lock` hasn't begun until then (`lost_lock_begins_the_call`).
 #[inline(always)]
 pub(super) fn lock(object: Variable, thread: &mut Thread, left: u32) -> Start
-    requires { CanBegin thread.old }
-    ensures { (layout : Layout) (t : ℕ) → Begins thread.old (action_at layout t left
+    requires { CanDispatch thread.old }
+    ensures { (layout : Layout) (t : ℕ) → HasDispatched thread.old (action_at layout t left
         (Some (instructions.Lock object)) thread.old) result thread.new }
 {
     let next = thread.at + 1;
@@ -29,8 +29,8 @@ pub(super) fn lock(object: Variable, thread: &mut Thread, left: u32) -> Start
 /// Begins `unlock`: the store that frees the object's gate.
 #[inline(always)]
 pub(super) fn unlock(object: Variable, thread: &mut Thread, left: u32) -> Start
-    requires { CanBegin thread.old }
-    ensures { (layout : Layout) (t : ℕ) → Begins thread.old (action_at layout t left
+    requires { CanDispatch thread.old }
+    ensures { (layout : Layout) (t : ℕ) → HasDispatched thread.old (action_at layout t left
         (Some (instructions.Unlock object)) thread.old) result thread.new }
 {
     let next = thread.at + 1;

@@ -6,7 +6,7 @@ ghost use Rattle.brc_model.specs.declared.duty.Duty.TheVariants.{ReleaseLoad, Se
 ghost use Rattle.brc_model.specs.declared.duty.Holding.TheVariants.{ByVariable};
 ghost use Rattle.brc_model.specs.declared.layout.Layout.{Layout};
 ghost use Rattle.brc_world.specs.Actors.{actor_of, with_agenda};
-ghost use Rattle.brc_world.specs.Starts.{action_at, CanBegin, Begins};
+ghost use Rattle.brc_world.specs.Starts.{action_at, CanDispatch, HasDispatched};
 
 use crate::dispatch::Start;
 use crate::thread::Thread;
@@ -17,8 +17,8 @@ use brc_model::{Duty, Holding};
 /// Begins `none`: the variable names the object none.
 #[inline(always)]
 pub(super) fn name_none(to: Variable, thread: &mut Thread, left: u32) -> Start
-    requires { CanBegin thread.old }
-    ensures { (layout : Layout) (t : ℕ) → Begins thread.old (action_at layout t left
+    requires { CanDispatch thread.old }
+    ensures { (layout : Layout) (t : ℕ) → HasDispatched thread.old (action_at layout t left
         (Some (instructions.NoneObject to)) thread.old) result thread.new }
 {
     let next = thread.at + 1;
@@ -30,8 +30,8 @@ pub(super) fn name_none(to: Variable, thread: &mut Thread, left: u32) -> Start
 /// Begins `newref`: a retain for the variable `to`, which names the object that `from` names.
 #[inline(always)]
 pub(super) fn name_again(to: Variable, from: Variable, thread: &mut Thread, left: u32) -> Start
-    requires { CanBegin thread.old }
-    ensures { (layout : Layout) (t : ℕ) → Begins thread.old (action_at layout t left
+    requires { CanDispatch thread.old }
+    ensures { (layout : Layout) (t : ℕ) → HasDispatched thread.old (action_at layout t left
         (Some (instructions.Newref to from)) thread.old) result thread.new }
 {
     let next = thread.at + 1;
@@ -54,8 +54,8 @@ pub(super) fn name_again(to: Variable, from: Variable, thread: &mut Thread, left
 /// Begins `move`: the reference of `from` is handed on to `to`.
 #[inline(always)]
 pub(super) fn hand_on(to: Variable, from: Variable, thread: &mut Thread, left: u32) -> Start
-    requires { CanBegin thread.old }
-    ensures { (layout : Layout) (t : ℕ) → Begins thread.old (action_at layout t left
+    requires { CanDispatch thread.old }
+    ensures { (layout : Layout) (t : ℕ) → HasDispatched thread.old (action_at layout t left
         (Some (instructions.Move to from)) thread.old) result thread.new }
 {
     let next = thread.at + 1;
@@ -73,8 +73,8 @@ pub(super) fn hand_on(to: Variable, from: Variable, thread: &mut Thread, left: u
 /// Begins `drop`: the release of the variable's reference.
 #[inline(always)]
 pub(super) fn give_up(from: Variable, thread: &mut Thread, left: u32) -> Start
-    requires { CanBegin thread.old }
-    ensures { (layout : Layout) (t : ℕ) → Begins thread.old (action_at layout t left
+    requires { CanDispatch thread.old }
+    ensures { (layout : Layout) (t : ℕ) → HasDispatched thread.old (action_at layout t left
         (Some (instructions.Drop from)) thread.old) result thread.new }
 {
     let next = thread.at + 1;
@@ -91,8 +91,8 @@ pub(super) fn give_up(from: Variable, thread: &mut Thread, left: u32) -> Start
 /// Begins `ret`: the call ends, and the release of what it returns begins.
 #[inline(always)]
 pub(super) fn return_object(from: Variable, thread: &mut Thread, left: u32) -> Start
-    requires { CanBegin thread.old }
-    ensures { (layout : Layout) (t : ℕ) → Begins thread.old (action_at layout t left
+    requires { CanDispatch thread.old }
+    ensures { (layout : Layout) (t : ℕ) → HasDispatched thread.old (action_at layout t left
         (Some (instructions.Ret from)) thread.old) result thread.new }
 {
     match thread.row_of(from) {

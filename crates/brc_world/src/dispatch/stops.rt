@@ -3,7 +3,7 @@
 ghost use Rattle.std.specs.Prelude.{◌≡◌, ◌≤◌, true, [], is_some, vec_capacity};
 ghost use Rattle.std.specs.List.{list_any};
 ghost use Rattle.brc_model.specs.Actions.{give_up_first};
-ghost use Rattle.brc_world.specs.Starts.{stopped_action, Begins};
+ghost use Rattle.brc_world.specs.Starts.{stopped_action, HasDispatched};
 
 use crate::dispatch::Start;
 use crate::thread::{Thread, first_named, names_some};
@@ -16,7 +16,7 @@ use brc_model::{Duty, Holding};
 pub(super) fn go_on_stopping(locked: Option<u32>, thread: &mut Thread) -> Start
     requires empty { thread.old.agenda.items ≡ [] }
     requires room { 8 ≤ vec_capacity thread.old.agenda }
-    ensures { Begins thread.old (stopped_action locked thread.old.variables) result thread.new }
+    ensures { HasDispatched thread.old (stopped_action locked thread.old.variables) result thread.new }
 {
     match locked {
         Some(row) => {
@@ -34,7 +34,7 @@ fn give_up_first(thread: &mut Thread) -> Start
     requires empty { thread.old.agenda.items ≡ [] }
     requires room { 8 ≤ vec_capacity thread.old.agenda }
     requires some { list_any is_some thread.old.variables ≡ true }
-    ensures { Begins thread.old (give_up_first thread.old.variables []) result thread.new }
+    ensures { HasDispatched thread.old (give_up_first thread.old.variables []) result thread.new }
 {
     let first = first_named(&thread.variables);
     let variable = Variable::new(first as u8);

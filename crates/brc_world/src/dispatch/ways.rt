@@ -3,7 +3,7 @@
 ghost use Rattle.std.specs.Prelude.{ℕ, Some};
 ghost use Rattle.brc_lang.specs.declared.module.Instr.TheVariants as instructions;
 ghost use Rattle.brc_model.specs.declared.layout.Layout.{Layout};
-ghost use Rattle.brc_world.specs.Starts.{action_at, CanBegin, Begins};
+ghost use Rattle.brc_world.specs.Starts.{action_at, CanDispatch, HasDispatched};
 
 use crate::dispatch::Start;
 use crate::thread::Thread;
@@ -11,8 +11,8 @@ use crate::thread::Thread;
 /// Begins `goto`: the thread goes on at the target.
 #[inline(always)]
 pub(super) fn go(target: u8, thread: &mut Thread, left: u32) -> Start
-    requires { CanBegin thread.old }
-    ensures { (layout : Layout) (t : ℕ) → Begins thread.old (action_at layout t left
+    requires { CanDispatch thread.old }
+    ensures { (layout : Layout) (t : ℕ) → HasDispatched thread.old (action_at layout t left
         (Some (instructions.Goto target)) thread.old) result thread.new }
 {
     thread.go_to(left, usize::from(target));
@@ -24,8 +24,8 @@ pub(super) fn go(target: u8, thread: &mut Thread, left: u32) -> Start
 /// instruction once more finds it used up. So each call ends after a number of instructions that its text bounds.
 #[inline(always)]
 pub(super) fn again(target: u8, times: u16, thread: &mut Thread, left: u32) -> Start
-    requires { CanBegin thread.old }
-    ensures { (layout : Layout) (t : ℕ) → Begins thread.old (action_at layout t left
+    requires { CanDispatch thread.old }
+    ensures { (layout : Layout) (t : ℕ) → HasDispatched thread.old (action_at layout t left
         (Some (instructions.Again target times)) thread.old) result thread.new }
 {
     let next = thread.at + 1;

@@ -1,5 +1,5 @@
 use Rattle.std.proofs.Common.{◌++◌, [], ◌∷◌, Option, arith, sym, ap, ◌∙◌}
-use Rattle.brc_model.specs.declared.slot.State.{State}
+use Rattle.brc_model.specs.declared.state.State.{State}
 use Rattle.brc_check.proofs.Marks.{picked_one, picked_none}
 use Rattle.brc_check.proofs.kept_points.keep.Goals as goal
 use Rattle.brc_check.proofs.kept_points.keep.Goals.{then-marks-at+in_ok-push, else-marks-at}

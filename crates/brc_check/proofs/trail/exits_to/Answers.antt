@@ -1,6 +1,6 @@
 use Rattle.std.proofs.Common.{◌≡◌, List, arith, sym, subst}
 use Rattle.std.specs.Prelude.{reverse, IfOk}
-use Rattle.brc_model.specs.declared.slot.Exit.{Exit}
+use Rattle.brc_model.specs.declared.state.Exit.{Exit}
 use Rattle.brc_check.proofs.Trails.{IsBackWithin, before-less, back-turn, back-last}
 use Rattle.brc_check.proofs.trail.exits_to.Goals as goal
 

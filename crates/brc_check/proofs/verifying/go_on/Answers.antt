@@ -1,6 +1,6 @@
 use Rattle.std.proofs.Common.{◌≡◌, Bool, sym, ap, ◌∙◌, subst, cond}
 use Rattle.std.specs.Prelude.{None, Some}
-use Rattle.brc_model.specs.declared.slot.Exit.TheVariants.{Success, Fault}
+use Rattle.brc_model.specs.declared.state.Exit.TheVariants.{Success, Fault}
 use Rattle.brc_model.specs.Paths.{At, follow}
 use Rattle.brc_check.specs.Lookups.{MeetsKept}
 use Rattle.brc_check.specs.Tables.{state_at}

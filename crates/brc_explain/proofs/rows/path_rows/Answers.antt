@@ -1,6 +1,6 @@
 use Rattle.std.proofs.Common.{◌≡◌, List, ◌++◌, append-nil, length, take, get_or, sym, ap, ◌∙◌, arith}
 use native.Mathlib.Numerals.{unary_clauses}
-use Rattle.brc_model.specs.declared.slot.Exit.TheVariants.{Success}
+use Rattle.brc_model.specs.declared.state.Exit.TheVariants.{Success}
 use Rattle.brc_model.specs.Paths.{At, path_end}
 use Rattle.brc_explain.specs.declared.rows.StepRow.{StepRow}
 use Rattle.brc_explain.specs.Rows.{first_steps, step_rows}

@@ -1,7 +1,7 @@
 use Rattle.std.proofs.Common.{◌≡◌, ◌∙◌, ℕ, get_or, sym, ap}
 use Rattle.std.specs.Prelude.{Option}
-use Rattle.brc_model.specs.declared.slot.State.{State}
-use Rattle.brc_model.specs.declared.slot.Exit.TheVariants.{Success}
+use Rattle.brc_model.specs.declared.state.State.{State}
+use Rattle.brc_model.specs.declared.state.Exit.TheVariants.{Success}
 use Rattle.brc_explain.specs.Walking.{onward}
 use Rattle.brc_explain.proofs.Walks.{reached-more}
 use Rattle.brc_explain.proofs.walking.reached.Goals as goal

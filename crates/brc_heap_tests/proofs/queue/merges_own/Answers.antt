@@ -5,7 +5,7 @@ use Rattle.brc_model.specs.declared.duty.Duty.{Duty}
 use Rattle.brc_model.specs.declared.duty.Duty.TheVariants.{MergeLoad, MergeExchange, SharedLoad, SharedExchange, Settle}
 use Rattle.brc_model.specs.declared.duty.Reason.TheVariants.{Handed}
 use Rattle.brc_table.specs.declared.view.View.{View}
-use Rattle.brc_table.specs.Views.{done}
+use Rattle.brc_table.specs.Views.{view_after}
 use Rattle.brc_table.specs.Accesses.{IsNext}
 use Rattle.brc_heap_tests.proofs.Claiming.{Works, never_gone, at_load, at_exchange, at_release, at_last}
 use Rattle.brc_heap_tests.proofs.queue.merges_own.Goals.{After-local_count-carried, After-step-queued, After-step-left}
@@ -35,7 +35,7 @@ step-requires-clause-next c =
 -- The exchange wins, and the handed reference is given up.
 releases : (c : After-step-queued) → (four : View) (found : ℕ)
     → Works c.step-local.new.hand.view (MergeLoad root_row c.local_count-carried.result Handed ∷ Settle ∷ [])
-    → found ≡ c.step-queued.result → four ≡ done c.step-queued.new.hand.view found
+    → found ≡ c.step-queued.result → four ≡ view_after c.step-queued.new.hand.view found
     → Works four (SharedLoad root_row Handed ∷ Settle ∷ [])
 releases c four found begun won view =
     at_release c.step-queued.new.hand.view four root_row c.local_count-carried.result c.step-queued.result found

@@ -3,8 +3,8 @@ use Rattle.std.proofs.Common.{ℕ, refl, sym, ap, ◌∙◌}
 use Rattle.brc_world.proofs.Acting.{HasStarted, silent_step, duty_step, goes_on, can_do, can_answer}
 use Rattle.brc_model.specs.StepMachine.{at_place}
 use Rattle.brc_world.specs.Storage.{word_in}
-use Rattle.brc_world.specs.Actors.{actor_of, actor_done}
-use Rattle.brc_world.specs.Starts.{did_of, place_after}
+use Rattle.brc_world.specs.Actors.{actor_of, actor_after}
+use Rattle.brc_world.specs.Starts.{answer_of, place_after}
 use Rattle.brc_world.proofs.doing.act.Goals.{After-first_duty-start}
 use Rattle.brc_world.proofs.doing.act.Goals as goal
 
@@ -49,12 +49,12 @@ returns-in-Some c =
     let before = c.first_duty-start.new.thread in
     let duty = c.do_duty-found.ensures in
     let done =
-    actor_done c.args.layout c.args.number (word_in c.args.memory.now) (actor_of before) c.in-Some.duty in
+    actor_after c.args.layout c.args.number (word_in c.args.memory.now) (actor_of before) c.in-Some.duty in
     let step =
     duty_step c.args.functions.now c.args.layout c.args.number (word_in c.args.memory.now) _ c.args.exit _ _ _ has
     (sym c.in-Some.ensures) in
     record {
-      did = c.finish.ensures.did ∙ ap (did_of start) duty.found ∙ step.answer;
+      did = c.finish.ensures.did ∙ ap (answer_of start) duty.found ∙ step.answer;
       words = duty.word.words ∙ step.memory_is;
       actor = c.finish.ensures.actor
           ∙ goes_on start c.args.exit c.do_duty-found.result before c.do_duty-found.new.thread done duty.actor duty.mode

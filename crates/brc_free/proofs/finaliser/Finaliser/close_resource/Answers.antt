@@ -6,7 +6,7 @@ use Rattle.brc_host.proofs.Answering.{one_call}
 use Rattle.brc_model.specs.declared.duty.Duty.{Duty}
 use Rattle.brc_model.specs.declared.duty.Duty.TheVariants.{TakeSlot}
 use Rattle.brc_table.specs.declared.view.View.{View}
-use Rattle.brc_table.specs.Views.{done, slot_emptied}
+use Rattle.brc_table.specs.Views.{view_after, slot_emptied}
 use Rattle.brc_list.specs.Calls.{TakesSlot}
 use Rattle.brc_free.specs.Works.{HasWorked, behind}
 use Rattle.brc_free.proofs.FirstDuties.{take_slot_first}
@@ -31,7 +31,7 @@ returns-clause-work g c =
           (ended_empty v v w [] c.args.row found failed duty.rest
           (worked_first v (TakeSlot c.args.row ∷ duty.rest)
           (duty.next ∙ sym (take_slot_first v.head c.args.row duty.rest)))
-          (c.gate_close.ensures.view ∙ ap (λ (z : View). done (slot_emptied z) found) c.lend-resource.ensures.view)
+          (c.gate_close.ensures.view ∙ ap (λ (z : View). view_after (slot_emptied z) found) c.lend-resource.ensures.view)
           (finalising_unlocked v (TakeSlot c.args.row) duty.rest c.args.row c.rows_are_there.ensures duty.next
           (eq-eqb c.args.row c.args.row refl))),
       c.faults_of.ensures,

@@ -6,7 +6,7 @@ use Rattle.brc_model.specs.declared.duty.Duty.TheVariants.{SettleCell, ReleaseLo
 use Rattle.brc_model.specs.Duties.{cells_from, release_found}
 use Rattle.brc_table.specs.declared.view.View.{View}
 use Rattle.brc_table.specs.Accesses.{IsNext}
-use Rattle.brc_table.specs.Views.{NamesFewCells, RowsAreThere, done}
+use Rattle.brc_table.specs.Views.{NamesFewCells, RowsAreThere, view_after}
 use Rattle.brc_free.specs.Works.{HasWorked, CellNext, behind, cells_left}
 use Rattle.brc_free.proofs.FirstDuties.{settle_cell_first}
 use Rattle.brc_heap.proofs.Stepping.{plain_first, finalising_unlocked}
@@ -15,7 +15,7 @@ use Rattle.brc_free.proofs.SettleDuties.{cell_emptied, item_found}
 use Rattle.brc_free.proofs.finaliser.Finaliser.empty_cell.Goals as goal
 
 -- The cell is empty. What was there is given up next, and then come the cells that are left.
-emptied : (v w : View) (row cell found : ℕ) (duty : CellNext row cell v.agenda) → RowsAreThere v → w ≡ done v found
+emptied : (v w : View) (row cell found : ℕ) (duty : CellNext row cell v.agenda) → RowsAreThere v → w ≡ view_after v found
     → HasWorked v [] (release_found found ++ (cells_from row (cell + 1) duty.count ++ duty.rest)) w
 emptied v w row cell found duty there is =
     let begins = worked_first v (SettleCell row cell duty.count ∷ duty.rest)
@@ -24,7 +24,7 @@ emptied v w row cell found duty there is =
     (finalising_unlocked v (SettleCell row cell duty.count) duty.rest row there duty.next (eq-eqb row row refl))
 
 -- There was an item, which is given up next.
-item_next : (v w : View) (row cell found : ℕ) (duty : CellNext row cell v.agenda) → RowsAreThere v → w ≡ done v found
+item_next : (v w : View) (row cell found : ℕ) (duty : CellNext row cell v.agenda) → RowsAreThere v → w ≡ view_after v found
     → found ≢ 0
     → HasWorked v [] (ReleaseLoad (found - 1) InFlight ∷ (cells_from row (cell + 1) duty.count ++ duty.rest)) w
 item_next v w row cell found duty there is some =

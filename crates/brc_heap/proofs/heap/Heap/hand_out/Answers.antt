@@ -3,7 +3,7 @@ use Rattle.brc_model.specs.declared.layout.Layout.{Layout}
 use Rattle.brc_table.specs.declared.view.View.{View}
 use Rattle.brc_table.specs.Hands.{TableState}
 use Rattle.brc_table.specs.Giving.{MayGive}
-use Rattle.brc_table.specs.Seen.{has_started}
+use Rattle.brc_table.specs.KnownWords.{has_started}
 use Rattle.brc_heap.proofs.Handing.{may_start, may_give}
 use Rattle.brc_heap.proofs.heap.Heap.hand_out.Goals as goal
 

@@ -4,7 +4,7 @@ use Rattle.brc_model.specs.declared.layout.Layout.{Layout}
 use Rattle.brc_model.specs.Layout.{row_count}
 use Rattle.brc_model.specs.Counting.{IsPlainLayout}
 use Rattle.brc_table.specs.declared.view.View.{View}
-use Rattle.brc_table.specs.Views.{done, loading_cell}
+use Rattle.brc_table.specs.Views.{view_after, loading_cell}
 use Rattle.brc_table.specs.Hands.{TableState, Borrows}
 use Rattle.brc_list.specs.Calls.{word_of}
 use Rattle.brc_list.proofs.Borrowing.{item_borrowed}
@@ -26,6 +26,6 @@ returns-else-word-eq0-clause-borrows g c = λ x same locked.
     let found = c.cell_load-word.result in
     let word : found ≡ suc x = omega (arith, c.if-word-eq0.false, ap word_of same) in
     subst (λ (u : View). Borrows u x)
-    (ap (done (loading_cell v c.args.row c.args.cell)) (sym word) ∙ sym c.cell_load-word.ensures.view)
+    (ap (view_after (loading_cell v c.args.row c.args.cell)) (sym word) ∙ sym c.cell_load-word.ensures.view)
     (item_borrowed v c.args.row c.args.cell x locked
     (subst (λ (k : ℕ). k ≤ row_count v.layout) word c.cell_load-word.ensures.there))

@@ -5,7 +5,7 @@ use Rattle.brc_model.specs.declared.layout.Layout.{Layout}
 use Rattle.brc_model.specs.Layout.{row_at}
 use Rattle.brc_table.specs.declared.view.View.{View}
 use Rattle.brc_table.specs.Hands.{TableState}
-use Rattle.brc_table.specs.Views.{done, claiming}
+use Rattle.brc_table.specs.Views.{view_after, claiming}
 use Rattle.brc_free.specs.Works.{HasWorked}
 use Rattle.brc_heap.proofs.Stepping.{keeps_then}
 use Rattle.brc_free.proofs.Working.{worked_first}
@@ -34,8 +34,8 @@ returns-then-mark_claim-ne-SET-clause-work g c =
     let row_is : c.own_row-row.result ≡ row_at v.layout v.thread c.args.index =
     c.own_row-row.ensures.row
     ∙ ap (λ (l : Layout). row_at l v.thread c.args.index) (same ∙ sym c.requires.table.1) in
-    let is : w ≡ done (claiming v (row_at v.layout v.thread c.args.index)) found =
-    c.mark_claim.ensures.view ∙ ap (λ (x : ℕ). done (claiming v x) found) row_is in
+    let is : w ≡ view_after (claiming v (row_at v.layout v.thread c.args.index)) found =
+    c.mark_claim.ensures.view ∙ ap (λ (x : ℕ). view_after (claiming v x) found) row_is in
     let none = ne_eqb found 1 c.if-mark_claim-ne-SET.true in (
       [],
       record {

@@ -5,7 +5,7 @@ use Rattle.brc_host.specs.HostCounts.{raised}
 use Rattle.brc_model.specs.declared.duty.Duty.TheVariants.{Finish}
 use Rattle.brc_model.specs.Layout.{root_row}
 use Rattle.brc_table.specs.declared.view.View.{View}
-use Rattle.brc_table.specs.Views.{did, done}
+use Rattle.brc_table.specs.Views.{view_by, view_after}
 use Rattle.brc_table.specs.Hands.{TableState}
 use Rattle.brc_table.specs.Calls.{MayLeave}
 use Rattle.brc_free.specs.Works.{HasWorked, ComesToSettle, to_settle}
@@ -37,12 +37,12 @@ may g c =
 
 -- It overwrites the word that it is leaving.
 says_gone : (g : given.Over) (c : After-step g)
-    → c.step.new.hand.view ≡ done c.scan-more.new.hand.view 2
-says_gone g c = c.step.ensures.view ∙ ap (done c.scan-more.new.hand.view) c.step.ensures.overwrites
+    → c.step.new.hand.view ≡ view_after c.scan-more.new.hand.view 2
+says_gone g c = c.step.ensures.view ∙ ap (view_after c.scan-more.new.hand.view) c.step.ensures.overwrites
 
 -- The word that it is gone is its last step.
 ends : (g : given.Over) (c : After-step g)
-    → c.step.new.hand.view ≡ did c.scan-more.new.hand.view (Finish ∷ []) 2
+    → c.step.new.hand.view ≡ view_by c.scan-more.new.hand.view (Finish ∷ []) 2
 ends g c =
     finished _ _ _ c.scan-more.ensures.work.0 c.scan-more.ensures.work.1 (says_gone g c)
 

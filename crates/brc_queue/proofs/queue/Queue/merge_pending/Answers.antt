@@ -2,7 +2,7 @@ use Rattle.std.proofs.Common.{refl, sym, ap, ◌∙◌, ℕ, [], ◌++◌}
 use Rattle.brc_host.specs.HostCalls.{NoCall, close_faults}
 use Rattle.brc_host.proofs.Answering.{answered_then, close_faults_then}
 use Rattle.brc_host.specs.HostCounts.{raised}
-use Rattle.brc_queue.specs.Scans.{Begun, Next}
+use Rattle.brc_queue.specs.Scans.{Refl, Next}
 use Rattle.brc_heap.proofs.Stepping.{keeps_first, keeps_then}
 use Rattle.brc_free.proofs.Closes.{sums_both}
 use Rattle.brc_queue.proofs.queue.Queue.merge_pending.Goals as goal
@@ -18,7 +18,7 @@ loop-index-init g c =
       keeps_first v,
       (
         [],
-        Begun,
+        Refl,
         refl,
         NoCall,
       ),

@@ -3,7 +3,7 @@ use Rattle.brc_host.specs.HostCalls.{HostCall, HasAnswered, close_faults}
 use Rattle.brc_host.specs.HostCounts.{raised}
 use Rattle.brc_table.specs.Calls.{IsFree}
 use Rattle.brc_heap.specs.Steps.{Keeps}
-use Rattle.brc_queue.specs.Scans.{LooksThrough}
+use Rattle.brc_queue.specs.Scans.{HasScanned}
 use Rattle.brc_queue.proofs.queue.Queue.merge_pending.Given as goal
 
 -- The marks of the rows before this one are taken, and the hand has nothing to do.
@@ -11,6 +11,6 @@ abbrev pub invariant-loop-index : goal.invariant-loop-index
 invariant-loop-index g l =
     (l.hand.table ≡ l.fn.hand.table) × (l.hand.carried ≡ l.fn.hand.carried) × (l.hand.slots ≡ l.fn.hand.slots)
     × IsFree l.hand.view × (l.hand.view.head ≡ 0) × Keeps l.fn.hand.view l.hand.view
-    × ((closes : List HostCall) × LooksThrough l.fn.hand.view l.index closes l.hand.view
+    × ((closes : List HostCall) × HasScanned l.fn.hand.view l.index closes l.hand.view
     × (l.failed ≡ raised (close_faults closes) 0)
     × HasAnswered g.H.Host.answers g.H.Host.counts l.fn.host closes l.host)

@@ -26,7 +26,7 @@ use Rattle.brc_table.specs.Homes.{held_in}
 use Rattle.brc_table.specs.Places.{HasWord, place, word_count}
 use Rattle.brc_table.specs.Plays.{SuitsFirst, FirstFindsOwner, FindsKnown, overwritten_by}
 use Rattle.brc_table.specs.Uses.{held_after, first_due}
-use Rattle.brc_table.specs.Views.{done}
+use Rattle.brc_table.specs.Views.{view_after}
 use Rattle.brc_table.proofs.Places.{place_within}
 use Rattle.brc_table.proofs.NextDuty as next
 use Rattle.brc_table.proofs.Permitted.{next_permitted}
@@ -238,7 +238,7 @@ returns-clause-carried g c = ap (λ (h : HandState). h.carried) c.hand.view_is
 record Made (begins : View → View) (hand : HandState) (d : Duty) (found : ℕ) (after : View) (slots : List (ℕ × ℕ))
     : Type 0 where
   slots_are : slots ≡ held_after hand.slots (use_of d 0) (first_due (d ∷ []) found)
-  view_is : after ≡ done (begins hand.view) found
+  view_is : after ≡ view_after (begins hand.view) found
   overwrites : Overwrites hand.view.thread d found
   suits : SuitsFirst (begins hand.view) (begins hand.view).agenda found
   owner : FirstFindsOwner (begins hand.view) (begins hand.view).agenda found
@@ -257,7 +257,7 @@ made begins hand d me after word found view_is slots_is keeps coming known steps
       slots_are =
           step.0.3 ∙ (next.slots_next u d is known (held_in me.1) found
           ∙ ap (λ (l : List (ℕ × ℕ)). held_after l (use_of d 0) (first_due (d ∷ []) found)) slots_is);
-      view_is = step.0.0 ∙ ap (λ (v : View). done (begins v) found) view_is;
+      view_is = step.0.0 ∙ ap (λ (v : View). view_after (begins v) found) view_is;
       overwrites =
           subst (λ (t : ℕ). Overwrites t d found) (ap (λ (v : View). (begins v).thread) view_is ∙ keeps.thread)
           (next.overwrites_next u d is known found step.4);

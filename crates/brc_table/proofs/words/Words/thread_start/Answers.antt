@@ -1,6 +1,6 @@
 use Rattle.std.proofs.Common.{◌≡◌, true, sym, subst}
 use Rattle.brc_table.specs.declared.view.View.{View}
-use Rattle.brc_table.specs.Seen.{has_started}
+use Rattle.brc_table.specs.KnownWords.{has_started}
 use Rattle.brc_table.proofs.Starting.{seen_after}
 use Rattle.brc_table.proofs.words.Words.thread_start.Goals as goal
 

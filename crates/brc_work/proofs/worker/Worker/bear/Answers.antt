@@ -1,10 +1,10 @@
 use Rattle.std.proofs.Common.{ℕ, List, ◌∷◌, Option, Some, refl, sym, ap, ◌∙◌, subst}
 use Rattle.std.specs.Prelude.{slice_set}
 use Rattle.brc_model.specs.declared.layout.Layout.{Layout}
-use Rattle.brc_model.specs.declared.slot.Slot.TheVariants.{Owned}
+use Rattle.brc_model.specs.declared.state.VarState.TheVariants.{Owned}
 use Rattle.brc_model.specs.Kinds.{kind_numbered}
 use Rattle.brc_model.specs.Layout.{IsCounted}
-use Rattle.brc_model.specs.Slots.{slot_of, put}
+use Rattle.brc_model.specs.VarStates.{var_of, put}
 use Rattle.brc_model.specs.Threads.{row_of}
 use Rattle.brc_model.proofs.Dispatch.Kinds.{numbered_kind}
 use Rattle.brc_heap.specs.Calls.{kind_word}
@@ -42,7 +42,7 @@ returns-clause-goes g c = λ base s fits can.
           (born_some c.args.kind c.args.arg c.requires.kind) c.birth-row.ensures.seen
           (ap kind_numbered c.birth-row.ensures.known ∙ numbered_kind c.args.kind);
     })
-    (gains base.first.view.layout (slot_of s c.args.to)
+    (gains base.first.view.layout (var_of s c.args.to)
     (row_of c.args.rows.now c.args.to) c.args.kind row hand after can.free
     (born_with base.first.view.layout row hand.view.references after.view.references counted
     (born.references ∙ ap (λ (x : ℕ). x ∷ hand.view.references) (sym c.birth-row.ensures.row)))))

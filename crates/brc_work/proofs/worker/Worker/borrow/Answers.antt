@@ -1,9 +1,9 @@
 use Rattle.std.proofs.Common.{◌≡◌, ℕ, List, Option, None, Some, inl, refl, sym, ap, ◌∙◌, subst}
 use Rattle.brc_lang.specs.declared.kind.Kind.TheVariants as kinds
 use Rattle.brc_lang.specs.declared.module.Instr.TheVariants as instructions
-use Rattle.brc_model.specs.declared.slot.Slot.TheVariants.{Empty, Locked}
-use Rattle.brc_model.specs.declared.slot.State.{State}
-use Rattle.brc_model.specs.Slots.{slot_of, is_empty, names, put, lowest}
+use Rattle.brc_model.specs.declared.state.VarState.TheVariants.{Empty, Locked}
+use Rattle.brc_model.specs.declared.state.State.{State}
+use Rattle.brc_model.specs.VarStates.{var_of, is_empty, names, put, lowest}
 use Rattle.brc_model.specs.Threads.{row_of}
 use Rattle.brc_model.proofs.Dispatch.Passing.{are_met}
 use Rattle.brc_table.specs.Hands.{TableState}
@@ -76,7 +76,7 @@ has_sized g c = record {
 pub row_in-row-requires : goal.row_in-row-requires
 row_in-row-requires g c =
     names_object _ _ _ _ c.requires.may.fits c.args.list
-    (kept (is_empty (slot_of c.requires.may.state c.args.list)) (none_broken c.requires.may).not_empty)
+    (kept (is_empty (var_of c.requires.may.state c.args.list)) (none_broken c.requires.may).not_empty)
 
 pub size-requires-clause-usable : goal.size-requires-clause-usable
 size-requires-clause-usable g c =
@@ -92,7 +92,7 @@ returns-then-cell-size-clause-done g c = λ base s fits passes.
     (sym c.name.ensures.named)
     (refits base s c.args.rows.now c.args.hand.now c.size.new.hand c.args.to Empty None fits c.name.ensures.low
     fills.unlocked (sized g at fits.rests) tt
-    (nothing base.first.view.layout (slot_of s c.args.to) Empty (row_of c.args.rows.now c.args.to) None c.args.hand.now
+    (nothing base.first.view.layout (var_of s c.args.to) Empty (row_of c.args.rows.now c.args.to) None c.args.hand.now
     c.size.new.hand fills.free refl c.size.ensures.keeps.references))
 
 pub item-found-requires-clause-loads : goal.item-found-requires-clause-loads
@@ -116,7 +116,7 @@ returns-in-Some-clause-done g c = λ base s fits passes.
       names = record { object = c.in-Some.item; is = refl; knows = Unknown refl };
       borrows = c.item-found.ensures.borrows c.in-Some.item c.in-Some.is list.locked;
     })
-    (nothing base.first.view.layout (slot_of s c.args.to) (Locked kinds.Any) (row_of c.args.rows.now c.args.to)
+    (nothing base.first.view.layout (var_of s c.args.to) (Locked kinds.Any) (row_of c.args.rows.now c.args.to)
     (Some c.in-Some.item) c.size.new.hand after fills.free refl c.item-found.ensures.keeps.references))
 
 pub returns-in-None-clause-done : goal.returns-in-None-clause-done
@@ -129,7 +129,7 @@ returns-in-None-clause-done g c = λ base s fits passes.
     (sym c.name-in-None.ensures.named)
     (refits base s c.args.rows.now c.size.new.hand c.item-found.new.hand c.args.to Empty None asked
     c.name-in-None.ensures.low fill.unlocked loads tt
-    (nothing base.first.view.layout (slot_of s c.args.to) Empty (row_of c.args.rows.now c.args.to) None c.size.new.hand
+    (nothing base.first.view.layout (var_of s c.args.to) Empty (row_of c.args.rows.now c.args.to) None c.size.new.hand
     c.item-found.new.hand fill.free refl c.item-found.ensures.keeps.references))
 
 pub returns-then-cell-size-clause-made : goal.returns-then-cell-size-clause-made

@@ -4,9 +4,9 @@ use Rattle.brc_lang.specs.declared.module.Instr.{Instr}
 use Rattle.brc_model.specs.declared.actor.Context.{Context}
 use Rattle.brc_model.specs.declared.actor.Place.TheVariants.{Idle, InCall}
 use Rattle.brc_model.specs.declared.layout.Layout.{Layout}
-use Rattle.brc_model.specs.declared.slot.State.{State}
+use Rattle.brc_model.specs.declared.state.State.{State}
 use Rattle.brc_model.specs.Layout.{root_row}
-use Rattle.brc_model.specs.Slots.{entry}
+use Rattle.brc_model.specs.VarStates.{entry}
 use Rattle.brc_model.specs.Tables.{Reaches}
 use Rattle.brc_model.specs.Threads.{code_of}
 use Rattle.brc_table.specs.Hands.{TableState}

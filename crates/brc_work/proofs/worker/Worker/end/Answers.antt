@@ -1,9 +1,9 @@
 use Rattle.std.proofs.Common.{◌≡◌, [], None, sym, subst}
 use Rattle.brc_lang.specs.declared.module.Instr.{Instr}
 use Rattle.brc_lang.specs.declared.module.Instr.TheVariants as instructions
-use Rattle.brc_model.specs.declared.slot.Exit.TheVariants.{Success}
-use Rattle.brc_model.specs.declared.slot.Slot.TheVariants.{Empty}
-use Rattle.brc_model.specs.Slots.{slot_of, is_empty, is_borrowed, names, put, lowest}
+use Rattle.brc_model.specs.declared.state.Exit.TheVariants.{Success}
+use Rattle.brc_model.specs.declared.state.VarState.TheVariants.{Empty}
+use Rattle.brc_model.specs.VarStates.{var_of, is_empty, is_borrowed, names, put, lowest}
 use Rattle.brc_model.proofs.Dispatch.Passing.{are_met}
 use Rattle.brc_work.specs.Calls.{HasEnded}
 use Rattle.brc_work.specs.Performs.{Performs}
@@ -24,7 +24,7 @@ returns-in-Ret-clause-ended g c =
     let met = are_met (instructions.Ret from) s passes in
     let given =
     c.give_up.ensures.goes base s fits
-    (can_give s from (kept (is_empty (slot_of s from)) met.not_empty) (kept (is_borrowed (slot_of s from)) met.owned)
+    (can_give s from (kept (is_empty (var_of s from)) met.not_empty) (kept (is_borrowed (var_of s from)) met.owned)
     (kept (names s.locked from) met.unlocked)) in
     ends base (put s from Empty) c.give_up.new.rows after given (kept _ met.none_left)
     (none_is s.locked (kept _ met.no_lock_left)) in

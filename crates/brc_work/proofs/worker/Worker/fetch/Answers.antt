@@ -1,9 +1,9 @@
 use Rattle.std.proofs.Common.{◌≡◌, ℕ, ◌<◌, List, length, Option, None, Some, inl, inr, refl, sym, ap, ◌∙◌, subst}
 use Rattle.brc_lang.specs.declared.kind.Kind.TheVariants as kinds
 use Rattle.brc_lang.specs.declared.module.Instr.TheVariants as instructions
-use Rattle.brc_model.specs.declared.slot.Slot.TheVariants.{Empty, Owned}
-use Rattle.brc_model.specs.declared.slot.State.{State}
-use Rattle.brc_model.specs.Slots.{slot_of, is_empty, names, put, lowest}
+use Rattle.brc_model.specs.declared.state.VarState.TheVariants.{Empty, Owned}
+use Rattle.brc_model.specs.declared.state.State.{State}
+use Rattle.brc_model.specs.VarStates.{var_of, is_empty, names, put, lowest}
 use Rattle.brc_model.specs.Threads.{row_of}
 use Rattle.brc_model.proofs.Dispatch.Passing.{are_met}
 use Rattle.brc_model.specs.declared.layout.Layout.{Layout}
@@ -79,7 +79,7 @@ has_sized g c = record {
 pub row_in-row-requires : goal.row_in-row-requires
 row_in-row-requires g c =
     names_object _ _ _ _ c.requires.may.fits c.args.list
-    (kept (is_empty (slot_of c.requires.may.state c.args.list)) (none_broken c.requires.may).not_empty)
+    (kept (is_empty (var_of c.requires.may.state c.args.list)) (none_broken c.requires.may).not_empty)
 
 pub size-requires-clause-usable : goal.size-requires-clause-usable
 size-requires-clause-usable g c =
@@ -95,7 +95,7 @@ returns-then-cell-size-clause-done g c = λ base s fits passes.
     (sym c.name.ensures.named)
     (refits base s c.args.rows.now c.args.hand.now c.size.new.hand c.args.to Empty None fits c.name.ensures.low
     fills.unlocked (sized g at fits.rests) tt
-    (nothing base.first.view.layout (slot_of s c.args.to) Empty (row_of c.args.rows.now c.args.to) None c.args.hand.now
+    (nothing base.first.view.layout (var_of s c.args.to) Empty (row_of c.args.rows.now c.args.to) None c.args.hand.now
     c.size.new.hand fills.free refl c.size.ensures.keeps.references))
 
 pub item-found-requires-clause-loads : goal.item-found-requires-clause-loads
@@ -137,7 +137,7 @@ returns-in-Some-clause-done g c = λ base s fits passes.
     (refits base s c.args.rows.now seen after c.args.to (Owned kinds.Any) (Some c.in-Some.item) found
     c.name-in-Some.ensures.low fills.unlocked retained
     (record { object = c.in-Some.item; is = refl; knows = Unknown refl })
-    (gains base.first.view.layout (slot_of s c.args.to) (row_of c.args.rows.now c.args.to) kinds.Any c.in-Some.item seen
+    (gains base.first.view.layout (var_of s c.args.to) (row_of c.args.rows.now c.args.to) kinds.Any c.in-Some.item seen
     after fills.free (c.retain.ensures.references
     ∙ ap (λ (l : Layout). with_reference l c.in-Some.item seen.view.references) found.follows.layout)))
 
@@ -151,7 +151,7 @@ returns-in-None-clause-done g c = λ base s fits passes.
     (sym c.name-in-None.ensures.named)
     (refits base s c.args.rows.now c.size.new.hand c.item-found.new.hand c.args.to Empty None asked
     c.name-in-None.ensures.low fill.unlocked loads tt
-    (nothing base.first.view.layout (slot_of s c.args.to) Empty (row_of c.args.rows.now c.args.to) None c.size.new.hand
+    (nothing base.first.view.layout (var_of s c.args.to) Empty (row_of c.args.rows.now c.args.to) None c.size.new.hand
     c.item-found.new.hand fill.free refl c.item-found.ensures.keeps.references))
 
 pub returns-then-cell-size-clause-made : goal.returns-then-cell-size-clause-made

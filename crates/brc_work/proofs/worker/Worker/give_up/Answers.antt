@@ -1,8 +1,8 @@
 use Rattle.std.proofs.Common.{ℕ, List, Option, None, sym, ap, ◌∙◌, subst}
 use Rattle.brc_work.proofs.Counting.{asked_as}
 use Rattle.brc_model.specs.declared.layout.Layout.{Layout}
-use Rattle.brc_model.specs.declared.slot.Slot.TheVariants.{Empty}
-use Rattle.brc_model.specs.Slots.{slot_of, put}
+use Rattle.brc_model.specs.declared.state.VarState.TheVariants.{Empty}
+use Rattle.brc_model.specs.VarStates.{var_of, put}
 use Rattle.brc_table.specs.Views.{without_reference}
 use Rattle.brc_work.specs.Fits.{Fits}
 use Rattle.brc_work.proofs.Fitting.{refits}
@@ -16,7 +16,7 @@ pub row_in-row-requires : goal.row_in-row-requires
 row_in-row-requires g c =
     let is = c.requires.fits in
     names_object is.base is.state c.args.rows.now c.args.hand.now is.fits c.args.from
-    (owned_used (slot_of is.state c.args.from) is.can_do.owned)
+    (owned_used (var_of is.state c.args.from) is.can_do.owned)
 
 pub release-requires-clause-held : goal.release-requires-clause-held
 release-requires-clause-held g c = λ κs lives.

@@ -2,8 +2,8 @@ use Rattle.std.proofs.Common.{◌≡◌, ℕ, suc, ◌+◌, List, [], Option, sy
 use Rattle.brc_free.proofs.Working.{works_close}
 use Rattle.brc_free.specs.Works.{ComesToSettle, AtOnce}
 use Rattle.brc_table.specs.Hands.{TableState, HandState, IsOf}
-use Rattle.brc_model.specs.Slots.{put}
-use Rattle.brc_model.specs.declared.slot.Slot.TheVariants.{Empty}
+use Rattle.brc_model.specs.VarStates.{put}
+use Rattle.brc_model.specs.declared.state.VarState.TheVariants.{Empty}
 use Rattle.brc_work.specs.Changes.{CanGive}
 use Rattle.brc_work.specs.Stopping.{GoesChained, Loosens}
 use Rattle.brc_work.proofs.Counting.{asked_closes}

@@ -2,7 +2,7 @@ use Rattle.std.proofs.Common.{ℕ, List, Option, Some, sym, ap, ◌∙◌, subst
 use Rattle.std.specs.Prelude.{slice_set}
 use Rattle.brc_lang.specs.declared.module.Instr.TheVariants as instructions
 use Rattle.brc_work.proofs.Conditions.{kept}
-use Rattle.brc_model.specs.Slots.{slot_of, is_empty}
+use Rattle.brc_model.specs.VarStates.{var_of, is_empty}
 use Rattle.brc_model.proofs.Dispatch.Passing.{are_met}
 use Rattle.brc_work.specs.Fits.{Fits}
 use Rattle.brc_work.proofs.Holding.{names_object}
@@ -15,7 +15,7 @@ row_in-row-requires g c =
     let may = c.requires.may in
     let met = are_met (instructions.Move c.args.to c.args.from) may.state may.passes in
     names_object may.base may.state c.args.rows.now c.args.hand.now may.fits c.args.from
-    (kept (is_empty (slot_of may.state c.args.from)) met.not_empty)
+    (kept (is_empty (var_of may.state c.args.from)) met.not_empty)
 
 pub returns : goal.returns
 returns g c = record {

@@ -1,6 +1,6 @@
 use Rattle.std.proofs.Common.{inl, sym, ap, ◌∙◌}
 use Rattle.brc_lang.specs.declared.module.Instr.TheVariants as instructions
-use Rattle.brc_model.specs.Slots.{slot_of, is_empty}
+use Rattle.brc_model.specs.VarStates.{var_of, is_empty}
 use Rattle.brc_model.specs.Kinds.{kind_numbered}
 use Rattle.brc_model.proofs.Dispatch.Kinds.{numbered_kind}
 use Rattle.brc_model.proofs.Dispatch.Passing.{are_met}
@@ -18,14 +18,14 @@ row_in-row-requires g c =
     let may = c.requires.may in
     let met = are_met (instructions.As c.args.from c.args.kind c.args.otherwise) may.state may.passes in
     names_object may.base may.state c.args.rows.now c.args.hand.now may.fits c.args.from
-    (kept (is_empty (slot_of may.state c.args.from)) met.not_empty)
+    (kept (is_empty (var_of may.state c.args.from)) met.not_empty)
 
 pub kind_of-requires-clause-usable : goal.kind_of-requires-clause-usable
 kind_of-requires-clause-usable g c =
     let may = c.requires.may in
     let met = are_met (instructions.As c.args.from c.args.kind c.args.otherwise) may.state may.passes in
     inl (usable may.base may.state c.args.rows.now c.args.hand.now may.fits c.args.from c.row_in-row.result
-    (kept (is_empty (slot_of may.state c.args.from)) met.not_empty) c.row_in-row.ensures)
+    (kept (is_empty (var_of may.state c.args.from)) met.not_empty) c.row_in-row.ensures)
 
 pub returns-then-kind_number-clause-done : goal.returns-then-kind_number-clause-done
 returns-then-kind_number-clause-done g c = λ base s fits passes.
@@ -40,7 +40,7 @@ returns-then-kind_number-clause-done g c = λ base s fits passes.
     let sees = c.kind_of.ensures.sees in
     let same = sym c.kind_number.ensures ∙ (c.if-kind_number.true ∙ c.kind_number-2.ensures) in
     kind_fits base s c.args.rows.now hand after c.args.from row sees.0 c.args.kind fits did c.kind_of.ensures.references
-    (kept (is_empty (slot_of s c.args.from)) met.not_empty) c.row_in-row.ensures sees.1
+    (kept (is_empty (var_of s c.args.from)) met.not_empty) c.row_in-row.ensures sees.1
     (sym sees.2 ∙ (sym (numbered_kind c.kind_of.result) ∙ (ap kind_numbered same ∙ numbered_kind c.args.kind)))
 
 pub returns-else-kind_number-clause-done : goal.returns-else-kind_number-clause-done

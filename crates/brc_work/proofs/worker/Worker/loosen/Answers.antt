@@ -1,7 +1,7 @@
 use Rattle.std.proofs.Common.{ℕ, List, Option, None, sym, ap, ◌∙◌, subst}
 use Rattle.brc_model.specs.declared.layout.Layout.{Layout}
-use Rattle.brc_model.specs.declared.slot.Slot.TheVariants.{Empty}
-use Rattle.brc_model.specs.Slots.{put}
+use Rattle.brc_model.specs.declared.state.VarState.TheVariants.{Empty}
+use Rattle.brc_model.specs.VarStates.{put}
 use Rattle.brc_table.specs.Hands.{TableState}
 use Rattle.brc_table.specs.Views.{without_reference}
 use Rattle.brc_work.specs.Fits.{Fits}

@@ -1,8 +1,8 @@
 use Rattle.std.proofs.Common.{ℕ, List, Option, Some, refl, sym, ap, ◌∙◌, subst}
 use Rattle.brc_lang.specs.declared.module.Instr.TheVariants as instructions
 use Rattle.brc_model.specs.declared.layout.Layout.{Layout}
-use Rattle.brc_model.specs.declared.slot.Slot.TheVariants.{Owned}
-use Rattle.brc_model.specs.Slots.{slot_of, kind_of, is_empty, put}
+use Rattle.brc_model.specs.declared.state.VarState.TheVariants.{Owned}
+use Rattle.brc_model.specs.VarStates.{var_of, kind_of, is_empty, put}
 use Rattle.brc_model.specs.Threads.{row_of}
 use Rattle.brc_model.proofs.Dispatch.Passing.{are_met}
 use Rattle.brc_table.specs.Views.{with_reference}
@@ -22,14 +22,14 @@ row_in-row-requires g c =
     let may = c.requires.may in
     let met = are_met (instructions.Newref c.args.to c.args.from) may.state may.passes in
     names_object may.base may.state c.args.rows.now c.args.hand.now may.fits c.args.from
-    (kept (is_empty (slot_of may.state c.args.from)) met.not_empty)
+    (kept (is_empty (var_of may.state c.args.from)) met.not_empty)
 
 pub retain-requires-clause-usable : goal.retain-requires-clause-usable
 retain-requires-clause-usable g c =
     let may = c.requires.may in
     let met = are_met (instructions.Newref c.args.to c.args.from) may.state may.passes in
     usable may.base may.state c.args.rows.now c.args.hand.now may.fits c.args.from c.row_in-row.result
-    (kept (is_empty (slot_of may.state c.args.from)) met.not_empty) c.row_in-row.ensures
+    (kept (is_empty (var_of may.state c.args.from)) met.not_empty) c.row_in-row.ensures
 
 pub retain-requires-clause-few : goal.retain-requires-clause-few
 retain-requires-clause-few g c =
@@ -40,7 +40,7 @@ returns-clause-done g c = λ base s fits passes.
     let hand = c.args.hand.now in
     let after = c.retain.new.hand in
     let row = c.row_in-row.result in
-    let from = slot_of s c.args.from in
+    let from = var_of s c.args.from in
     let met = are_met (instructions.Newref c.args.to c.args.from) s passes in
     let can = can_fill s c.args.to met.free met.unlocked in
     let did =
@@ -60,7 +60,7 @@ returns-clause-done g c = λ base s fits passes.
           (kept (is_empty from) met.not_empty)
           (fits.each c.args.from) c.row_in-row.ensures);
     })
-    (gains base.first.view.layout (slot_of s c.args.to) (row_of c.args.rows.now c.args.to)
+    (gains base.first.view.layout (var_of s c.args.to) (row_of c.args.rows.now c.args.to)
     (kind_of from) row hand after can.free
     (c.retain.ensures.references
     ∙ ap (λ (l : Layout). with_reference l row hand.view.references) fits.follows.layout)))

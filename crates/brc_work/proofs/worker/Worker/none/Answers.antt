@@ -1,8 +1,8 @@
 use Rattle.std.proofs.Common.{ℕ, List, Option, Some, refl, sym, subst}
 use Rattle.brc_lang.specs.declared.kind.Kind.TheVariants as kinds
 use Rattle.brc_lang.specs.declared.module.Instr.TheVariants as instructions
-use Rattle.brc_model.specs.declared.slot.Slot.TheVariants.{Owned}
-use Rattle.brc_model.specs.Slots.{slot_of, put}
+use Rattle.brc_model.specs.declared.state.VarState.TheVariants.{Owned}
+use Rattle.brc_model.specs.VarStates.{var_of, put}
 use Rattle.brc_model.specs.Threads.{row_of}
 use Rattle.brc_model.proofs.Dispatch.Passing.{are_met}
 use Rattle.brc_work.specs.Fits.{OfNone, Fits}
@@ -24,7 +24,7 @@ returns g c = record {
       (refits base s c.args.rows.now hand hand c.args.to (Owned kinds.None)
       (Some 0) fits c.name.ensures.low can.unlocked
       (itself_acts hand fits.rests) (record { object = 0; is = refl; knows = OfNone refl refl })
-      (gains base.first.view.layout (slot_of s c.args.to)
+      (gains base.first.view.layout (var_of s c.args.to)
       (row_of c.args.rows.now c.args.to) kinds.None 0 hand hand can.free refl));
   made = makes_none c.args.to c.args.rows.now c.name.new.rows c.args.hand.now.view c.name.ensures.named;
 }

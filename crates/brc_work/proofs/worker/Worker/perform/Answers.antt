@@ -1,10 +1,10 @@
 use Rattle.std.proofs.Common.{[], sym, subst}
 use Rattle.brc_lang.specs.declared.module.Instr.{Instr}
-use Rattle.brc_model.specs.declared.slot.Exit.TheVariants.{Success}
+use Rattle.brc_model.specs.declared.state.Exit.TheVariants.{Success}
 use Rattle.brc_work.specs.Fits.{HasDone}
 use Rattle.brc_work.specs.Performs.{PerformsAt}
 use Rattle.brc_lang.specs.declared.module.Instr.TheVariants as instructions
-use Rattle.brc_model.specs.Slots.{slot_of, is_empty, is_borrowed, names}
+use Rattle.brc_model.specs.VarStates.{var_of, is_empty, is_borrowed, names}
 use Rattle.brc_model.proofs.Dispatch.Passing.{are_met}
 use Rattle.brc_work.proofs.Conditions.{kept, can_give}
 use Rattle.brc_work.proofs.Counting.{asked_as, asked_nothing}
@@ -21,7 +21,7 @@ returns-in-Drop-clause-done g c =
     λ base s fits passes.
     let met = are_met (instructions.Drop from) s passes in
     c.give_up.ensures.goes base s fits
-    (can_give s from (kept (is_empty (slot_of s from)) met.not_empty) (kept (is_borrowed (slot_of s from)) met.owned)
+    (can_give s from (kept (is_empty (var_of s from)) met.not_empty) (kept (is_borrowed (var_of s from)) met.owned)
     (kept (names s.locked from) met.unlocked)) in
     subst (λ (i : Instr). HasDone i Success rows hand c.give_up.new.rows c.give_up.new.hand) (sym c.in-Drop.is) dropped
 

@@ -1,8 +1,8 @@
 use Rattle.std.proofs.Common.{◌≡◌, ℕ, ◌<◌, false, List, length, inl, sym, ap, ◌∙◌, refl, subst, arith}
 use Rattle.brc_model.specs.declared.layout.Layout.{Layout}
-use Rattle.brc_model.specs.declared.slot.State.{State}
+use Rattle.brc_model.specs.declared.state.State.{State}
 use Rattle.brc_model.specs.Layout.{IsCounted}
-use Rattle.brc_model.specs.Slots.{slot_of, is_empty, names}
+use Rattle.brc_model.specs.VarStates.{var_of, is_empty, names}
 use Rattle.brc_model.proofs.Basics.Lists.{first_false, second_false}
 use Rattle.brc_table.specs.Views.{without_reference}
 use Rattle.brc_table.specs.Hands.{TableState, most_references}
@@ -40,8 +40,8 @@ on g c =
     c.row_in-row.ensures
 
 -- The variable that the item comes from is in use.
-used : (g : given.Over) (c : After-size g) → is_empty (slot_of c.requires.may.state c.args.from) ≡ false
-used g c = first_false (is_empty (slot_of c.requires.may.state c.args.from)) _ (none_broken c.requires.may).not_empty
+used : (g : given.Over) (c : After-size g) → is_empty (var_of c.requires.may.state c.args.from) ≡ false
+used g c = first_false (is_empty (var_of c.requires.may.state c.args.from)) _ (none_broken c.requires.may).not_empty
 
 -- By retaining the item the hand does nothing else.
 retained : (g : given.Over) (c : After-retain g) → Rests c.size.new.hand
@@ -67,8 +67,8 @@ pub row_in-row-requires : goal.row_in-row-requires
 row_in-row-requires g c =
     let may = c.requires.may in
     names_object may.base may.state c.args.rows.now c.args.hand.now may.fits c.args.list
-    (kept (is_empty (slot_of may.state c.args.list))
-    (second_false (is_empty (slot_of may.state c.args.from)) _ (none_broken may).not_empty))
+    (kept (is_empty (var_of may.state c.args.list))
+    (second_false (is_empty (var_of may.state c.args.from)) _ (none_broken may).not_empty))
 
 pub size-requires-clause-usable : goal.size-requires-clause-usable
 size-requires-clause-usable g c =

@@ -6,9 +6,9 @@ use Rattle.brc_host.specs.HostCalls.{after_call}
 use Rattle.brc_lang.specs.declared.kind.Kind.TheVariants as kinds
 use Rattle.brc_lang.specs.declared.module.Instr.TheVariants as instructions
 use Rattle.brc_model.specs.Actions.{number_word}
-use Rattle.brc_model.specs.declared.slot.Exit.TheVariants.{Fault}
-use Rattle.brc_model.specs.declared.slot.Slot.TheVariants.{Empty}
-use Rattle.brc_model.specs.Slots.{slot_of, kind_of, is_empty, is_one_of, with_resource, names, put}
+use Rattle.brc_model.specs.declared.state.Exit.TheVariants.{Fault}
+use Rattle.brc_model.specs.declared.state.VarState.TheVariants.{Empty}
+use Rattle.brc_model.specs.VarStates.{var_of, kind_of, is_empty, is_one_of, with_resource, names, put}
 use Rattle.brc_model.proofs.Dispatch.Passing.{are_met}
 use Rattle.brc_table.specs.declared.view.View.{View}
 use Rattle.brc_table.specs.Hands.{TableState, HandState, IsOf}
@@ -33,7 +33,7 @@ on g c =
     let met = none_broken may in
     on_file may.base may.state c.args.rows.now c.args.hand.now c.args.file c.row_in-row.result may.fits
     (not_false (names may.state.locked c.args.file) (kept _ met.has_lock))
-    (not_false (is_one_of (kind_of (slot_of may.state c.args.file)) with_resource) (kept _ met.right_kind))
+    (not_false (is_one_of (kind_of (var_of may.state c.args.file)) with_resource) (kept _ met.right_kind))
     c.row_in-row.ensures
 
 -- With the resource lent and given back, the hand is the same.
@@ -57,7 +57,7 @@ returns-then-not-room-clause-done g c = λ base s fits passes.
 pub row_in-row-requires : goal.row_in-row-requires
 row_in-row-requires g c =
     names_object _ _ _ _ c.requires.may.fits c.args.file
-    (kept (is_empty (slot_of c.requires.may.state c.args.file)) (none_broken c.requires.may).not_empty)
+    (kept (is_empty (var_of c.requires.may.state c.args.file)) (none_broken c.requires.may).not_empty)
 
 pub lend-resource-requires-clause-slot : goal.lend-resource-requires-clause-slot
 lend-resource-requires-clause-slot g c =

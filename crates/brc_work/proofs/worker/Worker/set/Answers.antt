@@ -3,9 +3,9 @@ use Rattle.std.specs.Prelude.{slice_set}
 use Rattle.brc_work.proofs.Counting.{asked_as}
 use Rattle.brc_lang.specs.declared.module.Instr.TheVariants as instructions
 use Rattle.brc_model.specs.declared.layout.Layout.{Layout}
-use Rattle.brc_model.specs.declared.slot.Slot.TheVariants.{Empty}
-use Rattle.brc_model.specs.declared.slot.State.{State}
-use Rattle.brc_model.specs.Slots.{slot_of, is_empty, is_borrowed, names, put, lowest, without_items}
+use Rattle.brc_model.specs.declared.state.VarState.TheVariants.{Empty}
+use Rattle.brc_model.specs.declared.state.State.{State}
+use Rattle.brc_model.specs.VarStates.{var_of, is_empty, is_borrowed, names, put, lowest, without_items}
 use Rattle.brc_model.proofs.Basics.Lists.{first_false, second_false}
 use Rattle.brc_model.proofs.Dispatch.Passing.{are_met}
 use Rattle.brc_table.specs.Views.{without_reference}
@@ -39,8 +39,8 @@ can : (g : facts.Over) (c : After-size g) (s : State)
     → lowest (instructions.Set c.args.list c.args.index c.args.from c.args.otherwise) s ≡ None → CanGive s c.args.from
 can g c s passes =
     let met = are_met (instructions.Set c.args.list c.args.index c.args.from c.args.otherwise) s passes in
-    can_give s c.args.from (first_false (is_empty (slot_of s c.args.from)) _ met.not_empty)
-    (kept (is_borrowed (slot_of s c.args.from)) met.owned) (kept (names s.locked c.args.from) met.unlocked)
+    can_give s c.args.from (first_false (is_empty (var_of s c.args.from)) _ met.not_empty)
+    (kept (is_borrowed (var_of s c.args.from)) met.owned) (kept (names s.locked c.args.from) met.unlocked)
 
 -- The hand has asked for the list's size.
 has_sized : (g : facts.Over) (c : After-size g)
@@ -58,8 +58,8 @@ pub row_in-row-requires : goal.row_in-row-requires
 row_in-row-requires g c =
     let may = c.requires.may in
     names_object may.base may.state c.args.rows.now c.args.hand.now may.fits c.args.list
-    (kept (is_empty (slot_of may.state c.args.list))
-    (second_false (is_empty (slot_of may.state c.args.from)) _ (none_broken may).not_empty))
+    (kept (is_empty (var_of may.state c.args.list))
+    (second_false (is_empty (var_of may.state c.args.from)) _ (none_broken may).not_empty))
 
 pub size-requires-clause-usable : goal.size-requires-clause-usable
 size-requires-clause-usable g c =

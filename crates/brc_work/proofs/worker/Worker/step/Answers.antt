@@ -2,7 +2,7 @@ use Rattle.std.proofs.Common.{None, refl, sym, ◌∙◌, arith}
 use Rattle.std.proofs.lemmas.Option.{slice_get_within}
 use Rattle.brc_work.proofs.Counting.{asked_as}
 use Rattle.brc_lang.specs.Grammar.{IsInstruction}
-use Rattle.brc_model.specs.declared.slot.Exit.TheVariants.{Success}
+use Rattle.brc_model.specs.declared.state.Exit.TheVariants.{Success}
 use Rattle.brc_model.proofs.Basics.Lists.{all_of_found}
 use Rattle.brc_work.proofs.Stepping.{passes_at, passes_none, leads_by, leads_nowhere}
 use Rattle.brc_work.proofs.Traces.References.{at_point}

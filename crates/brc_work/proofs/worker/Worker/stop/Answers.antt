@@ -1,6 +1,6 @@
 use Rattle.std.proofs.Common.{[], ◌∷◌, sym, subst}
 use Rattle.brc_model.specs.declared.actor.Place.TheVariants.{Idle}
-use Rattle.brc_model.specs.declared.slot.State.{State}
+use Rattle.brc_model.specs.declared.state.State.{State}
 use Rattle.brc_model.specs.Stops.{row_locked, owned_rows, stopping}
 use Rattle.brc_work.specs.Fits.{Fits}
 use Rattle.brc_work.proofs.Counting.{asked_as}
@@ -54,6 +54,6 @@ returns-clause-asked g c =
     let state = c.args.state.now in
     let rows = c.args.rows.now in
     asked_as (λ cs made code.
-    traces_then code (stopping (row_locked state.locked rows) (owned_rows state.slots rows ∷ []))
-    (place_of state.slots rows) (Idle 0) [] [] [] c.args.hand.now.view c.match-state.hand.view
+    traces_then code (stopping (row_locked state.locked rows) (owned_rows state.vars rows ∷ []))
+    (place_of state.vars rows) (Idle 0) [] [] [] c.args.hand.now.view c.match-state.hand.view
     c.give_up_owned.new.hand.view (free.made code) (made code)) c.give_up_owned.ensures.asked

@@ -1,8 +1,8 @@
 use Rattle.std.proofs.Common.{◌≡◌, Bool, false, cond, ◌∷◌, None, Some, sym, ap, ◌∙◌, subst}
 use Rattle.std.specs.Prelude.{is_some}
 use Rattle.brc_lang.specs.declared.module.Instr.TheVariants as instructions
-use Rattle.brc_model.specs.declared.slot.State.{State}
-use Rattle.brc_model.specs.Slots.{slot_of, kind_of, is_empty, is_one_of, lockable, lowest}
+use Rattle.brc_model.specs.declared.state.State.{State}
+use Rattle.brc_model.specs.VarStates.{var_of, kind_of, is_empty, is_one_of, lockable, lowest}
 use Rattle.brc_model.specs.Threads.{row_of}
 use Rattle.brc_model.proofs.Dispatch.Passing.{are_met}
 use Rattle.brc_table.specs.Hands.{TableState, IsOf}
@@ -17,8 +17,8 @@ use Rattle.brc_work.proofs.worker.Worker.tries_lock.Goals.{Start, After-try_lock
 use Rattle.brc_work.proofs.worker.Worker.tries_lock.Goals as goal
 
 -- The variable is in use.
-used : (g : given.Over) (c : Start g) → is_empty (slot_of c.requires.may.state c.args.object) ≡ false
-used g c = kept (is_empty (slot_of c.requires.may.state c.args.object)) (none_broken c.requires.may).not_empty
+used : (g : given.Over) (c : Start g) → is_empty (var_of c.requires.may.state c.args.object) ≡ false
+used g c = kept (is_empty (var_of c.requires.may.state c.args.object)) (none_broken c.requires.may).not_empty
 
 -- No variable is locked.
 none : (g : given.Over) (c : Start g) → c.requires.may.state.locked ≡ None
@@ -48,7 +48,7 @@ row_in-row-requires g c =
 
 pub try_lock-requires-clause-counted : goal.try_lock-requires-clause-counted
 try_lock-requires-clause-counted g c =
-    let slot = slot_of c.requires.may.state c.args.object in
+    let slot = var_of c.requires.may.state c.args.object in
     lockable_counted c.args.hand.now.view (kind_of slot) c.row_in-row.result
     (knows_slot c.requires.may.base.held c.args.hand.now.view slot
     (row_of c.args.rows.now c.args.object) c.row_in-row.result
@@ -62,7 +62,7 @@ try_lock-requires-clause-held g c =
     let start = (goal.at.try_lock-requires-clause-held g c).Start in
     lasting_one may.base may.state c.args.rows.now c.args.hand.now may.fits c.args.object c.row_in-row.result
     (used g start)
-    (borrows_none may.base.held c.args.hand.now.view (slot_of may.state c.args.object)
+    (borrows_none may.base.held c.args.hand.now.view (var_of may.state c.args.object)
     (row_of c.args.rows.now c.args.object)
     (no_lock may.base may.state c.args.rows.now c.args.hand.now may.fits (none g start)).0
     (may.fits.each c.args.object)) c.row_in-row.ensures
@@ -76,7 +76,7 @@ returns-clause-done g c = λ wins base s fits passes.
     let before = c.args.hand.now in
     let locked = c.try_lock.new.hand in
     let object = c.row_in-row.result in
-    let slot = slot_of s c.args.object in
+    let slot = var_of s c.args.object in
     let all = are_met (instructions.Lock c.args.object) s passes in
     lock_is base s c.args.rows.now before locked fits (none_is s.locked (kept (is_some s.locked) all.first_lock))
     c.try_lock.ensures.keeps

@@ -7,8 +7,8 @@ use Rattle.brc_host.specs.HostCalls as calls
 use Rattle.brc_host.specs.HostCalls.{after_call}
 use Rattle.brc_lang.specs.declared.kind.Kind.TheVariants as kinds
 use Rattle.brc_lang.specs.declared.module.Instr.TheVariants as instructions
-use Rattle.brc_model.specs.declared.slot.Exit.TheVariants.{Success, Fault}
-use Rattle.brc_model.specs.Slots.{slot_of, kind_of, is_empty, is_one_of, with_resource, names}
+use Rattle.brc_model.specs.declared.state.Exit.TheVariants.{Success, Fault}
+use Rattle.brc_model.specs.VarStates.{var_of, kind_of, is_empty, is_one_of, with_resource, names}
 use Rattle.brc_model.proofs.Basics.Lists.{first_false, second_false}
 use Rattle.brc_table.specs.declared.view.View.{View}
 use Rattle.brc_table.specs.Hands.{TableState, HandState}
@@ -28,10 +28,10 @@ use Rattle.brc_work.proofs.worker.Worker.write.Goals.{Start, After-arg_of-value,
 use Rattle.brc_work.proofs.worker.Worker.write.Goals as goal
 
 -- The variable of the number is in use.
-number_used : (g : given.Over) (c : Start g) → is_empty (slot_of c.requires.may.state c.args.number) ≡ false
+number_used : (g : given.Over) (c : Start g) → is_empty (var_of c.requires.may.state c.args.number) ≡ false
 number_used g c =
-    kept (is_empty (slot_of c.requires.may.state c.args.number))
-    (second_false (is_empty (slot_of c.requires.may.state c.args.file)) _ (none_broken c.requires.may).not_empty)
+    kept (is_empty (var_of c.requires.may.state c.args.number))
+    (second_false (is_empty (var_of c.requires.may.state c.args.file)) _ (none_broken c.requires.may).not_empty)
 
 -- By loading the number the hand does nothing else.
 asked : (g : given.Over) (c : After-arg_of-value g) → ActsElsewhere c.args.hand.now c.arg_of-value.new.hand
@@ -51,8 +51,8 @@ on g c acts =
     (same_fits may.base may.state c.args.rows.now c.args.hand.now c.arg_of-value.new.hand may.fits acts
     c.arg_of-value.ensures.references)
     (not_false (names may.state.locked c.args.file) (kept _ met.has_lock))
-    (not_false (is_one_of (kind_of (slot_of may.state c.args.file)) with_resource)
-    (first_false _ (not (is_one_of (kind_of (slot_of may.state c.args.number)) (kinds.Num ∷ [])) || false)
+    (not_false (is_one_of (kind_of (var_of may.state c.args.file)) with_resource)
+    (first_false _ (not (is_one_of (kind_of (var_of may.state c.args.number)) (kinds.Num ∷ [])) || false)
     met.right_kind))
     c.row_in-row.ensures
 
@@ -79,7 +79,7 @@ arg_of-value-requires-clause-usable g c =
 pub row_in-row-requires : goal.row_in-row-requires
 row_in-row-requires g c =
     names_object _ _ _ _ c.requires.may.fits c.args.file
-    (first_false (is_empty (slot_of c.requires.may.state c.args.file)) _ (none_broken c.requires.may).not_empty)
+    (first_false (is_empty (var_of c.requires.may.state c.args.file)) _ (none_broken c.requires.may).not_empty)
 
 pub lend-resource-requires-clause-slot : goal.lend-resource-requires-clause-slot
 lend-resource-requires-clause-slot g c =

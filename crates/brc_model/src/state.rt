@@ -2,7 +2,7 @@ use brc_lang::{Kind, Variable};
 
 /// The checker's knowledge of one variable. (Extending manual, Ownership Rules: a reference is owned or borrowed.)
 #[derive(Clone, Copy, Debug, PartialEq, Eq)]
-pub enum Slot {
+pub enum VarState {
     /// It names no object.
     Empty,
     /// It owns a reference, which it has to give up once.
@@ -16,8 +16,8 @@ pub enum Slot {
 /// The checker's knowledge at one point of a function.
 #[derive(Clone, Copy, Debug, PartialEq, Eq)]
 pub struct State {
-    /// Each variable's slot, by the variable's number.
-    pub slots: [Slot; 16],
+    /// Each variable's state, by the variable's number.
+    pub vars: [VarState; 16],
     /// The variable whose critical section is open.
     pub locked: Option<Variable>,
 }

@@ -12,9 +12,9 @@ use Rattle.brc_model.specs.Duties.{address_of}
 use Rattle.brc_model.specs.Machine.{same_address, locked_by}
 use Rattle.brc_table.specs.declared.view.View.{View}
 use Rattle.brc_table.specs.declared.view.Event.{Event}
-use Rattle.brc_table.specs.Views.{did, event_of}
-use Rattle.brc_table.specs.Seen.{shows_kind, cell_known, cell_seen}
-use Rattle.brc_heap.specs.Calls.{KeepsSight}
+use Rattle.brc_table.specs.Views.{view_by, event_of}
+use Rattle.brc_table.specs.KnownWords.{shows_kind, cell_known, known_cell}
+use Rattle.brc_heap.specs.Calls.{KeepsKnown}
 
 -- The duty locks and unlocks nothing, and touches no cell and no gate.
 pub record StaysAway (d : Duty) : Type 0 where
@@ -37,7 +37,7 @@ away_off u d found away = record {
 }
 
 -- A hand whose lock and trace are the same.
-pub same_sight : (v u : View) → u.locked ≡ v.locked → u.in_slot ≡ v.in_slot → u.trace ≡ v.trace → KeepsSight v u
+pub same_sight : (v u : View) → u.locked ≡ v.locked → u.in_slot ≡ v.in_slot → u.trace ≡ v.trace → KeepsKnown v u
 same_sight v u locked in_slot trace = record {
   locked = locked;
   in_slot = in_slot;
@@ -46,7 +46,7 @@ same_sight v u locked in_slot trace = record {
 }
 
 -- One call after another.
-pub sight_then : (v u w : View) → KeepsSight v u → KeepsSight u w → KeepsSight v w
+pub sight_then : (v u w : View) → KeepsKnown v u → KeepsKnown u w → KeepsKnown v w
 sight_then v u w one other = record {
   locked = other.locked ∙ one.locked;
   in_slot = other.in_slot ∙ one.in_slot;
@@ -63,7 +63,7 @@ unknown y i known e cell gate =
 
 -- One duty more.
 pub did_sight : (u : View) (d : Duty) (rest : List Duty) (found : ℕ) → StaysOff u d found
-    → KeepsSight u (did u (d ∷ rest) found)
+    → KeepsKnown u (view_by u (d ∷ rest) found)
 did_sight u d rest found stays = record {
   locked = stays.locked;
   in_slot = refl;
@@ -72,5 +72,5 @@ did_sight u d rest found stays = record {
       ∙ ap (λ (b : Bool). b || list_any (shows_kind y word) (event_of u d found ∷ [])) seen;
   cells = λ y i is.
       fold-append (cell_known y i) None u.trace (event_of u d found ∷ [])
-      ∙ unknown y i (cell_seen y i u) (event_of u d found) (stays.cells y i is) (stays.gates y is);
+      ∙ unknown y i (known_cell y i u) (event_of u d found) (stays.cells y i is) (stays.gates y is);
 }

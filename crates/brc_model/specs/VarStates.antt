@@ -10,31 +10,31 @@ use Rattle.brc_lang.specs.declared.module.Instr.TheVariants.{Num, List as ListOb
 use Rattle.brc_model.specs.Kinds.{same_kind}
 use Rattle.brc_lang.specs.declared.check_code.CheckCode.{CheckCode}
 use Rattle.brc_lang.specs.declared.check_code.CheckCode.TheVariants.{EmptyUsed, WrongKind, NotOwned, StillOwns, LeftOwned, LeftLocked, SecondLock, NotLocked, LockedChanged}
-use Rattle.brc_model.specs.declared.slot.Slot.{Slot}
-use Rattle.brc_model.specs.declared.slot.Slot.TheVariants.{Empty, Owned, Caller, Locked}
-use Rattle.brc_model.specs.declared.slot.State.{State}
-use Rattle.brc_model.specs.declared.slot.Exit.{Exit}
-use Rattle.brc_model.specs.declared.slot.Exit.TheVariants.{Success, Fault}
+use Rattle.brc_model.specs.declared.state.VarState.{VarState}
+use Rattle.brc_model.specs.declared.state.VarState.TheVariants.{Empty, Owned, Caller, Locked}
+use Rattle.brc_model.specs.declared.state.State.{State}
+use Rattle.brc_model.specs.declared.state.Exit.{Exit}
+use Rattle.brc_model.specs.declared.state.Exit.TheVariants.{Success, Fault}
 
--- ---- one slot
+-- ---- one state of a variable
 
-abbrev pub slot_of : State → ℕ → Slot
-slot_of s x = slice_index_or s.slots x Empty
+abbrev pub var_of : State → ℕ → VarState
+var_of s x = slice_index_or s.vars x Empty
 
-abbrev pub is_empty : Slot → Bool
+abbrev pub is_empty : VarState → Bool
 is_empty Empty = true
 is_empty _ = false
 
-abbrev pub is_owned : Slot → Bool
+abbrev pub is_owned : VarState → Bool
 is_owned (Owned k) = true
 is_owned _ = false
 
-abbrev pub is_borrowed : Slot → Bool
+abbrev pub is_borrowed : VarState → Bool
 is_borrowed (Caller k) = true
 is_borrowed (Locked k) = true
 is_borrowed _ = false
 
-abbrev pub kind_of : Slot → Kind
+abbrev pub kind_of : VarState → Kind
 kind_of Empty = kinds.Any
 kind_of (Owned k) = k
 kind_of (Caller k) = k
@@ -57,8 +57,8 @@ abbrev pub may_be : Kind → Kind → Bool
 may_be kinds.Any asked = true
 may_be known asked = same_kind known asked
 
--- the slot with another kind
-abbrev pub with_kind : Slot → Kind → Slot
+-- the variable's state with another kind
+abbrev pub with_kind : VarState → Kind → VarState
 with_kind Empty k = Empty
 with_kind (Owned old) k = Owned k
 with_kind (Caller old) k = Caller k
@@ -68,23 +68,23 @@ abbrev pub names : Option ℕ → ℕ → Bool
 names None x = false
 names (Some y) x = x == y
 
--- the state with the slot of variable x replaced
-abbrev pub put : State → ℕ → Slot → State
-put s x slot = record { slots = slice_set s.slots x slot; locked = s.locked }
+-- the state with the variable's state of variable x replaced
+abbrev pub put : State → ℕ → VarState → State
+put s x var = record { vars = slice_set s.vars x var; locked = s.locked }
 
--- a slot once nothing can be borrowed from the locked list any more
-abbrev pub without_item : Slot → Slot
+-- a variable's state once nothing can be borrowed from the locked list any more
+abbrev pub without_item : VarState → VarState
 without_item (Locked k) = Empty
-without_item slot = slot
+without_item var = var
 
 -- The state once the locked list is unlocked or changed: each variable that borrowed from it is empty. (Extending
 -- manual, Thin Ice: a borrowed item may be deallocated once its list is changed.)
 abbrev pub without_items : State → State
-without_items s = record { slots = map without_item s.slots; locked = s.locked }
+without_items s = record { vars = map without_item s.vars; locked = s.locked }
 
 -- the state with this variable's object locked, or none
 abbrev pub with_lock : State → Option ℕ → State
-with_lock s locked = record { slots = s.slots; locked = locked }
+with_lock s locked = record { vars = s.vars; locked = locked }
 
 -- ---- conditions
 
@@ -113,17 +113,17 @@ pub data Condition : Type 0 where
 
 -- says whether the state breaks the condition in the way that the code names
 abbrev pub breaks : State → CheckCode → Condition → Bool
-breaks s EmptyUsed (Use x) = is_empty (slot_of s x)
-breaks s EmptyUsed (Give x) = is_empty (slot_of s x)
-breaks s NotOwned (Give x) = is_borrowed (slot_of s x)
+breaks s EmptyUsed (Use x) = is_empty (var_of s x)
+breaks s EmptyUsed (Give x) = is_empty (var_of s x)
+breaks s NotOwned (Give x) = is_borrowed (var_of s x)
 breaks s LockedChanged (Give x) = names s.locked x
-breaks s StillOwns (Into x) = is_owned (slot_of s x)
+breaks s StillOwns (Into x) = is_owned (var_of s x)
 breaks s LockedChanged (Into x) = names s.locked x
-breaks s WrongKind (MayBe x kind) = not (may_be (kind_of (slot_of s x)) kind)
-breaks s LeftOwned NothingOwned = list_any is_owned s.slots
-breaks s LeftOwned (NothingOwnedBut x) = list_any is_owned (put s x Empty).slots
+breaks s WrongKind (MayBe x kind) = not (may_be (kind_of (var_of s x)) kind)
+breaks s LeftOwned NothingOwned = list_any is_owned s.vars
+breaks s LeftOwned (NothingOwnedBut x) = list_any is_owned (put s x Empty).vars
 breaks s LeftLocked NothingLocked = is_some s.locked
-breaks s WrongKind (IsOneOf x asked) = not (is_one_of (kind_of (slot_of s x)) asked)
+breaks s WrongKind (IsOneOf x asked) = not (is_one_of (kind_of (var_of s x)) asked)
 breaks s SecondLock NoLockYet = is_some s.locked
 breaks s NotLocked (IsLocked x) = not (names s.locked x)
 breaks s _ _ = false
@@ -173,30 +173,30 @@ lowest i s = find (applies i s) rising
 -- ---- exits
 
 -- what an exit of a birth leaves in its variable, and one of a fetch: an owned reference, or nothing
-abbrev pub birth_slot : Kind → Exit → Slot
-birth_slot kind Success = Owned kind
-birth_slot kind Fault = Empty
+abbrev pub birth_var : Kind → Exit → VarState
+birth_var kind Success = Owned kind
+birth_var kind Fault = Empty
 
 -- the state after an exit of the instruction
 abbrev pub after : Instr → Exit → State → State
-after (Num to value otherwise) exit s = put s to (birth_slot kinds.Num exit)
-after (ListObject to cells otherwise) exit s = put s to (birth_slot kinds.List exit)
+after (Num to value otherwise) exit s = put s to (birth_var kinds.Num exit)
+after (ListObject to cells otherwise) exit s = put s to (birth_var kinds.List exit)
 after (NoneObject to) exit s = put s to (Owned kinds.None)
-after (Newref to from) exit s = put s to (Owned (kind_of (slot_of s from)))
-after (Move to from) exit s = put (put s from Empty) to (Owned (kind_of (slot_of s from)))
+after (Newref to from) exit s = put s to (Owned (kind_of (var_of s from)))
+after (Move to from) exit s = put (put s from Empty) to (Owned (kind_of (var_of s from)))
 after (Drop from) exit s = put s from Empty
 after (Lock object) exit s = with_lock s (Some object)
 after (Unlock object) exit s = with_lock (without_items s) None
 after (Borrow to list index otherwise) Success s = put s to (Locked kinds.Any)
 after (Borrow to list index otherwise) Fault s = put s to Empty
-after (Fetch to list index otherwise) exit s = put s to (birth_slot kinds.Any exit)
+after (Fetch to list index otherwise) exit s = put s to (birth_var kinds.Any exit)
 after (Set list index from otherwise) exit s = without_items (put s from Empty)
 after (Put list index from otherwise) exit s = without_items s
-after (Open to path mode otherwise) exit s = put s to (birth_slot kinds.File exit)
-after (Connect to peer otherwise) exit s = put s to (birth_slot kinds.Sock exit)
-after (Read to file most otherwise) exit s = put s to (birth_slot kinds.Num exit)
+after (Open to path mode otherwise) exit s = put s to (birth_var kinds.File exit)
+after (Connect to peer otherwise) exit s = put s to (birth_var kinds.Sock exit)
+after (Read to file most otherwise) exit s = put s to (birth_var kinds.Num exit)
 after (Write file number otherwise) exit s = s
-after (As from kind otherwise) Success s = put s from (with_kind (slot_of s from) kind)
+after (As from kind otherwise) Success s = put s from (with_kind (var_of s from) kind)
 after (As from kind otherwise) Fault s = s
 after (Goto to) exit s = s
 after (Again to times) exit s = s
@@ -241,4 +241,4 @@ target Fail exit at = None
 
 -- the state at a function's entry: the caller lends the root in v0, and the other variables are empty
 abbrev pub entry : State
-entry = record { slots = Caller kinds.List ∷ replicate 15 Empty; locked = None }
+entry = record { vars = Caller kinds.List ∷ replicate 15 Empty; locked = None }

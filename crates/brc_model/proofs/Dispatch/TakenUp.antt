@@ -16,7 +16,7 @@ use Rattle.brc_model.specs.OpenWork.{Later, Agenda, has_leave, exits, IsSettled}
 use Rattle.brc_model.specs.Knowledge.{AllBehind, IsBacked, IsNext, ByReference, ByItem, HeadOf, is_retain}
 use Rattle.brc_model.proofs.Frame.Aside.{HoldsAlone, holds_alone, alone_fits}
 use Rattle.brc_model.proofs.Dispatch.Coded.{is_departing, stays_elsewhere}
-use Rattle.brc_model.proofs.Dispatch.Begins.{Scene, scene_of, Backs, ByOwn, ByList, Starts, Gives, Takes, Bears, Asks, Locks, Unlocks, Loads, Swaps, Lends, Returns, Follows, Nothing, Settles, Leaves}
+use Rattle.brc_model.proofs.Dispatch.TakingUp.{Scene, scene_of, Backs, ByOwn, ByList, MayBegin, Gives, Takes, Bears, Asks, Locks, Unlocks, Loads, Swaps, Lends, Returns, MayFollow, Nothing, Settles, Exits}
 use Rattle.brc_model.proofs.Dispatch.AtOnce.{at_once}
 use Rattle.brc_model.proofs.Keeping.Sits.{Sits, AtRest, sitting}
 use Rattle.brc_model.specs.declared.layout.Layout.{Layout}
@@ -39,59 +39,59 @@ module _ {p : Accounts} {n : ℕ} {m : Machine} where
         room = room;
       }
 
-later_follows : (layout : Layout) (t used : ℕ) (place : Place) (rest : List Duty) → Follows layout t used place rest
+later_follows : (layout : Layout) (t used : ℕ) (place : Place) (rest : List Duty) → MayFollow layout t used place rest
     → Later used Running rest
 later_follows layout t used place rest (Nothing stays) = refl
 later_follows layout t used place rest (Settles stays) = refl
-later_follows layout t used place rest (Leaves leaves) = (refl, refl, refl)
+later_follows layout t used place rest (Exits leaves) = (refl, refl, refl)
 
 -- The duties behind the first one have to know nothing.
 follows_behind : (m : Machine) (t : ℕ) (layout : Layout) (used : ℕ) (place : Place) (rest : List Duty)
-    → Follows layout t used place rest → AllBehind m t rest
+    → MayFollow layout t used place rest → AllBehind m t rest
 follows_behind m t layout used place rest (Nothing stays) = tt
 follows_behind m t layout used place rest (Settles stays) = (tt, tt)
-follows_behind m t layout used place rest (Leaves leaves) = (tt, (tt, tt))
+follows_behind m t layout used place rest (Exits leaves) = (tt, (tt, tt))
 
 -- The work ends with the duty to leave exactly if the thread's new place is that of an exit.
-pub follows_leave : (layout : Layout) (t used : ℕ) (place : Place) (rest : List Duty) → Follows layout t used place rest
+pub follows_leave : (layout : Layout) (t used : ℕ) (place : Place) (rest : List Duty) → MayFollow layout t used place rest
     → has_leave rest ≡ is_departing place
 follows_leave layout t used place rest (Nothing stays) = sym (stays_elsewhere place stays)
 follows_leave layout t used place rest (Settles stays) = sym (stays_elsewhere place stays)
-follows_leave layout t used place rest (Leaves leaves) = sym (ap is_departing leaves)
+follows_leave layout t used place rest (Exits leaves) = sym (ap is_departing leaves)
 
-pub starts_leave : (g : Scene) (d : Duty) (rest : List Duty) → Starts g d rest → has_leave (d ∷ rest) ≡ has_leave rest
+pub starts_leave : (g : Scene) (d : Duty) (rest : List Duty) → MayBegin g d rest → has_leave (d ∷ rest) ≡ has_leave rest
 starts_leave g d rest (Gives row h behind some) = refl
 starts_leave g d rest _ = refl
 
 -- ---- what is begun weighs nothing
 
-starts_light : (g : Scene) (d : Duty) (rest : List Duty) → Starts g d rest → weighs_any d ≡ false
+starts_light : (g : Scene) (d : Duty) (rest : List Duty) → MayBegin g d rest → weighs_any d ≡ false
 starts_light g d rest (Gives row h behind some) = refl
 starts_light g d rest _ = refl
 
-follows_light : (layout : Layout) (t used : ℕ) (place : Place) (rest : List Duty) → Follows layout t used place rest
+follows_light : (layout : Layout) (t used : ℕ) (place : Place) (rest : List Duty) → MayFollow layout t used place rest
     → list_any weighs_any rest ≡ false
 follows_light layout t used place rest (Nothing stays) = refl
 follows_light layout t used place rest _ = refl
 
-begun_light : (g : Scene) (place : Place) (d : Duty) (rest : List Duty) → Starts g d rest
-    → Follows g.layout g.thread g.used place rest → list_any weighs_any (d ∷ rest) ≡ false
+begun_light : (g : Scene) (place : Place) (d : Duty) (rest : List Duty) → MayBegin g d rest
+    → MayFollow g.layout g.thread g.used place rest → list_any weighs_any (d ∷ rest) ≡ false
 begun_light g place d rest starts follows =
     ap (λ (b : Bool). b || list_any weighs_any rest) (starts_light g d rest starts)
     ∙ follows_light g.layout g.thread g.used place rest follows
 
 -- The duties behind the first one weigh nothing.
 follows_weigh : (layout : Layout) (t used : ℕ) (place : Place) (rest : List Duty) (f : Duty → ℕ) → f Settle ≡ 0
-    → ((x k : ℕ) → f (Leave x k) ≡ 0) → Follows layout t used place rest → sum_by f rest ≡ 0
+    → ((x k : ℕ) → f (Leave x k) ≡ 0) → MayFollow layout t used place rest → sum_by f rest ≡ 0
 follows_weigh layout t used place rest f settle leave (Nothing stays) = refl
 follows_weigh layout t used place rest f settle leave (Settles stays) = omega (arith, sum_by-cons f Settle [], settle)
-follows_weigh layout t used place rest f settle leave (Leaves leaves) =
+follows_weigh layout t used place rest f settle leave (Exits leaves) =
     omega (arith, sum_by-cons f Settle (Leave 0 used ∷ []), sum_by-cons f (Leave 0 used) [], settle, leave 0 used)
 
 -- ---- what is begun fits its thread
 
-begun_fits : (g : Scene) (place : Place) (d : Duty) (rest : List Duty) → Starts g d rest
-    → Follows g.layout g.thread g.used place rest → Agenda g.used Running (d ∷ rest)
+begun_fits : (g : Scene) (place : Place) (d : Duty) (rest : List Duty) → MayBegin g d rest
+    → MayFollow g.layout g.thread g.used place rest → Agenda g.used Running (d ∷ rest)
 begun_fits g place d rest (Gives row h behind some) follows = later_follows g.layout g.thread g.used place rest follows
 begun_fits g place d rest _ follows = later_follows g.layout g.thread g.used place rest follows
 
@@ -103,7 +103,7 @@ backs_duty m t a agenda row (ByList list cell has holds) = ByItem list cell has 
 
 module _ {p : Accounts} {n : ℕ} {m : Machine} {t : ℕ} {a : Actor} where
   -- The thread knows what its first duty has to know.
-  begun_knows : (d : Duty) (rest : List Duty) → AtRest p n m t a → a.aside ≡ [] → Starts (scene_of m t a) d rest
+  begun_knows : (d : Duty) (rest : List Duty) → AtRest p n m t a → a.aside ≡ [] → MayBegin (scene_of m t a) d rest
       → HeadOf (with_actor m t (sitting a (d ∷ rest))) t (sitting a (d ∷ rest)) (d ∷ rest)
   begun_knows d rest at alone (Gives row h behind some) = tt
   begun_knows d rest at alone (Takes row h behind backs) = backs_duty m t a (d ∷ rest) row backs
@@ -129,7 +129,7 @@ module _ {p : Accounts} {n : ℕ} {m : Machine} {t : ℕ} {a : Actor} where
   -- The thread still holds what it has locked.
   begun_locks : (place : Place) (d : Duty) (rest : List Duty) (account : Account) → AtRest p n m t a → a.aside ≡ []
       → HoldsAlone m.abstract.references t account (d ∷ rest)
-      → ((x : ℕ) → a.locked ≡ Some x → HeldBeside m.abstract.references t x d) → Follows m.layout t a.used place rest
+      → ((x : ℕ) → a.locked ≡ Some x → HeldBeside m.abstract.references t x d) → MayFollow m.layout t a.used place rest
       → LocksFit account m t (sitting a (d ∷ rest))
   begun_locks place d rest account at alone holds keeps follows x has =
       let old = (at.core.each t a at.found).0.locks x has in
@@ -154,8 +154,8 @@ module _ {p : Accounts} {n : ℕ} {m : Machine} {t : ℕ} {a : Actor} where
   pub starts_sit : (place : Place) (d : Duty) (rest : List Duty) (account : Account) → AtRest p n m t a → a.aside ≡ []
       → HoldsAlone m.abstract.references t account (d ∷ rest) → IsBounded m.layout account
       → (exits Running (d ∷ rest) ≡ true → HoldsNone account)
-      → ((x : ℕ) → a.locked ≡ Some x → HeldBeside m.abstract.references t x d) → Starts (scene_of m t a) d rest
-      → Follows m.layout t a.used place rest → Sits m t a (d ∷ rest) account
+      → ((x : ℕ) → a.locked ≡ Some x → HeldBeside m.abstract.references t x d) → MayBegin (scene_of m t a) d rest
+      → MayFollow m.layout t a.used place rest → Sits m t a (d ∷ rest) account
   starts_sit place d rest account at alone holds bounded exited keeps starts follows =
       let g = scene_of m t a in
       record {
@@ -172,14 +172,14 @@ module _ {p : Accounts} {n : ℕ} {m : Machine} {t : ℕ} {a : Actor} where
 
 -- Nothing behind the first duty locks or unlocks.
 pub follows_plain : (layout : Layout) (t used : ℕ) (place : Place) (rest : List Duty)
-    → Follows layout t used place rest → sum_by at_once rest ≡ 0
+    → MayFollow layout t used place rest → sum_by at_once rest ≡ 0
 follows_plain layout t used place rest follows =
     follows_weigh layout t used place rest at_once refl (λ y k. refl) follows
 
 -- the chain is empty where what is taken up begins with the exit: it never does
 pub starts_settled : (g : Scene) (head : ℕ) (place : Place) (d : Duty) (rest : List Duty)
-    → Starts g d rest → Follows g.layout g.thread g.used place rest → IsSettled head (d ∷ rest)
-starts_settled g head place d rest (Gives row h behind some) (Leaves leaves) = (refl, tt)
-starts_settled g head place d rest (Takes row h behind backs) (Leaves leaves) = (refl, tt)
-starts_settled g head place d rest (Swaps row i item h behind backs has within some) (Leaves leaves) = (refl, tt)
+    → MayBegin g d rest → MayFollow g.layout g.thread g.used place rest → IsSettled head (d ∷ rest)
+starts_settled g head place d rest (Gives row h behind some) (Exits leaves) = (refl, tt)
+starts_settled g head place d rest (Takes row h behind backs) (Exits leaves) = (refl, tt)
+starts_settled g head place d rest (Swaps row i item h behind backs has within some) (Exits leaves) = (refl, tt)
 starts_settled g head place d rest _ _ = tt

@@ -16,7 +16,7 @@ use Rattle.brc_model.specs.Duties.{address_of, new_word}
 use Rattle.brc_model.specs.Machine.{same_address, written, locked_by}
 use Rattle.brc_model.specs.Stores.{Overwrites}
 use Rattle.brc_table.specs.declared.view.Event.{Event}
-use Rattle.brc_table.specs.Seen.{shows_kind, cell_known}
+use Rattle.brc_table.specs.KnownWords.{shows_kind, cell_known}
 use Rattle.brc_table.proofs.Lists.{and_first, and_second}
 
 -- ---- one word

@@ -15,13 +15,13 @@ abbrev pub shows_kind : ℕ → ℕ → Event → Bool
 shows_kind x word e = same_address e.address (KindOf x) && (e.left == word)
 
 -- Says whether the hand has loaded or stored this kind word of the row.
-abbrev pub has_seen_kind : ℕ → ℕ → View → Bool
-has_seen_kind x word v = list_any (shows_kind x word) v.trace
+abbrev pub knows_kind : ℕ → ℕ → View → Bool
+knows_kind x word v = list_any (shows_kind x word) v.trace
 
 -- The hand has seen that the row's object is a list which has the cell.
 pub record KnowsCell (v : View) (x cell : ℕ) : Type 0 where
   pub word : ℕ
-  pub seen : has_seen_kind x word v ≡ true
+  pub seen : knows_kind x word v ≡ true
   pub low : cell < cells_of word
 
 -- ---- cells
@@ -35,8 +35,8 @@ cell_known x i known e =
     else known
 
 -- the word that the hand last saw or stored in the cell since it locked the list
-abbrev pub cell_seen : ℕ → ℕ → View → Option ℕ
-cell_seen x i v = fold (cell_known x i) None v.trace
+abbrev pub known_cell : ℕ → ℕ → View → Option ℕ
+known_cell x i v = fold (cell_known x i) None v.trace
 
 -- ---- threads
 
@@ -57,5 +57,5 @@ abbrev pub shows_gone : ℕ → Event → Bool
 shows_gone t e = same_address e.address (ThreadWord t) && (e.left == 3)
 
 -- Says whether the hand has seen that the thread is gone.
-abbrev pub has_seen_gone : ℕ → View → Bool
-has_seen_gone t v = list_any (shows_gone t) v.trace
+abbrev pub knows_gone : ℕ → View → Bool
+knows_gone t v = list_any (shows_gone t) v.trace

@@ -4,11 +4,11 @@ use Rattle.std.specs.Prelude.{◌==◌, ◌&&◌, slice_set, slice_get}
 use Rattle.std.proofs.lemmas.Bool.{eq-eqb}
 use Rattle.std.proofs.lemmas.Bool.Decides.{eqb_tells}
 use Rattle.brc_lang.specs.declared.module.Instr.{Instr}
-use Rattle.brc_model.specs.declared.slot.Slot.{Slot}
-use Rattle.brc_model.specs.declared.slot.Slot.TheVariants.{Empty}
-use Rattle.brc_model.specs.declared.slot.State.{State}
-use Rattle.brc_model.specs.declared.slot.Exit.{Exit}
-use Rattle.brc_model.specs.Slots.{slot_of, is_owned, names, put, after, target, is_one_of, lockable}
+use Rattle.brc_model.specs.declared.state.VarState.{VarState}
+use Rattle.brc_model.specs.declared.state.VarState.TheVariants.{Empty}
+use Rattle.brc_model.specs.declared.state.State.{State}
+use Rattle.brc_model.specs.declared.state.Exit.{Exit}
+use Rattle.brc_model.specs.VarStates.{var_of, is_owned, names, put, after, target, is_one_of, lockable}
 use Rattle.brc_model.specs.Paths.{At, path_end}
 use Rattle.brc_model.specs.KnownKinds.{HaveTrueKinds}
 use Rattle.brc_lang.specs.Grammar.{IsInstruction}
@@ -32,7 +32,7 @@ use Rattle.brc_model.specs.declared.actor.Stage.{Stage}
 use Rattle.brc_model.specs.Actions.{Action, Skip, Stuck, Silent, Calls, Does, with_row}
 use Rattle.brc_model.specs.References.{held, one_if, reference_of}
 use Rattle.brc_model.proofs.Dispatch.Holds.{once_each, Activation, call_of, of_variables, of_inside, own_depth, other_depth, by_depth, Holds}
-use Rattle.brc_model.proofs.Dispatch.Grounded.{IsInside, slot_of-put_same, slot_of-put_other, row_of-set_same, row_of-set_other}
+use Rattle.brc_model.proofs.Dispatch.Grounded.{IsInside, var_of-put_same, var_of-put_other, row_of-set_same, row_of-set_other}
 use Rattle.brc_model.proofs.Stepping.Counts.{flip_eqb}
 use Rattle.brc_model.proofs.Frame.Aside.{HoldsAlone}
 use Rattle.brc_model.proofs.Keeping.SilentMoves.{SilentMoves, bag_after}
@@ -139,37 +139,37 @@ pub data Backs (g : Scene) (row : ℕ) : Type 0 where
 -- or locks an object that the thread may rely on; begins the birth of the next row; unlocks the list that the thread
 -- has locked, or loads or swaps a cell of it; or lends the resource of the file or socket that the thread has locked,
 -- or returns it.
-pub data Starts (g : Scene) : Duty → List Duty → Type 0 where
+pub data MayBegin (g : Scene) : Duty → List Duty → Type 0 where
   Gives : (row : ℕ) (h : Holding) (rest : List Duty) → 0 < references_to row g.bag
-      → Starts g (ReleaseLoad row h) rest
-  Takes : (row : ℕ) (h : Holding) (rest : List Duty) → Backs g row → Starts g (RetainLoad row h) rest
+      → MayBegin g (ReleaseLoad row h) rest
+  Takes : (row : ℕ) (h : Holding) (rest : List Duty) → Backs g row → MayBegin g (RetainLoad row h) rest
   Bears : (h : Holding) (w : ℕ) → g.used < block_size g.layout g.thread → cells_of w ≤ cell_limit
       → is_counted_kind (kind_of_word w) ≡ true
-      → Starts g (BirthKind (row_at g.layout g.thread g.used) h w) []
-  Asks : (row : ℕ) → Backs g row → Starts g (KindLoad row) []
-  Locks : (row : ℕ) → Backs g row → IsCounted g.layout row → g.locked ≡ None → Starts g (LockGate row) []
-  Unlocks : (row : ℕ) → Backs g row → g.locked ≡ Some row → g.lent ≡ None → Starts g (UnlockGate row) []
+      → MayBegin g (BirthKind (row_at g.layout g.thread g.used) h w) []
+  Asks : (row : ℕ) → Backs g row → MayBegin g (KindLoad row) []
+  Locks : (row : ℕ) → Backs g row → IsCounted g.layout row → g.locked ≡ None → MayBegin g (LockGate row) []
+  Unlocks : (row : ℕ) → Backs g row → g.locked ≡ Some row → g.lent ≡ None → MayBegin g (UnlockGate row) []
   Loads : (row i : ℕ) → Backs g row → g.locked ≡ Some row → i < cells_of (words_of g row)
-      → Starts g (CellLoad row i) []
+      → MayBegin g (CellLoad row i) []
   Swaps : (row i item : ℕ) (h : Holding) (rest : List Duty) → Backs g row → g.locked ≡ Some row
-      → i < cells_of (words_of g row) → 0 < references_to item g.bag → Starts g (CellSwap row i item h) rest
+      → i < cells_of (words_of g row) → 0 < references_to item g.bag → MayBegin g (CellSwap row i item h) rest
   Lends : (row : ℕ) → Backs g row → g.locked ≡ Some row → g.lent ≡ None → has_resource (words_of g row) ≡ true
-      → Starts g (LendSlot row) []
-  Returns : (row : ℕ) → Backs g row → g.lent ≡ Some row → Starts g (ReturnSlot row) []
+      → MayBegin g (LendSlot row) []
+  Returns : (row : ℕ) → Backs g row → g.lent ≡ Some row → MayBegin g (ReturnSlot row) []
 
 -- The duties behind the first one settle, and leave if the thread is to leave.
-pub data Follows (layout : Layout) (t used : ℕ) (place : Place) : List Duty → Type 0 where
-  Nothing : (place ≢ Exiting) → Follows layout t used place []
-  Settles : (place ≢ Exiting) → Follows layout t used place (Settle ∷ [])
-  Leaves : (place ≡ Exiting) → Follows layout t used place (Settle ∷ Leave 0 used ∷ [])
+pub data MayFollow (layout : Layout) (t used : ℕ) (place : Place) : List Duty → Type 0 where
+  Nothing : (place ≢ Exiting) → MayFollow layout t used place []
+  Settles : (place ≢ Exiting) → MayFollow layout t used place (Settle ∷ [])
+  Exits : (place ≡ Exiting) → MayFollow layout t used place (Settle ∷ Leave 0 used ∷ [])
 
 -- Work that begins with a duty, and leads the thread to a place if the duty's step finds this word. What the thread has
 -- locked it still holds, whatever the duty gives up.
 pub record Taken (code : List Instr) (g : Scene) (found : ℕ) (place : Place) (d : Duty) (rest : List Duty) : Type 0
   where
     pub placed : PlaceFits code g.bag g.thread (d ∷ rest) (locked_by g.locked d found) place
-    pub starts : Starts g d rest
-    pub follows : Follows g.layout g.thread g.used place rest
+    pub starts : MayBegin g d rest
+    pub follows : MayFollow g.layout g.thread g.used place rest
     pub keeps : (x : ℕ) → g.locked ≡ Some x → HeldBeside g.bag g.thread x d
 
 pub record SilentTaken (code : List Instr) (g : Scene) (moves : List Move) (place : Place) : Type 0 where
@@ -202,8 +202,8 @@ in_call_stays context at variables e = cc
 
 -- ---- one reference more or less
 
-abbrev naming : Slot → Option ℕ → ℕ → ℕ
-naming slot row object = one_if (is_owned slot && names row object)
+abbrev naming : VarState → Option ℕ → ℕ → ℕ
+naming var row object = one_if (is_owned var && names row object)
 
 -- The number, if the reference is held by the call's variable.
 abbrev of_this : Activation → ℕ → Holding → ℕ → ℕ
@@ -229,49 +229,49 @@ same_outside call s after variables rows depth v object apart =
 
 -- What the thread is to hold changes by what the variable owned before and owns now.
 changed_held : (bag : List Reference) (t : ℕ) (call : Activation) (s : State) (variables : List (Option ℕ)) (to : ℕ)
-    (slot : Slot) (row : Option ℕ) → to < length s.slots → Holds bag t (of_variables call s variables) → (k : Holding)
+    (var : VarState) (row : Option ℕ) → to < length s.vars → Holds bag t (of_variables call s variables) → (k : Holding)
     (object : ℕ)
     → held (reference_of t k object) bag
-    + of_this call to k (naming slot (row_of (slice_set variables to row) to) object)
-    ≡ one_if (of_variables call (put s to slot) (slice_set variables to row) k object)
-    + of_this call to k (naming (slot_of s to) (row_of variables to) object)
-changed_held bag t call s variables to slot row in_slots holds AsCaller object =
+    + of_this call to k (naming var (row_of (slice_set variables to row) to) object)
+    ≡ one_if (of_variables call (put s to var) (slice_set variables to row) k object)
+    + of_this call to k (naming (var_of s to) (row_of variables to) object)
+changed_held bag t call s variables to var row in_vars holds AsCaller object =
     omega (arith, holds.each AsCaller object)
-changed_held bag t call s variables to slot row in_slots holds InFlight object =
+changed_held bag t call s variables to var row in_vars holds InFlight object =
     omega (arith, holds.each InFlight object)
-changed_held bag t call s variables to slot row in_slots holds (ByVariable depth v) object =
-    let after = put s to slot in
+changed_held bag t call s variables to var row in_vars holds (ByVariable depth v) object =
+    let after = put s to var in
     let rows = slice_set variables to row in
-    let gained = naming slot (row_of rows to) object in
-    let lost = naming (slot_of s to) (row_of variables to) object in
+    let gained = naming var (row_of rows to) object in
+    let lost = naming (var_of s to) (row_of variables to) object in
     by_depth call
     (λ k. held (reference_of t k object) bag + of_this call to k gained
     ≡ one_if (of_variables call after rows k object) + of_this call to k lost)
     (λ w.
     let now : held (reference_of t (ByVariable call.depth w) object) bag
-    ≡ naming (slot_of s w) (row_of variables w) object =
+    ≡ naming (var_of s w) (row_of variables w) object =
     holds.each (ByVariable call.depth w) object ∙ ap one_if (own_depth call s variables w object) in
     let now_left : one_if (of_variables call after rows (ByVariable call.depth w) object)
-    ≡ naming (slot_of after w) (row_of rows w) object =
+    ≡ naming (var_of after w) (row_of rows w) object =
     ap one_if (own_depth call after rows w object) in
     elim (eqb_tells to w) [
       | inl this ↦
           let more = on_depth call to w gained ∙ ap (λ (b : Bool). cond b gained 0) this.0 in
           let less = on_depth call to w lost ∙ ap (λ (b : Bool). cond b lost 0) this.0 in
-          let before : naming (slot_of s w) (row_of variables w) object ≡ lost =
-          subst (λ (x : ℕ). naming (slot_of s x) (row_of variables x) object ≡ lost) this.1 refl in
-          let said : naming (slot_of after w) (row_of rows w) object ≡ gained =
-          subst (λ (x : ℕ). naming (slot_of after x) (row_of rows x) object ≡ gained) this.1
-          (ap (λ (x : Slot). naming x (row_of rows to) object) (slot_of-put_same s to slot in_slots)) in
+          let before : naming (var_of s w) (row_of variables w) object ≡ lost =
+          subst (λ (x : ℕ). naming (var_of s x) (row_of variables x) object ≡ lost) this.1 refl in
+          let said : naming (var_of after w) (row_of rows w) object ≡ gained =
+          subst (λ (x : ℕ). naming (var_of after x) (row_of rows x) object ≡ gained) this.1
+          (ap (λ (x : VarState). naming x (row_of rows to) object) (var_of-put_same s to var in_vars)) in
           omega (arith, now, now_left, more, less, before, said)
       | inr other ↦
           let more = on_depth call to w gained ∙ ap (λ (b : Bool). cond b gained 0) other.0 in
           let less = on_depth call to w lost ∙ ap (λ (b : Bool). cond b lost 0) other.0 in
           let apart : w ≢ to = λ e. other.1 (sym e) in
-          let said : naming (slot_of after w) (row_of rows w) object
-          ≡ naming (slot_of s w) (row_of variables w) object =
-          ap (λ (x : Slot). naming x (row_of rows w) object) (slot_of-put_other s to w slot apart)
-          ∙ ap (λ (x : Option ℕ). naming (slot_of s w) x object) (row_of-set_other variables to w row apart) in
+          let said : naming (var_of after w) (row_of rows w) object
+          ≡ naming (var_of s w) (row_of variables w) object =
+          ap (λ (x : VarState). naming x (row_of rows w) object) (var_of-put_other s to w var apart)
+          ∙ ap (λ (x : Option ℕ). naming (var_of s w) x object) (row_of-set_other variables to w row apart) in
           omega (arith, now, now_left, more, less, said)
     ])
     (λ d w apart.
@@ -293,79 +293,79 @@ this_none true n none = none
 this_none false n none = refl
 
 -- A variable that owns nothing names nothing.
-names_none : (slot : Slot) (row : Option ℕ) (object : ℕ) → is_owned slot ≡ false → naming slot row object ≡ 0
-names_none slot row object free = ap (λ (b : Bool). one_if (b && names row object)) free
+names_none : (var : VarState) (row : Option ℕ) (object : ℕ) → is_owned var ≡ false → naming var row object ≡ 0
+names_none var row object free = ap (λ (b : Bool). one_if (b && names row object)) free
 
 -- A variable that owns an object names it.
-names_one : (slot : Slot) (o : Option ℕ) (row object : ℕ) → is_owned slot ≡ true → o ≡ Some row
-    → naming slot o object ≡ one_if (row == object)
-names_one slot o row object owned is =
+names_one : (var : VarState) (o : Option ℕ) (row object : ℕ) → is_owned var ≡ true → o ≡ Some row
+    → naming var o object ≡ one_if (row == object)
+names_one var o row object owned is =
     ap (λ (b : Bool). one_if (b && names o object)) owned ∙ ap (λ (x : Option ℕ). one_if (names x object)) is
     ∙ ap one_if (flip_eqb object row)
 
 -- Naming an object by an owning variable adds one reference to what the thread is to hold. The bag doesn't have it yet.
 pub newref_held : (bag : List Reference) (t : ℕ) (call : Activation) (s : State) (variables : List (Option ℕ))
-    (to row : ℕ) (slot : Slot)
-    → to < length s.slots → to < length variables → is_owned (slot_of s to) ≡ false
-    → is_owned slot ≡ true → Holds bag t (of_variables call s variables)
+    (to row : ℕ) (var : VarState)
+    → to < length s.vars → to < length variables → is_owned (var_of s to) ≡ false
+    → is_owned var ≡ true → Holds bag t (of_variables call s variables)
     → (k : Holding) (object : ℕ)
     → held (reference_of t k object) bag + one_if (same_holding (ByVariable call.depth to) k && (row == object))
-    ≡ one_if (of_variables call (put s to slot) (slice_set variables to (Some row)) k object) + 0
-newref_held bag t call s variables to row slot in_slots in_rows free owned holds k object =
+    ≡ one_if (of_variables call (put s to var) (slice_set variables to (Some row)) k object) + 0
+newref_held bag t call s variables to row var in_vars in_rows free owned holds k object =
     let rows = slice_set variables to (Some row) in
     omega (
       arith,
-      changed_held bag t call s variables to slot (Some row) in_slots holds k object,
-      ap (of_this call to k) (names_one slot (row_of rows to) row object owned
+      changed_held bag t call s variables to var (Some row) in_vars holds k object,
+      ap (of_this call to k) (names_one var (row_of rows to) row object owned
           (row_of-set_same variables to (Some row) in_rows)),
       this_one (same_holding (ByVariable call.depth to) k) (row == object),
       this_none (same_holding (ByVariable call.depth to) k) _
-          (names_none (slot_of s to) (row_of variables to) object free),
+          (names_none (var_of s to) (row_of variables to) object free),
     )
 
 -- Emptying an owning variable takes one reference from what the thread is to hold. The bag still has it.
 pub emptied_held : (bag : List Reference) (t : ℕ) (call : Activation) (s : State) (variables : List (Option ℕ))
     (from row : ℕ)
-    → from < length s.slots → is_owned (slot_of s from) ≡ true → row_of variables from ≡ Some row
+    → from < length s.vars → is_owned (var_of s from) ≡ true → row_of variables from ≡ Some row
     → Holds bag t (of_variables call s variables)
     → (k : Holding) (object : ℕ)
     → held (reference_of t k object) bag + 0
     ≡ one_if (of_variables call (put s from Empty) (slice_set variables from None) k object)
     + one_if (same_holding (ByVariable call.depth from) k && (row == object))
-emptied_held bag t call s variables from row in_slots owned is holds k object =
+emptied_held bag t call s variables from row in_vars owned is holds k object =
     omega (
       arith,
-      changed_held bag t call s variables from Empty None in_slots holds k object,
+      changed_held bag t call s variables from Empty None in_vars holds k object,
       this_none (same_holding (ByVariable call.depth from) k) 0 refl,
-      ap (of_this call from k) (names_one (slot_of s from) (row_of variables from) row object owned is),
+      ap (of_this call from k) (names_one (var_of s from) (row_of variables from) row object owned is),
       this_one (same_holding (ByVariable call.depth from) k) (row == object),
     )
 
 -- A variable that owns nothing and comes to name an object that it doesn't own, or none, doesn't change what the thread
 -- is to hold.
 pub unowned_held : (bag : List Reference) (t : ℕ) (call : Activation) (s : State) (variables : List (Option ℕ))
-    (to : ℕ) (slot : Slot) (row : Option ℕ)
-    → to < length s.slots → is_owned (slot_of s to) ≡ false → is_owned slot ≡ false
+    (to : ℕ) (var : VarState) (row : Option ℕ)
+    → to < length s.vars → is_owned (var_of s to) ≡ false → is_owned var ≡ false
     → Holds bag t (of_variables call s variables)
     → (k : Holding) (object : ℕ)
     → held (reference_of t k object) bag
-    ≡ one_if (of_variables call (put s to slot) (slice_set variables to row) k object)
-unowned_held bag t call s variables to slot row in_slots free none holds k object =
+    ≡ one_if (of_variables call (put s to var) (slice_set variables to row) k object)
+unowned_held bag t call s variables to var row in_vars free none holds k object =
     let rows = slice_set variables to row in
     omega (
       arith,
-      changed_held bag t call s variables to slot row in_slots holds k object,
-      this_none (same_holding (ByVariable call.depth to) k) _ (names_none slot (row_of rows to) object none),
+      changed_held bag t call s variables to var row in_vars holds k object,
+      this_none (same_holding (ByVariable call.depth to) k) _ (names_none var (row_of rows to) object none),
       this_none (same_holding (ByVariable call.depth to) k) _
-          (names_none (slot_of s to) (row_of variables to) object free),
+          (names_none (var_of s to) (row_of variables to) object free),
     )
 
 -- So it is if the variable becomes empty.
 pub cleared_held : (bag : List Reference) (t : ℕ) (call : Activation) (s : State) (variables : List (Option ℕ))
     (to : ℕ)
-    → to < length s.slots → is_owned (slot_of s to) ≡ false → Holds bag t (of_variables call s variables)
+    → to < length s.vars → is_owned (var_of s to) ≡ false → Holds bag t (of_variables call s variables)
     → (k : Holding) (object : ℕ)
     → held (reference_of t k object) bag
     ≡ one_if (of_variables call (put s to Empty) (slice_set variables to None) k object)
-cleared_held bag t call s variables to in_slots free holds =
-    unowned_held bag t call s variables to Empty None in_slots free refl holds
+cleared_held bag t call s variables to in_vars free holds =
+    unowned_held bag t call s variables to Empty None in_vars free refl holds

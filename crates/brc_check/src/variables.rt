@@ -1,0 +1,117 @@
+//! What a state knows of its variables, and how it forgets what was borrowed from the locked list.
+
+ghost use Rattle.std.specs.Prelude.{◌≡◌, [], ◌∷◌, map};
+ghost use Rattle.std.specs.List.{list_any};
+ghost use Rattle.brc_lang.specs.declared.kind.Kind.TheVariants as kinds;
+ghost use Rattle.brc_model.specs.VarStates.{var_of, is_owned, kind_of, is_one_of, lockable, with_resource, names, may_be};
+ghost use Rattle.brc_model.specs.VarStates.{with_kind, put, without_item, without_items};
+
+use brc_lang::{Kind, Variable};
+use brc_model::{VarState, State};
+
+pub fn var(state: &State, variable: Variable) -> VarState
+    ensures { result ≡ var_of state.now variable }
+{
+    state.vars[variable.number() as usize]
+}
+
+/// Replaces the variable's state.
+pub fn put(state: &mut State, variable: Variable, var: VarState)
+    ensures { state.new ≡ put state.old variable var }
+{
+    state.vars[variable.number() as usize] = var;
+}
+
+pub fn kind_of(var: VarState) -> Kind
+    ensures { result ≡ kind_of var }
+{
+    match var {
+        VarState::Empty => Kind::Any,
+        VarState::Owned(kind) | VarState::Caller(kind) | VarState::Locked(kind) => kind,
+    }
+}
+
+/// Returns whether an object of the kind `known` may be of the kind `asked`.
+pub fn may_be(known: Kind, asked: Kind) -> bool
+    ensures { result ≡ may_be known asked }
+{
+    known == Kind::Any || known == asked
+}
+
+/// Returns whether the variable's state is known to name a list.
+pub fn is_list(var: VarState) -> bool
+    ensures { result ≡ is_one_of (kind_of var) (kinds.List ∷ []) }
+{
+    kind_of(var) == Kind::List
+}
+
+/// Returns whether the variable's state is known to name a number.
+pub fn is_num(var: VarState) -> bool
+    ensures { result ≡ is_one_of (kind_of var) (kinds.Num ∷ []) }
+{
+    kind_of(var) == Kind::Num
+}
+
+/// Returns whether the variable's state is known to name a file or a socket, which has a resource of the host.
+pub fn has_resource(var: VarState) -> bool
+    ensures { result ≡ is_one_of (kind_of var) with_resource }
+{
+    matches!(kind_of(var), Kind::File | Kind::Sock)
+}
+
+/// Returns whether objects of the kind can be locked.
+pub fn is_lockable(kind: Kind) -> bool
+    ensures { result ≡ is_one_of kind lockable }
+{
+    matches!(kind, Kind::List | Kind::File | Kind::Sock)
+}
+
+/// Returns the variable's state with another kind.
+pub fn with_kind(var: VarState, kind: Kind) -> VarState
+    ensures { result ≡ with_kind var kind }
+{
+    match var {
+        VarState::Empty => VarState::Empty,
+        VarState::Owned(_) => VarState::Owned(kind),
+        VarState::Caller(_) => VarState::Caller(kind),
+        VarState::Locked(_) => VarState::Locked(kind),
+    }
+}
+
+pub fn is_locked(state: &State, variable: Variable) -> bool
+    ensures { result ≡ names state.now.locked variable }
+{
+    match state.locked {
+        None => false,
+        Some(locked) => variable.number() == locked.number(),
+    }
+}
+
+pub fn any_owned(vars: &[VarState; 16]) -> bool
+    ensures { result ≡ list_any is_owned vars.now }
+{
+    vars.iter().any(|var| matches!(var, VarState::Owned(_)))
+}
+
+/// Returns the variable's state, or an empty one if it borrows from the locked list.
+fn without_item(var: VarState) -> VarState
+    ensures { result ≡ without_item var }
+{
+    match var {
+        VarState::Locked(_) => VarState::Empty,
+        VarState::Empty | VarState::Owned(_) | VarState::Caller(_) => var,
+    }
+}
+
+fn vars_without_items(vars: [VarState; 16]) -> [VarState; 16]
+    ensures { result ≡ map without_item vars }
+{
+    vars.map(without_item)
+}
+
+/// Empties each variable that borrows from the locked list.
+pub fn forget_items(state: &mut State)
+    ensures { state.new ≡ without_items state.old }
+{
+    state.vars = vars_without_items(state.vars);
+}
