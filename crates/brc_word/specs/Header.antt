@@ -1,6 +1,7 @@
 -- The header of a counted object: its owner and the local count in one word, the shared count and the phase in another.
 use Rattle.std.specs.Prelude.{◌≡◌, ℕ, ◌+◌, ◌-◌, ◌*◌, ◌^◌, ◌<◌, ◌≤◌, ◌⊎◌, Bool, true, false, IsTrue, Option, None, Some}
 use Rattle.std.specs.Prelude.{ℤ, pos, neg_ℤ, ◌+ℤ◌, ◌-ℤ◌, ◌*ℤ◌, ◌≤ℤ◌, ◌<ℤ◌}
+use Rattle.brc_word.specs.declared.values.TheConstants.{NOBODY, ONE_REFERENCE, DEFAULT, QUEUED, MERGED}
 use Rattle.brc_word.specs.declared.choice.LocalChoice.{LocalChoice}
 use Rattle.brc_word.specs.declared.choice.LocalChoice.TheVariants.{Store}
 use Rattle.brc_word.specs.declared.shared.Phase.{Phase}
@@ -16,9 +17,9 @@ abbrev pub IsLocal : Option ℕ → ℕ → Type 0
 IsLocal None local = local ≡ 0
 IsLocal (Some thread) local = (thread ≤ 32) × (local < 2 ^ 32)
 
--- nobody is 0; the number of a thread, plus 1, is above the local count
+-- the number of a thread, plus 1, is above the local count
 abbrev pub word_of : Option ℕ → ℕ → ℕ
-word_of None local = 0
+word_of None local = NOBODY
 word_of (Some thread) local = (thread + 1) * 2 ^ 32 + local
 
 abbrev pub IsLocalWord : ℕ → Option ℕ → ℕ → Type 0
@@ -49,9 +50,9 @@ IsMortalWord word = OfHeader word (λ owner local. ¬ IsImmortal local)
 
 -- the two lowest bits; 1 is unused
 abbrev pub state_of : Phase → ℕ
-state_of Default = 0
-state_of Queued = 2
-state_of Merged = 3
+state_of Default = DEFAULT
+state_of Queued = QUEUED
+state_of Merged = MERGED
 
 -- the counts that the shared field can hold
 abbrev pub IsCount : ℤ → Type 0
@@ -59,7 +60,7 @@ IsCount count = (neg_ℤ (pos (2 ^ 40)) ≤ℤ count) × (count <ℤ pos (2 ^ 40
 
 -- the count, raised so that it isn't negative, is above the state
 abbrev pub IsSharedWord : ℕ → Shared → Type 0
-IsSharedWord word shared = pos word ≡ (shared.count +ℤ pos (2 ^ 40)) *ℤ pos 4 +ℤ pos (state_of shared.phase)
+IsSharedWord word shared = pos word ≡ (shared.count +ℤ pos (2 ^ 40)) *ℤ pos ONE_REFERENCE +ℤ pos (state_of shared.phase)
 
 -- ---- both
 

@@ -1,6 +1,7 @@
 -- The words of a header. (PEP 703, Biased Reference Counting: an owning thread, a local count that only the owner
 -- changes, and a shared field of a count and a state in its two lowest bits.)
 use Rattle.std.specs.Prelude.{ℕ, ◌+◌, ◌-◌, ◌*◌, ◌/◌, ◌%◌, ◌^◌, Bool, ◌==◌, if◌then◌else◌}
+use Rattle.brc_word.specs.declared.values.TheConstants.{ONE_REFERENCE, QUEUED, MERGED, FREE}
 
 -- the number of values of half a word
 abbrev pub half : ℕ
@@ -30,11 +31,11 @@ is_immortal_word word = local_part word == immortal_local
 
 -- the shared count plus 2^40, so that it isn't negative
 abbrev pub biased_part : ℕ → ℕ
-biased_part word = word / 4
+biased_part word = word / ONE_REFERENCE
 
--- 0 default, 2 queued, 3 merged
+-- the state: default, queued or merged
 abbrev pub phase_part : ℕ → ℕ
-phase_part word = word % 4
+phase_part word = word % ONE_REFERENCE
 
 -- the biased count of the shared count 0
 abbrev pub bias : ℕ
@@ -42,25 +43,25 @@ bias = 2 ^ 40
 
 -- count 0, default
 abbrev pub fresh_word : ℕ
-fresh_word = bias * 4
+fresh_word = bias * ONE_REFERENCE
 
 -- count 0, merged: no reference is left
 abbrev pub dead_word : ℕ
-dead_word = bias * 4 + 3
+dead_word = bias * ONE_REFERENCE + MERGED
 
 -- a release by a thread that isn't the running owner: (0, default) is queued, and otherwise one is subtracted
 abbrev pub released_word : ℕ → ℕ
-released_word word = if word == fresh_word then word + 2 else word - 4
+released_word word = if word == fresh_word then word + QUEUED else word - ONE_REFERENCE
 
 -- the carried local count is added, and the state is merged
 abbrev pub merged_word : ℕ → ℕ → ℕ
-merged_word word carried = (biased_part word + carried) * 4 + 3
+merged_word word carried = (biased_part word + carried) * ONE_REFERENCE + MERGED
 
 -- ---- gates, kinds and thread words
 
 -- the gate of an object that is neither locked nor dying nor closed
 abbrev pub free_word : ℕ
-free_word = 1
+free_word = FREE
 
 -- the gate of a list that the thread has locked
 abbrev pub locked_word : ℕ → ℕ

@@ -27,8 +27,8 @@ pub fn pack_and_unpack()
     ensures packed { (shared : Shared) → IsCount shared.count
         → (word : ℕ) × IsSharedWord word shared }
     ensures only { (word : ℕ) (shared : Shared) → IsCount shared.count → IsSharedWord word shared
-        → (word < 2 ^ 43) × (word % 4 ≢ 1) }
-    ensures unpacked { (word : ℕ) → word < 2 ^ 43 → word % 4 ≢ 1
+        → (word < 2 ^ 43) × (phase_part word ≢ 1) }
+    ensures unpacked { (word : ℕ) → word < 2 ^ 43 → phase_part word ≢ 1
         → (shared : Shared) × IsCount shared.count × IsSharedWord word shared }
     ensures one { (word : ℕ) (shared other : Shared)
         → IsSharedWord word shared → IsSharedWord word other → shared ≡ other }

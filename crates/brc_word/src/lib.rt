@@ -13,6 +13,7 @@ mod laws;
 mod local;
 mod shared;
 mod shared_word;
+pub mod values;
 
 pub use choice::{LocalChoice, release_choice_local, retain_choice};
 pub use gate::{closed, dying, is_closed, locked, next_of_dying};

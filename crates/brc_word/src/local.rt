@@ -2,6 +2,8 @@ ghost use Rattle.std.specs.Prelude.{◌≡◌, ℕ, ◌+◌, ◌-◌, ◌≤◌,
 ghost use Rattle.brc_word.specs.Header.{IsLocalWord, IsHeaderWord, OfHeader, IsImmortal, owned};
 ghost use Rattle.brc_word.specs.Words.{local_part, immortal_local, is_immortal_word, local_word};
 
+use crate::values::NOBODY;
+
 /// The number of local counts: in the word the owner is above the count.
 pub(crate) const LOCAL_COUNTS: u64 = 1 << 32;
 /// The local count of an immortal object (PEP 703, Immortalization).
@@ -15,7 +17,7 @@ pub fn local_word(owner: Option<u8>, local: u32) -> u64
     ensures word { IfSome owner (λ thread. result ≡ local_word thread local) }
 {
     match owner {
-        None => 0,
+        None => NOBODY,
         Some(thread) => (u64::from(thread) + 1) * LOCAL_COUNTS + u64::from(local),
     }
 }

@@ -1,6 +1,9 @@
 ghost use Rattle.std.specs.Prelude.{◌≡◌, ◌≢◌, ◌^◌, ◌%◌, ◌≤◌, ◌<◌, ◌⊎◌, ◌↔◌, pos, ◌-ℤ◌, IsSome, IsNone, IfSome, Some};
 ghost use Rattle.brc_word.specs.declared.shared.Shared.{Shared};
 ghost use Rattle.brc_word.specs.Header.{IsCount, IsSharedWord, total, at_zero, after_choice};
+ghost use Rattle.brc_word.specs.Words.{phase_part};
+
+use crate::values::{DEFAULT, MERGED, ONE_REFERENCE, QUEUED};
 
 /// The state of an object's shared field (PEP 703, Biased Reference Counting). States only rise.
 #[derive(Clone, Copy, Debug, PartialEq, Eq)]
@@ -41,11 +44,11 @@ pub fn pack(shared: Shared) -> u64
     ensures below { result < 2 ^ 43 }
 {
     let state = match shared.phase {
-        Phase::Default => 0,
-        Phase::Queued => 2,
-        Phase::Merged => 3,
+        Phase::Default => DEFAULT,
+        Phase::Queued => QUEUED,
+        Phase::Merged => MERGED,
     };
-    (shared.count + RAISED) as u64 * 4 + state
+    (shared.count + RAISED) as u64 * ONE_REFERENCE + state
 }
 
 /// Returns the shared field of a word, or `None` for the unused state and for words of 2^43 and more.
@@ -55,16 +58,16 @@ pub fn unpack(word: u64) -> Option<Shared>
     ensures inverse { (shared : Shared) → IsCount shared.count → IsSharedWord word shared
         → result ≡ Some shared }
     ensures found { IfSome result (λ shared. IsCount shared.count × IsSharedWord word shared) }
-    ensures unused { IsNone result ↔ ((word % 4 ≡ 1) ⊎ (2 ^ 43 ≤ word)) }
+    ensures unused { IsNone result ↔ ((phase_part word ≡ 1) ⊎ (2 ^ 43 ≤ word)) }
 {
     if word >= WORDS {
         return None;
     }
-    let count = (word / 4) as i64 - RAISED;
-    let phase = match word % 4 {
-        0 => Phase::Default,
+    let count = (word / ONE_REFERENCE) as i64 - RAISED;
+    let phase = match word % ONE_REFERENCE {
+        DEFAULT => Phase::Default,
         1 => return None,
-        2 => Phase::Queued,
+        QUEUED => Phase::Queued,
         _ => Phase::Merged,
     };
     Some(Shared { count, phase })

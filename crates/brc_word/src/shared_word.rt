@@ -8,12 +8,8 @@ ghost use Rattle.brc_word.specs.Header.{IsCount, IsSharedWord, total, at_zero, a
 ghost use Rattle.brc_word.specs.Words.{biased_part, phase_part, bias, fresh_word, dead_word, released_word};
 ghost use Rattle.brc_word.specs.Words.{merged_word};
 
-/// A count of one in the word: the state has the two bits below.
-const ONE_COUNT: u64 = 4;
-/// The state queued, in the two bits.
-const QUEUED: u64 = 2;
-/// The state merged, in the two bits.
-const MERGED: u64 = 3;
+use crate::values::{MERGED, ONE_REFERENCE, QUEUED};
+
 /// The word of count 0 and state default.
 const FRESH: u64 = 1 << 42;
 /// The word of count 0 and state merged.
@@ -23,11 +19,11 @@ const DEAD: u64 = FRESH + MERGED;
 /// Counting).
 pub fn shared_with_one_more(word: u64) -> u64
     requires { biased_part word + 1 < 2 * bias }
-    ensures word { result ≡ word + 4 }
+    ensures word { result ≡ word + ONE_REFERENCE }
     ensures header { (shared : Shared) → IsCount shared.count → IsSharedWord word shared
         → IsSharedWord result (record shared { count = shared.count +ℤ pos 1 }) }
 {
-    word + ONE_COUNT
+    word + ONE_REFERENCE
 }
 
 /// Returns the shared word after a release by a thread that isn't the running owner: at count 0 and state default the
@@ -47,7 +43,7 @@ pub fn released(word: u64) -> u64
     if is_fresh(word) {
         word.wrapping_add(QUEUED)
     } else {
-        word.wrapping_sub(ONE_COUNT)
+        word.wrapping_sub(ONE_REFERENCE)
     }
 }
 
@@ -62,9 +58,9 @@ pub fn merged(word: u64, carried: u32) -> u64
         → biased_part word + carried < 2 * bias
         → IsSharedWord result (record { count = total carried shared.count; phase = Phase.Merged }) }
 {
-    (word / ONE_COUNT)
+    (word / ONE_REFERENCE)
         .wrapping_add(u64::from(carried))
-        .wrapping_mul(ONE_COUNT)
+        .wrapping_mul(ONE_REFERENCE)
         .wrapping_add(MERGED)
 }
 
