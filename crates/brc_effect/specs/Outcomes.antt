@@ -1,5 +1,6 @@
 -- How the steps of a release and of a merge end, by the words found.
 use Rattle.std.specs.Prelude.{ℕ, Bool, ◌==◌, if◌then◌else◌}
+use Rattle.brc_word.specs.declared.values.TheConstants.{SET}
 use Rattle.brc_word.specs.Words.{is_immortal_word, local_part, fresh_word, dead_word, released_word, merged_word}
 use Rattle.brc_model.specs.Duties.{counts_locally}
 use Rattle.brc_effect.specs.declared.outcomes.LocalRelease.{LocalRelease}
@@ -40,4 +41,4 @@ merge_answer carried word found =
 
 -- a mark that was taken
 abbrev pub taken_answer : ℕ → Looked
-taken_answer found = if found == 1 then looks.Claimed else looks.Left
+taken_answer found = if found == SET then looks.Claimed else looks.Left

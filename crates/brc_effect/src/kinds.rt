@@ -3,7 +3,7 @@
 ghost use Rattle.std.specs.Prelude.{◌≡◌};
 ghost use Rattle.brc_model.specs.Duties.{has_resource, cells_of};
 
-use crate::states::{FILE, LIST, SOCK};
+use brc_word::values::{FILE, LIST, SOCK};
 use brc_word::{kind_argument, kind_number};
 
 /// Returns whether an object with this kind word has a resource of the host: a file or a socket does.

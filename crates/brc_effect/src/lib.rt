@@ -3,8 +3,8 @@
 //! found alone.
 //!
 //! The crate changes nothing itself. The step world makes the operation on its columns of words, and real threads on
-//! the words that they share. It also has what both share of the rows (`rows`), of kind words (`kinds`), of the values of
-//! words (`states`) and of how a release or a merge ends (`outcomes`).
+//! the words that they share. It also has what both share of the rows (`rows`), of kind words (`kinds`) and of how a
+//! release or a merge ends (`outcomes`).
 #![tactic(auto)]
 
 mod access;
@@ -13,7 +13,6 @@ mod effect;
 pub mod kinds;
 pub mod outcomes;
 pub mod rows;
-pub mod states;
 
 pub use access::{Access, access_of};
 pub use address::address_of;

@@ -5,7 +5,7 @@ ghost use Rattle.std.specs.Prelude.{◌≡◌, ◌≤◌, ◌<◌, ◌+◌, ◌*
 ghost use Rattle.brc_word.specs.Words.{owner_part, local_part, biased_part, bias};
 ghost use Rattle.brc_effect.specs.Outcomes.{local_answer, zero_answer, shared_answer, merge_answer, taken_answer};
 
-use crate::states::{RUNNING, SET};
+use brc_word::values::{RUNNING, SET};
 use brc_word::{
     LocalChoice, is_dead, is_fresh, local_count, merged, release_choice_local, released,
 };
@@ -149,7 +149,7 @@ pub fn merge_step(word: u64, carried: u32, found: u64) -> MergeStep
 /// (`post_without_look`). Rules `OwnerRuns` and `OwnerExits`.
 #[inline(always)]
 pub fn runs(said: u64) -> bool
-    ensures { result ≡ (said == 1) }
+    ensures { result ≡ (said == RUNNING) }
 {
     said == RUNNING
 }

@@ -12,12 +12,12 @@ ghost use Rattle.brc_heap.specs.Ends.{was_born, is_closed, named_row, HasEnded, 
 
 use crate::heap::Heap;
 use crate::kinds::kind_numbered;
-use brc_effect::states::{LEAVING, RUNNING};
 use brc_lang::Kind;
 use brc_table::{
     Closed, Hand, joined_hands_are_gone, rows_end_in_every_table, seen_ends_are_so,
     slots_end_in_every_table,
 };
+use brc_word::values::{LEAVING, RUNNING};
 use brc_word::{closed, kind_number};
 use std::marker::Model;
 

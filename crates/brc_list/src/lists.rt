@@ -13,14 +13,9 @@ ghost use Rattle.brc_table.specs.Hands.{most_references, IsOf, IsRunning, HoldsO
 ghost use Rattle.brc_list.specs.Calls.{Keeps, KeepsBesides, KeepsButSlot, SeesItem, SwapsItem, HasSlot, row_in, word_of};
 
 use brc_heap::{Hand, Heap};
+use brc_word::values::{FREE, LIST};
 use brc_word::{kind_argument, kind_number};
 use std::marker::Model;
-
-/// The gate of a list that no thread has locked.
-const FREE: u64 = 1;
-
-/// The number of the kind of lists.
-const LIST: u32 = 3;
 
 /// The lists of a heap. `T` is the resource of a file or a socket.
 #[derive(Drop)]

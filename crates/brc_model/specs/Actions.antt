@@ -1,5 +1,6 @@
 -- Actions. At an event a thread of the step world does the first duty of its agenda, or what its code dispatches.
 use Rattle.std.specs.Prelude.{ℕ, zero, suc, ◌+◌, ◌*◌, Bool, true, false, ◌&&◌, ◌==◌, nat_lt, if◌then◌else◌, List, [], ◌∷◌, length, Option, None, Some, slice_get, slice_index_or, slice_set, replicate}
+use Rattle.brc_word.specs.declared.values.TheConstants.{NUM, LIST, FILE, SOCK}
 use Rattle.brc_lang.specs.declared.module.Instr.{Instr}
 use Rattle.brc_lang.specs.declared.module.Instr.TheVariants.{Num, List as ListObject, NoneObject, Newref, Move as MoveReference, Drop, Lock, Unlock, Borrow, Fetch, Set, Put, Goto, Again, Ret, Fail, As, Open, Connect, Read, Write}
 use Rattle.brc_lang.specs.declared.module.Function.{Function}
@@ -32,11 +33,11 @@ pub use Rattle.brc_model.specs.Stops.{owned_rows, row_locked, none_of, holds_som
 
 -- the kind word of a number
 abbrev pub number_word : ℕ → ℕ
-number_word value = 2 * half + value
+number_word value = NUM * half + value
 
 -- the kind word of a list, which says how many cells it has
 abbrev pub list_word : ℕ → ℕ
-list_word cells = 3 * half + cells
+list_word cells = LIST * half + cells
 
 -- The context at the beginning of an outermost call, after which `left` calls are still to be made: no instruction
 -- `again` has gone back, and no call is open around it.
@@ -72,10 +73,10 @@ again_place context at variables to times =
 
 -- the kind words of a file and of a socket
 abbrev pub file_word : ℕ
-file_word = 4 * half
+file_word = FILE * half
 
 abbrev pub sock_word : ℕ
-sock_word = 5 * half
+sock_word = SOCK * half
 
 -- Returns what a thread does that makes an object of the kind word in the variable, if it has used `used` rows of its
 -- block. If its block is full, it empties the variable and goes on at `otherwise`.

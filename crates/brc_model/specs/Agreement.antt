@@ -2,6 +2,7 @@
 -- as many references as its local and its shared count say together; it is freed only in the states default and
 -- merged.)
 use Rattle.std.specs.Prelude.{◌≡◌, ◌⊎◌, ℕ, ◌+◌, ◌<◌, ◌≤◌, Bool, true, false, ◌||◌, ◌==◌, if◌then◌else◌, Some, slice_get, sum_by}
+use Rattle.brc_word.specs.declared.values.TheConstants.{NOBODY, DEFAULT, QUEUED, MERGED}
 use Rattle.std.specs.List.{list_any}
 use Rattle.brc_model.specs.AbstractState.{references_to}
 use Rattle.brc_word.specs.Words.{owner_part, local_part, biased_part, phase_part, bias}
@@ -82,7 +83,7 @@ pub record IsCountedLocally (m : Machine) (x : ℕ) : Type 0 where
 
 -- the state is default, queued or merged
 abbrev pub IsPhase : ℕ → Type 0
-IsPhase phase = (phase ≡ 0) ⊎ (phase ≡ 2) ⊎ (phase ≡ 3)
+IsPhase phase = (phase ≡ DEFAULT) ⊎ (phase ≡ QUEUED) ⊎ (phase ≡ MERGED)
 
 -- the row's local, shared and carried counts together, with the bias of its shared word
 abbrev pub biased_total : Machine → ℕ → ℕ
@@ -95,18 +96,18 @@ awaiting m x = m.memory (Mark x) + weighed (awaits x) m
 pub record AgreesAt (m : Machine) (x : ℕ) : Type 0 where
   -- the counts add up to the references that are held and the pending decrements
   pub total : biased_total m x ≡ references_to x m.abstract.references + awaiting m x + bias
-  pub default_none : m.life x ≡ Live → phase_part (m.memory (Shared x)) ≡ 0 → awaiting m x ≡ 0
-  pub default_counts : m.life x ≡ Live → phase_part (m.memory (Shared x)) ≡ 0 → bias ≤ biased_part (m.memory (Shared x))
-  pub queued_one : m.life x ≡ Live → phase_part (m.memory (Shared x)) ≡ 2 → awaiting m x ≡ 1
-  pub merged_free : m.life x ≡ Live → phase_part (m.memory (Shared x)) ≡ 3 → m.memory (Local x) ≡ 0
-  pub merged_counts : m.life x ≡ Live → phase_part (m.memory (Shared x)) ≡ 3 → bias < biased_part (m.memory (Shared x))
+  pub default_none : m.life x ≡ Live → phase_part (m.memory (Shared x)) ≡ DEFAULT → awaiting m x ≡ 0
+  pub default_counts : m.life x ≡ Live → phase_part (m.memory (Shared x)) ≡ DEFAULT → bias ≤ biased_part (m.memory (Shared x))
+  pub queued_one : m.life x ≡ Live → phase_part (m.memory (Shared x)) ≡ QUEUED → awaiting m x ≡ 1
+  pub merged_free : m.life x ≡ Live → phase_part (m.memory (Shared x)) ≡ MERGED → m.memory (Local x) ≡ NOBODY
+  pub merged_counts : m.life x ≡ Live → phase_part (m.memory (Shared x)) ≡ MERGED → bias < biased_part (m.memory (Shared x))
   pub phase : m.life x ≡ Live → IsPhase (phase_part (m.memory (Shared x)))
   -- the owner counts the row locally, unless a thread has found its last local reference gone, or merges it
-  pub default_local : m.life x ≡ Live → phase_part (m.memory (Shared x)) ≡ 0
+  pub default_local : m.life x ≡ Live → phase_part (m.memory (Shared x)) ≡ DEFAULT
       → IsCountedLocally m x ⊎ SomeThreadHas m (decides_or_merges x)
   -- the owner counts the row locally, unless the owner decides about it or merges it, or a thread has swapped the local
   -- count out
-  pub queued_local : m.life x ≡ Live → phase_part (m.memory (Shared x)) ≡ 2
+  pub queued_local : m.life x ≡ Live → phase_part (m.memory (Shared x)) ≡ QUEUED
       → IsCountedLocally m x ⊎ OwnerHas m x (decides_or_merges x) ⊎ SomeThreadHas m (has_swapped x)
 
 -- the row has no reference and no pending decrement, as each dying or closed row

@@ -1,6 +1,7 @@
 -- Duties. A duty is one step on one word. What a thread still has to do inside an instruction or its exit is its
 -- agenda, a list of duties. Which duties follow a duty depends on the value that its step finds.
 use Rattle.std.specs.Prelude.{ℕ, zero, suc, ◌+◌, ◌-◌, Bool, ◌&&◌, ◌||◌, ◌==◌, nat_lt, if◌then◌else◌, List, [], ◌∷◌, ◌++◌}
+use Rattle.brc_word.specs.declared.values.TheConstants.{RUNNING, LEAVING, GONE, SET, UNSET, NOBODY, ONE_REFERENCE, EMPTY, FULL, LIST, FILE, SOCK}
 use Rattle.brc_model.specs.declared.duty.Holding.TheVariants.{InFlight}
 use Rattle.brc_model.specs.declared.duty.Reason.{Reason}
 use Rattle.brc_model.specs.declared.duty.Reason.TheVariants.{Own, Handed}
@@ -56,39 +57,39 @@ address_of layout t head (ReturnSlot x) = Slot x
 abbrev pub new_word : ℕ → ℕ → Duty → ℕ → ℕ
 new_word t head (RetainLoad x h) found = found
 new_word t head (RetainStore x h w) found = w + 1
-new_word t head (RetainAdd x h) found = found + 4
+new_word t head (RetainAdd x h) found = found + ONE_REFERENCE
 new_word t head (ReleaseLoad x h) found = found
 new_word t head (ReleaseStore x w) found = w - 1
 new_word t head (DecideAtZero x) found = found
 new_word t head (SharedLoad x r) found = found
 new_word t head (SharedExchange x r w) found = if found == w then released_word w else found
-new_word t head (SetMark x) found = 1
+new_word t head (SetMark x) found = SET
 new_word t head (Look x) found = found
-new_word t head (TakeMark x) found = 0
-new_word t head (MergeSwap x r) found = 0
+new_word t head (TakeMark x) found = UNSET
+new_word t head (MergeSwap x r) found = NOBODY
 new_word t head (MergeLoad x c r) found = found
 new_word t head (MergeExchange x c w r) found = if found == w then merged_word w c else found
 new_word t head (Die x) found = dying_word t head
 new_word t head Settle found = found
 new_word t head (SettleKind x) found = found
-new_word t head (SettleCell x i n) found = 0
-new_word t head (TakeSlot x) found = 0
+new_word t head (SettleCell x i n) found = EMPTY
+new_word t head (TakeSlot x) found = EMPTY
 new_word t head (CloseResource x) found = found + 1
 new_word t head (SettleEnd x) found = closed_word
-new_word t head (Leave i n) found = 2
-new_word t head (Scan i n) found = 0
-new_word t head Finish found = 3
-new_word t head (ClaimMark x) found = 0
+new_word t head (Leave i n) found = LEAVING
+new_word t head (Scan i n) found = UNSET
+new_word t head Finish found = GONE
+new_word t head (ClaimMark x) found = UNSET
 new_word t head (BirthKind x h w) found = w
-new_word t head (BirthSlot x h) found = 1
+new_word t head (BirthSlot x h) found = FULL
 new_word t head (BirthLocal x h) found = local_word t 1
 new_word t head (KindLoad x) found = found
 new_word t head (LockGate x) found = if found == free_word then locked_word t else found
 new_word t head (UnlockGate x) found = free_word
 new_word t head (CellLoad x i) found = found
 new_word t head (CellSwap x i y h) found = y + 1
-new_word t head (LendSlot x) found = 0
-new_word t head (ReturnSlot x) found = 1
+new_word t head (LendSlot x) found = EMPTY
+new_word t head (ReturnSlot x) found = FULL
 
 -- ---- what follows a step
 
@@ -98,7 +99,7 @@ counts_locally t running word = running && (owner_part word == t + 1)
 
 -- after a mark was taken: if it was set, the object is merged, so that the handed reference can be given up
 abbrev pub claimed : ℕ → ℕ → List Duty
-claimed x found = if found == 1 then MergeSwap x Handed ∷ [] else []
+claimed x found = if found == SET then MergeSwap x Handed ∷ [] else []
 
 -- after a merge that is done: a handed reference is given up
 abbrev pub once_merged : ℕ → Reason → List Duty
@@ -117,7 +118,7 @@ shared_result x w = if w == fresh_word then SetMark x ∷ [] else if released_wo
 
 -- Says whether an object with this kind word has a resource of the host: a file or a socket does.
 abbrev pub has_resource : ℕ → Bool
-has_resource word = (kind_part word == 4) || (kind_part word == 5)
+has_resource word = (kind_part word == FILE) || (kind_part word == SOCK)
 
 -- how many resources of the host it has
 abbrev pub resources_of : ℕ → ℕ
@@ -125,7 +126,7 @@ resources_of word = if has_resource word then 1 else 0
 
 -- how many cells an object with this kind word has
 abbrev pub cells_of : ℕ → ℕ
-cells_of word = if kind_part word == 3 then argument_part word else 0
+cells_of word = if kind_part word == LIST then argument_part word else 0
 
 abbrev pub cells_from : ℕ → ℕ → ℕ → List Duty
 cells_from x i n = if nat_lt i n then SettleCell x i n ∷ [] else SettleEnd x ∷ []
@@ -153,10 +154,10 @@ continuation layout t running head (SharedLoad x r) found = SharedExchange x r f
 continuation layout t running head (SharedExchange x r w) found =
     if found == w then shared_result x w else SharedLoad x r ∷ []
 continuation layout t running head (SetMark x) found = Look x ∷ []
-continuation layout t running head (Look x) found = if found == 1 then [] else TakeMark x ∷ []
+continuation layout t running head (Look x) found = if found == RUNNING then [] else TakeMark x ∷ []
 continuation layout t running head (TakeMark x) found = claimed x found
 continuation layout t running head (MergeSwap x r) found =
-    if found == 0 then once_merged x r else MergeLoad x (local_part found) r ∷ []
+    if found == NOBODY then once_merged x r else MergeLoad x (local_part found) r ∷ []
 continuation layout t running head (MergeLoad x c r) found = MergeExchange x c found r ∷ []
 continuation layout t running head (MergeExchange x c w r) found =
     if found == w then merge_result x r (merged_word w c) else MergeLoad x c r ∷ []

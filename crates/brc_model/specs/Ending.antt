@@ -1,6 +1,7 @@
 -- The end: every thread is gone, or was never started. Then exactly the counted objects that no cell of an open list
 -- names are closed.
 use Rattle.std.specs.Prelude.{◌≡◌, ◌≢◌, ◌⊎◌, ℕ, ◌+◌, ◌<◌, Some, slice_get}
+use Rattle.brc_word.specs.declared.values.TheConstants.{EMPTY}
 use Rattle.brc_word.specs.Words.{closed_word}
 use Rattle.brc_model.specs.declared.actor.Status.TheVariants.{Gone}
 use Rattle.brc_model.specs.declared.address.Address.TheVariants.{Gate, KindOf, Cell}
@@ -31,7 +32,7 @@ pub record Ends (m : Machine) (x : ℕ) : Type 0 where
   pub left : 0 < m.memory (KindOf x) → m.memory (Gate x) ≢ closed_word → IsNamed m x
   pub closed_born : m.memory (Gate x) ≡ closed_word → 0 < m.memory (KindOf x)
   pub closed_unnamed : m.memory (Gate x) ≡ closed_word → (y i : ℕ) → m.memory (Cell y i) ≢ x + 1
-  pub closed_empty : m.memory (Gate x) ≡ closed_word → (i : ℕ) → m.memory (Cell x i) ≡ 0
+  pub closed_empty : m.memory (Gate x) ≡ closed_word → (i : ℕ) → m.memory (Cell x i) ≡ EMPTY
 
 -- At the end this is known of each counted row.
 abbrev pub RowsEnd : Type 0

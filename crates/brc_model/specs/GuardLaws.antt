@@ -1,6 +1,7 @@
 -- What holds between any two steps of running threads beside the counts: marks that are set are watched, cells and
 -- slots are guarded by their row's gate, owners alone count in local words, and a thread that is gone holds nothing.
 use Rattle.std.specs.Prelude.{true, false, ◌≡◌, ◌≢◌, ◌⊎◌, ℕ, List, [], None, Some, slice_get}
+use Rattle.brc_word.specs.declared.values.TheConstants.{UNSET}
 use Rattle.brc_word.specs.Words.{locked_word}
 use Rattle.brc_model.specs.declared.duty.Duty.{Duty}
 use Rattle.brc_model.specs.declared.actor.Status.TheVariants.{Gone}
@@ -20,7 +21,7 @@ use Rattle.brc_model.specs.CountingLaws.{ComesNext}
 -- Each mark that is set is watched: the thread of its block runs, or its exit will scan the mark, or some thread will
 -- look at it.
 abbrev pub QueuedMarksAreWatched : Type 0
-QueuedMarksAreWatched = (p : Accounts) (n : ℕ) (m : Machine) (x : ℕ) → Counts p n m → m.memory (Mark x) ≢ 0
+QueuedMarksAreWatched = (p : Accounts) (n : ℕ) (m : Machine) (x : ℕ) → Counts p n m → m.memory (Mark x) ≢ UNSET
     → IsWatched m x
 
 -- The thread has locked the row's object, and the object's gate names the thread.

@@ -1,6 +1,7 @@
 -- The invariant holds of each reachable machine, whatever code its threads run. It takes each thread's account of
 -- references, and never asks where a thread is in its code: status and agenda say whether its exit is under way.
 use Rattle.std.specs.Prelude.{◌≡◌, ◌≢◌, ◌⊎◌, ℕ, ◌+◌, ◌<◌, ◌≤◌, Bool, true, false, ◌==◌, List, [], ◌∷◌, length, Some, slice_get, count_by, AllPairs}
+use Rattle.brc_word.specs.declared.values.TheConstants.{RUNNING, SET, UNSET, EMPTY}
 use Rattle.brc_model.specs.declared.duty.Holding.{Holding}
 use Rattle.brc_model.specs.AbstractState.{is_among, references_to}
 use Rattle.brc_word.specs.Words.{immortal_local, local_word, kind_part}
@@ -69,7 +70,7 @@ looks x _ = 0
 
 -- Some thread will look at the mark: the running owner, the owner's exit, or the thread that set it.
 pub data IsWatched (m : Machine) (x : ℕ) : Type 0 where
-  ByRunning : m.memory (ThreadWord (block_of m.layout x)) ≡ 1 → IsWatched m x
+  ByRunning : m.memory (ThreadWord (block_of m.layout x)) ≡ RUNNING → IsWatched m x
   ByExit : (a : Actor) → slice_get m.actors (block_of m.layout x) ≡ Some a
       → scans (index_of m.layout (block_of m.layout x) x) a.agenda ≡ true → IsWatched m x
   ByLook : 0 < weight (looks x) m.actors → IsWatched m x
@@ -78,8 +79,8 @@ pub data IsWatched (m : Machine) (x : ℕ) : Type 0 where
 
 -- A cell is empty while its row has no object.
 abbrev pub CellFits : Life → ℕ → Type 0
-CellFits Unborn word = word ≡ 0
-CellFits Closed word = word ≡ 0
+CellFits Unborn word = word ≡ EMPTY
+CellFits Closed word = word ≡ EMPTY
 CellFits _ word = Unit {0}
 
 -- ---- births
@@ -108,7 +109,7 @@ pub record BlankFits (layout : Layout) (memory : Address → ℕ) (t used : ℕ)
   pub kinds : (x : ℕ) → block_of layout x ≡ t → used ≤ index_of layout t x → kind_stored agenda x ≡ false
       → memory (KindOf x) ≡ 0
   pub slots : (x : ℕ) → block_of layout x ≡ t → used ≤ index_of layout t x → slot_stored agenda x ≡ false
-      → memory (Slot x) ≡ 0
+      → memory (Slot x) ≡ EMPTY
 
 -- ---- the whole
 
@@ -125,7 +126,7 @@ pub record CoreInvariant (p : Accounts) (n : ℕ) (m : Machine) : Type 0 where
   -- each row's counts, state and life fit together
   pub rows : (x : ℕ) → IsCounted m.layout x → RowInvariant (block_of m.layout x) (m.life x) (numbers_of m x)
   -- a mark is set or not, and a mark that is set is watched
-  pub marks : (x : ℕ) → m.memory (Mark x) ≡ 0 ⊎ ((m.memory (Mark x) ≡ 1) × (IsCounted m.layout x) × IsWatched m x)
+  pub marks : (x : ℕ) → m.memory (Mark x) ≡ UNSET ⊎ ((m.memory (Mark x) ≡ SET) × (IsCounted m.layout x) × IsWatched m x)
   pub each : (t : ℕ) (a : Actor) → slice_get m.actors t ≡ Some a → Fits (p t) m t a
   -- no other thread holds a reference
   pub beyond : (t : ℕ) → n ≤ t → (k : Holding) (object : ℕ) → held (reference_of t k object) m.abstract.references ≡ 0
@@ -138,7 +139,7 @@ pub record CoreInvariant (p : Accounts) (n : ℕ) (m : Machine) : Type 0 where
       → held (cell_reference x i object) m.abstract.references ≡ word_holds (m.memory (Cell x i)) object
   -- only the cells of an object hold references, and no more of them than its kind word says
   pub cells : (x i : ℕ) → CellFits (m.life x) (m.memory (Cell x i))
-  pub cells_end : (x i : ℕ) → cells_of (m.memory (KindOf x)) ≤ i → m.memory (Cell x i) ≡ 0
+  pub cells_end : (x i : ℕ) → cells_of (m.memory (KindOf x)) ≤ i → m.memory (Cell x i) ≡ EMPTY
   -- the rows that a thread has used are born; the others of its block are unborn and blank
   pub uses : (t : ℕ) (a : Actor) → slice_get m.actors t ≡ Some a → UsesFit m.layout m.life t a.used
   pub blanks : (t : ℕ) (a : Actor) → slice_get m.actors t ≡ Some a → BlankFits m.layout m.memory t a.used a.agenda

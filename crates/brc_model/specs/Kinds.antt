@@ -1,5 +1,6 @@
 -- The kinds of objects, and the numbers that name them in kind words.
 use Rattle.std.specs.Prelude.{ℕ, Bool, true, false, ◌==◌, if◌then◌else◌}
+use Rattle.brc_word.specs.declared.values.TheConstants.{NONE, NUM, LIST, FILE, SOCK}
 use Rattle.brc_word.specs.Words.{kind_part}
 use Rattle.brc_lang.specs.declared.kind.Kind.{Kind}
 use Rattle.brc_lang.specs.declared.kind.Kind.TheVariants as kinds
@@ -7,20 +8,20 @@ use Rattle.brc_lang.specs.declared.kind.Kind.TheVariants as kinds
 -- the kind's number in kind words; a word that no birth has stored has the number 0
 abbrev pub kind_number : Kind → ℕ
 kind_number kinds.Any = 0
-kind_number kinds.None = 1
-kind_number kinds.Num = 2
-kind_number kinds.List = 3
-kind_number kinds.File = 4
-kind_number kinds.Sock = 5
+kind_number kinds.None = NONE
+kind_number kinds.Num = NUM
+kind_number kinds.List = LIST
+kind_number kinds.File = FILE
+kind_number kinds.Sock = SOCK
 
 -- the kind that has the number, or `Any` if no kind has it
 abbrev pub kind_numbered : ℕ → Kind
 kind_numbered n =
-    if n == 1 then kinds.None
-    else if n == 2 then kinds.Num
-    else if n == 3 then kinds.List
-    else if n == 4 then kinds.File
-    else if n == 5 then kinds.Sock
+    if n == NONE then kinds.None
+    else if n == NUM then kinds.Num
+    else if n == LIST then kinds.List
+    else if n == FILE then kinds.File
+    else if n == SOCK then kinds.Sock
     else kinds.Any
 
 -- the kind that a kind word names

@@ -1,5 +1,6 @@
 -- What a thread's duty knows of memory, of its thread and of its row, until its step.
 use Rattle.std.specs.Prelude.{◌≡◌, ◌≢◌, ◌⊎◌, ℕ, ◌+◌, ◌<◌, ◌≤◌, Bool, true, false, List, [], ◌∷◌, None, Some, count_by}
+use Rattle.brc_word.specs.declared.values.TheConstants.{RUNNING, LEAVING, GONE, MERGED, EMPTY}
 use Rattle.brc_model.specs.declared.duty.Holding.{Holding}
 use Rattle.brc_word.specs.Words.{half, immortal_local, most_local, owner_part, local_part, phase_part, free_word, dying_word}
 use Rattle.brc_model.specs.Kinds.{kind_of_word, is_counted_kind}
@@ -19,9 +20,9 @@ use Rattle.brc_model.specs.Layout.{block_of, block_size, row_at, IsCounted}
 
 -- the thread word of a status
 abbrev pub status_word : Status → ℕ
-status_word Running = 1
-status_word Leaving = 2
-status_word Gone = 3
+status_word Running = RUNNING
+status_word Leaving = LEAVING
+status_word Gone = GONE
 
 -- The thread is running and owns the row. (PEP 703: only then may it change the local count without an atomic step.)
 pub record OwnsLocally (m : Machine) (t : ℕ) (a : Actor) (x : ℕ) : Type 0 where
@@ -50,7 +51,7 @@ HasNoRetainAside a = count_by is_retain a.aside ≡ 0
 
 -- A thread merges an object that was queued if it is the owner, or if the owner no longer runs.
 abbrev pub MayMerge : Machine → ℕ → ℕ → Type 0
-MayMerge m t x = (block_of m.layout x ≡ t) ⊎ (m.memory (ThreadWord (block_of m.layout x)) ≢ 1)
+MayMerge m t x = (block_of m.layout x ≡ t) ⊎ (m.memory (ThreadWord (block_of m.layout x)) ≢ RUNNING)
 
 -- Only the running owner merges for its own release. Any thread that may merge does so for a claimed mark.
 abbrev pub MayCarry : Machine → ℕ → Actor → ℕ → Reason → Type 0
@@ -87,11 +88,11 @@ GuardsCells m t a x = (a.locked ≡ Some x) ⊎ HasChained m t x
 
 -- The row's cells are empty, but perhaps those from `i` on below `n`.
 abbrev pub IsEmptyBut : (Address → ℕ) → ℕ → ℕ → ℕ → Type 0
-IsEmptyBut memory x i n = (j : ℕ) → (j < i) ⊎ (n ≤ j) → memory (Cell x j) ≡ 0
+IsEmptyBut memory x i n = (j : ℕ) → (j < i) ⊎ (n ≤ j) → memory (Cell x j) ≡ EMPTY
 
 -- All cells of the row are empty.
 abbrev pub IsEmpty : (Address → ℕ) → ℕ → Type 0
-IsEmpty memory x = (j : ℕ) → memory (Cell x j) ≡ 0
+IsEmpty memory x = (j : ℕ) → memory (Cell x j) ≡ EMPTY
 
 -- What a thread knows of a row whose cells it empties, and which it then closes, even while these duties are behind
 -- another one: the thread may release what it found in a cell first. Only lists have cells, so such a row has no
@@ -119,13 +120,13 @@ HeadFits m t a (ReleaseStore x w) rest =
 HeadFits m t a (DecideAtZero x) rest =
     (IsCounted m.layout x) × OwnsLocally m t a x × (local_part (m.memory (Local x)) ≡ 0)
 HeadFits m t a (SharedLoad x Own) rest = IsCounted m.layout x
-HeadFits m t a (SharedLoad x Handed) rest = (IsCounted m.layout x) × (phase_part (m.memory (Shared x)) ≡ 3)
+HeadFits m t a (SharedLoad x Handed) rest = (IsCounted m.layout x) × (phase_part (m.memory (Shared x)) ≡ MERGED)
 HeadFits m t a (SharedExchange x Own w) rest = IsCounted m.layout x
-HeadFits m t a (SharedExchange x Handed w) rest = (IsCounted m.layout x) × (phase_part (m.memory (Shared x)) ≡ 3)
+HeadFits m t a (SharedExchange x Handed w) rest = (IsCounted m.layout x) × (phase_part (m.memory (Shared x)) ≡ MERGED)
 HeadFits m t a (SetMark x) rest = IsCounted m.layout x
 HeadFits m t a (Look x) rest = (IsCounted m.layout x) × (m.life x ≢ Unborn)
 HeadFits m t a (TakeMark x) rest =
-    (IsCounted m.layout x) × (m.memory (ThreadWord (block_of m.layout x)) ≢ 1) × (m.life x ≢ Unborn)
+    (IsCounted m.layout x) × (m.memory (ThreadWord (block_of m.layout x)) ≢ RUNNING) × (m.life x ≢ Unborn)
 HeadFits m t a (MergeSwap x Own) rest =
     (IsCounted m.layout x) × OwnsLocally m t a x × (local_part (m.memory (Local x)) ≡ 0)
 HeadFits m t a (MergeSwap x Handed) rest = (IsCounted m.layout x) × MayMerge m t x

@@ -1,6 +1,7 @@
 -- The counting machine: the memory, with a word at each address; the threads, each with an agenda; and beside them the
 -- abstract state and the life of each row. A step is a thread's first duty. The machine knows no code.
 use Rattle.std.specs.Prelude.{ℕ, ◌+◌, Bool, true, false, ◌&&◌, ◌==◌, nat_lt, if◌then◌else◌, List, [], ◌∷◌, ◌++◌, Option, None, Some, slice_set}
+use Rattle.brc_word.specs.declared.values.TheConstants.{FULL}
 use Rattle.brc_model.specs.declared.actor.Actor.{Actor}
 use Rattle.brc_model.specs.declared.actor.Status.{Status}
 use Rattle.brc_model.specs.declared.actor.Status.TheVariants.{Running, Leaving, Gone}
@@ -57,7 +58,7 @@ is_lending _ = false
 
 -- A thread that finds the resource in its slot has it lent, until it puts it back.
 abbrev pub lent_by : Option ℕ → Duty → ℕ → Option ℕ
-lent_by lent (LendSlot x) found = if found == 1 then Some x else lent
+lent_by lent (LendSlot x) found = if found == FULL then Some x else lent
 lent_by lent (ReturnSlot x) found = None
 lent_by lent _ found = lent
 

@@ -1,6 +1,7 @@
 -- What the host is asked to do with the resources of files and sockets. (Python/C API manual, Object Implementation: a
 -- deallocator frees what the object holds. Rust, `std::fs::File`: a file is closed when its one owner drops it.)
 use Rattle.std.specs.Prelude.{◌≡◌, ℕ, ◌≤◌, true, List, ◌∷◌, Some, slice_get, ◌↔◌}
+use Rattle.brc_word.specs.declared.values.TheConstants.{EMPTY}
 use Rattle.brc_model.specs.declared.duty.Duty.{Duty}
 use Rattle.brc_model.specs.declared.duty.Duty.TheVariants.{SettleEnd}
 use Rattle.brc_model.specs.declared.address.Address.TheVariants.{KindOf, Slot, Resource}
@@ -33,7 +34,7 @@ HasLent m t x = (a : Actor) × (slice_get m.actors t ≡ Some a) × (a.lent ≡ 
 
 -- the row's slot is empty, no other thread has the resource lent, and the thread has locked the row
 pub record IsUsedAlone (m : Machine) (t x : ℕ) : Type 0 where
-  pub slot : m.memory (Slot x) ≡ 0
+  pub slot : m.memory (Slot x) ≡ EMPTY
   pub alone : (u : ℕ) → HasLent m u x → u ≡ t
   pub locked : HasLock m t x
 

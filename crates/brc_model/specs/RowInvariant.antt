@@ -1,6 +1,7 @@
 -- The invariant of one row, whichever thread steps next. It relates the row's words, the references to it, and the
 -- weights of the duties about it.
 use Rattle.std.specs.Prelude.{◌≡◌, ℕ, ◌+◌, ◌<◌, ◌≤◌, ◌==◌, if◌then◌else◌, List, sum_by}
+use Rattle.brc_word.specs.declared.values.TheConstants.{NOBODY, DEFAULT, QUEUED, MERGED}
 use Rattle.brc_word.specs.Words.{half, immortal_local, owner_part, local_part, biased_part, phase_part, bias, fresh_word}
 use Rattle.brc_model.specs.declared.duty.Reason.TheVariants.{Own, Handed}
 use Rattle.brc_model.specs.declared.duty.Duty.{Duty}
@@ -65,8 +66,8 @@ pub record Numbers : Type 0 where
 
 -- default: no decrement is pending, and the shared count isn't below 0; queued: one decrement is pending
 pub data Phased (n : Numbers) : Type 0 where
-  IsDefault : phase_part n.shared ≡ 0 → n.mark + n.waiting ≡ 0 → bias ≤ biased_part n.shared → Phased n
-  IsQueued : phase_part n.shared ≡ 2 → n.mark + n.waiting ≡ 1 → Phased n
+  IsDefault : phase_part n.shared ≡ DEFAULT → n.mark + n.waiting ≡ 0 → bias ≤ biased_part n.shared → Phased n
+  IsQueued : phase_part n.shared ≡ QUEUED → n.mark + n.waiting ≡ 1 → Phased n
 
 -- the owner decides about the row exactly if the local count is 0
 pub data Decided (n : Numbers) : Type 0 where
@@ -84,7 +85,7 @@ pub record IsOwned (owner : ℕ) (n : Numbers) : Type 0 where
 
 -- one thread has swapped the row's local count out, and not yet added it to the shared word
 pub record IsSwapped (n : Numbers) : Type 0 where
-  pub local : n.local ≡ 0
+  pub local : n.local ≡ NOBODY
   pub merging : n.merging ≡ 1
   pub carried : n.carried < half
   pub deciding : n.deciding ≡ 0
@@ -92,11 +93,11 @@ pub record IsSwapped (n : Numbers) : Type 0 where
 
 -- nobody owns the row, and the shared word has its count
 pub record IsMerged (n : Numbers) : Type 0 where
-  pub local : n.local ≡ 0
+  pub local : n.local ≡ NOBODY
   pub merging : n.merging ≡ 0
   pub carried : n.carried ≡ 0
   pub deciding : n.deciding ≡ 0
-  pub phase : phase_part n.shared ≡ 3
+  pub phase : phase_part n.shared ≡ MERGED
   pub counted : bias + 1 ≤ biased_part n.shared
   pub awaits : n.mark + n.waiting ≤ 1
 
@@ -123,7 +124,7 @@ pub record IsDead (n : Numbers) : Type 0 where
 
 -- a row in which no object is born yet: its words are those of the first machine
 pub record IsUnborn (n : Numbers) : Type 0 where
-  pub local : n.local ≡ 0
+  pub local : n.local ≡ NOBODY
   pub shared : n.shared ≡ fresh_word
   pub mark : n.mark ≡ 0
   pub references : n.references ≡ 0

@@ -2,6 +2,7 @@
 -- that the step finds, the value that it leaves, the duties that follow, and the moves of references. The rules are in
 -- the order of an object's life. (PEP 703, Biased Reference Counting and Immortalization.)
 use Rattle.std.specs.Prelude.{◌≡◌, ◌≢◌, ℕ, ◌+◌, ◌-◌, ◌<◌, ◌≤◌, Bool, true, false, List, [], ◌∷◌, ◌++◌}
+use Rattle.brc_word.specs.declared.values.TheConstants.{RUNNING, LEAVING, GONE, SET, UNSET, NOBODY, ONE_REFERENCE, QUEUED, EMPTY, FULL}
 use Rattle.brc_model.specs.declared.duty.Holding.{Holding}
 use Rattle.brc_model.specs.declared.duty.Reason.{Reason}
 use Rattle.brc_model.specs.declared.duty.Reason.TheVariants.{Own, Handed}
@@ -16,14 +17,6 @@ use Rattle.brc_model.specs.Duties.{new_word, continuation, counts_locally, once_
 use Rattle.brc_model.specs.declared.layout.Layout.{Layout}
 use Rattle.brc_model.specs.Layout.{row_at}
 use Rattle.brc_model.specs.Moves.{reference_effects, gain, lose, put_in_flight, take_out, put_in, birth}
-
--- one reference in the shared word, whose two lowest bits are the state
-abbrev pub one_shared : ℕ
-one_shared = 4
-
--- the state bits of queued: (0, default) becomes (0, queued)
-abbrev pub queued_bits : ℕ
-queued_bits = 2
 
 -- A release loses the thread's own reference. A reference that the queue held was lost when its object was queued.
 abbrev pub given_up : ℕ → Reason → ℕ → List Move
@@ -44,7 +37,7 @@ module _ (memory : Address → ℕ) (layout : Layout) (t : ℕ) (running : Bool)
         → Goes (BirthKind x h word) found word (BirthLocal x h ∷ []) []
     -- the resource is put into its slot before the object is born
     SlotFilled : (x : ℕ) (h : Holding) (found : ℕ)
-        → Goes (BirthSlot x h) found 1 (BirthLocal x h ∷ []) []
+        → Goes (BirthSlot x h) found FULL (BirthLocal x h ∷ []) []
     -- the thread that makes the object owns it, with one local reference
     Born : (x : ℕ) (h : Holding) (found : ℕ)
         → Goes (BirthLocal x h) found (local_word t 1) [] (birth t h x (kind_of_word (memory (KindOf x))))
@@ -79,10 +72,10 @@ module _ (memory : Address → ℕ) (layout : Layout) (t : ℕ) (running : Bool)
 
     -- the thread has it lent, for a call of the host
     ResourceLent : (x found : ℕ)
-        → Goes (LendSlot x) found 0 [] []
+        → Goes (LendSlot x) found EMPTY [] []
     -- the host's call has ended, and the resource is back in its slot
     ResourceReturned : (x found : ℕ)
-        → Goes (ReturnSlot x) found 1 [] []
+        → Goes (ReturnSlot x) found FULL [] []
     -- ---- a new reference
 
     -- an immortal object is never counted
@@ -106,7 +99,7 @@ module _ (memory : Address → ℕ) (layout : Layout) (t : ℕ) (running : Bool)
         → Goes (RetainStore x h word) found (word + 1) [] (gain t h x)
     -- one reference more is added to the shared count, by one atomic step
     SharedRaised : (x : ℕ) (h : Holding) (found : ℕ)
-        → Goes (RetainAdd x h) found (found + one_shared) [] (gain t h x)
+        → Goes (RetainAdd x h) found (found + ONE_REFERENCE) [] (gain t h x)
     -- ---- the start of a release: from here on the reference is in flight
 
     -- an immortal object isn't counted
@@ -141,13 +134,13 @@ module _ (memory : Address → ℕ) (layout : Layout) (t : ℕ) (running : Bool)
         → Goes (SharedLoad x reason) found found (SharedExchange x reason found ∷ []) []
     -- (0, default): the thread hands its reference to the owner's queue, and so asks the owner to merge
     Queues : (x : ℕ) (reason : Reason) (word : ℕ) → word ≡ fresh_word
-        → Goes (SharedExchange x reason word) word (word + queued_bits) (SetMark x ∷ []) (given_up t reason x)
+        → Goes (SharedExchange x reason word) word (word + QUEUED) (SetMark x ∷ []) (given_up t reason x)
     -- the shared count loses one reference
-    Decrements : (x : ℕ) (reason : Reason) (word : ℕ) → word ≢ fresh_word → word - one_shared ≢ dead_word
-        → Goes (SharedExchange x reason word) word (word - one_shared) [] (given_up t reason x)
+    Decrements : (x : ℕ) (reason : Reason) (word : ℕ) → word ≢ fresh_word → word - ONE_REFERENCE ≢ dead_word
+        → Goes (SharedExchange x reason word) word (word - ONE_REFERENCE) [] (given_up t reason x)
     -- merged, and the last reference of all: this thread deallocates the object
-    DecrementsToZero : (x : ℕ) (reason : Reason) (word : ℕ) → word ≢ fresh_word → word - one_shared ≡ dead_word
-        → Goes (SharedExchange x reason word) word (word - one_shared) (Die x ∷ []) (given_up t reason x)
+    DecrementsToZero : (x : ℕ) (reason : Reason) (word : ℕ) → word ≢ fresh_word → word - ONE_REFERENCE ≡ dead_word
+        → Goes (SharedExchange x reason word) word (word - ONE_REFERENCE) (Die x ∷ []) (given_up t reason x)
     -- the compare-exchange fails, because another thread has changed the word: the thread retries
     ExchangeLost : (x : ℕ) (reason : Reason) (word found : ℕ) → found ≢ word
         → Goes (SharedExchange x reason word) found found (SharedLoad x reason ∷ []) []
@@ -155,33 +148,33 @@ module _ (memory : Address → ℕ) (layout : Layout) (t : ℕ) (running : Bool)
 
     -- the object is in its owner's queue: the thread looks next whether the owner still runs
     Marked : (x found : ℕ)
-        → Goes (SetMark x) found 1 (Look x ∷ []) []
+        → Goes (SetMark x) found SET (Look x ∷ []) []
     -- the owner runs: it will find the mark
-    OwnerRuns : (x found : ℕ) → found ≡ 1
+    OwnerRuns : (x found : ℕ) → found ≡ RUNNING
         → Goes (Look x) found found [] []
     -- the owner is exiting or has exited: the thread that queued the object takes the mark back
-    OwnerExits : (x found : ℕ) → found ≢ 1
+    OwnerExits : (x found : ℕ) → found ≢ RUNNING
         → Goes (Look x) found found (TakeMark x ∷ []) []
     -- the mark was set: the thread merges the object, and then releases the reference that the queue held
-    MarkTakenBack : (x found : ℕ) → found ≡ 1
-        → Goes (TakeMark x) found 0 (MergeSwap x Handed ∷ []) []
+    MarkTakenBack : (x found : ℕ) → found ≡ SET
+        → Goes (TakeMark x) found UNSET (MergeSwap x Handed ∷ []) []
     -- the owner has taken the mark first
-    MarkGone : (x found : ℕ) → found ≢ 1
-        → Goes (TakeMark x) found 0 [] []
+    MarkGone : (x found : ℕ) → found ≢ SET
+        → Goes (TakeMark x) found UNSET [] []
     -- a running owner, between two calls, finds the mark set, and merges the object
-    MarkClaimed : (x found : ℕ) → found ≡ 1
-        → Goes (ClaimMark x) found 0 (MergeSwap x Handed ∷ Settle ∷ []) []
+    MarkClaimed : (x found : ℕ) → found ≡ SET
+        → Goes (ClaimMark x) found UNSET (MergeSwap x Handed ∷ Settle ∷ []) []
     -- the mark was clear
-    NothingToClaim : (x found : ℕ) → found ≢ 1
-        → Goes (ClaimMark x) found 0 (Settle ∷ []) []
+    NothingToClaim : (x found : ℕ) → found ≢ SET
+        → Goes (ClaimMark x) found UNSET (Settle ∷ []) []
     -- ---- a merge: the local count moves into the shared word, and nobody owns the object any more
 
     -- the object is merged already: the thread does what it wanted the merge for
-    NobodysCount : (x : ℕ) (reason : Reason) (found : ℕ) → found ≡ 0
-        → Goes (MergeSwap x reason) found 0 (once_merged x reason) []
+    NobodysCount : (x : ℕ) (reason : Reason) (found : ℕ) → found ≡ NOBODY
+        → Goes (MergeSwap x reason) found NOBODY (once_merged x reason) []
     -- owner and count leave the local word in one step, and the thread carries the count
-    LocalTakenOut : (x : ℕ) (reason : Reason) (found : ℕ) → found ≢ 0
-        → Goes (MergeSwap x reason) found 0 (MergeLoad x (local_part found) reason ∷ []) []
+    LocalTakenOut : (x : ℕ) (reason : Reason) (found : ℕ) → found ≢ NOBODY
+        → Goes (MergeSwap x reason) found NOBODY (MergeLoad x (local_part found) reason ∷ []) []
     -- the exchange adds the carried count, if the word is still the same
     MergeRead : (x carried : ℕ) (reason : Reason) (found : ℕ)
         → Goes (MergeLoad x carried reason) found found (MergeExchange x carried found reason ∷ []) []
@@ -213,11 +206,11 @@ module _ (memory : Address → ℕ) (layout : Layout) (t : ℕ) (running : Bool)
         → Goes (SettleKind x) found found (cells_from x 0 (cells_of found)) []
     -- the cell's reference is released before the next cell is emptied
     CellEmptied : (x cell cells found : ℕ)
-        → Goes (SettleCell x cell cells) found 0 (release_found found ++ cells_from x (cell + 1) cells)
+        → Goes (SettleCell x cell cells) found EMPTY (release_found found ++ cells_from x (cell + 1) cells)
         (take_out t x cell found)
     -- no other thread finds the resource while the host closes it
     SlotEmptied : (x found : ℕ)
-        → Goes (TakeSlot x) found 0 (CloseResource x ∷ []) []
+        → Goes (TakeSlot x) found EMPTY (CloseResource x ∷ []) []
     -- the host has closed the resource, also if it reports a fault
     ResourceClosed : (x found : ℕ)
         → Goes (CloseResource x) found (found + 1) (SettleEnd x ∷ []) []
@@ -228,17 +221,17 @@ module _ (memory : Address → ℕ) (layout : Layout) (t : ℕ) (running : Bool)
 
     -- whoever sets a mark from then on finds that the owner no longer runs
     SaysLeaving : (first rows found : ℕ)
-        → Goes (Leave first rows) found 2 (Scan first rows ∷ Finish ∷ []) []
+        → Goes (Leave first rows) found LEAVING (Scan first rows ∷ Finish ∷ []) []
     -- the object is merged, the reference that the queue held released, and what dies deallocated, before the next row
-    ScanFindsMark : (index rows found : ℕ) → found ≡ 1
-        → Goes (Scan index rows) found 0
+    ScanFindsMark : (index rows found : ℕ) → found ≡ SET
+        → Goes (Scan index rows) found UNSET
         (MergeSwap (row_at layout t index) Handed ∷ Settle ∷ Scan (index + 1) (rows - 1) ∷ []) []
     -- the mark was clear: the thread goes on to its next row
-    ScanFindsNone : (index rows found : ℕ) → found ≢ 1
-        → Goes (Scan index rows) found 0 (Settle ∷ Scan (index + 1) (rows - 1) ∷ []) []
+    ScanFindsNone : (index rows found : ℕ) → found ≢ SET
+        → Goes (Scan index rows) found UNSET (Settle ∷ Scan (index + 1) (rows - 1) ∷ []) []
     -- the thread takes no further step
     SaysGone : (found : ℕ)
-        → Goes Finish found 3 [] []
+        → Goes Finish found GONE [] []
 
   -- the conclusion of a rule is what the step of the duty computes
   pub record IsComputed (d : Duty) (found left : ℕ) (next : List Duty) (moves : List Move) : Type 0 where

@@ -2,6 +2,7 @@
 -- with plain reads and writes, and gives it back: it does so while it has locked the row, while it gives birth to the
 -- row's object, and while it deallocates the object.
 use Rattle.std.specs.Prelude.{◌≡◌, ◌≢◌, ◌⊎◌, ℕ, Bool, true, false, ◌==◌, if◌then◌else◌, List, None, Some, slice_get}
+use Rattle.brc_word.specs.declared.values.TheConstants.{EMPTY}
 use Rattle.std.specs.List.{list_any}
 use Rattle.brc_word.specs.Words.{free_word, closed_word}
 use Rattle.brc_model.specs.declared.duty.Holding.{Holding}
@@ -82,7 +83,7 @@ NeededSlotsAreUnlocked =
 pub record SlotsAreKnown : Type 0 where
   -- the slot of an object that isn't born yet is empty
   pub unborn : (p : Accounts) (n : ℕ) (m : Machine) (t : ℕ) (a : Actor) (x : ℕ) (h : Holding) (w : ℕ) (rest : List Duty)
-      → Counts p n m → ComesNext m t a (BirthKind x h w) rest → m.memory (Slot x) ≡ 0
+      → Counts p n m → ComesNext m t a (BirthKind x h w) rest → m.memory (Slot x) ≡ EMPTY
   -- at the end of a birth the object's resource is there, if its kind has one
   pub born : (p : Accounts) (n : ℕ) (m : Machine) (t : ℕ) (a : Actor) (x : ℕ) (h : Holding) (rest : List Duty)
       → Counts p n m → ComesNext m t a (BirthLocal x h) rest → m.memory (Slot x) ≡ resources_of (m.memory (KindOf x))
@@ -91,7 +92,7 @@ pub record SlotsAreKnown : Type 0 where
       → Counts p n m → ComesNext m t a (SettleKind x) rest → m.memory (Slot x) ≡ resources_of (m.memory (KindOf x))
   -- at the end of that the slot is empty
   pub closing : (p : Accounts) (n : ℕ) (m : Machine) (t : ℕ) (a : Actor) (x : ℕ) (rest : List Duty)
-      → Counts p n m → ComesNext m t a (SettleEnd x) rest → m.memory (Slot x) ≡ 0
+      → Counts p n m → ComesNext m t a (SettleEnd x) rest → m.memory (Slot x) ≡ EMPTY
 
 -- The slot of an object that a thread has locked has the object's resource, if its kind has one, unless the thread has
 -- lent it.

@@ -1,6 +1,7 @@
 -- The step machine: the counting machine, with functions and places on top. At an event one thread does the first duty
 -- of its agenda, or dispatches its next instruction.
 use Rattle.std.specs.Prelude.{ℕ, zero, suc, ◌+◌, ◌*◌, Bool, true, false, if◌then◌else◌, nat_le, nat_lt, List, [], ◌∷◌, length, map, Option, None, Some, fold, slice_get, slice_set}
+use Rattle.brc_word.specs.declared.values.TheConstants.{NOT_STARTED, RUNNING, UNSET, EMPTY, FREE, NONE, LIST}
 use Rattle.brc_lang.specs.declared.kind.Kind.{Kind}
 use Rattle.brc_lang.specs.declared.kind.Kind.TheVariants as kinds
 use Rattle.brc_lang.specs.declared.module.Function.{Function}
@@ -162,13 +163,13 @@ worker_actor c = record { function = c.function; place = Idle c.times; actor = i
 abbrev pub rooted_memory : ℕ → ℕ → Address → ℕ
 rooted_memory workers callers (Local x) = by_row (local_word 0 immortal_local) (local_word 0 callers) 0 x
 rooted_memory workers callers (Shared x) = fresh_word
-rooted_memory workers callers (Gate x) = 1
-rooted_memory workers callers (KindOf x) = by_row half (3 * half + cell_limit) 0 x
-rooted_memory workers callers (Mark x) = 0
-rooted_memory workers callers (Cell x i) = 0
-rooted_memory workers callers (Slot x) = 0
+rooted_memory workers callers (Gate x) = FREE
+rooted_memory workers callers (KindOf x) = by_row (NONE * half) (LIST * half + cell_limit) 0 x
+rooted_memory workers callers (Mark x) = UNSET
+rooted_memory workers callers (Cell x i) = EMPTY
+rooted_memory workers callers (Slot x) = EMPTY
 rooted_memory workers callers (Resource x) = 0
-rooted_memory workers callers (ThreadWord t) = if nat_le t workers then 1 else 0
+rooted_memory workers callers (ThreadWord t) = if nat_le t workers then RUNNING else NOT_STARTED
 
 -- Here main and each worker hold the root.
 abbrev pub first_memory : ℕ → Address → ℕ

@@ -1,5 +1,6 @@
 -- The duties that store a word whatever they find, and the word that each of them overwrites.
 use Rattle.std.specs.Prelude.{◌≡◌, ℕ, Bool, true, false}
+use Rattle.brc_word.specs.declared.values.TheConstants.{UNSET, NOBODY, EMPTY}
 use Rattle.brc_word.specs.Words.{free_word, locked_word}
 use Rattle.brc_model.specs.declared.duty.Duty.{Duty}
 use Rattle.brc_model.specs.declared.duty.Duty.TheVariants.{RetainStore, ReleaseStore, SetMark, Die, SettleEnd, Leave, Finish, BirthKind, BirthSlot, BirthLocal, UnlockGate, ReturnSlot}
@@ -26,14 +27,14 @@ is_store _ = false
 abbrev pub Overwrites : ℕ → Duty → ℕ → Type 0
 Overwrites t (RetainStore x h w) found = found ≡ w
 Overwrites t (ReleaseStore x w) found = found ≡ w
-Overwrites t (SetMark x) found = found ≡ 0
+Overwrites t (SetMark x) found = found ≡ UNSET
 Overwrites t (Die x) found = found ≡ free_word
 Overwrites t (SettleEnd x) found = IsDyingWord t found
 Overwrites t (Leave x n) found = found ≡ status_word Running
 Overwrites t Finish found = found ≡ status_word Leaving
 Overwrites t (BirthKind x h w) found = found ≡ 0
-Overwrites t (BirthSlot x h) found = found ≡ 0
-Overwrites t (BirthLocal x h) found = found ≡ 0
+Overwrites t (BirthSlot x h) found = found ≡ EMPTY
+Overwrites t (BirthLocal x h) found = found ≡ NOBODY
 Overwrites t (UnlockGate x) found = found ≡ locked_word t
-Overwrites t (ReturnSlot x) found = found ≡ 0
+Overwrites t (ReturnSlot x) found = found ≡ EMPTY
 Overwrites t _ found = Unit {0}

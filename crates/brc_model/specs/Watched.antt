@@ -2,6 +2,7 @@
 -- merges an object that another thread has queued. If the owner is exiting, its exit or the thread that queued the
 -- object does so.)
 use Rattle.std.specs.Prelude.{◌≡◌, ◌≢◌, ℕ, ◌+◌, Bool, true, false, ◌&&◌, ◌||◌, ◌==◌, nat_le, nat_lt, slice_get, Some}
+use Rattle.brc_word.specs.declared.values.TheConstants.{UNSET}
 use Rattle.std.specs.List.{list_any}
 use Rattle.brc_model.specs.declared.duty.Duty.{Duty}
 use Rattle.brc_model.specs.declared.duty.Duty.TheVariants.{Look, TakeMark, Scan}
@@ -34,4 +35,4 @@ pub data IsWatched (m : Machine) (x : ℕ) : Type 0 where
 
 -- each set mark is watched
 abbrev pub MarksWatched : StepMachine → Type 0
-MarksWatched m = (x : ℕ) → m.memory (Mark x) ≢ 0 → IsWatched (counting m) x
+MarksWatched m = (x : ℕ) → m.memory (Mark x) ≢ UNSET → IsWatched (counting m) x

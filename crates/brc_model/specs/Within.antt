@@ -1,5 +1,6 @@
 -- What a step can rely on: its word is there, and the values that it finds and leaves are a header's, below all bounds.
 use Rattle.std.specs.Prelude.{◌≡◌, ◌≢◌, ◌⊎◌, ℕ, ◌+◌, ◌*◌, ◌<◌, ◌≤◌, Bool, true, List, length}
+use Rattle.brc_word.specs.declared.values.TheConstants.{EMPTY, FULL}
 use Rattle.brc_word.specs.Words.{half, most_local, owner_part, local_part, biased_part, phase_part, bias}
 use Rattle.brc_model.specs.declared.thread.Choice.{Choice}
 use Rattle.brc_model.specs.declared.actor.Place.{Place}
@@ -47,10 +48,10 @@ Suits t running n (MergeExchange x c w r) found =
 Suits t running n (SettleCell x i k) found = found ≤ n
 Suits t running n (CellLoad x i) found = found ≤ n
 Suits t running n (CellSwap x i y h) found = (y < n) × (found ≤ n)
-Suits t running n (TakeSlot x) found = found ≡ 1
+Suits t running n (TakeSlot x) found = found ≡ FULL
 Suits t running n (CloseResource x) found = found ≡ 0
-Suits t running n (LendSlot x) found = found ≡ 1
-Suits t running n (ReturnSlot x) found = found ≡ 0
+Suits t running n (LendSlot x) found = found ≡ FULL
+Suits t running n (ReturnSlot x) found = found ≡ EMPTY
 Suits t running n _ found = Unit {0}
 
 -- A row's local word names no owner, or the thread of the row's block.

@@ -2,6 +2,7 @@
 //! what a step can rely on, and how large it is.
 
 ghost use Rattle.std.specs.Prelude.{ℕ, suc, ◌≡◌, ◌≢◌, ◌+◌, ◌<◌, ◌≤◌, true, false, List, length, Option, Some, slice_get};
+ghost use Rattle.brc_word.specs.declared.values.TheConstants.{UNSET};
 ghost use Rattle.brc_lang.specs.declared.module.Module.{Module};
 ghost use Rattle.brc_lang.specs.Grammar.{IsModule};
 ghost use Rattle.brc_model.specs.Paths.{IsAcceptable};
@@ -47,9 +48,9 @@ pub fn steps_move()
     ensures waits { (p : Module) (w : World) (t : ℕ) (a : StepActor) → IsReachable p w → slice_get w.actors t ≡ Some a
         → waits_for_lock w t a ≡ true → (step w t Ok ≡ w) × (step w t Fault ≡ w) }
     ensures claims { (w : World) (t : ℕ) (a : StepActor) (row : ℕ) → slice_get w.actors t ≡ Some a
-        → may_claim w.layout t a row ≡ true → w.memory (Mark row) ≢ 0 → step w t (Claim row) ≢ w }
+        → may_claim w.layout t a row ≡ true → w.memory (Mark row) ≢ UNSET → step w t (Claim row) ≢ w }
     ensures misses { (p : Module) (w : World) (t : ℕ) (a : StepActor) (row : ℕ) → IsReachable p w → slice_get w.actors t
-        ≡ Some a → may_claim w.layout t a row ≡ true → w.memory (Mark row) ≡ 0 → step w t (Claim row) ≡ w }
+        ≡ Some a → may_claim w.layout t a row ≡ true → w.memory (Mark row) ≡ UNSET → step w t (Claim row) ≡ w }
     ensures stays { (w : World) (t : ℕ) (a : StepActor) (row : ℕ) → slice_get w.actors t ≡ Some a
         → may_claim w.layout t a row ≡ false → step w t (Claim row) ≡ w }
     ensures stops { (p : Module) (w : World) (t : ℕ) (a : StepActor) → IsReachable p w → slice_get w.actors t ≡ Some a

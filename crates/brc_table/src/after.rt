@@ -11,12 +11,9 @@ ghost use Rattle.brc_model.specs.Machine.{is_running, status_by, used_by};
 ghost use Rattle.brc_table.specs.Rule.{reading};
 ghost use Rattle.brc_table.specs.Accesses.{HasNextRow};
 
-use brc_effect::states::RUNNING;
 use brc_model::Duty;
 use brc_word::next_of_dying;
-
-/// The word of a thread that isn't started yet, which counts as running.
-const NOT_STARTED: u64 = 0;
+use brc_word::values::{NOT_STARTED, RUNNING};
 
 /// Returns what the duty's word says. A thread that isn't started yet counts as running.
 #[inline(always)]

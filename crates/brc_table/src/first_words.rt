@@ -6,6 +6,7 @@ ghost use Rattle.brc_table.specs.Opening.{blank_line, blank_word, first_word, Ar
 use crate::place::{FRONT, GATE, KIND, LINE, LOCAL, SHARED, TILE, in_line};
 use crate::size::{CELLS, NONE_ROW, ROOT_ROW, word_count};
 use brc_model::Layout;
+use brc_word::values::{FREE, LIST, NONE, RUNNING};
 use brc_word::{kind_word, local_word};
 use std::alloc::{AllocError, Global};
 
@@ -15,23 +16,11 @@ const MAIN: u8 = 0;
 /// The place of main's thread word.
 const MAIN_PLACE: usize = 0;
 
-/// The thread word of a running thread. That of a worker that isn't started is 0.
-const RUNNING: u64 = 1;
-
 /// The shared word of count 0 and state default.
 const FRESH: u64 = 1 << 42;
 
-/// The gate of an object that is neither dying nor closed.
-const FREE: u64 = 1;
-
 /// The local count of an immortal object.
 const IMMORTAL: u32 = u32::MAX;
-
-/// The number of the kind none.
-const NONE_KIND: u32 = 1;
-
-/// The number of the kind list.
-const LIST_KIND: u32 = 3;
 
 /// Returns the first value of the words in a line of a tile, of rows that aren't born.
 fn blank_line(line: usize) -> u64
@@ -67,9 +56,9 @@ fn first_word(index: usize) -> u64
     } else if index == in_line(LOCAL, ROOT_ROW) {
         local_word(Some(MAIN), 1)
     } else if index == in_line(KIND, NONE_ROW) {
-        kind_word(NONE_KIND, 0)
+        kind_word(NONE, 0)
     } else if index == in_line(KIND, ROOT_ROW) {
-        kind_word(LIST_KIND, u32::from(CELLS))
+        kind_word(LIST, u32::from(CELLS))
     } else {
         blank_word(index)
     }

@@ -18,10 +18,8 @@ use crate::rule::{Locked, OfRow};
 use crate::words::Words;
 use brc_model::{Duty, immortals_are_free, locks_begin, unlocks_begin, work_is_put_aside};
 use brc_word::locked;
+use brc_word::values::FREE;
 use std::marker::Brand;
-
-/// The gate of an object that no thread has locked.
-const FREE: u64 = 1;
 
 impl<T: Drop> Words<T> {
     /// Tries once to lock an object that the hand holds: exchanges its gate, if it is free, for one that names the

@@ -12,10 +12,8 @@ use crate::view::View;
 use crate::words::Words;
 use atomic_table::{Play, Split};
 use brc_model::{accounts_are_there, chains_are_there, references_are_handed_over};
+use brc_word::values::RUNNING;
 use std::marker::{Brand, PhantomData};
-
-/// The word of a running thread.
-const RUNNING: u64 = 1;
 
 /// The worker whose hand main gives out.
 pub(crate) trait Worker {

@@ -1,6 +1,7 @@
 -- A step that goes by a rule has the rule's name.
 use Rattle.std.proofs.Common.{◌≡◌, ◌≢◌, ℕ, suc, ◌-◌, ◌<◌, ◌≤◌, Bool, true, false, List, inl, inr, refl, sym, subst, arith}
 use Rattle.std.specs.Prelude.{◌==◌, nat_lt}
+use Rattle.brc_word.specs.declared.values.TheConstants.{ONE_REFERENCE}
 use Rattle.std.proofs.lemmas.Bool.Decides.{eqb_tells, leb_tells}
 use Rattle.brc_word.specs.Words.{most_local, local_part, fresh_word, dead_word, merged_word, free_word}
 use Rattle.brc_model.specs.declared.address.Address.{Address}
@@ -9,7 +10,7 @@ use Rattle.brc_model.specs.declared.layout.Layout.{Layout}
 use Rattle.brc_model.specs.declared.duty.Reason.{Reason}
 use Rattle.brc_model.specs.declared.duty.Reason.TheVariants.{Own, Handed}
 use Rattle.brc_model.specs.AbstractState.{Move}
-use Rattle.brc_model.specs.Rules.{Goes, one_shared}
+use Rattle.brc_model.specs.Rules.{Goes}
 use Rattle.brc_model.specs.Rules as steps
 use Rattle.brc_trace.specs.Naming.{named}
 use Rattle.brc_trace.specs.declared.rule.Rule.TheVariants as names
@@ -86,9 +87,9 @@ module _ (memory : Address → ℕ) (layout : Layout) (t : ℕ) (running : Bool)
   is_named d found left next moves (steps.Queues x reason word one) =
       rw (itself word, same_test word fresh_word one) refl
   is_named d found left next moves (steps.Decrements x reason word one two) =
-      rw (itself word, other_test word fresh_word one, other_test (word - one_shared) dead_word two) refl
+      rw (itself word, other_test word fresh_word one, other_test (word - ONE_REFERENCE) dead_word two) refl
   is_named d found left next moves (steps.DecrementsToZero x reason word one two) =
-      rw (itself word, other_test word fresh_word one, same_test (word - one_shared) dead_word two) refl
+      rw (itself word, other_test word fresh_word one, same_test (word - ONE_REFERENCE) dead_word two) refl
   is_named d found left next moves (steps.ExchangeLost x reason word f one) = rw (other_test f word one) refl
   is_named d found left next moves (steps.Marked x f) = refl
   is_named d found left next moves (steps.OwnerRuns x f one) = rw (same_test f 1 one) refl

@@ -21,10 +21,10 @@ use crate::host_call::HostCall;
 use crate::question::Question;
 use crate::thread::{Mode, Thread, Variables};
 use brc_effect::rows::ROOT;
-use brc_effect::states::{LIST, NUM};
 use brc_lang::{Function, Instr};
 use brc_model::{Duty, Holding, Layout, Stage};
 use brc_word::kind_word;
+use brc_word::values::{LIST, NUM};
 
 mod birth;
 mod files;

@@ -26,10 +26,10 @@ use crate::question::answer;
 use crate::thread::{Mode, ROOM, Thread, owned_rows};
 use brc_check::Checked;
 use brc_effect::rows::{block_of, index_of};
-use brc_effect::states::FREE;
 use brc_effect::{Doer, access_of, address_of};
 use brc_lang::Function;
 use brc_model::{Address, Duty, Exit, Layout, Status};
+use brc_word::values::FREE;
 
 /// Does the thread's duty, which is no longer in its agenda, on the duty's word. Returns the value that it found there.
 // Inside the step its values would have no registers, and the step would take longer (docs/lists/PERFORMANCE.md).

@@ -9,8 +9,8 @@ ghost use Rattle.brc_model.specs.Layout.{row_count};
 
 use crate::no_memory::NoMemory;
 use brc_effect::rows::row_count;
-use brc_effect::states::{FREE, LIST, NONE, RUNNING};
 use brc_model::{Address, Layout};
+use brc_word::values::{FREE, LIST, NONE, RUNNING};
 use brc_word::{Phase, Shared, kind_word, local_word, pack};
 use std::alloc::Global;
 use std::marker::Model;

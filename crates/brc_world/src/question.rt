@@ -10,9 +10,9 @@ ghost use Rattle.brc_world.specs.Questions.{outside_of, place_answered, IsAnswer
 
 use crate::tally::kind_numbered;
 use crate::thread::{Mode, Thread};
-use brc_effect::states::LIST;
 use brc_lang::{Kind, Variable};
 use brc_model::Stage;
+use brc_word::values::LIST;
 use brc_word::{kind_argument, kind_number};
 
 /// What a step asks of the word that its duty finds. The answer decides where the thread goes on.

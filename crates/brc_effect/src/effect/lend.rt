@@ -5,7 +5,7 @@ ghost use Rattle.brc_model.specs.declared.duty.Duty.TheVariants as duties;
 ghost use Rattle.brc_effect.specs.Effects.{IsEffect};
 
 use super::{Change, Doer, Effect, Next};
-use crate::states::FULL;
+use brc_word::values::FULL;
 
 impl Doer {
     /// Takes the resource out of its slot for a call of the host: the thread has it lent until the call has ended.

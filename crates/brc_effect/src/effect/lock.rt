@@ -6,7 +6,7 @@ ghost use Rattle.brc_model.specs.Limits.{worker_limit};
 ghost use Rattle.brc_effect.specs.Effects.{IsEffect};
 
 use super::{Change, Doer, Effect, Next};
-use crate::states::FREE;
+use brc_word::values::FREE;
 
 impl Doer {
     /// Compare-exchanges the gate: if it is free, the thread's number is stored in it, and the thread has locked the

@@ -2,6 +2,7 @@
 -- computes.
 use Rattle.std.proofs.Common.{◌≡◌, ◌≢◌, ℕ, suc, ◌-◌, ◌<◌, ◌≤◌, Bool, true, false, List, [], inl, inr, refl, sym, subst, arith}
 use Rattle.std.specs.Prelude.{◌==◌, nat_lt}
+use Rattle.brc_word.specs.declared.values.TheConstants.{ONE_REFERENCE}
 use Rattle.std.proofs.lemmas.Bool.Decides.{eqb_tells, leb_tells}
 use Rattle.std.proofs.lemmas.List.{append-nil}
 use Rattle.brc_word.specs.Words.{most_local, local_part, is_immortal_word, fresh_word, dead_word, merged_word, free_word}
@@ -11,7 +12,7 @@ use Rattle.brc_model.specs.declared.duty.Reason.TheVariants.{Own, Handed}
 use Rattle.brc_model.specs.declared.duty.Duty.{Duty}
 use Rattle.brc_model.specs.declared.duty.Duty.TheVariants.{RetainLoad, RetainStore, RetainAdd, ReleaseLoad, ReleaseStore, DecideAtZero, SharedLoad, SharedExchange, SetMark, Look, TakeMark, MergeSwap, MergeLoad, MergeExchange, Die, Settle, SettleKind, SettleCell, TakeSlot, CloseResource, SettleEnd, Leave, Scan, Finish, ClaimMark, BirthKind, BirthSlot, BirthLocal, KindLoad, LockGate, UnlockGate, CellLoad, CellSwap, LendSlot, ReturnSlot}
 use Rattle.brc_model.specs.declared.address.Address.{Address}
-use Rattle.brc_model.specs.Rules.{Goes, IsComputed, given_up, one_shared}
+use Rattle.brc_model.specs.Rules.{Goes, IsComputed, given_up}
 use Rattle.brc_model.specs.Rules as rules
 use Rattle.brc_model.specs.Duties.{new_word, continuation, counts_locally, has_resource}
 use Rattle.brc_model.specs.Moves.{reference_effects, put_in_flight}
@@ -109,13 +110,13 @@ module _ (memory : Address → ℕ) (layout : Layout) (t : ℕ) (running : Bool)
   computed d found left next moves (rules.Decrements x reason word other more) =
       let won = itself word in
       let later = other_test word fresh_word other in
-      let lives = other_test (word - one_shared) dead_word more in
+      let lives = other_test (word - ONE_REFERENCE) dead_word more in
       let moves_are = exchanged_moves x reason word in
       record { left_is = rw (won, later) refl; next_is = rw (won, later, lives) refl; moves_are = moves_are }
   computed d found left next moves (rules.DecrementsToZero x reason word other last) =
       let won = itself word in
       let later = other_test word fresh_word other in
-      let dies = same_test (word - one_shared) dead_word last in
+      let dies = same_test (word - ONE_REFERENCE) dead_word last in
       let moves_are = exchanged_moves x reason word in
       record { left_is = rw (won, later) refl; next_is = rw (won, later, dies) refl; moves_are = moves_are }
   computed d found left next moves (rules.ExchangeLost x reason word f lost) =
@@ -207,7 +208,7 @@ module _ (memory : Address → ℕ) (layout : Layout) (t : ℕ) (running : Bool)
   exchanged_by : (x : ℕ) (reason : Reason) (word : ℕ) → GoesByRule (SharedExchange x reason word) word
   exchanged_by x reason word =
       by_same word fresh_word (λ fresh. applies (rules.Queues x reason word fresh))
-      (λ other. by_same (word - one_shared) dead_word
+      (λ other. by_same (word - ONE_REFERENCE) dead_word
       (λ last. applies (rules.DecrementsToZero x reason word other last))
       (λ more. applies (rules.Decrements x reason word other more)))
 

@@ -14,10 +14,10 @@ use crate::dispatch::Start;
 use crate::host_call::HostCall;
 use crate::thread::{Mode, Thread};
 use brc_effect::rows::{block_size, row_at};
-use brc_effect::states::{FILE, NUM, SOCK};
 use brc_lang::{Instr, Variable};
 use brc_model::{Duty, Exit, Holding, Layout, Stage};
 use brc_word::kind_word;
+use brc_word::values::{FILE, NUM, SOCK};
 
 /// Begins `open` and `connect`: the host call for the resource. The thread asks the host only if it has a row left for
 /// the object (`open_without_room`): otherwise the resource would be open, and nobody could close it.
