@@ -1,13 +1,14 @@
 -- A hand that works at a row leaves its other work as it is.
-use Rattle.std.proofs.Common.{◌≡◌, ◌≢◌, ℕ, Bool, true, false, not, List, [], ◌∷◌, ◌++◌, inl, inr, refl, sym, ap, ◌∙◌, subst}
+use Rattle.std.proofs.Common.{◌≡◌, ◌≢◌, ℕ, Bool, true, false, not, List, [], ◌∷◌, ◌++◌, Option, None, Some, inl, inr, refl, sym, ap, ◌∙◌, subst}
 use Rattle.std.specs.List.{filter}
 use Rattle.std.proofs.lemmas.Bool.{cases_Bool, eqb-true}
 use Rattle.std.proofs.lemmas.List.{append-nil}
 use Rattle.brc_model.specs.declared.duty.Duty.{Duty}
-use Rattle.brc_model.specs.declared.duty.Duty.TheVariants.{RetainLoad, RetainStore, RetainAdd, ReleaseLoad, ReleaseStore, DecideAtZero, SharedLoad, SharedExchange, SetMark, Look, TakeMark, MergeSwap, MergeLoad, MergeExchange, Die, Settle, SettleKind, SettleCell, TakeSlot, CloseResource, SettleEnd, Leave, Scan, Finish, ClaimMark, BirthKind, BirthSlot, BirthLocal, KindLoad, LockGate, UnlockGate, CellLoad, CellSwap, LendSlot, ReturnSlot}
+use Rattle.brc_model.specs.declared.duty.Duty.TheVariants.{RetainLoad, RetainStore, RetainAdd, ReleaseLoad, ReleaseStore, DecideAtZero, SharedLoad, SharedExchange, SetMark, Look, TakeMark, MergeSwap, MergeLoad, MergeExchange, Die, Settle, SettleCell, SettleEnd, Leave, Finish, BirthLocal, KindLoad, LockGate, UnlockGate, CellLoad, CellSwap}
 use Rattle.brc_model.specs.declared.actor.Status.{Status}
 use Rattle.brc_model.specs.Machine.{status_by, used_by}
-use Rattle.brc_model.specs.OpenWork.{is_about}
+use Rattle.brc_model.specs.Duties.{duty_row}
+use Rattle.brc_model.specs.OpenWork.{names_row, is_about}
 use Rattle.brc_table.specs.declared.view.View.{View}
 use Rattle.brc_table.specs.Views.{open_work, turned}
 use Rattle.brc_table.specs.Hands.{MayWait, HasNoWork}
@@ -18,46 +19,13 @@ use Rattle.brc_heap.proofs.Turning.{away, passes, fails, none_aside, all_away}
 -- ---- rows of duties
 
 -- A duty is about one row.
-one_row : (x y : ℕ) (d : Duty) → is_about x d ≡ true → is_about y d ≡ true → y ≡ x
-one_row x y (RetainLoad z h) one other = sym (eqb-true z y other) ∙ eqb-true z x one
-one_row x y (RetainStore z h w) one other = sym (eqb-true z y other) ∙ eqb-true z x one
-one_row x y (RetainAdd z h) one other = sym (eqb-true z y other) ∙ eqb-true z x one
-one_row x y (ReleaseLoad z h) one other = sym (eqb-true z y other) ∙ eqb-true z x one
-one_row x y (ReleaseStore z w) one other = sym (eqb-true z y other) ∙ eqb-true z x one
-one_row x y (DecideAtZero z) one other = sym (eqb-true z y other) ∙ eqb-true z x one
-one_row x y (SharedLoad z r) one other = sym (eqb-true z y other) ∙ eqb-true z x one
-one_row x y (SharedExchange z r w) one other = sym (eqb-true z y other) ∙ eqb-true z x one
-one_row x y (SetMark z) one other = sym (eqb-true z y other) ∙ eqb-true z x one
-one_row x y (Look z) one other = sym (eqb-true z y other) ∙ eqb-true z x one
-one_row x y (TakeMark z) one other = sym (eqb-true z y other) ∙ eqb-true z x one
-one_row x y (MergeSwap z r) one other = sym (eqb-true z y other) ∙ eqb-true z x one
-one_row x y (MergeLoad z c r) one other = sym (eqb-true z y other) ∙ eqb-true z x one
-one_row x y (MergeExchange z c w r) one other = sym (eqb-true z y other) ∙ eqb-true z x one
-one_row x y (Die z) one other = sym (eqb-true z y other) ∙ eqb-true z x one
-one_row x y (SettleKind z) one other = sym (eqb-true z y other) ∙ eqb-true z x one
-one_row x y (SettleCell z i n) one other = sym (eqb-true z y other) ∙ eqb-true z x one
-one_row x y (TakeSlot z) one other = sym (eqb-true z y other) ∙ eqb-true z x one
-one_row x y (CloseResource z) one other = sym (eqb-true z y other) ∙ eqb-true z x one
-one_row x y (SettleEnd z) one other = sym (eqb-true z y other) ∙ eqb-true z x one
-one_row x y (ClaimMark z) one other = sym (eqb-true z y other) ∙ eqb-true z x one
-one_row x y (BirthKind z h w) one other = sym (eqb-true z y other) ∙ eqb-true z x one
-one_row x y (BirthSlot z h) one other = sym (eqb-true z y other) ∙ eqb-true z x one
-one_row x y (BirthLocal z h) one other = sym (eqb-true z y other) ∙ eqb-true z x one
-one_row x y (KindLoad z) one other = sym (eqb-true z y other) ∙ eqb-true z x one
-one_row x y (LockGate z) one other = sym (eqb-true z y other) ∙ eqb-true z x one
-one_row x y (UnlockGate z) one other = sym (eqb-true z y other) ∙ eqb-true z x one
-one_row x y (CellLoad z i) one other = sym (eqb-true z y other) ∙ eqb-true z x one
-one_row x y (CellSwap z i w h) one other = sym (eqb-true z y other) ∙ eqb-true z x one
-one_row x y (LendSlot z) one other = sym (eqb-true z y other) ∙ eqb-true z x one
-one_row x y (ReturnSlot z) one other = sym (eqb-true z y other) ∙ eqb-true z x one
-one_row x y Settle one other = absurd cc
-one_row x y (Leave i n) one other = absurd cc
-one_row x y (Scan i n) one other = absurd cc
-one_row x y Finish one other = absurd cc
+one_row : (x y : ℕ) (row : Option ℕ) → names_row x row ≡ true → names_row y row ≡ true → y ≡ x
+one_row x y (Some z) one other = sym (eqb-true z y other) ∙ eqb-true z x one
+one_row x y None one other = absurd cc
 
 apart : (x y : ℕ) (d : Duty) → y ≢ x → is_about y d ≡ true → is_about x d ≡ false
 apart x y d ne this = elim (cases_Bool (is_about x d)) [
-  | inl other ↦ absurd (ne (one_row x y d other this))
+  | inl other ↦ absurd (ne (one_row x y (duty_row d) other this))
   | inr none ↦ none
 ]
 

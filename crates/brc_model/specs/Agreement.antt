@@ -97,10 +97,12 @@ pub record AgreesAt (m : Machine) (x : ℕ) : Type 0 where
   -- the counts add up to the references that are held and the pending decrements
   pub total : biased_total m x ≡ references_to x m.abstract.references + awaiting m x + bias
   pub default_none : m.life x ≡ Live → phase_part (m.memory (Shared x)) ≡ DEFAULT → awaiting m x ≡ 0
-  pub default_counts : m.life x ≡ Live → phase_part (m.memory (Shared x)) ≡ DEFAULT → bias ≤ biased_part (m.memory (Shared x))
+  pub default_counts : m.life x ≡ Live → phase_part (m.memory (Shared x)) ≡ DEFAULT
+      → bias ≤ biased_part (m.memory (Shared x))
   pub queued_one : m.life x ≡ Live → phase_part (m.memory (Shared x)) ≡ QUEUED → awaiting m x ≡ 1
   pub merged_free : m.life x ≡ Live → phase_part (m.memory (Shared x)) ≡ MERGED → m.memory (Local x) ≡ NOBODY
-  pub merged_counts : m.life x ≡ Live → phase_part (m.memory (Shared x)) ≡ MERGED → bias < biased_part (m.memory (Shared x))
+  pub merged_counts : m.life x ≡ Live → phase_part (m.memory (Shared x)) ≡ MERGED
+      → bias < biased_part (m.memory (Shared x))
   pub phase : m.life x ≡ Live → IsPhase (phase_part (m.memory (Shared x)))
   -- the owner counts the row locally, unless a thread has found its last local reference gone, or merges it
   pub default_local : m.life x ≡ Live → phase_part (m.memory (Shared x)) ≡ DEFAULT

@@ -1,6 +1,6 @@
 -- Duties. A duty is one step on one word. What a thread still has to do inside an instruction or its exit is its
 -- agenda, a list of duties. Which duties follow a duty depends on the value that its step finds.
-use Rattle.std.specs.Prelude.{ℕ, zero, suc, ◌+◌, ◌-◌, Bool, ◌&&◌, ◌||◌, ◌==◌, nat_lt, if◌then◌else◌, List, [], ◌∷◌, ◌++◌}
+use Rattle.std.specs.Prelude.{ℕ, zero, suc, ◌+◌, ◌-◌, Bool, ◌&&◌, ◌||◌, ◌==◌, nat_lt, if◌then◌else◌, List, [], ◌∷◌, ◌++◌, Option, None, Some}
 use Rattle.brc_word.specs.declared.values.TheConstants.{RUNNING, LEAVING, GONE, SET, UNSET, NOBODY, ONE_REFERENCE, EMPTY, FULL, LIST, FILE, SOCK}
 use Rattle.brc_model.specs.declared.duty.Holding.TheVariants.{InFlight}
 use Rattle.brc_model.specs.declared.duty.Reason.{Reason}
@@ -12,6 +12,46 @@ use Rattle.brc_model.specs.declared.layout.Layout.{Layout}
 use Rattle.brc_model.specs.declared.address.Address.TheVariants.{Local, Shared, Gate, KindOf, Mark, Cell, Slot, Resource, ThreadWord}
 use Rattle.brc_word.specs.Words.{most_local, local_word, owner_part, local_part, is_immortal_word, fresh_word, dead_word, released_word, merged_word, free_word, locked_word, dying_word, next_part, closed_word, kind_part, argument_part}
 use Rattle.brc_model.specs.Layout.{block_of, row_at}
+
+-- ---- the row that a duty names
+
+-- Returns the row that the duty names. A duty that settles the head of a chain or belongs to an exit names none.
+abbrev pub duty_row : Duty → Option ℕ
+duty_row (RetainLoad x h) = Some x
+duty_row (RetainStore x h w) = Some x
+duty_row (RetainAdd x h) = Some x
+duty_row (ReleaseLoad x h) = Some x
+duty_row (ReleaseStore x w) = Some x
+duty_row (DecideAtZero x) = Some x
+duty_row (SharedLoad x r) = Some x
+duty_row (SharedExchange x r w) = Some x
+duty_row (SetMark x) = Some x
+duty_row (Look x) = Some x
+duty_row (TakeMark x) = Some x
+duty_row (MergeSwap x r) = Some x
+duty_row (MergeLoad x c r) = Some x
+duty_row (MergeExchange x c w r) = Some x
+duty_row (Die x) = Some x
+duty_row (SettleKind x) = Some x
+duty_row (SettleCell x i n) = Some x
+duty_row (TakeSlot x) = Some x
+duty_row (CloseResource x) = Some x
+duty_row (SettleEnd x) = Some x
+duty_row (ClaimMark x) = Some x
+duty_row (BirthKind x h w) = Some x
+duty_row (BirthSlot x h) = Some x
+duty_row (BirthLocal x h) = Some x
+duty_row (KindLoad x) = Some x
+duty_row (LockGate x) = Some x
+duty_row (UnlockGate x) = Some x
+duty_row (CellLoad x i) = Some x
+duty_row (CellSwap x i y h) = Some x
+duty_row (LendSlot x) = Some x
+duty_row (ReturnSlot x) = Some x
+duty_row Settle = None
+duty_row (Leave i n) = None
+duty_row (Scan i n) = None
+duty_row Finish = None
 
 -- ---- the word of a step
 

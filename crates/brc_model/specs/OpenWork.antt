@@ -1,13 +1,14 @@
 -- A thread's open work: the order of its agenda, the rows that it finalises, and the duties that it has put aside.
-use Rattle.std.specs.Prelude.{◌≡◌, ◌⊎◌, ℕ, ◌+◌, ◌<◌, ◌≤◌, Bool, true, false, ◌==◌, nat_le, List, [], ◌∷◌, count_by, if◌then◌else◌}
+use Rattle.std.specs.Prelude.{◌≡◌, ◌⊎◌, ℕ, ◌+◌, ◌<◌, ◌≤◌, Bool, true, false, ◌==◌, nat_le, List, [], ◌∷◌, Option, None, Some, count_by, if◌then◌else◌}
 use Rattle.brc_word.specs.Words.{half, dying_word}
 use Rattle.brc_model.specs.declared.duty.Duty.{Duty}
-use Rattle.brc_model.specs.declared.duty.Duty.TheVariants.{RetainLoad, RetainStore, RetainAdd, ReleaseLoad, ReleaseStore, DecideAtZero, SharedLoad, SharedExchange, SetMark, Look, TakeMark, MergeSwap, MergeLoad, MergeExchange, Die, Settle, SettleKind, SettleCell, TakeSlot, CloseResource, SettleEnd, Leave, Scan, Finish, ClaimMark, BirthKind, BirthSlot, BirthLocal, KindLoad, LockGate, UnlockGate, CellLoad, CellSwap, LendSlot, ReturnSlot}
+use Rattle.brc_model.specs.declared.duty.Duty.TheVariants.{RetainLoad, RetainStore, RetainAdd, ReleaseLoad, ReleaseStore, DecideAtZero, SharedLoad, SharedExchange, SetMark, Look, TakeMark, MergeSwap, MergeLoad, MergeExchange, Die, Settle, SettleKind, SettleCell, TakeSlot, CloseResource, SettleEnd, Leave, Scan, Finish, BirthKind, BirthSlot, BirthLocal, KindLoad, LockGate, UnlockGate, CellLoad, LendSlot, ReturnSlot}
 use Rattle.brc_model.specs.declared.address.Address.{Address}
 use Rattle.brc_model.specs.declared.address.Address.TheVariants.{Gate}
 use Rattle.brc_model.specs.declared.actor.Status.{Status}
 use Rattle.brc_model.specs.declared.actor.Status.TheVariants.{Running, Leaving, Gone}
 use Rattle.brc_model.specs.declared.actor.Actor.{Actor}
+use Rattle.brc_model.specs.Duties.{duty_row}
 use Rattle.brc_model.specs.Machine.{Life, Dying, Machine}
 use Rattle.brc_model.specs.References.{one_if}
 use Rattle.brc_model.specs.Knowledge.{HeadFits}
@@ -111,43 +112,14 @@ pub record ChainFits (m : Machine) (t head : ℕ) (agenda : List Duty) : Type 0 
 
 -- ---- work that is put aside
 
+-- Says whether this row is named.
+abbrev pub names_row : ℕ → Option ℕ → Bool
+names_row x None = false
+names_row x (Some y) = y == x
+
 -- Says whether the duty is about the row.
 abbrev pub is_about : ℕ → Duty → Bool
-is_about x (RetainLoad y h) = y == x
-is_about x (RetainStore y h w) = y == x
-is_about x (RetainAdd y h) = y == x
-is_about x (ReleaseLoad y h) = y == x
-is_about x (ReleaseStore y w) = y == x
-is_about x (DecideAtZero y) = y == x
-is_about x (SharedLoad y r) = y == x
-is_about x (SharedExchange y r w) = y == x
-is_about x (SetMark y) = y == x
-is_about x (Look y) = y == x
-is_about x (TakeMark y) = y == x
-is_about x (MergeSwap y r) = y == x
-is_about x (MergeLoad y c r) = y == x
-is_about x (MergeExchange y c w r) = y == x
-is_about x (Die y) = y == x
-is_about x (SettleKind y) = y == x
-is_about x (SettleCell y i n) = y == x
-is_about x (TakeSlot y) = y == x
-is_about x (CloseResource y) = y == x
-is_about x (SettleEnd y) = y == x
-is_about x (ClaimMark y) = y == x
-is_about x (BirthKind y h w) = y == x
-is_about x (BirthSlot y h) = y == x
-is_about x (BirthLocal y h) = y == x
-is_about x (KindLoad y) = y == x
-is_about x (LockGate y) = y == x
-is_about x (UnlockGate y) = y == x
-is_about x (CellLoad y i) = y == x
-is_about x (CellSwap y i z h) = y == x
-is_about x (LendSlot y) = y == x
-is_about x (ReturnSlot y) = y == x
-is_about x Settle = false
-is_about x (Leave y n) = false
-is_about x (Scan y n) = false
-is_about x Finish = false
+is_about x d = names_row x (duty_row d)
 
 -- the same of an agenda's first duty
 abbrev pub about_of : ℕ → List Duty → Bool

@@ -1,9 +1,10 @@
 -- The duties that the table's one step call does, and what comes next.
-use Rattle.std.specs.Prelude.{◌≡◌, ℕ, ◌+◌, ◌<◌, ◌^◌, List, [], ◌∷◌}
+use Rattle.std.specs.Prelude.{◌≡◌, ℕ, ◌+◌, ◌<◌, ◌^◌, List, [], ◌∷◌, unwrap_or}
 use Rattle.brc_model.specs.declared.duty.Duty.{Duty}
-use Rattle.brc_model.specs.declared.duty.Duty.TheVariants.{RetainLoad, RetainStore, RetainAdd, ReleaseLoad, ReleaseStore, DecideAtZero, SharedLoad, SharedExchange, SetMark, Look, TakeMark, MergeSwap, MergeLoad, MergeExchange, Die, Settle, SettleKind, SettleCell, TakeSlot, CloseResource, SettleEnd, Leave, Scan, ClaimMark, BirthKind, BirthSlot, BirthLocal, KindLoad, LockGate, UnlockGate, CellLoad, CellSwap, LendSlot, ReturnSlot}
+use Rattle.brc_model.specs.declared.duty.Duty.TheVariants.{RetainLoad, RetainStore, RetainAdd, ReleaseLoad, SharedLoad, SharedExchange, MergeSwap, MergeLoad, MergeExchange, Die, Settle, SettleCell, TakeSlot, CloseResource, Leave, Scan, BirthKind, BirthSlot, BirthLocal, LockGate, CellLoad, CellSwap, LendSlot, ReturnSlot}
 use Rattle.brc_model.specs.declared.duty.Holding.TheVariants.{AsCaller}
 use Rattle.brc_model.specs.declared.duty.Reason.TheVariants.{Own}
+use Rattle.brc_model.specs.Duties.{duty_row}
 use Rattle.brc_model.specs.Limits.{cell_limit}
 
 -- ---- duties
@@ -40,33 +41,9 @@ abbrev pub HasNextRow : Duty → Type 0
 HasNextRow (Die x) = x + 1 < 2 ^ 32
 HasNextRow _ = Unit {0}
 
--- the row that the duty is about, if it names one
+-- the row that the duty names, or 0 if it names none
 abbrev pub row_of : Duty → ℕ
-row_of (RetainLoad x h) = x
-row_of (RetainStore x h w) = x
-row_of (RetainAdd x h) = x
-row_of (ReleaseLoad x h) = x
-row_of (ReleaseStore x w) = x
-row_of (DecideAtZero x) = x
-row_of (SharedLoad x r) = x
-row_of (SharedExchange x r w) = x
-row_of (SetMark x) = x
-row_of (Look x) = x
-row_of (TakeMark x) = x
-row_of (MergeSwap x r) = x
-row_of (MergeLoad x c r) = x
-row_of (MergeExchange x c w r) = x
-row_of (Die x) = x
-row_of (SettleKind x) = x
-row_of (SettleCell x i n) = x
-row_of (SettleEnd x) = x
-row_of (ClaimMark x) = x
-row_of (BirthKind x h w) = x
-row_of (BirthLocal x h) = x
-row_of (KindLoad x) = x
-row_of (UnlockGate x) = x
-row_of (CellLoad x i) = x
-row_of _ = 0
+row_of d = unwrap_or (duty_row d) 0
 
 -- the number of the cell that the duty is about
 abbrev pub cell_of : Duty → ℕ

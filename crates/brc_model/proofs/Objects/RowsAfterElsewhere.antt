@@ -1,15 +1,15 @@
 -- A step changes nothing about the rows that its duty isn't about.
 use Rattle.std.proofs.Common.{◌≡◌, ℕ, zero, suc, Bool, true, false, cond, List, [], ◌∷◌, ◌++◌, refl, sym, ap, ◌∙◌, arith}
 use Rattle.std.specs.List.{list_any}
-use Rattle.std.specs.Prelude.{◌==◌, nat_lt, if◌then◌else◌, sum_by}
+use Rattle.std.specs.Prelude.{◌==◌, nat_lt, if◌then◌else◌, sum_by, unwrap_or}
 use Rattle.std.proofs.lemmas.List.Sums.{sum_by-cons}
 use Rattle.brc_model.specs.declared.duty.Holding.TheVariants.{InFlight}
 use Rattle.brc_model.specs.AbstractState.{Reference, same, without, references_to, AbstractState, Move, Born, Gain, Lose, PassOn, Finalise, move, moved}
 use Rattle.brc_model.specs.declared.duty.Reason.TheVariants.{Handed}
 use Rattle.brc_model.specs.declared.duty.Duty.{Duty}
-use Rattle.brc_model.specs.declared.duty.Duty.TheVariants.{RetainLoad, RetainStore, RetainAdd, ReleaseLoad, ReleaseStore, DecideAtZero, SharedLoad, SharedExchange, SetMark, Look, TakeMark, MergeSwap, MergeLoad, MergeExchange, Die, Settle, SettleKind, SettleCell, TakeSlot, CloseResource, SettleEnd, Leave, Scan, Finish, ClaimMark, BirthKind, BirthSlot, BirthLocal, KindLoad, LockGate, UnlockGate, CellLoad, CellSwap, LendSlot, ReturnSlot}
+use Rattle.brc_model.specs.declared.duty.Duty.TheVariants.{ReleaseLoad, DecideAtZero, SharedLoad, SharedExchange, SetMark, MergeSwap, MergeLoad, MergeExchange, Die, Settle, SettleCell, SettleEnd, Scan, BirthLocal, CellSwap}
 use Rattle.brc_model.specs.declared.address.Address.TheVariants.{Local, Shared, Mark, Cell}
-use Rattle.brc_model.specs.Duties.{address_of, new_word, cells_from, release_found}
+use Rattle.brc_model.specs.Duties.{duty_row, address_of, new_word, cells_from, release_found}
 use Rattle.brc_model.specs.declared.actor.Actor.{Actor}
 use Rattle.brc_model.specs.Machine.{Life, Machine, is_running, same_address, dies_next, with_life, ended_row, born_row}
 use Rattle.brc_model.specs.Moves.{reference_effects}
@@ -30,43 +30,10 @@ use Rattle.brc_model.specs.Invariant.{AtDuty}
 use Rattle.brc_model.specs.declared.layout.Layout.{Layout}
 use Rattle.brc_model.specs.Layout.{row_at, IsCounted}
 
--- The row that a duty is about. It is 0 for a duty that is about no row.
+-- The row that a duty is about, or 0 if it is about none. A scan is about the row whose mark it takes.
 abbrev pub subject : Layout → ℕ → Duty → ℕ
-subject layout t (RetainLoad x h) = x
-subject layout t (RetainStore x h w) = x
-subject layout t (RetainAdd x h) = x
-subject layout t (ReleaseLoad x h) = x
-subject layout t (ReleaseStore x w) = x
-subject layout t (DecideAtZero x) = x
-subject layout t (SharedLoad x r) = x
-subject layout t (SharedExchange x r w) = x
-subject layout t (SetMark x) = x
-subject layout t (Look x) = x
-subject layout t (TakeMark x) = x
-subject layout t (MergeSwap x r) = x
-subject layout t (MergeLoad x c r) = x
-subject layout t (MergeExchange x c w r) = x
-subject layout t (Die x) = x
-subject layout t Settle = 0
-subject layout t (SettleKind x) = x
-subject layout t (SettleCell x i n) = x
-subject layout t (TakeSlot x) = x
-subject layout t (CloseResource x) = x
-subject layout t (SettleEnd x) = x
-subject layout t (Leave x n) = 0
 subject layout t (Scan i n) = row_at layout t i
-subject layout t Finish = 0
-subject layout t (ClaimMark x) = x
-subject layout t (BirthKind x h w) = x
-subject layout t (BirthSlot x h) = x
-subject layout t (BirthLocal x h) = x
-subject layout t (KindLoad x) = x
-subject layout t (LockGate x) = x
-subject layout t (UnlockGate x) = x
-subject layout t (CellLoad x i) = x
-subject layout t (CellSwap x i y h) = x
-subject layout t (LendSlot x) = x
-subject layout t (ReturnSlot x) = x
+subject layout t d = unwrap_or (duty_row d) 0
 
 -- ---- words
 
