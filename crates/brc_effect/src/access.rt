@@ -11,7 +11,9 @@ ghost use Rattle.brc_model.specs.Within.{Suits};
 ghost use Rattle.brc_effect.specs.Accesses.{IfStored, known_before, left_by};
 
 use brc_model::Duty;
-use brc_word::values::{EMPTY, FREE, FULL, GONE, LEAVING, NOBODY, ONE_REFERENCE, RUNNING, SET, UNSET};
+use brc_word::values::{
+    EMPTY, FREE, FULL, GONE, LEAVING, NOBODY, ONE_REFERENCE, RUNNING, SET, UNSET,
+};
 use brc_word::{closed, dying, local_word, locked, merged, released};
 
 /// One atomic operation on one word.

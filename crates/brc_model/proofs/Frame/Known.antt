@@ -17,15 +17,18 @@ use Rattle.brc_model.specs.Knowledge.{OwnsLocally, IsBacked, ByReference, ByItem
 use Rattle.brc_model.specs.declared.layout.Layout.{Layout}
 use Rattle.brc_model.specs.Layout.{block_of, IsCounted}
 
+-- The thread holds as many references to the row's object as before, or more.
+abbrev pub HoldsAsMany : Machine → Machine → ℕ → ℕ → Type 0
+HoldsAsMany m new t x =
+    (k : Holding) → held (reference_of t k x) m.abstract.references ≤ held (reference_of t k x) new.abstract.references
+
 -- What a step leaves unchanged for a thread's duty about the row.
 pub record LeavesRow (m new : Machine) (t : ℕ) (a after : Actor) (x : ℕ) : Type 0 where
   pub layout : new.layout ≡ m.layout
   pub status : after.status ≡ a.status
   pub local : OwnsLocally m t a x → new.memory (Local x) ≡ m.memory (Local x)
   pub merged : phase_part (m.memory (Shared x)) ≡ 3 → phase_part (new.memory (Shared x)) ≡ 3
-  -- the thread holds as many references to the object as before, or more
-  pub references : (k : Holding)
-      → held (reference_of t k x) m.abstract.references ≤ held (reference_of t k x) new.abstract.references
+  pub references : HoldsAsMany m new t x
   pub stopped : (u : ℕ) → m.memory (ThreadWord u) ≢ 1 → new.memory (ThreadWord u) ≢ 1
   pub born : m.life x ≢ Unborn → new.life x ≢ Unborn
 
@@ -47,10 +50,8 @@ module _ (m new : Machine) (t : ℕ) (a after : Actor) where
 
   -- What keeps an object alive is left by a step that takes none of the thread's references to it and leaves the list
   -- that the thread has locked.
-  pub still_backed : (x : ℕ)
-      → ((k : Holding)
-      → held (reference_of t k x) m.abstract.references ≤ held (reference_of t k x) new.abstract.references)
-      → KeepsList m new a after → IsBacked m t a x → IsBacked new t after x
+  pub still_backed : (x : ℕ) → HoldsAsMany m new t x → KeepsList m new a after → IsBacked m t a x
+      → IsBacked new t after x
   still_backed x references keeps (ByReference by some) = ByReference by (omega (arith, references by, some))
   still_backed x references keeps (ByItem list i locked word) =
       let it = keeps list locked in ByItem list i it.0 (it.1.cells i ∙ word)

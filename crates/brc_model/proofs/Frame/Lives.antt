@@ -152,22 +152,24 @@ module _ {p : Accounts} {n : ℕ} {m : Machine} {t : ℕ} {a : Actor} {d : Duty}
   -- A thread's step leaves what the other threads rely on.
   pub leaves_others : AtDuty p n m t a d rest → LeavesOthers m (machine_by_duty m t a d rest) t
   leaves_others here = record {
-    layout = refl;
+    memory = record {
+      layout = refl;
+      locals = λ u x b ne found owns. locals_left d here u x b ne found owns;
+      merged = λ x was. merged_left d here x was;
+      stopped = λ u was. stopped_left m t a d u was;
+      words = λ u ne. words_left m t a d u ne;
+      gates = λ u x ne dies. gates_left d here u x ne dies;
+      locks = λ u x b ne found e. locks_left d here u x b ne found e;
+      lists = λ u x b ne found e. lists_left p n m t a d rest here u x b ne found e;
+      cells = λ u x i ne dies was.
+          stays_empty x i here (dying_unlive (m.life x) u dies) was;
+      kinds = λ x was. kinds_left d here x was;
+      lives = λ u x ne. lives_left here u x ne;
+      born = λ x was. born_left m.life t d (next_of m t a d) x was;
+      stored = λ x some. kind_stays x here some;
+      words_born = λ x born. word_stays p n m t a d rest x here born;
+      births = λ u x b ne found next. births_left p n m t u a b d rest x here ne found next;
+    };
     bag = λ u k object ne. moves_apart m.memory m.abstract u t k object d (m.memory (address_of m.layout t a.head d))
         ne;
-    locals = λ u x b ne found owns. locals_left d here u x b ne found owns;
-    merged = λ x was. merged_left d here x was;
-    stopped = λ u was. stopped_left m t a d u was;
-    words = λ u ne. words_left m t a d u ne;
-    gates = λ u x ne dies. gates_left d here u x ne dies;
-    locks = λ u x b ne found e. locks_left d here u x b ne found e;
-    lists = λ u x b ne found e. lists_left p n m t a d rest here u x b ne found e;
-    cells = λ u x i ne dies was.
-        stays_empty x i here (dying_unlive (m.life x) u dies) was;
-    kinds = λ x was. kinds_left d here x was;
-    lives = λ u x ne. lives_left here u x ne;
-    born = λ x was. born_left m.life t d (next_of m t a d) x was;
-    stored = λ x some. kind_stays x here some;
-    words_born = λ x born. word_stays p n m t a d rest x here born;
-    births = λ u x b ne found next. births_left p n m t u a b d rest x here ne found next;
   }

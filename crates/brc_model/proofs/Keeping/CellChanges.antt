@@ -119,23 +119,25 @@ module _ (p : Accounts) (n : ℕ) (m : Machine) (t : ℕ) (a : Actor) (x i word 
 
   leaves : LeavesOthers m new t
   leaves = record {
-    layout = refl;
+    memory = record {
+      layout = refl;
+      locals = λ u y b ne found owns. refl;
+      merged = λ y was. was;
+      stopped = λ u was. was;
+      words = λ u ne. refl;
+      gates = λ u y ne dies. refl;
+      locks = λ u y b ne found e. refl;
+      lists = λ u y b ne found e.
+          record { kind = refl; cells = λ j. list_stays y j (no_other_lock u y b ne found e change.guards) };
+      cells = λ u y j ne dies empty. list_stays y j (no_other_chain u y ne dies change.guards) ∙ empty;
+      kinds = λ y was. was;
+      lives = λ u y ne. refl;
+      born = λ y was. was;
+      stored = λ y some. refl;
+      words_born = λ y born. refl;
+      births = λ u y b ne found next. (refl, refl);
+    };
     bag = change.others;
-    locals = λ u y b ne found owns. refl;
-    merged = λ y was. was;
-    stopped = λ u was. was;
-    words = λ u ne. refl;
-    gates = λ u y ne dies. refl;
-    locks = λ u y b ne found e. refl;
-    lists = λ u y b ne found e.
-        record { kind = refl; cells = λ j. list_stays y j (no_other_lock u y b ne found e change.guards) };
-    cells = λ u y j ne dies empty. list_stays y j (no_other_chain u y ne dies change.guards) ∙ empty;
-    kinds = λ y was. was;
-    lives = λ u y ne. refl;
-    born = λ y was. was;
-    stored = λ y some. refl;
-    words_born = λ y born. refl;
-    births = λ u y b ne found next. (refl, refl);
   }
 
   -- ---- the thread itself

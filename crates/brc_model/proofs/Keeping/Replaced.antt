@@ -19,7 +19,7 @@ use Rattle.brc_model.specs.Accounts.{Account, Accounts}
 use Rattle.brc_model.specs.Invariant.{numbers_of, Fits, looks, IsWatched, ByRunning, ByExit, ByLook, CoreInvariant, UsesFit, BlankFits}
 use Rattle.brc_model.specs.OpenWork.{scans}
 use Rattle.brc_model.specs.Counting.{HasNothingInFlight, with_account}
-use Rattle.brc_model.proofs.Frame.Others.{LeavesOthers, each_fits}
+use Rattle.brc_model.proofs.Frame.Others.{LeavesOthers, same_memory, each_fits}
 use Rattle.brc_model.proofs.Frame.Locks.{gate_fits_kept}
 use Rattle.brc_model.specs.VarStates.{names}
 use Rattle.brc_model.specs.References.{one_if}
@@ -130,24 +130,8 @@ still_watched m t a b account x found new (ByLook some) =
     ByLook (omega (arith, some, same_weight (looks x) m.actors t a b found (new.looks x)))
 
 nothing_changes : (m : Machine) (t : ℕ) (b : Actor) → LeavesOthers m (with_actor m t b) t
-nothing_changes m t b = record {
-  layout = refl;
-  bag = λ u k object ne. refl;
-  locals = λ u x c ne found owns. refl;
-  merged = λ x was. was;
-  stopped = λ u was. was;
-  words = λ u ne. refl;
-  gates = λ u x ne dies. refl;
-  locks = λ u x c ne found e. refl;
-  lists = λ u x c ne found e. record { kind = refl; cells = λ i. refl };
-  cells = λ u x i ne dies was. was;
-  kinds = λ x was. was;
-  lives = λ u x ne. refl;
-  born = λ x was. was;
-  stored = λ x some. refl;
-  words_born = λ x born. refl;
-  births = λ u x c ne found next. (refl, refl);
-}
+nothing_changes m t b =
+    record { memory = same_memory m (slice_set m.actors t b) m.abstract t; bag = λ u k object ne. refl }
 
 module _ {p : Accounts} {n : ℕ} {m : Machine} where
   pub replaced_core : (t : ℕ) (a b : Actor) (account : Account) → CoreInvariant p n m → slice_get m.actors t ≡ Some a

@@ -24,7 +24,7 @@ use Rattle.brc_model.proofs.Basics.MovesApart.{AreAside, IsNoWayOf, moved_aside}
 use Rattle.brc_model.proofs.Frame.Aside.{HoldsAlone, holds_alone, alone_fits}
 use Rattle.brc_lang.specs.declared.kind.Kind.{Kind}
 use Rattle.brc_model.specs.Kinds.{kind_number}
-use Rattle.brc_model.proofs.Frame.Others.{LeavesOthers, each_fits}
+use Rattle.brc_model.proofs.Frame.Others.{LeavesOthers, same_memory, each_fits}
 use Rattle.brc_model.proofs.Frame.Locks.{gate_fits_kept}
 use Rattle.brc_model.proofs.Keeping.SilentMoves.{SilentMoves, Stays, GainsNone, PassesOn, bag_after}
 use Rattle.brc_model.proofs.Keeping.Sits.{sitting, AtRest, rest_blanks, same_weight}
@@ -134,24 +134,10 @@ module _ {p : Accounts} {n : ℕ} {m : Machine} {t : ℕ} {a : Actor} where
 leaves : (m : Machine) (t : ℕ) (a : Actor) (moves : List Move) → SilentMoves m.abstract.references t moves
     → LeavesOthers m (silenced m t a moves) t
 leaves m t a moves silent = record {
-  layout = refl;
+  memory = same_memory m (slice_set m.actors t (sitting a [])) (moved m.abstract moves) t;
   bag =
       λ u k object ne. moved_aside m.abstract (reference_of u k object) moves
       (silent_aside m.abstract.references (ByThread u k) t moves silent (λ h. other_thread u t k h ne));
-  locals = λ u x c ne found owns. refl;
-  merged = λ x was. was;
-  stopped = λ u was. was;
-  words = λ u ne. refl;
-  gates = λ u x ne dies. refl;
-  locks = λ u x c ne found e. refl;
-  lists = λ u x c ne found e. record { kind = refl; cells = λ i. refl };
-  cells = λ u x i ne dies was. was;
-  kinds = λ x was. was;
-  lives = λ u x ne. refl;
-  born = λ x was. was;
-  stored = λ x some. refl;
-  words_born = λ x born. refl;
-  births = λ u x c ne found next. (refl, refl);
 }
 
 -- What a thread has to show to take a silent step.

@@ -114,7 +114,7 @@ module _ {p : Accounts} {n : ℕ} {m : Machine} {t : ℕ} {a : Actor} {d : Duty}
       → GuardsCells (machine_by_duty m t a d rest) u b x → GuardsCells m u b x
   guarded_before u b x here apart (inl locked) = inl locked
   guarded_before u b x here apart (inr chained) =
-      let leaves = leaves_others here in
+      let leaves = (leaves_others here).memory in
       let dies : dies_by (m.life x) u ≡ true =
       sym (leaves.lives u x apart) ∙ dying_is ((machine_by_duty m t a d rest).life x) u chained.0 in
       inr (is_dying (m.life x) u dies, subst (IsDyingWord u) (leaves.gates u x apart dies) chained.1)
@@ -158,7 +158,7 @@ module _ {p : Accounts} {n : ℕ} {m : Machine} {t : ℕ} {a : Actor} {d : Duty}
         | inl same ↦ (dying.1 ∙ ap Dying same.1, word)
         | inr other ↦
             let still : (machine_by_duty m t a d rest).life x ≡ Dying dying.0 =
-            life_kept m (machine_by_duty m t a d rest) t dying.0 x (leaves_others here) other.1 dying.1 in
+            life_kept m (machine_by_duty m t a d rest) t dying.0 (leaves_others here).memory other.1 x dying.1 in
             let both : Dying dying.0 ≡ Dying t = sym still ∙ chained.0 in
             let threads : dying.0 ≡ t = cc in
             absurd (other.1 threads)

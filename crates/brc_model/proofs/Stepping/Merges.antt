@@ -48,7 +48,7 @@ module _ {p : Accounts} {n : ℕ} {m : Machine} {t : ℕ} {a : Actor} {rest : Li
       (held_same m.abstract.references t (d ∷ rest) (Look x ∷ rest) (λ k o. refl) (λ k o. refl))
       (agenda_here here alive) (λ b status head used locked. (
         head_of here,
-        (leaves_others here).born x (alive_born m x (mark_alive x here)),
+        (leaves_others here).memory.born x (alive_born m x (mark_alive x here)),
       ))
 
   -- The thread fits after `OwnerRuns` and `OwnerExits`.
@@ -66,8 +66,8 @@ module _ {p : Accounts} {n : ℕ} {m : Machine} {t : ℕ} {a : Actor} {rest : Li
             (held_same m.abstract.references t (d ∷ rest) (TakeMark x ∷ rest) (λ k o. refl) (λ k o. refl)) later
             (λ b status head used locked. (
               (head_of here).0,
-              (leaves_others here).stopped (block_of m.layout x) (eqb-false found 1 e),
-              (leaves_others here).born x (head_of here).1,
+              (leaves_others here).memory.stopped (block_of m.layout x) (eqb-false found 1 e),
+              (leaves_others here).memory.born x (head_of here).1,
             ))
       ] refl
 

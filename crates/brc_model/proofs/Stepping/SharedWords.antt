@@ -123,5 +123,6 @@ module _ {p : Accounts} {n : ℕ} {m : Machine} {t : ℕ} {a : Actor} {rest : Li
             own_next (SharedLoad x Handed) here alive refl refl refl
             (ap (λ (b : Bool). cond b (shared_result x w) (SharedLoad x Handed ∷ [])) lost)
             (held_same m.abstract.references t (d ∷ rest) (SharedLoad x Handed ∷ rest) (λ k o. refl) (λ k o. refl))
-            (agenda_here here alive) (λ b status head used locked. (fits.0, (leaves_others here).merged x fits.1))
+            (agenda_here here alive)
+            (λ b status head used locked. (fits.0, (leaves_others here).memory.merged x fits.1))
       ] refl
