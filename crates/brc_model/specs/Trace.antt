@@ -6,6 +6,7 @@ use Rattle.brc_model.specs.declared.thread.Choice.{Choice}
 use Rattle.brc_model.specs.declared.duty.Duty.{Duty}
 use Rattle.brc_model.specs.declared.address.Address.{Address}
 use Rattle.brc_model.specs.declared.address.Address.TheVariants.{Slot, Resource}
+use Rattle.brc_model.specs.declared.event.WordEvent.{WordEvent}
 use Rattle.brc_model.specs.declared.state.Exit.{Exit}
 use Rattle.brc_model.specs.declared.state.State.{State}
 use Rattle.brc_model.specs.declared.actor.Place.{Place}
@@ -21,12 +22,6 @@ abbrev pub is_word : Address → Bool
 is_word (Slot x) = false
 is_word (Resource x) = false
 is_word _ = true
-
--- the address of a word that a thread accessed, the value that it found there, and the value that it left
-pub record WordEvent : Type 0 where
-  pub address : Address
-  pub found : ℕ
-  pub left : ℕ
 
 -- ---- what a thread can do
 

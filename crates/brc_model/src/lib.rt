@@ -11,6 +11,7 @@ mod call_laws;
 mod cell_laws;
 mod counting_laws;
 mod duty;
+mod event;
 mod guard_laws;
 mod hand_laws;
 mod host_laws;
@@ -34,6 +35,7 @@ pub use counting_laws::{
     handed_merges_live,
 };
 pub use duty::{Duty, Holding, Reason};
+pub use event::WordEvent;
 pub use guard_laws::{
     cells_are_guarded, gone_threads_hold_nothing, guarded_cells_stay, owners_count_alone,
     queued_marks_are_watched, slots_are_guarded,

@@ -4,7 +4,7 @@ use Rattle.std.specs.Prelude.{◌==◌, if◌then◌else◌}
 use Rattle.std.proofs.lemmas.Bool.{eqb-true}
 use Rattle.std.proofs.lemmas.List.Concat.{flat_map-append}
 use Rattle.brc_model.specs.declared.thread.Choice.{Choice}
-use Rattle.brc_model.specs.Trace.{WordEvent}
+use Rattle.brc_model.specs.declared.event.WordEvent.{WordEvent}
 use Rattle.brc_model.specs.World.{World, step}
 use Rattle.brc_world.specs.declared.event.Sight.{Sight}
 use Rattle.brc_world.specs.Sights.{sight_at, listed, sights_at, sights_on, words_of, words_shown, words_seen}

@@ -1,7 +1,7 @@
 -- What a trace shows of one thread.
 use Rattle.std.specs.Prelude.{ℕ, ◌==◌, if◌then◌else◌, List, []}
 use Rattle.std.specs.List.{flat_map}
-use Rattle.brc_model.specs.Trace.{WordEvent}
+use Rattle.brc_model.specs.declared.event.WordEvent.{WordEvent}
 use Rattle.brc_world.specs.Sights.{words_of}
 use Rattle.brc_trace.specs.declared.entry.Entry.{Entry}
 

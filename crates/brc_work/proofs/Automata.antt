@@ -1,7 +1,6 @@
 -- A hand's thread and a thread of the step world make the same, but for what `Automata` of specs/ names.
 use Rattle.std.proofs.Common.{◌≡◌, ◌≢◌, ℕ, suc, ◌+◌, Bool, true, false, Option, Some, cond, length, List, [], ◌∷◌, ◌++◌, append_assoc, append-nil, refl, sym, ap, ◌∙◌, subst}
-use Rattle.std.specs.Prelude.{◌==◌, ◌&&◌, map, slice_get, slice_set}
-use Rattle.std.proofs.lemmas.List.{map-append}
+use Rattle.std.specs.Prelude.{◌==◌, ◌&&◌, slice_get, slice_set}
 use Rattle.brc_host.specs.HostCalls.{HostCall, Read, Close}
 use Rattle.brc_lang.specs.declared.module.Function.{Function}
 use Rattle.brc_lang.specs.declared.module.Instr.{Instr}
@@ -11,8 +10,6 @@ use Rattle.brc_model.specs.declared.actor.Place.TheVariants.{Idle, InCall, Insid
 use Rattle.brc_model.specs.declared.actor.Stage.TheVariants.{Granted}
 use Rattle.brc_model.specs.declared.actor.Status.{Status}
 use Rattle.brc_model.specs.declared.actor.Status.TheVariants.{Running, Leaving, Gone}
-use Rattle.brc_model.specs.declared.address.Address.{Address}
-use Rattle.brc_model.specs.declared.address.Address.TheVariants.{Local, Shared, Gate, KindOf, Mark, Cell, Slot, Resource, ThreadWord}
 use Rattle.brc_model.specs.declared.duty.Duty.{Duty}
 use Rattle.brc_model.specs.declared.duty.Duty.TheVariants.{CloseResource}
 use Rattle.brc_model.specs.declared.layout.Layout.{Layout}
@@ -20,45 +17,16 @@ use Rattle.brc_model.specs.declared.state.State.{State}
 use Rattle.brc_model.specs.declared.thread.Choice.{Choice}
 use Rattle.brc_model.specs.declared.thread.Choice.TheVariants.{Ok, Fault, Claim, Stop}
 use Rattle.brc_model.specs.Actions.{StepActor, Action, Skip, Stuck, Silent, Calls, Does, always, dispatch_inside, dispatch, agenda_action, status_action, action_of, is_before_instruction, stop_action, stop_in_call}
-use Rattle.brc_model.specs.Duties.{address_of, new_word}
 use Rattle.brc_model.specs.Layout.{row_at}
 use Rattle.brc_model.specs.declared.actor.Actor.{Actor}
 use Rattle.brc_model.specs.Machine.{actor_by, is_running}
 use Rattle.brc_model.specs.Stops.{row_locked, owned_rows, stopping}
 use Rattle.brc_model.specs.Threads.{code_of}
-use Rattle.brc_model.specs.Trace.{WordEvent, is_word, MakesStep, GoesSilently, CallsHost, DoesDuty, CanMake, Nothing, Then}
-use Rattle.brc_model.specs.Trace as model
+use Rattle.brc_model.specs.declared.event.WordEvent.{WordEvent}
+use Rattle.brc_model.specs.Trace.{events_of, MakesStep, GoesSilently, CallsHost, DoesDuty, CanMake, Nothing, Then}
 use Rattle.brc_table.specs.declared.view.Event.{Event}
-use Rattle.brc_work.specs.Traces.{Makes, Refl, Silently, Asks, Dispatches, Reads, Continues, Closes, word_events, events_of, read_birth, exit_of, is_birth, has_read}
-use Rattle.brc_work.specs.Automata.{IsPlain, MakesPlainly, IsNoClaim, ClaimsNothing, HasNoClaim, CanMakeUnclaimed, AsksNothing, GoesAlone, word_event, thread_at, HandsMakeAsThreads, ThreadsAloneMakeAsHands, HandsStopAsThreads}
-
--- ---- events
-
--- the event as a hand has it
-abbrev pub hand_event : WordEvent → Event
-hand_event e = record { address = e.address; found = e.found; left = e.left }
-
-same_word : (address : Address) (found left : ℕ)
-    → map word_event (word_events address found left)
-    ≡ cond (is_word address) (record { address = address; found = found; left = left } ∷ []) []
-same_word (Local x) found left = refl
-same_word (Shared x) found left = refl
-same_word (Gate x) found left = refl
-same_word (KindOf x) found left = refl
-same_word (Mark x) found left = refl
-same_word (Cell x i) found left = refl
-same_word (Slot x) found left = refl
-same_word (Resource x) found left = refl
-same_word (ThreadWord t) found left = refl
-
--- Both take the same events of a duty.
-pub same_events : (layout : Layout) (t : ℕ) (a : Actor) (d : Duty) (found : ℕ)
-    → map word_event (events_of layout t a d found) ≡ model.events_of layout t a d found
-same_events layout t a d found = same_word (address_of layout t a.head d) found (new_word t a.head d found)
-
-pub there_and_back : (es : List Event) → map hand_event (map word_event es) ≡ es
-there_and_back [] = refl
-there_and_back (e ∷ es) = ap (λ (rest : List Event). e ∷ rest) (there_and_back es)
+use Rattle.brc_work.specs.Traces.{Makes, Refl, Silently, Asks, Dispatches, Reads, Continues, Closes, read_birth, exit_of, is_birth, has_read}
+use Rattle.brc_work.specs.Automata.{IsPlain, MakesPlainly, IsNoClaim, ClaimsNothing, HasNoClaim, CanMakeUnclaimed, AsksNothing, GoesAlone, thread_at, HandsMakeAsThreads, ThreadsAloneMakeAsHands, HandsStopAsThreads}
 
 -- ---- actions
 
@@ -88,17 +56,17 @@ module _ (functions : List Function) (states : ℕ → ℕ → Option State) (la
   module _ (function : ℕ) (p : Place) (a : Actor) where
     abbrev Can : List Event → Place → Actor → Type 0
     Can es q b =
-        CanMakeUnclaimed functions states layout t (thread_at function p a) (map word_event es) (thread_at function q b)
+        CanMakeUnclaimed functions states layout t (thread_at function p a) es (thread_at function q b)
 
     one_more : (es : List Event) (q r : Place) (b c : Actor) (made : List WordEvent) → Can es q b
         → (step : MakesStep functions states layout t (thread_at function q b) made (thread_at function r c))
         → ClaimsNothing step
-        → CanMakeUnclaimed functions states layout t (thread_at function p a) (map word_event es ++ made)
+        → CanMakeUnclaimed functions states layout t (thread_at function p a) (es ++ made)
         (thread_at function r c)
     one_more es q r b c made before step none =
         let now = thread_at function q b in
         let after = thread_at function r c in
-        can_then (thread_at function p a) now after (map word_event es) made before.0 before.1
+        can_then (thread_at function p a) now after es made before.0 before.1
         (subst (λ (all : List WordEvent). CanMakeUnclaimed functions states layout t now all after) (append-nil made)
         (Then now after after made [] step (Nothing after), (none, tt)))
 
@@ -107,21 +75,15 @@ module _ (functions : List Function) (states : ℕ → ℕ → Option State) (la
         → ClaimsNothing step → Can es r c
     silent_more es q r b c before step none =
         subst (λ (all : List WordEvent). CanMakeUnclaimed functions states layout t (thread_at function p a) all
-        (thread_at function r c)) (append-nil (map word_event es)) (one_more es q r b c [] before step none)
+        (thread_at function r c)) (append-nil es) (one_more es q r b c [] before step none)
 
     duty_more : (es : List Event) (q r : Place) (b : Actor) (d : Duty) (rest : List Duty) (found : ℕ) → Can es q b
-        → (step : MakesStep functions states layout t (thread_at function q b) (model.events_of layout t b d found)
+        → (step : MakesStep functions states layout t (thread_at function q b) (events_of layout t b d found)
         (thread_at function r (actor_by layout t b d rest found)))
         → ClaimsNothing step → Can (es ++ events_of layout t b d found) r (actor_by layout t b d rest found)
     duty_more es q r b d rest found before step none =
         let after = actor_by layout t b d rest found in
-        let all : map word_event (es ++ events_of layout t b d found)
-        ≡ map word_event es ++ model.events_of layout t b d found =
-        map-append word_event es (events_of layout t b d found)
-        ∙ ap (λ (ws : List WordEvent). map word_event es ++ ws) (same_events layout t b d found) in
-        subst (λ (ws : List WordEvent). CanMakeUnclaimed functions states layout t (thread_at function p a) ws
-        (thread_at function r after)) (sym all)
-        (one_more es q r b after (model.events_of layout t b d found) before step none)
+        (one_more es q r b after (events_of layout t b d found) before step none)
 
     -- A thread with nothing to do does what it dispatches.
     dispatches : (q : Place) (b : Actor) (x : Action) → b.status ≢ Gone → b.agenda ≡ []
@@ -231,7 +193,7 @@ module _ (functions : List Function) (states : ℕ → ℕ → Option State) (la
   one_step : (x next : StepActor) (es : List Event) (now : List WordEvent)
       → (step : MakesStep functions states layout t x now next) → ClaimsNothing step → AsksNothing step
       → On x.function es x.place x.actor
-      → (next.function ≡ x.function) × On x.function (es ++ map hand_event now) next.place next.actor
+      → (next.function ≡ x.function) × On x.function (es ++ now) next.place next.actor
   one_step x next es now (GoesSilently choice moves place is) none alone so = (
     refl,
     subst (λ (fs : List Event). On x.function fs place x.actor) (sym (append-nil es))
@@ -239,32 +201,21 @@ module _ (functions : List Function) (states : ℕ → ℕ → Option State) (la
   )
   one_step x next es now (CallsHost choice row place exit is) none alone so = absurd alone
   one_step x next es now (DoesDuty choice d rest place found is) none alone so =
-      let these = events_of layout t x.actor d found in
-      let same : map hand_event (model.events_of layout t x.actor d found) ≡ these =
-      ap (map hand_event) (sym (same_events layout t x.actor d found)) ∙ there_and_back these in (
-        refl,
-        subst (λ (fs : List Event). On x.function (es ++ fs) (place found) (actor_by layout t x.actor d rest found))
-            (sym same)
-            (by_choice functions states layout t x.function p a es x.place x.actor choice (Does d rest place) so none
-            is found
-            alone),
-      )
+      (refl, by_choice functions states layout t x.function p a es x.place x.actor choice (Does d rest place) so none is
+      found alone)
 
   can_plain : (x c : StepActor) (es : List Event) (made : List WordEvent)
       (can : CanMake functions states layout t x made c)
       → GoesAlone can → On x.function es x.place x.actor
-      → On x.function (es ++ map hand_event made) c.place c.actor
+      → On x.function (es ++ made) c.place c.actor
   can_plain x c es made (Nothing same) none so =
       subst (λ (fs : List Event). On x.function fs x.place x.actor) (sym (append-nil es)) so
   can_plain x c es made (Then first next last now later step rest) none so =
       let went = one_step x next es now step none.0 none.1 so in
-      let here = es ++ map hand_event now in
-      let all : here ++ map hand_event later ≡ es ++ map hand_event (now ++ later) =
-      append_assoc es (map hand_event now) (map hand_event later)
-      ∙ ap (λ (fs : List Event). es ++ fs) (sym (map-append hand_event now later)) in
+      let here = es ++ now in
       let from = subst (λ (f : ℕ). On f here next.place next.actor) (sym went.0) went.1 in
-      subst (λ (fs : List Event). On x.function fs c.place c.actor) all
-      (subst (λ (f : ℕ). On f (here ++ map hand_event later) c.place c.actor) went.0
+      subst (λ (fs : List Event). On x.function fs c.place c.actor) (append_assoc es now later)
+      (subst (λ (f : ℕ). On f (here ++ later) c.place c.actor) went.0
       (can_plain next c here later rest none.2 from))
 
 pub hands_as_threads : HandsMakeAsThreads
@@ -273,11 +224,8 @@ hands_as_threads functions states layout t function p q a b es plain =
 
 pub threads_alone_as_hands : ThreadsAloneMakeAsHands
 threads_alone_as_hands functions states layout t function p q a b es can =
-    subst (λ (fs : List Event). MakesPlainly layout t (code_of (slice_get functions function)) p a fs q b)
-    (there_and_back es)
-    (can_plain functions states layout t p a (thread_at function p a) (thread_at function q b) [] (map word_event es)
-    can.0
-    can.1 (0, [], Refl, tt))
+    can_plain functions states layout t p a (thread_at function p a) (thread_at function q b) [] es can.0 can.1
+    (0, [], Refl, tt)
 
 -- ---- stops
 

@@ -2,8 +2,7 @@
 -- and all. Two of these need what the thread has done before: `write` needs the word that it sends, and the birth of
 -- what `read` has read needs the answer of the host. Where such a thread needs it, it has just done it (`Remembers`).
 use Rattle.std.proofs.Common.{◌≡◌, ◌≢◌, ℕ, false, List, [], ◌∷◌, ◌++◌, Option, Some, append_assoc, append-nil, refl, sym, ap, ◌∙◌, subst, arith}
-use Rattle.std.specs.Prelude.{map, slice_get}
-use Rattle.std.proofs.lemmas.List.{map-append}
+use Rattle.std.specs.Prelude.{slice_get}
 use Rattle.brc_host.specs.HostCalls.{HostCall}
 use Rattle.brc_host.specs.HostCalls as asked
 use Rattle.brc_lang.specs.declared.module.Function.{Function}
@@ -22,12 +21,11 @@ use Rattle.brc_model.specs.Actions.{StepActor, Action, Skip, Stuck, Silent, Call
 use Rattle.brc_model.specs.declared.actor.Actor.{Actor}
 use Rattle.brc_model.specs.Machine.{actor_by}
 use Rattle.brc_model.specs.Threads.{code_of}
-use Rattle.brc_model.specs.Trace.{WordEvent, MakesStep, GoesSilently, CallsHost, DoesDuty, CanMake, Nothing, Then}
-use Rattle.brc_model.specs.Trace as model
+use Rattle.brc_model.specs.declared.event.WordEvent.{WordEvent}
+use Rattle.brc_model.specs.Trace.{events_of, MakesStep, GoesSilently, CallsHost, DoesDuty, CanMake, Nothing, Then}
 use Rattle.brc_table.specs.declared.view.Event.{Event}
-use Rattle.brc_work.specs.Traces.{Makes, Refl, Silently, Asks, Dispatches, Reads, Continues, Closes, events_of}
-use Rattle.brc_work.specs.Automata.{IsPlain, IsNoClaim, ClaimsNothing, HasNoClaim, MakesPlainly, word_event, thread_at, ThreadsMakeAsHands}
-use Rattle.brc_work.proofs.Automata.{hand_event, same_events, there_and_back}
+use Rattle.brc_work.specs.Traces.{Makes, Refl, Silently, Asks, Dispatches, Reads, Continues, Closes}
+use Rattle.brc_work.specs.Automata.{IsPlain, IsNoClaim, ClaimsNothing, HasNoClaim, MakesPlainly, thread_at, ThreadsMakeAsHands}
 use Rattle.brc_work.proofs.Remembering.{Remembers, nothing_outside, nothing_busy, IsKnown, Other, OfRead, Leads, dispatch_leads}
 
 module _ (functions : List Function) (states : ℕ → ℕ → Option State) (layout : Layout) (t function : ℕ) (p : Place)
@@ -135,7 +133,7 @@ module _ (functions : List Function) (states : ℕ → ℕ → Option State) (la
   -- A thread of the step world keeps its function.
   one_step : (x next : StepActor) (es : List Event) (now : List WordEvent)
       → (step : MakesStep functions states layout t x now next) → ClaimsNothing step → On x.function es x.place x.actor
-      → (next.function ≡ x.function) × On x.function (es ++ map hand_event now) next.place next.actor
+      → (next.function ≡ x.function) × On x.function (es ++ now) next.place next.actor
   one_step x next es now (GoesSilently choice moves place is) none so = (
     refl,
     subst (λ (fs : List Event). On x.function fs place x.actor) (sym (append-nil es))
@@ -148,37 +146,26 @@ module _ (functions : List Function) (states : ℕ → ℕ → Option State) (la
         exit),
   )
   one_step x next es now (DoesDuty choice d rest place found is) none so =
-      let these = events_of layout t x.actor d found in
-      let same : map hand_event (model.events_of layout t x.actor d found) ≡ these =
-      ap (map hand_event) (sym (same_events layout t x.actor d found)) ∙ there_and_back these in (
-        refl,
-        subst (λ (fs : List Event). On x.function (es ++ fs) (place found) (actor_by layout t x.actor d rest found))
-            (sym same)
-            (by_choice functions states layout t x.function p a es x.place x.actor choice (Does d rest place) so none is
-            found),
-      )
+      (refl, by_choice functions states layout t x.function p a es x.place x.actor choice (Does d rest place) so none is
+      found)
 
   can_ready : (x c : StepActor) (es : List Event) (made : List WordEvent)
       (can : CanMake functions states layout t x made c)
       → HasNoClaim can → On x.function es x.place x.actor
-      → On x.function (es ++ map hand_event made) c.place c.actor
+      → On x.function (es ++ made) c.place c.actor
   can_ready x c es made (Nothing same) none so =
       subst (λ (fs : List Event). On x.function fs x.place x.actor) (sym (append-nil es)) so
   can_ready x c es made (Then first next last now later step rest) none so =
       let went = one_step x next es now step none.0 so in
-      let here = es ++ map hand_event now in
-      let all : here ++ map hand_event later ≡ es ++ map hand_event (now ++ later) =
-      append_assoc es (map hand_event now) (map hand_event later)
-      ∙ ap (λ (fs : List Event). es ++ fs) (sym (map-append hand_event now later)) in
+      let here = es ++ now in
       let from = subst (λ (f : ℕ). On f here next.place next.actor) (sym went.0) went.1 in
-      subst (λ (fs : List Event). On x.function fs c.place c.actor) all
-      (subst (λ (f : ℕ). On f (here ++ map hand_event later) c.place c.actor) went.0
+      subst (λ (fs : List Event). On x.function fs c.place c.actor) (append_assoc es now later)
+      (subst (λ (f : ℕ). On f (here ++ later) c.place c.actor) went.0
       (can_ready next c here later rest none.1 from))
 
 pub threads_as_hands : ThreadsMakeAsHands
 threads_as_hands functions states layout t function p q a b es outside can =
     let code = code_of (slice_get functions function) in
-    let so = can_ready functions states layout t p a (thread_at function p a) (thread_at function q b) []
-    (map word_event es)
+    let so = can_ready functions states layout t p a (thread_at function p a) (thread_at function q b) [] es
     can.0 can.1 (0, [], Refl, tt, nothing_outside code [] [] a p outside) in
-    subst (λ (fs : List Event). MakesPlainly layout t code p a fs q b) (there_and_back es) (so.0, so.1, so.2, so.3)
+    (so.0, so.1, so.2, so.3)

@@ -29,7 +29,8 @@ use Rattle.brc_model.specs.Threads.{row_of, entry_variables}
 use Rattle.brc_model.proofs.Basics.Lists.{either}
 use Rattle.brc_model.proofs.Dispatch.Decided.{range_decides, item_decides, stopping_decides, give_up_decides}
 use Rattle.brc_table.specs.declared.view.Event.{Event}
-use Rattle.brc_work.specs.Traces.{Requests, ForFile, ForPeer, ForBytes, ForLine, instruction_at, events_of, read_birth, exit_of, is_birth, is_read, has_read}
+use Rattle.brc_model.specs.Trace.{events_of}
+use Rattle.brc_work.specs.Traces.{Requests, ForFile, ForPeer, ForBytes, ForLine, instruction_at, read_birth, exit_of, is_birth, is_read, has_read}
 use Rattle.brc_work.specs.Automata.{is_inside}
 use Rattle.brc_work.proofs.Traces.Duties.{no_duty}
 

@@ -3,7 +3,7 @@
 -- world makes 0; and a thread of the step world may claim marks between two calls, or be stopped. Apart from that, a
 -- thread of the step world can make what a hand's thread makes, and a hand's thread what a thread of the step world can
 -- make: from inside an instruction, only without other calls of the host than closes.
-use Rattle.std.specs.Prelude.{◌≡◌, ◌≢◌, ◌&&◌, ℕ, suc, Bool, true, false, List, [], ◌∷◌, Option, Some, map, slice_get}
+use Rattle.std.specs.Prelude.{◌≡◌, ◌≢◌, ◌&&◌, ℕ, suc, Bool, true, false, List, [], ◌∷◌, Option, Some, slice_get}
 use Rattle.brc_host.specs.HostCalls.{HostCall}
 use Rattle.brc_lang.specs.declared.module.Function.{Function}
 use Rattle.brc_lang.specs.declared.module.Instr.{Instr}
@@ -18,7 +18,8 @@ use Rattle.brc_model.specs.Actions.{StepActor}
 use Rattle.brc_model.specs.declared.actor.Actor.{Actor}
 use Rattle.brc_model.specs.Stops.{row_locked, owned_rows, stopping}
 use Rattle.brc_model.specs.Threads.{code_of}
-use Rattle.brc_model.specs.Trace.{WordEvent, MakesStep, GoesSilently, CallsHost, DoesDuty, CanMake, Nothing, Then}
+use Rattle.brc_model.specs.declared.event.WordEvent.{WordEvent}
+use Rattle.brc_model.specs.Trace.{MakesStep, GoesSilently, CallsHost, DoesDuty, CanMake, Nothing, Then}
 use Rattle.brc_table.specs.declared.view.Event.{Event}
 use Rattle.brc_work.specs.Traces.{Makes, Refl, Silently, Asks, Dispatches, Reads, Continues, Closes, is_birth, has_read}
 
@@ -99,10 +100,6 @@ CanMakeAlone functions states layout t a made b = (can : CanMake functions state
 
 -- ---- the law
 
--- the event as the model has it
-abbrev pub word_event : Event → WordEvent
-word_event e = record { address = e.address; found = e.found; left = e.left }
-
 -- the thread of the step world that calls the function, at the place
 abbrev pub thread_at : ℕ → Place → Actor → StepActor
 thread_at function place actor = record { function = function; place = place; actor = actor }
@@ -113,7 +110,7 @@ HandsMakeAsThreads =
     (functions : List Function) (states : ℕ → ℕ → Option State) (layout : Layout) (t function : ℕ) (p q : Place)
     (a b : Actor) (es : List Event)
     → MakesPlainly layout t (code_of (slice_get functions function)) p a es q b
-    → CanMakeUnclaimed functions states layout t (thread_at function p a) (map word_event es) (thread_at function q b)
+    → CanMakeUnclaimed functions states layout t (thread_at function p a) es (thread_at function q b)
 
 -- and what it can make from outside of all instructions, a hand's thread makes, calls of the host and all.
 abbrev pub ThreadsMakeAsHands : Type 0
@@ -121,7 +118,7 @@ ThreadsMakeAsHands =
     (functions : List Function) (states : ℕ → ℕ → Option State) (layout : Layout) (t function : ℕ) (p q : Place)
     (a b : Actor) (es : List Event)
     → is_inside p ≡ false
-    → CanMakeUnclaimed functions states layout t (thread_at function p a) (map word_event es) (thread_at function q b)
+    → CanMakeUnclaimed functions states layout t (thread_at function p a) es (thread_at function q b)
     → MakesPlainly layout t (code_of (slice_get functions function)) p a es q b
 
 -- From inside an instruction too a hand's thread makes what a thread of the step world can make without other calls of
@@ -130,7 +127,7 @@ abbrev pub ThreadsAloneMakeAsHands : Type 0
 ThreadsAloneMakeAsHands =
     (functions : List Function) (states : ℕ → ℕ → Option State) (layout : Layout) (t function : ℕ) (p q : Place)
     (a b : Actor) (es : List Event)
-    → CanMakeAlone functions states layout t (thread_at function p a) (map word_event es) (thread_at function q b)
+    → CanMakeAlone functions states layout t (thread_at function p a) es (thread_at function q b)
     → MakesPlainly layout t (code_of (slice_get functions function)) p a es q b
 
 -- ---- stops

@@ -16,34 +16,20 @@ use Rattle.brc_model.specs.declared.actor.Context.{Context}
 use Rattle.brc_model.specs.declared.actor.Place.{Place}
 use Rattle.brc_model.specs.declared.actor.Place.TheVariants.{Idle, InCall, Inside, Stopping, Exiting}
 use Rattle.brc_model.specs.declared.actor.Stage.TheVariants.{Granted}
-use Rattle.brc_model.specs.declared.address.Address.{Address}
-use Rattle.brc_model.specs.declared.address.Address.TheVariants.{Slot, Resource}
 use Rattle.brc_model.specs.declared.duty.Duty.{Duty}
 use Rattle.brc_model.specs.declared.duty.Duty.TheVariants.{LockGate, BirthKind, CloseResource}
 use Rattle.brc_model.specs.declared.layout.Layout.{Layout}
 use Rattle.brc_model.specs.declared.state.Exit.{Exit}
 use Rattle.brc_model.specs.declared.state.Exit.TheVariants.{Success, Fault}
 use Rattle.brc_model.specs.Actions.{Silent, Calls, Does, dispatch, number_word, by_variable}
-use Rattle.brc_model.specs.Duties.{address_of, new_word}
 use Rattle.brc_model.specs.Layout.{row_at}
 use Rattle.brc_model.specs.declared.actor.Actor.{Actor}
 use Rattle.brc_model.specs.Machine.{actor_by}
+use Rattle.brc_model.specs.Trace.{events_of}
 use Rattle.brc_table.specs.declared.view.View.{View}
 use Rattle.brc_table.specs.declared.view.Event.{Event}
 use Rattle.brc_table.specs.Views.{actor_of}
 use Rattle.brc_queue.specs.Scans.{HasScanned}
-
--- ---- events
-
--- the event of a step at the address: a step on a slot or on a resource is none on a word
-abbrev pub word_events : Address → ℕ → ℕ → List Event
-word_events (Slot x) found left = []
-word_events (Resource x) found left = []
-word_events address found left = record { address = address; found = found; left = left } ∷ []
-
--- the events of the thread's duty, if it finds this word: one, or none
-abbrev pub events_of : Layout → ℕ → Actor → Duty → ℕ → List Event
-events_of layout t a d found = word_events (address_of layout t a.head d) found (new_word t a.head d found)
 
 -- ---- calls of the host
 

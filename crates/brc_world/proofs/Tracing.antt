@@ -6,7 +6,8 @@ use Rattle.brc_model.specs.declared.thread.Choice.{Choice}
 use Rattle.brc_model.specs.Actions.{StepActor, Action, Skip, Stuck, Silent, Calls, Does, action_of}
 use Rattle.brc_model.specs.Duties.{address_of}
 use Rattle.brc_model.specs.StepMachine.{StepMachine, of_thread, next_machine}
-use Rattle.brc_model.specs.Trace.{WordEvent, is_word, made_by, made_at, events_on}
+use Rattle.brc_model.specs.declared.event.WordEvent.{WordEvent}
+use Rattle.brc_model.specs.Trace.{is_word, made_by, made_at, events_on}
 use Rattle.brc_model.specs.World.{World, world_of, step}
 use Rattle.brc_world.specs.declared.event.Sight.{Sight}
 use Rattle.brc_world.specs.Sights.{sight_by, listed, sights_at, sights_on, words_of, words_shown, words_seen}

@@ -16,7 +16,8 @@ use Rattle.brc_model.specs.Duties.{address_of, new_word}
 use Rattle.brc_model.specs.Kinds.{kind_of_word}
 use Rattle.brc_model.specs.Machine.{is_running}
 use Rattle.brc_model.specs.StepMachine.{of_thread}
-use Rattle.brc_model.specs.Trace.{WordEvent, is_word}
+use Rattle.brc_model.specs.declared.event.WordEvent.{WordEvent}
+use Rattle.brc_model.specs.Trace.{is_word}
 use Rattle.brc_model.specs.World.{World, step}
 use Rattle.brc_world.specs.declared.event.Event.{Event}
 use Rattle.brc_world.specs.declared.event.Event.TheVariants as events

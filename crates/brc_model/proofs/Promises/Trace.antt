@@ -9,7 +9,8 @@ use Rattle.brc_model.specs.declared.thread.Choice.{Choice}
 use Rattle.brc_model.specs.declared.state.Exit.{Exit}
 use Rattle.brc_model.specs.Actions.{StepActor, Action, Skip, Stuck, Silent, Calls, Does, exit_of, action_of}
 use Rattle.brc_model.specs.StepMachine.{StepMachine, counting, of_thread, at_place, step_actor, machine_by, next_machine, machine_after}
-use Rattle.brc_model.specs.Trace.{WordEvent, MakesStep, GoesSilently, CallsHost, DoesDuty, CanMake, Nothing, Then, made_by, made_at, events_on}
+use Rattle.brc_model.specs.declared.event.WordEvent.{WordEvent}
+use Rattle.brc_model.specs.Trace.{MakesStep, GoesSilently, CallsHost, DoesDuty, CanMake, Nothing, Then, made_by, made_at, events_on}
 use Rattle.brc_model.proofs.Basics.Lists.{some_is, slice_get-set_same, slice_get-set_other}
 use Rattle.brc_model.proofs.Stepping.FitsAfter.{found_by}
 use Rattle.brc_model.specs.declared.layout.Layout.{Layout}

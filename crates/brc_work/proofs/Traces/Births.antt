@@ -22,7 +22,8 @@ use Rattle.brc_table.specs.declared.view.Event.{Event}
 use Rattle.brc_table.specs.declared.view.View.{View}
 use Rattle.brc_table.specs.Views.{view_by, view_after, bearing, next_row, slot_filled, slot_filled_by}
 use Rattle.brc_heap.specs.Calls.{born}
-use Rattle.brc_work.specs.Traces.{Makes, Refl, Reads, Continues, Traces, MakesTrace, thread_with, events_of, begun_at, has_read}
+use Rattle.brc_model.specs.Trace.{events_of}
+use Rattle.brc_work.specs.Traces.{Makes, Refl, Reads, Continues, Traces, MakesTrace, thread_with, begun_at, has_read}
 use Rattle.brc_work.specs.Performs.{Performs, MakesBirth}
 use Rattle.brc_work.proofs.Traces.Joining.{no_trace, quietly, turns_to, traces_then, traces_behind, traces_before, with_duties}
 use Rattle.brc_work.proofs.Traces.Duties.{comes_next, no_duty, IsSame, next_duties, starts_with, continues_with, same_thread}

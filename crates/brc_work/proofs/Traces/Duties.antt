@@ -12,7 +12,8 @@ use Rattle.brc_model.specs.declared.duty.Duty.TheVariants.{Settle, Scan}
 use Rattle.brc_table.specs.declared.view.Event.{Event}
 use Rattle.brc_table.specs.declared.view.View.{View}
 use Rattle.brc_table.specs.Views.{view_by, view_after, event_of}
-use Rattle.brc_work.specs.Traces.{Makes, Refl, Dispatches, Continues, Traces, thread_with, events_of, begun_by, is_birth, is_close, has_read}
+use Rattle.brc_model.specs.Trace.{events_of}
+use Rattle.brc_work.specs.Traces.{Makes, Refl, Dispatches, Continues, Traces, thread_with, begun_by, is_birth, is_close, has_read}
 use Rattle.brc_work.proofs.Traces.Joining.{only_these}
 
 -- ---- agendas

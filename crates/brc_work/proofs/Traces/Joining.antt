@@ -11,7 +11,8 @@ use Rattle.brc_model.specs.declared.actor.Actor.{Actor}
 use Rattle.brc_table.specs.declared.view.Event.{Event}
 use Rattle.brc_table.specs.declared.view.View.{View}
 use Rattle.brc_table.specs.Views.{open_work}
-use Rattle.brc_work.specs.Traces.{Makes, Refl, Silently, Asks, Dispatches, Reads, Continues, Closes, Requests, ForFile, ForPeer, ForBytes, ForLine, Traces, thread_with, events_of, read_birth, begun_at, begun_by}
+use Rattle.brc_model.specs.Trace.{events_of}
+use Rattle.brc_work.specs.Traces.{Makes, Refl, Silently, Asks, Dispatches, Reads, Continues, Closes, Requests, ForFile, ForPeer, ForBytes, ForLine, Traces, thread_with, read_birth, begun_at, begun_by}
 
 -- ---- numbers
 

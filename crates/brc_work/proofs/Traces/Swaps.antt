@@ -17,7 +17,8 @@ use Rattle.brc_table.specs.declared.view.View.{View}
 use Rattle.brc_table.specs.Swaps.{swapped}
 use Rattle.brc_table.specs.Views.{open_work}
 use Rattle.brc_list.specs.Calls.{row_in}
-use Rattle.brc_work.specs.Traces.{Makes, Refl, Dispatches, Traces, MakesTrace, thread_with, events_of, begun_at}
+use Rattle.brc_model.specs.Trace.{events_of}
+use Rattle.brc_work.specs.Traces.{Makes, Refl, Dispatches, Traces, MakesTrace, thread_with, begun_at}
 use Rattle.brc_work.specs.Performs.{MakesSwap, MakesRelease}
 use Rattle.brc_work.proofs.Traces.Joining.{only_these, traces_then, with_duties}
 use Rattle.brc_work.proofs.Traces.Duties.{comes_next}
