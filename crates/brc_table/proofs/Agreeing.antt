@@ -29,7 +29,7 @@ use Rattle.brc_model.specs.Counting.{Counts}
 use Rattle.brc_model.specs.CountingLaws.{CountsAgree, CellsHold, over_threads}
 use Rattle.brc_model.specs.CountingLaws as laws
 use Rattle.brc_table.specs.declared.view.View.{View}
-use Rattle.brc_table.specs.Views.{actor_of, holds, open_work}
+use Rattle.brc_table.specs.Views.{holds, open_work}
 use Rattle.brc_table.specs.Rule.{Stands}
 use Rattle.brc_table.specs.Agreeing.{local_at, shared_at, mark_at, gives_up, makes, over_work, listed, in_cells, pending, IsInUse, IsCountedLocally, SomeHandHas, OwnersHandHas, IsDeadGate, IsFreeOf, AgreesInTable}
 use Rattle.brc_table.specs.Ending.{gate_at}
@@ -143,7 +143,7 @@ module _ (layout : Layout) (words : List ℕ) (views : List View) (s : Stands la
   -- A hand's thread is one of the machine's.
   low : (id : ℕ) (v : View) → get_elem? views id ≡ some v → v.thread < threads
   low id v here =
-      omega (arith, slice_get_within m.actors v.thread (actor_of v) (s.acts id v here), s.counts.kept.core.threads)
+      omega (arith, slice_get_within m.actors v.thread v.actor (s.acts id v here), s.counts.kept.core.threads)
 
   -- The open work of all actors, thread by thread.
   over_actors : (f : Duty → ℕ) → weighed f m ≡ over_threads (weight_at (work_of f) m.actors) threads
@@ -158,8 +158,8 @@ module _ (layout : Layout) (words : List ℕ) (views : List View) (s : Stands la
       ∙ over_hands threads (weight_at (work_of f) m.actors) (λ v. sum_by f (open_work v)) views (record {
         low = low;
         each = λ id v here.
-            weight_there (work_of f) m.actors v.thread (actor_of v) (s.acts id v here)
-            ∙ sym (sum_by-append f v.agenda v.aside);
+            weight_there (work_of f) m.actors v.thread v.actor (s.acts id v here)
+            ∙ sym (sum_by-append f v.actor.agenda v.actor.aside);
         apart = s.apart;
         idle = λ t under none. weight_there (work_of f) m.actors t (idle_actor 0) (s.idle t under none).0;
       })
@@ -239,7 +239,7 @@ module _ (layout : Layout) (words : List ℕ) (views : List View) (s : Stands la
         id = hand.0.id;
         view = hand.0.view;
         here = hand.0.here;
-        listed = list_any-append is_such hand.0.view.agenda hand.0.view.aside
+        listed = list_any-append is_such hand.0.view.actor.agenda hand.0.view.actor.aside
             ∙ (ap (λ (b : Actor). list_any is_such b.agenda || list_any is_such b.aside) (sym hand.1) ∙ duty.listed);
       },
       hand.0.thread,

@@ -20,7 +20,7 @@ use Rattle.brc_model.specs.SlotLaws.{Stays, Gives, use_of}
 use Rattle.brc_model.specs.Stores.{Overwrites}
 use Rattle.brc_table.specs.ModelLaws.{ModelLaws}
 use Rattle.brc_table.specs.declared.view.View.{View}
-use Rattle.brc_table.specs.Views.{actor_of, event_of, view_by, taken_after, holds, RowsAreThere}
+use Rattle.brc_table.specs.Views.{event_of, view_by, taken_after, holds, RowsAreThere}
 use Rattle.brc_table.specs.Rule.{Stands}
 use Rattle.brc_table.specs.Homes.{SlotsStand, TableStands}
 use Rattle.brc_table.specs.Plays.{FindsKnown}
@@ -40,22 +40,22 @@ use Rattle.brc_table.proofs.SlotsUsed.{lock_stays, used_left}
 
 -- What a hand knows of what it finds at its first duty.
 pub record Knows (v : View) (d : Duty) (found : ℕ) : Type 0 where
-  pub suits : Suits v.thread (is_running v.status) (row_count v.layout) d found
+  pub suits : Suits v.thread (is_running v.actor.status) (row_count v.layout) d found
   pub overwrites : Overwrites v.thread d found
   pub owner : FindsOwner v.layout d found
   pub finds : FindsKnown v (d ∷ []) found
 
 -- What the slot of the object tells of the kind word that is loaded, if the hand has locked the object.
 abbrev SlotTells : View → Duty → ℕ → Type 0
-SlotTells v (KindLoad x) found = v.locked ≡ Some x → v.in_slot ≡ resources_of found
+SlotTells v (KindLoad x) found = v.actor.locked ≡ Some x → v.in_slot ≡ resources_of found
 SlotTells v _ found = Unit {0}
 
 slot_tells : ModelLaws → {T : Type 0} (layout : Layout) (s : State (Option T) View)
     (table : TableStands layout s.words s.homes s.views) (id : ℕ) (v u : View) → get_elem? s.views id ≡ some v
-    → KeepsSlots v u → (d : Duty) → HasWord table.stands.machine.layout (address_of u.layout u.thread u.head d)
+    → KeepsSlots v u → (d : Duty) → HasWord table.stands.machine.layout (address_of u.layout u.thread u.actor.head d)
     → SlotTells u d (read_of u d (slice_index s.words (place_of u d)))
 slot_tells laws layout s table id v u here same (KindLoad x) there = λ locked.
-    let mine : v.locked ≡ Some x = sym same.locked ∙ locked in
+    let mine : v.actor.locked ≡ Some x = sym same.locked ∙ locked in
     same.in_slot x mine
     ∙ (slot_full laws.full layout s.words s.homes s.views table id x v here mine
     ∙ ap resources_of (table.stands.reads (KindOf x) there))
@@ -64,8 +64,8 @@ slot_tells laws layout s table id v u here same _ there = tt
 -- The hand's first duty finds what the hand knows of it.
 finds_known : ModelLaws → (layout : Layout) (words : List ℕ) (views : List View) (id : ℕ) (v : View) (d : Duty)
     (found : ℕ) (stands : Stands layout words views) → get_elem? views id ≡ some v → (rest : List Duty)
-    → v.agenda ≡ d ∷ rest → v.status ≢ Gone
-    → stands.machine.memory (address_of v.layout v.thread v.head d) ≡ found → SlotTells v d found
+    → v.actor.agenda ≡ d ∷ rest → v.actor.status ≢ Gone
+    → stands.machine.memory (address_of v.layout v.thread v.actor.head d) ≡ found → SlotTells v d found
     → FindsKnown v (d ∷ []) found
 finds_known laws layout words views id v (KindLoad x) found stands here rest agenda alive is tells = (
   λ word some seen. sym is ∙ stands.kinds_seen id x word v here some seen,
@@ -79,17 +79,17 @@ finds_known laws layout words views id v (CellLoad x i) found stands here rest a
     seen
 finds_known laws layout words views id v (MergeExchange x c w Handed) found stands here rest agenda alive is tells =
     λ same.
-    laws.handed stands.accounts (1 + stands.machine.layout.workers) stands.machine v.thread (actor_of v) x c w rest
+    laws.handed stands.accounts (1 + stands.machine.layout.workers) stands.machine v.thread v.actor x c w rest
     stands.counts
     (record { found = stands.acts id v here; agenda = agenda; alive = alive }) (is ∙ same)
 finds_known laws layout words views id v _ found stands here rest agenda alive is tells = tt
 
 -- The hand's first duty is about the word at this place.
 pub record IsNextAt (v : View) (d : Duty) (rest : List Duty) (index : ℕ) : Type 0 where
-  pub agenda : v.agenda ≡ d ∷ rest
-  pub alive : v.status ≢ Gone
-  pub word : IsTableWord (address_of v.layout v.thread v.head d)
-  pub index_is : index ≡ place (address_of v.layout v.thread v.head d)
+  pub agenda : v.actor.agenda ≡ d ∷ rest
+  pub alive : v.actor.status ≢ Gone
+  pub word : IsTableWord (address_of v.layout v.thread v.actor.head d)
+  pub index_is : index ≡ place (address_of v.layout v.thread v.actor.head d)
 
 module _ (laws : ModelLaws) (layout : Layout) (v u : View)
     (d : Duty) (rest : List Duty) (index : ℕ) (becomes : Becomes layout v u) (next : IsNextAt u d rest index) where
@@ -101,13 +101,13 @@ module _ (laws : ModelLaws) (layout : Layout) (v u : View)
       let told = does.stands.told id u does.here in
       let relied = relies laws.kept laws.within laws.guarded layout words views id u d rest does in
       let found = read_of u d (slice_index words (place_of u d)) in
-      let seen : m.memory (address_of m.layout u.thread u.head d) ≡ found =
-      subst (λ (l : Layout). m.memory (address_of l u.thread u.head d) ≡ found) told
+      let seen : m.memory (address_of m.layout u.thread u.actor.head d) ≡ found =
+      subst (λ (l : Layout). m.memory (address_of l u.thread u.actor.head d) ≡ found) told
       (finds laws.kept laws.within laws.guarded layout words views id u d rest does) in
       record {
         suits =
-            subst (λ (l : Layout). Suits u.thread (is_running u.status) (row_count l) d found) (sym told)
-            (subst (λ (k : ℕ). Suits u.thread (is_running u.status) (row_count m.layout) d k) seen relied.suits);
+            subst (λ (l : Layout). Suits u.thread (is_running u.actor.status) (row_count l) d found) (sym told)
+            (subst (λ (k : ℕ). Suits u.thread (is_running u.actor.status) (row_count m.layout) d k) seen relied.suits);
         overwrites = subst (Overwrites u.thread d) seen relied.overwrites;
         owner =
             subst (λ (l : Layout). FindsOwner l d found) (sym told)
@@ -121,7 +121,7 @@ module _ (laws : ModelLaws) (layout : Layout) (v u : View)
   abbrev pub KeepsDuty : (ℕ → ℕ) → Type 0
   KeepsDuty f =
       ((found : ℕ) → Knows u d (read_of u d found)
-      → read_of u d (f found) ≡ new_word u.thread u.head d (read_of u d found))
+      → read_of u d (f found) ≡ new_word u.thread u.actor.head d (read_of u d found))
       × ((words : List ℕ) (views : List View) (id : ℕ) (does : Does layout words views id u d rest)
       → KeepsThreads does.stands.machine.layout words
       (set words (place_of u d) (f (slice_index words (place_of u d)))) u
@@ -129,7 +129,7 @@ module _ (laws : ModelLaws) (layout : Layout) (v u : View)
 
   module _ {T : Type 0} (s : State (Option T) View) (holds : TableStands layout s.words s.homes s.views) (id : ℕ)
       (here : get_elem? s.views id ≡ some v) where
-    abbrev pub first : Passes layout s.words (set s.views id u) v.taken v.locked holds.stands.machine
+    abbrev pub first : Passes layout s.words (set s.views id u) v.taken v.actor.locked holds.stands.machine
     first = becomes.passes s.words s.views id holds.stands here
 
     abbrev pub does : Does layout s.words (set s.views id u) id u d rest
@@ -158,14 +158,14 @@ module _ (laws : ModelLaws) (layout : Layout) (v u : View)
         subst (λ (k : ℕ). Knows u d (read_of u d k)) same
         (knows s.words (set s.views id u) id does
         (slot_tells laws layout s holds id v u here becomes.slots d
-        (subst (λ (l : Layout). HasWord l (address_of u.layout u.thread u.head d)) machine
+        (subst (λ (l : Layout). HasWord l (address_of u.layout u.thread u.actor.head d)) machine
         (has laws.kept laws.within laws.guarded layout s.words (set s.views id u) id u d rest does))))
 
     -- The machine has what the step finds.
-    pub finds_word : first.stands.machine.memory (address_of first.stands.machine.layout u.thread u.head d)
+    pub finds_word : first.stands.machine.memory (address_of first.stands.machine.layout u.thread u.actor.head d)
         ≡ read_of u d word
     finds_word =
-        subst (λ (l : Layout). first.stands.machine.memory (address_of l u.thread u.head d) ≡ read_of u d word)
+        subst (λ (l : Layout). first.stands.machine.memory (address_of l u.thread u.actor.head d) ≡ read_of u d word)
         (first.stands.told id u (set_view s.views id v u here))
         (finds laws.kept laws.within laws.guarded layout s.words (set s.views id u) id u d rest does
         ∙ ap (read_of u d) same)
@@ -176,7 +176,7 @@ module _ (laws : ModelLaws) (layout : Layout) (v u : View)
           first.stands.machine
       after =
           passes_after laws.kept laws.within laws.guarded layout s.words (set s.views id u) id u d rest does (f word)
-          (leaves.0 word known ∙ ap (λ (k : ℕ). new_word u.thread u.head d (read_of u d k)) (sym same))
+          (leaves.0 word known ∙ ap (λ (k : ℕ). new_word u.thread u.actor.head d (read_of u d k)) (sym same))
           (subst (λ (k : ℕ). KeepsThreads does.stands.machine.layout s.words (set s.words (place_of u d) (f k)) u
           (view_by u (d ∷ rest) (read_of u d (slice_index s.words (place_of u d))))) same
           (leaves.1 s.words (set s.views id u) id does))
@@ -191,7 +191,8 @@ module _ (laws : ModelLaws) (layout : Layout) (v u : View)
           (set (set s.views id u) id (view_by u (d ∷ rest) (read_of u d (slice_index s.words (place_of u d))))) [] None
           first.stands.machine) (sym next.index_is) after))
 
-      pub now : Passes layout (set s.words index (f word)) (set s.views id w) v.taken v.locked holds.stands.machine
+      pub now : Passes layout (set s.words index (f word)) (set s.views id w) v.taken v.actor.locked
+          holds.stands.machine
       now =
           record { stands = moved.stands; slots = λ x which. moved.slots x (inl refl) ∙ first.slots x which }
 
@@ -218,11 +219,11 @@ module _ (laws : ModelLaws) (layout : Layout) (v u : View)
           (record {
             taken = ap (taken_after u.taken) stays ∙ keeps.taken;
             in_slot = keeps.in_slot;
-            locked = lock_stays u.locked d (read_of u d word) stays ∙ keeps.locked;
+            locked = lock_stays u.actor.locked d (read_of u d word) stays ∙ keeps.locked;
             used = λ x uses.
                 used_left u d rest (read_of u d word) x next.agenda
                 (λ gives. let wrong : Stays ≡ Gives x = sym stays ∙ gives in absurd cc)
-                (λ locks. lock_stays u.locked d (read_of u d word) stays ∙ locks) (keeps.used x uses);
+                (λ locks. lock_stays u.actor.locked d (read_of u d word) stays ∙ locks) (keeps.used x uses);
           }) now.slots
 
   -- The step is allowed if it leaves the duty's new word, and slots as they are, and the hand learns no more than what
@@ -249,17 +250,17 @@ module _ (laws : ModelLaws) (layout : Layout) (v u : View)
 
 -- The hand's first duty is about the object's word at this place.
 pub record IsAt (v : View) (d : Duty) (rest : List Duty) (index : ℕ) : Type 0 where
-  pub agenda : v.agenda ≡ d ∷ rest
-  pub alive : v.status ≢ Gone
-  pub object : IsObjectWord (address_of v.layout v.thread v.head d)
-  pub index_is : index ≡ place (address_of v.layout v.thread v.head d)
+  pub agenda : v.actor.agenda ≡ d ∷ rest
+  pub alive : v.actor.status ≢ Gone
+  pub object : IsObjectWord (address_of v.layout v.thread v.actor.head d)
+  pub index_is : index ≡ place (address_of v.layout v.thread v.actor.head d)
 
 -- A first duty about an object's word is about a word of the table.
 pub object_next : (v : View) (d : Duty) (rest : List Duty) (index : ℕ) → IsAt v d rest index → IsNextAt v d rest index
 object_next v d rest index is_at = record {
   agenda = is_at.agenda;
   alive = is_at.alive;
-  word = object_in_table (address_of v.layout v.thread v.head d) is_at.object;
+  word = object_in_table (address_of v.layout v.thread v.actor.head d) is_at.object;
   index_is = is_at.index_is;
 }
 
@@ -267,14 +268,14 @@ module _ (laws : ModelLaws) (layout : Layout) (v u : View)
     (d : Duty) (rest : List Duty) (index : ℕ) (becomes : Becomes layout v u) (is_at : IsAt u d rest index) where
   -- An object's word says what it is.
   pub itself : (word : ℕ) → read_of u d word ≡ word
-  itself word = object_reads (address_of u.layout u.thread u.head d) word is_at.object
+  itself word = object_reads (address_of u.layout u.thread u.actor.head d) word is_at.object
 
-  pub object_leaves : (f : ℕ → ℕ) → ((found : ℕ) → Knows u d found → f found ≡ new_word u.thread u.head d found)
+  pub object_leaves : (f : ℕ → ℕ) → ((found : ℕ) → Knows u d found → f found ≡ new_word u.thread u.actor.head d found)
       → KeepsDuty laws layout v u d rest index becomes (object_next u d rest index is_at) f
   object_leaves f leaves = (
     λ found known.
         itself (f found) ∙ (leaves found (subst (Knows u d) (itself found) known)
-        ∙ ap (new_word u.thread u.head d) (sym (itself found))),
+        ∙ ap (new_word u.thread u.actor.head d) (sym (itself found))),
     λ words views i does.
         let m = does.stands.machine in
         let raw = slice_index words (place_of u d) in
@@ -282,7 +283,7 @@ module _ (laws : ModelLaws) (layout : Layout) (v u : View)
         does.stands.plain.few_workers
         (omega (
           arith,
-          slice_get_within m.actors u.thread (actor_of u) (does.stands.acts i u does.here),
+          slice_get_within m.actors u.thread u.actor (does.stands.acts i u does.here),
           does.stands.counts.kept.core.threads,
         ))
         (record { thread = refl; given = refl; trace = refl }) is_at.object

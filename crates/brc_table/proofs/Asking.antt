@@ -4,10 +4,10 @@ use Rattle.brc_model.specs.declared.duty.Duty.TheVariants.{KindLoad}
 use Rattle.brc_model.specs.declared.layout.Layout.{Layout}
 use Rattle.brc_model.specs.CountingLaws.{WorkIsPutAside, KindsAreAsked, ImmortalsAreFree}
 use Rattle.brc_table.specs.declared.view.View.{View}
-use Rattle.brc_table.specs.Views.{actor_of, asking, open_work}
+use Rattle.brc_table.specs.Views.{asking, open_work, rested}
 use Rattle.brc_table.specs.Hands.{MayRead, HasNoWork, IsRunning}
 use Rattle.brc_table.specs.Begins.{Becomes}
-use Rattle.brc_table.proofs.AtHand.{rested, is_ready, alone, has_at_hand, with_at_hand}
+use Rattle.brc_table.proofs.AtHand.{is_ready, alone, has_at_hand, with_at_hand}
 use Rattle.brc_table.proofs.Becoming.{then_begins, rearranged}
 
 -- A hand begins to ask for the kind of an object that it may use, or is to finalise.
@@ -22,11 +22,11 @@ asking_becomes put law free layout v x running none (inl may) =
     let s = usable.stands in
     with_at_hand usable
     (rearranged layout words views id (rested v) s here (KindLoad x ∷ []) (open_work v)
-    (law s.accounts (1 + s.machine.layout.workers) s.machine v.thread (actor_of (rested v)) x s.counts
+    (law s.accounts (1 + s.machine.layout.workers) s.machine v.thread (rested v).actor x s.counts
     (is_ready layout words views id v s here running.0) (alone v x none) (inl usable.at_hand))))
 asking_becomes put law free layout v x running none (inr first) =
     then_begins put layout v (asking v x) running.1 (refl, (λ y locks. refl), refl)
     (λ words views id s here.
     rearranged layout words views id (rested v) s here (KindLoad x ∷ []) (open_work v)
-    (law s.accounts (1 + s.machine.layout.workers) s.machine v.thread (actor_of (rested v)) x s.counts
+    (law s.accounts (1 + s.machine.layout.workers) s.machine v.thread (rested v).actor x s.counts
     (is_ready layout words views id v s here running.0) (alone v x none) (inr (omega (arith, first)))))

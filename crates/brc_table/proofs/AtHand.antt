@@ -1,5 +1,5 @@
 -- A hand that has put all its work aside, and what it then has at hand: references, and items that it borrows.
-use Rattle.std.proofs.Common.{◌≡◌, ℕ, suc, ◌+◌, ◌≤◌, true, Option, List, [], length, inl, inr, refl, sym, ap, ◌∙◌, subst, arith}
+use Rattle.std.proofs.Common.{◌≡◌, ℕ, suc, ◌+◌, ◌≤◌, true, Option, List, length, inl, inr, refl, sym, ap, ◌∙◌, subst, arith}
 use Rattle.std.specs.Prelude.{◌==◌}
 use Rattle.std.proofs.lemmas.Bool.{cases_Bool, eq-eqb}
 use Rattle.std.proofs.lemmas.List.Sums.{length-filter}
@@ -18,33 +18,29 @@ use Rattle.brc_model.specs.declared.address.Address.TheVariants.{Slot}
 use Rattle.brc_model.specs.Counting.{with_account, with_one_more, IsReady, HasNoneAbout, IsAtHand}
 use Rattle.brc_model.specs.CountingLaws.{ImmortalsAreFree}
 use Rattle.brc_table.specs.declared.view.View.{View}
-use Rattle.brc_table.specs.Views.{actor_of, open_work}
+use Rattle.brc_table.specs.Views.{open_work, rested}
 use Rattle.brc_table.specs.Rule.{Stands}
 use Rattle.brc_table.specs.Hands.{HoldsOne, MayUse, HasNoWork}
 use Rattle.brc_table.specs.Begins.{Passes}
 use Rattle.brc_table.proofs.Accounts.{with_account_same, with_account_other, one_more_else, immortal_apart}
 use Rattle.brc_table.proofs.Passing.{passes_on}
 
--- the hand with all its work put aside
-abbrev pub rested : View → View
-rested v = record v { agenda = []; aside = open_work v }
-
 -- What is known of a hand that runs and has put all its work aside, with none of it about the row.
 pub record Rests (layout : Layout) (words : List ℕ) (views : List View) (id : ℕ) (v : View) (x : ℕ) : Type 0 where
   pub stands : Stands layout words views
   pub here : get_elem? views id ≡ some (rested v)
-  pub running : v.status ≡ Running
+  pub running : v.actor.status ≡ Running
   pub free : HasNoWork v x
 
 -- The machine's thread is ready.
 pub is_ready : (layout : Layout) (words : List ℕ) (views : List View) (id : ℕ) (v : View)
-    → (stands : Stands layout words views) → get_elem? views id ≡ some (rested v) → v.status ≡ Running
-    → IsReady stands.machine v.thread (actor_of (rested v))
+    → (stands : Stands layout words views) → get_elem? views id ≡ some (rested v) → v.actor.status ≡ Running
+    → IsReady stands.machine v.thread (rested v).actor
 is_ready layout words views id v stands here running =
     record { found = stands.acts id (rested v) here; running = running; agenda = refl }
 
 -- None of the thread's work is about the row.
-pub alone : (v : View) (x : ℕ) → HasNoWork v x → HasNoneAbout (actor_of (rested v)) x
+pub alone : (v : View) (x : ℕ) → HasNoWork v x → HasNoneAbout (rested v).actor x
 alone v x free = omega (arith, ap length free, length-filter (is_about x) (open_work v))
 
 -- ---- free references
@@ -72,13 +68,14 @@ gains_one law layout words views id v x rests immortal =
         accounts = with_account p t more;
         machine = with_moves m (gain t AsCaller x);
         counts =
-            law p (1 + m.layout.workers) m t (actor_of (rested v)) x old.counts
+            law p (1 + m.layout.workers) m t (rested v).actor x old.counts
             (is_ready layout words views id v old rests.here rests.running) (alone v x rests.free) immortal';
         layout_is = old.layout_is;
         plain = old.plain;
         length_is = old.length_is;
         reads = old.reads;
         acts = old.acts;
+        lends_none = old.lends_none;
         told = old.told;
         named = old.named;
         rooted = old.rooted;
@@ -137,7 +134,7 @@ pub record HasAtHand (layout : Layout) (words : List ℕ) (views : List View) (v
     : Type 0 where
   pub stands : Stands layout words views
   pub slots : (y : ℕ) → stands.machine.memory (Slot y) ≡ before.memory (Slot y)
-  pub at_hand : IsAtHand (stands.accounts v.thread) stands.machine (actor_of (rested v)) x
+  pub at_hand : IsAtHand (stands.accounts v.thread) stands.machine (rested v).actor x
 
 -- If the hand may use the object, the rule holds so. What the hand has seen in a cell of its locked list is still
 -- there.

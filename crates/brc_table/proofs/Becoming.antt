@@ -22,14 +22,14 @@ use Rattle.brc_model.specs.OpenWork.{is_about}
 use Rattle.brc_model.specs.Counting.{Counts, with_account, with_one_more, with_one_less, working}
 use Rattle.brc_model.specs.CountingLaws.{WorkIsPutAside, WorkIsTakenBack, RetainsBegin, ReleasesBegin, BirthsBegin, ImmortalsAreFree}
 use Rattle.brc_table.specs.declared.view.View.{View}
-use Rattle.brc_table.specs.Views.{actor_of, open_work, turned, with_reference, without_reference, retaining, releasing, next_row, bearing}
+use Rattle.brc_table.specs.Views.{open_work, turned, with_reference, without_reference, retaining, releasing, next_row, bearing, rested, with_work, with_next}
 use Rattle.brc_table.specs.Rule.{Stands}
 use Rattle.brc_table.specs.Hands.{most_references, HoldsOne, MayUse, KeepsLock, HasNoWork, MayWait, IsRunning}
 use Rattle.brc_table.specs.Begins.{Passes, Becomes}
 use Rattle.brc_table.proofs.Lists.{set_view}
 use Rattle.brc_table.proofs.Accounts.{with_account_same, with_account_other, with_account_itself, count_with_reference, count_without_reference}
 use Rattle.brc_table.proofs.Passing.{passes_on, becomes_same, SameSlots, waiting_keeps}
-use Rattle.brc_table.proofs.AtHand.{rested, is_ready, alone, has_one, with_one, has_at_hand, with_at_hand}
+use Rattle.brc_table.proofs.AtHand.{is_ready, alone, has_one, with_one, has_at_hand, with_at_hand}
 use Rattle.brc_table.proofs.Changing.{passes}
 use Rattle.brc_table.proofs.ThreadsKept.{threads_same}
 use Rattle.brc_table.proofs.Picked.{PassesNone, PassesOne, passes_one, count_more}
@@ -42,20 +42,20 @@ module _ (layout : Layout) (words : List ℕ) (views : List View) (id : ℕ) (v 
   -- references that the hand lists.
   pub begun : (agenda aside : List Duty) (references : List ℕ) (in_slot : ℕ) (account : Account)
       → Counts (with_account old.accounts v.thread account) (1 + old.machine.layout.workers)
-      (with_actor old.machine v.thread (working (actor_of v) agenda aside))
+      (with_actor old.machine v.thread (working v.actor agenda aside))
       → ((y : ℕ) → IsCounted v.layout y → account AsCaller y ≡ count_by (λ z. z == y) references)
       → ((depth i y : ℕ) → account (ByVariable depth i) y ≡ 0)
       → Passes layout words
-      (set views id (record v { agenda = agenda; aside = aside; references = references; in_slot = in_slot })) v.taken
-      v.locked old.machine
+      (set views id (record (with_work v agenda aside) { references = references; in_slot = in_slot })) v.taken
+      v.actor.locked old.machine
   begun agenda aside references in_slot account counts holding none =
       let p = old.accounts in
       let t = v.thread in
-      let u : View = record v { agenda = agenda; aside = aside; references = references; in_slot = in_slot } in
+      let u : View = record (with_work v agenda aside) { references = references; in_slot = in_slot } in
       let own = with_account_same p t account in
       passes layout words views id v u old here words (record {
         accounts = with_account p t account;
-        machine = with_actor old.machine t (actor_of u);
+        machine = with_actor old.machine t u.actor;
         counts = counts;
         layout_same = refl;
         length_is = refl;
@@ -65,6 +65,7 @@ module _ (layout : Layout) (words : List ℕ) (views : List View) (id : ℕ) (v 
         told_same = refl;
         given_more = λ k is. is;
         gone_stays = λ gone. (gone, refl);
+        lends_none = old.lends_none id v here;
         joined_here = old.joined id v here;
         holding = λ y counted.
             ap (λ (a : Account). a AsCaller y) own
@@ -83,18 +84,18 @@ module _ (layout : Layout) (words : List ℕ) (views : List View) (id : ℕ) (v 
         kinds_here = λ y word more seen. old.kinds_seen id y word v here more seen;
         cells_here = λ y i word guards seen. old.cells_seen id y i word v here guards seen;
         threads = λ i there. threads_same layout words views i v u old there refl refl refl;
-      }) v.taken v.locked (λ x which. refl)
+      }) v.taken v.actor.locked (λ x which. refl)
 
   -- The same of a hand that keeps its references, and hears what a slot holds.
   pub rearranged_with : (agenda aside : List Duty) (in_slot : ℕ)
       → Counts old.accounts (1 + old.machine.layout.workers)
-      (with_actor old.machine v.thread (working (actor_of v) agenda aside))
-      → Passes layout words (set views id (record v { agenda = agenda; aside = aside; in_slot = in_slot })) v.taken
-      v.locked old.machine
+      (with_actor old.machine v.thread (working v.actor agenda aside))
+      → Passes layout words (set views id (record (with_work v agenda aside) { in_slot = in_slot })) v.taken
+      v.actor.locked old.machine
   rearranged_with agenda aside in_slot counts =
       begun agenda aside v.references in_slot (old.accounts v.thread)
       (subst (λ (p : Accounts). Counts p (1 + old.machine.layout.workers)
-      (with_actor old.machine v.thread (working (actor_of v) agenda aside)))
+      (with_actor old.machine v.thread (working v.actor agenda aside)))
       (sym (with_account_itself old.accounts v.thread)) counts)
       (λ y counted. old.holding id v y here (subst (λ (l : Layout). IsCounted l y) (old.told id v here) counted))
       (old.no_variables v.thread)
@@ -102,43 +103,44 @@ module _ (layout : Layout) (words : List ℕ) (views : List View) (id : ℕ) (v 
   -- The same of a hand that keeps its references.
   pub rearranged : (agenda aside : List Duty)
       → Counts old.accounts (1 + old.machine.layout.workers)
-      (with_actor old.machine v.thread (working (actor_of v) agenda aside))
-      → Passes layout words (set views id (record v { agenda = agenda; aside = aside })) v.taken v.locked old.machine
+      (with_actor old.machine v.thread (working v.actor agenda aside))
+      → Passes layout words (set views id (with_work v agenda aside)) v.taken v.actor.locked old.machine
   rearranged agenda aside counts = rearranged_with agenda aside v.in_slot counts
 
 -- ---- all work put aside
 
-rested_from : WorkIsPutAside → (layout : Layout) (v : View) (ds : List Duty) → v.agenda ≡ ds → MayWait ds
-    → Becomes layout v (record v { agenda = []; aside = ds ++ v.aside })
+rested_from : WorkIsPutAside → (layout : Layout) (v : View) (ds : List Duty) → v.actor.agenda ≡ ds → MayWait ds
+    → Becomes layout v (with_work v [] (ds ++ v.actor.aside))
 rested_from law layout v [] is may =
-    becomes_same layout v (record v { agenda = [] }) (ap (λ (ds : List Duty). record v { agenda = ds }) is)
+    becomes_same layout v (with_next v []) (ap (with_next v) is)
 rested_from law layout v (d ∷ []) is may =
     record {
       passes = λ words views id stands here.
-          rearranged layout words views id v stands here [] (d ∷ v.aside)
-          (law stands.accounts (1 + stands.machine.layout.workers) stands.machine v.thread (actor_of v) d stands.counts
+          rearranged layout words views id v stands here [] (d ∷ v.actor.aside)
+          (law stands.accounts (1 + stands.machine.layout.workers) stands.machine v.thread v.actor d stands.counts
           (stands.acts id v here) is may);
       slots =
-          waiting_keeps v (record v { agenda = []; aside = d ∷ v.aside }) (subst MayWait (sym is) may)
+          waiting_keeps v (with_work v [] (d ∷ v.actor.aside)) (subst MayWait (sym is) may)
           (refl, (λ y locks. refl), refl);
     }
 rested_from law layout v (d ∷ e ∷ ds) is may = absurd may
 
 -- A hand whose next duty may wait puts all its work aside.
-pub rested_becomes : WorkIsPutAside → (layout : Layout) (v : View) → MayWait v.agenda → Becomes layout v (rested v)
-rested_becomes law layout v may = rested_from law layout v v.agenda refl may
+pub rested_becomes : WorkIsPutAside → (layout : Layout) (v : View) → MayWait v.actor.agenda
+    → Becomes layout v (rested v)
+rested_becomes law layout v may = rested_from law layout v v.actor.agenda refl may
 
 -- A hand that has put all its work aside may go on to other work.
-pub then_begins : WorkIsPutAside → (layout : Layout) (v u : View) → MayWait v.agenda → SameSlots v u
+pub then_begins : WorkIsPutAside → (layout : Layout) (v u : View) → MayWait v.actor.agenda → SameSlots v u
     → ((words : List ℕ) (views : List View) (id : ℕ) (stands : Stands layout words views)
     → get_elem? views id ≡ some (rested v)
-    → Passes layout words (set views id u) v.taken v.locked stands.machine)
+    → Passes layout words (set views id u) v.taken v.actor.locked stands.machine)
     → Becomes layout v u
 then_begins law layout v u may same next = record {
   passes = λ words views id stands here.
       let rest = (rested_becomes law layout v may).passes words views id stands here in
       passes_on stands.machine rest.stands.machine rest.slots
-      (subst (λ (l : List View). Passes layout words l v.taken v.locked rest.stands.machine)
+      (subst (λ (l : List View). Passes layout words l v.taken v.actor.locked rest.stands.machine)
       (set-set views id (rested v) u)
       (next words (set views id (rested v)) id rest.stands (set_view views id v (rested v) here)));
   slots = waiting_keeps v u may same;
@@ -149,32 +151,32 @@ then_begins law layout v u may same next = record {
 turned_at : WorkIsTakenBack → (layout : Layout) (v : View) (x : ℕ) (words : List ℕ) (views : List View) (id : ℕ)
     → (stands : Stands layout words views) → get_elem? views id ≡ some (rested v)
     → PassesNone (is_about x) (open_work v) ⊎ PassesOne (is_about x) (open_work v)
-    → Passes layout words (set views id (turned v x)) v.taken v.locked stands.machine
+    → Passes layout words (set views id (turned v x)) v.taken v.actor.locked stands.machine
 turned_at law layout v x words views id stands here (inl none) =
     (becomes_same layout (rested v) (turned v x)
-    (ap (λ (ds : List Duty). record v { agenda = []; aside = ds }) (sym none.left)
-    ∙ ap (λ (ds : List Duty). record v { agenda = ds; aside = filter (λ d. not (is_about x d)) (open_work v) })
+    (ap (λ (ds : List Duty). with_work v [] ds) (sym none.left)
+    ∙ ap (λ (ds : List Duty). with_work v ds (filter (λ d. not (is_about x d)) (open_work v)))
     (sym none.passed))).passes words views id stands here
 turned_at law layout v x words views id stands here (inr one) =
     let taken =
     rearranged layout words views id (rested v) stands here (one.found ∷ []) (one.before ++ one.after)
-    (law stands.accounts (1 + stands.machine.layout.workers) stands.machine v.thread (actor_of (rested v)) one.before
+    (law stands.accounts (1 + stands.machine.layout.workers) stands.machine v.thread (rested v).actor one.before
     one.after one.found stands.counts (stands.acts id (rested v) here) refl one.whole) in
-    subst (λ (ds : List Duty). Passes layout words (set views id (record v {
-      agenda = ds;
-      aside = filter (λ d. not (is_about x d)) (open_work v);
-    })) v.taken v.locked stands.machine) (sym one.passed)
-    (subst (λ (ds : List Duty). Passes layout words (set views id (record v { agenda = one.found ∷ []; aside = ds }))
-    v.taken v.locked stands.machine) (sym one.left) taken)
+    subst (λ (ds : List Duty). Passes layout words
+    (set views id (with_work v ds (filter (λ d. not (is_about x d)) (open_work v)))) v.taken v.actor.locked
+    stands.machine)
+    (sym one.passed)
+    (subst (λ (ds : List Duty). Passes layout words (set views id (with_work v (one.found ∷ []) ds))
+    v.taken v.actor.locked stands.machine) (sym one.left) taken)
 
 -- A hand turns to its work about a row: it puts its next duty aside, and takes back the one about the row, if there is
 -- one.
-pub turned_becomes : WorkIsPutAside → WorkIsTakenBack → (layout : Layout) (v : View) (x : ℕ) → MayWait v.agenda
+pub turned_becomes : WorkIsPutAside → WorkIsTakenBack → (layout : Layout) (v : View) (x : ℕ) → MayWait v.actor.agenda
     → Becomes layout v (turned v x)
 turned_becomes put take layout v x may =
     then_begins put layout v (turned v x) may (refl, (λ y locks. refl), refl) (λ words views id stands here.
     let fits =
-    (stands.counts.kept.core.each v.thread (actor_of (rested v)) (stands.acts id (rested v) here)).2 in
+    (stands.counts.kept.core.each v.thread (rested v).actor (stands.acts id (rested v) here)).2 in
     let few : count_by (is_about x) (open_work v) ≤ 1 = omega (arith, fits.apart x) in
     turned_at take layout v x words views id stands here (passes_one (is_about x) (open_work v) few))
 
@@ -196,7 +198,7 @@ retaining_becomes put law free layout v x running none may few =
     with_at_hand usable
     (begun layout words views id (rested v) s here (RetainLoad x AsCaller ∷ []) (open_work v)
     (with_reference v.layout x v.references) v.in_slot (with_one_more (s.accounts t) AsCaller x)
-    (law s.accounts (1 + s.machine.layout.workers) s.machine t (actor_of (rested v)) x s.counts
+    (law s.accounts (1 + s.machine.layout.workers) s.machine t (rested v).actor x s.counts
     (is_ready layout words views id v s here running.0) (alone v x none) usable.at_hand
     (λ counted. omega (
       arith,
@@ -226,10 +228,10 @@ releasing_becomes put law free layout v x running none holding keeps =
     with_one one
     (begun layout words views id (rested v) s here (ReleaseLoad x AsCaller ∷ []) (open_work v)
     (without_reference v.layout x v.references) v.in_slot (with_one_less (s.accounts t) AsCaller x)
-    (law s.accounts (1 + s.machine.layout.workers) s.machine t (actor_of (rested v)) x s.counts
+    (law s.accounts (1 + s.machine.layout.workers) s.machine t (rested v).actor x s.counts
     (is_ready layout words views id v s here running.0) (alone v x none) one.more
     (λ e.
-    let lock = (s.counts.kept.core.each t (actor_of (rested v)) (s.acts id (rested v) here)).0.locks x e in
+    let lock = (s.counts.kept.core.each t (rested v).actor (s.acts id (rested v) here)).0.locks x e in
     omega (arith, s.holding id (rested v) x here lock.counted, keeps e)))
     (λ y counted. omega (
       arith,
@@ -240,7 +242,7 @@ releasing_becomes put law free layout v x running none holding keeps =
 
 -- A worker's hand with a row left begins the birth of an object.
 pub bearing_becomes : WorkIsPutAside → BirthsBegin → (layout : Layout) (v : View) (word : ℕ) → IsRunning v
-    → 0 < v.thread → has_room v.layout v.thread v.used ≡ true → is_counted_kind (kind_of_word word) ≡ true
+    → 0 < v.thread → has_room v.layout v.thread v.actor.used ≡ true → is_counted_kind (kind_of_word word) ≡ true
     → cells_of word ≤ cell_limit → Becomes layout v (bearing v word)
 bearing_becomes put law layout v word running worker room kind few =
     then_begins put layout v (bearing v word) running.1 (refl, (λ y locks. refl), refl)
@@ -252,12 +254,13 @@ bearing_becomes put law layout v word running worker room kind few =
     begun layout words views id (rested v) s here (BirthKind (next_row v) AsCaller word ∷ []) (open_work v)
     (next_row v ∷ v.references) v.in_slot (with_one_more (s.accounts t) AsCaller (next_row v))
     (subst (λ (l : Layout).
-    Counts (with_account s.accounts t (with_one_more (s.accounts t) AsCaller (row_at l t v.used)))
+    Counts (with_account s.accounts t (with_one_more (s.accounts t) AsCaller (row_at l t v.actor.used)))
     (1 + m.layout.workers)
-    (with_actor m t (working (actor_of v) (BirthKind (row_at l t v.used) AsCaller word ∷ []) (open_work v)))) (sym told)
-    (law s.accounts (1 + m.layout.workers) m t (actor_of (rested v)) word s.counts
+    (with_actor m t (working v.actor (BirthKind (row_at l t v.actor.used) AsCaller word ∷ []) (open_work v))))
+    (sym told)
+    (law s.accounts (1 + m.layout.workers) m t (rested v).actor word s.counts
     (is_ready layout words views id v s here running.0) worker
-    (subst (λ (l : Layout). has_room l t v.used ≡ true) told room) kind few))
+    (subst (λ (l : Layout). has_room l t v.actor.used ≡ true) told room) kind few))
     (λ y counted. omega (
       arith,
       s.holding id (rested v) y here (subst (λ (l : Layout). IsCounted l y) told counted),

@@ -9,7 +9,7 @@ use Rattle.brc_model.specs.Layout.{row_count}
 use Rattle.brc_model.specs.Machine.{Dying}
 use Rattle.brc_model.specs.CountingLaws.{IsFirstOfChain, ChainsAreThere}
 use Rattle.brc_table.specs.declared.view.View.{View}
-use Rattle.brc_table.specs.Views.{actor_of, RowsAreThere}
+use Rattle.brc_table.specs.Views.{RowsAreThere}
 use Rattle.brc_table.specs.Hands.{MayChange, MayLoad}
 use Rattle.brc_table.specs.Rule.{Guards, Stands}
 
@@ -26,7 +26,7 @@ load_changes v x (inl (locked, held)) = inl locked
 load_changes v x (inr first) = inr first
 
 -- It is the one that the thread has locked, or the first of its chain.
-pub change_by : (v : View) (x : ℕ) → MayChange v x → (v.locked ≡ Some x) ⊎ IsFirstOfChain (actor_of v) x
+pub change_by : (v : View) (x : ℕ) → MayChange v x → (v.actor.locked ≡ Some x) ⊎ IsFirstOfChain v.actor x
 change_by v x (inl locked) = inl locked
 change_by v x (inr first) = inr (omega (arith, first))
 
@@ -35,7 +35,7 @@ pub change_guards : ChainsAreThere → (layout : Layout) (words : List ℕ) (vie
     (stands : Stands layout words views) → get_elem? views id ≡ some v → MayChange v x → Guards stands.machine v x
 change_guards chains layout words views id v x stands here (inl locked) = inl locked
 change_guards chains layout words views id v x stands here (inr first) =
-    inr ((chains stands.accounts (1 + stands.machine.layout.workers) stands.machine v.thread (actor_of v) stands.counts
+    inr ((chains stands.accounts (1 + stands.machine.layout.workers) stands.machine v.thread v.actor stands.counts
     (stands.acts id v here)).first x (omega (arith, first)))
 
 -- ---- one guard
@@ -45,28 +45,28 @@ pub guards_apart : (layout : Layout) (words : List ℕ) (views : List View) (id 
     (s : Stands layout words views) → get_elem? views id ≡ some v → get_elem? views other ≡ some w
     → v.thread ≢ w.thread → Guards s.machine v x → Guards s.machine w x → ⊥
 guards_apart layout words views id other v w x s here there apart (inl locked) (inl theirs) =
-    let one = (s.counts.kept.core.each v.thread (actor_of v) (s.acts id v here)).0.locks x locked in
-    let two = (s.counts.kept.core.each w.thread (actor_of w) (s.acts other w there)).0.locks x theirs in
+    let one = (s.counts.kept.core.each v.thread v.actor (s.acts id v here)).0.locks x locked in
+    let two = (s.counts.kept.core.each w.thread w.actor (s.acts other w there)).0.locks x theirs in
     apart (omega (arith, one.gate, two.gate))
 guards_apart layout words views id other v w x s here there apart (inl locked) (inr (dies, (next, word, low))) =
     let core = s.counts.kept.core in
-    let one = (core.each v.thread (actor_of v) (s.acts id v here)).0.locks x locked in
+    let one = (core.each v.thread v.actor (s.acts id v here)).0.locks x locked in
     absurd (omega (
       arith,
       one.gate,
       word,
-      slice_get_within s.machine.actors v.thread (actor_of v) (s.acts id v here),
+      slice_get_within s.machine.actors v.thread v.actor (s.acts id v here),
       core.threads,
       core.few_threads,
     ))
 guards_apart layout words views id other v w x s here there apart (inr (dies, (next, word, low))) (inl theirs) =
     let core = s.counts.kept.core in
-    let two = (core.each w.thread (actor_of w) (s.acts other w there)).0.locks x theirs in
+    let two = (core.each w.thread w.actor (s.acts other w there)).0.locks x theirs in
     absurd (omega (
       arith,
       two.gate,
       word,
-      slice_get_within s.machine.actors w.thread (actor_of w) (s.acts other w there),
+      slice_get_within s.machine.actors w.thread w.actor (s.acts other w there),
       core.threads,
       core.few_threads,
     ))

@@ -1,5 +1,5 @@
 -- One hand's view changes, and with it the machine, so that the rule holds again.
-use Rattle.std.proofs.Common.{◌≡◌, ◌≢◌, ℕ, ◌+◌, ◌<◌, true, List, length, set, Option, Some, ◌⊎◌, ⊎_elim, inl, inr, refl, sym, ap, ◌∙◌, subst, arith}
+use Rattle.std.proofs.Common.{◌≡◌, ◌≢◌, ℕ, ◌+◌, ◌<◌, true, List, length, set, Option, None, Some, ◌⊎◌, ⊎_elim, inl, inr, refl, sym, ap, ◌∙◌, subst, arith}
 use Rattle.std.specs.Prelude.{slice_get, slice_index, slice_index_or, All}
 use Rattle.std.proofs.lemmas.Bool.Decides.{eqb_tells}
 use Rattle.std.proofs.lemmas.Option.{slice_get_within}
@@ -23,7 +23,7 @@ use Rattle.brc_model.specs.Counting.{Counts, IsPlainLayout}
 use Rattle.brc_table.specs.declared.view.View.{View}
 use Rattle.brc_table.specs.declared.view.Joined.{Joined}
 use Rattle.brc_table.specs.Places.{place, HasWord, word_count}
-use Rattle.brc_table.specs.Views.{actor_of, holds}
+use Rattle.brc_table.specs.Views.{holds}
 use Rattle.brc_table.specs.KnownWords.{knows_kind, known_cell}
 use Rattle.brc_table.specs.Rule.{reading, Guards, IsGone, Stands}
 use Rattle.brc_table.specs.Threads.{ThreadsStand}
@@ -51,9 +51,10 @@ pub record Changes (layout : Layout) (words : List ℕ) (views : List View) (v u
   pub layout_same : machine.layout ≡ old.machine.layout
   pub length_is : length after ≡ length words
   pub reads : (a : Address) → HasWord machine.layout a → machine.memory a ≡ reading a (slice_index after (place a))
-  pub actors : machine.actors ≡ set old.machine.actors v.thread (actor_of u)
+  pub actors : machine.actors ≡ set old.machine.actors v.thread u.actor
   pub thread_same : u.thread ≡ v.thread
   pub told_same : u.layout ≡ v.layout
+  pub lends_none : u.actor.lent ≡ None
   pub given_more : (t : ℕ) → is_given t v ≡ true → is_given t u ≡ true
   pub holding : (x : ℕ) → IsCounted machine.layout x → accounts v.thread AsCaller x ≡ holds u x
   pub others : (t : ℕ) → t ≢ v.thread → accounts t ≡ old.accounts t
@@ -67,7 +68,7 @@ pub record Changes (layout : Layout) (words : List ℕ) (views : List View) (v u
   pub cells_here : (x i word : ℕ) → Guards machine u x → known_cell x i u ≡ Some word
       → machine.memory (Cell x i) ≡ word
   -- a hand that is gone stays so, and uses no further row
-  pub gone_stays : v.status ≡ Gone → (u.status ≡ Gone) × (u.used ≡ v.used)
+  pub gone_stays : v.actor.status ≡ Gone → (u.actor.status ≡ Gone) × (u.actor.used ≡ v.actor.used)
   -- the hands that this one has joined are gone
   pub joined_here : All (IsGone old.machine.actors) u.joined
   -- the words of threads say what they should
@@ -80,20 +81,20 @@ module _ (layout : Layout) (words : List ℕ) (views : List View) (id : ℕ) (v 
   elsewhere other w apart is e = apart (old.apart other id w v is here e)
 
   acts_after : (other : ℕ) (w : View) → get_elem? (set views id u) other ≡ some w
-      → slice_get new.machine.actors w.thread ≡ Some (actor_of w)
+      → slice_get new.machine.actors w.thread ≡ Some w.actor
   acts_after other w is =
-      let found : slice_get (set old.machine.actors v.thread (actor_of u)) w.thread ≡ Some (actor_of w) =
+      let found : slice_get (set old.machine.actors v.thread u.actor) w.thread ≡ Some w.actor =
       ⊎_elim
       (λ t. subst (λ (x : View).
-      slice_get (set old.machine.actors v.thread (actor_of u)) x.thread ≡ Some (actor_of x)) t.1
-      (subst (λ (k : ℕ). slice_get (set old.machine.actors v.thread (actor_of u)) k ≡ Some (actor_of u))
+      slice_get (set old.machine.actors v.thread u.actor) x.thread ≡ Some x.actor) t.1
+      (subst (λ (k : ℕ). slice_get (set old.machine.actors v.thread u.actor) k ≡ Some u.actor)
       (sym new.thread_same)
-      (slice_get-set_same old.machine.actors v.thread (actor_of u)
-      (slice_get_within old.machine.actors v.thread (actor_of v) (old.acts id v here)))))
-      (λ t. slice_get-set_other old.machine.actors v.thread w.thread (actor_of u) (elsewhere other w t.0 t.1)
+      (slice_get-set_same old.machine.actors v.thread u.actor
+      (slice_get_within old.machine.actors v.thread v.actor (old.acts id v here)))))
+      (λ t. slice_get-set_other old.machine.actors v.thread w.thread u.actor (elsewhere other w t.0 t.1)
       ∙ old.acts other w t.1)
       (at_set views id other u w is) in
-      subst (λ (l : List Actor). slice_get l w.thread ≡ Some (actor_of w)) (sym new.actors) found
+      subst (λ (l : List Actor). slice_get l w.thread ≡ Some w.actor) (sym new.actors) found
 
   told_after : (other : ℕ) (w : View) → get_elem? (set views id u) other ≡ some w → w.layout ≡ new.machine.layout
   told_after other w is =
@@ -101,6 +102,13 @@ module _ (layout : Layout) (words : List ℕ) (views : List View) (id : ℕ) (v 
       (λ t. subst (λ (x : View). x.layout ≡ new.machine.layout) t.1
       (new.told_same ∙ (old.told id v here ∙ sym new.layout_same)))
       (λ t. old.told other w t.1 ∙ sym new.layout_same)
+      (at_set views id other u w is)
+
+  lends_after : (other : ℕ) (w : View) → get_elem? (set views id u) other ≡ some w → w.actor.lent ≡ None
+  lends_after other w is =
+      ⊎_elim
+      (λ t. subst (λ (x : View). x.actor.lent ≡ None) t.1 new.lends_none)
+      (λ t. old.lends_none other w t.1)
       (at_set views id other u w is)
 
   kinds_after : (other x word : ℕ) (w : View) → get_elem? (set views id u) other ≡ some w → 0 < word
@@ -166,7 +174,7 @@ module _ (layout : Layout) (words : List ℕ) (views : List View) (id : ℕ) (v 
       (some-injective w v (sym is ∙ (ap (get_elem? views) e ∙ here)))) in
       none other w (set_else views id other u ne ∙ is) same) in (
         ap (λ (l : List Actor). slice_get l t) new.actors
-            ∙ (slice_get-set_other old.machine.actors v.thread t (actor_of u) apart ∙ rest.0),
+            ∙ (slice_get-set_other old.machine.actors v.thread t u.actor apart ∙ rest.0),
         subst HoldsNone (sym (new.others t apart)) rest.1,
       )
 
@@ -187,17 +195,17 @@ module _ (layout : Layout) (words : List ℕ) (views : List View) (id : ℕ) (v 
   still_gone : (hand : Joined) → IsGone old.machine.actors hand → IsGone new.machine.actors hand
   still_gone hand is = elim (eqb_tells hand.thread v.thread) [
     | inl same ↦
-        let own : actor_of v ≡ is.actor =
-        let e : Some (actor_of v) ≡ Some is.actor =
+        let own : v.actor ≡ is.actor =
+        let e : Some v.actor ≡ Some is.actor =
         sym (old.acts id v here) ∙ (ap (slice_get old.machine.actors) (sym same.1) ∙ is.found) in cc in
         let stays = new.gone_stays (ap (λ (a : Actor). a.status) own ∙ is.gone) in
         record {
-          actor = actor_of u;
+          actor = u.actor;
           found =
               ap (λ (l : List Actor). slice_get l hand.thread) new.actors
-              ∙ (ap (slice_get (set old.machine.actors v.thread (actor_of u))) same.1
-              ∙ slice_get-set_same old.machine.actors v.thread (actor_of u)
-              (slice_get_within old.machine.actors v.thread (actor_of v) (old.acts id v here)));
+              ∙ (ap (slice_get (set old.machine.actors v.thread u.actor)) same.1
+              ∙ slice_get-set_same old.machine.actors v.thread u.actor
+              (slice_get_within old.machine.actors v.thread v.actor (old.acts id v here)));
           gone = stays.0;
           used = stays.1 ∙ (ap (λ (a : Actor). a.used) own ∙ is.used);
         }
@@ -206,7 +214,7 @@ module _ (layout : Layout) (words : List ℕ) (views : List View) (id : ℕ) (v 
           actor = is.actor;
           found =
               ap (λ (l : List Actor). slice_get l hand.thread) new.actors
-              ∙ (slice_get-set_other old.machine.actors v.thread hand.thread (actor_of u) apart.1 ∙ is.found);
+              ∙ (slice_get-set_other old.machine.actors v.thread hand.thread u.actor apart.1 ∙ is.found);
           gone = is.gone;
           used = is.used;
         }
@@ -230,6 +238,7 @@ module _ (layout : Layout) (words : List ℕ) (views : List View) (id : ℕ) (v 
     reads = new.reads;
     acts = acts_after;
     told = told_after;
+    lends_none = lends_after;
     named = new.kinds_stay none_row half (omega arith) old.named;
     rooted = new.kinds_stay root_row (list_word cell_limit) (omega arith) old.rooted;
     kinds_seen = kinds_after;
@@ -275,7 +284,8 @@ itself_keeps v = record {
 pub itself_becomes : (layout : Layout) (v : View) → Becomes layout v v
 itself_becomes layout v = record {
   passes = λ words views id stands here.
-      subst (λ (l : List View). Passes layout words l v.taken v.locked stands.machine) (sym (set_again views id v here))
+      subst (λ (l : List View). Passes layout words l v.taken v.actor.locked stands.machine)
+      (sym (set_again views id v here))
       (record { stands = stands; slots = λ x which. refl });
   slots = itself_keeps v;
 }

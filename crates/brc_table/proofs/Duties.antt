@@ -24,7 +24,7 @@ use Rattle.brc_table.specs.Hands.{HoldsOne, MayUse, MayRead}
 use Rattle.brc_table.specs.Calls.{OwnsFirst}
 use Rattle.brc_table.proofs.RowsThere.{immortal_there}
 
-pub runs_on : (v : View) → v.status ≡ Running → v.status ≢ Gone
+pub runs_on : (v : View) → v.actor.status ≡ Running → v.actor.status ≢ Gone
 runs_on v runs gone = let wrong : Running ≡ Gone = sym runs ∙ gone in absurd cc
 
 -- ---- rows
@@ -82,18 +82,18 @@ either_list x (e ∷ ds) es d rest is = elim (cases_Bool (is_about x e)) [
 -- A row about which a hand has work is there.
 pub work_there : (v : View) (x : ℕ) (d : Duty) (rest : List Duty) → RowsAreThere v → work_about x v ≡ d ∷ rest
     → x < row_count v.layout
-work_there v x d rest rows is = elim (either_list x v.agenda v.aside d rest is) [
+work_there v x d rest rows is = elim (either_list x v.actor.agenda v.actor.aside d rest is) [
   | inl next ↦ rows.agenda x next
   | inr waiting ↦ rows.aside x waiting
 ]
 
 -- The row of a hand's first duty is there.
-pub first_there : (v : View) (x : ℕ) (d : Duty) (rest : List Duty) → RowsAreThere v → v.agenda ≡ d ∷ rest
+pub first_there : (v : View) (x : ℕ) (d : Duty) (rest : List Duty) → RowsAreThere v → v.actor.agenda ≡ d ∷ rest
     → is_about x d ≡ true → x < row_count v.layout
 first_there v x d rest rows is this =
     rows.agenda x (ap (list_any (is_about x)) is ∙ ap (λ (b : Bool). b || list_any (is_about x) rest) this)
 
-pub next_there : (v : View) (x : ℕ) (d : Duty) → RowsAreThere v → v.agenda ≡ d ∷ [] → is_about x d ≡ true
+pub next_there : (v : View) (x : ℕ) (d : Duty) → RowsAreThere v → v.actor.agenda ≡ d ∷ [] → is_about x d ≡ true
     → x < row_count v.layout
 next_there v x d rows is this = first_there v x d [] rows is this
 
@@ -105,17 +105,17 @@ rows_few layout plain =
     let most = mul-le-mul plain.few_workers plain.few_rows in
     omega (arith, most, plain.immortals)
 
-pub own_next : (v : View) (x : ℕ) (ds : List Duty) → v.agenda ≡ ds → OwnsFirst x ds
-    → IsNext (BirthLocal x AsCaller) (slot_filled_by ds v).agenda
+pub own_next : (v : View) (x : ℕ) (ds : List Duty) → v.actor.agenda ≡ ds → OwnsFirst x ds
+    → IsNext (BirthLocal x AsCaller) (slot_filled_by ds v).actor.agenda
 own_next v x (BirthSlot y h ∷ []) is same = ap (λ (z : ℕ). BirthLocal z AsCaller) same
 own_next v x (BirthLocal y h ∷ []) is same =
     subst (IsNext (BirthLocal x AsCaller)) (sym is) (ap (λ (z : ℕ). BirthLocal z AsCaller) same)
 own_next v x _ is same = absurd same
 
 -- What is due in the slot.
-pub own_due : (v : View) (x word : ℕ) (ds : List Duty) → v.agenda ≡ ds → OwnsFirst x ds → 0 < word
+pub own_due : (v : View) (x word : ℕ) (ds : List Duty) → v.actor.agenda ≡ ds → OwnsFirst x ds → 0 < word
     → knows_kind x word v ≡ true
-    → IsDue (slot_filled_by ds v) (slot_filled_by ds v).agenda (resources_of word)
+    → IsDue (slot_filled_by ds v) (slot_filled_by ds v).actor.agenda (resources_of word)
 own_due v x word (BirthSlot y h ∷ []) is same some seen =
     (word, some, subst (λ (z : ℕ). knows_kind z word v ≡ true) (sym same) seen, refl)
 own_due v x word (BirthLocal y h ∷ []) is same some seen =
@@ -123,7 +123,7 @@ own_due v x word (BirthLocal y h ∷ []) is same some seen =
     (word, some, subst (λ (z : ℕ). knows_kind z word v ≡ true) (sym same) seen, refl)
 own_due v x word _ is same some seen = absurd same
 
-pub owns_first_there : (v : View) (x : ℕ) (ds : List Duty) → RowsAreThere v → v.agenda ≡ ds → OwnsFirst x ds
+pub owns_first_there : (v : View) (x : ℕ) (ds : List Duty) → RowsAreThere v → v.actor.agenda ≡ ds → OwnsFirst x ds
     → x < row_count v.layout
 owns_first_there v x (BirthSlot y h ∷ []) rows is same = next_there v x (BirthSlot y h) rows is (eq-eqb y x same)
 owns_first_there v x (BirthLocal y h ∷ []) rows is same = next_there v x (BirthLocal y h) rows is (eq-eqb y x same)

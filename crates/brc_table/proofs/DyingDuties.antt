@@ -8,7 +8,7 @@ use Rattle.brc_model.specs.declared.layout.Layout.{Layout}
 use Rattle.brc_model.specs.Layout.{row_count}
 use Rattle.brc_model.specs.CountingLaws.{SettlesBegin}
 use Rattle.brc_table.specs.declared.view.View.{View}
-use Rattle.brc_table.specs.Views.{slot_emptied_by, actor_of, settle_first, settling, RowsAreThere}
+use Rattle.brc_table.specs.Views.{slot_emptied_by, settle_first, settling, RowsAreThere, with_next}
 use Rattle.brc_table.specs.Hands.{MayWait}
 use Rattle.brc_table.specs.Accesses.{IsNext}
 use Rattle.brc_table.specs.Begins.{Becomes}
@@ -20,26 +20,26 @@ use Rattle.brc_table.proofs.Duties.{runs_on, first_there}
 
 -- ---- the beginning
 
-settling_from : SettlesBegin → (layout : Layout) (v : View) (ds : List Duty) → v.agenda ≡ ds → SettlesFrom v ds
-    → 0 < v.head → Becomes layout v (record v { agenda = settle_first ds })
+settling_from : SettlesBegin → (layout : Layout) (v : View) (ds : List Duty) → v.actor.agenda ≡ ds → SettlesFrom v ds
+    → 0 < v.actor.head → Becomes layout v (with_next v (settle_first ds))
 settling_from law layout v [] is may some =
     record {
       passes = λ words views id stands here.
-          rearranged layout words views id v stands here (Settle ∷ []) v.aside
-          (law stands.accounts (1 + stands.machine.layout.workers) stands.machine v.thread (actor_of v) stands.counts
+          rearranged layout words views id v stands here (Settle ∷ []) v.actor.aside
+          (law stands.accounts (1 + stands.machine.layout.workers) stands.machine v.thread v.actor stands.counts
           (record { found = stands.acts id v here; running = may.0; agenda = is }) may.1 some);
       slots =
-          waiting_keeps v (record v { agenda = Settle ∷ [] }) (subst MayWait (sym is) tt)
+          waiting_keeps v (with_next v (Settle ∷ [])) (subst MayWait (sym is) tt)
           (refl, (λ y locks. refl), refl);
     }
 settling_from law layout v (Settle ∷ rest) is may some =
-    becomes_same layout v (record v { agenda = Settle ∷ rest }) (ap (λ (ds : List Duty). record v { agenda = ds }) is)
+    becomes_same layout v (with_next v (Settle ∷ rest)) (ap (with_next v) is)
 settling_from law layout v _ is may some = absurd may
 
 -- A hand that may settle its chain begins to, or goes on.
-pub settling_becomes : SettlesBegin → (layout : Layout) (v : View) → SettlesFrom v v.agenda → 0 < v.head
+pub settling_becomes : SettlesBegin → (layout : Layout) (v : View) → SettlesFrom v v.actor.agenda → 0 < v.actor.head
     → Becomes layout v (settling v)
-settling_becomes law layout v may some = settling_from law layout v v.agenda refl may some
+settling_becomes law layout v may some = settling_from law layout v v.actor.agenda refl may some
 
 -- To settle comes next, of a thread that isn't gone.
 pub settles_next : (v : View) (ds : List Duty) → SettlesFrom v ds → IsNext Settle (settle_first ds)
@@ -47,14 +47,14 @@ settles_next v [] may = refl
 settles_next v (Settle ∷ rest) may = refl
 settles_next v _ may = absurd may
 
-pub settles_alive : (v : View) (ds : List Duty) → SettlesFrom v ds → v.status ≢ Gone
+pub settles_alive : (v : View) (ds : List Duty) → SettlesFrom v ds → v.actor.status ≢ Gone
 settles_alive v [] may = runs_on v may.0
 settles_alive v (Settle ∷ rest) may = may
 settles_alive v _ may = absurd may
 
 -- ---- the rows of these duties
 
-pub gate_close_there : (v : View) (x : ℕ) (ds : List Duty) → RowsAreThere v → v.agenda ≡ ds → ClosesRow x ds
+pub gate_close_there : (v : View) (x : ℕ) (ds : List Duty) → RowsAreThere v → v.actor.agenda ≡ ds → ClosesRow x ds
     → x < row_count v.layout
 gate_close_there v x (TakeSlot y ∷ rest) rows is same = first_there v x (TakeSlot y) rest rows is (eq-eqb y x same)
 gate_close_there v x (SettleEnd y ∷ rest) rows is same = first_there v x (SettleEnd y) rest rows is (eq-eqb y x same)
@@ -62,15 +62,15 @@ gate_close_there v x _ rows is same = absurd same
 
 -- ---- what comes next
 
-pub gate_close_next : (v : View) (x : ℕ) (ds : List Duty) → v.agenda ≡ ds → ClosesRow x ds
-    → IsNext (SettleEnd x) (slot_emptied_by ds v).agenda
+pub gate_close_next : (v : View) (x : ℕ) (ds : List Duty) → v.actor.agenda ≡ ds → ClosesRow x ds
+    → IsNext (SettleEnd x) (slot_emptied_by ds v).actor.agenda
 gate_close_next v x (TakeSlot y ∷ rest) is same = ap SettleEnd same
 gate_close_next v x (SettleEnd y ∷ rest) is same = subst (IsNext (SettleEnd x)) (sym is) (ap SettleEnd same)
 gate_close_next v x _ is same = absurd same
 
 -- Nothing is due in the slot of an object that is closed.
-pub close_due : (v : View) (x : ℕ) (ds : List Duty) → v.agenda ≡ ds → ClosesRow x ds
-    → IsDue (slot_emptied_by ds v) (slot_emptied_by ds v).agenda 0
+pub close_due : (v : View) (x : ℕ) (ds : List Duty) → v.actor.agenda ≡ ds → ClosesRow x ds
+    → IsDue (slot_emptied_by ds v) (slot_emptied_by ds v).actor.agenda 0
 close_due v x (TakeSlot y ∷ rest) is same = refl
 close_due v x (SettleEnd y ∷ rest) is same = subst (λ (ds : List Duty). IsDue v ds 0) (sym is) refl
 close_due v x _ is same = absurd same

@@ -27,7 +27,6 @@ use Rattle.brc_model.specs.SlotLaws as slot_laws
 use Rattle.brc_model.specs.SlotLaws.{UsesSlot, needs_slot}
 use Rattle.brc_model.specs.Ending as model
 use Rattle.brc_table.specs.declared.view.View.{View}
-use Rattle.brc_table.specs.Views.{actor_of}
 use Rattle.brc_table.specs.Rule.{thread_reading, Stands}
 use Rattle.brc_table.specs.Threads.{thread_word}
 use Rattle.brc_table.specs.Homes.{resources, times_taken, IsHome, TableStands}
@@ -158,7 +157,7 @@ all_home : GoneThreadsHoldNothing → (v : View) (end : EndState) (ends : EndsWi
 all_home law v end ends x ended other w there = elim (cases_lt 0 (times_taken x w)) [
   | inl some_times ↦
       let s = ends.stands in
-      absurd (unused_at_end law s.accounts (1 + s.machine.layout.workers) s.machine w.thread (actor_of w) x s.counts
+      absurd (unused_at_end law s.accounts (1 + s.machine.layout.workers) s.machine w.thread w.actor x s.counts
       (machine_ended end.layout end.words ends.views s ended) (s.acts other w there)
       (ends.used other x w there (omega (arith, some_times))))
   | inr not ↦ omega (arith, not)

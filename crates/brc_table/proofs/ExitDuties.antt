@@ -10,7 +10,7 @@ use Rattle.brc_model.specs.Layout.{front_rows, worker_rows, block_of, block_size
 use Rattle.brc_model.specs.Accounts.{HoldsNone}
 use Rattle.brc_model.specs.CountingLaws.{DutiesAreKept, ReleasesBegin, ClaimsBegin, ExitsBegin}
 use Rattle.brc_table.specs.declared.view.View.{View}
-use Rattle.brc_table.specs.Views.{actor_of, RowsAreThere, claiming, leaving}
+use Rattle.brc_table.specs.Views.{RowsAreThere, claiming, leaving}
 use Rattle.brc_table.specs.Begins.{Passes, Becomes}
 use Rattle.brc_table.specs.Hands.{MayWait}
 use Rattle.brc_model.specs.Machine.{Machine}
@@ -29,8 +29,8 @@ pub claiming_becomes : ClaimsBegin → (layout : Layout) (v : View) (x : ℕ) �
 claiming_becomes law layout v x free own there = record {
   passes = λ words views id stands here.
       let told = stands.told id v here in
-      rearranged layout words views id v stands here (ClaimMark x ∷ []) v.aside
-      (law stands.accounts (1 + stands.machine.layout.workers) stands.machine v.thread (actor_of v) x stands.counts
+      rearranged layout words views id v stands here (ClaimMark x ∷ []) v.actor.aside
+      (law stands.accounts (1 + stands.machine.layout.workers) stands.machine v.thread v.actor x stands.counts
       (record { found = stands.acts id v here; running = free.running; agenda = free.agenda }) free.aside
       (subst (λ (l : Layout). block_of l x ≡ v.thread) told own)
       (subst (λ (l : Layout). x < row_count l) told there));
@@ -57,12 +57,12 @@ module _ (kept : DutiesAreKept) (release : ReleasesBegin) (layout : Layout) (wor
       ]
 
   leaves_from : ExitsBegin → HasJust kept release layout words id v may.free before views 0
-      → Passes layout words (set views id (leaving v)) v.taken v.locked before
+      → Passes layout words (set views id (leaving v)) v.taken v.actor.locked before
   leaves_from law has =
       let s = has.stands in
       passes_on before s.machine (λ x which. has.slots x)
-      (rearranged layout words views id v s here (Leave 0 v.used ∷ []) v.aside
-      (law s.accounts (1 + s.machine.layout.workers) s.machine v.thread (actor_of v) s.counts
+      (rearranged layout words views id v s here (Leave 0 v.actor.used ∷ []) v.actor.aside
+      (law s.accounts (1 + s.machine.layout.workers) s.machine v.thread v.actor s.counts
       (record { found = s.acts id v here; running = may.free.running; agenda = may.free.agenda }) may.free.aside
       may.settled (holds_none has)))
 
@@ -91,6 +91,6 @@ low_row layout (suc t) i there none low =
     omega (arith, more, low)
 
 -- A used row of a hand's block is there.
-pub own_row_there : (v : View) (i : ℕ) → RowsAreThere v → v.layout.immortal_lists ≡ 0 → i < v.used
+pub own_row_there : (v : View) (i : ℕ) → RowsAreThere v → v.layout.immortal_lists ≡ 0 → i < v.actor.used
     → row_at v.layout v.thread i < row_count v.layout
 own_row_there v i rows none low = low_row v.layout v.thread i rows.thread none (omega (arith, low, rows.used))

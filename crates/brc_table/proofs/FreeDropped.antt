@@ -1,5 +1,5 @@
 -- A hand that has nothing to do gives up its references to immortal objects: no count has them, and no word changes.
-use Rattle.std.proofs.Common.{◌≡◌, ℕ, zero, suc, ◌+◌, Bool, true, cond, None, List, [], ◌∷◌, ◌++◌, set, inl, inr, refl, sym, ap, ◌∙◌, subst, arith}
+use Rattle.std.proofs.Common.{◌≡◌, ℕ, zero, suc, ◌+◌, Bool, true, cond, List, [], ◌∷◌, ◌++◌, set, inl, inr, refl, sym, ap, ◌∙◌, subst, arith}
 use Rattle.std.specs.Prelude.{◌==◌, ◌||◌, ◌&&◌, count_by, nat_le, nat_lt}
 use Rattle.std.proofs.lemmas.Bool.{cases_Bool, eqb-true, leb-true, ltb-true, false≢true}
 use Rattle.std.proofs.lemmas.Bool.Decides.{eqb_tells}
@@ -25,7 +25,6 @@ use Rattle.brc_model.specs.OpenWork.{is_about, about_of}
 use Rattle.brc_model.specs.Counting.{Counts, IsPlainLayout, with_account, with_one_less, working, HasNoneAbout}
 use Rattle.brc_model.specs.CountingLaws.{DutiesAreKept, ReleasesBegin}
 use Rattle.brc_table.specs.declared.view.View.{View}
-use Rattle.brc_table.specs.Views.{actor_of}
 use Rattle.brc_table.specs.Rule.{Stands}
 use Rattle.brc_table.specs.Calls.{IsFree}
 use Rattle.brc_table.proofs.Lists.{and_first, and_second, slice_get-set_same}
@@ -80,10 +79,10 @@ module _ (kept : DutiesAreKept) (law : ReleasesBegin) (layout : Layout) (words :
     t = v.thread
 
     abbrev a : Actor
-    a = actor_of v
+    a = v.actor
 
     abbrev busy : Actor
-    busy = working a (ReleaseLoad none_row AsCaller ∷ []) v.aside
+    busy = working a (ReleaseLoad none_row AsCaller ∷ []) v.actor.aside
 
     abbrev less : Account
     less = with_one_less (s.accounts t) AsCaller none_row
@@ -117,11 +116,11 @@ module _ (kept : DutiesAreKept) (law : ReleasesBegin) (layout : Layout) (words :
     -- what is left to do after the local word was loaded
     abbrev left_to_do : ℕ → List Duty
     left_to_do word =
-        ready v.head
-        (continuation m.layout t (is_running v.status) v.head (ReleaseLoad none_row AsCaller) word ++ [])
+        ready v.actor.head
+        (continuation m.layout t (is_running v.actor.status) v.actor.head (ReleaseLoad none_row AsCaller) word ++ [])
 
     -- Nothing is left to do.
-    rests : left_to_do (m.memory (Local none_row)) ≡ v.agenda
+    rests : left_to_do (m.memory (Local none_row)) ≡ v.actor.agenda
     rests =
         let immortal : m.memory (Local none_row) ≡ local_word 0 immortal_local =
         s.counts.kept.core.immortal_words none_row refl in
@@ -134,7 +133,7 @@ module _ (kept : DutiesAreKept) (law : ReleasesBegin) (layout : Layout) (words :
     still : (x : ℕ) → dropped.life x ≡ m.life x
     still x =
         ap (λ (word : ℕ). life_by m.life t (ReleaseLoad none_row AsCaller)
-        (continuation m.layout t (is_running v.status) v.head (ReleaseLoad none_row AsCaller) word) x)
+        (continuation m.layout t (is_running v.actor.status) v.actor.head (ReleaseLoad none_row AsCaller) word) x)
         (s.counts.kept.core.immortal_words none_row refl)
 
     -- The machine after the release of none is one in which the hand is as before.
@@ -149,19 +148,12 @@ module _ (kept : DutiesAreKept) (law : ReleasesBegin) (layout : Layout) (words :
       actors =
           set-set m.actors t busy
           (actor_by m.layout t busy (ReleaseLoad none_row AsCaller) [] (m.memory (Local none_row)))
-          ∙ ap (λ (ds : List Duty). set m.actors t (record {
-            status = v.status;
-            agenda = ds;
-            aside = v.aside;
-            head = v.head;
-            used = v.used;
-            locked = v.locked;
-            lent = None;
-          })) rests;
+          ∙ ap (λ (ds : List Duty). set m.actors t (working a ds a.aside)) rests;
       thread_same = refl;
       told_same = refl;
       given_more = λ u is. is;
       gone_stays = λ gone. (gone, refl);
+      lends_none = s.lends_none id v here;
       joined_here = s.joined id v here;
       holding = λ x counted.
           ap (λ (account : Account). account AsCaller x) (with_account_same s.accounts t less)

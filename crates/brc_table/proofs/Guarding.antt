@@ -33,7 +33,7 @@ use Rattle.brc_model.proofs.Basics.Lists.{some_is}
 use Rattle.brc_model.proofs.Basics.Written.{written_here}
 use Rattle.brc_table.specs.declared.view.View.{View}
 use Rattle.brc_table.specs.Places.{place, HasWord}
-use Rattle.brc_table.specs.Views.{actor_of, holds}
+use Rattle.brc_table.specs.Views.{holds}
 use Rattle.brc_table.specs.Homes.{times_in, times_taken, IsHome}
 use Rattle.brc_table.specs.Rule.{thread_reading, reading, Stands}
 use Rattle.brc_table.specs.Threads.{thread_word}
@@ -85,7 +85,7 @@ module _ (layout : Layout) (words : List ℕ) (views : List View) (s : Stands la
   watched_so x (machine.ByLook t a found looks) = elim (thread_is layout words views s t a found) [
     | inl hand ↦
         ByLook hand.0.id hand.0.view hand.0.here
-        (list_any-append (looks_at x) hand.0.view.agenda hand.0.view.aside
+        (list_any-append (looks_at x) hand.0.view.actor.agenda hand.0.view.actor.aside
         ∙ (ap (λ (b : Actor). list_any (looks_at x) b.agenda || list_any (looks_at x) b.aside) (sym hand.1) ∙ looks))
     | inr idle ↦
         absurd (false≢true (ap (λ (b : Actor). list_any (looks_at x) b.agenda || list_any (looks_at x) b.aside) (sym
@@ -107,7 +107,7 @@ module _ (layout : Layout) (words : List ℕ) (views : List View) (v : View) (d 
   abbrev now : Machine
   now = it.stands.machine
 
-  next : ComesNext now v.thread (actor_of v) d it.rest
+  next : ComesNext now v.thread v.actor d it.rest
   next = record { found = it.stands.acts it.id v it.here; agenda = it.agenda; alive = it.alive }
 
   has : HasWord now.layout a
@@ -115,16 +115,16 @@ module _ (layout : Layout) (words : List ℕ) (views : List View) (v : View) (d 
 
   -- The machine's word changes, too.
   changed : ((word : ℕ) → reading a word ≡ word)
-      → (machine_by_duty now v.thread (actor_of v) d it.rest).memory a ≢ now.memory a
+      → (machine_by_duty now v.thread v.actor d it.rest).memory a ≢ now.memory a
   changed plain same =
       let found : now.memory a ≡ slice_index words (place a) =
       it.stands.reads a has ∙ plain (slice_index words (place a)) in
-      let at : address_of now.layout v.thread v.head d ≡ a =
-      subst (λ (l : Layout). address_of l v.thread v.head d ≡ a) (sym it.stands.layout_is) it.at in
-      let after : (machine_by_duty now v.thread (actor_of v) d it.rest).memory a ≡ new_word v.thread v.head d (now.memory a) =
-      ap (λ (b : Address). written now.memory b (new_word v.thread v.head d (now.memory b)) a) at
-      ∙ written_here now.memory a (new_word v.thread v.head d (now.memory a)) in
-      it.other (ap (new_word v.thread v.head d) (sym found) ∙ (sym after ∙ (same ∙ found)))
+      let at : address_of now.layout v.thread v.actor.head d ≡ a =
+      subst (λ (l : Layout). address_of l v.thread v.actor.head d ≡ a) (sym it.stands.layout_is) it.at in
+      let after : (machine_by_duty now v.thread v.actor d it.rest).memory a ≡ new_word v.thread v.actor.head d (now.memory a) =
+      ap (λ (b : Address). written now.memory b (new_word v.thread v.actor.head d (now.memory b)) a) at
+      ∙ written_here now.memory a (new_word v.thread v.actor.head d (now.memory a)) in
+      it.other (ap (new_word v.thread v.actor.head d) (sym found) ∙ (sym after ∙ (same ∙ found)))
 
 -- ---- the laws
 
@@ -139,11 +139,11 @@ marks_are_watched law layout words views x s there set =
 pub holders_change : guard.CellsAreGuarded → OnlyHoldersChangeCells
 holders_change law layout words views v d x i it =
     let s = it.stands in
-    elim (law s.accounts (1 + s.machine.layout.workers) s.machine v.thread (actor_of v) d it.rest x i s.counts
+    elim (law s.accounts (1 + s.machine.layout.workers) s.machine v.thread v.actor d it.rest x i s.counts
     (next layout words views v d (Cell x i) it) (changed layout words views v d (Cell x i) it (λ word. refl))) [
       | inl holds ↦
           let there = has layout words views v d (Cell x i) it in
-          let mine : holds.actor ≡ actor_of v = some_is holds.actor (actor_of v) (sym holds.found
+          let mine : holds.actor ≡ v.actor = some_is holds.actor v.actor (sym holds.found
           ∙ s.acts it.id v it.here) in
           inl (
             ap (λ (b : Actor). b.locked) (sym mine) ∙ holds.locked,
@@ -157,8 +157,8 @@ pub holders_swap : AccountsAreThere → OnlyHoldersSwapCells
 holders_swap law layout words views id v x i word s here may = elim may.changes [
   | inl locked ↦
       let found = s.acts id v here in
-      let fits = (s.counts.kept.core.each v.thread (actor_of v) found).0.locks x locked in
-      let there = law s.accounts (1 + s.machine.layout.workers) s.machine v.thread (actor_of v) fits.by x s.counts found
+      let fits = (s.counts.kept.core.each v.thread v.actor found).0.locks x locked in
+      let there = law s.accounts (1 + s.machine.layout.workers) s.machine v.thread v.actor fits.by x s.counts found
       (omega (arith, fits.held_so)) in
       inl (locked, sym (s.reads (Gate x) there) ∙ fits.gate)
   | inr first ↦ inr first
@@ -174,7 +174,7 @@ owners_count law layout words views v d x it says =
     says_running layout words views s (block_of s.machine.layout x)
     (block_low layout words views s x) says' in
     subst (λ (l : Layout). v.thread ≡ block_of l x) same
-    (law s.accounts (1 + s.machine.layout.workers) s.machine v.thread (actor_of v) d it.rest x s.counts
+    (law s.accounts (1 + s.machine.layout.workers) s.machine v.thread v.actor d it.rest x s.counts
     (next layout words views v d (Local x) it) runs (changed layout words views v d (Local x) it (λ word. refl)))
 
 -- A thread with nothing to do and no lock uses no slot.
@@ -193,7 +193,7 @@ none_listed (x ∷ rows) none =
 pub gone_hold : {T : Type 0} → guard.GoneThreadsHoldNothing → GoneHandsHoldNothing T
 gone_hold law layout words homes views id v table here gone =
     let s = table.stands in
-    let it = law s.accounts (1 + s.machine.layout.workers) s.machine v.thread (actor_of v) s.counts (s.acts id v here)
+    let it = law s.accounts (1 + s.machine.layout.workers) s.machine v.thread v.actor s.counts (s.acts id v here)
     gone in
     record {
       none = λ x counted.
@@ -203,7 +203,7 @@ gone_hold law layout words homes views id v table here gone =
       aside = it.aside;
       settled = it.settled;
       unlocked = it.unlocked;
-      none_taken = none_listed v.taken (λ x taken. uses_none (actor_of v) x it.agenda it.unlocked
+      none_taken = none_listed v.taken (λ x taken. uses_none v.actor x it.agenda it.unlocked
           (table.slots.used id x v here taken));
     }
 
@@ -220,10 +220,10 @@ pub gone_words : GoneWordsTell
 gone_words = record {
   told = λ layout words views id v s here gone.
       let found = s.acts id v here in
-      let low = slice_get_within s.machine.actors v.thread (actor_of v) found in
+      let low = slice_get_within s.machine.actors v.thread v.actor found in
       reading_three (thread_word words v.thread)
       (sym (s.reads (ThreadWord v.thread) (omega (arith, low, s.counts.kept.core.threads)))
-      ∙ ((s.counts.kept.core.each v.thread (actor_of v) found).0.word ∙ ap status_word gone));
+      ∙ ((s.counts.kept.core.each v.thread v.actor found).0.word ∙ ap status_word gone));
   gone = λ layout words views t s there says.
       let under : t < 1 + s.machine.layout.workers =
       omega (arith, there, ap (λ (l : Layout). l.workers) s.layout_is) in

@@ -16,7 +16,7 @@ use Rattle.brc_model.specs.Knowledge.{status_word}
 use Rattle.brc_model.specs.Layout.{row_count, block_of, block_size, index_of}
 use Rattle.brc_table.specs.declared.view.View.{View}
 use Rattle.brc_table.specs.declared.view.Joined.{Joined}
-use Rattle.brc_table.specs.Views.{actor_of, RowsAreThere, IsJoined}
+use Rattle.brc_table.specs.Views.{RowsAreThere, IsJoined}
 use Rattle.brc_table.specs.Begins.{Passes}
 use Rattle.brc_table.specs.Homes.{TableStands, held_in}
 use Rattle.brc_table.specs.Rule.{IsGone, Stands}
@@ -31,16 +31,17 @@ use Rattle.brc_table.proofs.ThreadsKept.{threads_same}
 -- ---- the step
 
 module _ (layout : Layout) (words : List ℕ) (views : List View) (id : ℕ) (v w : View) (s : Stands layout words views)
-    (here : get_elem? views id ≡ some v) (other : ℕ) (there : get_elem? views other ≡ some w) (gone : w.status ≡ Gone)
+    (here : get_elem? views id ≡ some v) (other : ℕ) (there : get_elem? views other ≡ some w) (gone : w.actor.status
+    ≡ Gone)
   where
     abbrev hand : Joined
-    hand = record { thread = w.thread; used = w.used }
+    hand = record { thread = w.thread; used = w.actor.used }
 
     joined_all : All (IsGone s.machine.actors) (hand ∷ v.joined)
-    joined_all zero d low = record { actor = actor_of w; found = s.acts other w there; gone = gone; used = refl }
+    joined_all zero d low = record { actor = w.actor; found = s.acts other w there; gone = gone; used = refl }
     joined_all (suc k) d low = s.joined id v here k d (omega (arith, low))
 
-    pub passes_joined : Passes layout words (set views id (joining v w)) v.taken v.locked s.machine
+    pub passes_joined : Passes layout words (set views id (joining v w)) v.taken v.actor.locked s.machine
     passes_joined =
         passes layout words views id v (joining v w) s here words (record {
           accounts = s.accounts;
@@ -49,11 +50,12 @@ module _ (layout : Layout) (words : List ℕ) (views : List View) (id : ℕ) (v 
           layout_same = refl;
           length_is = refl;
           reads = s.reads;
-          actors = sym (set_itself s.machine.actors v.thread (actor_of v) (s.acts id v here));
+          actors = sym (set_itself s.machine.actors v.thread v.actor (s.acts id v here));
           thread_same = refl;
           told_same = refl;
           given_more = λ k is. is;
           gone_stays = λ is. (is, refl);
+          lends_none = s.lends_none id v here;
           joined_here = joined_all;
           holding = λ x counted. s.holding id v x here counted;
           others = λ k apart. refl;
@@ -63,10 +65,10 @@ module _ (layout : Layout) (words : List ℕ) (views : List View) (id : ℕ) (v 
           kinds_here = λ x word more seen. s.kinds_seen id x word v here more seen;
           cells_here = λ x i word guards seen. s.cells_seen id x i word v here guards seen;
           threads = λ k there_k. threads_same layout words views k v (joining v w) s there_k refl refl refl;
-        }) v.taken v.locked (λ x which. refl)
+        }) v.taken v.actor.locked (λ x which. refl)
 
 -- What a table asks of a seat that takes in another one, whose view stays as it is.
-pub joins : {T : Type 0} (layout : Layout) (id other : ℕ) (v w spent : View) → w.status ≡ Gone → w ≡ spent
+pub joins : {T : Type 0} (layout : Layout) (id other : ℕ) (v w spent : View) → w.actor.status ≡ Gone → w ≡ spent
     → Joins (λ (s : State (Option T) View). TableStands layout s.words s.homes s.views) id v other w (joining v w) spent
 joins layout id other v w spent gone same = λ s holds here apart there.
     let found : get_elem? s.views other ≡ some w = sym (set_else s.views id other (joining v w) apart) ∙ there in

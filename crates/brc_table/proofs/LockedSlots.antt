@@ -1,5 +1,5 @@
 -- A hand that has locked an object knows from the object's kind what the slot holds.
-use Rattle.std.proofs.Common.{◌≡◌, ℕ, ◌+◌, ◌<◌, true, Option, Some, List, [], ◌∷◌, refl, sym, ap, ◌∙◌}
+use Rattle.std.proofs.Common.{◌≡◌, ℕ, ◌+◌, ◌<◌, true, Option, Some, List, [], ◌∷◌, sym, ap, ◌∙◌}
 use Rattle.std.specs.Prelude.{◌||◌}
 use Rattle.std.specs.List.{list_any}
 use Rattle.std.proofs.lemmas.List.Folds.{list_any-append}
@@ -12,7 +12,7 @@ use Rattle.brc_model.specs.declared.layout.Layout.{Layout}
 use Rattle.brc_model.specs.Duties.{resources_of}
 use Rattle.brc_model.specs.SlotLaws.{LockedSlotsAreFull}
 use Rattle.brc_table.specs.declared.view.View.{View}
-use Rattle.brc_table.specs.Views.{actor_of, event_of, view_by}
+use Rattle.brc_table.specs.Views.{event_of, view_by}
 use Rattle.brc_table.specs.KnownWords.{shows_kind, knows_kind}
 use Rattle.brc_table.specs.Homes.{TableStands}
 
@@ -26,14 +26,14 @@ still_seen x word v d rest found seen =
 
 module _ (full : LockedSlotsAreFull) {T : Type 0} (layout : Layout) (words : List ℕ)
     (homes : List (home.Option (Option T))) (views : List View) (holds : TableStands layout words homes views)
-    (id x : ℕ) (v : View) (here : get_elem? views id ≡ some v) (locked : v.locked ≡ Some x) where
+    (id x : ℕ) (v : View) (here : get_elem? views id ≡ some v) (locked : v.actor.locked ≡ Some x) where
   -- The slot holds as many resources as the machine's kind word says.
   pub slot_full : v.in_slot ≡ resources_of (holds.stands.machine.memory (KindOf x))
   slot_full =
       let s = holds.stands in
       sym ((holds.slots.locked id x v here locked).1)
-      ∙ full s.accounts (1 + s.machine.layout.workers) s.machine v.thread (actor_of v) x s.counts (s.acts id v here)
-      locked refl
+      ∙ full s.accounts (1 + s.machine.layout.workers) s.machine v.thread v.actor x s.counts (s.acts id v here)
+      locked (s.lends_none id v here)
 
   -- So it does by the kind word that the hand has seen.
   pub slot_seen : (word : ℕ) → 0 < word → knows_kind x word v ≡ true → v.in_slot ≡ resources_of word

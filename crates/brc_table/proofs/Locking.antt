@@ -8,16 +8,16 @@ use Rattle.brc_model.specs.Limits.{cell_limit}
 use Rattle.brc_model.specs.Duties.{cells_of}
 use Rattle.brc_model.specs.CountingLaws.{WorkIsPutAside, LocksBegin, UnlocksBegin, CellLoadsBegin, ImmortalsAreFree}
 use Rattle.brc_table.specs.declared.view.View.{View}
-use Rattle.brc_table.specs.Views.{RowsAreThere, actor_of, open_work, locking, unlocking, loading_cell}
+use Rattle.brc_table.specs.Views.{RowsAreThere, open_work, locking, unlocking, loading_cell, rested}
 use Rattle.brc_table.specs.KnownWords.{KnowsCell}
 use Rattle.brc_table.specs.Hands.{HoldsOne, MayLoad, HasNoWork, HasNoRetain, IsRunning}
 use Rattle.brc_table.specs.Begins.{Becomes}
-use Rattle.brc_table.proofs.AtHand.{rested, is_ready, alone, has_one, with_one}
+use Rattle.brc_table.proofs.AtHand.{is_ready, alone, has_one, with_one}
 use Rattle.brc_table.proofs.Becoming.{then_begins, rearranged, rearranged_with}
 
 -- A hand begins to lock an object that it holds.
 pub locking_becomes : WorkIsPutAside → LocksBegin → ImmortalsAreFree → (layout : Layout) (v : View) (x n : ℕ)
-    → IsRunning v → IsCounted v.layout x → HasNoWork v x → HoldsOne v x → v.locked ≡ None
+    → IsRunning v → IsCounted v.layout x → HasNoWork v x → HoldsOne v x → v.actor.locked ≡ None
     → Becomes layout v (locking v x n)
 locking_becomes put law free layout v x n running counted none holding unlocked =
     then_begins put layout v (locking v x n) running.1 (
@@ -32,13 +32,13 @@ locking_becomes put law free layout v x n running counted none holding unlocked 
     let s = one.stands in
     with_one one
     (rearranged_with layout words views id (rested v) s here (LockGate x ∷ []) (open_work v) n
-    (law s.accounts (1 + s.machine.layout.workers) s.machine v.thread (actor_of (rested v)) x s.counts
+    (law s.accounts (1 + s.machine.layout.workers) s.machine v.thread (rested v).actor x s.counts
     (is_ready layout words views id v s here running.0) (alone v x none)
     (subst (λ (l : Layout). IsCounted l x) (s.told id (rested v) here) counted) one.more unlocked)))
 
 -- A hand begins to unlock the object that it has locked.
 pub unlocking_becomes : WorkIsPutAside → UnlocksBegin → ImmortalsAreFree → (layout : Layout) (v : View) (x : ℕ)
-    → IsRunning v → HasNoWork v x → HoldsOne v x → v.locked ≡ Some x → HasNoRetain v
+    → IsRunning v → HasNoWork v x → HoldsOne v x → v.actor.locked ≡ Some x → HasNoRetain v
     → Becomes layout v (unlocking v x)
 unlocking_becomes put law free layout v x running none holding locked retains =
     then_begins put layout v (unlocking v x) running.1 (refl, (λ y locks. refl), refl)
@@ -49,8 +49,9 @@ unlocking_becomes put law free layout v x running none holding locked retains =
     let s = one.stands in
     with_one one
     (rearranged layout words views id (rested v) s here (UnlockGate x ∷ []) (open_work v)
-    (law s.accounts (1 + s.machine.layout.workers) s.machine v.thread (actor_of (rested v)) x s.counts
-    (is_ready layout words views id v s here running.0) (alone v x none) one.more locked retains refl)))
+    (law s.accounts (1 + s.machine.layout.workers) s.machine v.thread (rested v).actor x s.counts
+    (is_ready layout words views id v s here running.0) (alone v x none) one.more locked retains
+    (s.lends_none id (rested v) here))))
 
 -- The kind word of an object with a cell is above 0.
 pub kind_some : (word i : ℕ) → i < cells_of word → 0 < word
@@ -76,7 +77,7 @@ loading_becomes put law free layout v x i running none (inl (locked, holding)) k
     let kind = s.kinds_seen id x knows.word (rested v) here more knows.seen in
     with_one one
     (rearranged layout words views id (rested v) s here (CellLoad x i ∷ []) (open_work v)
-    (law s.accounts (1 + s.machine.layout.workers) s.machine v.thread (actor_of (rested v)) x i s.counts
+    (law s.accounts (1 + s.machine.layout.workers) s.machine v.thread (rested v).actor x i s.counts
     (is_ready layout words views id v s here running.0) (alone v x none) (inl (one.more, locked))
     (subst (λ (w : ℕ). i < cells_of w) (sym kind) knows.low))))
 loading_becomes put law free layout v x i running none (inr first) knows =
@@ -85,7 +86,7 @@ loading_becomes put law free layout v x i running none (inr first) knows =
     let more : 0 < knows.word = kind_some knows.word i knows.low in
     let kind = s.kinds_seen id x knows.word (rested v) here more knows.seen in
     rearranged layout words views id (rested v) s here (CellLoad x i ∷ []) (open_work v)
-    (law s.accounts (1 + s.machine.layout.workers) s.machine v.thread (actor_of (rested v)) x i s.counts
+    (law s.accounts (1 + s.machine.layout.workers) s.machine v.thread (rested v).actor x i s.counts
     (is_ready layout words views id v s here running.0) (alone v x none) (inr (omega (arith, first)))
     (subst (λ (w : ℕ). i < cells_of w) (sym kind) knows.low)))
 

@@ -61,8 +61,8 @@ worker_rows layout thread some known = record {
 -- and it carries nothing.
 abbrev pub NewFits : {T A : Type 0} → ℕ → ℕ → List (Option A) → List (Option ℕ) → Me (Option T) View → Type 0
 NewFits thread used spares counts me =
-    (rows_of me.1 ≡ me.0.taken) × (thread ≡ me.0.thread) × (true ≡ is_running me.0.status) × (0 ≡ me.0.head)
-    × (used ≡ me.0.used)
+    (rows_of me.1 ≡ me.0.taken) × (thread ≡ me.0.thread) × (true ≡ is_running me.0.actor.status) × (0 ≡ me.0.actor.head)
+    × (used ≡ me.0.actor.used)
     × RowsAreThere me.0 × HasSpares spares me.0 × IsGivenBy spares me.0 × (length counts ≡ row_limit)
 
 pub main_fits : {T A : Type 0} (layout : Layout) (spares : List (Option A)) (counts : List (Option ℕ))

@@ -69,8 +69,9 @@ table_word_of layout t head _ has = tt
 
 -- Their word is there, if their row is.
 pub word_there : (v : View) (d : Duty) → IsPlainLayout v.layout → RowsAreThere v → HasAccess d → HasCell d
-    → HasChain d v.head → HasUsedRow d v.used → (is_about (row_of d) d ≡ true → row_of d < row_count v.layout)
-    → HasWord v.layout (address_of v.layout v.thread v.head d)
+    → HasChain d v.actor.head → HasUsedRow d v.actor.used
+    → (is_about (row_of d) d ≡ true → row_of d < row_count v.layout)
+    → HasWord v.layout (address_of v.layout v.thread v.actor.head d)
 word_there v (Look x) plain rows has cell chain used row =
     let low = block_there v.layout x plain in omega (arith, low)
 word_there v (Leave i n) plain rows has cell chain used row = omega (arith, rows.thread)
@@ -118,9 +119,9 @@ coming d [] next = absurd next
 coming d (e ∷ rest) next =
     record { first = e; rest = rest; is = refl; like = alike e d next; back = alike d e (sym next) }
 
-module _ (u : View) (d : Duty) (next : IsNext d u.agenda) (has : HasAccess d) where
-  abbrev c : Coming d u.agenda
-  c = coming d u.agenda next
+module _ (u : View) (d : Duty) (next : IsNext d u.actor.agenda) (has : HasAccess d) where
+  abbrev c : Coming d u.actor.agenda
+  c = coming d u.actor.agenda next
 
   -- The row that the duty names is there.
   pub next_there : RowsAreThere u → is_about (row_of d) d ≡ true → row_of d < row_count u.layout
@@ -137,28 +138,28 @@ module _ (u : View) (d : Duty) (next : IsNext d u.agenda) (has : HasAccess d) wh
 
   -- What its word says.
   pub said_next : (word : ℕ)
-      → said u u.agenda word ≡ reading (address_of u.layout u.thread u.head d) word
+      → said u u.actor.agenda word ≡ reading (address_of u.layout u.thread u.actor.head d) word
   said_next word =
       ap (λ (ds : List Duty). said u ds word) c.is
-      ∙ ap (λ (a : Address). reading a word) (c.like.address u.layout u.thread u.head)
+      ∙ ap (λ (a : Address). reading a word) (c.like.address u.layout u.thread u.actor.head)
 
   pub says_next : (a : Access)
-      → IfStored a (λ b. reading (address_of u.layout u.thread u.head d) b ≡ b)
-      → IfStored a (λ b. said u u.agenda b ≡ b)
+      → IfStored a (λ b. reading (address_of u.layout u.thread u.actor.head d) b ≡ b)
+      → IfStored a (λ b. said u u.actor.agenda b ≡ b)
   says_next (Store word b) says = said_next b ∙ says
   says_next _ says = tt
 
-  pub overwrites_next : (found : ℕ) → OverwritesFirst u.thread u.agenda found → Overwrites u.thread d found
+  pub overwrites_next : (found : ℕ) → OverwritesFirst u.thread u.actor.agenda found → Overwrites u.thread d found
   overwrites_next found first =
       c.like.overwrites u.thread found (subst (λ (ds : List Duty). OverwritesFirst u.thread ds found) c.is first)
 
   pub knows_next : (a : Access) → IfStored a (λ b. (found : ℕ) → Overwrites u.thread d found → found ≡ b)
-      → IfStored a (λ b. (found : ℕ) → OverwritesFirst u.thread u.agenda found → found ≡ b)
+      → IfStored a (λ b. (found : ℕ) → OverwritesFirst u.thread u.actor.agenda found → found ≡ b)
   knows_next (Store word b) knows = λ found first. knows found (overwrites_next found first)
   knows_next _ knows = tt
 
   pub slots_next : (slots : List (ℕ × ℕ)) (found : ℕ)
-      → held_after slots (first_use u.agenda found) (first_due u.agenda found)
+      → held_after slots (first_use u.actor.agenda found) (first_due u.actor.agenda found)
       ≡ held_after slots (use_of d 0) (first_due (d ∷ []) found)
   slots_next slots found =
       ap (λ (ds : List Duty). held_after slots (first_use ds found) (first_due ds found)) c.is
@@ -167,14 +168,14 @@ module _ (u : View) (d : Duty) (next : IsNext d u.agenda) (has : HasAccess d) wh
       ∙ ap (held_after slots (use_of d 0)) (c.like.due c.rest [] found))
 
   -- What the step leaves of the thread.
-  pub status_next : (found : ℕ) → (view_after u found).status ≡ status_by u.status d
-  status_next found = ap (λ (ds : List Duty). (view_by u ds found).status) c.is ∙ c.like.status u.status
+  pub status_next : (found : ℕ) → (view_after u found).actor.status ≡ status_by u.actor.status d
+  status_next found = ap (λ (ds : List Duty). (view_by u ds found).actor.status) c.is ∙ c.like.status u.actor.status
 
-  pub head_next : (found : ℕ) → (view_after u found).head ≡ new_head u.head d found
-  head_next found = ap (λ (ds : List Duty). (view_by u ds found).head) c.is ∙ c.like.head u.head found
+  pub head_next : (found : ℕ) → (view_after u found).actor.head ≡ new_head u.actor.head d found
+  head_next found = ap (λ (ds : List Duty). (view_by u ds found).actor.head) c.is ∙ c.like.head u.actor.head found
 
-  pub used_next : (found : ℕ) → (view_after u found).used ≡ used_by u.used d
-  used_next found = ap (λ (ds : List Duty). (view_by u ds found).used) c.is ∙ c.like.used u.used
+  pub used_next : (found : ℕ) → (view_after u found).actor.used ≡ used_by u.actor.used d
+  used_next found = ap (λ (ds : List Duty). (view_by u ds found).actor.used) c.is ∙ c.like.used u.actor.used
 
   pub thread_next : (found : ℕ) → (view_after u found).thread ≡ u.thread
   thread_next found = ap (λ (ds : List Duty). (view_by u ds found).thread) c.is

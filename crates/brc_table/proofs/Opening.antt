@@ -16,7 +16,7 @@ use Rattle.brc_model.specs.Machine.{idle_actor}
 use Rattle.brc_model.specs.Counting.{IsPlainLayout, hands_machine, hands_accounts}
 use Rattle.brc_model.specs.CountingLaws.{HandsBegin}
 use Rattle.brc_table.specs.declared.view.View.{View}
-use Rattle.brc_table.specs.Views.{actor_of, holds, is_given, main_view}
+use Rattle.brc_table.specs.Views.{holds, is_given, main_view}
 use Rattle.brc_table.specs.KnownWords.{knows_kind, known_cell, has_started, started_word, knows_gone}
 use Rattle.brc_table.specs.Rule.{IsGone, Stands}
 use Rattle.brc_table.specs.Homes.{times_taken, TableStands}
@@ -94,7 +94,8 @@ module _ (begin : HandsBegin) (layout : Layout) (plain : IsPlainLayout layout) (
     length_is = first.length_is;
     reads = words_read layout plain.few_workers words first;
     acts = λ id v is.
-        of_main (λ w. slice_get (hands_machine layout).actors w.thread ≡ Some (actor_of w)) id v is refl;
+        of_main (λ w. slice_get (hands_machine layout).actors w.thread ≡ Some w.actor) id v is refl;
+    lends_none = λ id v is. of_main (λ w. w.actor.lent ≡ None) id v is refl;
     told = λ id v is. of_main (λ w. w.layout ≡ layout) id v is refl;
     named = refl;
     rooted = refl;
@@ -143,7 +144,7 @@ module _ (begin : HandsBegin) (layout : Layout) (plain : IsPlainLayout layout) (
       used = λ id x v is taken.
           absurd (omega (arith, taken, of_main (λ w. times_taken x w ≡ 0) id v is refl));
       locked = λ id x v is locks.
-          absurd (let none = of_main (λ w. w.locked ≡ None) id v is refl in
+          absurd (let none = of_main (λ w. w.actor.locked ≡ None) id v is refl in
           let wrong : None ≡ Some x = sym none ∙ locks in cc);
     };
   }

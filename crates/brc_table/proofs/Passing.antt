@@ -35,7 +35,8 @@ becomes_then layout v w u first second = record {
       let one = first.passes words views id stands here in
       let two = second.passes words (set views id w) id one.stands (set_view views id v w here) in
       let both =
-      subst (λ (l : List View). Passes layout words l w.taken w.locked one.stands.machine) (set-set views id w u) two in
+      subst (λ (l : List View). Passes layout words l w.taken w.actor.locked one.stands.machine)
+      (set-set views id w u) two in
       record {
         stands = both.stands;
         slots = λ x which.
@@ -76,16 +77,17 @@ none_used x (d ∷ e ∷ ds) may = absurd may
 -- The hand has the slots and the lock that it had.
 abbrev pub SameSlots : View → View → Type 0
 SameSlots v u =
-    (u.taken ≡ v.taken) × ((x : ℕ) → v.locked ≡ Some x → u.in_slot ≡ v.in_slot) × (u.locked ≡ v.locked)
+    (u.taken ≡ v.taken) × ((x : ℕ) → v.actor.locked ≡ Some x → u.in_slot ≡ v.in_slot)
+    × (u.actor.locked ≡ v.actor.locked)
 
 -- so a hand whose next duty may wait uses the slot of no object but the one that it has locked.
-pub waiting_keeps : (v u : View) → MayWait v.agenda → SameSlots v u → KeepsSlots v u
+pub waiting_keeps : (v u : View) → MayWait v.actor.agenda → SameSlots v u → KeepsSlots v u
 waiting_keeps v u may same = record {
   taken = same.0;
   in_slot = same.1;
   locked = same.2;
   used = λ x uses. elim uses [
     | inl locks ↦ inl (same.2 ∙ locks)
-    | inr needs ↦ absurd (false≢true (sym (none_used x v.agenda may) ∙ needs))
+    | inr needs ↦ absurd (false≢true (sym (none_used x v.actor.agenda may) ∙ needs))
   ];
 }

@@ -20,7 +20,7 @@ use Rattle.brc_model.specs.CountingLaws.{AccountsAreThere, ChainsAreThere}
 use Rattle.brc_table.specs.declared.view.View.{View}
 use Rattle.brc_table.specs.declared.view.Event.{Event}
 use Rattle.brc_table.specs.Places.{place, HasWord}
-use Rattle.brc_table.specs.Views.{actor_of, is_given, RowsAreThere}
+use Rattle.brc_table.specs.Views.{is_given, RowsAreThere}
 use Rattle.brc_table.specs.KnownWords.{shows_kind, cell_known, starts, has_started, shows_gone}
 use Rattle.brc_table.specs.Threads.{thread_word}
 use Rattle.brc_table.specs.Homes.{TableStands}
@@ -111,11 +111,12 @@ module _ (accounts : AccountsAreThere) (chains : ChainsAreThere) (layout : Layou
           sym (unwritten m.memory (ThreadWord t) b (thread_reading found) (s.reads (ThreadWord t) has))
           ∙ written_reads m.layout words m.memory (ThreadWord t) found (thread_reading found) s.plain.few_workers
           s.length_is refl has s.reads b there_b;
-      actors = sym (set_itself m.actors v.thread (actor_of v) (s.acts id v here));
+      actors = sym (set_itself m.actors v.thread v.actor (s.acts id v here));
       thread_same = refl;
       told_same = refl;
       given_more = λ k is. is;
       gone_stays = λ gone. (gone, refl);
+      lends_none = s.lends_none id v here;
       joined_here = s.joined id v here;
       holding = λ x counted. s.holding id v x here counted;
       others = λ k apart. refl;
@@ -130,10 +131,12 @@ module _ (accounts : AccountsAreThere) (chains : ChainsAreThere) (layout : Layou
           threads_kept layout words (set words (place (ThreadWord t)) found) views k v after s there_k keeps_threads;
     }
 
-    pub passes_peeked : Passes layout (set words (place (ThreadWord t)) found) (set views id after) v.taken v.locked m
+    pub passes_peeked : Passes layout (set words (place (ThreadWord t)) found) (set views id after) v.taken
+        v.actor.locked m
     unfolding changes
     passes_peeked =
-        passes layout words views id v after s here (set words (place (ThreadWord t)) found) changes v.taken v.locked
+        passes layout words views id v after s here (set words (place (ThreadWord t)) found) changes v.taken
+        v.actor.locked
         (λ x which. refl)
 
     -- The word is that of a thread's status, or 0.
@@ -185,9 +188,10 @@ module _ (accounts : AccountsAreThere) (chains : ChainsAreThere) (layout : Layou
       let same : thread_word s.words t ≡ found = ap (slice_index s.words) (sym at) in
       let w = peeked v t found in
       let before = holds.stands.machine in
-      let moved : Passes layout (set s.words index found) (set s.views id w) v.taken v.locked before =
-      subst (λ (k : ℕ). Passes layout (set s.words k found) (set s.views id w) v.taken v.locked before) (sym at)
-      (subst (λ (k : ℕ). Passes layout (set s.words t k) (set s.views id (peeked v t k)) v.taken v.locked before) same
+      let moved : Passes layout (set s.words index found) (set s.views id w) v.taken v.actor.locked before =
+      subst (λ (k : ℕ). Passes layout (set s.words k found) (set s.views id w) v.taken v.actor.locked before) (sym at)
+      (subst (λ (k : ℕ). Passes layout (set s.words t k) (set s.views id (peeked v t k)) v.taken v.actor.locked
+      before) same
       (passes_peeked s.words s.views id holds.stands mine)) in
       let rows : RowsAreThere w =
       rows_there accounts chains layout (set s.words index found) (set s.views id w) id w moved.stands

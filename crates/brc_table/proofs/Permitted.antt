@@ -104,27 +104,27 @@ module _ (laws : ModelLaws) (words : TableState) (hand : HandState) (begins : Vi
   next_leaves : (d : Duty) → HasAccess d → (e : Duty) (rest : List Duty) (next : IsNextAt u e rest index) → IsLike e d
       → (f : ℕ → ℕ)
       → ((running : Bool) (n found : ℕ) → Suits u.thread running n d found
-      → f found ≡ new_word u.thread u.head d found)
+      → f found ≡ new_word u.thread u.actor.head d found)
       → allowed.Leaves laws layout me.0 u e rest index becoming next f
-  next_leaves d has e rest next like f leaves = elim (word_of u.layout u.thread u.head d has) [
+  next_leaves d has e rest next like f leaves = elim (word_of u.layout u.thread u.actor.head d has) [
     | inl object ↦
         let is_at : IsAt u e rest index = record {
           agenda = next.agenda;
           alive = next.alive;
-          object = subst IsObjectWord (sym (like.address u.layout u.thread u.head)) object;
+          object = subst IsObjectWord (sym (like.address u.layout u.thread u.actor.head)) object;
           index_is = next.index_is;
         } in
         allowed.object_leaves laws layout me.0 u e rest index becoming is_at f
         (λ found knows.
-        leaves (is_running u.status) (row_count u.layout) found
-        (like.suits u.thread (is_running u.status) (row_count u.layout) found knows.suits)
-        ∙ sym (like.word u.thread u.head found))
+        leaves (is_running u.actor.status) (row_count u.layout) found
+        (like.suits u.thread (is_running u.actor.status) (row_count u.layout) found knows.suits)
+        ∙ sym (like.word u.thread u.actor.head found))
     | inr (on, suits) ↦
-        let word = like.word u.thread u.head in
+        let word = like.word u.thread u.actor.head in
         thread_leaves laws layout me.0 u e rest index becoming next
         (record {
           thread = on.thread;
-          address = like.address u.layout u.thread u.head ∙ on.address;
+          address = like.address u.layout u.thread u.actor.head ∙ on.address;
           says = λ found. ap thread_reading (word found) ∙ (on.says found ∙ sym (word (thread_reading found)));
           kind = elim on.kind [
             | inl looks ↦ inl (λ found. word found ∙ looks found)
@@ -133,27 +133,28 @@ module _ (laws : ModelLaws) (words : TableState) (hand : HandState) (begins : Vi
         })
         f
         (λ found.
-        leaves (is_running u.status) (row_count u.layout) found
-        (suits (is_running u.status) (row_count u.layout) found)
+        leaves (is_running u.actor.status) (row_count u.layout) found
+        (suits (is_running u.actor.status) (row_count u.layout) found)
         ∙ sym (word found))
   ]
 
   -- So is that of a duty that comes next.
   pub next_permitted : rows_of me.1 ≡ me.0.taken → (d : Duty)
-      → HasAccess d → IsNext d u.agenda → u.status ≢ Gone → index ≡ place (address_of u.layout u.thread u.head d)
+      → HasAccess d → IsNext d u.actor.agenda → u.actor.status ≢ Gone → index
+      ≡ place (address_of u.layout u.thread u.actor.head d)
       → (f : ℕ → ℕ)
       → ((running : Bool) (n found : ℕ) → Suits u.thread running n d found
-      → f found ≡ new_word u.thread u.head d found)
+      → f found ≡ new_word u.thread u.actor.head d found)
       → DueSlot (use_of d 0) (held_in me.1) u
       → Allows (λ (s : State (Option T) View). TableStands layout s.words s.homes s.views) slots id me index f
       (StepsBy begins me)
   next_permitted rows d has coming_next alive at f leaves due =
-      let c = coming d u.agenda coming_next in
-      let address = c.like.address u.layout u.thread u.head in
+      let c = coming d u.actor.agenda coming_next in
+      let address = c.like.address u.layout u.thread u.actor.head in
       let next : IsNextAt u c.first c.rest index = record {
         agenda = c.is;
         alive = alive;
-        word = subst IsTableWord (sym address) (table_word_of u.layout u.thread u.head d has);
+        word = subst IsTableWord (sym address) (table_word_of u.layout u.thread u.actor.head d has);
         index_is = at ∙ sym (ap place address);
       } in
       permitted c.first c.rest next f (next_leaves d has c.first c.rest next c.like f leaves) rows

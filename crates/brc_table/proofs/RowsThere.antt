@@ -17,7 +17,7 @@ use Rattle.brc_model.specs.Ranges.{AreSmall}
 use Rattle.brc_model.specs.Counting.{IsPlainLayout}
 use Rattle.brc_model.specs.CountingLaws.{AccountsAreThere, ChainsAreThere}
 use Rattle.brc_table.specs.declared.view.View.{View}
-use Rattle.brc_table.specs.Views.{actor_of, NamesFewCells, RowsAreThere}
+use Rattle.brc_table.specs.Views.{NamesFewCells, RowsAreThere}
 use Rattle.brc_table.specs.Rule.{Stands}
 use Rattle.brc_table.proofs.Lists.{and_second}
 
@@ -52,36 +52,36 @@ rows_there law chains layout words views id v stands here =
     let m = stands.machine in
     let told = stands.told id v here in
     let found = stands.acts id v here in
-    let chain = chains stands.accounts (1 + m.layout.workers) m v.thread (actor_of v) stands.counts found in
+    let chain = chains stands.accounts (1 + m.layout.workers) m v.thread v.actor stands.counts found in
     let rows : (x : ℕ) → x < row_count m.layout → x < row_count v.layout =
     λ x low. subst (λ (l : Layout). x < row_count l) (sym told) low in
     record {
       thread =
           subst (λ (l : Layout). v.thread ≤ l.workers) (sym told)
-          (omega (arith, slice_get_within m.actors v.thread (actor_of v) found, stands.counts.kept.core.threads));
+          (omega (arith, slice_get_within m.actors v.thread v.actor found, stands.counts.kept.core.threads));
       used =
-          subst (λ (l : Layout). v.used ≤ block_size l v.thread) (sym told)
-          (stands.counts.kept.core.uses v.thread (actor_of v) found).few;
+          subst (λ (l : Layout). v.actor.used ≤ block_size l v.thread) (sym told)
+          (stands.counts.kept.core.uses v.thread v.actor found).few;
       main = λ first.
-          subst (λ (l : Layout). v.used ≡ block_size l v.thread) (sym told)
-          ((stands.counts.kept.core.uses v.thread (actor_of v) found).main first);
+          subst (λ (l : Layout). v.actor.used ≡ block_size l v.thread) (sym told)
+          ((stands.counts.kept.core.uses v.thread v.actor found).main first);
       held = λ x held. rows x (elim (cases_Bool (is_immortal_row m.layout x)) [
         | inl immortal ↦ immortal_there m.layout x stands.plain immortal
         | inr counted ↦
-            law stands.accounts (1 + m.layout.workers) m v.thread (actor_of v) AsCaller x stands.counts found
+            law stands.accounts (1 + m.layout.workers) m v.thread v.actor AsCaller x stands.counts found
             (omega (arith, held, stands.holding id v x here counted))
       ]);
       agenda = λ x is.
-          rows x (small_there (row_count m.layout) v.agenda x
-          (stands.counts.ranges.each v.thread (actor_of v) found) is);
+          rows x (small_there (row_count m.layout) v.actor.agenda x
+          (stands.counts.ranges.each v.thread v.actor found) is);
       aside = λ x is.
-          rows x (small_there (row_count m.layout) v.aside x
-          (stands.counts.ranges.aside v.thread (actor_of v) found) is);
-      head = subst (λ (l : Layout). v.head ≤ row_count l) (sym told) chain.head;
-      cells = few_named (row_count m.layout) v.agenda (stands.counts.ranges.each v.thread (actor_of v) found);
+          rows x (small_there (row_count m.layout) v.actor.aside x
+          (stands.counts.ranges.aside v.thread v.actor found) is);
+      head = subst (λ (l : Layout). v.actor.head ≤ row_count l) (sym told) chain.head;
+      cells = few_named (row_count m.layout) v.actor.agenda (stands.counts.ranges.each v.thread v.actor found);
       locked = λ x e.
-          let lock = (stands.counts.kept.core.each v.thread (actor_of v) found).0.locks x e in
-          rows x (law stands.accounts (1 + m.layout.workers) m v.thread (actor_of v) lock.by x stands.counts found
+          let lock = (stands.counts.kept.core.each v.thread v.actor found).0.locks x e in
+          rows x (law stands.accounts (1 + m.layout.workers) m v.thread v.actor lock.by x stands.counts found
           (omega (arith, lock.held_so)));
       unfinalised = chain.locked;
       kinds = λ x word seen. elim (cases_lt 0 word) [

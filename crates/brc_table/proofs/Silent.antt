@@ -20,7 +20,7 @@ use Rattle.brc_model.specs.CountingLaws.{ComesNext, DutiesAreKept}
 use Rattle.brc_model.specs.SlotLaws.{needs_slot, UsesSlot, NeededSlotsAreUnlocked}
 use Rattle.brc_table.specs.declared.view.View.{View}
 use Rattle.brc_table.specs.Places.{HasWord}
-use Rattle.brc_table.specs.Views.{actor_of, slot_filled_by, slot_emptied_by}
+use Rattle.brc_table.specs.Views.{slot_filled_by, slot_emptied_by, with_next}
 use Rattle.brc_table.specs.Homes.{times_in}
 use Rattle.brc_table.specs.Rule.{Guards, Stands}
 use Rattle.brc_table.specs.Begins.{Passes, KeepsThread, Becomes}
@@ -91,28 +91,29 @@ record Silent (x : ℕ) (d next : Duty) : Type 0 where
   lives : (life : ℕ → Life) (layout : Layout) (t : ℕ) (running : Bool) (head found y : ℕ)
       → life_by life t d (continuation layout t running head d found) y ≡ life y
   actor : (layout : Layout) (t found : ℕ) (v : View) (rest : List Duty)
-      → actor_by layout t (actor_of v) d rest found ≡ actor_of (record v { agenda = next ∷ rest })
+      → actor_by layout t v.actor d rest found ≡ (with_next v (next ∷ rest)).actor
 
-birth_actor : (layout : Layout) (t found x : ℕ) (h : Holding) (v : View) (rest : List Duty) (head : ℕ) → v.head ≡ head
-    → actor_by layout t (actor_of v) (BirthSlot x h) rest found ≡ actor_of (record v { agenda = BirthLocal x h ∷ rest })
+birth_actor : (layout : Layout) (t found x : ℕ) (h : Holding) (v : View) (rest : List Duty) (head : ℕ) → v.actor.head
+    ≡ head
+    → actor_by layout t v.actor (BirthSlot x h) rest found ≡ (with_next v (BirthLocal x h ∷ rest)).actor
 birth_actor layout t found x h v rest zero is =
-    ap (λ (k : ℕ). record (actor_of v) { agenda = ready k (BirthLocal x h ∷ rest) }) is
+    ap (λ (k : ℕ). record v.actor { agenda = ready k (BirthLocal x h ∷ rest) }) is
 birth_actor layout t found x h v rest (suc head) is =
-    ap (λ (k : ℕ). record (actor_of v) { agenda = ready k (BirthLocal x h ∷ rest) }) is
+    ap (λ (k : ℕ). record v.actor { agenda = ready k (BirthLocal x h ∷ rest) }) is
 
-take_actor : (layout : Layout) (t found x : ℕ) (v : View) (rest : List Duty) (head : ℕ) → v.head ≡ head
-    → actor_by layout t (actor_of v) (TakeSlot x) rest found ≡ actor_of (record v { agenda = CloseResource x ∷ rest })
+take_actor : (layout : Layout) (t found x : ℕ) (v : View) (rest : List Duty) (head : ℕ) → v.actor.head ≡ head
+    → actor_by layout t v.actor (TakeSlot x) rest found ≡ (with_next v (CloseResource x ∷ rest)).actor
 take_actor layout t found x v rest zero is =
-    ap (λ (k : ℕ). record (actor_of v) { agenda = ready k (CloseResource x ∷ rest) }) is
+    ap (λ (k : ℕ). record v.actor { agenda = ready k (CloseResource x ∷ rest) }) is
 take_actor layout t found x v rest (suc head) is =
-    ap (λ (k : ℕ). record (actor_of v) { agenda = ready k (CloseResource x ∷ rest) }) is
+    ap (λ (k : ℕ). record v.actor { agenda = ready k (CloseResource x ∷ rest) }) is
 
-close_actor : (layout : Layout) (t found x : ℕ) (v : View) (rest : List Duty) (head : ℕ) → v.head ≡ head
-    → actor_by layout t (actor_of v) (CloseResource x) rest found ≡ actor_of (record v { agenda = SettleEnd x ∷ rest })
+close_actor : (layout : Layout) (t found x : ℕ) (v : View) (rest : List Duty) (head : ℕ) → v.actor.head ≡ head
+    → actor_by layout t v.actor (CloseResource x) rest found ≡ (with_next v (SettleEnd x ∷ rest)).actor
 close_actor layout t found x v rest zero is =
-    ap (λ (k : ℕ). record (actor_of v) { agenda = ready k (SettleEnd x ∷ rest) }) is
+    ap (λ (k : ℕ). record v.actor { agenda = ready k (SettleEnd x ∷ rest) }) is
 close_actor layout t found x v rest (suc head) is =
-    ap (λ (k : ℕ). record (actor_of v) { agenda = ready k (SettleEnd x ∷ rest) }) is
+    ap (λ (k : ℕ). record v.actor { agenda = ready k (SettleEnd x ∷ rest) }) is
 
 same_row : (x : ℕ) → (x == x) ≡ true
 same_row x = eq-eqb x x refl
@@ -123,7 +124,7 @@ birth_silent x h = record {
   needs = same_row x;
   on = λ y is. is;
   lives = λ life layout t running head found y. refl;
-  actor = λ layout t found v rest. birth_actor layout t found x h v rest v.head refl;
+  actor = λ layout t found v rest. birth_actor layout t found x h v rest v.actor.head refl;
 }
 
 take_silent : (x : ℕ) → Silent x (TakeSlot x) (CloseResource x)
@@ -132,7 +133,7 @@ take_silent x = record {
   needs = same_row x;
   on = λ y is. is;
   lives = λ life layout t running head found y. refl;
-  actor = λ layout t found v rest. take_actor layout t found x v rest v.head refl;
+  actor = λ layout t found v rest. take_actor layout t found x v rest v.actor.head refl;
 }
 
 close_silent : (x : ℕ) → Silent x (CloseResource x) (SettleEnd x)
@@ -141,18 +142,18 @@ close_silent x = record {
   needs = same_row x;
   on = λ y is. is;
   lives = λ life layout t running head found y. refl;
-  actor = λ layout t found v rest. close_actor layout t found x v rest v.head refl;
+  actor = λ layout t found v rest. close_actor layout t found x v rest v.actor.head refl;
 }
 
 -- ---- the change
 
 module _ (kept : DutiesAreKept) (unlocked : NeededSlotsAreUnlocked) (layout : Layout) (x : ℕ) where
-  module _ (v : View) (d next : Duty) (rest : List Duty) (silent : Silent x d next) (agenda : v.agenda ≡ d ∷ rest)
-      (alive : v.status ≢ Gone) (taken : 1 ≤ times_in x v.taken) where
+  module _ (v : View) (d next : Duty) (rest : List Duty) (silent : Silent x d next) (agenda : v.actor.agenda ≡ d ∷ rest)
+      (alive : v.actor.status ≢ Gone) (taken : 1 ≤ times_in x v.taken) where
     abbrev u : View
-    u = record v { agenda = next ∷ rest }
+    u = with_next v (next ∷ rest)
 
-    keeps_used : (y : ℕ) → UsesSlot (actor_of v) y → UsesSlot (actor_of u) y
+    keeps_used : (y : ℕ) → UsesSlot v.actor y → UsesSlot u.actor y
     keeps_used y (inl locks) = inl locks
     keeps_used y (inr needs) =
         let first : (needs_slot y d || list_any (needs_slot y) rest) ≡ true =
@@ -174,7 +175,7 @@ module _ (kept : DutiesAreKept) (unlocked : NeededSlotsAreUnlocked) (layout : La
       t = v.thread
 
       abbrev a : Actor
-      a = actor_of v
+      a = v.actor
 
       comes : ComesNext m t a d rest
       comes = record { found = s.acts id v here; agenda = agenda; alive = alive }
@@ -183,20 +184,20 @@ module _ (kept : DutiesAreKept) (unlocked : NeededSlotsAreUnlocked) (layout : La
       address = address_of m.layout t a.head d
 
       -- The row is not the one that the hand has locked, and its slot is with the hand.
-      other_row : (y : ℕ) → (times_in y v.taken ≡ 0) ⊎ (v.locked ≡ Some y) → y ≢ x
+      other_row : (y : ℕ) → (times_in y v.taken ≡ 0) ⊎ (v.actor.locked ≡ Some y) → y ≢ x
       other_row y (inl none) same = omega (arith, none, taken, ap (λ (z : ℕ). times_in z v.taken) same)
       other_row y (inr locks) same =
           unlocked s.accounts (1 + m.layout.workers) m t a d rest x s.counts comes silent.needs (locks ∙ ap Some same)
 
       -- Each row lives as before.
       still : (y : ℕ) → (machine_by_duty m t a d rest).life y ≡ m.life y
-      still y = silent.lives m.life m.layout t (is_running v.status) v.head (m.memory address) y
+      still y = silent.lives m.life m.layout t (is_running v.actor.status) v.actor.head (m.memory address) y
 
       guards_of : {y : ℕ} → Guards (machine_by_duty m t a d rest) u y → Guards (machine_by_duty m t a d rest) v y
       guards_of (inl locked) = inl locked
       guards_of (inr chained) = inr chained
 
-      passed : Passes layout words (set views id u) v.taken v.locked m
+      passed : Passes layout words (set views id u) v.taken v.actor.locked m
       passed =
           let at = silent.at m.layout t a.head in
           let word = new_word t a.head d (m.memory address) in
@@ -213,6 +214,7 @@ module _ (kept : DutiesAreKept) (unlocked : NeededSlotsAreUnlocked) (layout : La
             told_same = refl;
             given_more = λ k is. is;
             gone_stays = λ gone. (gone, refl);
+            lends_none = s.lends_none id v here;
             joined_here = s.joined id v here;
             holding = λ y counted. s.holding id v y here counted;
             others = λ k apart. refl;
@@ -230,7 +232,7 @@ module _ (kept : DutiesAreKept) (unlocked : NeededSlotsAreUnlocked) (layout : La
                 (guards_before m (machine_by_duty m t a d rest) v y (still y) (gate_away x address at m.memory word y)
                 (guards_of guards)) seen;
             threads = λ i there. threads_same layout words views i v u s there refl refl refl;
-          }) v.taken v.locked
+          }) v.taken v.actor.locked
           (λ y which. slot_apart x address at m.memory word y (other_row y which))
 
     silent_becomes : Becomes layout v u
@@ -240,23 +242,23 @@ module _ (kept : DutiesAreKept) (unlocked : NeededSlotsAreUnlocked) (layout : La
     }
 
   -- A hand that gives birth to an object puts its resource into its slot.
-  pub filled_becomes : (v : View) (ds : List Duty) → v.agenda ≡ ds → OwnsFirst x ds → v.status ≢ Gone
+  pub filled_becomes : (v : View) (ds : List Duty) → v.actor.agenda ≡ ds → OwnsFirst x ds → v.actor.status ≢ Gone
       → 1 ≤ times_in x v.taken → Becomes layout v (slot_filled_by ds v)
   filled_becomes v (BirthSlot y h ∷ []) is same alive taken =
-      let is_x : v.agenda ≡ BirthSlot x h ∷ [] = is ∙ ap (λ (z : ℕ). BirthSlot z h ∷ []) same in
-      subst (λ (z : ℕ). Becomes layout v (record v { agenda = BirthLocal z h ∷ [] })) (sym same)
+      let is_x : v.actor.agenda ≡ BirthSlot x h ∷ [] = is ∙ ap (λ (z : ℕ). BirthSlot z h ∷ []) same in
+      subst (λ (z : ℕ). Becomes layout v (with_next v (BirthLocal z h ∷ []))) (sym same)
       (silent_becomes v (BirthSlot x h) (BirthLocal x h) [] (birth_silent x h) is_x alive taken)
   filled_becomes v (BirthLocal y h ∷ []) is same alive taken = itself_becomes layout v
   filled_becomes v _ is same alive taken = absurd same
 
   -- A hand that deallocates an object takes its resource out, and the host closes it.
-  pub emptied_becomes : (v : View) (ds : List Duty) → v.agenda ≡ ds → ClosesRow x ds → v.status ≢ Gone
+  pub emptied_becomes : (v : View) (ds : List Duty) → v.actor.agenda ≡ ds → ClosesRow x ds → v.actor.status ≢ Gone
       → 1 ≤ times_in x v.taken → Becomes layout v (slot_emptied_by ds v)
   emptied_becomes v (TakeSlot y ∷ rest) is same alive taken =
-      let is_x : v.agenda ≡ TakeSlot x ∷ rest = is ∙ ap (λ (z : ℕ). TakeSlot z ∷ rest) same in
-      let w : View = record v { agenda = CloseResource x ∷ rest } in
-      subst (λ (z : ℕ). Becomes layout v (record v { agenda = SettleEnd z ∷ rest })) (sym same)
-      (becomes_then layout v w (record v { agenda = SettleEnd x ∷ rest })
+      let is_x : v.actor.agenda ≡ TakeSlot x ∷ rest = is ∙ ap (λ (z : ℕ). TakeSlot z ∷ rest) same in
+      let w : View = with_next v (CloseResource x ∷ rest) in
+      subst (λ (z : ℕ). Becomes layout v (with_next v (SettleEnd z ∷ rest))) (sym same)
+      (becomes_then layout v w (with_next v (SettleEnd x ∷ rest))
       (silent_becomes v (TakeSlot x) (CloseResource x) rest (take_silent x) is_x alive taken)
       (silent_becomes w (CloseResource x) (SettleEnd x) rest (close_silent x) refl alive taken))
   emptied_becomes v (SettleEnd y ∷ rest) is same alive taken = itself_becomes layout v

@@ -33,13 +33,14 @@ use Rattle.brc_table.proofs.SlotsTaken as taken
 module _ (laws : ModelLaws) where
   module _ (put : WorkIsPutAside) (locks_begin : LocksBegin) (immortals : ImmortalsAreFree)
       (layout : Layout) (v : View) (x gate : ℕ) (running : IsRunning v)
-      (counted : IsCounted v.layout x) (idle : HasNoWork v x) (holding : HoldsOne v x) (unlocked : v.locked ≡ None)
+      (counted : IsCounted v.layout x) (idle : HasNoWork v x) (holding : HoldsOne v x) (unlocked : v.actor.locked
+      ≡ None)
       (names : gate ≡ locked_word v.thread) where
     abbrev f : ℕ → ℕ
     f found = either (found == free_word) gate found
 
     -- A hand that has locked nothing has not locked this row.
-    none_locked : {A : Type 0} (y : ℕ) → v.locked ≡ Some y → A
+    none_locked : {A : Type 0} (y : ℕ) → v.actor.locked ≡ Some y → A
     none_locked y locks = let wrong : None ≡ Some y = sym unlocked ∙ locks in absurd cc
 
     is_some : (x y : ℕ) → Some x ≡ Some y → y ≡ x
@@ -75,7 +76,7 @@ module _ (laws : ModelLaws) where
               taken.stands_now laws layout v u (LockGate x) [] index becomes next x s
               holds id mine takes_it f leaves (λ y locks. none_locked y locks)
               (λ y locks.
-              inl (is_some x y (sym (ap (λ (b : Bool). cond b (Some x) v.locked) is_free) ∙ locks), refl)) in (
+              inl (is_some x y (sym (ap (λ (b : Bool). cond b (Some x) v.actor.locked) is_free) ∙ locks), refl)) in (
                 w,
                 takes x slot.slot,
                 slot.there,
@@ -91,7 +92,8 @@ module _ (laws : ModelLaws) where
                   λ kind found_free more seen.
                       slot_seen laws.full layout (set s.words index (f word)) (set s.homes x home.none)
                       (set s.views id w)
-                      now id x w (set_view s.views id v w mine) (ap (λ (b : Bool). cond b (Some x) v.locked) is_free)
+                      now id x w (set_view s.views id v w mine) (ap (λ (b : Bool). cond b (Some x) v.actor.locked)
+                      is_free)
                       kind more
                       (still_seen x kind u (LockGate x) [] word
                       (subst (λ (z : View). knows_kind x kind z ≡ true) is_me seen)),

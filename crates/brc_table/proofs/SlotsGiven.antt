@@ -18,7 +18,7 @@ use Rattle.brc_model.specs.Within.{IsThere}
 use Rattle.brc_model.specs.SlotLaws.{SlotUse, Stays, Takes, Gives, use_of, Unlocks, SlotsAreKnown}
 use Rattle.brc_table.specs.ModelLaws.{ModelLaws}
 use Rattle.brc_table.specs.declared.view.View.{View}
-use Rattle.brc_table.specs.Views.{actor_of, view_by, behind_first, taken_after}
+use Rattle.brc_table.specs.Views.{view_by, behind_first, taken_after}
 use Rattle.brc_table.specs.KnownWords.{knows_kind}
 use Rattle.brc_model.specs.Knowledge.{HeadOf}
 use Rattle.brc_table.specs.Homes.{resources, rows_of, held_in, TableStands}
@@ -55,20 +55,20 @@ given_there layout t head k threads _ found x is there = absurd cc
 -- What is due is what the machine says that the slot holds, after the hand has turned to the duty.
 due_is : SlotsAreKnown → (layout : Layout) (words : List ℕ) (views : List View) (id : ℕ) (v u : View) (d : Duty)
     (rest : List Duty) (does : Does layout words views id u d rest) (found x n : ℕ) → use_of d found ≡ Gives x
-    → v.locked ≡ u.locked → ((y : ℕ) → v.locked ≡ Some y → u.in_slot ≡ v.in_slot)
-    → ((y : ℕ) → v.locked ≡ Some y → does.stands.machine.memory (Slot y) ≡ v.in_slot)
+    → v.actor.locked ≡ u.actor.locked → ((y : ℕ) → v.actor.locked ≡ Some y → u.in_slot ≡ v.in_slot)
+    → ((y : ℕ) → v.actor.locked ≡ Some y → does.stands.machine.memory (Slot y) ≡ v.in_slot)
     → IsDue u (d ∷ rest) n → n ≡ does.stands.machine.memory (Slot x)
 due_is law layout words views id v u (LockGate y) rest does found x n is same in_slot locked due = absurd due
 due_is law layout words views id v u (UnlockGate y) rest does found x n is same in_slot locked due =
     let s = does.stands in
-    let fits = (s.counts.kept.core.each u.thread (actor_of u) (s.acts id u does.here)).0.head_fits in
-    let head = subst (HeadOf s.machine u.thread (actor_of u)) does.agenda fits in
-    let mine : v.locked ≡ Some x = same ∙ (head.2 ∙ ap Some (gives_row x y is)) in
+    let fits = (s.counts.kept.core.each u.thread u.actor (s.acts id u does.here)).0.head_fits in
+    let head = subst (HeadOf s.machine u.thread u.actor) does.agenda fits in
+    let mine : v.actor.locked ≡ Some x = same ∙ (head.2 ∙ ap Some (gives_row x y is)) in
     due ∙ (in_slot x mine ∙ sym (locked x mine))
 due_is law layout words views id v u (BirthLocal y h) rest does found x n is same in_slot locked due =
     let s = does.stands in
     let filled =
-    law.born s.accounts (1 + s.machine.layout.workers) s.machine u.thread (actor_of u) y h rest s.counts
+    law.born s.accounts (1 + s.machine.layout.workers) s.machine u.thread u.actor y h rest s.counts
     (record { found = s.acts id u does.here; agenda = does.agenda; alive = does.alive }) in
     let row = gives_row x y is in
     let seen : s.machine.memory (KindOf x) ≡ due.0 =
@@ -78,7 +78,7 @@ due_is law layout words views id v u (BirthLocal y h) rest does found x n is sam
 due_is law layout words views id v u (SettleEnd y) rest does found x n is same in_slot locked due =
     let s = does.stands in
     let none =
-    law.closing s.accounts (1 + s.machine.layout.workers) s.machine u.thread (actor_of u) y rest s.counts
+    law.closing s.accounts (1 + s.machine.layout.workers) s.machine u.thread u.actor y rest s.counts
     (record { found = s.acts id u does.here; agenda = does.agenda; alive = does.alive }) in
     due ∙ (sym none ∙ ap (λ (z : ℕ). s.machine.memory (Slot z)) (gives_row x y is))
 due_is law layout words views id v u _ rest does found x n is same in_slot locked due = absurd due
@@ -104,9 +104,9 @@ module _ (laws : ModelLaws)
     found = read_of u d (slice_index s.words index)
 
     -- What becomes of the hand's lock.
-    lock : Unlocks (actor_of u) d found x
+    lock : Unlocks u.actor d found x
     lock =
-        laws.unlocked it.stands.accounts (1 + k.layout.workers) k u.thread (actor_of u) d rest found x it.stands.counts
+        laws.unlocked it.stands.accounts (1 + k.layout.workers) k u.thread u.actor d rest found x it.stands.counts
         (record { found = it.stands.acts id u it.here; agenda = next.agenda; alive = next.alive }) gives_it
 
     row_low : x < row_count m.layout
@@ -114,7 +114,7 @@ module _ (laws : ModelLaws)
         let relied = relies laws.kept laws.within laws.guarded layout s.words (set s.views id u) id u d rest it in
         let same : k.layout ≡ m.layout = it.stands.layout_is ∙ sym holds.stands.layout_is in
         subst (λ (l : Layout). x < row_count l) same
-        (given_there k.layout u.thread u.head (row_count k.layout) (1 + k.layout.workers) d found x gives_it
+        (given_there k.layout u.thread u.actor.head (row_count k.layout) (1 + k.layout.workers) d found x gives_it
         relied.there)
 
     -- What the slot holds is what the machine says.
@@ -151,7 +151,7 @@ module _ (laws : ModelLaws)
                 (λ locks. lock.kept y apart locks) (becomes.slots.used y uses)) now.slots
                 (λ y locks.
                 let before = lock.left y locks in
-                let mine : v.locked ≡ Some y = sym becomes.slots.locked ∙ before.1 in
+                let mine : v.actor.locked ≡ Some y = sym becomes.slots.locked ∙ before.1 in
                 (before.0, mine, becomes.slots.in_slot y mine));
           }
 
@@ -181,7 +181,7 @@ module _ (laws : ModelLaws)
         goes word (w, ps)
             (allowed.known laws layout v u d rest index becomes next s holds id mine) (
               ap (λ (ds : List Duty). view_by u ds found_now) (sym next.agenda)
-                  ∙ ap (λ (z : View). view_by z z.agenda found_now) (sym is_u),
+                  ∙ ap (λ (z : View). view_by z z.actor.agenda found_now) (sym is_u),
               allowed.rows_now laws layout v u d rest index becomes next s holds id mine f
                   leaves,
               λ same.
@@ -190,7 +190,7 @@ module _ (laws : ModelLaws)
                   (first_due (d ∷ rest) found_now)) gives_it)
                   ∙ ap (λ (ds : List Duty). held_after ((x, resources slot) ∷ held_in ps) (first_use ds found_now)
                   (first_due ds found_now))
-                  (sym next.agenda ∙ ap (λ (z : View). z.agenda) (sym is_u)),
+                  (sym next.agenda ∙ ap (λ (z : View). z.actor.agenda) (sym is_u)),
             ),
       )
 

@@ -14,7 +14,6 @@ use Rattle.brc_model.specs.References.{one_if}
 use Rattle.brc_model.specs.Machine.{Machine}
 use Rattle.brc_model.specs.SlotLaws.{UsesSlot}
 use Rattle.brc_table.specs.declared.view.View.{View}
-use Rattle.brc_table.specs.Views.{actor_of}
 use Rattle.brc_table.specs.Homes.{resources, times_in, times_taken, IsHome, HoldsHome, SlotsStand}
 use Rattle.brc_table.specs.Begins.{KeepsSlots}
 use Rattle.brc_table.proofs.Lists.{set_view}
@@ -39,7 +38,7 @@ module _ {T : Type 0} (m n : Machine) (homes : List (home.Option (Option T))) (v
   -- ---- it keeps its slots
 
   module _ (keeps : KeepsSlots v w)
-      (same : (x : ℕ) → (times_in x v.taken ≡ 0) ⊎ (v.locked ≡ Some x)
+      (same : (x : ℕ) → (times_in x v.taken ≡ 0) ⊎ (v.actor.locked ≡ Some x)
       → n.memory (Slot x) ≡ m.memory (Slot x)) where
     times_kept : (x : ℕ) → times_taken x w ≡ times_taken x v
     times_kept x = ap (times_in x) keeps.taken
@@ -67,17 +66,17 @@ module _ {T : Type 0} (m n : Machine) (homes : List (home.Option (Option T))) (v
       | inr apart ↦ is other z (set_else views id other w apart.1 ∙ there)
     ]
 
-    used_after : (other x : ℕ) (z : View) → Whose other z → 1 ≤ times_taken x z → UsesSlot (actor_of z) x
+    used_after : (other x : ℕ) (z : View) → Whose other z → 1 ≤ times_taken x z → UsesSlot z.actor x
     used_after other x z (Changed this now) taken =
-        subst (λ (u : View). UsesSlot (actor_of u) x) now
+        subst (λ (u : View). UsesSlot u.actor x) now
         (keeps.used x
         (old.used id x v here (omega (arith, taken, ap (times_taken x) now, times_kept x))))
     used_after other x z (Another apart there) taken = old.used other x z there taken
 
-    locked_after : (other x : ℕ) (z : View) → Whose other z → z.locked ≡ Some x
+    locked_after : (other x : ℕ) (z : View) → Whose other z → z.actor.locked ≡ Some x
         → (1 ≤ times_taken x z) × (n.memory (Slot x) ≡ z.in_slot)
     locked_after other x z (Changed this now) locks =
-        let mine : v.locked ≡ Some x = sym keeps.locked ∙ (ap (λ (u : View). u.locked) now ∙ locks) in
+        let mine : v.actor.locked ≡ Some x = sym keeps.locked ∙ (ap (λ (u : View). u.actor.locked) now ∙ locks) in
         let was = old.locked id x v here mine in (
           omega (arith, was.0, ap (times_taken x) now, times_kept x),
           same x (inr mine) ∙ (was.1 ∙ (sym (keeps.in_slot x mine) ∙ ap (λ (u : View). u.in_slot) now)),
@@ -110,11 +109,11 @@ module _ {T : Type 0} (m n : Machine) (homes : List (home.Option (Option T))) (v
 
   -- ---- it takes one
 
-  module _ (x : ℕ) (taken_is : w.taken ≡ x ∷ v.taken) (is_home : IsHome views x) (uses : UsesSlot (actor_of w) x)
-      (keeps : (y : ℕ) → UsesSlot (actor_of v) y → UsesSlot (actor_of w) y)
-      (same : (y : ℕ) → (times_in y v.taken ≡ 0) ⊎ (v.locked ≡ Some y) → n.memory (Slot y) ≡ m.memory (Slot y))
-      (locks : (y : ℕ) → w.locked ≡ Some y
-      → ((y ≡ x) × (m.memory (Slot x) ≡ w.in_slot)) ⊎ ((v.locked ≡ Some y) × (w.in_slot ≡ v.in_slot))) where
+  module _ (x : ℕ) (taken_is : w.taken ≡ x ∷ v.taken) (is_home : IsHome views x) (uses : UsesSlot w.actor x)
+      (keeps : (y : ℕ) → UsesSlot v.actor y → UsesSlot w.actor y)
+      (same : (y : ℕ) → (times_in y v.taken ≡ 0) ⊎ (v.actor.locked ≡ Some y) → n.memory (Slot y) ≡ m.memory (Slot y))
+      (locks : (y : ℕ) → w.actor.locked ≡ Some y
+      → ((y ≡ x) × (m.memory (Slot x) ≡ w.in_slot)) ⊎ ((v.actor.locked ≡ Some y) × (w.in_slot ≡ v.in_slot))) where
     times_more : (y : ℕ) → times_taken y w ≡ one_if (x == y) + times_taken y v
     times_more y = ap (times_in y) taken_is ∙ omega (arith, count_more x y v.taken)
 
@@ -165,20 +164,20 @@ module _ {T : Type 0} (m n : Machine) (homes : List (home.Option (Option T))) (v
     ]
     once_taken other y z (Another apart there) = old.once other y z there
 
-    used_taken : (other y : ℕ) (z : View) → Whose other z → 1 ≤ times_taken y z → UsesSlot (actor_of z) y
+    used_taken : (other y : ℕ) (z : View) → Whose other z → 1 ≤ times_taken y z → UsesSlot z.actor y
     used_taken other y z (Changed this now) taken =
-        subst (λ (u : View). UsesSlot (actor_of u) y) now (elim (eqb_tells y x) [
-          | inl row ↦ subst (UsesSlot (actor_of w)) (sym row.1) uses
+        subst (λ (u : View). UsesSlot u.actor y) now (elim (eqb_tells y x) [
+          | inl row ↦ subst (UsesSlot w.actor) (sym row.1) uses
           | inr apart ↦
               keeps y (old.used id y v here (omega (arith, taken, ap (times_taken y) now, other_row y apart.1)))
         ])
     used_taken other y z (Another apart there) taken = old.used other y z there taken
 
-    locked_taken : (other y : ℕ) (z : View) → Whose other z → z.locked ≡ Some y
+    locked_taken : (other y : ℕ) (z : View) → Whose other z → z.actor.locked ≡ Some y
         → (1 ≤ times_taken y z) × (n.memory (Slot y) ≡ z.in_slot)
     locked_taken other y z (Changed this now) locked =
         subst (λ (u : View). (1 ≤ times_taken y u) × (n.memory (Slot y) ≡ u.in_slot)) now
-        (elim (locks y (ap (λ (u : View). u.locked) now ∙ locked)) [
+        (elim (locks y (ap (λ (u : View). u.actor.locked) now ∙ locked)) [
           | inl row ↦
               subst (λ (k : ℕ). (1 ≤ times_taken k w) × (n.memory (Slot k) ≡ w.in_slot)) (sym row.0)
               (omega (arith, one_more), same x (inl (is_home id v here)) ∙ row.1)
@@ -231,9 +230,9 @@ module _ {T : Type 0} (m n : Machine) (homes : List (home.Option (Option T))) (v
 
   module _ (x : ℕ) (rows : List ℕ) (taken_is : v.taken ≡ x ∷ rows) (left : w.taken ≡ rows) (slot : Option T)
       (there : x < row_count m.layout) (holds : resources slot ≡ n.memory (Slot x))
-      (keeps : (y : ℕ) → y ≢ x → UsesSlot (actor_of v) y → UsesSlot (actor_of w) y)
-      (same : (y : ℕ) → (times_in y v.taken ≡ 0) ⊎ (v.locked ≡ Some y) → n.memory (Slot y) ≡ m.memory (Slot y))
-      (locks : (y : ℕ) → w.locked ≡ Some y → (y ≢ x) × (v.locked ≡ Some y) × (w.in_slot ≡ v.in_slot)) where
+      (keeps : (y : ℕ) → y ≢ x → UsesSlot v.actor y → UsesSlot w.actor y)
+      (same : (y : ℕ) → (times_in y v.taken ≡ 0) ⊎ (v.actor.locked ≡ Some y) → n.memory (Slot y) ≡ m.memory (Slot y))
+      (locks : (y : ℕ) → w.actor.locked ≡ Some y → (y ≢ x) × (v.actor.locked ≡ Some y) × (w.in_slot ≡ v.in_slot)) where
     times_less : (y : ℕ) → times_taken y v ≡ one_if (x == y) + times_taken y w
     times_less y =
         ap (times_in y) taken_is ∙ omega (arith, count_more x y rows, ap (times_in y) left)
@@ -273,18 +272,18 @@ module _ {T : Type 0} (m n : Machine) (homes : List (home.Option (Option T))) (v
         omega (arith, ap (times_taken y) now, times_less y, old.once id y v here)
     once_given other y z (Another apart found) = old.once other y z found
 
-    used_given : (other y : ℕ) (z : View) → Whose other z → 1 ≤ times_taken y z → UsesSlot (actor_of z) y
+    used_given : (other y : ℕ) (z : View) → Whose other z → 1 ≤ times_taken y z → UsesSlot z.actor y
     used_given other y z (Changed this now) taken =
         let apart : y ≢ x = λ e.
         omega (arith, taken, ap (times_taken y) now, ap (λ (k : ℕ). times_taken k w) e, none_left) in
-        subst (λ (u : View). UsesSlot (actor_of u) y) now
+        subst (λ (u : View). UsesSlot u.actor y) now
         (keeps y apart (old.used id y v here (omega (arith, taken, ap (times_taken y) now, same_left y apart))))
     used_given other y z (Another apart found) taken = old.used other y z found taken
 
-    locked_given : (other y : ℕ) (z : View) → Whose other z → z.locked ≡ Some y
+    locked_given : (other y : ℕ) (z : View) → Whose other z → z.actor.locked ≡ Some y
         → (1 ≤ times_taken y z) × (n.memory (Slot y) ≡ z.in_slot)
     locked_given other y z (Changed this now) locked =
-        let was = locks y (ap (λ (u : View). u.locked) now ∙ locked) in
+        let was = locks y (ap (λ (u : View). u.actor.locked) now ∙ locked) in
         let had_it = old.locked id y v here was.1 in
         subst (λ (u : View). (1 ≤ times_taken y u) × (n.memory (Slot y) ≡ u.in_slot)) now (
           omega (arith, had_it.0, same_left y was.0),
@@ -334,14 +333,14 @@ module _ {T : Type 0} (m n : Machine) (homes : List (home.Option (Option T))) (v
 
 -- A new hand has no slot and no lock.
 pub slots_longer : {T : Type 0} (m n : Machine) (homes : List (home.Option (Option T))) (views : List View) (w : View)
-    → SlotsStand m homes views → w.taken ≡ [] → w.locked ≡ None → n.layout ≡ m.layout
+    → SlotsStand m homes views → w.taken ≡ [] → w.actor.locked ≡ None → n.layout ≡ m.layout
     → ((x : ℕ) → n.memory (Slot x) ≡ m.memory (Slot x)) → SlotsStand n homes (views ++ w ∷ [])
 slots_longer m n homes views w old none unlocked layout_same same =
     let times_none : (x : ℕ) (z : View) → w ≡ z → times_taken x z ≡ 0 =
     λ x z is. ap (times_taken x) (sym is) ∙ ap (times_in x) none in
-    let not_locked : (x : ℕ) (z : View) → w ≡ z → z.locked ≡ Some x → ⊥ =
+    let not_locked : (x : ℕ) (z : View) → w ≡ z → z.actor.locked ≡ Some x → ⊥ =
     λ x z is locks.
-    let wrong : None ≡ Some x = sym unlocked ∙ (ap (λ (u : View). u.locked) is ∙ locks) in absurd cc in
+    let wrong : None ≡ Some x = sym unlocked ∙ (ap (λ (u : View). u.actor.locked) is ∙ locks) in absurd cc in
     record {
       rows = old.rows ∙ sym (ap row_count layout_same);
       at_home = λ x low is.

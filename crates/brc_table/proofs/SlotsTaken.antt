@@ -21,7 +21,7 @@ use Rattle.brc_model.specs.Within.{IsThere}
 use Rattle.brc_model.specs.SlotLaws.{SlotUse, Stays, Takes, Gives, use_of, UsesSlot, SlotsAreKnown}
 use Rattle.brc_table.specs.ModelLaws.{ModelLaws}
 use Rattle.brc_table.specs.declared.view.View.{View}
-use Rattle.brc_table.specs.Views.{actor_of, view_by, taken_after}
+use Rattle.brc_table.specs.Views.{view_by, taken_after}
 use Rattle.brc_table.specs.Homes.{resources, held_in, times_taken, IsHome, HoldsHome, TableStands}
 use Rattle.brc_table.specs.Begins.{Becomes}
 use Rattle.brc_table.specs.Uses.{first_use, first_due, held_after, Uses}
@@ -63,19 +63,19 @@ takes_no_lock _ x all locked found = refl
 pub due_known : SlotsAreKnown → (layout : Layout) (words : List ℕ) (views : List View) (id : ℕ) (u : View) (d : Duty)
     (rest : List Duty) (does : Does layout words views id u d rest) (x : ℕ) → ((found : ℕ) → use_of d found ≡ Takes x)
     → does.stands.machine.memory (Slot x)
-    ≡ first_due (d ∷ rest) (does.stands.machine.memory (address_of does.stands.machine.layout u.thread u.head d))
+    ≡ first_due (d ∷ rest) (does.stands.machine.memory (address_of does.stands.machine.layout u.thread u.actor.head d))
 due_known law layout words views id u (LockGate y) rest does x all =
     absurd (let wrong : Stays ≡ Takes x = all 0 in cc)
 due_known law layout words views id u (BirthKind y h w) rest does x all =
     let s = does.stands in
     let none =
-    law.unborn s.accounts (1 + s.machine.layout.workers) s.machine u.thread (actor_of u) y h w rest s.counts
+    law.unborn s.accounts (1 + s.machine.layout.workers) s.machine u.thread u.actor y h w rest s.counts
     (record { found = s.acts id u does.here; agenda = does.agenda; alive = does.alive }) in
     ap (λ (z : ℕ). s.machine.memory (Slot z)) (sym (takes_row x y (all 0))) ∙ none
 due_known law layout words views id u (SettleKind y) rest does x all =
     let s = does.stands in
     let full =
-    law.dying s.accounts (1 + s.machine.layout.workers) s.machine u.thread (actor_of u) y rest s.counts
+    law.dying s.accounts (1 + s.machine.layout.workers) s.machine u.thread u.actor y rest s.counts
     (record { found = s.acts id u does.here; agenda = does.agenda; alive = does.alive }) in
     ap (λ (z : ℕ). s.machine.memory (Slot z)) (sym (takes_row x y (all 0))) ∙ full
 due_known law layout words views id u (UnlockGate y) rest does x all =
@@ -106,24 +106,24 @@ module _ (laws : ModelLaws) (layout : Layout) (v u : View) (d : Duty)
       abbrev found : ℕ
       found = read_of u d (slice_index s.words index)
 
-      pub finds_found : k.memory (address_of k.layout u.thread u.head d) ≡ found
+      pub finds_found : k.memory (address_of k.layout u.thread u.actor.head d) ≡ found
       finds_found =
           allowed.finds_word laws layout v u d rest index becomes next s holds id here
 
       -- Nobody uses the slot,
-      free_of : (z : View) → slice_get k.actors z.thread ≡ Some (actor_of z) → UsesSlot (actor_of z) x → ⊥
+      free_of : (z : View) → slice_get k.actors z.thread ≡ Some z.actor → UsesSlot z.actor x → ⊥
       free_of z acts uses =
-          laws.free it.stands.accounts (1 + k.layout.workers) k u.thread (actor_of u) d rest z.thread (actor_of z) x
+          laws.free it.stands.accounts (1 + k.layout.workers) k u.thread u.actor d rest z.thread z.actor x
           it.stands.counts
           (record { found = it.stands.acts id u it.here; agenda = next.agenda; alive = next.alive })
           (ap (use_of d) finds_found ∙ takes_it) acts uses
 
-      uses_none : (other : ℕ) (z : View) → get_elem? s.views other ≡ some z → UsesSlot (actor_of z) x → ⊥
+      uses_none : (other : ℕ) (z : View) → get_elem? s.views other ≡ some z → UsesSlot z.actor x → ⊥
       uses_none other z there uses = elim (eqb_tells other id) [
         | inl this ↦
             let mine : z ≡ v = some-injective z v (sym there ∙ (ap (get_elem? s.views) this.1 ∙ here)) in
             free_of u (it.stands.acts id u it.here)
-            (becomes.slots.used x (subst (λ (w : View). UsesSlot (actor_of w) x) mine uses))
+            (becomes.slots.used x (subst (λ (w : View). UsesSlot w.actor x) mine uses))
         | inr apart ↦ free_of z (it.stands.acts other z (set_else s.views id other u apart.1 ∙ there)) uses
       ]
 
@@ -140,7 +140,7 @@ module _ (laws : ModelLaws) (layout : Layout) (v u : View) (d : Duty)
           let relied = relies laws.kept laws.within laws.guarded layout s.words (set s.views id u) id u d rest it in
           let same : k.layout ≡ m.layout = it.stands.layout_is ∙ sym holds.stands.layout_is in
           subst (λ (l : Layout). x < row_count l) same
-          (taken_there k.layout u.thread u.head (row_count k.layout) (1 + k.layout.workers) d found x takes_it
+          (taken_there k.layout u.thread u.actor.head (row_count k.layout) (1 + k.layout.workers) d found x takes_it
           relied.there)
 
       pub slot_home : HoldsHome m s.homes x
@@ -154,9 +154,9 @@ module _ (laws : ModelLaws) (layout : Layout) (v u : View) (d : Duty)
 
       module _ (f : ℕ → ℕ)
           (leaves : allowed.Leaves laws layout v u d rest index becomes next f)
-          (lock : (y : ℕ) → u.locked ≡ Some y → locked_by u.locked d found ≡ Some y)
-          (locks : (y : ℕ) → locked_by u.locked d found ≡ Some y
-          → ((y ≡ x) × (m.memory (Slot x) ≡ u.in_slot)) ⊎ ((v.locked ≡ Some y) × (u.in_slot ≡ v.in_slot))) where
+          (lock : (y : ℕ) → u.actor.locked ≡ Some y → locked_by u.actor.locked d found ≡ Some y)
+          (locks : (y : ℕ) → locked_by u.actor.locked d found ≡ Some y
+          → ((y ≡ x) × (m.memory (Slot x) ≡ u.in_slot)) ⊎ ((v.actor.locked ≡ Some y) × (u.in_slot ≡ v.in_slot))) where
         -- The rule holds after the step.
         pub stands_now : TableStands layout (set s.words index (f (slice_index s.words index)))
             (set s.homes x home.none)
@@ -194,11 +194,11 @@ module _ (laws : ModelLaws) (layout : Layout) (v u : View) (d : Duty)
       let takes_it = all found_now in
       let slot = slot_home s holds id mine takes_it in
       let w = view_by u (d ∷ rest) found_now in
-      let leave_lock = takes_no_lock d x all u.locked found_now in
+      let leave_lock = takes_no_lock d x all u.actor.locked found_now in
       let now =
       stands_now s holds id mine takes_it f leaves (λ y locks. leave_lock ∙ locks)
       (λ y locks.
-      let before : v.locked ≡ Some y = sym becomes.slots.locked ∙ (sym leave_lock ∙ locks) in
+      let before : v.actor.locked ≡ Some y = sym becomes.slots.locked ∙ (sym leave_lock ∙ locks) in
       inr (before, becomes.slots.in_slot y before)) in
       let due : resources slot.slot ≡ first_due (d ∷ rest) found_now =
       slot.holds ∙ (sym (slot_then s holds id mine takes_it)
@@ -213,7 +213,7 @@ module _ (laws : ModelLaws) (layout : Layout) (v u : View) (d : Duty)
         goes word after
             (allowed.known laws layout v u d rest index becomes next s holds id mine) (
               ap (λ (ds : List Duty). view_by u ds found_now) (sym next.agenda)
-                  ∙ ap (λ (z : View). view_by z z.agenda found_now) (sym is_u),
+                  ∙ ap (λ (z : View). view_by z z.actor.agenda found_now) (sym is_u),
               allowed.rows_now laws layout v u d rest index becomes next s holds id mine f
                   leaves,
               λ follows.
@@ -223,6 +223,6 @@ module _ (laws : ModelLaws) (layout : Layout) (v u : View) (d : Duty)
               ap (λ (n : ℕ). (x, n) ∷ held_in me.1) due
                   ∙ (sym (ap (λ (w : SlotUse). held_after (held_in me.1) w (first_due (d ∷ rest) found_now)) takes_it)
                   ∙ ap (λ (ds : List Duty). held_after (held_in me.1) (first_use ds found_now) (first_due ds found_now))
-                  (sym next.agenda ∙ ap (λ (z : View). z.agenda) (sym is_u))),
+                  (sym next.agenda ∙ ap (λ (z : View). z.actor.agenda) (sym is_u))),
             ),
       )

@@ -12,7 +12,7 @@ use Rattle.brc_model.specs.Duties.{continuation, new_head, ready, has_resource, 
 use Rattle.brc_model.specs.Machine.{is_running, locked_by}
 use Rattle.brc_model.specs.SlotLaws.{SlotUse, Stays, Takes, Gives, use_of, needs_slot, UsesSlot}
 use Rattle.brc_table.specs.declared.view.View.{View}
-use Rattle.brc_table.specs.Views.{actor_of, view_by}
+use Rattle.brc_table.specs.Views.{view_by}
 
 pub or_true : (b : Bool) → (b || true) ≡ true
 or_true true = refl
@@ -62,14 +62,14 @@ needs_on layout t running head _ found x is not_given = absurd cc
 
 needs_left : (v : View) (d : Duty) (rest : List Duty) (found x : ℕ) → (use_of d found ≡ Gives x → ⊥)
     → (needs_slot x d || list_any (needs_slot x) rest) ≡ true
-    → list_any (needs_slot x) (view_by v (d ∷ rest) found).agenda ≡ true
+    → list_any (needs_slot x) (view_by v (d ∷ rest) found).actor.agenda ≡ true
 needs_left v d rest found x not_given is =
-    let next = continuation v.layout v.thread (is_running v.status) v.head d found in
-    needs_ready x (new_head v.head d found) (next ++ rest) ∙ (list_any-append (needs_slot x) next rest
+    let next = continuation v.layout v.thread (is_running v.actor.status) v.actor.head d found in
+    needs_ready x (new_head v.actor.head d found) (next ++ rest) ∙ (list_any-append (needs_slot x) next rest
     ∙ elim (cases_Bool (needs_slot x d)) [
       | inl this ↦
           ap (λ (b : Bool). b || list_any (needs_slot x) rest)
-          (needs_on v.layout v.thread (is_running v.status) v.head d found x this not_given)
+          (needs_on v.layout v.thread (is_running v.actor.status) v.actor.head d found x this not_given)
       | inr other ↦
           let later : list_any (needs_slot x) rest ≡ true =
           sym (ap (λ (b : Bool). b || list_any (needs_slot x) rest) other) ∙ is in
@@ -79,9 +79,9 @@ needs_left v d rest found x not_given is =
 -- ---- slots in use
 
 -- A hand uses what it used, if it doesn't give the slot back, and keeps its lock.
-pub used_left : (v : View) (d : Duty) (rest : List Duty) (found x : ℕ) → v.agenda ≡ d ∷ rest
-    → (use_of d found ≡ Gives x → ⊥) → (v.locked ≡ Some x → locked_by v.locked d found ≡ Some x)
-    → UsesSlot (actor_of v) x → UsesSlot (actor_of (view_by v (d ∷ rest) found)) x
+pub used_left : (v : View) (d : Duty) (rest : List Duty) (found x : ℕ) → v.actor.agenda ≡ d ∷ rest
+    → (use_of d found ≡ Gives x → ⊥) → (v.actor.locked ≡ Some x → locked_by v.actor.locked d found ≡ Some x)
+    → UsesSlot v.actor x → UsesSlot (view_by v (d ∷ rest) found).actor x
 used_left v d rest found x agenda not_given lock (inl locks) = inl (lock locks)
 used_left v d rest found x agenda not_given lock (inr needs) =
     inr (needs_left v d rest found x not_given (sym (ap (list_any (needs_slot x)) agenda) ∙ needs))
@@ -101,17 +101,17 @@ takes_same : (x y : ℕ) → Takes y ≡ Takes x → y ≡ x
 takes_same x y is = let row : SlotUse → ℕ = λ u. elim u [ Stays ↦ 0 | Takes z ↦ z | Gives z ↦ 0 ] in ap row is
 
 pub used_now : (v : View) (d : Duty) (rest : List Duty) (found x : ℕ) → use_of d found ≡ Takes x
-    → UsesSlot (actor_of (view_by v (d ∷ rest) found)) x
+    → UsesSlot (view_by v (d ∷ rest) found).actor x
 used_now v (LockGate y) rest found x takes = elim (cases_Bool (found == free_word)) [
   | inl free ↦
       let same : y ≡ x =
       takes_same x y (sym (ap (λ (b : Bool). cond b (Takes y) Stays) free) ∙ takes) in
-      inl (ap (λ (b : Bool). cond b (Some y) v.locked) free ∙ ap Some same)
+      inl (ap (λ (b : Bool). cond b (Some y) v.actor.locked) free ∙ ap Some same)
   | inr other ↦
       absurd (let wrong : Stays ≡ Takes x = sym (ap (λ (b : Bool). cond b (Takes y) Stays) other) ∙ takes in cc)
 ]
 used_now v (BirthKind y h w) rest found x takes =
-    let next = continuation v.layout v.thread (is_running v.status) v.head (BirthKind y h w) found in
+    let next = continuation v.layout v.thread (is_running v.actor.status) v.actor.head (BirthKind y h w) found in
     let same : (y == x) ≡ true = eq-eqb y x (takes_same x y takes) in
     let needs : list_any (needs_slot x) next ≡ true = elim (cases_Bool (has_resource w)) [
       | inl has ↦
@@ -121,10 +121,10 @@ used_now v (BirthKind y h w) rest found x takes =
           ap (λ (b : Bool). list_any (needs_slot x) (cond b (BirthSlot y h ∷ []) (BirthLocal y h ∷ []))) has_not
           ∙ ap (λ (b : Bool). b || false) same
     ] in
-    inr (needs_ready x v.head (next ++ rest) ∙ (list_any-append (needs_slot x) next rest
+    inr (needs_ready x v.actor.head (next ++ rest) ∙ (list_any-append (needs_slot x) next rest
     ∙ ap (λ (b : Bool). b || list_any (needs_slot x) rest) needs))
 used_now v (SettleKind y) rest found x takes =
-    let next = continuation v.layout v.thread (is_running v.status) v.head (SettleKind y) found in
+    let next = continuation v.layout v.thread (is_running v.actor.status) v.actor.head (SettleKind y) found in
     let same : (y == x) ≡ true = eq-eqb y x (takes_same x y takes) in
     let needs : list_any (needs_slot x) next ≡ true = elim (cases_Bool (has_resource found)) [
       | inl has ↦
@@ -135,6 +135,6 @@ used_now v (SettleKind y) rest found x takes =
           has_not
           ∙ cells_need x y 0 (cells_of found) same
     ] in
-    inr (needs_ready x v.head (next ++ rest) ∙ (list_any-append (needs_slot x) next rest
+    inr (needs_ready x v.actor.head (next ++ rest) ∙ (list_any-append (needs_slot x) next rest
     ∙ ap (λ (b : Bool). b || list_any (needs_slot x) rest) needs))
 used_now v _ rest found x takes = absurd cc

@@ -22,7 +22,7 @@ use Rattle.brc_model.specs.OpenWork.{is_about, about_of}
 use Rattle.brc_model.specs.Counting.{Counts, HasNoneAbout, with_account, with_one_less, with_one_more}
 use Rattle.brc_model.specs.CountingLaws.{ReferencesAreHandedOver}
 use Rattle.brc_table.specs.declared.view.View.{View}
-use Rattle.brc_table.specs.Views.{actor_of, holds, is_given, giving, worker_view}
+use Rattle.brc_table.specs.Views.{holds, is_given, giving, worker_view}
 use Rattle.brc_table.specs.Rule.{Guards, IsGone, Stands}
 use Rattle.brc_table.specs.Homes.{TableStands}
 use Rattle.brc_table.proofs.SlotsKept.{slots_kept, slots_longer}
@@ -44,9 +44,10 @@ none_about x (d ∷ rest) aside none =
     let counted : Duty → ℕ = λ e. cond (is_about x e) 1 0 in
     omega (arith, none, sum_by-cons counted d (rest ++ aside), sum_by-append counted rest aside)
 
-has_none : (v : View) (x : ℕ) → HasNoWork v x → HasNoneAbout (actor_of v) x
+has_none : (v : View) (x : ℕ) → HasNoWork v x → HasNoneAbout v.actor x
 has_none v x free =
-    none_about x v.agenda v.aside (sym (length-filter (is_about x) (v.agenda ++ v.aside)) ∙ ap length free)
+    none_about x v.actor.agenda v.actor.aside (sym (length-filter (is_about x) (v.actor.agenda ++ v.actor.aside))
+    ∙ ap length free)
 
 -- ---- the hands afterwards
 
@@ -151,7 +152,7 @@ module _ (law : ReferencesAreHandedOver) (layout : Layout) (words : List ℕ) (v
 
   counts : Counts after (1 + old.machine.layout.workers) machine
   counts =
-      law p (1 + old.machine.layout.workers) old.machine v.thread t (actor_of v) (idle_actor 0) root_row old.counts
+      law p (1 + old.machine.layout.workers) old.machine v.thread t v.actor (idle_actor 0) root_row old.counts
       (old.acts id v here) worker_idle.0 (λ e. t_apart (sym e)) (has_none v root_row may.no_work) refl refl root_counted
       (omega (arith, old.holding id v root_row here root_counted, may.holds_root))
       (λ e. omega (arith, old.holding id v root_row here root_counted, may.keeps e))
@@ -159,18 +160,23 @@ module _ (law : ReferencesAreHandedOver) (layout : Layout) (words : List ℕ) (v
 
   -- ---- each part of the rule
 
-  acts_after : (other : ℕ) (z : View) → Whose other z → slice_get machine.actors z.thread ≡ Some (actor_of z)
+  acts_after : (other : ℕ) (z : View) → Whose other z → slice_get machine.actors z.thread ≡ Some z.actor
   acts_after other z (Mains same is) =
-      subst (λ (w : View). slice_get machine.actors w.thread ≡ Some (actor_of w)) is (old.acts id v here)
+      subst (λ (w : View). slice_get machine.actors w.thread ≡ Some w.actor) is (old.acts id v here)
   acts_after other z (Another apart is) = old.acts other z is
   acts_after other z (New same is) =
-      subst (λ (w : View). slice_get machine.actors w.thread ≡ Some (actor_of w)) is worker_idle.0
+      subst (λ (w : View). slice_get machine.actors w.thread ≡ Some w.actor) is worker_idle.0
 
   told_after : (other : ℕ) (z : View) → Whose other z → z.layout ≡ machine.layout
   told_after other z (Mains same is) =
       subst (λ (w : View). w.layout ≡ machine.layout) is (old.told id v here)
   told_after other z (Another apart is) = old.told other z is
   told_after other z (New same is) = subst (λ (w : View). w.layout ≡ machine.layout) is (old.told id v here)
+
+  lends_after : (other : ℕ) (z : View) → Whose other z → z.actor.lent ≡ None
+  lends_after other z (Mains same is) = subst (λ (w : View). w.actor.lent ≡ None) is (old.lends_none id v here)
+  lends_after other z (Another apart is) = old.lends_none other z is
+  lends_after other z (New same is) = subst (λ (w : View). w.actor.lent ≡ None) is refl
 
   kinds_after : (other x word : ℕ) (z : View) → Whose other z → 0 < word → knows_kind x word z ≡ true
       → old.machine.memory (KindOf x) ≡ word
@@ -355,6 +361,7 @@ module _ (law : ReferencesAreHandedOver) (layout : Layout) (words : List ℕ) (v
     reads = old.reads;
     acts = λ other z is. acts_after other z (whose other z is);
     told = λ other z is. told_after other z (whose other z is);
+    lends_none = λ other z is. lends_after other z (whose other z is);
     named = old.named;
     rooted = old.rooted;
     kinds_seen = λ other x word z is high seen. kinds_after other x word z (whose other z is) high seen;

@@ -17,7 +17,7 @@ use Rattle.brc_model.specs.CountingLaws.{AccountsAreThere, ChainsAreThere}
 use Rattle.brc_table.specs.declared.view.View.{View}
 use Rattle.brc_table.specs.declared.view.Event.{Event}
 use Rattle.brc_table.specs.Places.{place, HasWord}
-use Rattle.brc_table.specs.Views.{actor_of, RowsAreThere}
+use Rattle.brc_table.specs.Views.{RowsAreThere}
 use Rattle.brc_table.specs.KnownWords.{shows_kind, cell_known, starts, has_started, started_word, shows_gone}
 use Rattle.brc_table.specs.Threads.{thread_word}
 use Rattle.brc_table.specs.Homes.{TableStands}
@@ -139,11 +139,12 @@ module _ (accounts : AccountsAreThere) (chains : ChainsAreThere) (layout : Layou
           sym (unwritten m.memory (ThreadWord t) b 1 runs)
           ∙ written_reads m.layout words m.memory (ThreadWord t) 1 1 s.plain.few_workers s.length_is refl has s.reads b
           there_b;
-      actors = sym (set_itself m.actors v.thread (actor_of v) (s.acts id v here));
+      actors = sym (set_itself m.actors v.thread v.actor (s.acts id v here));
       thread_same = refl;
       told_same = refl;
       given_more = λ k is. is;
       gone_stays = λ gone. (gone, refl);
+      lends_none = s.lends_none id v here;
       joined_here = s.joined id v here;
       holding = λ x counted. s.holding id v x here counted;
       others = λ k apart. refl;
@@ -158,10 +159,11 @@ module _ (accounts : AccountsAreThere) (chains : ChainsAreThere) (layout : Layou
           threads_kept layout words (set words (place (ThreadWord t)) 1) views k v after s there_k keeps_threads;
     }
 
-    pub passes_started : Passes layout (set words (place (ThreadWord t)) 1) (set views id after) v.taken v.locked m
+    pub passes_started : Passes layout (set words (place (ThreadWord t)) 1) (set views id after) v.taken
+        v.actor.locked m
     unfolding changes
     passes_started =
-        passes layout words views id v after s here (set words (place (ThreadWord t)) 1) changes v.taken v.locked
+        passes layout words views id v after s here (set words (place (ThreadWord t)) 1) changes v.taken v.actor.locked
         (λ x which. refl)
 
   -- The store is allowed.
@@ -173,8 +175,8 @@ module _ (accounts : AccountsAreThere) (chains : ChainsAreThere) (layout : Layou
       let mine : get_elem? s.views id ≡ some v = here ∙ ap some is_me in
       let w = starting v t in
       let before = holds.stands.machine in
-      let moved : Passes layout (set s.words index 1) (set s.views id w) v.taken v.locked before =
-      subst (λ (k : ℕ). Passes layout (set s.words k 1) (set s.views id w) v.taken v.locked before) (sym at)
+      let moved : Passes layout (set s.words index 1) (set s.views id w) v.taken v.actor.locked before =
+      subst (λ (k : ℕ). Passes layout (set s.words k 1) (set s.views id w) v.taken v.actor.locked before) (sym at)
       (passes_started s.words s.views id holds.stands mine) in
       let rows : RowsAreThere w =
       rows_there accounts chains layout (set s.words index 1) (set s.views id w) id w moved.stands

@@ -6,7 +6,7 @@ use Rattle.std.proofs.lemmas.Bool.{eqb-true, cases_Bool}
 use mathlib.Core.Option.{some}
 use lib.ListN.{get_elem?}
 use Rattle.brc_model.specs.declared.duty.Duty.{Duty}
-use Rattle.brc_model.specs.declared.duty.Duty.TheVariants.{LendSlot}
+use Rattle.brc_model.specs.declared.duty.Duty.TheVariants.{LendSlot, ReturnSlot}
 use Rattle.brc_model.specs.declared.actor.Status.TheVariants.{Gone}
 use Rattle.brc_model.specs.declared.address.Address.{Address}
 use Rattle.brc_model.specs.declared.address.Address.TheVariants.{Local, Shared, Gate, KindOf, Mark, Cell, Slot, Resource, ThreadWord}
@@ -20,7 +20,7 @@ use Rattle.brc_model.specs.CountingLaws.{ComesNext, DutiesAreKept, DutyWithin, D
 use Rattle.brc_model.specs.GuardLaws.{LeavesGuarded, GuardedCellsStay}
 use Rattle.brc_table.specs.declared.view.View.{View}
 use Rattle.brc_table.specs.Places.{place, HasWord, IsObjectWord, IsTableWord, word_count}
-use Rattle.brc_table.specs.Views.{actor_of, event_of, view_by}
+use Rattle.brc_table.specs.Views.{event_of, view_by}
 use Rattle.brc_table.specs.Rule.{reading, Guards, Stands}
 use Rattle.brc_table.specs.Begins.{Passes}
 use Rattle.brc_table.proofs.Lists.{and_first, and_second}
@@ -81,11 +81,12 @@ same_is (Resource x) (Resource y) e = ap Resource (eqb-true x y e)
 same_is (ThreadWord t) (ThreadWord u) e = ap ThreadWord (eqb-true t u e)
 same_is _ _ e = absurd cc
 
--- A duty on a word of the table lends nothing.
-lends_nothing : (layout : Layout) (t head : ℕ) (d : Duty) (found : ℕ) → IsTableWord (address_of layout t head d)
-    → lent_by None d found ≡ None
-lends_nothing layout t head (LendSlot x) found table = absurd table
-lends_nothing layout t head _ found table = refl
+-- A thread that has lent nothing lends nothing by a duty on a word of the table.
+lends_none : (layout : Layout) (t head : ℕ) (d : Duty) (lent : Option ℕ) (found : ℕ)
+    → IsTableWord (address_of layout t head d) → lent ≡ None → lent_by lent d found ≡ None
+lends_none layout t head (LendSlot x) lent found table none = absurd table
+lends_none layout t head (ReturnSlot x) lent found table none = refl
+lends_none layout t head _ lent found table none = none
 
 -- Writing a word in the table is writing in the machine what it says.
 pub written_reads : (layout : Layout) (words : List ℕ) (memory : Address → ℕ) (a : Address) (left word : ℕ)
@@ -117,17 +118,17 @@ pub record Does (layout : Layout) (words : List ℕ) (views : List View) (id : �
     : Type 0 where
   pub stands : Stands layout words views
   pub here : get_elem? views id ≡ some v
-  pub agenda : v.agenda ≡ d ∷ rest
-  pub alive : v.status ≢ Gone
-  pub word : IsTableWord (address_of v.layout v.thread v.head d)
+  pub agenda : v.actor.agenda ≡ d ∷ rest
+  pub alive : v.actor.status ≢ Gone
+  pub word : IsTableWord (address_of v.layout v.thread v.actor.head d)
 
 -- the place of the duty's word
 abbrev pub place_of : View → Duty → ℕ
-place_of v d = place (address_of v.layout v.thread v.head d)
+place_of v d = place (address_of v.layout v.thread v.actor.head d)
 
 -- what the duty's word says, if the table has this value there
 abbrev pub read_of : View → Duty → ℕ → ℕ
-read_of v d word = reading (address_of v.layout v.thread v.head d) word
+read_of v d word = reading (address_of v.layout v.thread v.actor.head d) word
 
 module _ (kept : DutiesAreKept) (within : DutiesAreWithin) (stay : GuardedCellsStay) (layout : Layout) (words : List ℕ)
     (views : List View) (id : ℕ)
@@ -141,45 +142,47 @@ module _ (kept : DutiesAreKept) (within : DutiesAreWithin) (stay : GuardedCellsS
   told : v.layout ≡ m.layout
   told = does.stands.told id v does.here
 
-  comes : ComesNext m v.thread (actor_of v) d rest
+  comes : ComesNext m v.thread v.actor d rest
   comes = record { found = does.stands.acts id v does.here; agenda = does.agenda; alive = does.alive }
 
-  pub relies : DutyWithin (1 + m.layout.workers) m v.thread (actor_of v) d
-  relies = within does.stands.accounts (1 + m.layout.workers) m v.thread (actor_of v) d rest does.stands.counts comes
+  pub relies : DutyWithin (1 + m.layout.workers) m v.thread v.actor d
+  relies = within does.stands.accounts (1 + m.layout.workers) m v.thread v.actor d rest does.stands.counts comes
 
-  pub has : HasWord m.layout (address_of v.layout v.thread v.head d)
+  pub has : HasWord m.layout (address_of v.layout v.thread v.actor.head d)
   has =
-      table_has m.layout (1 + m.layout.workers) (address_of v.layout v.thread v.head d) does.word refl
-      (subst (λ (l : Layout). IsThere (row_count m.layout) (1 + m.layout.workers) (address_of l v.thread v.head d))
+      table_has m.layout (1 + m.layout.workers) (address_of v.layout v.thread v.actor.head d) does.word refl
+      (subst (λ (l : Layout). IsThere (row_count m.layout) (1 + m.layout.workers)
+      (address_of l v.thread v.actor.head d))
       (sym told) relies.there)
 
   -- The machine's step finds what the table's word says.
-  pub finds : m.memory (address_of v.layout v.thread v.head d) ≡ found
-  finds = does.stands.reads (address_of v.layout v.thread v.head d) has
+  pub finds : m.memory (address_of v.layout v.thread v.actor.head d) ≡ found
+  finds = does.stands.reads (address_of v.layout v.thread v.actor.head d) has
 
-  module _ (left : ℕ) (leaves : read_of v d left ≡ new_word v.thread v.head d found)
+  module _ (left : ℕ) (leaves : read_of v d left ≡ new_word v.thread v.actor.head d found)
       (keeps : KeepsThreads m.layout words (set words (place_of v d) left) v (view_by v (d ∷ rest) found)) where
-    stays : LeavesGuarded m v.thread (actor_of v) d rest
-    stays = stay does.stands.accounts (1 + m.layout.workers) m v.thread (actor_of v) d rest does.stands.counts comes
+    stays : LeavesGuarded m v.thread v.actor d rest
+    stays = stay does.stands.accounts (1 + m.layout.workers) m v.thread v.actor d rest does.stands.counts comes
 
     -- The hand begins to guard a list by a step on its gate.
-    guarded_before : (x : ℕ) → same_address (address_of m.layout v.thread v.head d) (Gate x) ≡ false
-        → m.memory (address_of m.layout v.thread v.head d) ≡ found
-        → Guards (machine_by_duty m v.thread (actor_of v) d rest) (view_by v (d ∷ rest) found) x → Guards m v x
+    guarded_before : (x : ℕ) → same_address (address_of m.layout v.thread v.actor.head d) (Gate x) ≡ false
+        → m.memory (address_of m.layout v.thread v.actor.head d) ≡ found
+        → Guards (machine_by_duty m v.thread v.actor d rest) (view_by v (d ∷ rest) found) x → Guards m v x
     guarded_before x apart seen (inl locked) =
-        inl (lock_before m.layout v.thread v.head d x (m.memory (address_of m.layout v.thread v.head d)) v.locked apart
-        (ap (locked_by v.locked d) seen ∙ locked))
+        inl (lock_before m.layout v.thread v.actor.head d x (m.memory (address_of m.layout v.thread v.actor.head d))
+        v.actor.locked apart
+        (ap (locked_by v.actor.locked d) seen ∙ locked))
     guarded_before x apart seen (inr chained) = inr (stays.own x apart chained)
 
     changes : Changes layout words views v (view_by v (d ∷ rest) found) does.stands (set words (place_of v d) left)
     changes =
         let old = does.stands in
-        let t = v.thread in let a = actor_of v in
+        let t = v.thread in let a = v.actor in
         let seen : m.memory (address_of m.layout t a.head d) ≡ found =
-        subst (λ (l : Layout). m.memory (address_of l t v.head d) ≡ found) told finds in
-        let is_step : IsStep m.layout m.memory t v.head d (event_of v d found) = record {
-          address = ap (λ (l : Layout). address_of l t v.head d) told;
-          left = ap (new_word t v.head d) (sym seen);
+        subst (λ (l : Layout). m.memory (address_of l t v.actor.head d) ≡ found) told finds in
+        let is_step : IsStep m.layout m.memory t v.actor.head d (event_of v d found) = record {
+          address = ap (λ (l : Layout). address_of l t v.actor.head d) told;
+          left = ap (new_word t v.actor.head d) (sym seen);
         } in
         record {
           accounts = old.accounts;
@@ -189,17 +192,19 @@ module _ (kept : DutiesAreKept) (within : DutiesAreWithin) (stay : GuardedCellsS
           length_is = length-set words (place_of v d) left;
           reads = λ b there.
               let after =
-              written_reads m.layout words m.memory (address_of v.layout t v.head d) left (new_word t v.head d found)
+              written_reads m.layout words m.memory (address_of v.layout t v.actor.head d) left
+              (new_word t v.actor.head d found)
               old.plain.few_workers old.length_is leaves has old.reads b there in
               subst (λ (k : ℕ). written m.memory (address_of m.layout t a.head d) (new_word t a.head d k) b
               ≡ reading b (slice_index (set words (place_of v d) left) (place b))) (sym seen)
-              (subst (λ (l : Layout). written m.memory (address_of l t v.head d) (new_word t v.head d found) b
+              (subst (λ (l : Layout). written m.memory (address_of l t v.actor.head d)
+              (new_word t v.actor.head d found) b
               ≡ reading b (slice_index (set words (place_of v d) left) (place b))) told after);
           actors =
               ap (λ (k : ℕ). set m.actors t (actor_by m.layout t a d rest k)) seen
-              ∙ (ap (λ (l : Layout). set m.actors t (actor_by l t a d rest found)) (sym told)
-              ∙ ap (λ (l : Option ℕ). set m.actors t (record (actor_of (view_by v (d ∷ rest) found)) { lent = l }))
-              (lends_nothing v.layout t v.head d found does.word));
+              ∙ ap (λ (l : Layout). set m.actors t (actor_by l t a d rest found)) (sym told);
+          lends_none = lends_none v.layout t v.actor.head d v.actor.lent found does.word
+              (old.lends_none id v does.here);
           thread_same = refl;
           told_same = refl;
           given_more = λ u is. is;
@@ -209,14 +214,15 @@ module _ (kept : DutiesAreKept) (within : DutiesAreWithin) (stay : GuardedCellsS
           others = λ u apart. refl;
           no_variables = old.no_variables;
           kinds_stay = λ x word more is.
-              kind_stays m.layout m.memory t v.head d x word relies.overwrites more is;
+              kind_stays m.layout m.memory t v.actor.head d x word relies.overwrites more is;
           cells_stay = λ other x w apart is guards.
-              stays.others w.thread (actor_of w) x (old.acts other w is) apart guards;
+              stays.others w.thread w.actor x (old.acts other w is) apart guards;
           kinds_here = λ x word more shown.
-              kind_here m.layout m.memory t v.head d (event_of v d found) is_step v.trace x word relies.overwrites more
+              kind_here m.layout m.memory t v.actor.head d (event_of v d found) is_step v.trace x word
+              relies.overwrites more
               (λ before. old.kinds_seen id x word v does.here more before) shown;
           cells_here = λ x i word guards shown.
-              cell_here m.layout m.memory t v.head d (event_of v d found) is_step v.trace x i word (Guards m v x)
+              cell_here m.layout m.memory t v.actor.head d (event_of v d found) is_step v.trace x i word (Guards m v x)
               (Guards (machine_by_duty m t a d rest) (view_by v (d ∷ rest) found) x)
               (λ apart now. guarded_before x apart seen now)
               (λ before known. old.cells_seen id x i word v does.here before known) guards shown;
@@ -243,7 +249,7 @@ module _ (kept : DutiesAreKept) (within : DutiesAreWithin) (stay : GuardedCellsS
     passes_after =
         passes layout words views id v (view_by v (d ∷ rest) found) does.stands does.here (set words (place_of v d) left)
         changes [] None (λ x which.
-        let a = actor_of v in
+        let a = v.actor in
         let address = address_of m.layout v.thread a.head d in
         no_slot address (new_word v.thread a.head d (m.memory address)) x
-        (subst (λ (l : Layout). IsTableWord (address_of l v.thread v.head d)) told does.word))
+        (subst (λ (l : Layout). IsTableWord (address_of l v.thread v.actor.head d)) told does.word))

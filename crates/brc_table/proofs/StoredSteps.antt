@@ -11,7 +11,8 @@ use Rattle.brc_table.specs.DutySteps.{OverwritesFirst, Steps, StepsBy, StepsStor
 pub stored_allowed : {T : Type 0} (holds : State (Option T) View → Type 0) (slots id index : ℕ)
     (me : Me (Option T) View) (begins : View → View) (access : Access) (word before : ℕ) → access ≡ Store word before
     → IfStored access (λ b. b ≡ overwritten (begins me.0))
-    → IfStored access (λ b. (found : ℕ) → OverwritesFirst (begins me.0).thread (begins me.0).agenda found → found ≡ b)
+    → IfStored access (λ b. (found : ℕ) → OverwritesFirst (begins me.0).thread (begins me.0).actor.agenda found
+    → found ≡ b)
     → Allows holds slots id me index (left_by access) (StepsBy begins me)
     → Allows holds slots id me index (λ found. word) (λ found after. StepsStored begins me after)
 stored_allowed {T} holds slots id index me begins access word before is same knows allowed s stands homes here below =
@@ -20,7 +21,7 @@ stored_allowed {T} holds slots id index me begins access word before is same kno
     here below in
     let known =
     subst (λ (a : Access). IfStored a (λ b. (found : ℕ)
-    → OverwritesFirst (begins me.0).thread (begins me.0).agenda found → found ≡ b)) is knows in
+    → OverwritesFirst (begins me.0).thread (begins me.0).actor.agenda found → found ≡ b)) is knows in
     let last = subst (λ (a : Access). IfStored a (λ b. b ≡ overwritten (begins me.0))) is same in (
       step.0,
       step.1,

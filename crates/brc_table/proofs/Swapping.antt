@@ -28,7 +28,7 @@ use Rattle.brc_model.specs.CellLaws as law
 use Rattle.brc_model.specs.CellLaws.{cell_swapped, HasRoomFor, CellsAreSwapped, ItemsAreThere}
 use Rattle.brc_table.specs.declared.view.View.{View}
 use Rattle.brc_table.specs.Places.{HasWord, cell_place}
-use Rattle.brc_table.specs.Views.{actor_of, holds, RowsAreThere, without_reference}
+use Rattle.brc_table.specs.Views.{holds, RowsAreThere, without_reference, rested}
 use Rattle.brc_table.specs.KnownWords.{known_cell}
 use Rattle.brc_table.specs.Rule.{Guards, Stands}
 use Rattle.brc_table.specs.Homes.{SlotsStand, TableStands}
@@ -38,7 +38,7 @@ use Rattle.brc_table.proofs.Accounts.{with_account_same, with_account_other, cou
 use Rattle.brc_table.proofs.CellGuards.{change_there, change_by, change_guards, guards_apart}
 use Rattle.brc_table.proofs.RowsThere.{rows_there}
 use Rattle.brc_table.proofs.Passing.{waiting_keeps}
-use Rattle.brc_table.proofs.AtHand.{rested, is_ready, alone, has_one}
+use Rattle.brc_table.proofs.AtHand.{is_ready, alone, has_one}
 use Rattle.brc_table.proofs.Becoming.{rested_becomes}
 use Rattle.brc_table.proofs.Changing.{Changes, passes}
 use Rattle.brc_table.proofs.SlotsKept.{slots_kept}
@@ -106,14 +106,14 @@ module _ (put : WorkIsPutAside) (free : ImmortalsAreFree) (there : AccountsAreTh
   pub record Puts (words : List ℕ) (views : List View) (before : Machine) : Type 0 where
     pub stands : Stands layout words views
     pub slots : (y : ℕ) → stands.machine.memory (Slot y) ≡ before.memory (Slot y)
-    pub may_put : law.MayPut (stands.accounts v.thread) (actor_of (rested v)) word
+    pub may_put : law.MayPut (stands.accounts v.thread) (rested v).actor word
 
   has_item : (words : List ℕ) (views : List View) (id w : ℕ) → (stands : Stands layout words views)
       → get_elem? views id ≡ some (rested v) → word ≡ w → MayPut v w → Puts words views stands.machine
   has_item words views id zero stands here is puts = record {
     stands = stands;
     slots = λ y. refl;
-    may_put = subst (law.MayPut (stands.accounts v.thread) (actor_of (rested v))) (sym is) tt;
+    may_put = subst (law.MayPut (stands.accounts v.thread) (rested v).actor) (sym is) tt;
   }
   has_item words views id (suc y) stands here is puts =
       let one =
@@ -124,12 +124,12 @@ module _ (put : WorkIsPutAside) (free : ImmortalsAreFree) (there : AccountsAreTh
         stands = s;
         slots = one.slots;
         may_put =
-            subst (law.MayPut (s.accounts v.thread) (actor_of (rested v))) (sym is) (
+            subst (law.MayPut (s.accounts v.thread) (rested v).actor) (sym is) (
               alone v y puts.1,
               one.more,
               λ e.
                   let lock =
-                  (s.counts.kept.core.each v.thread (actor_of (rested v)) (s.acts id (rested v) here)).0.locks y e in
+                  (s.counts.kept.core.each v.thread (rested v).actor (s.acts id (rested v) here)).0.locks y e in
                   omega (arith, s.holding id (rested v) y here lock.counted, puts.2 e),
             );
       }
@@ -186,8 +186,8 @@ module _ (put : WorkIsPutAside) (free : ImmortalsAreFree) (there : AccountsAreTh
 
     put_some : (y w : ℕ) → word ≡ suc w → one_if (w == y) ≤ s.accounts v.thread AsCaller y
     put_some y w is =
-        let mine : law.MayPut (s.accounts v.thread) (actor_of (rested v)) (suc w) =
-        subst (law.MayPut (s.accounts v.thread) (actor_of (rested v))) is puts.may_put in
+        let mine : law.MayPut (s.accounts v.thread) (rested v).actor (suc w) =
+        subst (law.MayPut (s.accounts v.thread) (rested v).actor) is puts.may_put in
         elim (eqb_tells w y) [
           | inl same ↦
               let one : one_if (w == y) ≡ 1 = ap one_if same.0 in
@@ -236,7 +236,7 @@ module _ (put : WorkIsPutAside) (free : ImmortalsAreFree) (there : AccountsAreTh
       accounts = with_account s.accounts v.thread account;
       machine = cell_swapped m v.thread x i word;
       counts =
-          swap s.accounts (1 + m.layout.workers) m v.thread (actor_of (rested v)) x i word s.counts
+          swap s.accounts (1 + m.layout.workers) m v.thread (rested v).actor x i word s.counts
           (is_ready layout words views id v s here may.running.0) (change_by v x may.changes) may.retains low
           puts.may_put
           (room (m.memory (Cell x i)));
@@ -245,11 +245,12 @@ module _ (put : WorkIsPutAside) (free : ImmortalsAreFree) (there : AccountsAreTh
       reads =
           written_reads m.layout words m.memory (Cell x i) word word s.plain.few_workers s.length_is refl cell_has
           s.reads;
-      actors = sym (set_itself m.actors v.thread (actor_of (rested v)) (s.acts id (rested v) here));
+      actors = sym (set_itself m.actors v.thread (rested v).actor (s.acts id (rested v) here));
       thread_same = refl;
       told_same = refl;
       given_more = λ k is. is;
       gone_stays = λ gone. (gone, refl);
+      lends_none = s.lends_none id (rested v) here;
       joined_here = s.joined id (rested v) here;
       holding = λ y counted.
           ap (λ (a : Account). a AsCaller y) (with_account_same s.accounts v.thread account)
@@ -266,16 +267,16 @@ module _ (put : WorkIsPutAside) (free : ImmortalsAreFree) (there : AccountsAreTh
         λ j. ap (λ (b : Bool). cond (b && (i == j)) word (m.memory (Cell y j))) (other_list other y w apart is theirs),
       );
       kinds_here = λ y w more shown.
-          sym (stored_is m.layout m.memory v.thread v.head x i word (KindOf y))
-          ∙ kind_here m.layout m.memory v.thread v.head (storing x i word)
+          sym (stored_is m.layout m.memory v.thread v.actor.head x i word (KindOf y))
+          ∙ kind_here m.layout m.memory v.thread v.actor.head (storing x i word)
           (record { address = Cell x i; found = found; left = word })
-          (is_storing m.layout m.memory v.thread v.head x i word found) v.trace y w
+          (is_storing m.layout m.memory v.thread v.actor.head x i word found) v.trace y w
           (overwrites_any v.thread x i word _) more (λ before. s.kinds_seen id y w (rested v) here more before) shown;
       cells_here = λ y j w own shown.
-          sym (stored_is m.layout m.memory v.thread v.head x i word (Cell y j))
-          ∙ cell_here m.layout m.memory v.thread v.head (storing x i word)
+          sym (stored_is m.layout m.memory v.thread v.actor.head x i word (Cell y j))
+          ∙ cell_here m.layout m.memory v.thread v.actor.head (storing x i word)
           (record { address = Cell x i; found = found; left = word })
-          (is_storing m.layout m.memory v.thread v.head x i word found) v.trace y j w (Guards m (rested v) y)
+          (is_storing m.layout m.memory v.thread v.actor.head x i word found) v.trace y j w (Guards m (rested v) y)
           (Guards m (rested v) y) (λ off now. now)
           (λ before known. s.cells_seen id y j w (rested v) here before known) own shown;
       threads = λ k there_k.
@@ -284,17 +285,19 @@ module _ (put : WorkIsPutAside) (free : ImmortalsAreFree) (there : AccountsAreTh
           s.plain.few_workers
           (omega (
             arith,
-            slice_get_within m.actors v.thread (actor_of (rested v)) (s.acts id (rested v) here),
+            slice_get_within m.actors v.thread (rested v).actor (s.acts id (rested v) here),
             s.counts.kept.core.threads,
           ))
           (record { thread = refl; given = refl; trace = refl }) tt cell_has);
     }
 
     -- The rule holds after the swap.
-    pub passes_swapped : Passes layout (set words (cell_place x i) word) (set views id after) v.taken v.locked s.machine
+    pub passes_swapped : Passes layout (set words (cell_place x i) word) (set views id after) v.taken v.actor.locked
+        s.machine
     unfolding changes
     passes_swapped =
-        passes layout words views id (rested v) after s here (set words (cell_place x i) word) changes v.taken v.locked
+        passes layout words views id (rested v) after s here (set words (cell_place x i) word) changes v.taken
+        v.actor.locked
         (λ y which. refl)
 
     -- The hand finds what it has last seen or stored there.
@@ -328,13 +331,15 @@ module _ (put : WorkIsPutAside) (free : ImmortalsAreFree) (there : AccountsAreTh
       let same : slice_index s.words (cell_place x i) ≡ found = ap (slice_index s.words) (sym at) in
       let w = swapped v x i word found in
       let after = passes_swapped s.words resting id stands.machine puts there_now in
-      let moved : Passes layout (set s.words index word) (set s.views id w) v.taken v.locked puts.stands.machine =
-      subst (λ (l : List View). Passes layout (set s.words index word) l v.taken v.locked puts.stands.machine)
+      let moved : Passes layout (set s.words index word) (set s.views id w) v.taken v.actor.locked puts.stands.machine =
+      subst (λ (l : List View). Passes layout (set s.words index word) l v.taken v.actor.locked puts.stands.machine)
       (set-set s.views id (rested v) w)
-      (subst (λ (k : ℕ). Passes layout (set s.words index word) (set resting id (swapped v x i word k)) v.taken v.locked
+      (subst (λ (k : ℕ). Passes layout (set s.words index word) (set resting id (swapped v x i word k)) v.taken
+      v.actor.locked
       puts.stands.machine) same
       (subst (λ (j : ℕ). Passes layout (set s.words j word)
-      (set resting id (swapped v x i word (slice_index s.words (cell_place x i)))) v.taken v.locked puts.stands.machine)
+      (set resting id (swapped v x i word (slice_index s.words (cell_place x i)))) v.taken v.actor.locked
+      puts.stands.machine)
       (sym at) after)) in
       let now = moved.stands in
       let held_slots : SlotsStand now.machine s.homes (set s.views id w) =

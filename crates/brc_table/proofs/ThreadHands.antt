@@ -10,7 +10,6 @@ use Rattle.brc_model.specs.declared.actor.Actor.{Actor}
 use Rattle.brc_model.specs.Machine.{idle_actor}
 use Rattle.brc_model.proofs.Basics.Lists.{some_is}
 use Rattle.brc_table.specs.declared.view.View.{View}
-use Rattle.brc_table.specs.Views.{actor_of}
 use Rattle.brc_table.specs.Rule.{Stands}
 
 -- The thread has a hand.
@@ -42,12 +41,12 @@ hand_of (v ∷ views) t = elim (eqb_tells v.thread t) [
 -- A thread of the machine is its hand's, or it has done nothing.
 pub thread_is : (layout : Layout) (words : List ℕ) (views : List View) (s : Stands layout words views) (t : ℕ)
     (a : Actor) → slice_get s.machine.actors t ≡ Some a
-    → ((h : HandOf views t) × (a ≡ actor_of h.view)) ⊎ (a ≡ idle_actor 0)
+    → ((h : HandOf views t) × (a ≡ h.view.actor)) ⊎ (a ≡ idle_actor 0)
 thread_is layout words views s t a found = elim (hand_of views t) [
   | inl h ↦
       inl (
         h,
-        some_is a (actor_of h.view) (sym found ∙ (ap (slice_get s.machine.actors) (sym h.thread)
+        some_is a h.view.actor (sym found ∙ (ap (slice_get s.machine.actors) (sym h.thread)
             ∙ s.acts h.id h.view h.here)),
       )
   | inr none ↦

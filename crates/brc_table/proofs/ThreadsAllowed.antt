@@ -14,7 +14,7 @@ use Rattle.brc_model.specs.declared.layout.Layout.{Layout}
 use Rattle.brc_model.specs.Duties.{address_of, new_word}
 use Rattle.brc_table.specs.ModelLaws.{ModelLaws}
 use Rattle.brc_table.specs.declared.view.View.{View}
-use Rattle.brc_table.specs.Views.{actor_of, event_of, view_by}
+use Rattle.brc_table.specs.Views.{event_of, view_by}
 use Rattle.brc_table.specs.Rule.{thread_reading, reading}
 use Rattle.brc_table.specs.Threads.{thread_word}
 use Rattle.brc_table.specs.Begins.{Becomes}
@@ -40,33 +40,33 @@ pub record IsOnThread (layout : Layout) (t head : ℕ) (d : Duty) : Type 0 where
 
 module _ (laws : ModelLaws) (layout : Layout) (v u : View)
     (d : Duty) (rest : List Duty) (index : ℕ) (becomes : Becomes layout v u) (next : IsNextAt u d rest index)
-    (on : IsOnThread u.layout u.thread u.head d) (f : ℕ → ℕ)
-    (leaves : (found : ℕ) → f found ≡ new_word u.thread u.head d found) where
+    (on : IsOnThread u.layout u.thread u.actor.head d) (f : ℕ → ℕ)
+    (leaves : (found : ℕ) → f found ≡ new_word u.thread u.actor.head d found) where
   thread_says : (k : ℕ) → read_of u d k ≡ thread_reading k
   thread_says k = ap (λ (a : Address). reading a k) on.address
 
   -- The word that is left says what the duty leaves of what was said.
-  left_says : (found : ℕ) → read_of u d (f found) ≡ new_word u.thread u.head d (read_of u d found)
+  left_says : (found : ℕ) → read_of u d (f found) ≡ new_word u.thread u.actor.head d (read_of u d found)
   left_says found =
       thread_says (f found) ∙ (ap thread_reading (leaves found)
-      ∙ (on.says found ∙ ap (new_word u.thread u.head d) (sym (thread_says found))))
+      ∙ (on.says found ∙ ap (new_word u.thread u.actor.head d) (sym (thread_says found))))
 
   -- The word of a thread that isn't gone doesn't say so.
   not_gone : (words : List ℕ) (views : List View) (i : ℕ) → Does layout words views i u d rest → on.thread ≡ u.thread
       → thread_word words on.thread ≡ 3 → ⊥
   not_gone words views i does own is =
       let s = does.stands in
-      let word = (s.counts.kept.core.each u.thread (actor_of u) (s.acts i u does.here)).0.word in
+      let word = (s.counts.kept.core.each u.thread u.actor (s.acts i u does.here)).0.word in
       let low : u.thread < 1 + s.machine.layout.workers =
       omega (
         arith,
-        slice_get_within s.machine.actors u.thread (actor_of u) (s.acts i u does.here),
+        slice_get_within s.machine.actors u.thread u.actor (s.acts i u does.here),
         s.counts.kept.core.threads,
       ) in
-      let says : status_word u.status ≡ thread_reading (thread_word words u.thread) =
+      let says : status_word u.actor.status ≡ thread_reading (thread_word words u.thread) =
       sym word ∙ s.reads (ThreadWord u.thread) low in
       let three : thread_word words u.thread ≡ 3 = ap (thread_word words) (sym own) ∙ is in
-      alive_word u.status does.alive (says ∙ ap thread_reading three)
+      alive_word u.actor.status does.alive (says ∙ ap thread_reading three)
 
   -- The step keeps what the words of threads say.
   keeps_from : (words : List ℕ) (views : List View) (i : ℕ) (does : Does layout words views i u d rest)
@@ -85,7 +85,8 @@ module _ (laws : ModelLaws) (layout : Layout) (v u : View)
       subst (λ (k : ℕ). k < length words) at
       (omega (
         arith,
-        place_within does.stands.machine.layout (address_of u.layout u.thread u.head d) does.stands.plain.few_workers
+        place_within does.stands.machine.layout (address_of u.layout u.thread u.actor.head d)
+            does.stands.plain.few_workers
             (has laws.kept laws.within laws.guarded layout words views i u d rest does),
         does.stands.length_is,
       )) in
@@ -96,7 +97,7 @@ module _ (laws : ModelLaws) (layout : Layout) (v u : View)
       (record {
         address = on.address;
         quiet =
-            ap (λ (b : Bool). b && (new_word u.thread u.head d (read_of u d raw) == 1))
+            ap (λ (b : Bool). b && (new_word u.thread u.actor.head d (read_of u d raw) == 1))
             (ne_eqb (read_of u d raw) 0 (λ none. omega (arith, none, thread_says raw, reading_some raw)));
         gone = λ three. says_three (f raw) (sym (thread_says (f raw)) ∙ (left_says raw ∙ three));
         whose = elim whose [

@@ -18,7 +18,7 @@ use Rattle.brc_model.specs.Machine.{same_address}
 use Rattle.brc_table.specs.declared.view.View.{View}
 use Rattle.brc_table.specs.declared.view.Event.{Event}
 use Rattle.brc_table.specs.Places.{place, HasWord, IsObjectWord}
-use Rattle.brc_table.specs.Views.{actor_of, is_given}
+use Rattle.brc_table.specs.Views.{is_given}
 use Rattle.brc_table.specs.KnownWords.{starts, has_started, started_word, shows_gone, knows_gone}
 use Rattle.brc_table.specs.Rule.{thread_reading, Stands}
 use Rattle.brc_table.specs.Threads.{thread_word, ThreadsStand}
@@ -62,7 +62,7 @@ module _ (layout : Layout) (words after : List â„•) (views : List View) (id : â„
   known other w is =
       omega (
         arith,
-        slice_get_within old.machine.actors w.thread (actor_of w) (old.acts other w is),
+        slice_get_within old.machine.actors w.thread w.actor (old.acts other w is),
         old.counts.kept.core.threads,
       )
 

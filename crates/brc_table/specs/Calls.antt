@@ -8,7 +8,7 @@ use Rattle.brc_table.specs.Hands.{MayWait}
 
 -- The hand's thread isn't gone, and the hand may turn to other work.
 abbrev pub CanAct : View → Type 0
-CanAct v = (v.status ≢ Gone) × MayWait v.agenda
+CanAct v = (v.actor.status ≢ Gone) × MayWait v.actor.agenda
 
 -- The one duty is to store the new row's first local word, or to put its resource into its slot before that.
 abbrev pub OwnsFirst : ℕ → List Duty → Type 0
@@ -20,12 +20,12 @@ OwnsFirst x _ = ⊥
 
 -- The hand runs and has nothing to do, so that it may begin to settle; or to settle is what it does next.
 abbrev pub SettlesFrom : View → List Duty → Type 0
-SettlesFrom v [] = (v.status ≡ Running) × (v.aside ≡ [])
-SettlesFrom v (Settle ∷ rest) = v.status ≢ Gone
+SettlesFrom v [] = (v.actor.status ≡ Running) × (v.actor.aside ≡ [])
+SettlesFrom v (Settle ∷ rest) = v.actor.status ≢ Gone
 SettlesFrom v _ = ⊥
 
 abbrev pub MaySettle : View → Type 0
-MaySettle v = SettlesFrom v v.agenda
+MaySettle v = SettlesFrom v v.actor.agenda
 
 -- The first duty is to close the dying row, or to take its resource out of its slot before that.
 abbrev pub ClosesRow : ℕ → List Duty → Type 0
@@ -37,12 +37,12 @@ ClosesRow x _ = ⊥
 
 -- The hand runs and has nothing to do, not even aside.
 pub record IsFree (v : View) : Type 0 where
-  pub running : v.status ≡ Running
-  pub agenda : v.agenda ≡ []
-  pub aside : v.aside ≡ []
+  pub running : v.actor.status ≡ Running
+  pub agenda : v.actor.agenda ≡ []
+  pub aside : v.actor.aside ≡ []
 
 -- The hand may leave: besides, it holds no reference, and its chain is empty.
 pub record MayLeave (v : View) : Type 0 where
   pub free : IsFree v
   pub holds_none : v.references ≡ []
-  pub settled : v.head ≡ 0
+  pub settled : v.actor.head ≡ 0

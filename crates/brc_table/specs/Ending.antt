@@ -17,7 +17,6 @@ use Rattle.brc_table.specs.Rule.{Stands}
 use Rattle.brc_table.specs.KnownWords.{knows_gone}
 use Rattle.brc_table.specs.Threads.{thread_word}
 use Rattle.brc_table.specs.Peeks.{NeverStarted}
-use Rattle.brc_table.specs.Views.{actor_of}
 
 -- A closed table, as contracts see it: which one it was, its size, its last words, and how many resources each row's
 -- slot holds.
@@ -45,7 +44,7 @@ pub record EndsWith (v : View) (end : EndState) : Type 0 where
   pub homes : (x : ℕ) → x < row_count end.layout → IsHome views x
       → slot_at end.slots x ≡ stands.machine.memory (Slot x)
   -- a hand that has taken a slot uses it
-  pub used : (other x : ℕ) (w : View) → get_elem? views other ≡ some w → 1 ≤ times_taken x w → UsesSlot (actor_of w) x
+  pub used : (other x : ℕ) (w : View) → get_elem? views other ≡ some w → 1 ≤ times_taken x w → UsesSlot w.actor x
 
 -- ---- threads
 

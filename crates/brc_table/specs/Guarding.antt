@@ -21,7 +21,7 @@ use Rattle.brc_model.specs.Watched.{looks_at, scans_over}
 use Rattle.brc_model.specs.SlotLaws.{UsesSlot}
 use Rattle.brc_table.specs.declared.view.View.{View}
 use Rattle.brc_table.specs.Places.{place, HasWord}
-use Rattle.brc_table.specs.Views.{actor_of, holds, open_work}
+use Rattle.brc_table.specs.Views.{holds, open_work}
 use Rattle.brc_table.specs.Hands.{IsFirst}
 use Rattle.brc_table.specs.Swaps.{MaySwap}
 use Rattle.brc_table.specs.Rule.{thread_reading, Stands}
@@ -38,8 +38,9 @@ thread_says words t = thread_reading (slice_index words (place (ThreadWord t)))
 -- some hand has the duty to look at the mark.
 pub data IsWatched (layout : Layout) (words : List ℕ) (views : List View) (x : ℕ) : Type 0 where
   ByRunning : thread_says words (block_of layout x) ≡ 1 → IsWatched layout words views x
-  ByExit : (id : ℕ) (v : View) → get_elem? views id ≡ some v → v.thread ≡ block_of layout x → v.status ≡ Leaving
-      → list_any (scans_over (index_of layout (block_of layout x) x)) v.agenda ≡ true → IsWatched layout words views x
+  ByExit : (id : ℕ) (v : View) → get_elem? views id ≡ some v → v.thread ≡ block_of layout x → v.actor.status ≡ Leaving
+      → list_any (scans_over (index_of layout (block_of layout x) x)) v.actor.agenda ≡ true
+      → IsWatched layout words views x
   ByLook : (id : ℕ) (v : View) → get_elem? views id ≡ some v → list_any (looks_at x) (open_work v) ≡ true
       → IsWatched layout words views x
 
@@ -55,15 +56,15 @@ pub record ChangesWord (layout : Layout) (words : List ℕ) (views : List View) 
   pub id : ℕ
   pub here : get_elem? views id ≡ some v
   pub rest : List Duty
-  pub agenda : v.agenda ≡ d ∷ rest
-  pub alive : v.status ≢ Gone
+  pub agenda : v.actor.agenda ≡ d ∷ rest
+  pub alive : v.actor.status ≢ Gone
   pub there : HasWord layout a
-  pub at : address_of layout v.thread v.head d ≡ a
-  pub other : new_word v.thread v.head d (slice_index words (place a)) ≢ slice_index words (place a)
+  pub at : address_of layout v.thread v.actor.head d ≡ a
+  pub other : new_word v.thread v.actor.head d (slice_index words (place a)) ≢ slice_index words (place a)
 
 -- The hand has locked the row's object, and the object's gate names the hand's thread.
 abbrev pub HoldsGate : List ℕ → View → ℕ → Type 0
-HoldsGate words v x = (v.locked ≡ Some x) × (slice_index words (place (Gate x)) ≡ locked_word v.thread)
+HoldsGate words v x = (v.actor.locked ≡ Some x) × (slice_index words (place (Gate x)) ≡ locked_word v.thread)
 
 -- A duty that changes a cell is of the hand that has locked the list, or it is a step of the list's deallocation.
 abbrev pub OnlyHoldersChangeCells : Type 0
@@ -87,10 +88,10 @@ OnlyRunningOwnersCount = (layout : Layout) (words : List ℕ) (views : List View
 -- chain is empty.
 pub record HoldsNothing (layout : Layout) (v : View) : Type 0 where
   pub none : (x : ℕ) → IsCounted layout x → holds v x ≡ 0
-  pub agenda : v.agenda ≡ []
-  pub aside : v.aside ≡ []
-  pub settled : v.head ≡ 0
-  pub unlocked : v.locked ≡ None
+  pub agenda : v.actor.agenda ≡ []
+  pub aside : v.actor.aside ≡ []
+  pub settled : v.actor.head ≡ 0
+  pub unlocked : v.actor.locked ≡ None
   pub none_taken : v.taken ≡ []
 
 -- The thread has a hand, and is gone.
@@ -99,18 +100,18 @@ pub record HasGoneHand (views : List View) (t : ℕ) : Type 0 where
   pub view : View
   pub here : get_elem? views id ≡ some view
   pub thread : view.thread ≡ t
-  pub status : view.status ≡ Gone
+  pub status : view.actor.status ≡ Gone
 
 -- A hand whose thread is gone holds nothing. `T` is the type of the table's resources.
 abbrev pub GoneHandsHoldNothing : Type 0 → Type 0
 GoneHandsHoldNothing T =
     (layout : Layout) (words : List ℕ) (homes : List (home.Option (Option T))) (views : List View) (id : ℕ) (v : View)
-    → TableStands layout words homes views → get_elem? views id ≡ some v → v.status ≡ Gone → HoldsNothing layout v
+    → TableStands layout words homes views → get_elem? views id ≡ some v → v.actor.status ≡ Gone → HoldsNothing layout v
 
 -- A thread's word is 3 exactly where the thread has a hand and is gone.
 pub record GoneWordsTell : Type 0 where
   pub told : (layout : Layout) (words : List ℕ) (views : List View) (id : ℕ) (v : View) → Stands layout words views
-      → get_elem? views id ≡ some v → v.status ≡ Gone → thread_word words v.thread ≡ 3
+      → get_elem? views id ≡ some v → v.actor.status ≡ Gone → thread_word words v.thread ≡ 3
   pub gone : (layout : Layout) (words : List ℕ) (views : List View) (t : ℕ) → Stands layout words views
       → t ≤ layout.workers → thread_word words t ≡ 3 → HasGoneHand views t
 
@@ -137,7 +138,7 @@ pub record IsTakenAlone (views : List View) (x : ℕ) : Type 0 where
   pub view : View
   pub here : get_elem? views id ≡ some view
   pub once : times_taken x view ≡ 1
-  pub used : UsesSlot (actor_of view) x
+  pub used : UsesSlot view.actor x
   pub others : (other : ℕ) (w : View) → get_elem? views other ≡ some w → other ≢ id → times_taken x w ≡ 0
 
 -- While a row's slot isn't at home in the table, one hand has taken it. `T` is the type of the table's resources.

@@ -27,6 +27,12 @@ pub record HandState : Type 0 where
   -- the rows whose slots the hand has taken, the last one first, and how many resources each slot holds
   pub slots : List (ℕ × ℕ)
 
+-- The hand is as before but for what it knows: it is of the same table, carries what it carried and has its slots.
+pub record KeepsButView (h k : HandState) : Type 0 where
+  pub table : k.table ≡ h.table
+  pub carried : k.carried ≡ h.carried
+  pub slots : k.slots ≡ h.slots
+
 -- the local count that the hand carries from the row, if it has begun a merge of it
 abbrev pub carried_of : HandState → ℕ → Option ℕ
 carried_of hand x = slice_index_or hand.carried (x % row_limit) None
@@ -52,7 +58,7 @@ HoldsOne v x = (is_immortal_row v.layout x ≡ true) ⊎ (1 ≤ holds v x)
 pub record Borrows (v : View) (x : ℕ) : Type 0 where
   pub list : ℕ
   pub cell : ℕ
-  pub locked : v.locked ≡ Some list
+  pub locked : v.actor.locked ≡ Some list
   pub seen : known_cell list cell v ≡ Some (suc x)
   pub there : x < row_count v.layout
 
@@ -62,7 +68,7 @@ MayUse v x = HoldsOne v x ⊎ Borrows v x
 
 -- The object is the first one of the hand's dying chain: no reference to it is left, and the hand is to finalise it.
 abbrev pub IsFirst : View → ℕ → Type 0
-IsFirst v x = v.head ≡ suc x
+IsFirst v x = v.actor.head ≡ suc x
 
 -- The hand may look at the object: it may use it, or is to finalise it.
 abbrev pub MayRead : View → ℕ → Type 0
@@ -70,15 +76,15 @@ MayRead v x = MayUse v x ⊎ IsFirst v x
 
 -- The hand may change the list's cells, and no other hand does: it has locked the list, or is to finalise it.
 abbrev pub MayChange : View → ℕ → Type 0
-MayChange v x = (v.locked ≡ Some x) ⊎ IsFirst v x
+MayChange v x = (v.actor.locked ≡ Some x) ⊎ IsFirst v x
 
 -- The hand may load the list's cells: it has locked the list, to which it holds a reference, or is to finalise it.
 abbrev pub MayLoad : View → ℕ → Type 0
-MayLoad v x = ((v.locked ≡ Some x) × HoldsOne v x) ⊎ IsFirst v x
+MayLoad v x = ((v.actor.locked ≡ Some x) × HoldsOne v x) ⊎ IsFirst v x
 
 -- The hand keeps a reference to the object if it has locked it: it holds a second one.
 abbrev pub KeepsLock : View → ℕ → Type 0
-KeepsLock v x = v.locked ≡ Some x → 2 ≤ holds v x
+KeepsLock v x = v.actor.locked ≡ Some x → 2 ≤ holds v x
 
 -- The hand has nothing to do about the row.
 abbrev pub HasNoWork : View → ℕ → Type 0
@@ -97,4 +103,4 @@ MayWait _ = ⊥
 
 -- The hand runs, and may turn to other work.
 abbrev pub IsRunning : View → Type 0
-IsRunning v = (v.status ≡ Running) × MayWait v.agenda
+IsRunning v = (v.actor.status ≡ Running) × MayWait v.actor.agenda

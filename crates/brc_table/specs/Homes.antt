@@ -9,7 +9,6 @@ use Rattle.brc_model.specs.Layout.{row_count}
 use Rattle.brc_model.specs.Machine.{Machine}
 use Rattle.brc_model.specs.SlotLaws.{UsesSlot}
 use Rattle.brc_table.specs.declared.view.View.{View}
-use Rattle.brc_table.specs.Views.{actor_of}
 use Rattle.brc_table.specs.Rule.{Stands}
 
 -- ---- slots
@@ -49,7 +48,8 @@ pub record HoldsHome {T : Type 0} (m : Machine) (homes : List (home.Option (Opti
   pub holds : resources slot ≡ m.memory (Slot x)
 
 -- What holds of all slots, between any two steps.
-pub record SlotsStand {T : Type 0} (m : Machine) (homes : List (home.Option (Option T))) (views : List View) : Type 0 where
+pub record SlotsStand {T : Type 0} (m : Machine) (homes : List (home.Option (Option T))) (views : List View)
+    : Type 0 where
   pub rows : length homes ≡ row_count m.layout
   -- a slot that no hand has taken is at home
   pub at_home : (x : ℕ) → x < row_count m.layout → IsHome views x → HoldsHome m homes x
@@ -57,9 +57,9 @@ pub record SlotsStand {T : Type 0} (m : Machine) (homes : List (home.Option (Opt
   pub once : (id x : ℕ) (v : View) → get_elem? views id ≡ home.some v → times_taken x v ≤ 1
   pub alone : (id other x : ℕ) (v w : View) → get_elem? views id ≡ home.some v → get_elem? views other ≡ home.some w
       → 1 ≤ times_taken x v → 1 ≤ times_taken x w → id ≡ other
-  pub used : (id x : ℕ) (v : View) → get_elem? views id ≡ home.some v → 1 ≤ times_taken x v → UsesSlot (actor_of v) x
+  pub used : (id x : ℕ) (v : View) → get_elem? views id ≡ home.some v → 1 ≤ times_taken x v → UsesSlot v.actor x
   -- a hand that has locked an object has its slot, and knows what this held
-  pub locked : (id x : ℕ) (v : View) → get_elem? views id ≡ home.some v → v.locked ≡ Some x
+  pub locked : (id x : ℕ) (v : View) → get_elem? views id ≡ home.some v → v.actor.locked ≡ Some x
       → (1 ≤ times_taken x v) × (m.memory (Slot x) ≡ v.in_slot)
 
 -- The whole rule: what holds of words and views, and what holds of slots.

@@ -12,7 +12,7 @@ use Rattle.brc_table.specs.Ending.{kind_at}
 
 -- the hand after it has joined the other one: it keeps of it what is known of a thread that is gone
 abbrev pub joining : View → View → View
-joining v gone = record v { joined = record { thread = gone.thread; used = gone.used } ∷ v.joined }
+joining v gone = record v { joined = record { thread = gone.thread; used = gone.actor.used } ∷ v.joined }
 
 -- Of the rows of the joined hand's block, exactly those that its thread has used are born.
 pub record RowsAreUsed (layout : Layout) (words : List ℕ) (hand : Joined) : Type 0 where

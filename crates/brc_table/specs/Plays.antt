@@ -16,7 +16,7 @@ use Rattle.brc_table.specs.Hands.{MayChange}
 -- The value found suits the view's first duty.
 abbrev pub SuitsFirst : View → List Duty → ℕ → Type 0
 SuitsFirst v [] found = Unit {0}
-SuitsFirst v (d ∷ rest) found = Suits v.thread (is_running v.status) (row_count v.layout) d found
+SuitsFirst v (d ∷ rest) found = Suits v.thread (is_running v.actor.status) (row_count v.layout) d found
 
 -- What a load of a local word finds of the owner.
 abbrev pub FirstFindsOwner : View → List Duty → ℕ → Type 0
@@ -30,7 +30,7 @@ FirstFindsOwner v (d ∷ rest) found = FindsOwner v.layout d found
 abbrev pub FindsKnown : View → List Duty → ℕ → Type 0
 FindsKnown v (KindLoad x ∷ rest) found =
     ((word : ℕ) → 0 < word → knows_kind x word v ≡ true → found ≡ word)
-    × (v.locked ≡ Some x → v.in_slot ≡ resources_of found)
+    × (v.actor.locked ≡ Some x → v.in_slot ≡ resources_of found)
     × (x ≡ none_row → found ≡ half)
 FindsKnown v (CellLoad x i ∷ rest) found =
     (word : ℕ) → MayChange v x → known_cell x i v ≡ Some word → found ≡ word
@@ -44,4 +44,4 @@ overwritten_by t (d ∷ rest) = known_before t d
 
 -- the same of a hand
 abbrev pub overwritten : View → ℕ
-overwritten v = overwritten_by v.thread v.agenda
+overwritten v = overwritten_by v.thread v.actor.agenda

@@ -1,5 +1,5 @@
 -- The table's rule: between any two steps, words and views are those of a counting machine that has the invariant.
-use Rattle.std.specs.Prelude.{◌≡◌, ℕ, ◌+◌, ◌<◌, true, ◌==◌, if◌then◌else◌, List, length, Some, slice_get, slice_index, All}
+use Rattle.std.specs.Prelude.{◌≡◌, ℕ, ◌+◌, ◌<◌, true, ◌==◌, if◌then◌else◌, List, length, None, Some, slice_get, slice_index, All}
 use mathlib.Core.Option.{some}
 use lib.ListN.{get_elem?}
 use Rattle.brc_model.specs.declared.duty.Holding.TheVariants.{ByVariable, AsCaller}
@@ -19,7 +19,7 @@ use Rattle.brc_model.specs.Counting.{Counts, IsPlainLayout}
 use Rattle.brc_table.specs.declared.view.View.{View}
 use Rattle.brc_table.specs.declared.view.Joined.{Joined}
 use Rattle.brc_table.specs.Places.{place, HasWord, word_count}
-use Rattle.brc_table.specs.Views.{actor_of, holds, is_given}
+use Rattle.brc_table.specs.Views.{holds, is_given}
 use Rattle.brc_table.specs.KnownWords.{knows_kind, known_cell}
 use Rattle.brc_table.specs.Threads.{ThreadsStand}
 
@@ -34,7 +34,7 @@ reading address word = word
 
 -- No other hand changes the list's cells: the hand has locked the list, or has chained it to finalise it.
 abbrev pub Guards : Machine → View → ℕ → Type 0
-Guards m v x = GuardsCells m v.thread (actor_of v) x
+Guards m v x = GuardsCells m v.thread v.actor x
 
 -- The joined hand's thread is gone, and has used this number of rows.
 pub record IsGone (actors : List Actor) (hand : Joined) : Type 0 where
@@ -54,7 +54,9 @@ pub record Stands (layout : Layout) (words : List ℕ) (views : List View) : Typ
   pub reads : (a : Address) → HasWord machine.layout a → machine.memory a ≡ reading a (slice_index words (place a))
   -- each view is its thread's
   pub acts : (id : ℕ) (v : View) → get_elem? views id ≡ some v
-      → slice_get machine.actors v.thread ≡ Some (actor_of v)
+      → slice_get machine.actors v.thread ≡ Some v.actor
+  -- a hand lends no resource by a duty: it takes the resource out of a slot that nobody else can see
+  pub lends_none : (id : ℕ) (v : View) → get_elem? views id ≡ some v → v.actor.lent ≡ None
   pub told : (id : ℕ) (v : View) → get_elem? views id ≡ some v → v.layout ≡ machine.layout
   -- the references to counted objects are those that the view lists
   pub holding : (id : ℕ) (v : View) (x : ℕ) → get_elem? views id ≡ some v → IsCounted machine.layout x

@@ -7,7 +7,7 @@ use Rattle.brc_model.specs.declared.address.Address.TheVariants.{Cell}
 use Rattle.brc_model.specs.declared.layout.Layout.{Layout}
 use Rattle.brc_model.specs.Layout.{row_count}
 use Rattle.brc_table.specs.declared.view.View.{View}
-use Rattle.brc_table.specs.Views.{RowsAreThere, with_reference, without_reference, open_work}
+use Rattle.brc_table.specs.Views.{RowsAreThere, with_reference, without_reference, rested}
 use Rattle.brc_table.specs.KnownWords.{KnowsCell, known_cell}
 use Rattle.brc_table.specs.Hands.{most_references, HoldsOne, KeepsLock, MayChange, HasNoWork, HasNoRetain, IsRunning}
 
@@ -22,9 +22,7 @@ without_item layout (suc y) rows = without_reference layout y rows
 
 -- the hand after it has swapped the cell's word, which it found, for another one
 abbrev pub swapped : View → ℕ → ℕ → ℕ → ℕ → View
-swapped v x i word found = record v {
-  agenda = [];
-  aside = open_work v;
+swapped v x i word found = record (rested v) {
   references = with_item v.layout found (without_item v.layout word v.references);
   trace = v.trace ++ record { address = Cell x i; found = found; left = word } ∷ [];
 }

@@ -14,5 +14,5 @@ turned_to Aside v x = turned v x
 
 -- The hand may go on with work that is there.
 abbrev pub MayGoOn : Work → View → Type 0
-MayGoOn Next v = v.status ≢ Gone
+MayGoOn Next v = v.actor.status ≢ Gone
 MayGoOn Aside v = CanAct v

@@ -71,8 +71,8 @@ Follows me after = rows_of me.1 ≡ me.0.taken → rows_of after.1 ≡ after.0.t
 abbrev pub Uses : {T : Type 0} → (View → View) → Me (Option T) View → ℕ → Me (Option T) View → Type 0
 Uses begins me found after =
     (after.0 ≡ view_after (begins me.0) found) × RowsAreThere after.0 × Follows me after
-    × (held_in after.1 ≡ held_after (held_in me.1) (first_use (begins me.0).agenda found)
-    (first_due (begins me.0).agenda found))
+    × (held_in after.1 ≡ held_after (held_in me.1) (first_use (begins me.0).actor.agenda found)
+    (first_due (begins me.0).actor.agenda found))
 
 -- The hand tries to lock the row, and takes its slot if it finds the gate free. Then the slot holds as many resources
 -- as the kind word says that the hand has seen.

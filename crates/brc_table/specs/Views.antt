@@ -1,17 +1,16 @@
 -- A hand's view as a thread of the counting machine, and what its steps make of it.
-use Rattle.std.specs.Prelude.{Bool, ◌≡◌, ℕ, ◌<◌, ◌≤◌, true, ◌==◌, not, if◌then◌else◌, Option, List, [], ◌∷◌, ◌++◌, None, Some, length, count_by, fold, Contains}
+use Rattle.std.specs.Prelude.{Bool, ◌≡◌, ℕ, ◌<◌, ◌≤◌, true, ◌==◌, not, if◌then◌else◌, Option, List, [], ◌∷◌, ◌++◌, Some, length, count_by, fold, Contains}
 use Rattle.std.specs.List.{filter, list_any}
 use Rattle.brc_model.specs.declared.duty.Holding.TheVariants.{AsCaller}
 use Rattle.brc_model.specs.declared.duty.Duty.{Duty}
 use Rattle.brc_model.specs.declared.duty.Duty.TheVariants.{RetainLoad, ReleaseLoad, BirthKind, BirthSlot, BirthLocal, KindLoad, LockGate, UnlockGate, CellLoad, Settle, TakeSlot, SettleEnd, ClaimMark, Leave}
-use Rattle.brc_model.specs.declared.actor.Status.TheVariants.{Running}
 use Rattle.brc_model.specs.declared.layout.Layout.{Layout}
 use Rattle.brc_model.specs.Layout.{row_count, block_size, front_rows, root_row, row_at, is_immortal_row}
-use Rattle.brc_model.specs.Duties.{address_of, new_word, continuation, new_head, ready, cells_of}
-use Rattle.brc_model.specs.declared.actor.Actor.{Actor}
-use Rattle.brc_model.specs.Machine.{is_running, status_by, used_by, locked_by}
+use Rattle.brc_model.specs.Duties.{address_of, new_word, cells_of}
+use Rattle.brc_model.specs.Machine.{actor_by, idle_actor}
 use Rattle.brc_model.specs.OpenWork.{is_about}
 use Rattle.brc_model.specs.Limits.{cell_limit}
+use Rattle.brc_model.specs.Counting.{working}
 use Rattle.brc_model.specs.CountingLaws.{IsUnfinalised}
 use Rattle.brc_model.specs.SlotLaws.{SlotUse, Stays, Takes, Gives, use_of}
 use Rattle.brc_model.specs.Ranges.{cells_named}
@@ -20,19 +19,6 @@ use Rattle.brc_table.specs.declared.view.Event.{Event}
 use Rattle.brc_table.specs.declared.view.Joined.{Joined}
 use Rattle.brc_table.specs.Spares.{is_spent_for}
 use Rattle.brc_table.specs.KnownWords.{knows_kind}
-
--- The thread of the counting machine that the view is of. A hand lends a resource by no duty: it takes the resource out
--- of a slot that nobody else can see.
-abbrev pub actor_of : View → Actor
-actor_of v = record {
-  status = v.status;
-  agenda = v.agenda;
-  aside = v.aside;
-  head = v.head;
-  used = v.used;
-  locked = v.locked;
-  lent = None;
-}
 
 -- ---- references
 
@@ -46,15 +32,15 @@ NamesFewCells (d ∷ rest) = cells_named d ≤ cell_limit
 -- locked. No kind word that it has seen names more cells than a list has.
 pub record RowsAreThere (v : View) : Type 0 where
   pub thread : v.thread ≤ v.layout.workers
-  pub used : v.used ≤ block_size v.layout v.thread
-  pub main : v.thread ≡ 0 → v.used ≡ block_size v.layout v.thread
+  pub used : v.actor.used ≤ block_size v.layout v.thread
+  pub main : v.thread ≡ 0 → v.actor.used ≡ block_size v.layout v.thread
   pub held : (x : ℕ) → 1 ≤ count_by (λ y. y == x) v.references → x < row_count v.layout
-  pub agenda : (x : ℕ) → list_any (is_about x) v.agenda ≡ true → x < row_count v.layout
-  pub aside : (x : ℕ) → list_any (is_about x) v.aside ≡ true → x < row_count v.layout
-  pub head : v.head ≤ row_count v.layout
-  pub cells : NamesFewCells v.agenda
-  pub locked : (x : ℕ) → v.locked ≡ Some x → x < row_count v.layout
-  pub unfinalised : (x : ℕ) → v.locked ≡ Some x → IsUnfinalised x v.head v.agenda
+  pub agenda : (x : ℕ) → list_any (is_about x) v.actor.agenda ≡ true → x < row_count v.layout
+  pub aside : (x : ℕ) → list_any (is_about x) v.actor.aside ≡ true → x < row_count v.layout
+  pub head : v.actor.head ≤ row_count v.layout
+  pub cells : NamesFewCells v.actor.agenda
+  pub locked : (x : ℕ) → v.actor.locked ≡ Some x → x < row_count v.layout
+  pub unfinalised : (x : ℕ) → v.actor.locked ≡ Some x → IsUnfinalised x v.actor.head v.actor.agenda
   pub kinds : (x word : ℕ) → knows_kind x word v ≡ true → cells_of word ≤ cell_limit
 
 -- how many references the hand holds to the object
@@ -78,9 +64,9 @@ without_reference layout x rows = if is_immortal_row layout x then rows else wit
 -- the hand's own event, if its first duty finds this word
 abbrev pub event_of : View → Duty → ℕ → Event
 event_of v d found = record {
-  address = address_of v.layout v.thread v.head d;
+  address = address_of v.layout v.thread v.actor.head d;
   found = found;
-  left = new_word v.thread v.head d found;
+  left = new_word v.thread v.actor.head d found;
 }
 
 -- the rows without the first
@@ -97,19 +83,14 @@ taken_after rows (Gives x) = behind_first rows
 abbrev pub view_by : View → List Duty → ℕ → View
 view_by v [] found = v
 view_by v (d ∷ rest) found = record v {
-  status = status_by v.status d;
-  agenda = ready (new_head v.head d found)
-      (continuation v.layout v.thread (is_running v.status) v.head d found ++ rest);
-  head = new_head v.head d found;
-  used = used_by v.used d;
-  locked = locked_by v.locked d found;
+  actor = actor_by v.layout v.thread v.actor d rest found;
   taken = taken_after v.taken (use_of d found);
   trace = v.trace ++ event_of v d found ∷ [];
 }
 
 -- the view after its first duty has found this word
 abbrev pub view_after : View → ℕ → View
-view_after v found = view_by v v.agenda found
+view_after v found = view_by v v.actor.agenda found
 
 -- the view after several duties, each of which finds the next of these words
 abbrev pub resumed : View → List ℕ → View
@@ -119,62 +100,65 @@ resumed v founds = fold view_after v founds
 
 -- all duties that the hand has still to do
 abbrev pub open_work : View → List Duty
-open_work v = v.agenda ++ v.aside
+open_work v = v.actor.agenda ++ v.actor.aside
 
 -- those about the row: one at most
 abbrev pub work_about : ℕ → View → List Duty
 work_about x v = filter (is_about x) (open_work v)
 
+-- the hand with these duties next, and those put aside
+abbrev pub with_work : View → List Duty → List Duty → View
+with_work v agenda aside = record v { actor = working v.actor agenda aside }
+
+-- the hand with these duties next
+abbrev pub with_next : View → List Duty → View
+with_next v agenda = with_work v agenda v.actor.aside
+
+-- the hand with this duty next, and all its other work put aside
+abbrev pub first_of_all : Duty → View → View
+first_of_all d v = with_work v (d ∷ []) (open_work v)
+
+-- the hand with all its work put aside
+abbrev pub rested : View → View
+rested v = with_work v [] (open_work v)
+
 -- The hand turns to its work about the row and puts all other work aside.
 abbrev pub turned : View → ℕ → View
-turned v x = record v { agenda = work_about x v; aside = filter (λ d. not (is_about x d)) (open_work v) }
+turned v x = with_work v (work_about x v) (filter (λ d. not (is_about x d)) (open_work v))
 
 -- the hand begins to retain the row's object
 abbrev pub retaining : View → ℕ → View
-retaining v x = record v {
-  agenda = RetainLoad x AsCaller ∷ [];
-  aside = open_work v;
-  references = with_reference v.layout x v.references;
-}
+retaining v x = record (first_of_all (RetainLoad x AsCaller) v) { references = with_reference v.layout x v.references }
 
 -- the hand begins to give up a reference to the row's object
 abbrev pub releasing : View → ℕ → View
-releasing v x = record v {
-  agenda = ReleaseLoad x AsCaller ∷ [];
-  aside = open_work v;
-  references = without_reference v.layout x v.references;
-}
+releasing v x =
+    record (first_of_all (ReleaseLoad x AsCaller) v) { references = without_reference v.layout x v.references }
 
 -- the row of the hand's next birth
 abbrev pub next_row : View → ℕ
-next_row v = row_at v.layout v.thread v.used
+next_row v = row_at v.layout v.thread v.actor.used
 
 -- the hand begins the birth of an object with this kind word
 abbrev pub bearing : View → ℕ → View
-bearing v word = record v {
-  agenda = BirthKind (next_row v) AsCaller word ∷ [];
-  aside = open_work v;
-  references = next_row v ∷ v.references;
-}
+bearing v word =
+    record (first_of_all (BirthKind (next_row v) AsCaller word) v) { references = next_row v ∷ v.references }
 
 -- the hand begins to ask for the kind of the row's object
 abbrev pub asking : View → ℕ → View
-asking v x = record v {
-  agenda = KindLoad x ∷ [];
-  aside = open_work v;
-}
+asking v x = first_of_all (KindLoad x) v
 
 -- the hand begins to lock the row's object, whose slot holds n resources
 abbrev pub locking : View → ℕ → ℕ → View
-locking v x n = record v { agenda = LockGate x ∷ []; aside = open_work v; in_slot = n }
+locking v x n = record (first_of_all (LockGate x) v) { in_slot = n }
 
 -- the hand begins to unlock the row's object, or to load a cell of it
 
 abbrev pub unlocking : View → ℕ → View
-unlocking v x = record v { agenda = UnlockGate x ∷ []; aside = open_work v }
+unlocking v x = first_of_all (UnlockGate x) v
 
 abbrev pub loading_cell : View → ℕ → ℕ → View
-loading_cell v x i = record v { agenda = CellLoad x i ∷ []; aside = open_work v }
+loading_cell v x i = first_of_all (CellLoad x i) v
 
 -- the agenda of a hand that settles its chain, or goes on to
 abbrev pub settle_first : List Duty → List Duty
@@ -183,33 +167,33 @@ settle_first (d ∷ rest) = d ∷ rest
 
 -- the hand begins to settle its chain, unless it does already
 abbrev pub settling : View → View
-settling v = record v { agenda = settle_first v.agenda }
+settling v = with_next v (settle_first v.actor.agenda)
 
 -- the hand begins to claim the mark of a row of its own block
 abbrev pub claiming : View → ℕ → View
-claiming v x = record v { agenda = ClaimMark x ∷ [] }
+claiming v x = with_next v (ClaimMark x ∷ [])
 
 -- the hand begins to leave
 abbrev pub leaving : View → View
-leaving v = record v { agenda = Leave 0 v.used ∷ [] }
+leaving v = with_next v (Leave 0 v.actor.used ∷ [])
 
 -- ---- slots
 
 -- The hand has put the resource into the slot of the new object, if that has one: by this no word changes.
 abbrev pub slot_filled_by : List Duty → View → View
-slot_filled_by (BirthSlot x h ∷ rest) v = record v { agenda = BirthLocal x h ∷ rest }
+slot_filled_by (BirthSlot x h ∷ rest) v = with_next v (BirthLocal x h ∷ rest)
 slot_filled_by _ v = v
 
 abbrev pub slot_filled : View → View
-slot_filled v = slot_filled_by v.agenda v
+slot_filled v = slot_filled_by v.actor.agenda v
 
 -- The hand has taken the resource out of the slot of the dying object, if that has one, and the host has closed it.
 abbrev pub slot_emptied_by : List Duty → View → View
-slot_emptied_by (TakeSlot x ∷ rest) v = record v { agenda = SettleEnd x ∷ rest }
+slot_emptied_by (TakeSlot x ∷ rest) v = with_next v (SettleEnd x ∷ rest)
 slot_emptied_by _ v = v
 
 abbrev pub slot_emptied : View → View
-slot_emptied v = slot_emptied_by v.agenda v
+slot_emptied v = slot_emptied_by v.actor.agenda v
 
 -- ---- the hands that main has given out
 
@@ -237,24 +221,23 @@ IsJoined thread v = (used : ℕ) × HasJoined v (record { thread = thread; used 
 
 -- ---- the first hands
 
--- main's hand, which holds the root
-abbrev pub main_view : Layout → View
-main_view layout = record {
+-- the hand of a running thread that has used these rows, and holds the root
+abbrev pub fresh_view : Layout → ℕ → ℕ → View
+fresh_view layout thread used = record {
   layout = layout;
-  thread = 0;
-  status = Running;
+  thread = thread;
+  actor = idle_actor used;
   references = root_row ∷ [];
-  agenda = [];
-  aside = [];
-  head = 0;
-  used = front_rows;
-  locked = None;
   taken = [];
   in_slot = 0;
   given = [];
   joined = [];
   trace = [];
 }
+
+-- main's hand
+abbrev pub main_view : Layout → View
+main_view layout = fresh_view layout 0 front_rows
 
 -- main's hand after it has given out the thread's, with one of its references to the root
 abbrev pub giving : View → ℕ → View
@@ -265,19 +248,4 @@ giving v thread = record v {
 
 -- a worker's hand, just given out
 abbrev pub worker_view : Layout → ℕ → View
-worker_view layout thread = record {
-  layout = layout;
-  thread = thread;
-  status = Running;
-  references = root_row ∷ [];
-  agenda = [];
-  aside = [];
-  head = 0;
-  used = 0;
-  locked = None;
-  taken = [];
-  in_slot = 0;
-  given = [];
-  joined = [];
-  trace = [];
-}
+worker_view layout thread = fresh_view layout thread 0

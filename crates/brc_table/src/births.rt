@@ -29,7 +29,7 @@ impl<T: Drop> Words<T> {
         requires table { IsOf self.now hand.old }
         requires running { IsRunning hand.old.view }
         requires worker { 0 < hand.old.view.thread }
-        requires room { has_room hand.old.view.layout hand.old.view.thread hand.old.view.used ≡ true }
+        requires room { has_room hand.old.view.layout hand.old.view.thread hand.old.view.actor.used ≡ true }
         requires kind { is_counted_kind (kind_of_word word) ≡ true }
         requires cells { cells_of word ≤ cell_limit }
         ensures row { result ≡ next_row hand.old.view }
@@ -59,8 +59,8 @@ impl<T: Drop> Words<T> {
     #[inline(always)]
     pub fn first_local_store(&self, hand: &mut Hand<T>, row: u32)
         requires table { IsOf self.now hand.old }
-        requires alive { hand.old.view.status ≢ Gone }
-        requires duty { OwnsFirst row hand.old.view.agenda }
+        requires alive { hand.old.view.actor.status ≢ Gone }
+        requires duty { OwnsFirst row hand.old.view.actor.agenda }
         requires slot { HoldsItsOwn hand.old row }
         ensures table { hand.new.table ≡ hand.old.table }
         ensures carried { hand.new.carried ≡ hand.old.carried }

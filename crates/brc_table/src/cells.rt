@@ -7,7 +7,7 @@ ghost use Rattle.brc_model.specs.Limits.{cell_limit};
 ghost use Rattle.brc_table.specs.Views.{view_after, loading_cell};
 ghost use Rattle.brc_table.specs.KnownWords.{KnowsCell, known_cell};
 ghost use Rattle.brc_table.specs.Swaps.{swapped, MayPut, MaySwap};
-ghost use Rattle.brc_table.specs.Hands.{most_references, IsOf, IsRunning, MayLoad, MayChange, HasNoWork, HasNoRetain};
+ghost use Rattle.brc_table.specs.Hands.{most_references, IsOf, IsRunning, MayLoad, MayChange, HasNoWork, HasNoRetain, KeepsButView};
 
 use crate::hand::Hand;
 use crate::place::in_cell;
@@ -30,9 +30,7 @@ impl<T: Drop> Words<T> {
         requires idle { HasNoWork hand.old.view row }
         requires loads { MayLoad hand.old.view row }
         requires knows { KnowsCell hand.old.view row cell }
-        ensures table { hand.new.table ≡ hand.old.table }
-        ensures carried { hand.new.carried ≡ hand.old.carried }
-        ensures slots { hand.new.slots ≡ hand.old.slots }
+        ensures kept { KeepsButView hand.old hand.new }
         ensures view { hand.new.view ≡ view_after (loading_cell hand.old.view row cell) result }
         ensures there { result ≤ row_count hand.old.view.layout }
         ensures stays { (word : ℕ) → known_cell row cell hand.old.view ≡ Some word → result ≡ word }
@@ -56,9 +54,7 @@ impl<T: Drop> Words<T> {
         requires retains { HasNoRetain hand.old.view }
         requires puts { MayPut hand.old.view item }
         requires few { length hand.old.view.references < most_references }
-        ensures table { hand.new.table ≡ hand.old.table }
-        ensures carried { hand.new.carried ≡ hand.old.carried }
-        ensures slots { hand.new.slots ≡ hand.old.slots }
+        ensures kept { KeepsButView hand.old hand.new }
         ensures view { hand.new.view ≡ swapped hand.old.view row cell item result }
         ensures there { result ≤ row_count hand.old.view.layout }
         ensures stays { (word : ℕ) → known_cell row cell hand.old.view ≡ Some word → result ≡ word }
@@ -77,9 +73,7 @@ impl<T: Drop> Words<T> {
         requires cell { cell < cell_limit }
         requires there { row < row_count self.now.layout }
         requires may { MaySwap hand.old.view row cell item }
-        ensures table { hand.new.table ≡ hand.old.table }
-        ensures carried { hand.new.carried ≡ hand.old.carried }
-        ensures slots { hand.new.slots ≡ hand.old.slots }
+        ensures kept { KeepsButView hand.old hand.new }
         ensures view { hand.new.view ≡ swapped hand.old.view row cell item result }
         ensures there { result ≤ row_count hand.old.view.layout }
         ensures stays { (seen : ℕ) → known_cell row cell hand.old.view ≡ Some seen → result ≡ seen }

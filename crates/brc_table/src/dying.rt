@@ -5,7 +5,7 @@
 ghost use Rattle.std.specs.Prelude.{◌≡◌, ◌≢◌, ◌<◌};
 ghost use Rattle.brc_model.specs.declared.actor.Status.TheVariants.{Gone};
 ghost use Rattle.brc_table.specs.Views.{view_after, settling, slot_emptied};
-ghost use Rattle.brc_table.specs.Hands.{IsOf};
+ghost use Rattle.brc_table.specs.Hands.{IsOf, KeepsButView};
 ghost use Rattle.brc_table.specs.Uses.{FirstSlot, behind_slot};
 ghost use Rattle.brc_table.specs.Calls.{MaySettle, ClosesRow};
 
@@ -19,11 +19,9 @@ impl<T: Drop> Words<T> {
     #[inline(always)]
     pub fn gate_load(&self, hand: &mut Hand<T>) -> u64
         requires table { IsOf self.now hand.old }
-        requires chain { 0 < hand.old.view.head }
+        requires chain { 0 < hand.old.view.actor.head }
         requires settles { MaySettle hand.old.view }
-        ensures table { hand.new.table ≡ hand.old.table }
-        ensures carried { hand.new.carried ≡ hand.old.carried }
-        ensures slots { hand.new.slots ≡ hand.old.slots }
+        ensures kept { KeepsButView hand.old hand.new }
         ensures view { hand.new.view ≡ view_after (settling hand.old.view) result }
     {
         settles_begin();
@@ -38,8 +36,8 @@ impl<T: Drop> Words<T> {
     #[inline(always)]
     pub fn gate_close(&self, hand: &mut Hand<T>, row: u32) -> u64
         requires table { IsOf self.now hand.old }
-        requires alive { hand.old.view.status ≢ Gone }
-        requires duty { ClosesRow row hand.old.view.agenda }
+        requires alive { hand.old.view.actor.status ≢ Gone }
+        requires duty { ClosesRow row hand.old.view.actor.agenda }
         requires slot { FirstSlot hand.old.slots row 0 }
         ensures table { hand.new.table ≡ hand.old.table }
         ensures carried { hand.new.carried ≡ hand.old.carried }

@@ -6,7 +6,7 @@
 ghost use Rattle.std.specs.Prelude.{◌≡◌, ◌<◌};
 ghost use Rattle.brc_model.specs.Layout.{block_of, row_at, row_count};
 ghost use Rattle.brc_table.specs.Views.{view_after, claiming, leaving};
-ghost use Rattle.brc_table.specs.Hands.{IsOf};
+ghost use Rattle.brc_table.specs.Hands.{IsOf, KeepsButView};
 ghost use Rattle.brc_table.specs.Calls.{IsFree, MayLeave};
 
 use crate::hand::Hand;
@@ -19,7 +19,7 @@ impl<T: Drop> Words<T> {
     /// Returns the row with the index in the block of the hand's thread.
     pub fn own_row(&self, hand: &Hand<T>, index: u32) -> u32
         requires table { IsOf self.now hand.now }
-        requires used { index < hand.now.view.used }
+        requires used { index < hand.now.view.actor.used }
         ensures row { result ≡ row_at self.now.layout hand.now.view.thread index }
         ensures there { result < row_count self.now.layout }
         ensures own { block_of self.now.layout result ≡ hand.now.view.thread }
@@ -36,9 +36,7 @@ impl<T: Drop> Words<T> {
         requires free { IsFree hand.old.view }
         requires own { block_of hand.old.view.layout row ≡ hand.old.view.thread }
         requires there { row < row_count hand.old.view.layout }
-        ensures table { hand.new.table ≡ hand.old.table }
-        ensures carried { hand.new.carried ≡ hand.old.carried }
-        ensures slots { hand.new.slots ≡ hand.old.slots }
+        ensures kept { KeepsButView hand.old hand.new }
         ensures view { hand.new.view ≡ view_after (claiming hand.old.view row) result }
     {
         claims_begin();
@@ -50,9 +48,7 @@ impl<T: Drop> Words<T> {
     pub fn thread_leave(&self, hand: &mut Hand<T>)
         requires table { IsOf self.now hand.old }
         requires may_leave { MayLeave hand.old.view }
-        ensures table { hand.new.table ≡ hand.old.table }
-        ensures carried { hand.new.carried ≡ hand.old.carried }
-        ensures slots { hand.new.slots ≡ hand.old.slots }
+        ensures kept { KeepsButView hand.old hand.new }
         ensures view { hand.new.view ≡ view_after (leaving hand.old.view) 1 }
     {
         releases_begin();

@@ -50,9 +50,9 @@ impl<T> Model for Hand<T> {
 
     ghost invariant = { λ h. (rows_of h.seat.me.1 ≡ h.seat.me.0.taken)
         × (h.thread ≡ h.seat.me.0.thread)
-        × (h.running ≡ is_running h.seat.me.0.status)
-        × (h.head ≡ h.seat.me.0.head)
-        × (h.used ≡ h.seat.me.0.used)
+        × (h.running ≡ is_running h.seat.me.0.actor.status)
+        × (h.head ≡ h.seat.me.0.actor.head)
+        × (h.used ≡ h.seat.me.0.actor.used)
         × RowsAreThere h.seat.me.0
         × HasSpares h.spares.items h.seat.me.0
         × IsGivenBy h.spares.items h.seat.me.0
@@ -69,21 +69,21 @@ impl<T> Hand<T> {
 
     /// Returns whether the hand's thread runs, and so counts locally the objects that it owns.
     pub fn is_running(&self) -> bool
-        ensures { result ≡ is_running self.now.view.status }
+        ensures { result ≡ is_running self.now.view.actor.status }
     {
         self.running
     }
 
     /// Returns how many rows of the thread's block are used.
     pub fn used(&self) -> u32
-        ensures { result ≡ self.now.view.used }
+        ensures { result ≡ self.now.view.actor.used }
     {
         self.used
     }
 
     /// Returns the head of the hand's dying chain: 0 if the chain is empty, else the first object's row plus 1.
     pub fn head(&self) -> u32
-        ensures { result ≡ self.now.view.head }
+        ensures { result ≡ self.now.view.actor.head }
     {
         self.head
     }

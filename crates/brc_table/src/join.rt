@@ -3,7 +3,7 @@
 ghost use Rattle.std.specs.Prelude.{◌≡◌, []};
 ghost use Rattle.brc_model.specs.declared.actor.Status.TheVariants.{Gone};
 ghost use Rattle.brc_table.specs.declared.view.View.{View};
-ghost use Rattle.brc_table.specs.Hands.{IsOf};
+ghost use Rattle.brc_table.specs.Hands.{IsOf, KeepsButView};
 ghost use Rattle.brc_table.specs.Joining.{joining};
 
 use crate::hand::Hand;
@@ -41,11 +41,9 @@ impl<T: Drop> Words<T> {
     pub fn join(&self, hand: &mut Hand<T>, gone: Hand<T>)
         requires table { IsOf self.now hand.old }
         requires other_table { IsOf self.now gone }
-        requires gone { gone.view.status ≡ Gone }
+        requires gone { gone.view.actor.status ≡ Gone }
         requires no_slot { gone.slots ≡ [] }
-        ensures table { hand.new.table ≡ hand.old.table }
-        ensures carried { hand.new.carried ≡ hand.old.carried }
-        ensures slots { hand.new.slots ≡ hand.old.slots }
+        ensures kept { KeepsButView hand.old hand.new }
         ensures view { hand.new.view ≡ joining hand.old.view gone.view }
     {
         self.take_in::<Brand>(hand, gone);
@@ -56,11 +54,9 @@ impl<T: Drop> Words<T> {
         requires view { gone.view ≡ E.view }
         requires table { IsOf self.now hand.old }
         requires other_table { IsOf self.now gone }
-        requires gone { gone.view.status ≡ Gone }
+        requires gone { gone.view.actor.status ≡ Gone }
         requires no_slot { gone.slots ≡ [] }
-        ensures table { hand.new.table ≡ hand.old.table }
-        ensures carried { hand.new.carried ≡ hand.old.carried }
-        ensures slots { hand.new.slots ≡ hand.old.slots }
+        ensures kept { KeepsButView hand.old hand.new }
         ensures view { hand.new.view ≡ joining hand.old.view gone.view }
     {
         let Hand {

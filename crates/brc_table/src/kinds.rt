@@ -7,7 +7,7 @@ ghost use Rattle.brc_word.specs.Words.{half};
 ghost use Rattle.brc_model.specs.Layout.{none_row};
 ghost use Rattle.brc_table.specs.Views.{view_after, asking};
 ghost use Rattle.brc_table.specs.KnownWords.{knows_kind};
-ghost use Rattle.brc_table.specs.Hands.{IsOf, IsRunning, MayRead, HasNoWork};
+ghost use Rattle.brc_table.specs.Hands.{IsOf, IsRunning, MayRead, HasNoWork, KeepsButView};
 
 use crate::hand::Hand;
 use crate::words::Words;
@@ -25,12 +25,10 @@ impl<T: Drop> Words<T> {
         requires running { IsRunning hand.old.view }
         requires usable { MayRead hand.old.view row }
         requires idle { HasNoWork hand.old.view row }
-        ensures table { hand.new.table ≡ hand.old.table }
-        ensures carried { hand.new.carried ≡ hand.old.carried }
-        ensures slots { hand.new.slots ≡ hand.old.slots }
+        ensures kept { KeepsButView hand.old hand.new }
         ensures view { hand.new.view ≡ view_after (asking hand.old.view row) result }
         ensures stays { (word : ℕ) → 0 < word → knows_kind row word hand.old.view ≡ true → result ≡ word }
-        ensures slot { hand.old.view.locked ≡ Some row → hand.old.view.in_slot ≡ resources_of result }
+        ensures slot { hand.old.view.actor.locked ≡ Some row → hand.old.view.in_slot ≡ resources_of result }
         ensures named { row ≡ none_row → result ≡ half }
     {
         work_is_put_aside();

@@ -31,7 +31,7 @@ impl<T: Drop> Words<T> {
         requires counted { IsCounted hand.old.view.layout row }
         requires held { HoldsOne hand.old.view row }
         requires idle { HasNoWork hand.old.view row }
-        requires unlocked { hand.old.view.locked ≡ None }
+        requires unlocked { hand.old.view.actor.locked ≡ None }
         ensures table { hand.new.table ≡ hand.old.table }
         ensures carried { hand.new.carried ≡ hand.old.carried }
         ensures view { hand.new.view ≡ view_after (locking hand.old.view row hand.new.view.in_slot) result }
@@ -54,7 +54,7 @@ impl<T: Drop> Words<T> {
         requires running { IsRunning hand.old.view }
         requires held { HoldsOne hand.old.view row }
         requires idle { HasNoWork hand.old.view row }
-        requires locked { hand.old.view.locked ≡ Some row }
+        requires locked { hand.old.view.actor.locked ≡ Some row }
         requires retains { HasNoRetain hand.old.view }
         requires slot { FirstSlot hand.old.slots row hand.old.view.in_slot }
         ensures table { hand.new.table ≡ hand.old.table }
@@ -80,7 +80,7 @@ impl<T: Drop> Words<T> {
         requires counted { IsCounted hand.old.view.layout row }
         requires held { HoldsOne hand.old.view row }
         requires idle { HasNoWork hand.old.view row }
-        requires unlocked { hand.old.view.locked ≡ None }
+        requires unlocked { hand.old.view.actor.locked ≡ None }
         requires there { row < row_count self.now.layout }
         requires gate { gate ≡ locked_word hand.old.view.thread }
         ensures table { hand.new.table ≡ hand.old.table }

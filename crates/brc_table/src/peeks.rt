@@ -1,7 +1,7 @@
 //! The step by which a hand looks what a thread's word says.
 
 ghost use Rattle.std.specs.Prelude.{◌≡◌, ◌≤◌, ◌⊎◌, ℕ};
-ghost use Rattle.brc_table.specs.Hands.{IsOf};
+ghost use Rattle.brc_table.specs.Hands.{IsOf, KeepsButView};
 ghost use Rattle.brc_table.specs.Peeks.{peeked, NeverStarted};
 ghost use Rattle.brc_table.specs.Views.{IsJoined};
 ghost use Rattle.brc_table.specs.Ending.{SeesEnd};
@@ -31,9 +31,7 @@ impl<T: Drop> Words<T> {
     pub fn thread_peek(&self, hand: &mut Hand<T>, thread: u8) -> u64
         requires table { IsOf self.now hand.old }
         requires known { thread ≤ hand.old.view.layout.workers }
-        ensures table { hand.new.table ≡ hand.old.table }
-        ensures carried { hand.new.carried ≡ hand.old.carried }
-        ensures slots { hand.new.slots ≡ hand.old.slots }
+        ensures kept { KeepsButView hand.old hand.new }
         ensures view { hand.new.view ≡ peeked hand.old.view thread result }
         ensures says { result ≤ 3 }
         ensures unstarted { hand.old.view.thread ≡ 0 → result ≡ 0 → NeverStarted hand.old.view thread }
@@ -49,9 +47,7 @@ impl<T: Drop> Words<T> {
         requires number { thread ≡ W.number }
         requires table { IsOf self.now hand.old }
         requires known { thread ≤ hand.old.view.layout.workers }
-        ensures table { hand.new.table ≡ hand.old.table }
-        ensures carried { hand.new.carried ≡ hand.old.carried }
-        ensures slots { hand.new.slots ≡ hand.old.slots }
+        ensures kept { KeepsButView hand.old hand.new }
         ensures view { hand.new.view ≡ peeked hand.old.view thread result }
         ensures says { result ≤ 3 }
         ensures unstarted { hand.old.view.thread ≡ 0 → result ≡ 0 → NeverStarted hand.old.view thread }

@@ -5,7 +5,7 @@ ghost use Rattle.std.specs.Prelude.{◌≡◌, ◌+◌, ◌<◌, ◌≤◌, leng
 ghost use Rattle.brc_model.specs.Within.{OwnerFits};
 ghost use Rattle.brc_word.specs.Words.{owner_part, local_part};
 ghost use Rattle.brc_table.specs.Views.{view_after, retaining, releasing};
-ghost use Rattle.brc_table.specs.Hands.{IsOf, IsRunning, HoldsOne, MayUse, KeepsLock, HasNoWork, most_references};
+ghost use Rattle.brc_table.specs.Hands.{IsOf, IsRunning, HoldsOne, MayUse, KeepsLock, HasNoWork, most_references, KeepsButView};
 
 use crate::hand::Hand;
 use crate::words::Words;
@@ -24,9 +24,7 @@ impl<T: Drop> Words<T> {
         requires usable { MayUse hand.old.view row }
         requires idle { HasNoWork hand.old.view row }
         requires few { length hand.old.view.references < most_references }
-        ensures table { hand.new.table ≡ hand.old.table }
-        ensures carried { hand.new.carried ≡ hand.old.carried }
-        ensures slots { hand.new.slots ≡ hand.old.slots }
+        ensures kept { KeepsButView hand.old hand.new }
         ensures view { hand.new.view ≡ view_after (retaining hand.old.view row) result }
         ensures owner { OwnerFits hand.old.view.layout row result }
     {
@@ -52,9 +50,7 @@ impl<T: Drop> Words<T> {
         requires held { HoldsOne hand.old.view row }
         requires keeps { KeepsLock hand.old.view row }
         requires idle { HasNoWork hand.old.view row }
-        ensures table { hand.new.table ≡ hand.old.table }
-        ensures carried { hand.new.carried ≡ hand.old.carried }
-        ensures slots { hand.new.slots ≡ hand.old.slots }
+        ensures kept { KeepsButView hand.old hand.new }
         ensures view { hand.new.view ≡ view_after (releasing hand.old.view row) result }
         ensures owner { OwnerFits hand.old.view.layout row result }
         ensures counted { owner_part result ≡ hand.old.view.thread + 1 → 1 ≤ local_part result }

@@ -3,7 +3,7 @@
 ghost use Rattle.std.specs.Prelude.{◌≡◌, ℕ, true, []};
 ghost use Rattle.brc_table.specs.KnownWords.{has_started};
 ghost use Rattle.brc_table.specs.Views.{giving, worker_view};
-ghost use Rattle.brc_table.specs.Hands.{IsOf, CarriesNothing};
+ghost use Rattle.brc_table.specs.Hands.{IsOf, CarriesNothing, KeepsButView};
 ghost use Rattle.brc_table.specs.Giving.{MayGive, MayStart, starting};
 
 use crate::carried::take_spare;
@@ -51,9 +51,7 @@ impl<T: Drop> Words<T> {
     pub fn thread_start(&self, main: &mut Hand<T>, thread: u8)
         requires table { IsOf self.now main.old }
         requires may_start { MayStart main.old.view thread }
-        ensures table { main.new.table ≡ main.old.table }
-        ensures carried { main.new.carried ≡ main.old.carried }
-        ensures slots { main.new.slots ≡ main.old.slots }
+        ensures kept { KeepsButView main.old main.new }
         ensures view { main.new.view ≡ starting main.old.view thread }
         ensures started { has_started thread main.new.view ≡ true }
     {
@@ -65,9 +63,7 @@ impl<T: Drop> Words<T> {
         requires number { thread ≡ W.number }
         requires table { IsOf self.now main.old }
         requires may_start { MayStart main.old.view thread }
-        ensures table { main.new.table ≡ main.old.table }
-        ensures carried { main.new.carried ≡ main.old.carried }
-        ensures slots { main.new.slots ≡ main.old.slots }
+        ensures kept { KeepsButView main.old main.new }
         ensures view { main.new.view ≡ starting main.old.view thread }
     {
         accounts_are_there();

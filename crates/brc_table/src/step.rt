@@ -40,12 +40,12 @@ impl<T: Drop> Words<T> {
     #[inline(always)]
     pub fn step(&self, hand: &mut Hand<T>, duty: Duty) -> u64
         requires table { IsOf self.now hand.old }
-        requires alive { hand.old.view.status ≢ Gone }
+        requires alive { hand.old.view.actor.status ≢ Gone }
         requires known { HasAccess duty }
         requires cell { HasCell duty }
-        requires chain { HasChain duty hand.old.view.head }
-        requires row { HasUsedRow duty hand.old.view.used }
-        requires next { IsNext duty hand.old.view.agenda }
+        requires chain { HasChain duty hand.old.view.actor.head }
+        requires row { HasUsedRow duty hand.old.view.actor.used }
+        requires next { IsNext duty hand.old.view.actor.agenda }
         requires due { DueSlot (use_of duty 0) hand.old.slots hand.old.view }
         ensures table { hand.new.table ≡ hand.old.table }
         ensures carried { hand.new.carried ≡ hand.old.carried }
@@ -53,9 +53,9 @@ impl<T: Drop> Words<T> {
             ≡ held_after hand.old.slots (use_of duty 0) (first_due (duty ∷ []) result) }
         ensures view { hand.new.view ≡ view_after hand.old.view result }
         ensures overwrites { Overwrites hand.old.view.thread duty result }
-        ensures suits { SuitsFirst hand.old.view hand.old.view.agenda result }
-        ensures owner { FirstFindsOwner hand.old.view hand.old.view.agenda result }
-        ensures finds { FindsKnown hand.old.view hand.old.view.agenda result }
+        ensures suits { SuitsFirst hand.old.view hand.old.view.actor.agenda result }
+        ensures owner { FirstFindsOwner hand.old.view hand.old.view.actor.agenda result }
+        ensures finds { FindsKnown hand.old.view hand.old.view.actor.agenda result }
     {
         self.layout_is_plain();
         hand.rows_are_there();
@@ -70,9 +70,9 @@ impl<T: Drop> Words<T> {
         requires may { MayGoOn work hand.old.view }
         requires known { HasAccess duty }
         requires cell { HasCell duty }
-        requires chain { HasChain duty hand.old.view.head }
-        requires row { HasUsedRow duty hand.old.view.used }
-        requires next { IsNext duty (turned_to work hand.old.view (row_of duty)).agenda }
+        requires chain { HasChain duty hand.old.view.actor.head }
+        requires row { HasUsedRow duty hand.old.view.actor.used }
+        requires next { IsNext duty (turned_to work hand.old.view (row_of duty)).actor.agenda }
         requires due { DueSlot (use_of duty 0) hand.old.slots (turned_to work hand.old.view (row_of duty)) }
         ensures table { hand.new.table ≡ hand.old.table }
         ensures carried { hand.new.carried ≡ hand.old.carried }
@@ -81,11 +81,11 @@ impl<T: Drop> Words<T> {
         ensures view { hand.new.view ≡ view_after (turned_to work hand.old.view (row_of duty)) result }
         ensures overwrites { Overwrites hand.old.view.thread duty result }
         ensures suits { SuitsFirst (turned_to work hand.old.view (row_of duty))
-            (turned_to work hand.old.view (row_of duty)).agenda result }
+            (turned_to work hand.old.view (row_of duty)).actor.agenda result }
         ensures owner { FirstFindsOwner (turned_to work hand.old.view (row_of duty))
-            (turned_to work hand.old.view (row_of duty)).agenda result }
+            (turned_to work hand.old.view (row_of duty)).actor.agenda result }
         ensures finds { FindsKnown (turned_to work hand.old.view (row_of duty))
-            (turned_to work hand.old.view (row_of duty)).agenda result }
+            (turned_to work hand.old.view (row_of duty)).actor.agenda result }
     {
         match work {
             Work::Next => self.step(hand, duty),
@@ -100,9 +100,9 @@ impl<T: Drop> Words<T> {
         requires acts { CanAct hand.old.view }
         requires known { HasAccess duty }
         requires cell { HasCell duty }
-        requires chain { HasChain duty hand.old.view.head }
-        requires row { HasUsedRow duty hand.old.view.used }
-        requires next { IsNext duty (turned hand.old.view (row_of duty)).agenda }
+        requires chain { HasChain duty hand.old.view.actor.head }
+        requires row { HasUsedRow duty hand.old.view.actor.used }
+        requires next { IsNext duty (turned hand.old.view (row_of duty)).actor.agenda }
         requires due { DueSlot (use_of duty 0) hand.old.slots (turned hand.old.view (row_of duty)) }
         ensures table { hand.new.table ≡ hand.old.table }
         ensures carried { hand.new.carried ≡ hand.old.carried }
@@ -111,11 +111,11 @@ impl<T: Drop> Words<T> {
         ensures view { hand.new.view ≡ view_after (turned hand.old.view (row_of duty)) result }
         ensures overwrites { Overwrites hand.old.view.thread duty result }
         ensures suits { SuitsFirst (turned hand.old.view (row_of duty))
-            (turned hand.old.view (row_of duty)).agenda result }
+            (turned hand.old.view (row_of duty)).actor.agenda result }
         ensures owner { FirstFindsOwner (turned hand.old.view (row_of duty))
-            (turned hand.old.view (row_of duty)).agenda result }
+            (turned hand.old.view (row_of duty)).actor.agenda result }
         ensures finds { FindsKnown (turned hand.old.view (row_of duty))
-            (turned hand.old.view (row_of duty)).agenda result }
+            (turned hand.old.view (row_of duty)).actor.agenda result }
     {
         work_is_put_aside();
         work_is_taken_back();
@@ -130,12 +130,12 @@ impl<T: Drop> Words<T> {
         requires table { IsOf self.now hand.old }
         requires begins { Becomes self.now.layout hand.old.view (B.begins hand.old.view) }
         requires thread { KeepsThread hand.old.view (B.begins hand.old.view) }
-        requires alive { (B.begins hand.old.view).status ≢ Gone }
+        requires alive { (B.begins hand.old.view).actor.status ≢ Gone }
         requires known { HasAccess duty.now }
         requires there { HasWord self.now.layout
-            (address_of self.now.layout hand.old.view.thread hand.old.view.head duty.now) }
-        requires chain { HasChain duty.now hand.old.view.head }
-        requires next { IsNext duty.now (B.begins hand.old.view).agenda }
+            (address_of self.now.layout hand.old.view.thread hand.old.view.actor.head duty.now) }
+        requires chain { HasChain duty.now hand.old.view.actor.head }
+        requires next { IsNext duty.now (B.begins hand.old.view).actor.agenda }
         requires due { DueSlot (use_of duty.now 0) hand.old.slots (B.begins hand.old.view) }
         ensures table { hand.new.table ≡ hand.old.table }
         ensures carried { hand.new.carried ≡ hand.old.carried }
@@ -143,9 +143,9 @@ impl<T: Drop> Words<T> {
             ≡ held_after hand.old.slots (use_of duty.now 0) (first_due (duty.now ∷ []) result) }
         ensures view { hand.new.view ≡ view_after (B.begins hand.old.view) result }
         ensures overwrites { Overwrites hand.old.view.thread duty.now result }
-        ensures suits { SuitsFirst (B.begins hand.old.view) (B.begins hand.old.view).agenda result }
-        ensures owner { FirstFindsOwner (B.begins hand.old.view) (B.begins hand.old.view).agenda result }
-        ensures finds { FindsKnown (B.begins hand.old.view) (B.begins hand.old.view).agenda result }
+        ensures suits { SuitsFirst (B.begins hand.old.view) (B.begins hand.old.view).actor.agenda result }
+        ensures owner { FirstFindsOwner (B.begins hand.old.view) (B.begins hand.old.view).actor.agenda result }
+        ensures finds { FindsKnown (B.begins hand.old.view) (B.begins hand.old.view).actor.agenda result }
     {
         model_laws();
         self.layout_is_plain();
@@ -180,10 +180,11 @@ impl<T: Drop> Words<T> {
             (λ (s : State (Option T) View). TableStands self.now.layout s.words s.homes s.views)
             self.now.table.slots seat.old.id seat.old.me index (left_by access) (StepsBy B.begins seat.old.me) }
         requires before { IfStored access (λ before. before ≡ overwritten (B.begins seat.old.me.0)) }
-        requires says { IfStored access (λ before. said (B.begins seat.old.me.0) (B.begins seat.old.me.0).agenda before
+        requires says { IfStored access (λ before. said (B.begins seat.old.me.0) (B.begins seat.old.me.0).actor.agenda
+            before
             ≡ before) }
         requires knows { IfStored access (λ before. (found : ℕ)
-            → OverwritesFirst (B.begins seat.old.me.0).thread (B.begins seat.old.me.0).agenda found
+            → OverwritesFirst (B.begins seat.old.me.0).thread (B.begins seat.old.me.0).actor.agenda found
             → found ≡ before) }
         ensures table { seat.new.table_id ≡ seat.old.table_id }
         ensures step { StepsBy B.begins seat.old.me result seat.new.me }

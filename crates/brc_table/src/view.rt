@@ -1,6 +1,6 @@
 //! What a hand knows of the table: plain data that exists in proofs alone.
 
-use brc_model::{Address, Duty, Layout, Status};
+use brc_model::{Actor, Address, Layout};
 use std::collections::LinkedList;
 
 /// What one hand knows. No value of it is made: it is the ghost state that contracts speak of.
@@ -9,20 +9,11 @@ pub struct View {
     pub layout: Layout,
     /// The hand's thread: main's is 0, and the workers' are 1, 2 and so on.
     pub thread: u8,
-    /// Whether the thread runs, is leaving or is gone.
-    pub status: Status,
+    /// The thread, as what it counts with. A hand lends no resource by a duty: it takes the resource out of a slot that
+    /// nobody else can see, so the thread's `lent` stays `None`.
+    pub actor: Actor,
     /// The rows of the counted objects to which the hand holds references, each as often as it holds one.
     pub references: LinkedList<u32>,
-    /// The duties that come next.
-    pub agenda: LinkedList<Duty>,
-    /// The duties that the hand has put aside, each about another row.
-    pub aside: LinkedList<Duty>,
-    /// The head of the dying chain: 0 if it is empty, else a row plus 1.
-    pub head: u32,
-    /// How many rows of the thread's block are used.
-    pub used: u32,
-    /// The row of the list that the hand has locked.
-    pub locked: Option<u32>,
     /// The rows whose slots the hand has taken out of the table, the last one first.
     pub taken: LinkedList<u32>,
     /// How many resources the slot of the object that the hand has locked had, when the hand took it.

@@ -8,8 +8,10 @@ use Rattle.brc_table.proofs.carried.spares_of.Goals as goal
 
 pub loop-preserved : goal.loop-preserved
 loop-preserved c = (
-  ap length c.in_ok-push.ensures.items ∙ (length-append c.loop.spares.items _ ∙ ap (λ (n : ℕ). n + 1) c.loop.invariant.0),
+  ap length c.in_ok-push.ensures.items ∙ (length-append c.loop.spares.items _
+      ∙ ap (λ (n : ℕ). n + 1) c.loop.invariant.0),
   λ worker.
-      subst (λ (spares : List (Option Spare)). is_spent (slice_get spares worker) ≡ false) (sym c.in_ok-push.ensures.items)
+      subst (λ (spares : List (Option Spare)). is_spent (slice_get spares worker) ≡ false)
+      (sym c.in_ok-push.ensures.items)
       (spare_more c.loop.spares.items _ worker c.loop.invariant.1),
 )

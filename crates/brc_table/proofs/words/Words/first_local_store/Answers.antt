@@ -13,18 +13,18 @@ pub step_from-requires-clause-begins : goal.step_from-requires-clause-begins
 step_from-requires-clause-begins g c =
     let v = c.args.hand.now.view in
     filled_becomes c.duties_are_kept.ensures c.needed_slots_are_unlocked.ensures c.args.self.now.layout c.args.row v
-    v.agenda refl c.requires.duty c.requires.alive
+    v.actor.agenda refl c.requires.duty c.requires.alive
     (taken_once c.args.hand.now c.args.row (resources_of c.requires.slot.word) c.slots_are_taken.ensures
     c.requires.slot.first)
 
 pub step_from-requires-clause-thread : goal.step_from-requires-clause-thread
 step_from-requires-clause-thread g c =
-    filled_keeps c.args.hand.now.view c.args.row c.args.hand.now.view.agenda c.requires.duty
+    filled_keeps c.args.hand.now.view c.args.row c.args.hand.now.view.actor.agenda c.requires.duty
 
 pub step_from-requires-clause-there : goal.step_from-requires-clause-there
 step_from-requires-clause-there g c =
     subst (λ (l : Layout). c.args.row < row_count l) c.requires.table.1
-    (owns_first_there c.args.hand.now.view c.args.row c.args.hand.now.view.agenda c.rows_are_there.ensures refl
+    (owns_first_there c.args.hand.now.view c.args.row c.args.hand.now.view.actor.agenda c.rows_are_there.ensures refl
     c.requires.duty)
 
 pub step_from-requires-clause-due : goal.step_from-requires-clause-due
@@ -33,14 +33,15 @@ step_from-requires-clause-due g c =
     let slot = c.requires.slot in (
       resources_of slot.word,
       slot.first,
-      own_due v c.args.row slot.word v.agenda refl c.requires.duty slot.some slot.seen,
+      own_due v c.args.row slot.word v.actor.agenda refl c.requires.duty slot.some slot.seen,
     )
 
 pub step_from-requires-clause-alive : goal.step_from-requires-clause-alive
 step_from-requires-clause-alive g c =
     let v = c.args.hand.now.view in
-    subst (λ (s : Status). s ≢ Gone) (sym (filled_keeps v c.args.row v.agenda c.requires.duty).status) c.requires.alive
+    subst (λ (s : Status). s ≢ Gone) (sym (filled_keeps v c.args.row v.actor.agenda c.requires.duty).status)
+    c.requires.alive
 
 pub step_from-requires-clause-next : goal.step_from-requires-clause-next
 step_from-requires-clause-next g c =
-    let v = c.args.hand.now.view in own_next v c.args.row v.agenda refl c.requires.duty
+    let v = c.args.hand.now.view in own_next v c.args.row v.actor.agenda refl c.requires.duty

@@ -12,28 +12,29 @@ pub step_from-requires-clause-begins : goal.step_from-requires-clause-begins
 step_from-requires-clause-begins g c =
     let v = c.args.hand.now.view in
     emptied_becomes c.duties_are_kept.ensures c.needed_slots_are_unlocked.ensures c.args.self.now.layout c.args.row v
-    v.agenda refl c.requires.duty c.requires.alive
+    v.actor.agenda refl c.requires.duty c.requires.alive
     (taken_once c.args.hand.now c.args.row 0 c.slots_are_taken.ensures c.requires.slot)
 
 pub step_from-requires-clause-thread : goal.step_from-requires-clause-thread
 step_from-requires-clause-thread g c =
-    emptied_keeps c.args.hand.now.view c.args.row c.args.hand.now.view.agenda c.requires.duty
+    emptied_keeps c.args.hand.now.view c.args.row c.args.hand.now.view.actor.agenda c.requires.duty
 
 pub step_from-requires-clause-there : goal.step_from-requires-clause-there
 step_from-requires-clause-there g c =
     let v = c.args.hand.now.view in
     subst (λ (l : Layout). c.args.row < row_count l) c.requires.table.1
-    (gate_close_there v c.args.row v.agenda c.rows_are_there.ensures refl c.requires.duty)
+    (gate_close_there v c.args.row v.actor.agenda c.rows_are_there.ensures refl c.requires.duty)
 
 pub step_from-requires-clause-alive : goal.step_from-requires-clause-alive
 step_from-requires-clause-alive g c =
     let v = c.args.hand.now.view in
-    subst (λ (s : Status). s ≢ Gone) (sym (emptied_keeps v c.args.row v.agenda c.requires.duty).status) c.requires.alive
+    subst (λ (s : Status). s ≢ Gone) (sym (emptied_keeps v c.args.row v.actor.agenda c.requires.duty).status)
+    c.requires.alive
 
 pub step_from-requires-clause-next : goal.step_from-requires-clause-next
 step_from-requires-clause-next g c =
-    let v = c.args.hand.now.view in gate_close_next v c.args.row v.agenda refl c.requires.duty
+    let v = c.args.hand.now.view in gate_close_next v c.args.row v.actor.agenda refl c.requires.duty
 
 pub step_from-requires-clause-due : goal.step_from-requires-clause-due
 step_from-requires-clause-due g c =
-    let v = c.args.hand.now.view in (0, c.requires.slot, close_due v c.args.row v.agenda refl c.requires.duty)
+    let v = c.args.hand.now.view in (0, c.requires.slot, close_due v c.args.row v.actor.agenda refl c.requires.duty)

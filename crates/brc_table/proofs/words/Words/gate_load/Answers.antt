@@ -11,7 +11,7 @@ step_from-requires-clause-begins g c =
 
 pub step_from-requires-clause-alive : goal.step_from-requires-clause-alive
 step_from-requires-clause-alive g c =
-    settles_alive c.args.hand.now.view c.args.hand.now.view.agenda c.requires.settles
+    settles_alive c.args.hand.now.view c.args.hand.now.view.actor.agenda c.requires.settles
 
 pub step_from-requires-clause-there : goal.step_from-requires-clause-there
 step_from-requires-clause-there g c =
@@ -19,4 +19,4 @@ step_from-requires-clause-there g c =
 
 pub step_from-requires-clause-next : goal.step_from-requires-clause-next
 step_from-requires-clause-next g c =
-    settles_next c.args.hand.now.view c.args.hand.now.view.agenda c.requires.settles
+    settles_next c.args.hand.now.view c.args.hand.now.view.actor.agenda c.requires.settles

@@ -30,13 +30,15 @@ pub take_spare-spare-requires-clause-there : goal.take_spare-spare-requires-clau
 take_spare-spare-requires-clause-there g c =
     let view_is = ap (λ (h : HandState). h.view) c.main.view_is in
     let may = subst (λ (v : View). MayGive v c.args.thread) (sym view_is) c.requires.may_give in
-    spare_there c.main.inside.spares.items c.main.inside.seat.me.0 c.args.thread c.main.invariant.6 c.main.invariant.7 may
+    spare_there c.main.inside.spares.items c.main.inside.seat.me.0 c.args.thread c.main.invariant.6 c.main.invariant.7
+    may
 
 pub take_spare-spare-requires-clause-left : goal.take_spare-spare-requires-clause-left
 take_spare-spare-requires-clause-left g c =
     let view_is = ap (λ (h : HandState). h.view) c.main.view_is in
     let may = subst (λ (v : View). MayGive v c.args.thread) (sym view_is) c.requires.may_give in
-    spare_left c.main.inside.spares.items c.main.inside.seat.me.0 c.args.thread c.main.invariant.6 c.main.invariant.7 may
+    spare_left c.main.inside.spares.items c.main.inside.seat.me.0 c.args.thread c.main.invariant.6 c.main.invariant.7
+    may
 
 -- Main's hand is still as its plain fields say.
 pub invariant_of-main : goal.invariant_of-main
@@ -54,9 +56,9 @@ invariant_of-main g c =
     let left = sym {A = List (Option Spare)} c.take_spare-spare.ensures in (
       ap rows_of after.1 ∙ (fits.0 ∙ sym (ap (λ (v : View). v.taken) view)),
       fits.1 ∙ sym (ap (λ (v : View). v.thread) view),
-      fits.2 ∙ sym (ap (λ (v : View). is_running v.status) view),
-      fits.3 ∙ sym (ap (λ (v : View). v.head) view),
-      fits.4 ∙ sym (ap (λ (v : View). v.used) view),
+      fits.2 ∙ sym (ap (λ (v : View). is_running v.actor.status) view),
+      fits.3 ∙ sym (ap (λ (v : View). v.actor.head) view),
+      fits.4 ∙ sym (ap (λ (v : View). v.actor.used) view),
       subst RowsAreThere (sym view) (giving_there before.0 t fits.5),
       subst (λ (ps : List (Option Spare)). HasSpares ps c.split_seat-seat.new.seat.me.0) left
           (subst (HasSpares (set spares (t - 1) None)) (sym view)

@@ -22,10 +22,11 @@ step_from-requires-clause-next g c =
     let v = c.args.hand.now.view in
     let thread : c.hand.inside.thread ≡ v.thread =
     c.hand.invariant.1 ∙ ap (λ (h : HandState). h.view.thread) c.hand.view_is in
-    let used : c.hand.inside.used ≡ v.used = c.hand.invariant.4 ∙ ap (λ (h : HandState). h.view.used) c.hand.view_is in
+    let used : c.hand.inside.used ≡ v.actor.used = c.hand.invariant.4 ∙ ap (λ (h : HandState). h.view.actor.used)
+    c.hand.view_is in
     let row_is : c.row_at-row.result ≡ next_row v =
     c.row_at-row.ensures ∙ (ap (λ (t : ℕ). row_at c.self.inside.layout t c.hand.inside.used) thread
     ∙ (ap (row_at c.self.inside.layout v.thread) used
-    ∙ ap (λ (l : Layout). row_at l v.thread v.used)
+    ∙ ap (λ (l : Layout). row_at l v.thread v.actor.used)
     (c.self.invariant.0 ∙ (ap (λ (w : TableState). w.layout) c.self.view_is ∙ sym c.requires.table.1)))) in
     ap (λ (x : ℕ). BirthKind x AsCaller c.args.word) (sym row_is)

@@ -28,7 +28,7 @@ compare_exchange-requires g c =
           c.immortals_are_free.ensures shared.key me.0 x c.args.gate
           (here (λ v y. IsRunning v) c.requires.running) (here (λ v y. IsCounted v.layout y) c.requires.counted)
           (here HasNoWork c.requires.idle) (here HoldsOne c.requires.held)
-          (here (λ v y. v.locked ≡ None) c.requires.unlocked)
+          (here (λ v y. v.actor.locked ≡ None) c.requires.unlocked)
           (here (λ v y. c.args.gate ≡ locked_word v.thread) c.requires.gate) shared.table_id.slots hand.seat.id
           c.in_line-index.result me refl (at ∙ ap (in_tile 2) c.requires.row),
     )

@@ -17,7 +17,7 @@ pub step_from-requires-clause-there : goal.step_from-requires-clause-there
 step_from-requires-clause-there g c =
     let v = c.args.hand.now.view in
     let d = c.args.duty in
-    subst (λ (l : Layout). HasWord l (address_of l v.thread v.head d)) c.requires.table.1
+    subst (λ (l : Layout). HasWord l (address_of l v.thread v.actor.head d)) c.requires.table.1
     (word_there v d (subst IsPlainLayout (sym c.requires.table.1) c.layout_is_plain.ensures) c.rows_are_there.ensures
     c.requires.known c.requires.cell c.requires.chain c.requires.row
     (λ this. work_row_there v (row_of d) d c.rows_are_there.ensures c.requires.next))

@@ -54,7 +54,8 @@ word_here d l k t u head n layout thread same there =
 pub address_of-address-requires-clause-indexed : goal.address_of-address-requires-clause-indexed
 address_of-address-requires-clause-indexed g c =
     let v = c.args.hand.now.view in
-    next.index_small c.args.self.now.layout v.thread v.head c.args.duty.now c.layout_is_plain.ensures c.requires.there
+    next.index_small c.args.self.now.layout v.thread v.actor.head c.args.duty.now c.layout_is_plain.ensures
+    c.requires.there
 
 pub access_of-access-requires : goal.access_of-access-requires
 access_of-access-requires g c =
@@ -79,9 +80,10 @@ operate-word-requires-clause-there g c =
     (subst (λ (n : ℕ). place address < n) (sym (c.words_are_there.ensures ∙ ap word_count (sym layout_is)))
     (place_within layout address
     (subst (λ (l : Layout). l.workers ≤ worker_limit) (sym layout_is) c.layout_is_plain.ensures.few_workers)
-    (word_here c.args.duty.now layout c.args.self.now.layout c.hand.inside.thread v.thread c.hand.inside.head v.head
+    (word_here c.args.duty.now layout c.args.self.now.layout c.hand.inside.thread v.thread c.hand.inside.head
+    v.actor.head
     layout_is (c.hand.invariant.1 ∙ ap (λ (h : HandState). h.view.thread) c.hand.view_is)
-    (c.hand.invariant.3 ∙ ap (λ (h : HandState). h.view.head) c.hand.view_is) c.requires.there)))
+    (c.hand.invariant.3 ∙ ap (λ (h : HandState). h.view.actor.head) c.hand.view_is) c.requires.there)))
 
 pub operate-word-requires-clause-allowed : goal.operate-word-requires-clause-allowed
 operate-word-requires-clause-allowed g c =
@@ -95,11 +97,11 @@ operate-word-requires-clause-allowed g c =
     let access = c.access_of-access.result in
     let keeps = subst (λ (h : HandState). KeepsThread h.view (begins h.view)) (sym view_is) c.requires.thread in
     let thread : hand.thread ≡ u.thread = c.hand.invariant.1 ∙ sym keeps.thread in
-    let head : hand.head ≡ u.head = c.hand.invariant.3 ∙ sym keeps.head in
+    let head : hand.head ≡ u.actor.head = c.hand.invariant.3 ∙ sym keeps.head in
     let layout : c.self.inside.layout ≡ u.layout =
     c.self.invariant.0 ∙ (ap (λ (w : TableState). w.layout) c.self.view_is
     ∙ (sym c.requires.table.1 ∙ (ap (λ (h : HandState). h.view.layout) (sym view_is) ∙ sym keeps.layout))) in
-    let index : c.place_at-index.result ≡ place (address_of u.layout u.thread u.head d) =
+    let index : c.place_at-index.result ≡ place (address_of u.layout u.thread u.actor.head d) =
     c.place_at-index.ensures ∙ ap place c.address_of-address.ensures
     ∙ (ap (λ (l : Layout). place (address_of l hand.thread hand.head d)) layout
     ∙ (ap (λ (t : ℕ). place (address_of u.layout t hand.head d)) thread
@@ -108,10 +110,11 @@ operate-word-requires-clause-allowed g c =
     words.layout words.table.slots hand.seat.id c.place_at-index.result me
     (record { layout_is = refl; view_is = ap (λ (h : HandState). h.view) view_is }) c.requires.begins
     c.hand.invariant.0 d
-    c.requires.known (subst (λ (h : HandState). IsNext d (begins h.view).agenda) (sym view_is) c.requires.next)
-    (subst (λ (h : HandState). (begins h.view).status ≢ Gone) (sym view_is) c.requires.alive) index (left_by access)
+    c.requires.known (subst (λ (h : HandState). IsNext d (begins h.view).actor.agenda) (sym view_is) c.requires.next)
+    (subst (λ (h : HandState). (begins h.view).actor.status ≢ Gone) (sym view_is) c.requires.alive) index
+    (left_by access)
     (subst (λ (t : ℕ). (running : Bool) (n found : ℕ) → Suits t running n d found
-    → left_by access found ≡ new_word t u.head d found) thread
+    → left_by access found ≡ new_word t u.actor.head d found) thread
     (subst (λ (k : ℕ). (running : Bool) (n found : ℕ) → Suits hand.thread running n d found
     → left_by access found ≡ new_word hand.thread k d found) head c.access_of-access.ensures.word))
     (subst (λ (h : HandState). DueSlot (use_of d 0) h.slots (begins h.view)) (sym view_is) c.requires.due)
@@ -125,7 +128,8 @@ operate-word-requires-clause-before g c =
     let view_is = c.hand.view_is in
     let access = c.access_of-access.result in
     let keeps = subst (λ (h : HandState). KeepsThread h.view (begins h.view)) (sym view_is) c.requires.thread in
-    next.before_next u d (subst (λ (h : HandState). IsNext d (begins h.view).agenda) (sym view_is) c.requires.next)
+    next.before_next u d (subst (λ (h : HandState). IsNext d (begins h.view).actor.agenda) (sym view_is)
+    c.requires.next)
     c.requires.known access
     (subst (λ (t : ℕ). IfStored access (λ b. b ≡ overwritten_by t (d ∷ [])))
     (c.hand.invariant.1 ∙ sym keeps.thread) c.access_of-access.ensures.before)
@@ -139,9 +143,9 @@ operate-word-requires-clause-says g c =
     let view_is = c.hand.view_is in
     let access = c.access_of-access.result in
     let keeps = subst (λ (h : HandState). KeepsThread h.view (begins h.view)) (sym view_is) c.requires.thread in
-    next.says_next u d (subst (λ (h : HandState). IsNext d (begins h.view).agenda) (sym view_is) c.requires.next)
+    next.says_next u d (subst (λ (h : HandState). IsNext d (begins h.view).actor.agenda) (sym view_is) c.requires.next)
     c.requires.known access
-    (subst (λ (t : ℕ). IfStored access (λ b. reading (address_of u.layout t u.head d) b ≡ b))
+    (subst (λ (t : ℕ). IfStored access (λ b. reading (address_of u.layout t u.actor.head d) b ≡ b))
     (c.hand.invariant.1 ∙ sym keeps.thread)
     (subst (λ (k : ℕ). IfStored access (λ b. reading (address_of u.layout hand.thread k d) b ≡ b))
     (c.hand.invariant.3 ∙ sym keeps.head)
@@ -156,15 +160,15 @@ operate-word-requires-clause-knows g c =
     let view_is = c.hand.view_is in
     let access = c.access_of-access.result in
     let keeps = subst (λ (h : HandState). KeepsThread h.view (begins h.view)) (sym view_is) c.requires.thread in
-    next.knows_next u d (subst (λ (h : HandState). IsNext d (begins h.view).agenda) (sym view_is) c.requires.next)
+    next.knows_next u d (subst (λ (h : HandState). IsNext d (begins h.view).actor.agenda) (sym view_is) c.requires.next)
     c.requires.known access
     (subst (λ (t : ℕ). IfStored access (λ b. (found : ℕ) → Overwrites t d found → found ≡ b))
     (c.hand.invariant.1 ∙ sym keeps.thread) c.access_of-access.ensures.knows)
 
 -- What the hand has done, and what the word that it found said.
 stepped : (begins : View → View) (duty : Duty) {T : Type 0} (me after : Me (Option T) View) (word found : ℕ)
-    → IsNext duty (begins me.0).agenda → HasAccess duty → StepsBy begins me word after
-    → found ≡ reading (address_of (begins me.0).layout (begins me.0).thread (begins me.0).head duty) word
+    → IsNext duty (begins me.0).actor.agenda → HasAccess duty → StepsBy begins me word after
+    → found ≡ reading (address_of (begins me.0).layout (begins me.0).thread (begins me.0).actor.head duty) word
     → Steps begins me found after
 stepped begins duty me after word found is known steps says =
     subst (λ (k : ℕ). Steps begins me k after)
@@ -175,14 +179,14 @@ head_after-head-requires g c =
     let v = c.args.hand.now.view in
     record {
       row =
-          next.next_row_low c.args.self.now.layout v.thread v.head c.args.duty.now c.layout_is_plain.ensures
+          next.next_row_low c.args.self.now.layout v.thread v.actor.head c.args.duty.now c.layout_is_plain.ensures
           c.requires.there;
     }
 
 pub used_after-used-requires : goal.used_after-used-requires
 used_after-used-requires g c =
     let v = c.args.hand.now.view in
-    let used = c.hand.invariant.4 ∙ ap (λ (h : HandState). h.view.used) c.hand.view_is in
+    let used = c.hand.invariant.4 ∙ ap (λ (h : HandState). h.view.actor.used) c.hand.view_is in
     let few =
     subst (λ (l : Layout). block_size l v.thread < 2 ^ 32 - 1) (sym c.requires.table.1)
     (next.block_few c.args.self.now.layout v.thread c.layout_is_plain.ensures) in
@@ -198,30 +202,30 @@ invariant_of-hand g c =
     let found = c.said_by-found.result in
     let after = c.operate-word.new.seat.me in
     let keeps = subst (λ (h : HandState). KeepsThread h.view (begins h.view)) (sym view_is) c.requires.thread in
-    let is = subst (λ (h : HandState). IsNext d (begins h.view).agenda) (sym view_is) c.requires.next in
+    let is = subst (λ (h : HandState). IsNext d (begins h.view).actor.agenda) (sym view_is) c.requires.next in
     let known = c.requires.known in
     let fits = c.hand.invariant in
     let step = stepped begins d c.hand.inside.seat.me after c.operate-word.result found is known
-    c.operate-word.ensures.step (c.said_by-found.ensures u.layout u.thread u.head) in
+    c.operate-word.ensures.step (c.said_by-found.ensures u.layout u.thread u.actor.head) in
     let thread : after.0.thread ≡ before.thread =
     ap (λ (v : View). v.thread) step.0.0 ∙ (next.thread_next u d is known found ∙ keeps.thread) in
     let layout : after.0.layout ≡ before.layout =
     ap (λ (v : View). v.layout) step.0.0 ∙ (next.layout_next u d is known found ∙ keeps.layout) in
     let given : after.0.given ≡ before.given =
     ap (λ (v : View). v.given) step.0.0 ∙ (next.given_next u d is known found ∙ keeps.given) in
-    let status : is_running after.0.status ≡ is_running (status_by before.status d) =
-    ap (λ (v : View). is_running v.status) step.0.0
+    let status : is_running after.0.actor.status ≡ is_running (status_by before.actor.status d) =
+    ap (λ (v : View). is_running v.actor.status) step.0.0
     ∙ (ap is_running (next.status_next u d is known found)
     ∙ ap (λ (s : Status). is_running (status_by s d)) keeps.status) in (
       step.0.2 fits.0,
       fits.1 ∙ sym thread,
-      c.runs_after-running.ensures before.status fits.2 ∙ sym status,
+      c.runs_after-running.ensures before.actor.status fits.2 ∙ sym status,
       c.head_after-head.ensures
           ∙ (ap (λ (k : ℕ). new_head k d found) (fits.3 ∙ sym keeps.head)
-          ∙ sym (ap (λ (v : View). v.head) step.0.0 ∙ next.head_next u d is known found)),
+          ∙ sym (ap (λ (v : View). v.actor.head) step.0.0 ∙ next.head_next u d is known found)),
       c.used_after-used.ensures
           ∙ (ap (λ (k : ℕ). used_by k d) (fits.4 ∙ sym keeps.used)
-          ∙ sym (ap (λ (v : View). v.used) step.0.0 ∙ next.used_next u d is known found)),
+          ∙ sym (ap (λ (v : View). v.actor.used) step.0.0 ∙ next.used_next u d is known found)),
       step.0.1,
       λ main. fits.6 (sym thread ∙ main) ∙ sym (ap (λ (l : Layout). l.workers) layout),
       λ t. fits.7 t ∙ sym (ap (list_any (λ (k : ℕ). k == t)) given),
@@ -240,19 +244,19 @@ record Made (begins : View → View) (hand : HandState) (d : Duty) (found : ℕ)
   slots_are : slots ≡ held_after hand.slots (use_of d 0) (first_due (d ∷ []) found)
   view_is : after ≡ view_after (begins hand.view) found
   overwrites : Overwrites hand.view.thread d found
-  suits : SuitsFirst (begins hand.view) (begins hand.view).agenda found
-  owner : FirstFindsOwner (begins hand.view) (begins hand.view).agenda found
-  finds : FindsKnown (begins hand.view) (begins hand.view).agenda found
+  suits : SuitsFirst (begins hand.view) (begins hand.view).actor.agenda found
+  owner : FirstFindsOwner (begins hand.view) (begins hand.view).actor.agenda found
+  finds : FindsKnown (begins hand.view) (begins hand.view).actor.agenda found
 
 made : (begins : View → View) (hand : HandState) (d : Duty) {T : Type 0} (me after : Me (Option T) View)
     (word found : ℕ) → me.0 ≡ hand.view → held_in me.1 ≡ hand.slots → KeepsThread hand.view (begins hand.view)
-    → IsNext d (begins hand.view).agenda → HasAccess d → StepsBy begins me word after
+    → IsNext d (begins hand.view).actor.agenda → HasAccess d → StepsBy begins me word after
     → ((layout : Layout) (t head : ℕ) → found ≡ reading (address_of layout t head d) word)
     → Made begins hand d found after.0 (held_in after.1)
 made begins hand d me after word found view_is slots_is keeps coming known steps says =
     let u = begins me.0 in
-    let is = subst (λ (v : View). IsNext d (begins v).agenda) (sym view_is) coming in
-    let step = stepped begins d me after word found is known steps (says u.layout u.thread u.head) in
+    let is = subst (λ (v : View). IsNext d (begins v).actor.agenda) (sym view_is) coming in
+    let step = stepped begins d me after word found is known steps (says u.layout u.thread u.actor.head) in
     record {
       slots_are =
           step.0.3 ∙ (next.slots_next u d is known (held_in me.1) found
@@ -261,9 +265,9 @@ made begins hand d me after word found view_is slots_is keeps coming known steps
       overwrites =
           subst (λ (t : ℕ). Overwrites t d found) (ap (λ (v : View). (begins v).thread) view_is ∙ keeps.thread)
           (next.overwrites_next u d is known found step.4);
-      suits = subst (λ (v : View). SuitsFirst (begins v) (begins v).agenda found) view_is step.1;
-      owner = subst (λ (v : View). FirstFindsOwner (begins v) (begins v).agenda found) view_is step.2;
-      finds = subst (λ (v : View). FindsKnown (begins v) (begins v).agenda found) view_is step.3;
+      suits = subst (λ (v : View). SuitsFirst (begins v) (begins v).actor.agenda found) view_is step.1;
+      owner = subst (λ (v : View). FirstFindsOwner (begins v) (begins v).actor.agenda found) view_is step.2;
+      finds = subst (λ (v : View). FindsKnown (begins v) (begins v).actor.agenda found) view_is step.3;
     }
 
 pub returns-clause-slots : goal.returns-clause-slots

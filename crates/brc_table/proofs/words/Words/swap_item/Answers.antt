@@ -24,11 +24,14 @@ swap-requires g c =
     (subst (λ (i : ℕ). MaySwap c.args.hand.now.view g.B.Swap.list i c.args.item) c.requires.index
     (subst (λ (x : ℕ). MaySwap c.args.hand.now.view x c.args.cell c.args.item) c.requires.list c.requires.may))) in
     let place_is : c.in_cell-index.result ≡ cell_place g.B.Swap.list g.B.Swap.cell =
-    at ∙ (ap (λ (x : ℕ). cell_place x c.args.cell) c.requires.list ∙ ap (cell_place g.B.Swap.list) c.requires.index) in (
+    at ∙ (ap (λ (x : ℕ). cell_place x c.args.cell) c.requires.list ∙ ap (cell_place g.B.Swap.list) c.requires.index)
+    in (
       ap (λ (h : HandState). h.table) c.hand.view_is ∙ (c.requires.table.0 ∙ sym table_is),
       subst (λ (i : ℕ). i < shared.table_id.words) (sym at) (subst (λ (k : ℕ). cell_place c.args.row c.args.cell < k)
           (sym (c.self.invariant.1 ∙ ap word_count layout_is)) there),
-      subst (λ (w : ℕ). Allows (λ (s : State (Option _) View). TableStands shared.key s.words s.homes s.views) shared.table_id.slots hand.seat.id hand.seat.me c.in_cell-index.result (λ found. w) (λ found after. Swaps g.B.Swap.list g.B.Swap.cell g.B.Swap.item hand.seat.me found after)) (sym c.requires.item)
+      subst (λ (w : ℕ). Allows (λ (s : State (Option _) View). TableStands shared.key s.words s.homes s.views)
+          shared.table_id.slots hand.seat.id hand.seat.me c.in_cell-index.result (λ found. w)
+          (λ found after. Swaps g.B.Swap.list g.B.Swap.cell g.B.Swap.item hand.seat.me found after)) (sym c.requires.item)
           (swap_allowed c.work_is_put_aside.ensures c.immortals_are_free.ensures c.accounts_are_there.ensures
           c.chains_are_there.ensures c.items_are_there.ensures c.cells_are_swapped.ensures shared.key hand.seat.me.0
           g.B.Swap.list g.B.Swap.cell g.B.Swap.item may shared.table_id.slots hand.seat.id c.in_cell-index.result

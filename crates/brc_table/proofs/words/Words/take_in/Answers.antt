@@ -20,7 +20,7 @@ join_seat-requires g c =
       none_held gone.me.1 (ap (λ (h : HandState). h.slots) c.gone.view_is ∙ c.requires.no_slot),
       omega (arith, c.self.invariant.1),
       joins c.self.inside.table.shared.key hand.id gone.id hand.me.0 gone.me.0 g.E.Ended.view
-          (ap (λ (v : View). v.status) view_is ∙ c.requires.gone) (view_is ∙ c.requires.view),
+          (ap (λ (v : View). v.actor.status) view_is ∙ c.requires.gone) (view_is ∙ c.requires.view),
     )
 
 -- The hand is still as its plain fields say.
@@ -33,9 +33,9 @@ invariant_of-hand g c =
     let fits = c.hand.invariant in (
       ap rows_of after.1 ∙ (fits.0 ∙ sym (ap (λ (v : View). v.taken) view)),
       fits.1 ∙ sym (ap (λ (v : View). v.thread) view),
-      fits.2 ∙ sym (ap (λ (v : View). is_running v.status) view),
-      fits.3 ∙ sym (ap (λ (v : View). v.head) view),
-      fits.4 ∙ sym (ap (λ (v : View). v.used) view),
+      fits.2 ∙ sym (ap (λ (v : View). is_running v.actor.status) view),
+      fits.3 ∙ sym (ap (λ (v : View). v.actor.head) view),
+      fits.4 ∙ sym (ap (λ (v : View). v.actor.used) view),
       subst RowsAreThere (sym view) (joins_there before.0 c.gone.inside.seat.me.0 fits.5),
       subst (HasSpares c.hand.inside.spares.items) (sym view) fits.6,
       subst (IsGivenBy c.hand.inside.spares.items) (sym view) fits.7,
