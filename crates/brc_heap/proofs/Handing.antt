@@ -12,7 +12,7 @@ use Rattle.brc_table.specs.declared.view.View.{View}
 use Rattle.brc_table.specs.Views.{holds, is_given, with_reference}
 use Rattle.brc_table.specs.KnownWords.{has_started, started_word, shows_kind, cell_known}
 use Rattle.brc_table.specs.Giving.{MayGive, MayStart, starting}
-use Rattle.brc_table.specs.declared.view.Event.{Event}
+use Rattle.brc_model.specs.declared.event.WordEvent.{WordEvent}
 use Rattle.brc_heap.specs.Calls.{KeepsKnown, Leaves}
 use Rattle.brc_heap.proofs.KnownKept.{sight_then}
 
@@ -62,7 +62,7 @@ may_give v u thread main held leaves more start started =
 -- The start of a worker leaves what main has seen of objects,
 started_sight : (u : View) (thread : ℕ) → KeepsKnown u (starting u thread)
 started_sight u thread =
-    let event : Event = record { address = ThreadWord thread; found = started_word thread u; left = 1 } in
+    let event : WordEvent = record { address = ThreadWord thread; found = started_word thread u; left = 1 } in
     record {
       locked = refl;
       in_slot = refl;

@@ -11,7 +11,7 @@ use Rattle.brc_model.specs.declared.layout.Layout.{Layout}
 use Rattle.brc_model.specs.Duties.{address_of}
 use Rattle.brc_model.specs.Machine.{same_address, locked_by}
 use Rattle.brc_table.specs.declared.view.View.{View}
-use Rattle.brc_table.specs.declared.view.Event.{Event}
+use Rattle.brc_model.specs.declared.event.WordEvent.{WordEvent}
 use Rattle.brc_table.specs.Views.{view_by, event_of}
 use Rattle.brc_table.specs.KnownWords.{shows_kind, cell_known, known_cell}
 use Rattle.brc_heap.specs.Calls.{KeepsKnown}
@@ -55,7 +55,7 @@ sight_then v u w one other = record {
 }
 
 -- A step on neither the cell nor the row's gate.
-pub unknown : (y i : ℕ) (known : Option ℕ) (e : Event) → same_address e.address (Cell y i) ≡ false
+pub unknown : (y i : ℕ) (known : Option ℕ) (e : WordEvent) → same_address e.address (Cell y i) ≡ false
     → same_address e.address (Gate y) ≡ false → cell_known y i known e ≡ known
 unknown y i known e cell gate =
     ap (λ (b : Bool). if b then Some e.left else if same_address e.address (Gate y) then None else known) cell

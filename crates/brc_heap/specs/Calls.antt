@@ -18,7 +18,7 @@ use Rattle.brc_model.specs.declared.layout.Layout.{Layout}
 use Rattle.brc_model.specs.Layout.{none_row}
 use Rattle.brc_model.specs.declared.address.Address.TheVariants.{Local}
 use Rattle.brc_table.specs.declared.view.View.{View}
-use Rattle.brc_table.specs.declared.view.Event.{Event}
+use Rattle.brc_model.specs.declared.event.WordEvent.{WordEvent}
 use Rattle.brc_table.specs.Views.{view_after, resumed, turned, slot_filled, asking, retaining, releasing, bearing, work_about, open_work, next_row, is_given}
 use Rattle.brc_table.specs.KnownWords.{knows_kind, known_cell}
 use Rattle.brc_table.specs.Hands.{HandState, MayWait, carried_of}
@@ -40,7 +40,7 @@ abbrev pub retained : View → ℕ → ℕ → ℕ → View
 retained v x word found = resumed (retaining v x) (word ∷ found ∷ [])
 
 -- the step on the row's local word that found the one value and left the other
-abbrev pub local_event : ℕ → ℕ → ℕ → Event
+abbrev pub local_event : ℕ → ℕ → ℕ → WordEvent
 local_event x found left = record { address = Local x; found = found; left = left }
 
 -- A running owner's retain stores the local word, unless the object is immortal, nobody owns it any more, or its local

@@ -4,7 +4,7 @@ use Rattle.brc_word.specs.Words.{closed_word}
 use Rattle.brc_model.specs.declared.address.Address.TheVariants.{ThreadWord}
 use Rattle.brc_model.specs.Layout.{row_count, IsCounted}
 use Rattle.brc_table.specs.declared.view.View.{View}
-use Rattle.brc_table.specs.declared.view.Event.{Event}
+use Rattle.brc_model.specs.declared.event.WordEvent.{WordEvent}
 use Rattle.brc_table.specs.Views.{IsJoined}
 use Rattle.brc_table.specs.Ending.{EndState, EndsWith, HaveEnded, RowEnds, SlotEnds, kind_at, gate_at}
 
@@ -30,11 +30,11 @@ pub record HasEnded (end : EndState) : Type 0 where
   pub slots : (x : ℕ) → IsCounted end.layout x → x < row_count end.layout → SlotEnds end x
 
 -- the step of a hand that loads a thread's word, and finds this there
-abbrev pub look_at : ℕ → ℕ → Event
+abbrev pub look_at : ℕ → ℕ → WordEvent
 look_at thread word = record { address = ThreadWord thread; found = word; left = word }
 
 -- the steps of a hand that loads the words of this thread and of those behind it, by rising number
-abbrev pub looks_from : ℕ → List ℕ → List Event
+abbrev pub looks_from : ℕ → List ℕ → List WordEvent
 looks_from thread [] = []
 looks_from thread (word ∷ words) = look_at thread word ∷ looks_from (suc thread) words
 

@@ -7,13 +7,13 @@ use Rattle.brc_model.specs.declared.address.Address.TheVariants.{Gate, Cell}
 use Rattle.brc_model.specs.Layout.{row_count}
 use Rattle.brc_model.specs.Machine.{same_address}
 use Rattle.brc_table.specs.declared.view.View.{View}
-use Rattle.brc_table.specs.declared.view.Event.{Event}
+use Rattle.brc_model.specs.declared.event.WordEvent.{WordEvent}
 use Rattle.brc_table.specs.Views.{view_after, loading_cell}
 use Rattle.brc_table.specs.KnownWords.{cell_known}
 use Rattle.brc_table.specs.Hands.{Borrows}
 
 -- A step on the cell shows what it left there.
-shown : (list cell : ℕ) (known : Option ℕ) (e : Event) → same_address e.address (Cell list cell) ≡ true
+shown : (list cell : ℕ) (known : Option ℕ) (e : WordEvent) → same_address e.address (Cell list cell) ≡ true
     → cell_known list cell known e ≡ Some e.left
 shown list cell known e same =
     ap (λ (b : Bool). if b then Some e.left else if same_address e.address (Gate list) then None else known) same
@@ -26,7 +26,7 @@ same_cell list cell =
 pub item_borrowed : (v : View) (list cell x : ℕ) → v.locked ≡ Some list → suc x ≤ row_count v.layout
     → Borrows (view_after (loading_cell v list cell) (suc x)) x
 item_borrowed v list cell x locked there =
-    let event : Event = record { address = Cell list cell; found = suc x; left = suc x } in
+    let event : WordEvent = record { address = Cell list cell; found = suc x; left = suc x } in
     record {
       list = list;
       cell = cell;

@@ -15,7 +15,7 @@ use Rattle.brc_model.specs.declared.layout.Layout.{Layout}
 use Rattle.brc_model.specs.Duties.{address_of, new_word}
 use Rattle.brc_model.specs.Machine.{same_address, written, locked_by}
 use Rattle.brc_model.specs.Stores.{Overwrites}
-use Rattle.brc_table.specs.declared.view.Event.{Event}
+use Rattle.brc_model.specs.declared.event.WordEvent.{WordEvent}
 use Rattle.brc_table.specs.KnownWords.{shows_kind, cell_known}
 use Rattle.brc_table.proofs.Lists.{and_first, and_second}
 
@@ -65,12 +65,12 @@ lock_before layout t head _ x found locked apart is = is
 -- ---- the hand's own trace
 
 -- The hand's step, as its trace has it, is the one that the machine makes.
-pub record IsStep (layout : Layout) (memory : Address → ℕ) (t head : ℕ) (d : Duty) (e : Event) : Type 0 where
+pub record IsStep (layout : Layout) (memory : Address → ℕ) (t head : ℕ) (d : Duty) (e : WordEvent) : Type 0 where
   pub address : e.address ≡ address_of layout t head d
   pub left : e.left ≡ new_word t head d (memory (address_of layout t head d))
 
-module _ (layout : Layout) (memory : Address → ℕ) (t head : ℕ) (d : Duty) (e : Event)
-    (is_step : IsStep layout memory t head d e) (trace : List Event) where
+module _ (layout : Layout) (memory : Address → ℕ) (t head : ℕ) (d : Duty) (e : WordEvent)
+    (is_step : IsStep layout memory t head d e) (trace : List WordEvent) where
   abbrev after : Address → ℕ
   after = written memory (address_of layout t head d) (new_word t head d (memory (address_of layout t head d)))
 

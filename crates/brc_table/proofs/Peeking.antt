@@ -18,7 +18,7 @@ use Rattle.brc_model.specs.Knowledge.{status_word}
 use Rattle.brc_model.specs.Machine.{Machine}
 use Rattle.brc_model.specs.CountingLaws.{AccountsAreThere, ChainsAreThere}
 use Rattle.brc_table.specs.declared.view.View.{View}
-use Rattle.brc_table.specs.declared.view.Event.{Event}
+use Rattle.brc_model.specs.declared.event.WordEvent.{WordEvent}
 use Rattle.brc_table.specs.Places.{place, HasWord}
 use Rattle.brc_table.specs.Views.{is_given, RowsAreThere}
 use Rattle.brc_table.specs.KnownWords.{shows_kind, cell_known, starts, has_started, shows_gone}
@@ -76,7 +76,7 @@ module _ (accounts : AccountsAreThere) (chains : ChainsAreThere) (layout : Layou
     abbrev after : View
     after = peeked v t found
 
-    abbrev event : Event
+    abbrev event : WordEvent
     event = record { address = ThreadWord t; found = found; left = found }
 
     low : t ≤ m.layout.workers
@@ -237,7 +237,7 @@ pub sees_now : (v : View) (t word : ℕ) → (word ≡ 0 → NeverStarted v t) �
     → SeesEnd (peeked v t word) t
 sees_now v t word never (inl none) = still_sees v t word t (inr (never none))
 sees_now v t word never (inr three) =
-    let event : Event = record { address = ThreadWord t; found = word; left = word } in
+    let event : WordEvent = record { address = ThreadWord t; found = word; left = word } in
     let shows : shows_gone t event ≡ true =
     ap (λ (b : Bool). b && (word == 3)) (eq-eqb t t refl) ∙ eq-eqb word 3 three in
     inl (any_more (shows_gone t) v.trace event

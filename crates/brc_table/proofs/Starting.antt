@@ -15,7 +15,7 @@ use Rattle.brc_model.specs.declared.layout.Layout.{Layout}
 use Rattle.brc_model.specs.Machine.{Machine, same_address, written}
 use Rattle.brc_model.specs.CountingLaws.{AccountsAreThere, ChainsAreThere}
 use Rattle.brc_table.specs.declared.view.View.{View}
-use Rattle.brc_table.specs.declared.view.Event.{Event}
+use Rattle.brc_model.specs.declared.event.WordEvent.{WordEvent}
 use Rattle.brc_table.specs.Places.{place, HasWord}
 use Rattle.brc_table.specs.Views.{RowsAreThere}
 use Rattle.brc_table.specs.KnownWords.{shows_kind, cell_known, starts, has_started, started_word, shows_gone}
@@ -57,7 +57,7 @@ none_gone false = refl
 -- Main has started the thread then.
 pub seen_after : (v : View) (t : ℕ) → has_started t (starting v t) ≡ true
 seen_after v t =
-    let event : Event = record { address = ThreadWord t; found = started_word t v; left = 1 } in
+    let event : WordEvent = record { address = ThreadWord t; found = started_word t v; left = 1 } in
     any_more (starts t) v.trace event ∙ elim (cases_Bool (has_started t v)) [
       | inl before ↦ ap (λ (b : Bool). b || starts t event) before
       | inr not ↦
@@ -72,7 +72,7 @@ module _ (accounts : AccountsAreThere) (chains : ChainsAreThere) (layout : Layou
   abbrev after : View
   after = starting v t
 
-  abbrev event : Event
+  abbrev event : WordEvent
   event = record { address = ThreadWord t; found = started_word t v; left = 1 }
 
   module _ (words : List ℕ) (views : List View) (id : ℕ) (s : Stands layout words views)

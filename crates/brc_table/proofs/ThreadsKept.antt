@@ -16,7 +16,7 @@ use Rattle.brc_model.specs.declared.layout.Layout.{Layout}
 use Rattle.brc_model.specs.Limits.{worker_limit}
 use Rattle.brc_model.specs.Machine.{same_address}
 use Rattle.brc_table.specs.declared.view.View.{View}
-use Rattle.brc_table.specs.declared.view.Event.{Event}
+use Rattle.brc_model.specs.declared.event.WordEvent.{WordEvent}
 use Rattle.brc_table.specs.Places.{place, HasWord, IsObjectWord}
 use Rattle.brc_table.specs.Views.{is_given}
 use Rattle.brc_table.specs.KnownWords.{starts, has_started, started_word, shows_gone, knows_gone}
@@ -217,13 +217,13 @@ object_apart (Resource x) t object = absurd object
 object_apart (ThreadWord u) t object = absurd object
 
 -- The hand has made a step, and keeps its thread and the hands that it has given out.
-pub record Steps (v u : View) (e : Event) : Type 0 where
+pub record Steps (v u : View) (e : WordEvent) : Type 0 where
   pub thread : u.thread ≡ v.thread
   pub given : u.given ≡ v.given
   pub trace : u.trace ≡ v.trace ++ e ∷ []
 
 -- A step on an object's word leaves the words of threads.
-pub object_step : (layout : Layout) (words : List ℕ) (v u : View) (e : Event) (left : ℕ)
+pub object_step : (layout : Layout) (words : List ℕ) (v u : View) (e : WordEvent) (left : ℕ)
     → layout.workers ≤ worker_limit → v.thread ≤ layout.workers → Steps v u e → IsObjectWord e.address
     → HasWord layout e.address → KeepsThreads layout words (set words (place e.address) left) v u
 object_step layout words v u e left few known steps object has =
@@ -254,7 +254,7 @@ object_step layout words v u e left few known steps object has =
 
 -- What a step on the word of the thread `t` shows: it doesn't start the thread, and leaves the word, unless it is the
 -- hand's own thread's.
-pub record StepsOnThread (words : List ℕ) (v : View) (e : Event) (t left : ℕ) : Type 0 where
+pub record StepsOnThread (words : List ℕ) (v : View) (e : WordEvent) (t left : ℕ) : Type 0 where
   pub address : e.address ≡ ThreadWord t
   pub quiet : ((e.found == 0) && (e.left == 1)) ≡ false
   pub gone : e.left ≡ 3 → left ≡ 3
@@ -287,7 +287,7 @@ and_none true c e = e
 and_none false c e = refl
 
 -- A step on a thread's word keeps what the words of threads say.
-pub thread_step : (layout : Layout) (words : List ℕ) (v u : View) (e : Event) (t left : ℕ) → t < length words
+pub thread_step : (layout : Layout) (words : List ℕ) (v u : View) (e : WordEvent) (t left : ℕ) → t < length words
     → Steps v u e → StepsOnThread words v e t left
     → KeepsThreads layout words (set words (place (ThreadWord t)) left) v u
 thread_step layout words v u e t left there steps on =

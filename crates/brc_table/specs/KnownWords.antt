@@ -6,12 +6,12 @@ use Rattle.brc_model.specs.declared.address.Address.TheVariants.{Gate, KindOf, C
 use Rattle.brc_model.specs.Duties.{cells_of}
 use Rattle.brc_model.specs.Machine.{same_address}
 use Rattle.brc_table.specs.declared.view.View.{View}
-use Rattle.brc_table.specs.declared.view.Event.{Event}
+use Rattle.brc_model.specs.declared.event.WordEvent.{WordEvent}
 
 -- ---- kinds
 
 -- Says whether the step left this kind word: a load leaves what it found, and a birth what it stored.
-abbrev pub shows_kind : ℕ → ℕ → Event → Bool
+abbrev pub shows_kind : ℕ → ℕ → WordEvent → Bool
 shows_kind x word e = same_address e.address (KindOf x) && (e.left == word)
 
 -- Says whether the hand has loaded or stored this kind word of the row.
@@ -28,7 +28,7 @@ pub record KnowsCell (v : View) (x cell : ℕ) : Type 0 where
 
 -- what the hand knows of the cell after a step of its own: a step on the cell shows what it left there, and a step on
 -- the row's gate begins or ends a lock
-abbrev pub cell_known : ℕ → ℕ → Option ℕ → Event → Option ℕ
+abbrev pub cell_known : ℕ → ℕ → Option ℕ → WordEvent → Option ℕ
 cell_known x i known e =
     if same_address e.address (Cell x i) then Some e.left
     else if same_address e.address (Gate x) then None
@@ -41,7 +41,7 @@ known_cell x i v = fold (cell_known x i) None v.trace
 -- ---- threads
 
 -- Says whether the step started the thread: its word said that it isn't started, and then that it runs.
-abbrev pub starts : ℕ → Event → Bool
+abbrev pub starts : ℕ → WordEvent → Bool
 starts t e = same_address e.address (ThreadWord t) && ((e.found == 0) && (e.left == 1))
 
 -- Says whether the hand has started the thread.
@@ -53,7 +53,7 @@ abbrev pub started_word : ℕ → View → ℕ
 started_word t v = if has_started t v then 1 else 0
 
 -- Says whether the step left the word of a thread that is gone.
-abbrev pub shows_gone : ℕ → Event → Bool
+abbrev pub shows_gone : ℕ → WordEvent → Bool
 shows_gone t e = same_address e.address (ThreadWord t) && (e.left == 3)
 
 -- Says whether the hand has seen that the thread is gone.

@@ -15,7 +15,7 @@ use Rattle.brc_model.specs.CountingLaws.{IsUnfinalised}
 use Rattle.brc_model.specs.SlotLaws.{SlotUse, Stays, Takes, Gives, use_of}
 use Rattle.brc_model.specs.Ranges.{cells_named}
 use Rattle.brc_table.specs.declared.view.View.{View}
-use Rattle.brc_table.specs.declared.view.Event.{Event}
+use Rattle.brc_model.specs.declared.event.WordEvent.{WordEvent}
 use Rattle.brc_table.specs.declared.view.Joined.{Joined}
 use Rattle.brc_table.specs.Spares.{is_spent_for}
 use Rattle.brc_table.specs.KnownWords.{knows_kind}
@@ -62,7 +62,7 @@ without_reference layout x rows = if is_immortal_row layout x then rows else wit
 -- ---- steps
 
 -- the hand's own event, if its first duty finds this word
-abbrev pub event_of : View → Duty → ℕ → Event
+abbrev pub event_of : View → Duty → ℕ → WordEvent
 event_of v d found = record {
   address = address_of v.layout v.thread v.actor.head d;
   found = found;

@@ -37,6 +37,6 @@ pub use laws::{
     taken_slots_are_alone, views_keep_the_layout,
 };
 pub use rule::Counting;
-pub use view::{Event, Joined, View};
+pub use view::{Joined, View};
 pub use words::Words;
 pub use work::Work;

@@ -1,6 +1,6 @@
 //! What a hand knows of the table: plain data that exists in proofs alone.
 
-use brc_model::{Actor, Address, Layout};
+use brc_model::{Actor, Layout, WordEvent};
 use std::collections::LinkedList;
 
 /// What one hand knows. No value of it is made: it is the ghost state that contracts speak of.
@@ -23,7 +23,7 @@ pub struct View {
     /// The hands that this one has joined, the last one first. Their threads are gone.
     pub joined: LinkedList<Joined>,
     /// The hand's own steps so far, in order.
-    pub trace: LinkedList<Event>,
+    pub trace: LinkedList<WordEvent>,
 }
 
 /// What is known of a hand that another has joined: its thread is gone.
@@ -32,14 +32,4 @@ pub struct Joined {
     pub thread: u8,
     /// How many rows of its block the thread has used.
     pub used: u32,
-}
-
-/// One step of a hand on one word. Running code keeps no trace: it exists in proofs alone.
-pub struct Event {
-    /// The word's address.
-    pub address: Address,
-    /// The value that the step found.
-    pub found: u64,
-    /// The value that the step left.
-    pub left: u64,
 }

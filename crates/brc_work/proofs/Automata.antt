@@ -24,7 +24,6 @@ use Rattle.brc_model.specs.Stops.{row_locked, owned_rows, stopping}
 use Rattle.brc_model.specs.Threads.{code_of}
 use Rattle.brc_model.specs.declared.event.WordEvent.{WordEvent}
 use Rattle.brc_model.specs.Trace.{events_of, MakesStep, GoesSilently, CallsHost, DoesDuty, CanMake, Nothing, Then}
-use Rattle.brc_table.specs.declared.view.Event.{Event}
 use Rattle.brc_work.specs.Traces.{Makes, Refl, Silently, Asks, Dispatches, Reads, Continues, Closes, read_birth, exit_of, is_birth, has_read}
 use Rattle.brc_work.specs.Automata.{IsPlain, MakesPlainly, IsNoClaim, ClaimsNothing, HasNoClaim, CanMakeUnclaimed, AsksNothing, GoesAlone, thread_at, HandsMakeAsThreads, ThreadsAloneMakeAsHands, HandsStopAsThreads}
 
@@ -54,11 +53,11 @@ module _ (functions : List Function) (states : ℕ → ℕ → Option State) (la
       (Then first next c now (later ++ more) step on.0, (none.0, on.1))
 
   module _ (function : ℕ) (p : Place) (a : Actor) where
-    abbrev Can : List Event → Place → Actor → Type 0
+    abbrev Can : List WordEvent → Place → Actor → Type 0
     Can es q b =
         CanMakeUnclaimed functions states layout t (thread_at function p a) es (thread_at function q b)
 
-    one_more : (es : List Event) (q r : Place) (b c : Actor) (made : List WordEvent) → Can es q b
+    one_more : (es : List WordEvent) (q r : Place) (b c : Actor) (made : List WordEvent) → Can es q b
         → (step : MakesStep functions states layout t (thread_at function q b) made (thread_at function r c))
         → ClaimsNothing step
         → CanMakeUnclaimed functions states layout t (thread_at function p a) (es ++ made)
@@ -70,14 +69,14 @@ module _ (functions : List Function) (states : ℕ → ℕ → Option State) (la
         (subst (λ (all : List WordEvent). CanMakeUnclaimed functions states layout t now all after) (append-nil made)
         (Then now after after made [] step (Nothing after), (none, tt)))
 
-    silent_more : (es : List Event) (q r : Place) (b c : Actor) → Can es q b
+    silent_more : (es : List WordEvent) (q r : Place) (b c : Actor) → Can es q b
         → (step : MakesStep functions states layout t (thread_at function q b) [] (thread_at function r c))
         → ClaimsNothing step → Can es r c
     silent_more es q r b c before step none =
         subst (λ (all : List WordEvent). CanMakeUnclaimed functions states layout t (thread_at function p a) all
         (thread_at function r c)) (append-nil es) (one_more es q r b c [] before step none)
 
-    duty_more : (es : List Event) (q r : Place) (b : Actor) (d : Duty) (rest : List Duty) (found : ℕ) → Can es q b
+    duty_more : (es : List WordEvent) (q r : Place) (b : Actor) (d : Duty) (rest : List Duty) (found : ℕ) → Can es q b
         → (step : MakesStep functions states layout t (thread_at function q b) (events_of layout t b d found)
         (thread_at function r (actor_by layout t b d rest found)))
         → ClaimsNothing step → Can (es ++ events_of layout t b d found) r (actor_by layout t b d rest found)
@@ -93,7 +92,7 @@ module _ (functions : List Function) (states : ℕ → ℕ → Option State) (la
         alive_action functions layout t (thread_at function q b) b.status alive
         ∙ ap (agenda_action functions layout t (thread_at function q b)) none ∙ is
 
-    pub plain_can : (n : ℕ) (cs : List HostCall) (es : List Event) (q : Place) (b : Actor)
+    pub plain_can : (n : ℕ) (cs : List HostCall) (es : List WordEvent) (q : Place) (b : Actor)
         (made : Makes layout t (code functions function) p a n cs es q b) → IsPlain made → Can es q b
     plain_can n cs es q b Refl plain = (Nothing (thread_at function p a), tt)
     plain_can n cs es q b (Silently k ds fs r s c moves before none is) plain =
@@ -124,7 +123,7 @@ module _ (functions : List Function) (states : ℕ → ℕ → Option State) (la
         (alive_action functions layout t (thread_at function r c) c.status plain.0
         ∙ ap (agenda_action functions layout t (thread_at function r c)) is)) tt
     plain_can n cs es q b (Closes k ds fs r c x rest failed before is) plain =
-        subst (λ (gs : List Event). Can gs r (actor_by layout t c (CloseResource x) rest 0)) (append-nil fs)
+        subst (λ (gs : List WordEvent). Can gs r (actor_by layout t c (CloseResource x) rest 0)) (append-nil fs)
         (duty_more fs r r c (CloseResource x) rest 0 (plain_can k ds fs r c before plain.1)
         (DoesDuty Ok (CloseResource x) rest (always r) 0
         (alive_action functions layout t (thread_at function r c) c.status plain.0
@@ -134,11 +133,11 @@ module _ (functions : List Function) (states : ℕ → ℕ → Option State) (la
 
 module _ (functions : List Function) (states : ℕ → ℕ → Option State) (layout : Layout) (t function : ℕ) (p : Place)
     (a : Actor) where
-  abbrev Plainly : List Event → Place → Actor → Type 0
+  abbrev Plainly : List WordEvent → Place → Actor → Type 0
   Plainly es q b = MakesPlainly layout t (code functions function) p a es q b
 
   -- A hand's thread that has come to a place goes on by the action.
-  abbrev GoesOn : List Event → Place → Actor → Action → Type 0
+  abbrev GoesOn : List WordEvent → Place → Actor → Action → Type 0
   GoesOn es q b Skip = Unit {0}
   GoesOn es q b Stuck = Unit {0}
   GoesOn es q b (Silent moves place) = Plainly es place b
@@ -147,7 +146,7 @@ module _ (functions : List Function) (states : ℕ → ℕ → Option State) (la
       (found : ℕ) → (is_birth d && has_read (code functions function) q) ≡ false
       → Plainly (es ++ events_of layout t b d found) (place found) (actor_by layout t b d rest found)
 
-  dispatched : (es : List Event) (q : Place) (b : Actor) (x : Action) → Plainly es q b → b.status ≢ Gone
+  dispatched : (es : List WordEvent) (q : Place) (b : Actor) (x : Action) → Plainly es q b → b.status ≢ Gone
       → b.agenda ≡ [] → dispatch layout t b.used (code functions function) q ≡ x → GoesOn es q b x
   dispatched es q b Skip so alive none is = tt
   dispatched es q b Stuck so alive none is = tt
@@ -158,18 +157,18 @@ module _ (functions : List Function) (states : ℕ → ℕ → Option State) (la
   dispatched es q b (Does d rest place) so alive none is =
       λ found other. (_, so.1, Dispatches so.0 so.1 es q b d rest place found so.2 none is other, (alive, so.3))
 
-  by_agenda : (es : List Event) (q : Place) (b : Actor) (agenda : List Duty) → Plainly es q b → b.status ≢ Gone
+  by_agenda : (es : List WordEvent) (q : Place) (b : Actor) (agenda : List Duty) → Plainly es q b → b.status ≢ Gone
       → b.agenda ≡ agenda → GoesOn es q b (agenda_action functions layout t (thread_at function q b) agenda)
   by_agenda es q b [] so alive is =
       dispatched es q b (agenda_action functions layout t (thread_at function q b) []) so alive is refl
   by_agenda es q b (CloseResource x ∷ rest) so alive is =
-      λ found other. subst (λ (fs : List Event). Plainly fs q (actor_by layout t b (CloseResource x) rest found))
+      λ found other. subst (λ (fs : List WordEvent). Plainly fs q (actor_by layout t b (CloseResource x) rest found))
       (sym (append-nil es))
       (so.0, so.1 ++ Close false ∷ [], Closes so.0 so.1 es q b x rest false so.2 is, (alive, so.3))
   by_agenda es q b (d ∷ rest) so alive is =
       λ found other. (so.0, so.1, Continues so.0 so.1 es q b d rest found so.2 is refl, (alive, so.3))
 
-  by_status : (es : List Event) (q : Place) (b : Actor) (s : Status) → Plainly es q b → b.status ≡ s
+  by_status : (es : List WordEvent) (q : Place) (b : Actor) (s : Status) → Plainly es q b → b.status ≡ s
       → GoesOn es q b (status_action functions layout t (thread_at function q b) s)
   by_status es q b Gone so is = tt
   by_status es q b Running so is =
@@ -177,7 +176,7 @@ module _ (functions : List Function) (states : ℕ → ℕ → Option State) (la
   by_status es q b Leaving so is =
       by_agenda es q b b.agenda so (λ gone. let wrong : Leaving ≡ Gone = sym is ∙ gone in cc) refl
 
-  by_choice : (es : List Event) (q : Place) (b : Actor) (choice : Choice) (x : Action) → Plainly es q b
+  by_choice : (es : List WordEvent) (q : Place) (b : Actor) (choice : Choice) (x : Action) → Plainly es q b
       → IsNoClaim choice → action_of functions states layout t (thread_at function q b) choice ≡ x → GoesOn es q b x
   by_choice es q b Ok x so none is = subst (GoesOn es q b) is (by_status es q b b.status so refl)
   by_choice es q b Fault x so none is = subst (GoesOn es q b) is (by_status es q b b.status so refl)
@@ -186,17 +185,17 @@ module _ (functions : List Function) (states : ℕ → ℕ → Option State) (la
 
 module _ (functions : List Function) (states : ℕ → ℕ → Option State) (layout : Layout) (t : ℕ) (p : Place)
     (a : Actor) where
-  abbrev On : ℕ → List Event → Place → Actor → Type 0
+  abbrev On : ℕ → List WordEvent → Place → Actor → Type 0
   On function es q b = MakesPlainly layout t (code functions function) p a es q b
 
   -- A thread of the step world keeps its function.
-  one_step : (x next : StepActor) (es : List Event) (now : List WordEvent)
+  one_step : (x next : StepActor) (es : List WordEvent) (now : List WordEvent)
       → (step : MakesStep functions states layout t x now next) → ClaimsNothing step → AsksNothing step
       → On x.function es x.place x.actor
       → (next.function ≡ x.function) × On x.function (es ++ now) next.place next.actor
   one_step x next es now (GoesSilently choice moves place is) none alone so = (
     refl,
-    subst (λ (fs : List Event). On x.function fs place x.actor) (sym (append-nil es))
+    subst (λ (fs : List WordEvent). On x.function fs place x.actor) (sym (append-nil es))
         (by_choice functions states layout t x.function p a es x.place x.actor choice (Silent moves place) so none is),
   )
   one_step x next es now (CallsHost choice row place exit is) none alone so = absurd alone
@@ -204,17 +203,17 @@ module _ (functions : List Function) (states : ℕ → ℕ → Option State) (la
       (refl, by_choice functions states layout t x.function p a es x.place x.actor choice (Does d rest place) so none is
       found alone)
 
-  can_plain : (x c : StepActor) (es : List Event) (made : List WordEvent)
+  can_plain : (x c : StepActor) (es : List WordEvent) (made : List WordEvent)
       (can : CanMake functions states layout t x made c)
       → GoesAlone can → On x.function es x.place x.actor
       → On x.function (es ++ made) c.place c.actor
   can_plain x c es made (Nothing same) none so =
-      subst (λ (fs : List Event). On x.function fs x.place x.actor) (sym (append-nil es)) so
+      subst (λ (fs : List WordEvent). On x.function fs x.place x.actor) (sym (append-nil es)) so
   can_plain x c es made (Then first next last now later step rest) none so =
       let went = one_step x next es now step none.0 none.1 so in
       let here = es ++ now in
       let from = subst (λ (f : ℕ). On f here next.place next.actor) (sym went.0) went.1 in
-      subst (λ (fs : List Event). On x.function fs c.place c.actor) (append_assoc es now later)
+      subst (λ (fs : List WordEvent). On x.function fs c.place c.actor) (append_assoc es now later)
       (subst (λ (f : ℕ). On f (here ++ later) c.place c.actor) went.0
       (can_plain next c here later rest none.2 from))
 

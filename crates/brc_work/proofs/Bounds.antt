@@ -27,7 +27,7 @@ use Rattle.brc_model.specs.declared.layout.Layout.{Layout}
 use Rattle.brc_model.proofs.Promises.CallsLeft.{instructions_left, Lowers, dispatch_lowers}
 use Rattle.brc_model.proofs.Promises.Leading.{Leads, LeadsTo, dispatch_leads}
 use Rattle.brc_model.proofs.Promises.Turns.{CountsTurns, EachPlace, FitsCode, counts_beyond, each_place}
-use Rattle.brc_table.specs.declared.view.Event.{Event}
+use Rattle.brc_model.specs.declared.event.WordEvent.{WordEvent}
 use Rattle.brc_table.specs.declared.view.View.{View}
 use Rattle.brc_work.specs.Runs.{StopsBy, Between, Within, greatest_bound}
 use Rattle.brc_work.specs.Traces.{Makes, Refl, Silently, Asks, Dispatches, Reads, Continues, Closes, begun_at, begun_by, exit_of, MakesTrace, MakesCalls, NoCall, OneMore}
@@ -70,7 +70,7 @@ module _ (layout : Layout) (t : ℕ) (code : List Instr) (fits : FitsCode code) 
       each_place CountsTurns q (dispatch layout t used code q) here
       (dispatch_leads CountsTurns layout t used code q fits.forward (counts_beyond code q here))
 
-  pub makes_lower : (n : ℕ) (cs : List HostCall) (es : List Event) (q : Place) (b : Actor)
+  pub makes_lower : (n : ℕ) (cs : List HostCall) (es : List WordEvent) (q : Place) (b : Actor)
       → Makes layout t code p a n cs es q b → Lowered n q
   makes_lower n cs es q b Refl = (counts, omega arith)
   makes_lower n cs es q b (Silently k ds fs r s c moves before none is) =

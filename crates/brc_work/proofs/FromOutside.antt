@@ -23,7 +23,6 @@ use Rattle.brc_model.specs.Machine.{actor_by}
 use Rattle.brc_model.specs.Threads.{code_of}
 use Rattle.brc_model.specs.declared.event.WordEvent.{WordEvent}
 use Rattle.brc_model.specs.Trace.{events_of, MakesStep, GoesSilently, CallsHost, DoesDuty, CanMake, Nothing, Then}
-use Rattle.brc_table.specs.declared.view.Event.{Event}
 use Rattle.brc_work.specs.Traces.{Makes, Refl, Silently, Asks, Dispatches, Reads, Continues, Closes}
 use Rattle.brc_work.specs.Automata.{IsPlain, IsNoClaim, ClaimsNothing, HasNoClaim, MakesPlainly, thread_at, ThreadsMakeAsHands}
 use Rattle.brc_work.proofs.Remembering.{Remembers, nothing_outside, nothing_busy, IsKnown, Other, OfRead, Leads, dispatch_leads}
@@ -34,13 +33,13 @@ module _ (functions : List Function) (states : ℕ → ℕ → Option State) (la
   code = code_of (slice_get functions function)
 
   -- A hand's thread can make the events, with these calls of the host; and remembers what it needs then.
-  abbrev Ready : List Event → Place → Actor → Type 0
+  abbrev Ready : List WordEvent → Place → Actor → Type 0
   Ready es q b =
       (n : ℕ) × (cs : List HostCall) × (made : Makes layout t code p a n cs es q b) × IsPlain made
       × Remembers code cs es b q
 
   -- It goes on by the action.
-  abbrev GoesOn : List Event → Place → Actor → Action → Type 0
+  abbrev GoesOn : List WordEvent → Place → Actor → Action → Type 0
   GoesOn es q b Skip = Unit {0}
   GoesOn es q b Stuck = Unit {0}
   GoesOn es q b (Silent moves place) = Ready es place b
@@ -48,7 +47,7 @@ module _ (functions : List Function) (states : ℕ → ℕ → Option State) (la
   GoesOn es q b (Does d rest place) =
       (found : ℕ) → Ready (es ++ events_of layout t b d found) (place found) (actor_by layout t b d rest found)
 
-  module _ (n : ℕ) (cs : List HostCall) (es : List Event) (b : Actor) (none : b.agenda ≡ [])
+  module _ (n : ℕ) (cs : List HostCall) (es : List WordEvent) (b : Actor) (none : b.agenda ≡ [])
       (alive : b.status ≢ Gone) where
     does : (q : Place) (d : Duty) (rest : List Duty) (place : ℕ → Place) (found : ℕ)
         → (made : Makes layout t code p a n cs es q b) → IsPlain made
@@ -85,13 +84,13 @@ module _ (functions : List Function) (states : ℕ → ℕ → Option State) (la
     dispatched q (Does d rest place) made plain is leads = λ found.
         does q d rest place found made plain is (leads found).0 (leads found).1
 
-  by_agenda : (es : List Event) (q : Place) (b : Actor) (agenda : List Duty) → Ready es q b → b.status ≢ Gone
+  by_agenda : (es : List WordEvent) (q : Place) (b : Actor) (agenda : List Duty) → Ready es q b → b.status ≢ Gone
       → b.agenda ≡ agenda → GoesOn es q b (agenda_action functions layout t (thread_at function q b) agenda)
   by_agenda es q b [] so alive is =
       dispatched so.0 so.1 es b is alive q (dispatch layout t b.used code q) so.2 so.3 refl
       (dispatch_leads layout t code so.1 es b is q so.4)
   by_agenda es q b (CloseResource x ∷ rest) so alive is =
-      λ found. subst (λ (fs : List Event). Ready fs q (actor_by layout t b (CloseResource x) rest found))
+      λ found. subst (λ (fs : List WordEvent). Ready fs q (actor_by layout t b (CloseResource x) rest found))
       (sym (append-nil es)) (
         so.0,
         so.1 ++ asked.Close false ∷ [],
@@ -110,7 +109,7 @@ module _ (functions : List Function) (states : ℕ → ℕ → Option State) (la
             q is so.4,
       )
 
-  by_status : (es : List Event) (q : Place) (b : Actor) (s : Status) → Ready es q b → b.status ≡ s
+  by_status : (es : List WordEvent) (q : Place) (b : Actor) (s : Status) → Ready es q b → b.status ≡ s
       → GoesOn es q b (status_action functions layout t (thread_at function q b) s)
   by_status es q b Gone so is = tt
   by_status es q b Running so is =
@@ -118,7 +117,7 @@ module _ (functions : List Function) (states : ℕ → ℕ → Option State) (la
   by_status es q b Leaving so is =
       by_agenda es q b b.agenda so (λ gone. let wrong : Leaving ≡ Gone = sym is ∙ gone in cc) refl
 
-  by_choice : (es : List Event) (q : Place) (b : Actor) (choice : Choice) (x : Action) → Ready es q b
+  by_choice : (es : List WordEvent) (q : Place) (b : Actor) (choice : Choice) (x : Action) → Ready es q b
       → IsNoClaim choice → action_of functions states layout t (thread_at function q b) choice ≡ x → GoesOn es q b x
   by_choice es q b Ok x so none is = subst (GoesOn es q b) is (by_status es q b b.status so refl)
   by_choice es q b Fault x so none is = subst (GoesOn es q b) is (by_status es q b b.status so refl)
@@ -127,21 +126,21 @@ module _ (functions : List Function) (states : ℕ → ℕ → Option State) (la
 
 module _ (functions : List Function) (states : ℕ → ℕ → Option State) (layout : Layout) (t : ℕ) (p : Place)
     (a : Actor) where
-  abbrev On : ℕ → List Event → Place → Actor → Type 0
+  abbrev On : ℕ → List WordEvent → Place → Actor → Type 0
   On function es q b = Ready functions states layout t function p a es q b
 
   -- A thread of the step world keeps its function.
-  one_step : (x next : StepActor) (es : List Event) (now : List WordEvent)
+  one_step : (x next : StepActor) (es : List WordEvent) (now : List WordEvent)
       → (step : MakesStep functions states layout t x now next) → ClaimsNothing step → On x.function es x.place x.actor
       → (next.function ≡ x.function) × On x.function (es ++ now) next.place next.actor
   one_step x next es now (GoesSilently choice moves place is) none so = (
     refl,
-    subst (λ (fs : List Event). On x.function fs place x.actor) (sym (append-nil es))
+    subst (λ (fs : List WordEvent). On x.function fs place x.actor) (sym (append-nil es))
         (by_choice functions states layout t x.function p a es x.place x.actor choice (Silent moves place) so none is),
   )
   one_step x next es now (CallsHost choice row place exit is) none so = (
     refl,
-    subst (λ (fs : List Event). On x.function fs (place exit) x.actor) (sym (append-nil es))
+    subst (λ (fs : List WordEvent). On x.function fs (place exit) x.actor) (sym (append-nil es))
         (by_choice functions states layout t x.function p a es x.place x.actor choice (Calls row place) so none is
         exit),
   )
@@ -149,17 +148,17 @@ module _ (functions : List Function) (states : ℕ → ℕ → Option State) (la
       (refl, by_choice functions states layout t x.function p a es x.place x.actor choice (Does d rest place) so none is
       found)
 
-  can_ready : (x c : StepActor) (es : List Event) (made : List WordEvent)
+  can_ready : (x c : StepActor) (es : List WordEvent) (made : List WordEvent)
       (can : CanMake functions states layout t x made c)
       → HasNoClaim can → On x.function es x.place x.actor
       → On x.function (es ++ made) c.place c.actor
   can_ready x c es made (Nothing same) none so =
-      subst (λ (fs : List Event). On x.function fs x.place x.actor) (sym (append-nil es)) so
+      subst (λ (fs : List WordEvent). On x.function fs x.place x.actor) (sym (append-nil es)) so
   can_ready x c es made (Then first next last now later step rest) none so =
       let went = one_step x next es now step none.0 so in
       let here = es ++ now in
       let from = subst (λ (f : ℕ). On f here next.place next.actor) (sym went.0) went.1 in
-      subst (λ (fs : List Event). On x.function fs c.place c.actor) (append_assoc es now later)
+      subst (λ (fs : List WordEvent). On x.function fs c.place c.actor) (append_assoc es now later)
       (subst (λ (f : ℕ). On f (here ++ later) c.place c.actor) went.0
       (can_ready next c here later rest none.1 from))
 

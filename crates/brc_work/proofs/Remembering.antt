@@ -28,7 +28,7 @@ use Rattle.brc_model.specs.Stops.{holds_some}
 use Rattle.brc_model.specs.Threads.{row_of, entry_variables}
 use Rattle.brc_model.proofs.Basics.Lists.{either}
 use Rattle.brc_model.proofs.Dispatch.Decided.{range_decides, item_decides, stopping_decides, give_up_decides}
-use Rattle.brc_table.specs.declared.view.Event.{Event}
+use Rattle.brc_model.specs.declared.event.WordEvent.{WordEvent}
 use Rattle.brc_model.specs.Trace.{events_of}
 use Rattle.brc_work.specs.Traces.{Requests, ForFile, ForPeer, ForBytes, ForLine, instruction_at, read_birth, exit_of, is_birth, is_read, has_read}
 use Rattle.brc_work.specs.Automata.{is_inside}
@@ -38,11 +38,11 @@ use Rattle.brc_work.proofs.Traces.Duties.{no_duty}
 
 -- A thread so far inside the instruction has nothing else to do, and has just loaded the word that `write` sends, or
 -- the host has just answered it what `read` makes a number of.
-abbrev pub RemembersInside : List HostCall → List Event → Actor → Stage → Option Instr → Type 0
+abbrev pub RemembersInside : List HostCall → List WordEvent → Actor → Stage → Option Instr → Type 0
 RemembersInside cs es b Loaded (Some (Write file number otherwise)) =
-    (b.agenda ≡ []) × (before : List Event) × (last : Event) × (es ≡ before ++ last ∷ [])
+    (b.agenda ≡ []) × (before : List WordEvent) × (last : WordEvent) × (es ≡ before ++ last ∷ [])
 RemembersInside cs es b Lent (Some (Write file number otherwise)) =
-    (b.agenda ≡ []) × (before : List Event) × (last : Event) × (es ≡ before ++ last ∷ [])
+    (b.agenda ≡ []) × (before : List WordEvent) × (last : WordEvent) × (es ≡ before ++ last ∷ [])
 RemembersInside cs es b (Called Success) (Some (Read to file most otherwise)) =
     (b.agenda ≡ []) × (before : List HostCall) × (cs ≡ before ++ asked.Read most (Some 0) ∷ [])
 RemembersInside cs es b Granted (Some (Read to file most otherwise)) =
@@ -50,7 +50,7 @@ RemembersInside cs es b Granted (Some (Read to file most otherwise)) =
 RemembersInside cs es b stage i = Unit {0}
 
 module _ (code : List Instr) where
-  abbrev pub Remembers : List HostCall → List Event → Actor → Place → Type 0
+  abbrev pub Remembers : List HostCall → List WordEvent → Actor → Place → Type 0
   Remembers cs es b (Idle left) = Unit {0}
   Remembers cs es b (InCall context at variables) = Unit {0}
   Remembers cs es b (Inside context at variables stage) = RemembersInside cs es b stage (slice_get code at)
@@ -58,7 +58,7 @@ module _ (code : List Instr) where
   Remembers cs es b Exiting = Unit {0}
 
   -- A thread outside of all instructions remembers nothing,
-  pub nothing_outside : (cs : List HostCall) (es : List Event) (b : Actor) (q : Place) → is_inside q ≡ false
+  pub nothing_outside : (cs : List HostCall) (es : List WordEvent) (b : Actor) (q : Place) → is_inside q ≡ false
       → Remembers cs es b q
   nothing_outside cs es b (Idle left) outside = tt
   nothing_outside cs es b (InCall context at variables) outside = tt
@@ -67,7 +67,7 @@ module _ (code : List Instr) where
   nothing_outside cs es b Exiting outside = tt
 
 -- nor does one that has something else to do.
-nothing_inside : (cs ds : List HostCall) (es fs : List Event) (b c : Actor) (d : Duty) (rest : List Duty)
+nothing_inside : (cs ds : List HostCall) (es fs : List WordEvent) (b c : Actor) (d : Duty) (rest : List Duty)
     (stage : Stage) (i : Option Instr) → b.agenda ≡ d ∷ rest → RemembersInside cs es b stage i
     → RemembersInside ds fs c stage i
 nothing_inside cs ds es fs b c d rest Loaded (Some (Write file number otherwise)) is has =
@@ -80,7 +80,7 @@ nothing_inside cs ds es fs b c d rest Granted (Some (Read to file most otherwise
     absurd (let wrong : [] ≡ d ∷ rest = sym has.0 ∙ is in cc)
 nothing_inside cs ds es fs b c d rest stage i is has = tt
 
-pub nothing_busy : (code : List Instr) (cs ds : List HostCall) (es fs : List Event) (b c : Actor) (d : Duty)
+pub nothing_busy : (code : List Instr) (cs ds : List HostCall) (es fs : List WordEvent) (b c : Actor) (d : Duty)
     (rest : List Duty) (q : Place)
     → b.agenda ≡ d ∷ rest → Remembers code cs es b q → Remembers code ds fs c q
 nothing_busy code cs ds es fs b c d rest (Idle left) is has = tt
@@ -103,7 +103,7 @@ pub data IsKnown (layout : Layout) (t : ℕ) (code : List Instr) (cs : List Host
       → IsKnown layout t code cs b (Inside context at variables Granted) (read_birth layout t b context to 0) []
       (always (InCall context (at + 1) (slice_set variables to (Some (row_at layout t b.used)))))
 
-module _ (layout : Layout) (t : ℕ) (code : List Instr) (cs : List HostCall) (es : List Event) (b : Actor)
+module _ (layout : Layout) (t : ℕ) (code : List Instr) (cs : List HostCall) (es : List WordEvent) (b : Actor)
     (none : b.agenda ≡ []) (q : Place) where
   -- A hand's thread can make a call of the host that ends so, and remembers what it needs then.
   abbrev pub CanAsk : (Exit → Place) → Exit → Type 0
@@ -128,7 +128,7 @@ module _ (layout : Layout) (t : ℕ) (code : List Instr) (cs : List HostCall) (e
 
   -- A duty other than a birth, after which the thread remembers what it needs wherever it is.
   does_leads : (d : Duty) (rest : List Duty) (place : ℕ → Place) → is_birth d ≡ false
-      → ((ds : List HostCall) (fs : List Event) (c : Actor) (found : ℕ) → Remembers code ds fs c (place found))
+      → ((ds : List HostCall) (fs : List WordEvent) (c : Actor) (found : ℕ) → Remembers code ds fs c (place found))
       → Leads (Does d rest place)
   does_leads d rest place other each = λ found. (
     Other (ap (λ (is : Bool). is && has_read code q) other),
@@ -142,16 +142,16 @@ module _ (layout : Layout) (t : ℕ) (code : List Instr) (cs : List HostCall) (e
       either Leads (has_room layout t b.used) _ _ (λ room found. (Other other, tt)) tt
 
   range_leads : (list : Option ℕ) (index : ℕ) (inside outside : Place)
-      → ((ds : List HostCall) (fs : List Event) (c : Actor) → Remembers code ds fs c inside)
-      → ((ds : List HostCall) (fs : List Event) (c : Actor) → Remembers code ds fs c outside)
+      → ((ds : List HostCall) (fs : List WordEvent) (c : Actor) → Remembers code ds fs c inside)
+      → ((ds : List HostCall) (fs : List WordEvent) (c : Actor) → Remembers code ds fs c outside)
       → Leads (with_row list (λ row. Does (KindLoad row) [] (by_range index inside outside)))
   range_leads list index inside outside enters passes =
       row_leads list _ (λ row. does_leads (KindLoad row) [] (by_range index inside outside) refl (λ ds fs c found.
       range_decides (Remembers code ds fs c) inside outside index found (λ has. enters ds fs c) (passes ds fs c)))
 
   cell_leads : (list : Option ℕ) (index : ℕ) (empty : Place) (holds : ℕ → Place)
-      → ((ds : List HostCall) (fs : List Event) (c : Actor) → Remembers code ds fs c empty)
-      → ((ds : List HostCall) (fs : List Event) (c : Actor) (item : ℕ) → Remembers code ds fs c (holds item))
+      → ((ds : List HostCall) (fs : List WordEvent) (c : Actor) → Remembers code ds fs c empty)
+      → ((ds : List HostCall) (fs : List WordEvent) (c : Actor) (item : ℕ) → Remembers code ds fs c (holds item))
       → Leads (with_row list (λ row. Does (CellLoad row index) [] (by_item empty holds)))
   cell_leads list index empty holds clear some =
       row_leads list _ (λ row. does_leads (CellLoad row index) [] (by_item empty holds) refl (λ ds fs c found.
@@ -172,7 +172,7 @@ module _ (layout : Layout) (t : ℕ) (code : List Instr) (cs : List HostCall) (e
   -- What a thread does at an instruction.
   instruction_leads : (context : Context) (at : ℕ) (variables : List (Option ℕ)) (i : Option Instr)
       → slice_get code at ≡ i → instruction_at code q ≡ i → has_read code q ≡ false
-      → ((ds : List HostCall) (fs : List Event) (c : Actor) → Remembers code ds fs c q)
+      → ((ds : List HostCall) (fs : List WordEvent) (c : Actor) → Remembers code ds fs c q)
       → Leads (dispatch_instruction layout t b.used q context at variables i)
   instruction_leads context at variables None is here other clear = tt
   instruction_leads context at variables (Some (Num to value otherwise)) is here other clear =
@@ -237,7 +237,7 @@ module _ (layout : Layout) (t : ℕ) (code : List Instr) (cs : List HostCall) (e
       row_leads (row_of variables from) _ (λ row found. (Other refl, tt))
   instruction_leads context at variables (Some Fail) is here other clear = tt
 
-module _ (layout : Layout) (t : ℕ) (code : List Instr) (cs : List HostCall) (es : List Event) (b : Actor)
+module _ (layout : Layout) (t : ℕ) (code : List Instr) (cs : List HostCall) (es : List WordEvent) (b : Actor)
     (none : b.agenda ≡ []) (context : Context) (at : ℕ) (variables : List (Option ℕ)) where
   abbrev LeadsFrom : Stage → Action → Type 0
   LeadsFrom stage = Leads layout t code cs es b none (Inside context at variables stage)
@@ -311,7 +311,7 @@ module _ (layout : Layout) (t : ℕ) (code : List Instr) (cs : List HostCall) (e
       (λ row found. (Other refl, tt))
   inside_leads stage i is has = tt
 
-module _ (layout : Layout) (t : ℕ) (code : List Instr) (cs : List HostCall) (es : List Event) (b : Actor)
+module _ (layout : Layout) (t : ℕ) (code : List Instr) (cs : List HostCall) (es : List WordEvent) (b : Actor)
     (none : b.agenda ≡ []) where
   pub dispatch_leads : (q : Place) → Remembers code cs es b q
       → Leads layout t code cs es b none q (dispatch layout t b.used code q)

@@ -20,14 +20,13 @@ use Rattle.brc_model.specs.Stops.{row_locked, owned_rows, stopping}
 use Rattle.brc_model.specs.Threads.{code_of}
 use Rattle.brc_model.specs.declared.event.WordEvent.{WordEvent}
 use Rattle.brc_model.specs.Trace.{MakesStep, GoesSilently, CallsHost, DoesDuty, CanMake, Nothing, Then}
-use Rattle.brc_table.specs.declared.view.Event.{Event}
 use Rattle.brc_work.specs.Traces.{Makes, Refl, Silently, Asks, Dispatches, Reads, Continues, Closes, is_birth, has_read}
 
 -- ---- a hand's thread
 
 -- No step makes another number than 0 of what `read` has read, and the thread isn't gone before any.
 abbrev pub IsPlain : {layout : Layout} {t : ℕ} {code : List Instr} {p : Place} {a : Actor} {cs : List HostCall}
-    {n : ℕ} {es : List Event} {q : Place} {b : Actor} → Makes layout t code p a n cs es q b → Type 0
+    {n : ℕ} {es : List WordEvent} {q : Place} {b : Actor} → Makes layout t code p a n cs es q b → Type 0
 IsPlain Refl = Unit {0}
 IsPlain (Silently n cs es q r b moves before none is) = (b.status ≢ Gone) × IsPlain before
 IsPlain (Asks n cs es q b row after i call before none is here asks) = (b.status ≢ Gone) × IsPlain before
@@ -37,7 +36,7 @@ IsPlain (Reads n cs es context at variables b to file most otherwise count found
 IsPlain (Continues n cs es q b d rest found before is other) = (b.status ≢ Gone) × IsPlain before
 IsPlain (Closes n cs es q b x rest failed before is) = (b.status ≢ Gone) × IsPlain before
 
-abbrev pub MakesPlainly : Layout → ℕ → List Instr → Place → Actor → List Event → Place → Actor → Type 0
+abbrev pub MakesPlainly : Layout → ℕ → List Instr → Place → Actor → List WordEvent → Place → Actor → Type 0
 MakesPlainly layout t code p a es q b =
     (n : ℕ) × (cs : List HostCall) × (made : Makes layout t code p a n cs es q b) × IsPlain made
 
@@ -108,7 +107,7 @@ thread_at function place actor = record { function = function; place = place; ac
 abbrev pub HandsMakeAsThreads : Type 0
 HandsMakeAsThreads =
     (functions : List Function) (states : ℕ → ℕ → Option State) (layout : Layout) (t function : ℕ) (p q : Place)
-    (a b : Actor) (es : List Event)
+    (a b : Actor) (es : List WordEvent)
     → MakesPlainly layout t (code_of (slice_get functions function)) p a es q b
     → CanMakeUnclaimed functions states layout t (thread_at function p a) es (thread_at function q b)
 
@@ -116,7 +115,7 @@ HandsMakeAsThreads =
 abbrev pub ThreadsMakeAsHands : Type 0
 ThreadsMakeAsHands =
     (functions : List Function) (states : ℕ → ℕ → Option State) (layout : Layout) (t function : ℕ) (p q : Place)
-    (a b : Actor) (es : List Event)
+    (a b : Actor) (es : List WordEvent)
     → is_inside p ≡ false
     → CanMakeUnclaimed functions states layout t (thread_at function p a) es (thread_at function q b)
     → MakesPlainly layout t (code_of (slice_get functions function)) p a es q b
@@ -126,7 +125,7 @@ ThreadsMakeAsHands =
 abbrev pub ThreadsAloneMakeAsHands : Type 0
 ThreadsAloneMakeAsHands =
     (functions : List Function) (states : ℕ → ℕ → Option State) (layout : Layout) (t function : ℕ) (p q : Place)
-    (a b : Actor) (es : List Event)
+    (a b : Actor) (es : List WordEvent)
     → CanMakeAlone functions states layout t (thread_at function p a) es (thread_at function q b)
     → MakesPlainly layout t (code_of (slice_get functions function)) p a es q b
 

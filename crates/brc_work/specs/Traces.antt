@@ -27,7 +27,7 @@ use Rattle.brc_model.specs.declared.actor.Actor.{Actor}
 use Rattle.brc_model.specs.Machine.{actor_by}
 use Rattle.brc_model.specs.Trace.{events_of}
 use Rattle.brc_table.specs.declared.view.View.{View}
-use Rattle.brc_table.specs.declared.view.Event.{Event}
+use Rattle.brc_model.specs.declared.event.WordEvent.{WordEvent}
 use Rattle.brc_table.specs.Views.{actor_of}
 use Rattle.brc_queue.specs.Scans.{HasScanned}
 
@@ -43,14 +43,14 @@ instruction_at code Exiting = None
 
 -- The instruction asks the host for this call, after these events of the thread. `write` sends the decimal digits of
 -- the number whose kind word the thread has loaded last, and a line feed.
-pub data Requests (es : List Event) : Instr → HostCall → Type 0 where
+pub data Requests (es : List WordEvent) : Instr → HostCall → Type 0 where
   ForFile : (to path : ℕ) (mode : Mode) (otherwise : ℕ) (failed : Bool)
       → Requests es (instructions.Open to path mode otherwise) (Open path mode failed)
   ForPeer : (to peer otherwise : ℕ) (failed : Bool)
       → Requests es (instructions.Connect to peer otherwise) (Connect peer failed)
   ForBytes : (to file most otherwise : ℕ) (got : Option ℕ)
       → Requests es (instructions.Read to file most otherwise) (Read most got)
-  ForLine : (file number otherwise : ℕ) (before : List Event) (last : Event) (failed : Bool) → es ≡ before ++ last ∷ []
+  ForLine : (file number otherwise : ℕ) (before : List WordEvent) (last : WordEvent) (failed : Bool) → es ≡ before ++ last ∷ []
       → Requests es (instructions.Write file number otherwise)
       (Write (decimal (argument_part last.found) ++ 10 ∷ []) failed)
 
@@ -106,25 +106,25 @@ read_birth layout t a context to count = BirthKind (row_at layout t a.used) (by_
 -- From place p and actor a, thread t begins this many instructions, and goes by these calls of the host and by these
 -- events to a place and an actor: whatever words it finds, and whatever the host answers.
 pub data Makes (layout : Layout) (t : ℕ) (code : List Instr) (p : Place) (a : Actor)
-    : ℕ → List HostCall → List Event → Place → Actor → Type 0 where
+    : ℕ → List HostCall → List WordEvent → Place → Actor → Type 0 where
   Refl : Makes layout t code p a 0 [] [] p a
   -- a silent step
-  Silently : (n : ℕ) (cs : List HostCall) (es : List Event) (q r : Place) (b : Actor) (moves : List Move)
+  Silently : (n : ℕ) (cs : List HostCall) (es : List WordEvent) (q r : Place) (b : Actor) (moves : List Move)
       → Makes layout t code p a n cs es q b → b.agenda ≡ [] → dispatch layout t b.used code q ≡ Silent moves r
       → Makes layout t code p a (n + begun_at q) cs es r b
   -- the call of the host that the instruction asks for: the thread goes on as the host answers
-  Asks : (n : ℕ) (cs : List HostCall) (es : List Event) (q : Place) (b : Actor) (row : Option ℕ)
+  Asks : (n : ℕ) (cs : List HostCall) (es : List WordEvent) (q : Place) (b : Actor) (row : Option ℕ)
       (after : Exit → Place) (i : Instr) (call : HostCall) → Makes layout t code p a n cs es q b → b.agenda ≡ []
       → dispatch layout t b.used code q ≡ Calls row after → instruction_at code q ≡ Some i → Requests es i call
       → Makes layout t code p a (n + begun_at q) (cs ++ call ∷ []) es (after (exit_of call)) b
   -- the duty that an instruction begins with, but for the birth of what `read` has read
-  Dispatches : (n : ℕ) (cs : List HostCall) (es : List Event) (q : Place) (b : Actor) (d : Duty) (rest : List Duty)
+  Dispatches : (n : ℕ) (cs : List HostCall) (es : List WordEvent) (q : Place) (b : Actor) (d : Duty) (rest : List Duty)
       (next : ℕ → Place) (found : ℕ) → Makes layout t code p a n cs es q b → b.agenda ≡ []
       → dispatch layout t b.used code q ≡ Does d rest next → (is_birth d && has_read code q) ≡ false
       → Makes layout t code p a (n + begun_by q d found) cs (es ++ events_of layout t b d found) (next found)
       (actor_by layout t b d rest found)
   -- that birth: the step world knows no bytes, and makes the number 0. The host has just said how many were read.
-  Reads : (n : ℕ) (cs : List HostCall) (es : List Event) (context : Context) (at : ℕ)
+  Reads : (n : ℕ) (cs : List HostCall) (es : List WordEvent) (context : Context) (at : ℕ)
       (variables : List (Option ℕ)) (b : Actor) (to file most otherwise count found : ℕ)
       → Makes layout t code p a n (cs ++ Read most (Some count) ∷ []) es (Inside context at variables Granted) b
       → b.agenda ≡ [] → slice_get code at ≡ Some (instructions.Read to file most otherwise) → count ≤ most
@@ -133,11 +133,11 @@ pub data Makes (layout : Layout) (t : ℕ) (code : List Instr) (p : Place) (a : 
       (InCall context (at + 1) (slice_set variables to (Some (row_at layout t b.used))))
       (actor_by layout t b (read_birth layout t b context to count) [] found)
   -- the next duty of its agenda, but for a close
-  Continues : (n : ℕ) (cs : List HostCall) (es : List Event) (q : Place) (b : Actor) (d : Duty) (rest : List Duty)
+  Continues : (n : ℕ) (cs : List HostCall) (es : List WordEvent) (q : Place) (b : Actor) (d : Duty) (rest : List Duty)
       (found : ℕ) → Makes layout t code p a n cs es q b → b.agenda ≡ d ∷ rest → is_close d ≡ false
       → Makes layout t code p a n cs (es ++ events_of layout t b d found) q (actor_by layout t b d rest found)
   -- a close, of a dying object's resource
-  Closes : (n : ℕ) (cs : List HostCall) (es : List Event) (q : Place) (b : Actor) (x : ℕ) (rest : List Duty)
+  Closes : (n : ℕ) (cs : List HostCall) (es : List WordEvent) (q : Place) (b : Actor) (x : ℕ) (rest : List Duty)
       (failed : Bool) → Makes layout t code p a n cs es q b → b.agenda ≡ CloseResource x ∷ rest
       → Makes layout t code p a n (cs ++ Close failed ∷ []) es q (actor_by layout t b (CloseResource x) rest 0)
 
@@ -151,7 +151,7 @@ thread_with v ds = record (actor_of v) { agenda = ds }
 -- place p, with duties ds to do, to place q, with duties es to do. It has begun this many instructions.
 pub record Traces (begun : ℕ) (calls : List HostCall) (code : List Instr) (p : Place) (ds : List Duty) (v : View)
     (q : Place) (es : List Duty) (u : View) : Type 0 where
-  pub events : List Event
+  pub events : List WordEvent
   pub trace : u.trace ≡ v.trace ++ events
   pub makes : Makes v.layout v.thread code p (thread_with v ds) begun calls events q (thread_with u es)
   pub layout : u.layout ≡ v.layout

@@ -18,7 +18,7 @@ use Rattle.brc_model.specs.declared.duty.Duty.TheVariants.{BirthKind, BirthSlot,
 use Rattle.brc_model.specs.declared.duty.Holding.{Holding}
 use Rattle.brc_model.specs.declared.duty.Holding.TheVariants.{AsCaller}
 use Rattle.brc_model.specs.declared.state.Exit.TheVariants.{Success, Fault}
-use Rattle.brc_table.specs.declared.view.Event.{Event}
+use Rattle.brc_model.specs.declared.event.WordEvent.{WordEvent}
 use Rattle.brc_table.specs.declared.view.View.{View}
 use Rattle.brc_table.specs.Views.{view_by, view_after, bearing, next_row, slot_filled, slot_filled_by}
 use Rattle.brc_heap.specs.Calls.{born}
@@ -130,8 +130,8 @@ reads code place context at rows v to file most otherwise count none found few g
     let one = turns_to_birth code place p v (number_word count) none got in
     record {
       events = one.events ++ events;
-      trace = ap (λ (es : List Event). u.trace ++ es) (sym same.event)
-          ∙ (ap (λ (es : List Event). es ++ events) one.trace ∙ append_assoc v.trace one.events events);
+      trace = ap (λ (es : List WordEvent). u.trace ++ es) (sym same.event)
+          ∙ (ap (λ (es : List WordEvent). es ++ events) one.trace ∙ append_assoc v.trace one.events events);
       makes = subst (λ (a : Actor). Makes v.layout v.thread code place (thread_with v []) 1
           (asked.Read most (Some count) ∷ []) (one.events ++ events) q a)
           (same_thread code q u d e [] [] 0 same)

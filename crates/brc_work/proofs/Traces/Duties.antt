@@ -9,7 +9,7 @@ use Rattle.brc_model.specs.Machine.{is_running, status_by, used_by, locked_by, l
 use Rattle.brc_model.specs.declared.actor.Place.{Place}
 use Rattle.brc_model.specs.declared.duty.Duty.{Duty}
 use Rattle.brc_model.specs.declared.duty.Duty.TheVariants.{Settle, Scan}
-use Rattle.brc_table.specs.declared.view.Event.{Event}
+use Rattle.brc_model.specs.declared.event.WordEvent.{WordEvent}
 use Rattle.brc_table.specs.declared.view.View.{View}
 use Rattle.brc_table.specs.Views.{view_by, view_after, event_of}
 use Rattle.brc_model.specs.Trace.{events_of}
@@ -74,7 +74,7 @@ module _ (code : List Instr) (q : Place) (u : View) (d e : Duty) (rest behind : 
       → Traces (begun_by q d found) [] code q [] u (next found) (next_duties u d rest found) (view_by u (e ∷ behind) found)
   starts_with next is new = record {
     events = events_of u.layout u.thread (thread_with u []) d found;
-    trace = ap (λ (es : List Event). u.trace ++ es) (sym same.event);
+    trace = ap (λ (es : List WordEvent). u.trace ++ es) (sym same.event);
     makes = subst (λ (a : Actor).
         Makes u.layout u.thread code q (thread_with u []) (begun_by q d found) []
         (events_of u.layout u.thread (thread_with u []) d found) (next found) a) same_thread
@@ -88,7 +88,7 @@ module _ (code : List Instr) (q : Place) (u : View) (d e : Duty) (rest behind : 
       → Traces 0 [] code q (d ∷ rest) u q (next_duties u d rest found) (view_by u (e ∷ behind) found)
   continues_with off = record {
     events = events_of u.layout u.thread (thread_with u []) d found;
-    trace = ap (λ (es : List Event). u.trace ++ es) (sym same.event);
+    trace = ap (λ (es : List WordEvent). u.trace ++ es) (sym same.event);
     makes = subst (λ (a : Actor).
         Makes u.layout u.thread code q (thread_with u (d ∷ rest)) 0 []
         (events_of u.layout u.thread (thread_with u []) d found) q a) same_thread

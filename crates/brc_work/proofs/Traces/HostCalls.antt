@@ -22,7 +22,7 @@ use Rattle.brc_model.specs.declared.duty.Duty.TheVariants.{KindLoad, LendSlot, R
 use Rattle.brc_model.specs.declared.layout.Layout.{Layout}
 use Rattle.brc_model.specs.declared.state.Exit.{Exit}
 use Rattle.brc_model.specs.declared.state.Exit.TheVariants.{Success, Fault}
-use Rattle.brc_table.specs.declared.view.Event.{Event}
+use Rattle.brc_model.specs.declared.event.WordEvent.{WordEvent}
 use Rattle.brc_table.specs.declared.view.View.{View}
 use Rattle.brc_table.specs.Views.{view_after, asking, next_row}
 use Rattle.brc_work.specs.Traces.{Makes, Asks, Dispatches, Requests, ForBytes, ForLine, MakesTrace, thread_with, exit_of, begun_at, is_read}
@@ -161,7 +161,7 @@ module _ (code : List Instr) (context : Context) (at : ℕ) (rows : List (Option
       let asks_it : Makes v.layout v.thread code start (thread_with v []) (begun + 0) (call ∷ []) one.events
       (called (exit_of call)) b =
       Asks begun [] one.events lent b (row_of rows file) called i call
-      (subst (λ (es : List Event). Makes v.layout v.thread code start (thread_with v []) begun [] es lent b) no_more
+      (subst (λ (es : List WordEvent). Makes v.layout v.thread code start (thread_with v []) begun [] es lent b) no_more
       takes_it)
       (no_duty u.head) calls found asks in
       let puts_it : Makes v.layout v.thread code start (thread_with v []) ((begun + 0) + 0) (call ∷ [])
@@ -175,7 +175,7 @@ module _ (code : List Instr) (context : Context) (at : ℕ) (rows : List (Option
             (no_more_begins begun)
             (subst (λ (c : Actor).
             Makes v.layout v.thread code start (thread_with v []) ((begun + 0) + 0) (call ∷ []) one.events q c) same
-            (subst (λ (es : List Event). Makes v.layout v.thread code start (thread_with v []) ((begun + 0) + 0)
+            (subst (λ (es : List WordEvent). Makes v.layout v.thread code start (thread_with v []) ((begun + 0) + 0)
             (call ∷ []) es q (actor_by v.layout v.thread b (ReturnSlot row) [] 0)) no_more puts_it));
         layout = one.layout;
         thread = one.thread;

@@ -8,7 +8,7 @@ use Rattle.brc_model.specs.declared.actor.Stage.TheVariants.{Granted}
 use Rattle.brc_model.specs.declared.duty.Duty.{Duty}
 use Rattle.brc_model.specs.declared.layout.Layout.{Layout}
 use Rattle.brc_model.specs.declared.actor.Actor.{Actor}
-use Rattle.brc_table.specs.declared.view.Event.{Event}
+use Rattle.brc_model.specs.declared.event.WordEvent.{WordEvent}
 use Rattle.brc_table.specs.declared.view.View.{View}
 use Rattle.brc_table.specs.Views.{open_work}
 use Rattle.brc_model.specs.Trace.{events_of}
@@ -28,42 +28,42 @@ added n k m = omega arith
 -- ---- threads
 
 -- What an instruction asks for after some events, it asks for after more.
-asks_after : (before es : List Event) (i : Instr) (call : HostCall) → Requests es i call
+asks_after : (before es : List WordEvent) (i : Instr) (call : HostCall) → Requests es i call
     → Requests (before ++ es) i call
 asks_after before es i call (ForFile to path mode otherwise failed) = ForFile to path mode otherwise failed
 asks_after before es i call (ForPeer to peer otherwise failed) = ForPeer to peer otherwise failed
 asks_after before es i call (ForBytes to file most otherwise got) = ForBytes to file most otherwise got
 asks_after before es i call (ForLine file number otherwise first last failed is) =
     ForLine file number otherwise (before ++ first) last failed
-    (ap (λ (fs : List Event). before ++ fs) is ∙ sym (append_assoc before first (last ∷ [])))
+    (ap (λ (fs : List WordEvent). before ++ fs) is ∙ sym (append_assoc before first (last ∷ [])))
 
 module _ (layout : Layout) (t : ℕ) (code : List Instr) (p : Place) (a : Actor) (n : ℕ) (cs : List HostCall)
-    (es : List Event) (q : Place) (b : Actor) (one : Makes layout t code p a n cs es q b) where
+    (es : List WordEvent) (q : Place) (b : Actor) (one : Makes layout t code p a n cs es q b) where
   -- more events,
-  with_events : (k : ℕ) (ds : List HostCall) (fs gs : List Event) (r : Place) (c : Actor)
+  with_events : (k : ℕ) (ds : List HostCall) (fs gs : List WordEvent) (r : Place) (c : Actor)
       → Makes layout t code p a k ds ((es ++ fs) ++ gs) r c → Makes layout t code p a k ds (es ++ (fs ++ gs)) r c
   with_events k ds fs gs r c done =
-      subst (λ (hs : List Event). Makes layout t code p a k ds hs r c) (append_assoc es fs gs) done
+      subst (λ (hs : List WordEvent). Makes layout t code p a k ds hs r c) (append_assoc es fs gs) done
 
   -- more calls,
-  with_calls : (k : ℕ) (ds : List HostCall) (call : HostCall) (fs : List Event) (r : Place) (c : Actor)
+  with_calls : (k : ℕ) (ds : List HostCall) (call : HostCall) (fs : List WordEvent) (r : Place) (c : Actor)
       → Makes layout t code p a k ((cs ++ ds) ++ call ∷ []) fs r c
       → Makes layout t code p a k (cs ++ (ds ++ call ∷ [])) fs r c
   with_calls k ds call fs r c done =
       subst (λ (ks : List HostCall). Makes layout t code p a k ks fs r c) (append_assoc cs ds (call ∷ [])) done
 
   -- and more instructions
-  with_begun : (k m : ℕ) (ds : List HostCall) (fs : List Event) (r : Place) (c : Actor)
+  with_begun : (k m : ℕ) (ds : List HostCall) (fs : List WordEvent) (r : Place) (c : Actor)
       → Makes layout t code p a ((n + k) + m) ds fs r c → Makes layout t code p a (n + (k + m)) ds fs r c
   with_begun k m ds fs r c done = subst (λ (l : ℕ). Makes layout t code p a l ds fs r c) (added n k m) done
 
   -- A thread goes on.
-  pub makes_then : (m : ℕ) (ds : List HostCall) (fs : List Event) (r : Place) (c : Actor)
+  pub makes_then : (m : ℕ) (ds : List HostCall) (fs : List WordEvent) (r : Place) (c : Actor)
       → Makes layout t code q b m ds fs r c → Makes layout t code p a (n + m) (cs ++ ds) (es ++ fs) r c
   makes_then m ds fs r c Refl =
       subst (λ (l : ℕ). Makes layout t code p a l (cs ++ []) (es ++ []) q b) (none_after n)
       (subst (λ (ks : List HostCall). Makes layout t code p a n ks (es ++ []) q b) (sym (append-nil cs))
-      (subst (λ (hs : List Event). Makes layout t code p a n cs hs q b) (sym (append-nil es)) one))
+      (subst (λ (hs : List WordEvent). Makes layout t code p a n cs hs q b) (sym (append-nil es)) one))
   makes_then m ds fs r c (Silently k ks gs s r' d moves other none is) =
       with_begun k (begun_at s) (cs ++ ks) (es ++ gs) r c
       (Silently (n + k) (cs ++ ks) (es ++ gs) s r' d moves (makes_then k ks gs s d other) none is)
@@ -97,7 +97,7 @@ module _ (layout : Layout) (t : ℕ) (code : List Instr) (p : Place) (a : Actor)
 
 -- As many have begun as the one event begins.
 pub only_these : {layout : Layout} {t : ℕ} {code : List Instr} {p q : Place} {a b : Actor} {n : ℕ} {cs : List HostCall}
-    {es : List Event} → Makes layout t code p a (0 + n) cs es q b → Makes layout t code p a n cs es q b
+    {es : List WordEvent} → Makes layout t code p a (0 + n) cs es q b → Makes layout t code p a n cs es q b
 only_these {layout} {t} {code} {p} {q} {a} {b} {n} {cs} {es} made =
     subst (λ (k : ℕ). Makes layout t code p a k cs es q b) (none_before n) made
 
@@ -137,7 +137,7 @@ pub calls_then : {n m : ℕ} (cs fs : List HostCall) (code : List Instr) (p q r 
 calls_then {n} {m} cs fs code p q r ds es gs v u w one other = record {
   events = one.events ++ other.events;
   trace = other.trace
-      ∙ (ap (λ (hs : List Event). hs ++ other.events) one.trace ∙ append_assoc v.trace one.events other.events);
+      ∙ (ap (λ (hs : List WordEvent). hs ++ other.events) one.trace ∙ append_assoc v.trace one.events other.events);
   makes = makes_then v.layout v.thread code p (thread_with v ds) n cs one.events q (thread_with u es) one.makes m fs
       other.events r (thread_with w gs)
       (subst (λ (t : ℕ). Makes v.layout t code q (thread_with u es) m fs other.events r (thread_with w gs)) one.thread

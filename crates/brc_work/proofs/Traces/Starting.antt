@@ -16,7 +16,7 @@ use Rattle.brc_model.specs.declared.duty.Holding.{Holding}
 use Rattle.brc_model.specs.declared.duty.Holding.TheVariants.{AsCaller}
 use Rattle.brc_model.specs.declared.state.Exit.{Exit}
 use Rattle.brc_model.specs.declared.address.Address.TheVariants.{KindOf}
-use Rattle.brc_table.specs.declared.view.Event.{Event}
+use Rattle.brc_model.specs.declared.event.WordEvent.{WordEvent}
 use Rattle.brc_table.specs.declared.view.View.{View}
 use Rattle.brc_table.specs.Views.{view_by, view_after, open_work, with_reference, retaining, asking, locking, unlocking, loading_cell}
 use Rattle.brc_heap.specs.Calls.{retained}
@@ -50,7 +50,7 @@ module _ (code : List Instr) (p : Place) (v : View) where
   }
 
 -- the event of a look at the kind of the row's object
-abbrev pub kind_event : ℕ → ℕ → Event
+abbrev pub kind_event : ℕ → ℕ → WordEvent
 kind_event x word = record { address = KindOf x; found = word; left = word }
 
 -- the hand without work that turns to the duties, and has these references and this slot

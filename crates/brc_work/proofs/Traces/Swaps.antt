@@ -12,7 +12,7 @@ use Rattle.brc_model.specs.declared.duty.Duty.TheVariants.{ReleaseLoad, CellSwap
 use Rattle.brc_model.specs.declared.duty.Holding.{Holding}
 use Rattle.brc_model.specs.declared.duty.Holding.TheVariants.{InFlight}
 use Rattle.brc_model.proofs.Basics.Lists.{some_is, none_some}
-use Rattle.brc_table.specs.declared.view.Event.{Event}
+use Rattle.brc_model.specs.declared.event.WordEvent.{WordEvent}
 use Rattle.brc_table.specs.declared.view.View.{View}
 use Rattle.brc_table.specs.Swaps.{swapped}
 use Rattle.brc_table.specs.Views.{open_work}
@@ -45,7 +45,7 @@ swaps : (code : List Instr) (place next : Place) (row cell item found : ℕ) (ho
 swaps code place next row cell item found holding v none is =
     let d = CellSwap row cell item holding in
     let events = events_of v.layout v.thread (thread_with v []) d found in
-    let stored : ℕ → Event = λ left. record { address = Cell row cell; found = found; left = left } in
+    let stored : ℕ → WordEvent = λ left. record { address = Cell row cell; found = found; left = left } in
     let aside : v.aside ≡ open_work v = ap (λ (ds : List Duty). ds ++ v.aside) (sym none) in
     record {
       events = events;
