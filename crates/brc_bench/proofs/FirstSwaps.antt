@@ -26,7 +26,7 @@ rests_at_first heap hand t is table = record {
   table = table;
   running = subst IsRunning (sym is) (refl, tt);
   rests = ap open_work is;
-  locked_is = ap (λ (v : View). v.locked) is;
+  locked_is = ap (λ (v : View). v.actor.locked) is;
   returned = tt;
 }
 
@@ -157,7 +157,8 @@ no_work_at_rest x rest = ap (filter (is_about x)) rest.rests
 pub swaps_begin : {heap : TableState} {before : HandState} {row cell : ℕ} {held : Option ℕ} {others : List ℕ}
     (after : HandState) → IsAtRest heap before → IsCounted before.view.layout row
     → HoldsBeside before row held others → IsOf heap after → Keeps before.view after.view
-    → after.view.locked ≡ before.view.locked → KnowsCell after.view row cell → IsReadyToSwap heap after row cell held
+    → after.view.actor.locked ≡ before.view.actor.locked → KnowsCell after.view row cell
+    → IsReadyToSwap heap after row cell held
 swaps_begin {heap} {before} {row} {cell} {held} {others} after rest counted has table keeps locked knows =
     let still = holds_still {before = before} {after = after} keeps.references keeps.layout has in
     record {
@@ -178,7 +179,7 @@ swaps_begin {heap} {before} {row} {cell} {held} {others} after rest counted has 
 pub pairs_begin : {heap : TableState} {before : HandState} {row : ℕ} {held : Option ℕ} {others : List ℕ}
     (after : HandState) → IsAtRest heap before → IsCounted before.view.layout row
     → HoldsBeside before row held others → IsOf heap after → Keeps before.view after.view
-    → after.view.locked ≡ before.view.locked → IsReady heap after row
+    → after.view.actor.locked ≡ before.view.actor.locked → IsReady heap after row
 pairs_begin {heap} {before} {row} {held} {others} after rest counted has table keeps locked =
     let still = holds_still {before = before} {after = after} keeps.references keeps.layout has in
     record {

@@ -130,7 +130,7 @@ may_put {heap} {hand} {row} {cell} (Some y) at_list =
 still_there : {heap : TableState} {before after : HandState} {row cell : ℕ} {held locked next now : Option ℕ}
     (references : List ℕ) (slot : ℕ) → IsAtList heap before row cell held locked → IsOf heap after
     → Keeps (record before.view { references = references; in_slot = slot }) after.view
-    → after.view.locked ≡ now → HasBack after now → (others : List ℕ)
+    → after.view.actor.locked ≡ now → HasBack after now → (others : List ℕ)
     → 1 ≤ count_by (λ y. y == row) others → length others + 1 < most_references
     → references ≡ with_item before.view.layout (word_of next) others → IsAtList heap after row cell next now
 still_there {heap} {before} {after} {row} {cell} {held} {locked} {next} {now} references slot at_list table keeps is
@@ -158,7 +158,7 @@ pub after_lock : {heap : TableState} {before : HandState} {row cell : ℕ} {held
     (result : Bool) → IsAtList heap before row cell held None → IsOf heap after
     → KeepsButSlot before.view after.view
     → after.slots ≡ (if result then (row, after.view.in_slot) ∷ before.slots else before.slots)
-    → after.view.locked ≡ (if result then Some row else None) → result ≡ true
+    → after.view.actor.locked ≡ (if result then Some row else None) → result ≡ true
     → IsAtList heap after row cell held (Some row)
 after_lock after false at_list table keeps slots locked is = absurd cc
 after_lock {heap} {before} after true at_list table keeps slots locked is =
@@ -167,7 +167,7 @@ after_lock {heap} {before} after true at_list table keeps slots locked is =
 
 pub after_miss : {heap : TableState} {before : HandState} {row cell : ℕ} {held : Option ℕ} (after : HandState)
     (result : Bool) → IsAtList heap before row cell held None → IsOf heap after
-    → KeepsButSlot before.view after.view → after.view.locked ≡ (if result then Some row else None)
+    → KeepsButSlot before.view after.view → after.view.actor.locked ≡ (if result then Some row else None)
     → result ≡ false → IsAtList heap after row cell held None
 after_miss after true at_list table keeps locked is = absurd cc
 after_miss {heap} {before} after false at_list table keeps locked is =
@@ -182,7 +182,7 @@ pub after_swap : {heap : TableState} {before : HandState} {row cell found : ℕ}
     (after : HandState) → IsAtList heap before row cell held (Some row) → IsOf heap after
     → KeepsBesides before.view after.view
     → SwapsItem row cell (word_of held) found before.view after.view → next ≡ row_in found
-    → after.slots ≡ before.slots → after.view.locked ≡ Some row → IsAtList heap after row cell next (Some row)
+    → after.slots ≡ before.slots → after.view.actor.locked ≡ Some row → IsAtList heap after row cell next (Some row)
 after_swap {heap} {before} {row} {cell} {found} {held} {next} after at_list table keeps swaps is slots locked =
     let v = before.view in
     let word : word_of next ≡ found = ap word_of is ∙ word_row found in
@@ -201,7 +201,7 @@ after_swap {heap} {before} {row} {cell} {found} {held} {next} after at_list tabl
 
 pub after_unlock : {heap : TableState} {before : HandState} {row cell : ℕ} {held : Option ℕ} (after : HandState)
     → IsAtList heap before row cell held (Some row) → IsOf heap after → Keeps before.view after.view
-    → after.view.locked ≡ None → IsAtList heap after row cell held None
+    → after.view.actor.locked ≡ None → IsAtList heap after row cell held None
 after_unlock {heap} {before} after at_list table keeps is =
     still_there before.view.references before.view.in_slot at_list table keeps is tt at_list.others at_list.list
     at_list.few at_list.references

@@ -17,7 +17,7 @@ pub record IsReady (heap : TableState) (hand : HandState) (row : ℕ) : Type 0 w
   pub held : 1 ≤ holds hand.view row
   pub idle : HasNoWork hand.view row
   pub few : length hand.view.references < most_references
-  pub unlocked : hand.view.locked ≡ None
+  pub unlocked : hand.view.actor.locked ≡ None
 
 -- ---- a fact that a struct can keep
 

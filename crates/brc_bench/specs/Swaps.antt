@@ -19,7 +19,7 @@ pub record IsResting (heap : TableState) (hand : HandState) (locked : Option ℕ
   pub table : IsOf heap hand
   pub running : IsRunning hand.view
   pub rests : open_work hand.view ≡ []
-  pub locked_is : hand.view.locked ≡ locked
+  pub locked_is : hand.view.actor.locked ≡ locked
   pub returned : HasBack hand locked
 
 -- The hand rests, and has locked nothing.
@@ -51,7 +51,7 @@ pub record IsAtList (heap : TableState) (hand : HandState) (row cell : ℕ) (hel
   pub table : IsOf heap hand
   pub running : IsRunning hand.view
   pub rests : open_work hand.view ≡ []
-  pub locked_is : hand.view.locked ≡ locked
+  pub locked_is : hand.view.actor.locked ≡ locked
   pub returned : HasBack hand locked
   pub counted : IsCounted hand.view.layout row
   pub knows : KnowsCell hand.view row cell

@@ -18,8 +18,8 @@ use std::collections::VecDeque;
 use std::sync::Wait;
 use std::time::{Clock, Duration, Instant};
 
-/// The rows of each worker. Such a heap has 209 KiB of words, which stay in a core's own cache from their first store on:
-/// a birth in a larger heap waits for memory, and how long depends on where the allocator took it.
+/// The rows of each worker. Such a heap has 209 KiB of words, which stay in a core's own cache from their first store
+/// on: a birth in a larger heap waits for memory, and how long depends on where the allocator took it.
 pub const ROWS_EACH: u16 = 512;
 
 /// The most heaps that are used.

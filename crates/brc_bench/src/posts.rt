@@ -1,5 +1,5 @@
-//! Objects that their owner merges: a worker gives birth to numbers and hands them over, another worker gives them up and
-//! posts them, and the first one merges them.
+//! Objects that their owner merges: a worker gives birth to numbers and hands them over, another worker gives them up
+//! and posts them, and the first one merges them.
 
 ghost use Rattle.std.specs.Prelude.{◌≡◌, ◌≤◌, ◌<◌, ◌+◌, ℕ, List, true, [], ◌∷◌, ◌++◌, All, count_by, ◌==◌, length, IfOk, OnOk, IfSome, OnSome};
 ghost use Rattle.brc_model.specs.Layout.{root_row, IsCounted};

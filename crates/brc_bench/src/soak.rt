@@ -1,6 +1,6 @@
-//! A soak: 32 workers, each in a thread of its own, call the first function of an accepted module over a fresh heap, and
-//! then over the next heap that of the next module. At each heap's end the births and closes that it shows, and those that
-//! the workers and the hosts have counted, are compared with what the calls lead to.
+//! A soak: 32 workers, each in a thread of its own, call the first function of an accepted module over a fresh heap,
+//! and then over the next heap that of the next module. At each heap's end the births and closes that it shows, and
+//! those that the workers and the hosts have counted, are compared with what the calls lead to.
 
 ghost use Rattle.std.specs.Prelude.{◌≡◌, length, IfOk};
 
@@ -53,8 +53,8 @@ fn made_by_all(times: u32, in_a_call: u32) -> u64 {
     tried.min(u64::from(ROWS)) * u64::from(WORKERS)
 }
 
-/// Runs one heap after another, for each module in turn, until so many calls have been made in all, or if none are asked
-/// for those of one heap for each module. Compares the counts of each heap, and prints what was done.
+/// Runs one heap after another, for each module in turn, until so many calls have been made in all, or if none are
+/// asked for those of one heap for each module. Compares the counts of each heap, and prints what was done.
 ///
 /// # Errors
 ///

@@ -87,8 +87,8 @@ fn worker_for<'a>(
     })
 }
 
-/// Retains and releases the worker's object, or makes locked swaps of its item, and adds the time to that of all workers.
-/// Half as many untimed ones come first: new threads may share a processor until the kernel moves them apart.
+/// Retains and releases the worker's object, or makes locked swaps of its item, and adds the time to that of all
+/// workers. Half as many untimed ones come first: new threads may share a processor until the kernel moves them apart.
 fn work<R: Clock + Wait>(rt: &R, worker: Worker<'_>, times: u32, all: &Mutex<Run>) -> Result<()> {
     let Worker {
         heap,

@@ -218,7 +218,8 @@ LeavesBy says gives paint (ToStep file schedule true) stop old new =
 LeavesBy says gives paint asked stop old new = LeavesReport (HasReportBy says gives paint asked) stop old new
 
 -- what the program leaves
-abbrev pub ProgramLeaves : (List ℕ → List ℕ → Type 0) → Paint → Asked → Stop → Option (List ℕ) → Option (List ℕ) → Type 0
+abbrev pub ProgramLeaves : (List ℕ → List ℕ → Type 0) → Paint → Asked → Stop → Option (List ℕ) → Option (List ℕ)
+    → Type 0
 ProgramLeaves = LeavesBy says_anything
 
 -- one reason gives the status and the line, of which at least a prefix is on standard error

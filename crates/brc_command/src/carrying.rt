@@ -76,7 +76,8 @@ pub fn execute_on<R: System, L: Load, T: Terminal, W: Write, E: Write>(
         (W.contents out.old) (W.contents out.new) (E.contents err.old) (E.contents err.new) }
     ensures stopped { result ≢ 0 → IsStopped
         (IsReason (L.may_give load.old) (L.may_lack load.old) asked.now)
-        (ProgramLeaves (L.may_give load.old) (T.paint_of terminal.old) asked.now) (W.contents out.old) (W.contents out.new)
+        (ProgramLeaves (L.may_give load.old) (T.paint_of terminal.old) asked.now) (W.contents out.old)
+        (W.contents out.new)
         (E.contents err.old) (E.contents err.new) result }
 {
     match carry_out(rt, alloc, asked, load, terminal, &Explainer, out) {

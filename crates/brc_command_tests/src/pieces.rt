@@ -79,7 +79,8 @@ const ZEROS: Tape<'static> = (b"", true);
 
 const FIFTH_SAID: &[u8] = b"unreadable line 5 L2\n";
 
-// A command line, the module and the schedule, and how many pieces of 16 bytes are asked for; the line on standard error.
+// A command line, the module and the schedule, and how many pieces of 16 bytes are asked for; the line on standard
+// error.
 const AT_FAULT: &[(&[&str], (Tape<'static>, Tape<'static>, usize), &[u8])] = &[
     (
         &["brc", "check", "m.brc"],

@@ -80,7 +80,8 @@ impl Doer {
     {
         match duty {
             Duty::RetainLoad { row, holding } => self.retain_load(row, holding, found),
-            // The step ends its piece of work. Rules `LocalRaised` and `SharedRaised`; `Closes`; `KindRead`; `CellRead`.
+            // The step ends its piece of work. Rules `LocalRaised` and `SharedRaised`; `Closes`; `KindRead`;
+            // `CellRead`.
             Duty::RetainStore { .. }
             | Duty::RetainAdd { .. }
             | Duty::SettleEnd { .. }

@@ -1,6 +1,6 @@
-//! What one step does, as values: the address of its word, the operation on the word (`Access`), and, by the value found
-//! there, the duties that follow and the thread afterwards (`Effect`). It depends on the thread, the duty and the value
-//! found alone.
+//! What one step does, as values: the address of its word, the operation on the word (`Access`), and, by the value
+//! found there, the duties that follow and the thread afterwards (`Effect`). It depends on the thread, the duty and the
+//! value found alone.
 //!
 //! The crate changes nothing itself. The step world makes the operation on its columns of words, and real threads on
 //! the words that they share. It also has what both share of the rows (`rows`), of kind words (`kinds`) and of how a

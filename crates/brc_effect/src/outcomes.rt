@@ -103,11 +103,11 @@ pub fn zero_step(found: u64) -> ZeroStep
     }
 }
 
-/// Returns how the compare-exchange of a release through the shared word ends: `word` was loaded, and the exchange found
-/// `found`. If another thread has changed the word since the load, the thread retries (`lost_exchange_forgotten`). At
-/// (0, default) the object was queued, and its mark is still to be set. If the object is merged and has no reference
-/// left, this thread deallocates it (`death_tested_before_decrement`). Rules `Queues`, `Decrements`, `DecrementsToZero`
-/// and `ExchangeLost`.
+/// Returns how the compare-exchange of a release through the shared word ends: `word` was loaded, and the exchange
+/// found `found`. If another thread has changed the word since the load, the thread retries
+/// (`lost_exchange_forgotten`). At (0, default) the object was queued, and its mark is still to be set. If the object
+/// is merged and has no reference left, this thread deallocates it (`death_tested_before_decrement`). Rules `Queues`,
+/// `Decrements`, `DecrementsToZero` and `ExchangeLost`.
 #[inline(always)]
 pub fn shared_release(word: u64, found: u64) -> SharedRelease
     requires counted { found ≡ word → 1 ≤ biased_part word }
@@ -127,8 +127,8 @@ pub fn shared_release(word: u64, found: u64) -> SharedRelease
 
 /// Returns how the compare-exchange of a merge ends: `word` was loaded, to which `carried` local references were to be
 /// added, and the exchange found `found`. (PEP 703, Biased Reference Counting: a merged object is freed at shared count
-/// zero.) If another thread has changed the word since the load, the thread retries. If no reference is left, the object
-/// dies (`death_tested_before_merge`). Rules `Merges`, `MergesToZero` and `MergeLost`.
+/// zero.) If another thread has changed the word since the load, the thread retries. If no reference is left, the
+/// object dies (`death_tested_before_merge`). Rules `Merges`, `MergesToZero` and `MergeLost`.
 #[inline(always)]
 pub fn merge_step(word: u64, carried: u32, found: u64) -> MergeStep
     requires total { found ≡ word → biased_part word + carried < 2 * bias }
@@ -144,8 +144,8 @@ pub fn merge_step(word: u64, carried: u32, found: u64) -> MergeStep
 }
 
 /// Returns whether the thread of this word runs. A running owner will find the mark that another thread has set
-/// (`look_at_own_word`). If the owner is exiting or has exited, that thread takes the mark back. It sets the mark before
-/// it looks, and the owner announces its exit before it scans, so at least one of the two finds the mark
+/// (`look_at_own_word`). If the owner is exiting or has exited, that thread takes the mark back. It sets the mark
+/// before it looks, and the owner announces its exit before it scans, so at least one of the two finds the mark
 /// (`post_without_look`). Rules `OwnerRuns` and `OwnerExits`.
 #[inline(always)]
 pub fn runs(said: u64) -> bool

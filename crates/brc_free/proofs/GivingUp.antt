@@ -40,7 +40,7 @@ has_posted {v} {u} {w} {x} {rest} answer said found at is view =
     worked_more at (worked_by
     (subst (λ (a : Looked). HasStepped u (look_left x a ++ rest) w) (sym is)
     (subst (HasStepped u (look_left x (look_answer said found) ++ rest)) (sym view)
-    (posted_stepped said found (at.agenda ∙ plain_first u.head (SetMark x) rest refl)))))
+    (posted_stepped said found (at.agenda ∙ plain_first u.actor.head (SetMark x) rest refl)))))
 
 -- A release has ended.
 pub released : {x : ℕ} {left : List Duty} {v u w : View} → Leaves x left v u

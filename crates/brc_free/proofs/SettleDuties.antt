@@ -10,7 +10,7 @@ use Rattle.brc_model.specs.declared.duty.Duty.{Duty}
 use Rattle.brc_model.specs.declared.duty.Duty.TheVariants.{ReleaseLoad, Settle, SettleKind, SettleCell, TakeSlot, SettleEnd}
 use Rattle.brc_model.specs.Duties.{ready, has_resource, cells_of, cells_from, release_found}
 use Rattle.brc_table.specs.declared.view.View.{View}
-use Rattle.brc_table.specs.Views.{RowsAreThere, view_by, view_after, settling, settle_first, slot_emptied, slot_emptied_by}
+use Rattle.brc_table.specs.Views.{RowsAreThere, view_by, view_after, settling, settle_first, slot_emptied, slot_emptied_by, with_next}
 use Rattle.brc_table.specs.Calls.{MaySettle, SettlesFrom}
 use Rattle.brc_free.specs.Works.{Works, Next, HasWorked, ComesToSettle, AtOnce, InWork, to_settle, closes_by}
 use Rattle.brc_heap.specs.Steps.{Keeps}
@@ -21,7 +21,7 @@ use Rattle.brc_free.proofs.FirstDuties.{settle_kind_first, settle_cell_first, ta
 -- ---- taking the first object off the chain
 
 -- A hand that settles next isn't gone.
-pub comes_alive : (v : View) (rest : List Duty) → ComesToSettle v rest → v.status ≢ Gone
+pub comes_alive : (v : View) (rest : List Duty) → ComesToSettle v rest → v.actor.status ≢ Gone
 comes_alive v rest (AtOnce running aside idle) = λ gone. absurd (running_gone (sym running ∙ gone)) where
   running_gone : Running ≡ Gone → ⊥
   running_gone is = absurd cc
@@ -33,34 +33,36 @@ settle_ready zero rest some = absurd (lt_irrefl 0 some)
 settle_ready (suc head) rest some = refl
 
 -- A hand that settles next may do so,
-pub may_settle : (v : View) (rest : List Duty) → 0 < v.head → ComesToSettle v rest → MaySettle v
+pub may_settle : (v : View) (rest : List Duty) → 0 < v.actor.head → ComesToSettle v rest → MaySettle v
 may_settle v rest some (AtOnce running aside idle) =
     subst (SettlesFrom v) (sym idle) (running, aside)
 may_settle v rest some (InWork duties alive next) =
-    subst (SettlesFrom v) (sym (next ∙ settle_ready v.head duties some)) alive
+    subst (SettlesFrom v) (sym (next ∙ settle_ready v.actor.head duties some)) alive
 
 -- and does it first.
-settles_first : (v : View) (rest : List Duty) → 0 < v.head → ComesToSettle v rest
-    → settle_first v.agenda ≡ Settle ∷ rest
+settles_first : (v : View) (rest : List Duty) → 0 < v.actor.head → ComesToSettle v rest
+    → settle_first v.actor.agenda ≡ Settle ∷ rest
 settles_first v rest some (AtOnce running aside idle) = ap settle_first idle
 settles_first v rest some (InWork duties alive next) =
-    ap settle_first (next ∙ settle_ready v.head duties some)
+    ap settle_first (next ∙ settle_ready v.actor.head duties some)
 
 -- With an object in the chain, the hand that begins to settle is the hand that settles next.
-to_settle_begins : (v : View) (rest : List Duty) → 0 < v.head → ComesToSettle v rest → settling v ≡ to_settle rest v
+to_settle_begins : (v : View) (rest : List Duty) → 0 < v.actor.head → ComesToSettle v rest → settling v
+    ≡ to_settle rest v
 to_settle_begins v rest some at =
-    ap (λ (ds : List Duty). record v { agenda = ds })
-    (settles_first v rest some at ∙ sym (settle_ready v.head rest some))
+    ap (with_next v)
+    (settles_first v rest some at ∙ sym (settle_ready v.actor.head rest some))
 
 -- The first object is off the chain.
-pub taken_off : (v w : View) (x found : ℕ) (rest : List Duty) → 0 < v.head → x ≡ v.head - 1 → ComesToSettle v rest
+pub taken_off : (v w : View) (x found : ℕ) (rest : List Duty) → 0 < v.actor.head → x ≡ v.actor.head - 1
+    → ComesToSettle v rest
     → w ≡ view_after (settling v) found → RowsAreThere v
     → HasWorked (to_settle rest v) [] (SettleKind x ∷ Settle ∷ rest) w
 taken_off v w x found rest some row at is there =
-    let apart = head_unlocked v (v.head - 1) there some refl in
+    let apart = head_unlocked v (v.actor.head - 1) there some refl in
     let begun = to_settle rest v in
     worked_on begun begun w [] Settle rest (SettleKind x ∷ Settle ∷ rest) found
-    (worked_first begun (Settle ∷ rest) refl) (settle_ready v.head rest some) refl refl
+    (worked_first begun (Settle ∷ rest) refl) (settle_ready v.actor.head rest some) refl refl
     (is ∙ ap (λ (z : View). view_after z found) (to_settle_begins v rest some at))
     (record {
       status = refl;
@@ -68,7 +70,7 @@ taken_off v w x found rest some row at is there =
       off = record {
         locked = refl;
         cells = λ y i is. refl;
-        gates = gate_apart v v (v.head - 1) apart refl;
+        gates = gate_apart v v (v.actor.head - 1) apart refl;
       };
     })
     (ap (λ (y : ℕ). SettleKind y ∷ Settle ∷ rest) (sym row))
@@ -80,7 +82,8 @@ pub kind_has_resource : (v u w : View) (cs : List HostCall) (x found : ℕ) (res
     → HasWorked v cs (SettleKind x ∷ rest) u → w ≡ view_after u found → has_resource found ≡ true
     → HasWorked v cs (TakeSlot x ∷ rest) w
 kind_has_resource v u w cs x found rest at is has =
-    worked_on v u w cs (SettleKind x) rest (TakeSlot x ∷ rest) found at (settle_kind_first u.head x rest) refl refl is
+    worked_on v u w cs (SettleKind x) rest (TakeSlot x ∷ rest) found at (settle_kind_first u.actor.head x rest) refl
+    refl is
     (record {
       status = refl;
       used = refl;
@@ -94,7 +97,7 @@ pub kind_has_cells : (v u w : View) (cs : List HostCall) (x found : ℕ) (rest :
     → w ≡ view_after u found → has_resource found ≡ false → HasWorked v cs (cells_from x 0 (cells_of found) ++ rest) w
 kind_has_cells v u w cs x found rest at is none =
     worked_on v u w cs (SettleKind x) rest (cells_from x 0 (cells_of found) ++ rest) found at
-    (settle_kind_first u.head x rest) refl refl is
+    (settle_kind_first u.actor.head x rest) refl refl is
     (record {
       status = refl;
       used = refl;
@@ -128,10 +131,11 @@ cell_next x i n rest low =
 -- A cell is empty now, and what was there is given up next.
 pub cell_emptied : (v u w : View) (cs : List HostCall) (x i m found : ℕ) (rest : List Duty)
     → HasWorked v cs (SettleCell x i m ∷ rest) u
-    → w ≡ view_after u found → v.locked ≢ Some x → HasWorked v cs (release_found found ++ (cells_from x (i + 1) m ++ rest)) w
+    → w ≡ view_after u found → v.actor.locked ≢ Some x → HasWorked v cs
+    (release_found found ++ (cells_from x (i + 1) m ++ rest)) w
 cell_emptied v u w cs x i m found rest at is apart =
     worked_on v u w cs (SettleCell x i m) rest (release_found found ++ (cells_from x (i + 1) m ++ rest)) found at
-    (settle_cell_first u.head x i m rest) refl refl is
+    (settle_cell_first u.actor.head x i m rest) refl refl is
     (record {
       status = refl;
       used = refl;
@@ -157,11 +161,11 @@ item_found (suc y) some = ap (λ (x : ℕ). ReleaseLoad x InFlight ∷ []) (one_
 
 -- All cells are empty now.
 pub all_emptied : (v u w : View) (x n : ℕ) (rest : List Duty) → HasWorked v [] (cells_from x 0 n ++ Settle ∷ rest) u
-    → ((later : List Duty) → u.agenda ≡ cells_from x 0 n ++ later → HasWorked u [] (SettleEnd x ∷ later) w)
+    → ((later : List Duty) → u.actor.agenda ≡ cells_from x 0 n ++ later → HasWorked u [] (SettleEnd x ∷ later) w)
     → HasWorked v [] (SettleEnd x ∷ Settle ∷ rest) w
 all_emptied v u w x n rest at emptied =
     worked_then v u w [] [] (cells_from x 0 n ++ Settle ∷ rest) (SettleEnd x ∷ Settle ∷ rest) at
-    (emptied (Settle ∷ rest) (at.agenda ∙ cells_first u.head x 0 n (Settle ∷ rest)))
+    (emptied (Settle ∷ rest) (at.agenda ∙ cells_first u.actor.head x 0 n (Settle ∷ rest)))
 
 -- After the last cell the object is closed.
 pub cells_end : (x n : ℕ) (rest : List Duty) → cells_from x n n ++ rest ≡ SettleEnd x ∷ rest
@@ -172,10 +176,10 @@ cells_end x n rest =
 
 -- The object is closed: one without a resource,
 pub ended : (v u w : View) (cs : List HostCall) (x found : ℕ) (rest : List Duty) → HasWorked v cs (SettleEnd x ∷ rest) u
-    → w ≡ view_after (slot_emptied u) found → v.locked ≢ Some x → HasWorked v cs rest w
+    → w ≡ view_after (slot_emptied u) found → v.actor.locked ≢ Some x → HasWorked v cs rest w
 ended v u w cs x found rest at is apart =
-    let has : u.agenda ≡ SettleEnd x ∷ rest = at.agenda ∙ settle_end_first u.head x rest in
-    worked_on v u w cs (SettleEnd x) rest rest found at (settle_end_first u.head x rest) refl refl
+    let has : u.actor.agenda ≡ SettleEnd x ∷ rest = at.agenda ∙ settle_end_first u.actor.head x rest in
+    worked_on v u w cs (SettleEnd x) rest rest found at (settle_end_first u.actor.head x rest) refl refl
     (is ∙ ap (λ (ds : List Duty). view_after (slot_emptied_by ds u) found) has)
     (record {
       status = refl;
@@ -189,18 +193,18 @@ ended v u w cs x found rest at is apart =
 
 -- and one whose resource was closed.
 pub ended_empty : (v u w : View) (cs : List HostCall) (x found : ℕ) (failed : Bool) (rest : List Duty)
-    → HasWorked v cs (TakeSlot x ∷ rest) u → w ≡ view_after (slot_emptied u) found → v.locked ≢ Some x
+    → HasWorked v cs (TakeSlot x ∷ rest) u → w ≡ view_after (slot_emptied u) found → v.actor.locked ≢ Some x
     → HasWorked v (cs ++ Close failed ∷ []) rest w
 ended_empty v u w cs x found failed rest at is apart =
-    let has : u.agenda ≡ TakeSlot x ∷ rest = at.agenda ∙ take_slot_first u.head x rest in
-    let emptied : View = record u { agenda = SettleEnd x ∷ rest } in
+    let has : u.actor.agenda ≡ TakeSlot x ∷ rest = at.agenda ∙ take_slot_first u.actor.head x rest in
+    let emptied : View = with_next u (SettleEnd x ∷ rest) in
     let does : w ≡ view_by emptied (SettleEnd x ∷ rest) found =
     is ∙ ap (λ (ds : List Duty). view_after (slot_emptied_by ds u) found) has in
     let work : Works v (cs ++ Close failed ∷ []) (view_after (slot_emptied u) found) =
     subst (λ (ds : List Duty). Works v (cs ++ closes_by ds failed) (view_after (slot_emptied u) found)) has
     (Next cs u found failed at.works) in
     record {
-      agenda = ap (λ (z : View). z.agenda) does ∙ ap (λ (z : View). ready z.head rest) (sym does);
+      agenda = ap (λ (z : View). z.actor.agenda) does ∙ ap (λ (z : View). ready z.actor.head rest) (sym does);
       works = subst (Works v (cs ++ Close failed ∷ [])) (sym is) work;
       keeps =
           keeps_then v u w at.keeps
@@ -221,17 +225,19 @@ ended_empty v u w cs x found failed rest at is apart =
 -- ---- the end of the chain
 
 -- With an empty chain the hand goes on with what comes behind.
-pub settled : (u : View) (rest : List Duty) → u.head ≡ 0 → ComesToSettle u rest → u.agenda ≡ ready u.head rest
+pub settled : (u : View) (rest : List Duty) → u.actor.head ≡ 0 → ComesToSettle u rest → u.actor.agenda
+    ≡ ready u.actor.head rest
 settled u rest none (AtOnce running aside idle) = idle
 settled u rest none (InWork duties alive next) =
     next ∙ (ap (λ (head : ℕ). ready head (Settle ∷ duties)) none ∙ sym (ap (λ (head : ℕ). ready head duties) none))
 
 -- If to settle is what the hand does next, `to_settle` leaves it as it is,
-pub to_settle_next : (u : View) (rest : List Duty) → u.agenda ≡ ready u.head (Settle ∷ rest) → to_settle rest u ≡ u
-to_settle_next u rest next = ap (λ (ds : List Duty). record u { agenda = ds }) (sym next)
+pub to_settle_next : (u : View) (rest : List Duty) → u.actor.agenda ≡ ready u.actor.head (Settle ∷ rest)
+    → to_settle rest u ≡ u
+to_settle_next u rest next = ap (with_next u) (sym next)
 
 -- and so it does if the chain is empty.
-pub to_settle_none : (u : View) (rest : List Duty) → u.head ≡ 0 → ComesToSettle u rest → to_settle rest u ≡ u
+pub to_settle_none : (u : View) (rest : List Duty) → u.actor.head ≡ 0 → ComesToSettle u rest → to_settle rest u ≡ u
 to_settle_none u rest none (AtOnce running aside idle) =
     to_settle_next u [] (idle ∙ sym (ap (λ (head : ℕ). ready head (Settle ∷ [])) none))
 to_settle_none u rest none (InWork duties alive next) = to_settle_next u duties next

@@ -7,7 +7,7 @@ use Rattle.brc_model.specs.declared.duty.Duty.TheVariants.{TakeSlot}
 use Rattle.brc_model.specs.Duties.{ready, continuation, new_head}
 use Rattle.brc_model.specs.Machine.{is_running}
 use Rattle.brc_table.specs.declared.view.View.{View}
-use Rattle.brc_table.specs.Views.{RowsAreThere, view_by, view_after, slot_emptied, slot_emptied_by}
+use Rattle.brc_table.specs.Views.{RowsAreThere, view_by, view_after, slot_emptied, slot_emptied_by, with_next}
 use Rattle.brc_heap.specs.Steps.{Keeps, HasStepped, Steps, TakesNothing, Refl as NoStep, Next as OneStep}
 use Rattle.brc_heap.proofs.Stepping.{IsQuiet, keeps_first, keeps_then, did_keeps}
 use Rattle.brc_free.specs.Works.{Works, Refl, Next, HasWorked, closes_by}
@@ -15,7 +15,7 @@ use Rattle.brc_free.specs.Works.{Works, Refl, Next, HasWorked, closes_by}
 -- ---- what is kept
 
 -- Other duties that come next change nothing else.
-pub keeps_beside : (u : View) (ds : List Duty) → Keeps u (record u { agenda = ds })
+pub keeps_beside : (u : View) (ds : List Duty) → Keeps u (with_next u ds)
 keeps_beside u ds = record {
   layout = refl;
   thread = refl;
@@ -31,13 +31,14 @@ keeps_beside u ds = record {
 }
 
 -- The object that the hand has locked isn't the first one of its chain.
-pub head_unlocked : (v : View) (x : ℕ) → RowsAreThere v → 0 < v.head → x ≡ v.head - 1 → v.locked ≢ Some x
+pub head_unlocked : (v : View) (x : ℕ) → RowsAreThere v → 0 < v.actor.head → x ≡ v.actor.head - 1
+    → v.actor.locked ≢ Some x
 head_unlocked v x there some row is = (there.unfinalised x is).later (omega (arith, some, row))
 
 -- ---- first steps
 
 -- A hand that hasn't done anything yet, of whose duties the first needs a step.
-pub worked_first : (v : View) (ds : List Duty) → v.agenda ≡ ready v.head ds → HasWorked v [] ds v
+pub worked_first : (v : View) (ds : List Duty) → v.actor.agenda ≡ ready v.actor.head ds → HasWorked v [] ds v
 worked_first v ds is = record { agenda = is; works = Refl; keeps = keeps_first v }
 
 -- ---- one duty more
@@ -45,24 +46,25 @@ worked_first v ds is = record { agenda = is; works = Refl; keeps = keeps_first v
 -- One duty more, the first of those that come next.
 pub worked_on : (v u w : View) (cs : List HostCall) (d : Duty) (rest ds : List Duty) (found : ℕ)
     → HasWorked v cs (d ∷ rest) u
-    → ready u.head (d ∷ rest) ≡ d ∷ rest → slot_emptied_by (d ∷ rest) u ≡ u → closes_by (d ∷ rest) false ≡ []
+    → ready u.actor.head (d ∷ rest) ≡ d ∷ rest → slot_emptied_by (d ∷ rest) u ≡ u → closes_by (d ∷ rest) false ≡ []
     → w ≡ view_after u found → IsQuiet u d found
-    → continuation u.layout u.thread (is_running u.status) u.head d found ++ rest ≡ ds
+    → continuation u.layout u.thread (is_running u.actor.status) u.actor.head d found ++ rest ≡ ds
     → HasWorked v cs ds w
 worked_on v u w cs d rest ds found at first unslotted none is quiet next =
-    let has : u.agenda ≡ d ∷ rest = at.agenda ∙ first in
+    let has : u.actor.agenda ≡ d ∷ rest = at.agenda ∙ first in
     let does : w ≡ view_by u (d ∷ rest) found = is ∙ ap (λ (es : List Duty). view_by u es found) has in
     let same : slot_emptied u ≡ u = ap (λ (es : List Duty). slot_emptied_by es u) has ∙ unslotted in
-    let no_more : cs ++ closes_by u.agenda false ≡ cs =
+    let no_more : cs ++ closes_by u.actor.agenda false ≡ cs =
     ap (λ (es : List Duty). cs ++ closes_by es false) has ∙ (ap (λ (fs : List HostCall). cs ++ fs) none
     ∙ append-nil cs) in
-    let work : Works v (cs ++ closes_by u.agenda false) (view_after (slot_emptied u) found) = Next cs u found false at.works
+    let work : Works v (cs ++ closes_by u.actor.agenda false) (view_after (slot_emptied u) found) = Next cs u found
+    false at.works
     in
     record {
       agenda =
-          ap (λ (z : View). z.agenda) does
-          ∙ (ap (λ (es : List Duty). ready (new_head u.head d found) es) next
-          ∙ ap (λ (z : View). ready z.head ds) (sym does));
+          ap (λ (z : View). z.actor.agenda) does
+          ∙ (ap (λ (es : List Duty). ready (new_head u.actor.head d found) es) next
+          ∙ ap (λ (z : View). ready z.actor.head ds) (sym does));
       works =
           subst (λ (z : View). Works v cs z) (ap (λ (z : View). view_after z found) same ∙ sym is)
           (subst (λ (fs : List HostCall). Works v fs (view_after (slot_emptied u) found)) no_more work);
@@ -77,7 +79,7 @@ pub works_then : (v u w : View) (cs ds : List HostCall) → Works v cs u → Wor
 works_then v u w cs ds one Refl = subst (λ (fs : List HostCall). Works v fs u) (sym (append-nil cs)) one
 works_then v u w cs ds one (Next es z found failed other) =
     subst (λ (fs : List HostCall). Works v fs (view_after (slot_emptied z) found))
-    (append_assoc cs es (closes_by z.agenda failed))
+    (append_assoc cs es (closes_by z.actor.agenda failed))
     (Next (cs ++ es) z found failed (works_then v u z cs es one other))
 
 -- The same of what comes next.
@@ -92,7 +94,7 @@ worked_then v u w cs fs ds es one other = record {
 -- The same of a call that leaves what it makes of the duties that it finds, the first of which needs a step.
 pub worked_call : (v u w : View) (cs : List HostCall) (ds : List Duty) (left : List Duty → List Duty)
     → HasWorked v [] ds u
-    → ready u.head ds ≡ ds → HasWorked u cs (left u.agenda) w → HasWorked v cs (left ds) w
+    → ready u.actor.head ds ≡ ds → HasWorked u cs (left u.actor.agenda) w → HasWorked v cs (left ds) w
 worked_call v u w cs ds left at first other =
     worked_then v u w [] cs ds (left ds) at
     (subst (λ (es : List Duty). HasWorked u cs es w) (ap left (at.agenda ∙ first)) other)
@@ -101,9 +103,9 @@ worked_call v u w cs ds left at first other =
 pub works_close : (v u : View) (cs : List HostCall) → Works v cs u → host_faults cs ≡ 0
 works_close v u cs Refl = refl
 works_close v u cs (Next closes z found failed other) =
-    host_faults_then closes (closes_by z.agenda failed)
-    ∙ (ap (λ (k : ℕ). k + host_faults (closes_by z.agenda failed)) (works_close v z closes other)
-    ∙ ap (λ (k : ℕ). 0 + k) (by_closes z.agenda failed)) where
+    host_faults_then closes (closes_by z.actor.agenda failed)
+    ∙ (ap (λ (k : ℕ). k + host_faults (closes_by z.actor.agenda failed)) (works_close v z closes other)
+    ∙ ap (λ (k : ℕ). 0 + k) (by_closes z.actor.agenda failed)) where
       by_closes : (ds : List Duty) (failed : Bool) → host_faults (closes_by ds failed) ≡ 0
       by_closes [] failed = refl
       by_closes (TakeSlot x ∷ rest) failed = refl
@@ -115,8 +117,8 @@ works_close v u cs (Next closes z found failed other) =
 works_of : (v u : View) → Steps v u → Works v [] u
 works_of v u NoStep = Refl
 works_of v w (OneStep u found before takes) =
-    subst (λ (z : View). Works v [] (view_after z found)) (unslotted u.agenda u takes)
-    (subst (λ (cs : List HostCall). Works v cs (view_after (slot_emptied u) found)) (none u.agenda takes)
+    subst (λ (z : View). Works v [] (view_after z found)) (unslotted u.actor.agenda u takes)
+    (subst (λ (cs : List HostCall). Works v cs (view_after (slot_emptied u) found)) (none u.actor.agenda takes)
     (Next [] u found false (works_of v u before))) where
       unslotted : (ds : List Duty) (u : View) → TakesNothing ds → slot_emptied_by ds u ≡ u
       unslotted (TakeSlot x ∷ rest) u takes = absurd takes

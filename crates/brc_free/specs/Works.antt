@@ -11,7 +11,7 @@ use Rattle.brc_model.specs.Duties.{ready, once_merged, cells_from}
 use Rattle.brc_table.specs.declared.view.View.{View}
 use Rattle.brc_model.specs.OpenWork.{is_about}
 use Rattle.brc_table.specs.KnownWords.{knows_kind, known_cell}
-use Rattle.brc_table.specs.Views.{view_after, slot_emptied, without_reference, open_work}
+use Rattle.brc_table.specs.Views.{view_after, slot_emptied, without_reference, open_work, with_next}
 use Rattle.brc_effect.specs.declared.outcomes.LocalRelease.{LocalRelease}
 use Rattle.brc_heap.specs.Calls.{local_left}
 use Rattle.brc_heap.specs.Steps.{Keeps}
@@ -28,12 +28,12 @@ closes_by _ failed = []
 pub data Works (v : View) : List HostCall → View → Type 0 where
   Refl : Works v [] v
   Next : (closes : List HostCall) (u : View) (found : ℕ) (failed : Bool) → Works v closes u
-      → Works v (closes ++ closes_by u.agenda failed) (view_after (slot_emptied u) found)
+      → Works v (closes ++ closes_by u.actor.agenda failed) (view_after (slot_emptied u) found)
 
 -- The hand has done duty after duty, with these closes of the host, and these duties are left, but for those that need
 -- no step.
 pub record HasWorked (v : View) (closes : List HostCall) (ds : List Duty) (u : View) : Type 0 where
-  pub agenda : u.agenda ≡ ready u.head ds
+  pub agenda : u.actor.agenda ≡ ready u.actor.head ds
   pub works : Works v closes u
   pub keeps : Keeps v u
 
@@ -56,19 +56,20 @@ pub record ReleasesNext (x : ℕ) (ds : List Duty) : Type 0 where
 
 -- What is left of a release of row x that has this answer comes next, and these duties come behind.
 abbrev pub EndsRelease : ℕ → LocalRelease → List Duty → View → Type 0
-EndsRelease x answer rest v = v.agenda ≡ ready v.head (local_left x answer ++ rest)
+EndsRelease x answer rest v = v.actor.agenda ≡ ready v.actor.head (local_left x answer ++ rest)
 
 -- ---- settling
 
 -- The hand runs and has nothing to do, so that it may begin to settle its chain; or to settle it is what it does next,
 -- and the duties `rest` come then.
 pub data ComesToSettle (v : View) : List Duty → Type 0 where
-  AtOnce : v.status ≡ Running → v.aside ≡ [] → v.agenda ≡ [] → ComesToSettle v []
-  InWork : (rest : List Duty) → v.status ≢ Gone → v.agenda ≡ ready v.head (Settle ∷ rest) → ComesToSettle v rest
+  AtOnce : v.actor.status ≡ Running → v.actor.aside ≡ [] → v.actor.agenda ≡ [] → ComesToSettle v []
+  InWork : (rest : List Duty) → v.actor.status ≢ Gone → v.actor.agenda ≡ ready v.actor.head (Settle ∷ rest)
+      → ComesToSettle v rest
 
 -- the hand where to settle is what it does next, and the duties `rest` come then; an empty chain needs no settling
 abbrev pub to_settle : List Duty → View → View
-to_settle rest v = record v { agenda = ready v.head (Settle ∷ rest) }
+to_settle rest v = with_next v (ready v.actor.head (Settle ∷ rest))
 
 -- The next duties are to empty the n cells of the list of row x and to close it.
 pub record EmptiesNext (x n : ℕ) (ds : List Duty) : Type 0 where
@@ -108,13 +109,13 @@ claimed_left ds = behind (behind ds)
 pub record HasReleased (x : ℕ) (v u : View) : Type 0 where
   pub layout : u.layout ≡ v.layout
   pub thread : u.thread ≡ v.thread
-  pub status : u.status ≡ v.status
+  pub status : u.actor.status ≡ v.actor.status
   pub references : u.references ≡ without_reference v.layout x v.references
-  pub agenda : u.agenda ≡ []
-  pub aside : u.aside ≡ filter (λ d. not (is_about x d)) (open_work v)
-  pub used : u.used ≡ v.used
-  pub locked : u.locked ≡ v.locked
+  pub agenda : u.actor.agenda ≡ []
+  pub aside : u.actor.aside ≡ filter (λ d. not (is_about x d)) (open_work v)
+  pub used : u.actor.used ≡ v.actor.used
+  pub locked : u.actor.locked ≡ v.actor.locked
   pub in_slot : u.in_slot ≡ v.in_slot
   pub given : u.given ≡ v.given
   pub kinds : (y word : ℕ) → knows_kind y word v ≡ true → knows_kind y word u ≡ true
-  pub cells : (y i : ℕ) → v.locked ≡ Some y → known_cell y i u ≡ known_cell y i v
+  pub cells : (y i : ℕ) → v.actor.locked ≡ Some y → known_cell y i u ≡ known_cell y i v

@@ -7,7 +7,7 @@ ghost use Rattle.brc_model.specs.declared.actor.Status.TheVariants.{Gone};
 ghost use Rattle.brc_model.specs.declared.duty.Duty.{Duty};
 ghost use Rattle.brc_model.specs.declared.duty.Duty.TheVariants.{Settle, SettleEnd};
 ghost use Rattle.brc_model.specs.Duties.{cells_from};
-ghost use Rattle.brc_table.specs.Hands.{IsOf};
+ghost use Rattle.brc_table.specs.Hands.{IsOf, KeepsButView};
 ghost use Rattle.brc_table.specs.Uses.{FirstSlot, behind_slot};
 ghost use Rattle.brc_free.specs.Works.{HasWorked, ComesToSettle, to_settle, EmptiesNext, CellNext, TakesNext, ClaimedNext, behind, cells_left, claimed_left};
 
@@ -66,7 +66,7 @@ impl<'h, T: Drop, Q: Marker<T>> Finaliser<'h, T, Q> {
         ensures table { IsOf self.now hand.new }
         ensures carried { hand.new.carried ≡ hand.old.carried }
         ensures slots { hand.new.slots ≡ hand.old.slots }
-        ensures chain { hand.new.view.head ≡ 0 }
+        ensures chain { hand.new.view.actor.head ≡ 0 }
         ensures work { (rest : List Duty) → ComesToSettle hand.old.view rest → (closes : List HostCall)
             × HasWorked (to_settle rest hand.old.view) closes rest hand.new.view
             × (result ≡ raised (close_faults closes) 0)
@@ -92,14 +92,14 @@ impl<'h, T: Drop, Q: Marker<T>> Finaliser<'h, T, Q> {
         row: u32,
     ) -> u64
         requires table { IsOf self.now hand.old }
-        requires alive { hand.old.view.status ≢ Gone }
-        requires duty { ClaimedNext row hand.old.view.agenda }
+        requires alive { hand.old.view.actor.status ≢ Gone }
+        requires duty { ClaimedNext row hand.old.view.actor.agenda }
         ensures table { IsOf self.now hand.new }
         ensures carried { hand.new.carried ≡ hand.old.carried }
         ensures slots { hand.new.slots ≡ hand.old.slots }
-        ensures chain { hand.new.view.head ≡ 0 }
+        ensures chain { hand.new.view.actor.head ≡ 0 }
         ensures work { (closes : List HostCall)
-            × HasWorked hand.old.view closes (claimed_left hand.old.view.agenda) hand.new.view
+            × HasWorked hand.old.view closes (claimed_left hand.old.view.actor.agenda) hand.new.view
             × (result ≡ raised (close_faults closes) 0)
             × HasAnswered H.answers H.counts host.old closes host.new }
     {
@@ -116,11 +116,9 @@ impl<'h, T: Drop, Q: Marker<T>> Finaliser<'h, T, Q> {
         host: &mut H,
     ) -> u64
         requires table { IsOf self.now hand.old }
-        requires chain { 0 < hand.old.view.head }
+        requires chain { 0 < hand.old.view.actor.head }
         requires duty { (rest : List Duty) × ComesToSettle hand.old.view rest }
-        ensures table { hand.new.table ≡ hand.old.table }
-        ensures carried { hand.new.carried ≡ hand.old.carried }
-        ensures slots { hand.new.slots ≡ hand.old.slots }
+        ensures kept { KeepsButView hand.old hand.new }
         ensures work { (rest : List Duty) → ComesToSettle hand.old.view rest → (closes : List HostCall)
             × HasWorked (to_settle rest hand.old.view) closes (Settle ∷ rest) hand.new.view
             × (result ≡ close_faults closes)
@@ -144,13 +142,13 @@ impl<'h, T: Drop, Q: Marker<T>> Finaliser<'h, T, Q> {
     /// object. Returns how many closes have failed.
     fn close_resource<H: Host<Res = T>>(&self, hand: &mut Hand<T>, host: &mut H, row: u32) -> u64
         requires table { IsOf self.now hand.old }
-        requires alive { hand.old.view.status ≢ Gone }
-        requires duty { TakesNext row hand.old.view.agenda }
+        requires alive { hand.old.view.actor.status ≢ Gone }
+        requires duty { TakesNext row hand.old.view.actor.agenda }
         requires slot { FirstSlot hand.old.slots row 1 }
         ensures table { hand.new.table ≡ hand.old.table }
         ensures carried { hand.new.carried ≡ hand.old.carried }
         ensures slots { hand.new.slots ≡ behind_slot hand.old.slots }
-        ensures work { (closes : List HostCall) × HasWorked hand.old.view closes (behind hand.old.view.agenda)
+        ensures work { (closes : List HostCall) × HasWorked hand.old.view closes (behind hand.old.view.actor.agenda)
             hand.new.view
             × (result ≡ close_faults closes) × HasAnswered H.answers H.counts host.old closes host.new }
     {
@@ -166,12 +164,10 @@ impl<'h, T: Drop, Q: Marker<T>> Finaliser<'h, T, Q> {
     /// references that were there.
     fn empty_cells<R: Wait>(&self, rt: &R, hand: &mut Hand<T>, row: u32, cells: u32)
         requires table { IsOf self.now hand.old }
-        requires alive { hand.old.view.status ≢ Gone }
-        requires duty { EmptiesNext row cells hand.old.view.agenda }
-        ensures table { hand.new.table ≡ hand.old.table }
-        ensures carried { hand.new.carried ≡ hand.old.carried }
-        ensures slots { hand.new.slots ≡ hand.old.slots }
-        ensures work { (rest : List Duty) → hand.old.view.agenda ≡ cells_from row 0 cells ++ rest
+        requires alive { hand.old.view.actor.status ≢ Gone }
+        requires duty { EmptiesNext row cells hand.old.view.actor.agenda }
+        ensures kept { KeepsButView hand.old hand.new }
+        ensures work { (rest : List Duty) → hand.old.view.actor.agenda ≡ cells_from row 0 cells ++ rest
             → HasWorked hand.old.view [] (SettleEnd row ∷ rest) hand.new.view }
     {
         for cell in 0..cells {
@@ -183,12 +179,10 @@ impl<'h, T: Drop, Q: Marker<T>> Finaliser<'h, T, Q> {
     /// that was there.
     fn empty_cell<R: Wait>(&self, rt: &R, hand: &mut Hand<T>, row: u32, cell: u32, cells: u32)
         requires table { IsOf self.now hand.old }
-        requires alive { hand.old.view.status ≢ Gone }
-        requires duty { CellNext row cell hand.old.view.agenda }
-        ensures table { hand.new.table ≡ hand.old.table }
-        ensures carried { hand.new.carried ≡ hand.old.carried }
-        ensures slots { hand.new.slots ≡ hand.old.slots }
-        ensures work { HasWorked hand.old.view [] (cells_left hand.old.view.agenda) hand.new.view }
+        requires alive { hand.old.view.actor.status ≢ Gone }
+        requires duty { CellNext row cell hand.old.view.actor.agenda }
+        ensures kept { KeepsButView hand.old hand.new }
+        ensures work { HasWorked hand.old.view [] (cells_left hand.old.view.actor.agenda) hand.new.view }
     {
         hand.rows_are_there();
         let words = self.heap.words();

@@ -3,7 +3,7 @@
 ghost use Rattle.std.specs.Prelude.{◌≡◌, ◌≢◌, List, []};
 ghost use Rattle.brc_model.specs.declared.duty.Duty.{Duty};
 ghost use Rattle.brc_model.specs.declared.actor.Status.TheVariants.{Gone};
-ghost use Rattle.brc_table.specs.Hands.{IsOf};
+ghost use Rattle.brc_table.specs.Hands.{IsOf, KeepsButView};
 ghost use Rattle.brc_heap.specs.Tries.{DecidesNext, GivesUpNext};
 ghost use Rattle.brc_free.specs.Works.{HasWorked, ReleasesNext, EndsRelease, behind};
 
@@ -18,12 +18,10 @@ impl<'h, T: Drop, Q: Marker<T>> Finaliser<'h, T, Q> {
     /// Does the next duties, behind which others may come: gives up a reference that came out of a cell.
     pub(crate) fn release_item<R: Wait>(&self, rt: &R, hand: &mut Hand<T>, row: u32)
         requires table { IsOf self.now hand.old }
-        requires alive { hand.old.view.status ≢ Gone }
-        requires duty { ReleasesNext row hand.old.view.agenda }
-        ensures table { hand.new.table ≡ hand.old.table }
-        ensures carried { hand.new.carried ≡ hand.old.carried }
-        ensures slots { hand.new.slots ≡ hand.old.slots }
-        ensures work { HasWorked hand.old.view [] (behind hand.old.view.agenda) hand.new.view }
+        requires alive { hand.old.view.actor.status ≢ Gone }
+        requires duty { ReleasesNext row hand.old.view.actor.agenda }
+        ensures kept { KeepsButView hand.old hand.new }
+        ensures work { HasWorked hand.old.view [] (behind hand.old.view.actor.agenda) hand.new.view }
     {
         let holding = Holding::InFlight;
         // `ReleasesImmortal`, `OwnerReleases`, `OtherReleases` (PEP 703, Biased Reference Counting: `Py_DECREF`): who
@@ -45,11 +43,9 @@ impl<'h, T: Drop, Q: Marker<T>> Finaliser<'h, T, Q> {
         release: LocalRelease,
     )
         requires table { IsOf self.now hand.old }
-        requires alive { hand.old.view.status ≢ Gone }
+        requires alive { hand.old.view.actor.status ≢ Gone }
         requires duty { (rest : List Duty) × EndsRelease row release rest hand.old.view }
-        ensures table { hand.new.table ≡ hand.old.table }
-        ensures carried { hand.new.carried ≡ hand.old.carried }
-        ensures slots { hand.new.slots ≡ hand.old.slots }
+        ensures kept { KeepsButView hand.old hand.new }
         ensures work { (rest : List Duty) → EndsRelease row release rest hand.old.view
             → HasWorked hand.old.view [] rest hand.new.view }
     {
@@ -64,12 +60,10 @@ impl<'h, T: Drop, Q: Marker<T>> Finaliser<'h, T, Q> {
     /// is gone.
     fn decide_at_zero<R: Wait>(&self, rt: &R, hand: &mut Hand<T>, row: u32)
         requires table { IsOf self.now hand.old }
-        requires alive { hand.old.view.status ≢ Gone }
-        requires duty { DecidesNext row hand.old.view.agenda }
-        ensures table { hand.new.table ≡ hand.old.table }
-        ensures carried { hand.new.carried ≡ hand.old.carried }
-        ensures slots { hand.new.slots ≡ hand.old.slots }
-        ensures work { HasWorked hand.old.view [] (behind hand.old.view.agenda) hand.new.view }
+        requires alive { hand.old.view.actor.status ≢ Gone }
+        requires duty { DecidesNext row hand.old.view.actor.agenda }
+        ensures kept { KeepsButView hand.old hand.new }
+        ensures work { HasWorked hand.old.view [] (behind hand.old.view.actor.agenda) hand.new.view }
     {
         match self.heap.decide(hand, row, Work::Next) {
             ZeroStep::Dying => {}
@@ -82,12 +76,10 @@ impl<'h, T: Drop, Q: Marker<T>> Finaliser<'h, T, Q> {
     /// that no longer looks there, the hand merges the object, and then gives the reference up.
     pub fn give_up<R: Wait>(&self, rt: &R, hand: &mut Hand<T>, row: u32)
         requires table { IsOf self.now hand.old }
-        requires alive { hand.old.view.status ≢ Gone }
-        requires duty { GivesUpNext row hand.old.view.agenda }
-        ensures table { hand.new.table ≡ hand.old.table }
-        ensures carried { hand.new.carried ≡ hand.old.carried }
-        ensures slots { hand.new.slots ≡ hand.old.slots }
-        ensures work { HasWorked hand.old.view [] (behind hand.old.view.agenda) hand.new.view }
+        requires alive { hand.old.view.actor.status ≢ Gone }
+        requires duty { GivesUpNext row hand.old.view.actor.agenda }
+        ensures kept { KeepsButView hand.old hand.new }
+        ensures work { HasWorked hand.old.view [] (behind hand.old.view.actor.agenda) hand.new.view }
     {
         let backoff = Backoff::new();
         for _ in rt.forever() {

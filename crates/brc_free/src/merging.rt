@@ -2,7 +2,7 @@
 
 ghost use Rattle.std.specs.Prelude.{◌≡◌, ◌≢◌, []};
 ghost use Rattle.brc_model.specs.declared.actor.Status.TheVariants.{Gone};
-ghost use Rattle.brc_table.specs.Hands.{IsOf};
+ghost use Rattle.brc_table.specs.Hands.{IsOf, KeepsButView};
 ghost use Rattle.brc_heap.specs.Tries.{MergesNext};
 ghost use Rattle.brc_free.specs.Works.{HasWorked, merge_left};
 
@@ -16,12 +16,10 @@ use std::sync::Wait;
 /// up.
 pub fn merge<T: Drop, R: Wait>(rt: &R, heap: &Heap<T>, hand: &mut Hand<T>, row: u32)
     requires table { IsOf heap.now hand.old }
-    requires alive { hand.old.view.status ≢ Gone }
-    requires duty { MergesNext row hand.old.view.agenda }
-    ensures table { hand.new.table ≡ hand.old.table }
-    ensures carried { hand.new.carried ≡ hand.old.carried }
-    ensures slots { hand.new.slots ≡ hand.old.slots }
-    ensures work { HasWorked hand.old.view [] (merge_left hand.old.view.agenda) hand.new.view }
+    requires alive { hand.old.view.actor.status ≢ Gone }
+    requires duty { MergesNext row hand.old.view.actor.agenda }
+    ensures kept { KeepsButView hand.old hand.new }
+    ensures work { HasWorked hand.old.view [] (merge_left hand.old.view.actor.agenda) hand.new.view }
 {
     let carried = match heap.take_local(hand, row, Work::Next) {
         Some(carried) => carried,

@@ -9,7 +9,7 @@ use Rattle.brc_model.specs.declared.duty.Duty.TheVariants.{BirthKind, BirthSlot,
 use Rattle.brc_model.specs.declared.duty.Holding.TheVariants.{AsCaller}
 use Rattle.brc_model.specs.Duties.{ready, has_resource}
 use Rattle.brc_table.specs.declared.view.View.{View}
-use Rattle.brc_table.specs.Views.{view_by, view_after, event_of, bearing, next_row, slot_filled, slot_filled_by}
+use Rattle.brc_table.specs.Views.{view_by, view_after, event_of, bearing, next_row, slot_filled, slot_filled_by, with_next}
 use Rattle.brc_table.specs.Calls.{OwnsFirst}
 use Rattle.brc_table.specs.KnownWords.{shows_kind, knows_kind}
 use Rattle.brc_heap.specs.Calls.{KeepsKnown, born, HasBorn}
@@ -18,21 +18,21 @@ use Rattle.brc_heap.proofs.KnownKept.{StaysOff, same_sight, sight_then, did_sigh
 -- A hand whose next duty is to put the new object's resource into its slot, or to store its first local word, does the
 -- latter next once the resource is there.
 filled_next : (u : View) (x head : ℕ) (has : Bool)
-    → u.agenda ≡ ready head ((if has then BirthSlot x AsCaller ∷ [] else BirthLocal x AsCaller ∷ []) ++ [])
-    → slot_filled u ≡ record u { agenda = BirthLocal x AsCaller ∷ [] }
+    → u.actor.agenda ≡ ready head ((if has then BirthSlot x AsCaller ∷ [] else BirthLocal x AsCaller ∷ []) ++ [])
+    → slot_filled u ≡ with_next u (BirthLocal x AsCaller ∷ [])
 filled_next u x zero true is = ap (λ (ds : List Duty). slot_filled_by ds u) is
 filled_next u x (suc head) true is = ap (λ (ds : List Duty). slot_filled_by ds u) is
 filled_next u x zero false is =
-    ap (λ (ds : List Duty). slot_filled_by ds u) is ∙ ap (λ (ds : List Duty). record u { agenda = ds }) is
+    ap (λ (ds : List Duty). slot_filled_by ds u) is ∙ ap (with_next u) is
 filled_next u x (suc head) false is =
-    ap (λ (ds : List Duty). slot_filled_by ds u) is ∙ ap (λ (ds : List Duty). record u { agenda = ds }) is
+    ap (λ (ds : List Duty). slot_filled_by ds u) is ∙ ap (with_next u) is
 
 -- the hand before it stores the first local word
 abbrev pub begun : View → ℕ → View
-begun v word = record (view_after (bearing v word) 0) { agenda = BirthLocal (next_row v) AsCaller ∷ [] }
+begun v word = with_next (view_after (bearing v word) 0) (BirthLocal (next_row v) AsCaller ∷ [])
 
 pub begun_is : (v : View) (word : ℕ) → slot_filled (view_after (bearing v word) 0) ≡ begun v word
-begun_is v word = filled_next (view_after (bearing v word) 0) (next_row v) v.head (has_resource word) refl
+begun_is v word = filled_next (view_after (bearing v word) 0) (next_row v) v.actor.head (has_resource word) refl
 
 -- A birth is two stores.
 pub born_is : (v : View) (word : ℕ) → born v word ≡ view_by (begun v word) (BirthLocal (next_row v) AsCaller ∷ []) 0
@@ -109,5 +109,5 @@ owns_by x zero false = refl
 owns_by x (suc head) false = refl
 
 -- Its last duty is to put the resource into the slot, or to store the first local word.
-pub owns_next : (v : View) (word : ℕ) → OwnsFirst (next_row v) (view_after (bearing v word) 0).agenda
-owns_next v word = owns_by (next_row v) v.head (has_resource word)
+pub owns_next : (v : View) (word : ℕ) → OwnsFirst (next_row v) (view_after (bearing v word) 0).actor.agenda
+owns_next v word = owns_by (next_row v) v.actor.head (has_resource word)

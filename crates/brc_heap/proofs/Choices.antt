@@ -23,16 +23,16 @@ shares_by (suc head) x word false false is = refl
 
 -- A retain that shares adds to the shared word next.
 pub retain_shares : (v : View) (x word thread : ℕ) (running : Bool) → thread ≡ v.thread
-    → running ≡ is_running v.status
+    → running ≡ is_running v.actor.status
     → (if is_immortal_word word then choice.Skip
     else if (running && (owner_part word == thread + 1)) && nat_lt (local_part word) most_local
     then choice.Store (word + 1) else choice.Share) ≡ choice.Share
-    → IsNext (RetainAdd x AsCaller) (view_after (retaining v x) word).agenda
+    → IsNext (RetainAdd x AsCaller) (view_after (retaining v x) word).actor.agenda
 retain_shares v x word thread running same runs is =
-    shares_by v.head x word (is_immortal_word word)
-    ((is_running v.status && (owner_part word == v.thread + 1)) && nat_lt (local_part word) most_local)
+    shares_by v.actor.head x word (is_immortal_word word)
+    ((is_running v.actor.status && (owner_part word == v.thread + 1)) && nat_lt (local_part word) most_local)
     (subst (λ (t : ℕ). (if is_immortal_word word then choice.Skip
-    else if (is_running v.status && (owner_part word == t + 1)) && nat_lt (local_part word) most_local
+    else if (is_running v.actor.status && (owner_part word == t + 1)) && nat_lt (local_part word) most_local
     then choice.Store (word + 1) else choice.Share) ≡ choice.Share) same
     (subst (λ (b : Bool). (if is_immortal_word word then choice.Skip
     else if (b && (owner_part word == thread + 1)) && nat_lt (local_part word) most_local

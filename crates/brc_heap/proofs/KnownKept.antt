@@ -24,20 +24,22 @@ pub record StaysAway (d : Duty) : Type 0 where
 
 -- The hand's duty does so but for cells and gates of other objects than the one that the hand has locked.
 pub record StaysOff (u : View) (d : Duty) (found : ℕ) : Type 0 where
-  pub locked : locked_by u.locked d found ≡ u.locked
-  pub cells : (y i : ℕ) → u.locked ≡ Some y
-      → same_address (address_of u.layout u.thread u.head d) (Cell y i) ≡ false
-  pub gates : (y : ℕ) → u.locked ≡ Some y → same_address (address_of u.layout u.thread u.head d) (Gate y) ≡ false
+  pub locked : locked_by u.actor.locked d found ≡ u.actor.locked
+  pub cells : (y i : ℕ) → u.actor.locked ≡ Some y
+      → same_address (address_of u.layout u.thread u.actor.head d) (Cell y i) ≡ false
+  pub gates : (y : ℕ) → u.actor.locked ≡ Some y → same_address (address_of u.layout u.thread u.actor.head d) (Gate y)
+      ≡ false
 
 pub away_off : (u : View) (d : Duty) (found : ℕ) → StaysAway d → StaysOff u d found
 away_off u d found away = record {
-  locked = away.locked u.locked found;
-  cells = λ y i is. away.cells u.layout u.thread u.head y i;
-  gates = λ y is. away.gates u.layout u.thread u.head y;
+  locked = away.locked u.actor.locked found;
+  cells = λ y i is. away.cells u.layout u.thread u.actor.head y i;
+  gates = λ y is. away.gates u.layout u.thread u.actor.head y;
 }
 
 -- A hand whose lock and trace are the same.
-pub same_sight : (v u : View) → u.locked ≡ v.locked → u.in_slot ≡ v.in_slot → u.trace ≡ v.trace → KeepsKnown v u
+pub same_sight : (v u : View) → u.actor.locked ≡ v.actor.locked → u.in_slot ≡ v.in_slot → u.trace ≡ v.trace
+    → KeepsKnown v u
 same_sight v u locked in_slot trace = record {
   locked = locked;
   in_slot = in_slot;

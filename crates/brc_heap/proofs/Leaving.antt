@@ -79,11 +79,11 @@ others_stay x y (d ∷ ds) ne = elim (cases_Bool (is_about x d)) [
 pub record WorksAt (x : ℕ) (v u : View) : Type 0 where
   pub layout : u.layout ≡ v.layout
   pub thread : u.thread ≡ v.thread
-  pub status : u.status ≡ v.status
-  pub used : u.used ≡ v.used
+  pub status : u.actor.status ≡ v.actor.status
+  pub used : u.actor.used ≡ v.actor.used
   pub given : u.given ≡ v.given
   pub sight : KeepsKnown v u
-  pub aside : u.aside ≡ filter (away x) (open_work v)
+  pub aside : u.actor.aside ≡ filter (away x) (open_work v)
 
 pub turned_works : (x : ℕ) (v : View) → WorksAt x v (turned v x)
 turned_works x v =
@@ -99,7 +99,8 @@ turned_works x v =
 
 -- A hand that begins work has put all its other work aside.
 pub begun_works : (x : ℕ) (v u : View) → HasNoWork v x → u.layout ≡ v.layout → u.thread ≡ v.thread
-    → u.status ≡ v.status → u.used ≡ v.used → u.given ≡ v.given → KeepsKnown v u → u.aside ≡ open_work v
+    → u.actor.status ≡ v.actor.status → u.actor.used ≡ v.actor.used → u.given ≡ v.given → KeepsKnown v u
+    → u.actor.aside ≡ open_work v
     → WorksAt x v u
 begun_works x v u none layout thread status used given sight aside = record {
   layout = layout;
@@ -165,7 +166,7 @@ pub plain_keeps : (d : Duty) (ds : List Duty) → is_plain d ≡ true → KeepsS
 plain_keeps d ds is = ((λ s. plain_status d s is), (λ n. plain_used d n is), plain_stays d is)
 
 -- What is left of the hand's work.
-pub works_leave : (x : ℕ) (v u : View) (left : List Duty) → WorksAt x v u → u.agenda ≡ left → AllAbout x left
+pub works_leave : (x : ℕ) (v u : View) (left : List Duty) → WorksAt x v u → u.actor.agenda ≡ left → AllAbout x left
     → MayWait left → Leaves x left v u
 works_leave x v u left works is all waits = record {
   layout = works.layout;
@@ -178,15 +179,15 @@ works_leave x v u left works is all waits = record {
   agenda = is;
   aside = works.aside;
   left_is =
-      filter_both (is_about x) u.agenda u.aside
-      ∙ (ap (λ (ds : List Duty). filter (is_about x) ds ++ filter (is_about x) u.aside) is
-      ∙ (ap (λ (ds : List Duty). ds ++ filter (is_about x) u.aside) (all_pass x left all)
+      filter_both (is_about x) u.actor.agenda u.actor.aside
+      ∙ (ap (λ (ds : List Duty). filter (is_about x) ds ++ filter (is_about x) u.actor.aside) is
+      ∙ (ap (λ (ds : List Duty). ds ++ filter (is_about x) u.actor.aside) (all_pass x left all)
       ∙ (ap (λ (ds : List Duty). left ++ filter (is_about x) ds) works.aside
       ∙ (ap (λ (ds : List Duty). left ++ ds) (none_aside x (open_work v)) ∙ append-nil left))));
   others = λ y ne.
-      filter_both (is_about y) u.agenda u.aside
-      ∙ (ap (λ (ds : List Duty). filter (is_about y) ds ++ filter (is_about y) u.aside) is
-      ∙ (ap (λ (ds : List Duty). ds ++ filter (is_about y) u.aside) (all_fail x y left ne all)
+      filter_both (is_about y) u.actor.agenda u.actor.aside
+      ∙ (ap (λ (ds : List Duty). filter (is_about y) ds ++ filter (is_about y) u.actor.aside) is
+      ∙ (ap (λ (ds : List Duty). ds ++ filter (is_about y) u.actor.aside) (all_fail x y left ne all)
       ∙ (ap (filter (is_about y)) works.aside ∙ others_stay x y (open_work v) ne)));
 }
 
@@ -226,9 +227,9 @@ leaves_then x first second v u w one other = record {
   agenda = other.agenda;
   aside =
       other.aside
-      ∙ (filter_both (away x) u.agenda u.aside
-      ∙ (ap (λ (ds : List Duty). filter (away x) ds ++ filter (away x) u.aside) (one.agenda ∙ sym one.left_is)
-      ∙ (ap (λ (ds : List Duty). ds ++ filter (away x) u.aside) (none_away x (open_work u))
+      ∙ (filter_both (away x) u.actor.agenda u.actor.aside
+      ∙ (ap (λ (ds : List Duty). filter (away x) ds ++ filter (away x) u.actor.aside) (one.agenda ∙ sym one.left_is)
+      ∙ (ap (λ (ds : List Duty). ds ++ filter (away x) u.actor.aside) (none_away x (open_work u))
       ∙ (ap (filter (away x)) one.aside ∙ away_again x (open_work v)))));
   left_is = other.left_is;
   others = λ y ne. other.others y ne ∙ one.others y ne;

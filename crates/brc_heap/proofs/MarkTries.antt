@@ -14,12 +14,12 @@ use Rattle.brc_heap.specs.Marks.{look_answer, look_left, looked_after, posted}
 use Rattle.brc_heap.specs.Steps.{HasStepped}
 use Rattle.brc_heap.proofs.Stepping.{IsPiece, plain_first, plain_begins, plain_on, stepped_then}
 
-pub mark_stepped : {v : View} {x : ℕ} {rest : List Duty} → v.agenda ≡ SetMark x ∷ rest
+pub mark_stepped : {v : View} {x : ℕ} {rest : List Duty} → v.actor.agenda ≡ SetMark x ∷ rest
     → HasStepped v (Look x ∷ rest) (view_after v 0)
 mark_stepped {v} {x} {rest} next = plain_on 0 (plain_begins next refl) refl refl
 
 -- The owner doesn't run: the mark is taken back next.
-pub stopped : {v : View} {x : ℕ} {rest : List Duty} (said : ℕ) → v.agenda ≡ Look x ∷ rest → (said == 1) ≡ false
+pub stopped : {v : View} {x : ℕ} {rest : List Duty} (said : ℕ) → v.actor.agenda ≡ Look x ∷ rest → (said == 1) ≡ false
     → HasStepped v (TakeMark x ∷ rest) (view_after v said)
 stopped {v} {x} {rest} said next is =
     plain_on said (plain_begins next refl) refl (ap (λ (b : Bool). if b then [] else TakeMark x ∷ []) is)
@@ -30,7 +30,7 @@ taken_by x true = refl
 taken_by x false = refl
 
 look_by : (v : View) (x said found : ℕ) (rest : List Duty) (runs : Bool) → (said == 1) ≡ runs
-    → v.agenda ≡ Look x ∷ rest
+    → v.actor.agenda ≡ Look x ∷ rest
     → HasStepped v (look_left x (if runs then looks.Left else if found == 1 then looks.Claimed else looks.Left) ++ rest)
     (if runs then view_after v said else view_after (view_after v said) found)
 look_by v x said found rest true is next =
@@ -38,19 +38,19 @@ look_by v x said found rest true is next =
 look_by v x said found rest false is next =
     plain_on found (stopped said next is) refl (taken_by x (found == 1))
 
-pub look_stepped : {v : View} {x : ℕ} {rest : List Duty} (said found : ℕ) → v.agenda ≡ Look x ∷ rest
+pub look_stepped : {v : View} {x : ℕ} {rest : List Duty} (said found : ℕ) → v.actor.agenda ≡ Look x ∷ rest
     → HasStepped v (look_left x (look_answer said found) ++ rest) (looked_after v said found)
 look_stepped {v} {x} {rest} said found next = look_by v x said found rest (said == 1) refl next
 
 -- The hand has looked: the owner runs, or the hand has taken the mark back or found it gone.
 pub runs : {v u : View} {x : ℕ} {rest : List Duty} (said : ℕ) → u ≡ view_after v said → (said == 1) ≡ true
-    → v.agenda ≡ Look x ∷ rest → HasStepped v rest u
+    → v.actor.agenda ≡ Look x ∷ rest → HasStepped v rest u
 runs {v} {u} {x} {rest} said view is next =
     subst (HasStepped v rest) (sym view)
     (plain_on said (plain_begins next refl) refl (ap (λ (b : Bool). if b then [] else TakeMark x ∷ []) is))
 
 pub taken_back : {v u w : View} {x : ℕ} {rest : List Duty} (answer : Looked) (said found : ℕ) → u ≡ view_after v said
-    → w ≡ view_after u found → (said == 1) ≡ false → answer ≡ taken_answer found → v.agenda ≡ Look x ∷ rest
+    → w ≡ view_after u found → (said == 1) ≡ false → answer ≡ taken_answer found → v.actor.agenda ≡ Look x ∷ rest
     → HasStepped v (look_left x answer ++ rest) w
 taken_back {v} {u} {w} {x} {rest} answer said found view after is one next =
     subst (λ (a : Looked). HasStepped v (look_left x a ++ rest) w) (sym one)
@@ -59,12 +59,12 @@ taken_back {v} {u} {w} {x} {rest} answer said found view after is one next =
     (plain_on found (stopped said next is) refl (taken_by x (found == 1))))
 
 -- One after the other.
-pub posted_stepped : {v : View} {x : ℕ} {rest : List Duty} (said found : ℕ) → v.agenda ≡ SetMark x ∷ rest
+pub posted_stepped : {v : View} {x : ℕ} {rest : List Duty} (said found : ℕ) → v.actor.agenda ≡ SetMark x ∷ rest
     → HasStepped v (look_left x (look_answer said found) ++ rest) (posted v said found)
 posted_stepped {v} {x} {rest} said found next =
     let marked = mark_stepped next in
     stepped_then marked
-    (look_stepped said found (marked.agenda ∙ plain_first (view_after v 0).head (Look x) rest refl))
+    (look_stepped said found (marked.agenda ∙ plain_first (view_after v 0).actor.head (Look x) rest refl))
 
 pub look_piece : (x : ℕ) (answer : Looked) → IsPiece x (look_left x answer)
 look_piece x looks.Left = tt

@@ -30,14 +30,17 @@ swap_by : (x local : ℕ) (r : Reason) (none : Bool)
 swap_by x local r true = refl
 swap_by x local r false = refl
 
-pub swap_stepped : {v : View} {x : ℕ} {r : Reason} {rest : List Duty} (local : ℕ) → v.agenda ≡ MergeSwap x r ∷ rest
+pub swap_stepped : {v : View} {x : ℕ} {r : Reason} {rest : List Duty} (local : ℕ) → v.actor.agenda
+    ≡ MergeSwap x r ∷ rest
     → HasStepped v (swap_left x r (carries_of local) ++ rest) (view_after v local)
 swap_stepped {v} {x} {r} {rest} local next =
     plain_on local (plain_begins next refl) refl (swap_by x local r (local == 0))
 
 -- The hand has begun: it carries the count, or the object is merged already.
-pub swapped : {v u : View} {x : ℕ} {r : Reason} {rest : List Duty} {carried : Option ℕ} (local : ℕ) → u ≡ view_after v local
-    → carries_of local ≡ carried → v.agenda ≡ MergeSwap x r ∷ rest → HasStepped v (swap_left x r carried ++ rest) u
+pub swapped : {v u : View} {x : ℕ} {r : Reason} {rest : List Duty} {carried : Option ℕ} (local : ℕ) → u
+    ≡ view_after v local
+    → carries_of local ≡ carried → v.actor.agenda ≡ MergeSwap x r ∷ rest
+    → HasStepped v (swap_left x r carried ++ rest) u
 swapped {v} {u} {x} {r} {rest} {carried} local view is next =
     subst (λ (c : Option ℕ). HasStepped v (swap_left x r c ++ rest) u) is
     (subst (HasStepped v (swap_left x r (carries_of local) ++ rest)) (sym view) (swap_stepped local next))
@@ -63,7 +66,7 @@ merge_handed x c true false lives = refl
 merge_handed x c false dead lives = refl
 
 pub merge_loaded : {v : View} {x c : ℕ} {r : Reason} {rest : List Duty} (word : ℕ)
-    → v.agenda ≡ MergeLoad x c r ∷ rest → HasStepped v (MergeExchange x c word r ∷ rest) (view_after v word)
+    → v.actor.agenda ≡ MergeLoad x c r ∷ rest → HasStepped v (MergeExchange x c word r ∷ rest) (view_after v word)
 merge_loaded {v} {x} {c} {r} {rest} word next = plain_on word (plain_begins next refl) refl refl
 
 -- A merge for a handed reference leaves that reference counted, so that the object lives.
@@ -73,11 +76,13 @@ dies_by true true is = (refl, refl)
 dies_by true false is = absurd cc
 dies_by false dead is = absurd cc
 
-pub own_dies : (v : View) (x c word found : ℕ) (r : Reason) (rest : List Duty) → v.agenda ≡ MergeLoad x c r ∷ rest
-    → FindsKnown (view_after v word) (view_after v word).agenda found → merge_answer c word found ≡ merge.Dying → r ≡ Own
+pub own_dies : (v : View) (x c word found : ℕ) (r : Reason) (rest : List Duty) → v.actor.agenda ≡ MergeLoad x c r ∷ rest
+    → FindsKnown (view_after v word) (view_after v word).actor.agenda found → merge_answer c word found ≡ merge.Dying
+    → r ≡ Own
 own_dies v x c word found Own rest next known dying = refl
 own_dies v x c word found Handed rest next known dying =
-    let has = (merge_loaded word next).agenda ∙ plain_first (view_after v word).head (MergeExchange x c word Handed) rest refl
+    let has = (merge_loaded word next).agenda ∙ plain_first (view_after v word).actor.head
+    (MergeExchange x c word Handed) rest refl
     in
     let lives : found ≡ word → merged_word word c ≢ dead_word =
     subst (λ (ds : List Duty). FindsKnown (view_after v word) ds found) has known in
@@ -85,7 +90,7 @@ own_dies v x c word found Handed rest next known dying =
     absurd (lives (eqb-true found word same) (eqb-true (merged_word word c) dead_word dead))
 
 pub merge_stepped : (v : View) (x c word found : ℕ) (r : Reason) (rest : List Duty)
-    → v.agenda ≡ MergeLoad x c r ∷ rest → (merge_answer c word found ≡ merge.Dying → r ≡ Own)
+    → v.actor.agenda ≡ MergeLoad x c r ∷ rest → (merge_answer c word found ≡ merge.Dying → r ≡ Own)
     → HasStepped v (merge_next x c r (merge_answer c word found) ++ rest) (resumed v (word ∷ found ∷ []))
 merge_stepped v x c word found Own rest next own =
     plain_on found (merge_loaded word next) refl (merge_own x c (found == word) (merged_word word c == dead_word))
@@ -98,7 +103,7 @@ merge_stepped v x c word found Handed rest next own =
 pub merge_dying : (v u w : View) (x c word found : ℕ) (r : Reason) (rest : List Duty) (answer : MergeStep)
     → answer ≡ merge_answer c word found → u ≡ resumed v (word ∷ found ∷ []) → answer ≡ merge.Dying
     → (answer ≡ merge.Dying → r ≡ Own) → (HasStepped v (Die x ∷ rest) u → HasStepped v rest w)
-    → v.agenda ≡ MergeLoad x c r ∷ rest → HasStepped v (merge_left x c r answer ++ rest) w
+    → v.actor.agenda ≡ MergeLoad x c r ∷ rest → HasStepped v (merge_left x c r answer ++ rest) w
 merge_dying v u w x c word found r rest answer said view dying own chains next =
     subst (λ (s : MergeStep). HasStepped v (merge_left x c r s ++ rest) w) (sym dying)
     (chains (subst (λ (s : MergeStep). HasStepped v (merge_next x c r s ++ rest) u) (sym said ∙ dying)
@@ -113,7 +118,7 @@ merge_alive x c r merge.Again other = refl
 
 pub merge_tried_once : (v u : View) (x c word found : ℕ) (r : Reason) (rest : List Duty) (answer : MergeStep)
     → answer ≡ merge_answer c word found → u ≡ resumed v (word ∷ found ∷ []) → answer ≢ merge.Dying
-    → v.agenda ≡ MergeLoad x c r ∷ rest → HasStepped v (merge_left x c r answer ++ rest) u
+    → v.actor.agenda ≡ MergeLoad x c r ∷ rest → HasStepped v (merge_left x c r answer ++ rest) u
 merge_tried_once v u x c word found r rest answer said view other next =
     subst (λ (ds : List Duty). HasStepped v (ds ++ rest) u)
     (ap (merge_next x c r) (sym said) ∙ merge_alive x c r answer other)
@@ -121,16 +126,16 @@ merge_tried_once v u x c word found r rest answer said view other next =
     (merge_stepped v x c word found r rest next (λ dies. absurd (other (said ∙ dies)))))
 
 merge_chains : (u : View) (x c : ℕ) (r : Reason) (answer : MergeStep)
-    → u.agenda ≡ ready u.head (merge_next x c r answer ++ []) → ended (merge_dies answer) u ≡ chained u
+    → u.actor.agenda ≡ ready u.actor.head (merge_next x c r answer ++ []) → ended (merge_dies answer) u ≡ chained u
 merge_chains u x c Own merge.Kept is = sym (ap (chained_by u) is)
 merge_chains u x c Handed merge.Kept is =
-    sym (ap (chained_by u) (is ∙ plain_first u.head (SharedLoad x Handed) [] refl))
-merge_chains u x c r merge.Dying is = sym (ap (chained_by u) (is ∙ die_first u.head x []))
-merge_chains u x c r merge.Again is = sym (ap (chained_by u) (is ∙ plain_first u.head (MergeLoad x c r) [] refl))
+    sym (ap (chained_by u) (is ∙ plain_first u.actor.head (SharedLoad x Handed) [] refl))
+merge_chains u x c r merge.Dying is = sym (ap (chained_by u) (is ∙ die_first u.actor.head x []))
+merge_chains u x c r merge.Again is = sym (ap (chained_by u) (is ∙ plain_first u.actor.head (MergeLoad x c r) [] refl))
 
 -- With nothing behind the try, the object is chained exactly if its death comes next.
 pub merge_chained : (v : View) (x c word found : ℕ) (r : Reason) (answer : MergeStep)
-    → answer ≡ merge_answer c word found → v.agenda ≡ MergeLoad x c r ∷ [] → (answer ≡ merge.Dying → r ≡ Own)
+    → answer ≡ merge_answer c word found → v.actor.agenda ≡ MergeLoad x c r ∷ [] → (answer ≡ merge.Dying → r ≡ Own)
     → ended (merge_dies answer) (resumed v (word ∷ found ∷ [])) ≡ merge_tried v word found
 merge_chained v x c word found r answer said next own =
     ap (λ (s : MergeStep). ended (merge_dies s) (resumed v (word ∷ found ∷ []))) said
@@ -176,12 +181,14 @@ pub stays_there : {v u : View} {x : ℕ} {d : Duty} → Leaves x (d ∷ []) v u 
 stays_there {v} {u} {x} {d} left about =
     turned_itself u x d left.agenda about (ap (filter (is_about x)) left.aside ∙ none_aside x (open_work v))
 
-pub first_view : {u w : View} (v : View) (x local word found : ℕ) → (local == 0) ≡ false → u ≡ view_after (turned v x) local
+pub first_view : {u w : View} (v : View) (x local word found : ℕ) → (local == 0) ≡ false → u
+    ≡ view_after (turned v x) local
     → turned u x ≡ u → w ≡ merge_tried (turned u x) word found → w ≡ merge_begun v x local word found
 first_view {u} {w} v x local word found some view stays is =
     is
     ∙ (ap (λ (z : View). merge_tried z word found) (stays ∙ view)
-    ∙ sym (ap (λ (b : Bool). if b then view_after (turned v x) local else merge_tried (view_after (turned v x) local) word found)
+    ∙ sym (ap (λ (b : Bool). if b then view_after (turned v x) local else merge_tried (view_after (turned v x) local)
+    word found)
     some))
 
 pub first_says : {answer : MergeStep} (local carried word found : ℕ) → (local == 0) ≡ false

@@ -18,7 +18,7 @@ use Rattle.brc_table.specs.Views.{view_by, view_after, retaining, next_row, Rows
 use Rattle.brc_effect.specs.declared.outcomes.LocalRelease.TheVariants as local
 use Rattle.brc_heap.specs.Calls.{retained, RetainsOwn, local_answer}
 
-runs_true : (v : View) → v.status ≡ Running → is_running v.status ≡ true
+runs_true : (v : View) → v.actor.status ≡ Running → is_running v.actor.status ≡ true
 runs_true v runs = ap is_running runs
 
 -- A word of the thread's own block that doesn't name the thread names nobody.
@@ -38,7 +38,7 @@ share_by false true false is = absurd cc
 share_by false false last is = refl
 
 -- A release of an object of the thread's own block is shared only where nobody owns the object.
-pub share_unowned : (v : View) (x word : ℕ) → v.status ≡ Running → OwnerFits v.layout x word
+pub share_unowned : (v : View) (x word : ℕ) → v.actor.status ≡ Running → OwnerFits v.layout x word
     → block_of v.layout x ≡ v.thread → local.Share ≡ local_answer v word → owner_part word ≡ 0
 share_unowned v x word runs fits mine is =
     unowned v x word fits mine (share_by (is_immortal_word word) (owner_part word == v.thread + 1)
@@ -57,7 +57,7 @@ store_next head x word true false below one two three = absurd cc
 store_next head x word true true false one two three = absurd cc
 
 -- A retain of an object of the thread's own block stores the local word, but for three cases.
-pub retain_owns : (v : View) (x word found : ℕ) → v.status ≡ Running → OwnerFits v.layout x word
+pub retain_owns : (v : View) (x word found : ℕ) → v.actor.status ≡ Running → OwnerFits v.layout x word
     → block_of v.layout x ≡ v.thread → RetainsOwn x word found v (retained v x word found)
 retain_owns v x word found runs fits mine = elim (cases_Bool (is_immortal_word word)) [
   | inl immortal ↦ inl immortal
@@ -66,11 +66,11 @@ retain_owns v x word found runs fits mine = elim (cases_Bool (is_immortal_word w
     | inl owner ↦ elim (cases_Bool (nat_lt (local_part word) most_local)) [
       | inr high ↦ inr (inr (inl (ltb-false (local_part word) most_local high)))
       | inl below ↦
-          let next : (view_after (retaining v x) word).agenda ≡ RetainStore x AsCaller word ∷ [] =
-          ap (λ (b : Bool). ready v.head ((if b then [] else if (is_running v.status
+          let next : (view_after (retaining v x) word).actor.agenda ≡ RetainStore x AsCaller word ∷ [] =
+          ap (λ (b : Bool). ready v.actor.head ((if b then [] else if (is_running v.actor.status
           && (owner_part word == v.thread + 1)) && nat_lt (local_part word) most_local
           then RetainStore x AsCaller word ∷ [] else RetainAdd x AsCaller ∷ []) ++ [])) mortal
-          ∙ store_next v.head x word (is_running v.status) (owner_part word == v.thread + 1)
+          ∙ store_next v.actor.head x word (is_running v.actor.status) (owner_part word == v.thread + 1)
           (nat_lt (local_part word) most_local) (runs_true v runs) owner below in
           inr (inr (inr (ap (λ (ds : List Duty). (view_by (view_after (retaining v x) word) ds found).trace) next)))
     ]
@@ -88,9 +88,10 @@ next_above layout (suc t) used full room none = omega (arith, none)
 
 -- The row of a hand's next birth is a counted object's.
 pub next_is_counted : (v : View) → RowsAreThere v → v.layout.immortal_lists ≡ 0
-    → has_room v.layout v.thread v.used ≡ true → IsCounted v.layout (next_row v)
+    → has_room v.layout v.thread v.actor.used ≡ true → IsCounted v.layout (next_row v)
 next_is_counted v there plain room = elim (cases_Bool (is_immortal_row v.layout (next_row v))) [
   | inl immortal ↦
-      absurd (next_above v.layout v.thread v.used there.main room (only_none v.layout (next_row v) plain immortal))
+      absurd (next_above v.layout v.thread v.actor.used there.main room
+      (only_none v.layout (next_row v) plain immortal))
   | inr counted ↦ counted
 ]

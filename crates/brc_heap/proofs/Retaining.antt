@@ -30,14 +30,14 @@ retained_by v u x word found false false at = plain_on found at refl refl
 
 loaded : (v : View) (x word : ℕ)
     → HasStepped (retaining v x) (retain_list x word (is_immortal_word word)
-    (counts_locally v.thread (is_running v.status) word && nat_lt (local_part word) most_local) ++ [])
+    (counts_locally v.thread (is_running v.actor.status) word && nat_lt (local_part word) most_local) ++ [])
     (view_after (retaining v x) word)
 loaded v x word = plain_on {d = RetainLoad x AsCaller} {rest = []} word (plain_begins refl refl) refl refl
 
 retain_stepped : (v : View) (x word found : ℕ) → HasStepped (retaining v x) [] (retained v x word found)
 retain_stepped v x word found =
     retained_by (retaining v x) (view_after (retaining v x) word) x word found (is_immortal_word word)
-    (counts_locally v.thread (is_running v.status) word && nat_lt (local_part word) most_local) (loaded v x word)
+    (counts_locally v.thread (is_running v.actor.status) word && nat_lt (local_part word) most_local) (loaded v x word)
 
 -- A retain leaves nothing to do.
 pub retain_leaves : (v : View) (x word found : ℕ) → HasNoWork v x → Leaves x [] v (retained v x word found)
@@ -53,16 +53,17 @@ retained_references v x word found = (retain_stepped v x word found).keeps.refer
 -- ---- the chain
 
 head_by : (v u : View) (x word found : ℕ) (immortal counts : Bool)
-    → HasStepped v (retain_list x word immortal counts ++ []) u → (view_after u found).head ≡ u.head
-head_by v u x word found true counts at = ap (λ (ds : List Duty). (view_by u ds found).head) at.agenda
+    → HasStepped v (retain_list x word immortal counts ++ []) u → (view_after u found).actor.head ≡ u.actor.head
+head_by v u x word found true counts at = ap (λ (ds : List Duty). (view_by u ds found).actor.head) at.agenda
 head_by v u x word found false true at =
-    ap (λ (ds : List Duty). (view_by u ds found).head)
-    (at.agenda ∙ plain_first u.head (RetainStore x AsCaller word) [] refl)
+    ap (λ (ds : List Duty). (view_by u ds found).actor.head)
+    (at.agenda ∙ plain_first u.actor.head (RetainStore x AsCaller word) [] refl)
 head_by v u x word found false false at =
-    ap (λ (ds : List Duty). (view_by u ds found).head) (at.agenda ∙ plain_first u.head (RetainAdd x AsCaller) [] refl)
+    ap (λ (ds : List Duty). (view_by u ds found).actor.head)
+    (at.agenda ∙ plain_first u.actor.head (RetainAdd x AsCaller) [] refl)
 
 -- It chains nothing.
-pub retained_head : (v : View) (x word found : ℕ) → (retained v x word found).head ≡ v.head
+pub retained_head : (v : View) (x word found : ℕ) → (retained v x word found).actor.head ≡ v.actor.head
 retained_head v x word found =
     head_by (retaining v x) (view_after (retaining v x) word) x word found (is_immortal_word word)
-    (counts_locally v.thread (is_running v.status) word && nat_lt (local_part word) most_local) (loaded v x word)
+    (counts_locally v.thread (is_running v.actor.status) word && nat_lt (local_part word) most_local) (loaded v x word)

@@ -50,15 +50,15 @@ keeps_then v u w one other = record {
 -- The duty changes neither the hand's status nor its lock, uses no row, and touches neither the gate nor a cell of the
 -- object that the hand has locked.
 pub record IsQuiet (u : View) (d : Duty) (found : ℕ) : Type 0 where
-  pub status : status_by u.status d ≡ u.status
-  pub used : used_by u.used d ≡ u.used
+  pub status : status_by u.actor.status d ≡ u.actor.status
+  pub used : used_by u.actor.used d ≡ u.actor.used
   pub off : StaysOff u d found
 
 -- So does a duty about counts, kinds or marks.
 pub plain_quiet : {u : View} {d : Duty} {found : ℕ} → is_plain d ≡ true → IsQuiet u d found
 plain_quiet {u} {d} {found} plain =
     let keeps = plain_keeps d [] plain in
-    record { status = keeps.0 u.status; used = keeps.1 u.used; off = away_off u d found keeps.2 }
+    record { status = keeps.0 u.actor.status; used = keeps.1 u.actor.used; off = away_off u d found keeps.2 }
 
 -- What one duty keeps.
 pub did_keeps : (u : View) (d : Duty) (rest : List Duty) (found : ℕ) → IsQuiet u d found
@@ -82,8 +82,8 @@ did_keeps u d rest found quiet =
 -- ---- the object that the hand has locked
 
 -- It isn't one that the hand's next duty finalises.
-pub finalising_unlocked : (u : View) (d : Duty) (rest : List Duty) (x : ℕ) → RowsAreThere u → u.agenda ≡ d ∷ rest
-    → is_finalising d x ≡ true → u.locked ≢ Some x
+pub finalising_unlocked : (u : View) (d : Duty) (rest : List Duty) (x : ℕ) → RowsAreThere u → u.actor.agenda ≡ d ∷ rest
+    → is_finalising d x ≡ true → u.actor.locked ≢ Some x
 finalising_unlocked u d rest x there next this is =
     let none : finalised (d ∷ rest) x ≡ 0 =
     subst (λ (ds : List Duty). finalised ds x ≡ 0) next (there.unfinalised x is).duties in
@@ -92,7 +92,8 @@ finalising_unlocked u d rest x there next this is =
     omega (arith, none, some)
 
 -- So a step on another object's gate, or on a cell of it, leaves what the hand has seen of that object's cells.
-pub gate_apart : (v u : View) (x : ℕ) → v.locked ≢ Some x → u.locked ≡ v.locked → (y : ℕ) → u.locked ≡ Some y
+pub gate_apart : (v u : View) (x : ℕ) → v.actor.locked ≢ Some x → u.actor.locked ≡ v.actor.locked → (y : ℕ)
+    → u.actor.locked ≡ Some y
     → (x == y) ≡ false
 gate_apart v u x apart same y is =
     ne_eqb x y (λ (e : x ≡ y). apart (sym same ∙ (is ∙ ap (λ (z : ℕ). Some z) (sym e))))
@@ -116,44 +117,47 @@ plain_takes _ rest is = tt
 -- ---- one duty more
 
 -- A hand that hasn't done anything yet.
-pub stepped_first : {v : View} {ds : List Duty} → v.agenda ≡ ready v.head ds → HasStepped v ds v
+pub stepped_first : {v : View} {ds : List Duty} → v.actor.agenda ≡ ready v.actor.head ds → HasStepped v ds v
 stepped_first {v} {ds} is = record { agenda = is; steps = Refl; keeps = keeps_first v }
 
 -- The same of one whose first duty is about counts, kinds or marks.
-pub plain_begins : {v : View} {d : Duty} {rest : List Duty} → v.agenda ≡ d ∷ rest → is_plain d ≡ true
+pub plain_begins : {v : View} {d : Duty} {rest : List Duty} → v.actor.agenda ≡ d ∷ rest → is_plain d ≡ true
     → HasStepped v (d ∷ rest) v
-plain_begins {v} {d} {rest} next plain = stepped_first (next ∙ sym (plain_first v.head d rest plain))
+plain_begins {v} {d} {rest} next plain = stepped_first (next ∙ sym (plain_first v.actor.head d rest plain))
 
 -- The first duty that is left is done.
 stepped_on : (v u : View) (d : Duty) (rest ds : List Duty) (found : ℕ) → HasStepped v (d ∷ rest) u
-    → ready u.head (d ∷ rest) ≡ d ∷ rest → TakesNothing (d ∷ rest) → IsQuiet u d found
-    → continuation u.layout u.thread (is_running u.status) u.head d found ++ rest ≡ ds → HasStepped v ds (view_after u found)
+    → ready u.actor.head (d ∷ rest) ≡ d ∷ rest → TakesNothing (d ∷ rest) → IsQuiet u d found
+    → continuation u.layout u.thread (is_running u.actor.status) u.actor.head d found ++ rest ≡ ds
+    → HasStepped v ds (view_after u found)
 stepped_on v u d rest ds found at first takes quiet next =
-    let has : u.agenda ≡ d ∷ rest = at.agenda ∙ first in
+    let has : u.actor.agenda ≡ d ∷ rest = at.agenda ∙ first in
     let does : view_after u found ≡ view_by u (d ∷ rest) found = ap (λ (es : List Duty). view_by u es found) has in
     record {
       agenda =
-          ap (λ (z : View). z.agenda) does
-          ∙ (ap (λ (es : List Duty). ready (new_head u.head d found) es) next
-          ∙ ap (λ (z : View). ready z.head ds) (sym does));
+          ap (λ (z : View). z.actor.agenda) does
+          ∙ (ap (λ (es : List Duty). ready (new_head u.actor.head d found) es) next
+          ∙ ap (λ (z : View). ready z.actor.head ds) (sym does));
       steps = Next u found at.steps (subst TakesNothing (sym has) takes);
-      keeps = keeps_then v u (view_after u found) at.keeps (subst (Keeps u) (sym does) (did_keeps u d rest found quiet));
+      keeps = keeps_then v u (view_after u found) at.keeps
+          (subst (Keeps u) (sym does) (did_keeps u d rest found quiet));
     }
 
 -- It is one about counts, kinds or marks, and is followed by what the word found says.
 pub plain_on : {v u : View} {d : Duty} {rest ds : List Duty} (found : ℕ) → HasStepped v (d ∷ rest) u
-    → is_plain d ≡ true → continuation u.layout u.thread (is_running u.status) u.head d found ≡ ds
+    → is_plain d ≡ true → continuation u.layout u.thread (is_running u.actor.status) u.actor.head d found ≡ ds
     → HasStepped v (ds ++ rest) (view_after u found)
 plain_on {v} {u} {d} {rest} {ds} found at plain next =
-    stepped_on v u d rest (ds ++ rest) found at (plain_first u.head d rest plain) (plain_takes d rest plain)
+    stepped_on v u d rest (ds ++ rest) found at (plain_first u.actor.head d rest plain) (plain_takes d rest plain)
     (plain_quiet plain) (ap (λ (es : List Duty). es ++ rest) next)
 
 -- It is the death of an object, which goes to the head of the chain.
 pub died : {v u : View} {x : ℕ} {rest : List Duty} → HasStepped v (Die x ∷ rest) u → RowsAreThere u
     → HasStepped v rest (view_after u free_word)
 died {v} {u} {x} {rest} at there =
-    let apart = finalising_unlocked u (Die x) rest x there (at.agenda ∙ die_first u.head x rest) (eq-eqb x x refl) in
-    stepped_on v u (Die x) rest rest free_word at (die_first u.head x rest) tt
+    let apart = finalising_unlocked u (Die x) rest x there (at.agenda ∙ die_first u.actor.head x rest)
+    (eq-eqb x x refl) in
+    stepped_on v u (Die x) rest rest free_word at (die_first u.actor.head x rest) tt
     (record {
       status = refl;
       used = refl;
@@ -200,5 +204,5 @@ stepped_leaves {x} {v} {b} {u} {left = []} works at piece =
     works_leave x v u [] (stepped_works x v b u works at.keeps) at.agenda tt tt
 stepped_leaves {x} {v} {b} {u} {left = d ∷ []} works at piece =
     works_leave x v u (d ∷ []) (stepped_works x v b u works at.keeps)
-    (at.agenda ∙ plain_first u.head d [] piece.1) (piece.0, tt) piece.2
+    (at.agenda ∙ plain_first u.actor.head d [] piece.1) (piece.0, tt) piece.2
 stepped_leaves {left = d ∷ e ∷ ds} works at piece = absurd piece

@@ -48,17 +48,19 @@ lowered_by v u x word rest false true false at is =
 lowered_by v u x word rest false false last at is = at
 
 -- A hand that counts locally has stored the word next.
-pub lowered_stepped : (v u : View) (x word : ℕ) (h : Holding) (rest : List Duty) → v.agenda ≡ ReleaseLoad x h ∷ rest
+pub lowered_stepped : (v u : View) (x word : ℕ) (h : Holding) (rest : List Duty) → v.actor.agenda
+    ≡ ReleaseLoad x h ∷ rest
     → u ≡ view_after v word → HasStepped v (local_left x (local_answer u word) ++ rest) (lowered u word)
 lowered_stepped v u x word h rest next is =
     lowered_by v u x word rest (is_immortal_word word) (counts_here u word) (local_part word == 1)
     (loaded v u x word h rest next is) refl where
-      counts_still : (v u : View) (x word : ℕ) (h : Holding) (rest : List Duty) → v.agenda ≡ ReleaseLoad x h ∷ rest
+      counts_still : (v u : View) (x word : ℕ) (h : Holding) (rest : List Duty) → v.actor.agenda
+          ≡ ReleaseLoad x h ∷ rest
           → u ≡ view_after v word → counts_here v word ≡ counts_here u word
       counts_still v u x word h rest next is =
           ap (λ (z : View). counts_here z word) (sym (is ∙ ap (λ (ds : List Duty). view_by v ds word) next))
 
-      loaded : (v u : View) (x word : ℕ) (h : Holding) (rest : List Duty) → v.agenda ≡ ReleaseLoad x h ∷ rest
+      loaded : (v u : View) (x word : ℕ) (h : Holding) (rest : List Duty) → v.actor.agenda ≡ ReleaseLoad x h ∷ rest
           → u ≡ view_after v word
           → HasStepped v (loaded_next x word (is_immortal_word word) (counts_here u word) ++ rest) u
       loaded v u x word h rest next is =
@@ -68,7 +70,7 @@ lowered_stepped v u x word h rest next is =
 
 -- The code asks for the hand's thread and status, as the model does.
 pub answered : {answer : LocalRelease} {thread : ℕ} {running : Bool} (u : View) (word : ℕ) → thread ≡ u.thread
-    → running ≡ is_running u.status → answer ≡ local_release thread running word → answer ≡ local_answer u word
+    → running ≡ is_running u.actor.status → answer ≡ local_release thread running word → answer ≡ local_answer u word
 answered {answer} {thread} {running} u word same runs is =
     is
     ∙ (ap (λ (t : ℕ). local_release t running word) same
@@ -101,21 +103,23 @@ stays_by v u false false last answer said is = refl
 -- The hand has stored the lowered count,
 pub local_lowered : (v u w : View) (x word : ℕ) (h : Holding) (rest : List Duty) (answer : LocalRelease)
     → answer ≡ local_answer u word → (answer ≡ local.Kept) ⊎ (answer ≡ local.Zero) → w ≡ view_after u word
-    → v.agenda ≡ ReleaseLoad x h ∷ rest → u ≡ view_after v word → HasStepped v (local_left x answer ++ rest) w
+    → v.actor.agenda ≡ ReleaseLoad x h ∷ rest → u ≡ view_after v word → HasStepped v (local_left x answer ++ rest) w
 local_lowered v u w x word h rest answer said stores view next is =
     subst (λ (a : LocalRelease). HasStepped v (local_left x a ++ rest) w) (sym said)
     (subst (HasStepped v (local_left x (local_answer u word) ++ rest))
-    (stores_by u (view_after u word) (is_immortal_word word) (counts_here u word) (local_part word == 1) answer said stores
+    (stores_by u (view_after u word) (is_immortal_word word) (counts_here u word) (local_part word == 1) answer said
+    stores
     ∙ sym view) (lowered_stepped v u x word h rest next is))
 
 -- or nothing.
 pub local_stays : (v u : View) (x word : ℕ) (h : Holding) (rest : List Duty) (answer : LocalRelease)
     → answer ≡ local_answer u word → (answer ≡ local.Skip) ⊎ (answer ≡ local.Share)
-    → v.agenda ≡ ReleaseLoad x h ∷ rest → u ≡ view_after v word → HasStepped v (local_left x answer ++ rest) u
+    → v.actor.agenda ≡ ReleaseLoad x h ∷ rest → u ≡ view_after v word → HasStepped v (local_left x answer ++ rest) u
 local_stays v u x word h rest answer said stays next is =
     subst (λ (a : LocalRelease). HasStepped v (local_left x a ++ rest) u) (sym said)
     (subst (HasStepped v (local_left x (local_answer u word) ++ rest))
-    (stays_by u (view_after u word) (is_immortal_word word) (counts_here u word) (local_part word == 1) answer said stays)
+    (stays_by u (view_after u word) (is_immortal_word word) (counts_here u word) (local_part word == 1) answer said
+    stays)
     (lowered_stepped v u x word h rest next is))
 
 -- A hand that begins a release has put all other work aside.
@@ -131,7 +135,7 @@ local_piece x local.Zero = (eq-eqb x x refl, refl, refl)
 local_piece x local.Share = (eq-eqb x x refl, refl, refl)
 
 -- With nothing behind it, an immortal object's release has nothing to do after its load.
-here_by : (u : View) (word : ℕ) (immortal counts : Bool) → (immortal ≡ true → u.agenda ≡ [])
+here_by : (u : View) (word : ℕ) (immortal counts : Bool) → (immortal ≡ true → u.actor.agenda ≡ [])
     → (if immortal then u else if counts then view_after u word else u) ≡ (if counts then view_after u word else u)
 here_by u word true true none = sym (ap (λ (ds : List Duty). view_by u ds word) (none refl))
 here_by u word true false none = refl
@@ -155,7 +159,7 @@ zero_by : (x : ℕ) (fresh : Bool) → (if fresh then Die x ∷ [] else MergeSwa
 zero_by x true = refl
 zero_by x false = refl
 
-pub zero_stepped : {v : View} {x : ℕ} {rest : List Duty} (word : ℕ) → v.agenda ≡ DecideAtZero x ∷ rest
+pub zero_stepped : {v : View} {x : ℕ} {rest : List Duty} (word : ℕ) → v.actor.agenda ≡ DecideAtZero x ∷ rest
     → HasStepped v (zero_next x (zero_answer word) ++ rest) (view_after v word)
 zero_stepped {v} {x} {rest} word next =
     plain_on word (plain_begins next refl) refl (zero_by x (word == fresh_word))
@@ -163,7 +167,7 @@ zero_stepped {v} {x} {rest} word next =
 -- The hand has decided: the object is chained, or to be merged.
 pub zero_dying : {v u w : View} {x : ℕ} {rest : List Duty} (word : ℕ) (answer : ZeroStep) → answer ≡ zero_answer word
     → u ≡ view_after v word → answer ≡ zeros.Dying → (HasStepped v (Die x ∷ rest) u → HasStepped v rest w)
-    → v.agenda ≡ DecideAtZero x ∷ rest → HasStepped v (zero_left x answer ++ rest) w
+    → v.actor.agenda ≡ DecideAtZero x ∷ rest → HasStepped v (zero_left x answer ++ rest) w
 zero_dying {v} {u} {w} {x} {rest} word answer said view dying chains next =
     subst (λ (z : ZeroStep). HasStepped v (zero_left x z ++ rest) w) (sym dying)
     (chains (subst (λ (z : ZeroStep). HasStepped v (zero_next x z ++ rest) u) (sym said ∙ dying)
@@ -171,7 +175,7 @@ zero_dying {v} {u} {w} {x} {rest} word answer said view dying chains next =
 
 pub zero_merges : {v u : View} {x : ℕ} {rest : List Duty} (word : ℕ) (answer : ZeroStep) → answer ≡ zero_answer word
     → u ≡ view_after v word → answer ≡ zeros.Merge
-    → v.agenda ≡ DecideAtZero x ∷ rest → HasStepped v (zero_left x answer ++ rest) u
+    → v.actor.agenda ≡ DecideAtZero x ∷ rest → HasStepped v (zero_left x answer ++ rest) u
 zero_merges {v} {u} {x} {rest} word answer said view merges next =
     subst (λ (z : ZeroStep). HasStepped v (zero_left x z ++ rest) u) (sym merges)
     (subst (λ (z : ZeroStep). HasStepped v (zero_next x z ++ rest) u) (sym said ∙ merges)
@@ -181,14 +185,14 @@ pub zero_piece : (x : ℕ) (answer : ZeroStep) → IsPiece x (zero_left x answer
 zero_piece x zeros.Dying = tt
 zero_piece x zeros.Merge = (eq-eqb x x refl, refl, refl)
 
-zero_chains : (u : View) (x : ℕ) (answer : ZeroStep) → u.agenda ≡ ready u.head (zero_next x answer ++ [])
+zero_chains : (u : View) (x : ℕ) (answer : ZeroStep) → u.actor.agenda ≡ ready u.actor.head (zero_next x answer ++ [])
     → ended (zero_dies answer) u ≡ chained u
-zero_chains u x zeros.Dying is = sym (ap (chained_by u) (is ∙ die_first u.head x []))
-zero_chains u x zeros.Merge is = sym (ap (chained_by u) (is ∙ plain_first u.head (MergeSwap x Own) [] refl))
+zero_chains u x zeros.Dying is = sym (ap (chained_by u) (is ∙ die_first u.actor.head x []))
+zero_chains u x zeros.Merge is = sym (ap (chained_by u) (is ∙ plain_first u.actor.head (MergeSwap x Own) [] refl))
 
 -- With nothing behind the decision, the object is chained exactly if its death comes next.
 pub zero_chained : (v : View) (x word : ℕ) (answer : ZeroStep) → answer ≡ zero_answer word
-    → v.agenda ≡ DecideAtZero x ∷ [] → ended (zero_dies answer) (view_after v word) ≡ chained (view_after v word)
+    → v.actor.agenda ≡ DecideAtZero x ∷ [] → ended (zero_dies answer) (view_after v word) ≡ chained (view_after v word)
 zero_chained v x word answer said next =
     ap (λ (z : ZeroStep). ended (zero_dies z) (view_after v word)) said
     ∙ zero_chains (view_after v word) x (zero_answer word) (zero_stepped word next).agenda
@@ -210,12 +214,13 @@ shared_by x r true false true = refl
 shared_by x r true false false = refl
 shared_by x r false fresh dead = refl
 
-pub shared_loaded : {v : View} {x : ℕ} {r : Reason} {rest : List Duty} (word : ℕ) → v.agenda ≡ SharedLoad x r ∷ rest
+pub shared_loaded : {v : View} {x : ℕ} {r : Reason} {rest : List Duty} (word : ℕ) → v.actor.agenda
+    ≡ SharedLoad x r ∷ rest
     → HasStepped v (SharedExchange x r word ∷ rest) (view_after v word)
 shared_loaded {v} {x} {r} {rest} word next = plain_on word (plain_begins next refl) refl refl
 
 pub shared_stepped : {v : View} {x : ℕ} {r : Reason} {rest : List Duty} (word found : ℕ)
-    → v.agenda ≡ SharedLoad x r ∷ rest
+    → v.actor.agenda ≡ SharedLoad x r ∷ rest
     → HasStepped v (shared_next x r (shared_answer word found) ++ rest) (resumed v (word ∷ found ∷ []))
 shared_stepped {v} {x} {r} {rest} word found next =
     plain_on found (shared_loaded word next) refl
@@ -225,7 +230,7 @@ shared_stepped {v} {x} {r} {rest} word found next =
 pub shared_dying : {v u w : View} {x : ℕ} {r : Reason} {rest : List Duty} (word found : ℕ) (answer : SharedRelease)
     → answer ≡ shared_answer word found → u ≡ resumed v (word ∷ found ∷ []) → answer ≡ shared.Dying
     → (HasStepped v (Die x ∷ rest) u → HasStepped v rest w)
-    → v.agenda ≡ SharedLoad x r ∷ rest → HasStepped v (shared_left x r answer ++ rest) w
+    → v.actor.agenda ≡ SharedLoad x r ∷ rest → HasStepped v (shared_left x r answer ++ rest) w
 shared_dying {v} {u} {w} {x} {r} {rest} word found answer said view dying chains next =
     subst (λ (s : SharedRelease). HasStepped v (shared_left x r s ++ rest) w) (sym dying)
     (chains (subst (λ (s : SharedRelease). HasStepped v (shared_next x r s ++ rest) u) (sym said ∙ dying)
@@ -241,7 +246,7 @@ shared_alive x r shared.Again other = refl
 
 pub shared_tried : {v u : View} {x : ℕ} {r : Reason} {rest : List Duty} (word found : ℕ) (answer : SharedRelease)
     → answer ≡ shared_answer word found → u ≡ resumed v (word ∷ found ∷ []) → answer ≢ shared.Dying
-    → v.agenda ≡ SharedLoad x r ∷ rest → HasStepped v (shared_left x r answer ++ rest) u
+    → v.actor.agenda ≡ SharedLoad x r ∷ rest → HasStepped v (shared_left x r answer ++ rest) u
 shared_tried {v} {u} {x} {r} {rest} word found answer said view other next =
     subst (λ (ds : List Duty). HasStepped v (ds ++ rest) u)
     (ap (shared_next x r) (sym said) ∙ shared_alive x r answer other)
@@ -255,15 +260,15 @@ shared_piece x r shared.Dying = tt
 shared_piece x r shared.Again = (eq-eqb x x refl, refl, refl)
 
 shared_chains : (u : View) (x : ℕ) (r : Reason) (answer : SharedRelease)
-    → u.agenda ≡ ready u.head (shared_next x r answer ++ []) → ended (shared_dies answer) u ≡ chained u
+    → u.actor.agenda ≡ ready u.actor.head (shared_next x r answer ++ []) → ended (shared_dies answer) u ≡ chained u
 shared_chains u x r shared.Kept is = sym (ap (chained_by u) is)
-shared_chains u x r shared.Queued is = sym (ap (chained_by u) (is ∙ plain_first u.head (SetMark x) [] refl))
-shared_chains u x r shared.Dying is = sym (ap (chained_by u) (is ∙ die_first u.head x []))
-shared_chains u x r shared.Again is = sym (ap (chained_by u) (is ∙ plain_first u.head (SharedLoad x r) [] refl))
+shared_chains u x r shared.Queued is = sym (ap (chained_by u) (is ∙ plain_first u.actor.head (SetMark x) [] refl))
+shared_chains u x r shared.Dying is = sym (ap (chained_by u) (is ∙ die_first u.actor.head x []))
+shared_chains u x r shared.Again is = sym (ap (chained_by u) (is ∙ plain_first u.actor.head (SharedLoad x r) [] refl))
 
 -- With nothing behind the try, the object is chained exactly if its death comes next.
 pub shared_chained : (v : View) (x word found : ℕ) (r : Reason) (answer : SharedRelease)
-    → answer ≡ shared_answer word found → v.agenda ≡ SharedLoad x r ∷ []
+    → answer ≡ shared_answer word found → v.actor.agenda ≡ SharedLoad x r ∷ []
     → ended (shared_dies answer) (resumed v (word ∷ found ∷ [])) ≡ chained (resumed v (word ∷ found ∷ []))
 shared_chained v x word found r answer said next =
     ap (λ (s : SharedRelease). ended (shared_dies s) (resumed v (word ∷ found ∷ []))) said

@@ -5,7 +5,7 @@ use Rattle.std.proofs.lemmas.Bool.{cases_Bool}
 use Rattle.brc_model.specs.declared.duty.Duty.{Duty}
 use Rattle.brc_model.specs.OpenWork.{is_about}
 use Rattle.brc_table.specs.declared.view.View.{View}
-use Rattle.brc_table.specs.Views.{open_work, work_about, turned}
+use Rattle.brc_table.specs.Views.{open_work, work_about, turned, with_work}
 
 abbrev pub away : ℕ → Duty → Bool
 away x d = not (is_about x d)
@@ -36,17 +36,17 @@ all_away x (d ∷ ds) none = elim (cases_Bool (is_about x d)) [
 ]
 
 -- The one duty about a row at which the hand works is its next one.
-pub work_next : (u : View) (x : ℕ) (d : Duty) → u.agenda ≡ d ∷ [] → is_about x d ≡ true
-    → filter (is_about x) u.aside ≡ [] → work_about x u ≡ d ∷ []
+pub work_next : (u : View) (x : ℕ) (d : Duty) → u.actor.agenda ≡ d ∷ [] → is_about x d ≡ true
+    → filter (is_about x) u.actor.aside ≡ [] → work_about x u ≡ d ∷ []
 work_next u x d is this none =
-    ap (λ (ds : List Duty). filter (is_about x) (ds ++ u.aside)) is
-    ∙ (passes (is_about x) d u.aside this ∙ ap (λ (es : List Duty). d ∷ es) none)
+    ap (λ (ds : List Duty). filter (is_about x) (ds ++ u.actor.aside)) is
+    ∙ (passes (is_about x) d u.actor.aside this ∙ ap (λ (es : List Duty). d ∷ es) none)
 
-pub turned_itself : (u : View) (x : ℕ) (d : Duty) → u.agenda ≡ d ∷ [] → is_about x d ≡ true
-    → filter (is_about x) u.aside ≡ [] → turned u x ≡ u
+pub turned_itself : (u : View) (x : ℕ) (d : Duty) → u.actor.agenda ≡ d ∷ [] → is_about x d ≡ true
+    → filter (is_about x) u.actor.aside ≡ [] → turned u x ≡ u
 turned_itself u x d is this none =
-    let rest : filter (away x) (open_work u) ≡ u.aside =
-    ap (λ (ds : List Duty). filter (away x) (ds ++ u.aside)) is
-    ∙ (fails (away x) d u.aside (ap not this) ∙ all_away x u.aside none) in
-    let next : work_about x u ≡ u.agenda = work_next u x d is this none ∙ sym is in
-    λ i. record u { agenda = next i; aside = rest i }
+    let rest : filter (away x) (open_work u) ≡ u.actor.aside =
+    ap (λ (ds : List Duty). filter (away x) (ds ++ u.actor.aside)) is
+    ∙ (fails (away x) d u.actor.aside (ap not this) ∙ all_away x u.actor.aside none) in
+    let next : work_about x u ≡ u.actor.agenda = work_next u x d is this none ∙ sym is in
+    λ i. with_work u (next i) (rest i)

@@ -54,7 +54,7 @@ RetainsOwn x word found v u =
 
 -- The hand counts the object locally, having loaded this local word.
 abbrev pub counts_here : View → ℕ → Bool
-counts_here v word = counts_locally v.thread (is_running v.status) word
+counts_here v word = counts_locally v.thread (is_running v.actor.status) word
 
 -- the hand has loaded the local word, and stored it with one less if it counts there
 abbrev pub released_locally : View → ℕ → ℕ → View
@@ -63,7 +63,7 @@ released_locally v x word =
 
 -- how the release ends that has loaded it
 abbrev pub local_answer : View → ℕ → LocalRelease
-local_answer v word = local_release v.thread (is_running v.status) word
+local_answer v word = local_release v.thread (is_running v.actor.status) word
 
 -- If the object dies, the hand chains it at once.
 abbrev pub chained_by : View → List Duty → View
@@ -71,7 +71,7 @@ chained_by v (Die x ∷ rest) = view_after v free_word
 chained_by v _ = v
 
 abbrev pub chained : View → View
-chained v = chained_by v v.agenda
+chained v = chained_by v v.actor.agenda
 
 -- the hand has looked at the shared word of an object whose last local reference is gone
 abbrev pub decided : View → ℕ → ℕ → View
@@ -116,10 +116,10 @@ Merges r hand x = MergeIsFirst r hand x ⊎ ((carried : ℕ) × MergeIsBegun r h
 -- The hand has locked what it had, and knows of the locked object's slot what it knew, and of kinds and of the cells of
 -- the list that it has locked what it has seen.
 pub record KeepsKnown (v u : View) : Type 0 where
-  pub locked : u.locked ≡ v.locked
+  pub locked : u.actor.locked ≡ v.actor.locked
   pub in_slot : u.in_slot ≡ v.in_slot
   pub kinds : (y word : ℕ) → knows_kind y word v ≡ true → knows_kind y word u ≡ true
-  pub cells : (y i : ℕ) → v.locked ≡ Some y → known_cell y i u ≡ known_cell y i v
+  pub cells : (y i : ℕ) → v.actor.locked ≡ Some y → known_cell y i u ≡ known_cell y i v
 
 -- ---- kinds
 
@@ -129,7 +129,7 @@ pub record SeesKind (x word : ℕ) (v u : View) : Type 0 where
   pub view_is : u ≡ view_after (asking v x) word
   pub seen : knows_kind x word u ≡ true
   pub stays : (before : ℕ) → 0 < before → knows_kind x before v ≡ true → word ≡ before
-  pub slot : v.locked ≡ Some x → v.in_slot ≡ resources_of word
+  pub slot : v.actor.locked ≡ Some x → v.in_slot ≡ resources_of word
   pub named : x ≡ none_row → word ≡ half
 
 -- ---- births
@@ -157,13 +157,13 @@ born v word = view_after (slot_filled (view_after (bearing v word) 0)) 0
 pub record HasBorn (v u : View) : Type 0 where
   pub layout : u.layout ≡ v.layout
   pub thread : u.thread ≡ v.thread
-  pub status : u.status ≡ v.status
-  pub used : u.used ≡ v.used + 1
+  pub status : u.actor.status ≡ v.actor.status
+  pub used : u.actor.used ≡ v.actor.used + 1
   pub given : u.given ≡ v.given
   pub references : u.references ≡ next_row v ∷ v.references
-  pub head : u.head ≡ v.head
+  pub head : u.actor.head ≡ v.actor.head
   pub sight : KeepsKnown v u
-  pub waits : MayWait u.agenda
+  pub waits : MayWait u.actor.agenda
   pub work : open_work u ≡ open_work v
 
 -- ---- hands
@@ -176,14 +176,14 @@ IsTaken layout main thread = (thread ≡ 0) ⊎ (layout.workers < thread) ⊎ (i
 pub record HasGiven (thread : ℕ) (v u : View) : Type 0 where
   pub layout : u.layout ≡ v.layout
   pub number : u.thread ≡ v.thread
-  pub status : u.status ≡ v.status
-  pub used : u.used ≡ v.used
+  pub status : u.actor.status ≡ v.actor.status
+  pub used : u.actor.used ≡ v.actor.used
   pub given : u.given ≡ thread ∷ v.given
   pub references : u.references ≡ v.references
-  pub head : u.head ≡ v.head
+  pub head : u.actor.head ≡ v.actor.head
   pub sight : KeepsKnown v u
-  pub agenda : u.agenda ≡ []
-  pub aside : u.aside ≡ open_work v
+  pub agenda : u.actor.agenda ≡ []
+  pub aside : u.actor.aside ≡ open_work v
 
 -- ---- what a call leaves
 
@@ -192,13 +192,13 @@ pub record HasGiven (thread : ℕ) (v u : View) : Type 0 where
 pub record Leaves (x : ℕ) (left : List Duty) (v u : View) : Type 0 where
   pub layout : u.layout ≡ v.layout
   pub thread : u.thread ≡ v.thread
-  pub status : u.status ≡ v.status
-  pub used : u.used ≡ v.used
+  pub status : u.actor.status ≡ v.actor.status
+  pub used : u.actor.used ≡ v.actor.used
   pub given : u.given ≡ v.given
   pub sight : KeepsKnown v u
-  pub waits : MayWait u.agenda
-  pub agenda : u.agenda ≡ left
-  pub aside : u.aside ≡ filter (λ d. not (is_about x d)) (open_work v)
+  pub waits : MayWait u.actor.agenda
+  pub agenda : u.actor.agenda ≡ left
+  pub aside : u.actor.aside ≡ filter (λ d. not (is_about x d)) (open_work v)
   pub left_is : work_about x u ≡ left
   pub others : (y : ℕ) → y ≢ x → work_about y u ≡ work_about y v
 

@@ -14,15 +14,15 @@ use Rattle.brc_table.specs.Views.{view_after}
 pub record Keeps (v u : View) : Type 0 where
   pub layout : u.layout ≡ v.layout
   pub thread : u.thread ≡ v.thread
-  pub status : u.status ≡ v.status
+  pub status : u.actor.status ≡ v.actor.status
   pub references : u.references ≡ v.references
-  pub aside : u.aside ≡ v.aside
-  pub used : u.used ≡ v.used
-  pub locked : u.locked ≡ v.locked
+  pub aside : u.actor.aside ≡ v.actor.aside
+  pub used : u.actor.used ≡ v.actor.used
+  pub locked : u.actor.locked ≡ v.actor.locked
   pub in_slot : u.in_slot ≡ v.in_slot
   pub given : u.given ≡ v.given
   pub kinds : (x word : ℕ) → knows_kind x word v ≡ true → knows_kind x word u ≡ true
-  pub cells : (x i : ℕ) → v.locked ≡ Some x → known_cell x i u ≡ known_cell x i v
+  pub cells : (x i : ℕ) → v.actor.locked ≡ Some x → known_cell x i u ≡ known_cell x i v
 
 -- The first duty takes no resource out of a slot.
 abbrev pub TakesNothing : List Duty → Type 0
@@ -32,11 +32,11 @@ TakesNothing _ = Unit {0}
 -- The hand has done duty after duty, none of which takes a resource out of a slot.
 pub data Steps (v : View) : View → Type 0 where
   Refl : Steps v v
-  Next : (u : View) (found : ℕ) → Steps v u → TakesNothing u.agenda → Steps v (view_after u found)
+  Next : (u : View) (found : ℕ) → Steps v u → TakesNothing u.actor.agenda → Steps v (view_after u found)
 
 -- The hand has done so, and these duties are left, but for those that need no step.
 pub record HasStepped (v : View) (ds : List Duty) (u : View) : Type 0 where
-  pub agenda : u.agenda ≡ ready u.head ds
+  pub agenda : u.actor.agenda ≡ ready u.actor.head ds
   pub steps : Steps v u
   pub keeps : Keeps v u
 

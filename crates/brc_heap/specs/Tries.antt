@@ -22,7 +22,7 @@ use Rattle.brc_heap.specs.Calls.{counts_here}
 pub record LoadedLocal (x word : ℕ) (v u : View) : Type 0 where
   pub holding : Holding
   pub rest : List Duty
-  pub next : v.agenda ≡ ReleaseLoad x holding ∷ rest
+  pub next : v.actor.agenda ≡ ReleaseLoad x holding ∷ rest
   pub is : u ≡ view_after v word
 
 -- The first duty is to decide what becomes of the object of row x, whose last local reference is gone.

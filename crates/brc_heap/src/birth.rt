@@ -10,7 +10,7 @@ ghost use Rattle.brc_model.specs.Machine.{has_room};
 ghost use Rattle.brc_table.specs.Homes.{resources};
 ghost use Rattle.brc_table.specs.Views.{next_row};
 ghost use Rattle.brc_table.specs.KnownWords.{knows_kind};
-ghost use Rattle.brc_table.specs.Hands.{IsOf, IsRunning};
+ghost use Rattle.brc_table.specs.Hands.{IsOf, IsRunning, KeepsButView};
 ghost use Rattle.brc_heap.specs.Calls.{kind_word, IsBornWith, born, HasBorn};
 
 use crate::heap::Heap;
@@ -39,7 +39,7 @@ impl<T: Drop> Heap<T> {
     pub fn birth(&self, hand: &mut Hand<T>, kind: Kind, arg: u32, resource: Option<T>) -> u32
         requires table { IsOf self.now hand.old }
         requires running { IsRunning hand.old.view }
-        requires room { has_room hand.old.view.layout hand.old.view.thread hand.old.view.used ≡ true }
+        requires room { has_room hand.old.view.layout hand.old.view.thread hand.old.view.actor.used ≡ true }
         requires kind { IsBornWith kind arg }
         requires resource { resources resource ≡ resources_of (kind_word kind arg) }
         ensures row { result ≡ next_row hand.old.view }
@@ -62,15 +62,13 @@ impl<T: Drop> Heap<T> {
     fn birth_steps(&self, hand: &mut Hand<T>, word: u64, resource: Option<T>) -> u32
         requires table { IsOf self.now hand.old }
         requires running { IsRunning hand.old.view }
-        requires room { has_room hand.old.view.layout hand.old.view.thread hand.old.view.used ≡ true }
+        requires room { has_room hand.old.view.layout hand.old.view.thread hand.old.view.actor.used ≡ true }
         requires kind { is_counted_kind (kind_of_word word) ≡ true }
         requires cells { cells_of word ≤ cell_limit }
         requires some { 0 < word }
         requires resource { resources resource ≡ resources_of word }
         ensures row { result ≡ next_row hand.old.view }
-        ensures table { hand.new.table ≡ hand.old.table }
-        ensures carried { hand.new.carried ≡ hand.old.carried }
-        ensures slots { hand.new.slots ≡ hand.old.slots }
+        ensures kept { KeepsButView hand.old hand.new }
         ensures view { hand.new.view ≡ born hand.old.view word }
     {
         hand.rows_are_there();

@@ -7,7 +7,7 @@ ghost use Rattle.brc_model.specs.declared.duty.Duty.{Duty};
 ghost use Rattle.brc_model.specs.declared.duty.Duty.TheVariants.{Die};
 ghost use Rattle.brc_table.specs.declared.view.View.{View};
 ghost use Rattle.brc_table.specs.Views.{view_after};
-ghost use Rattle.brc_table.specs.Hands.{IsOf};
+ghost use Rattle.brc_table.specs.Hands.{IsOf, KeepsButView};
 ghost use Rattle.brc_heap.specs.Steps.{HasStepped};
 
 use crate::heap::Heap;
@@ -19,11 +19,9 @@ impl<T: Drop> Heap<T> {
     #[inline(always)]
     pub(crate) fn chain(&self, hand: &mut Hand<T>, row: u32)
         requires table { IsOf self.now hand.old }
-        requires alive { hand.old.view.status ≢ Gone }
-        requires next { (rest : List Duty) × (hand.old.view.agenda ≡ Die row ∷ rest) }
-        ensures table { hand.new.table ≡ hand.old.table }
-        ensures carried { hand.new.carried ≡ hand.old.carried }
-        ensures slots { hand.new.slots ≡ hand.old.slots }
+        requires alive { hand.old.view.actor.status ≢ Gone }
+        requires next { (rest : List Duty) × (hand.old.view.actor.agenda ≡ Die row ∷ rest) }
+        ensures kept { KeepsButView hand.old hand.new }
         ensures view { hand.new.view ≡ view_after hand.old.view free_word }
         ensures stepped { (v : View) (rest : List Duty) → HasStepped v (Die row ∷ rest) hand.old.view
             → HasStepped v rest hand.new.view }

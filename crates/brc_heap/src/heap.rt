@@ -65,7 +65,7 @@ impl<T: Drop> Heap<T> {
     /// Returns whether a row of the hand's block is unused, so that the hand can give birth to an object.
     pub fn room(&self, hand: &Hand<T>) -> bool
         requires table { IsOf self.now hand.now }
-        ensures { result ≡ has_room hand.now.view.layout hand.now.view.thread hand.now.view.used }
+        ensures { result ≡ has_room hand.now.view.layout hand.now.view.thread hand.now.view.actor.used }
     {
         hand.used() < self.words.block_size(hand.thread())
     }

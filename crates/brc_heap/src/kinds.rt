@@ -43,7 +43,7 @@ impl<T: Drop> Heap<T> {
         ensures sees { (word : ℕ) × SeesKind row word hand.old.view hand.new.view × (result ≡ kind_of_word word) }
         ensures left { Leaves row [] hand.old.view hand.new.view }
         ensures references { hand.new.view.references ≡ hand.old.view.references }
-        ensures head { hand.new.view.head ≡ hand.old.view.head }
+        ensures head { hand.new.view.actor.head ≡ hand.old.view.actor.head }
     {
         kind_numbered(kind_number(self.words().kind_load(hand, row)))
     }
@@ -62,7 +62,7 @@ impl<T: Drop> Heap<T> {
         ensures sees { (word : ℕ) × SeesKind row word hand.old.view hand.new.view × (result ≡ argument_part word) }
         ensures left { Leaves row [] hand.old.view hand.new.view }
         ensures references { hand.new.view.references ≡ hand.old.view.references }
-        ensures head { hand.new.view.head ≡ hand.old.view.head }
+        ensures head { hand.new.view.actor.head ≡ hand.old.view.actor.head }
     {
         kind_argument(self.words().kind_load(hand, row))
     }

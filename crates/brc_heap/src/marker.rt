@@ -2,7 +2,7 @@
 
 ghost use Rattle.std.specs.Prelude.{◌≡◌, ◌≢◌, ℕ};
 ghost use Rattle.brc_model.specs.declared.actor.Status.TheVariants.{Gone};
-ghost use Rattle.brc_table.specs.Hands.{TableState, IsOf};
+ghost use Rattle.brc_table.specs.Hands.{TableState, IsOf, KeepsButView};
 ghost use Rattle.brc_heap.specs.Tries.{MarksNext};
 ghost use Rattle.brc_heap.specs.Marks.{posted, look_answer};
 
@@ -21,11 +21,9 @@ pub trait Marker<T> {
     /// was still set.
     fn post(&self, hand: &mut Hand<T>, row: u32) -> Looked
         requires table { IsOf (heap self.now) hand.old }
-        requires alive { hand.old.view.status ≢ Gone }
-        requires duty { MarksNext row hand.old.view.agenda }
-        ensures table { hand.new.table ≡ hand.old.table }
-        ensures carried { hand.new.carried ≡ hand.old.carried }
-        ensures slots { hand.new.slots ≡ hand.old.slots }
+        requires alive { hand.old.view.actor.status ≢ Gone }
+        requires duty { MarksNext row hand.old.view.actor.agenda }
+        ensures kept { KeepsButView hand.old hand.new }
         ensures events { (said : ℕ) × (found : ℕ) × (result ≡ look_answer said found)
             × (hand.new.view ≡ posted hand.old.view said found) };
 }

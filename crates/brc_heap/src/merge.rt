@@ -8,7 +8,7 @@ ghost use Rattle.brc_model.specs.declared.duty.Reason.TheVariants.{Own};
 ghost use Rattle.brc_model.specs.declared.duty.Duty.TheVariants.{MergeSwap, MergeLoad};
 ghost use Rattle.brc_table.specs.Turns.{MayGoOn, turned_to};
 ghost use Rattle.brc_table.specs.Views.{view_after, resumed, turned, work_about};
-ghost use Rattle.brc_table.specs.Hands.{IsOf, carried_of};
+ghost use Rattle.brc_table.specs.Hands.{IsOf, carried_of, KeepsButView};
 ghost use Rattle.brc_table.specs.Calls.{CanAct};
 ghost use Rattle.brc_heap.specs.Steps.{HasStepped, ended};
 ghost use Rattle.brc_heap.specs.Tries.{MergesNext, CarriesNext, merge_dies, carries_of, swap_left, still_carried};
@@ -120,14 +120,12 @@ impl<T: Drop> Heap<T> {
     pub fn take_local(&self, hand: &mut Hand<T>, row: u32, work: Work) -> Option<u32>
         requires table { IsOf self.now hand.old }
         requires may { MayGoOn work hand.old.view }
-        requires duty { MergesNext row (turned_to work hand.old.view row).agenda }
-        ensures table { hand.new.table ≡ hand.old.table }
-        ensures carried { hand.new.carried ≡ hand.old.carried }
-        ensures slots { hand.new.slots ≡ hand.old.slots }
+        requires duty { MergesNext row (turned_to work hand.old.view row).actor.agenda }
+        ensures kept { KeepsButView hand.old hand.new }
         ensures events { (local : ℕ) × (result ≡ carries_of local)
             × (hand.new.view ≡ view_after (turned_to work hand.old.view row) local) }
         ensures left { (r : Reason) (rest : List Duty)
-            → (turned_to work hand.old.view row).agenda ≡ MergeSwap row r ∷ rest
+            → (turned_to work hand.old.view row).actor.agenda ≡ MergeSwap row r ∷ rest
             → HasStepped (turned_to work hand.old.view row) (swap_left row r result ++ rest) hand.new.view }
     {
         // `LocalTakenOut`, `NobodysCount` (PEP 703, Biased Reference Counting: a merge): a swap, because two threads
@@ -152,18 +150,16 @@ impl<T: Drop> Heap<T> {
     pub fn merge(&self, hand: &mut Hand<T>, row: u32, carried: u32, work: Work) -> MergeStep
         requires table { IsOf self.now hand.old }
         requires may { MayGoOn work hand.old.view }
-        requires duty { CarriesNext row carried (turned_to work hand.old.view row).agenda }
-        ensures table { hand.new.table ≡ hand.old.table }
-        ensures carried { hand.new.carried ≡ hand.old.carried }
-        ensures slots { hand.new.slots ≡ hand.old.slots }
+        requires duty { CarriesNext row carried (turned_to work hand.old.view row).actor.agenda }
+        ensures kept { KeepsButView hand.old hand.new }
         ensures events { (word : ℕ) × (found : ℕ) × (result ≡ merge_answer carried word found)
             × (hand.new.view
             ≡ ended (merge_dies result) (resumed (turned_to work hand.old.view row) (word ∷ found ∷ []))) }
         ensures left { (r : Reason) (rest : List Duty)
-            → (turned_to work hand.old.view row).agenda ≡ MergeLoad row carried r ∷ rest
+            → (turned_to work hand.old.view row).actor.agenda ≡ MergeLoad row carried r ∷ rest
             → HasStepped (turned_to work hand.old.view row) (merge_left row carried r result ++ rest) hand.new.view }
         ensures own { (r : Reason) (rest : List Duty)
-            → (turned_to work hand.old.view row).agenda ≡ MergeLoad row carried r ∷ rest
+            → (turned_to work hand.old.view row).actor.agenda ≡ MergeLoad row carried r ∷ rest
             → result ≡ MergeStep.Dying → r ≡ Own }
     {
         let words = self.words();

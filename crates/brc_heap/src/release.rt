@@ -13,7 +13,7 @@ ghost use Rattle.brc_model.specs.Within.{OwnerFits};
 ghost use Rattle.brc_table.specs.declared.view.View.{View};
 ghost use Rattle.brc_table.specs.Views.{view_after, resumed, releasing, without_reference, work_about};
 ghost use Rattle.brc_table.specs.Turns.{MayGoOn, turned_to};
-ghost use Rattle.brc_table.specs.Hands.{IsOf, IsRunning, HoldsOne, KeepsLock, HasNoWork};
+ghost use Rattle.brc_table.specs.Hands.{IsOf, IsRunning, HoldsOne, KeepsLock, HasNoWork, KeepsButView};
 ghost use Rattle.brc_table.specs.Calls.{CanAct};
 ghost use Rattle.brc_heap.specs.Steps.{HasStepped, ended};
 ghost use Rattle.brc_heap.specs.Tries.{LoadedLocal, DecidesNext, GivesUpNext, lowered, zero_dies, shared_dies};
@@ -61,16 +61,15 @@ impl<T: Drop> Heap<T> {
     #[inline(always)]
     pub fn lower(&self, hand: &mut Hand<T>, row: u32, word: u64) -> LocalRelease
         requires table { IsOf self.now hand.old }
-        requires alive { hand.old.view.status ≢ Gone }
+        requires alive { hand.old.view.actor.status ≢ Gone }
         requires duty { (v : View) × LoadedLocal row word v hand.old.view }
-        requires counted { is_running hand.old.view.status ≡ true → owner_part word ≡ hand.old.view.thread + 1
+        requires counted { is_running hand.old.view.actor.status ≡ true → owner_part word ≡ hand.old.view.thread + 1
             → 1 ≤ local_part word }
-        ensures table { hand.new.table ≡ hand.old.table }
-        ensures carried { hand.new.carried ≡ hand.old.carried }
-        ensures slots { hand.new.slots ≡ hand.old.slots }
+        ensures kept { KeepsButView hand.old hand.new }
         ensures answer { result ≡ local_answer hand.old.view word }
         ensures view { hand.new.view ≡ lowered hand.old.view word }
-        ensures left { (v : View) (holding : Holding) (rest : List Duty) → v.agenda ≡ ReleaseLoad row holding ∷ rest
+        ensures left { (v : View) (holding : Holding) (rest : List Duty) → v.actor.agenda
+            ≡ ReleaseLoad row holding ∷ rest
             → hand.old.view ≡ view_after v word → HasStepped v (local_left row result ++ rest) hand.new.view }
     {
         let release = local_release(word, hand.thread(), hand.is_running());
@@ -109,13 +108,11 @@ impl<T: Drop> Heap<T> {
     pub fn decide(&self, hand: &mut Hand<T>, row: u32, work: Work) -> ZeroStep
         requires table { IsOf self.now hand.old }
         requires may { MayGoOn work hand.old.view }
-        requires duty { DecidesNext row (turned_to work hand.old.view row).agenda }
-        ensures table { hand.new.table ≡ hand.old.table }
-        ensures carried { hand.new.carried ≡ hand.old.carried }
-        ensures slots { hand.new.slots ≡ hand.old.slots }
+        requires duty { DecidesNext row (turned_to work hand.old.view row).actor.agenda }
+        ensures kept { KeepsButView hand.old hand.new }
         ensures events { (word : ℕ) × (result ≡ zero_answer word)
             × (hand.new.view ≡ ended (zero_dies result) (view_after (turned_to work hand.old.view row) word)) }
-        ensures left { (rest : List Duty) → (turned_to work hand.old.view row).agenda ≡ DecideAtZero row ∷ rest
+        ensures left { (rest : List Duty) → (turned_to work hand.old.view row).actor.agenda ≡ DecideAtZero row ∷ rest
             → HasStepped (turned_to work hand.old.view row) (zero_left row result ++ rest) hand.new.view }
     {
         // `NothingShared`, `WasShared` (PEP 703, Biased Reference Counting: the owner frees the object, or merges the
@@ -155,15 +152,13 @@ impl<T: Drop> Heap<T> {
     pub fn release_shared(&self, hand: &mut Hand<T>, row: u32, work: Work) -> SharedRelease
         requires table { IsOf self.now hand.old }
         requires may { MayGoOn work hand.old.view }
-        requires duty { GivesUpNext row (turned_to work hand.old.view row).agenda }
-        ensures table { hand.new.table ≡ hand.old.table }
-        ensures carried { hand.new.carried ≡ hand.old.carried }
-        ensures slots { hand.new.slots ≡ hand.old.slots }
+        requires duty { GivesUpNext row (turned_to work hand.old.view row).actor.agenda }
+        ensures kept { KeepsButView hand.old hand.new }
         ensures events { (word : ℕ) × (found : ℕ) × (result ≡ shared_answer word found)
             × (hand.new.view
             ≡ ended (shared_dies result) (resumed (turned_to work hand.old.view row) (word ∷ found ∷ []))) }
         ensures left { (r : Reason) (rest : List Duty)
-            → (turned_to work hand.old.view row).agenda ≡ SharedLoad row r ∷ rest
+            → (turned_to work hand.old.view row).actor.agenda ≡ SharedLoad row r ∷ rest
             → HasStepped (turned_to work hand.old.view row) (shared_left row r result ++ rest) hand.new.view }
     {
         let words = self.words();

@@ -4,7 +4,7 @@ ghost use Rattle.std.specs.Prelude.{◌≡◌, ◌<◌, [], length, ℕ};
 ghost use Rattle.brc_model.specs.Layout.{block_of};
 ghost use Rattle.brc_model.specs.Within.{OwnerFits};
 ghost use Rattle.brc_table.specs.Views.{with_reference};
-ghost use Rattle.brc_table.specs.Hands.{IsOf, IsRunning, MayUse, HasNoWork, most_references};
+ghost use Rattle.brc_table.specs.Hands.{IsOf, IsRunning, MayUse, HasNoWork, most_references, KeepsButView};
 ghost use Rattle.brc_heap.specs.Calls.{retained, RetainsOwn, Leaves};
 
 use crate::heap::Heap;
@@ -32,7 +32,7 @@ impl<T: Drop> Heap<T> {
             × (hand.new.view ≡ retained hand.old.view row word found)
             × RetainsOwn row word found hand.old.view hand.new.view }
         ensures left { Leaves row [] hand.old.view hand.new.view }
-        ensures head { hand.new.view.head ≡ hand.old.view.head }
+        ensures head { hand.new.view.actor.head ≡ hand.old.view.actor.head }
         ensures references { hand.new.view.references
             ≡ with_reference hand.old.view.layout row hand.old.view.references }
     {
@@ -46,9 +46,7 @@ impl<T: Drop> Heap<T> {
         requires usable { MayUse hand.old.view row }
         requires idle { HasNoWork hand.old.view row }
         requires few { length hand.old.view.references < most_references }
-        ensures table { hand.new.table ≡ hand.old.table }
-        ensures carried { hand.new.carried ≡ hand.old.carried }
-        ensures slots { hand.new.slots ≡ hand.old.slots }
+        ensures kept { KeepsButView hand.old hand.new }
         ensures events { (word : ℕ) × (found : ℕ) × OwnerFits hand.old.view.layout row word
             × (hand.new.view ≡ retained hand.old.view row word found) }
     {

@@ -15,20 +15,20 @@ use Rattle.brc_table.specs.Views.{view_by, view_after, claiming}
 
 -- The hand runs, and this is what it has to do.
 pub record Works (v : View) (work : List Duty) : Type 0 where
-  pub status : v.status ≡ Running
-  pub agenda : v.agenda ≡ work
+  pub status : v.actor.status ≡ Running
+  pub agenda : v.actor.agenda ≡ work
 
-pub never_gone : {v : View} {work : List Duty} → Works v work → v.status ≢ Gone
+pub never_gone : {v : View} {work : List Duty} → Works v work → v.actor.status ≢ Gone
 never_gone works = λ gone. absurd (let e : Running ≡ Gone = sym works.status ∙ gone in cc)
 
 -- A step leaves a running hand with what comes next.
 works_next : (v : View) (d : Duty) (rest : List Duty) (found : ℕ) (work : List Duty) → Works v (d ∷ rest)
-    → status_by Running d ≡ Running → (view_by v (d ∷ rest) found).agenda ≡ work → Works (view_after v found) work
+    → status_by Running d ≡ Running → (view_by v (d ∷ rest) found).actor.agenda ≡ work → Works (view_after v found) work
 works_next v d rest found work works quiet next = record {
   status =
-      ap (λ (ds : List Duty). (view_by v ds found).status) works.agenda
+      ap (λ (ds : List Duty). (view_by v ds found).actor.status) works.agenda
       ∙ (ap (λ (s : Status). status_by s d) works.status ∙ quiet);
-  agenda = ap (λ (ds : List Duty). (view_by v ds found).agenda) works.agenda ∙ next;
+  agenda = ap (λ (ds : List Duty). (view_by v ds found).actor.agenda) works.agenda ∙ next;
 }
 
 claim_by : (head x : ℕ) → ready head ((claimed x 1 ++ Settle ∷ []) ++ []) ≡ MergeSwap x Handed ∷ Settle ∷ []
@@ -36,11 +36,11 @@ claim_by zero x = refl
 claim_by (suc head) x = refl
 
 -- The claim of a set mark leaves the merge to be done.
-pub claim_next : (v : View) (x found : ℕ) → v.status ≡ Running → found ≡ 1
+pub claim_next : (v : View) (x found : ℕ) → v.actor.status ≡ Running → found ≡ 1
     → Works (view_after (claiming v x) found) (MergeSwap x Handed ∷ Settle ∷ [])
 claim_next v x found running set =
     subst (λ (f : ℕ). Works (view_after (claiming v x) f) (MergeSwap x Handed ∷ Settle ∷ [])) (sym set)
-    (record { status = running; agenda = claim_by v.head x })
+    (record { status = running; agenda = claim_by v.actor.head x })
 
 swap_by : (head x local : ℕ) (rest : List Duty) (none : Bool) → none ≡ false
     → ready head ((if none then once_merged x Handed else MergeLoad x (local_part local) Handed ∷ []) ++ rest)
@@ -53,7 +53,7 @@ pub swap_next : (v : View) (x local : ℕ) (rest : List Duty) → Works v (Merge
     → (local == 0) ≡ false → Works (view_after v local) (MergeLoad x (local_part local) Handed ∷ rest)
 swap_next v x local rest works some =
     works_next v (MergeSwap x Handed) rest local (MergeLoad x (local_part local) Handed ∷ rest) works refl
-    (swap_by v.head x local rest (local == 0) some)
+    (swap_by v.actor.head x local rest (local == 0) some)
 
 load_by : (head x c word : ℕ) (rest : List Duty)
     → ready head (MergeExchange x c word Handed ∷ rest) ≡ MergeExchange x c word Handed ∷ rest
@@ -64,7 +64,7 @@ pub load_next : (v : View) (x c word : ℕ) (rest : List Duty) → Works v (Merg
     → Works (view_after v word) (MergeExchange x c word Handed ∷ rest)
 load_next v x c word rest works =
     works_next v (MergeLoad x c Handed) rest word (MergeExchange x c word Handed ∷ rest) works refl
-    (load_by v.head x c word rest)
+    (load_by v.actor.head x c word rest)
 
 won_by : (head x c word : ℕ) (rest : List Duty) (won : Bool) → won ≡ true
     → ready head ((if won then merge_result x Handed (merged_word word c) else MergeLoad x c Handed ∷ []) ++ rest)
@@ -78,7 +78,7 @@ pub won_next : (v : View) (x c word found : ℕ) (rest : List Duty) → Works v 
     → found ≡ word → Works (view_after v found) (SharedLoad x Handed ∷ rest)
 won_next v x c word found rest works won =
     works_next v (MergeExchange x c word Handed) rest found (SharedLoad x Handed ∷ rest) works refl
-    (won_by v.head x c word rest (found == word) (eq-eqb found word won))
+    (won_by v.actor.head x c word rest (found == word) (eq-eqb found word won))
 
 shared_by : (head x word : ℕ) (rest : List Duty)
     → ready head (SharedExchange x Handed word ∷ rest) ≡ SharedExchange x Handed word ∷ rest
@@ -89,7 +89,7 @@ pub shared_next : (v : View) (x word : ℕ) (rest : List Duty) → Works v (Shar
     → Works (view_after v word) (SharedExchange x Handed word ∷ rest)
 shared_next v x word rest works =
     works_next v (SharedLoad x Handed) rest word (SharedExchange x Handed word ∷ rest) works refl
-    (shared_by v.head x word rest)
+    (shared_by v.actor.head x word rest)
 
 -- ---- the steps of a claimed merge, one behind the other
 
@@ -97,7 +97,7 @@ moved : {v u : View} {work : List Duty} → u ≡ v → Works v work → Works u
 moved {v} {u} {work} same works = subst (λ (w : View). Works w work) (sym same) works
 
 -- After the swap the shared word is to be loaded.
-pub at_load : (v one two : View) (x set local : ℕ) → v.status ≡ Running → set ≡ 1
+pub at_load : (v one two : View) (x set local : ℕ) → v.actor.status ≡ Running → set ≡ 1
     → one ≡ view_after (claiming v x) set → (local == 0) ≡ false → two ≡ view_after one local
     → Works two (MergeLoad x (local_part local) Handed ∷ Settle ∷ [])
 at_load v one two x set local running is first some second =

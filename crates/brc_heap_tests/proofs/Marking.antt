@@ -22,7 +22,8 @@ none_left p (d ∷ ds) = elim (cases_Bool (p d)) [
       ∙ none_left p ds
   | inr other ↦
       ap (λ (b : Bool). filter p (cond (not b) (d ∷ filter (λ e. not (p e)) ds) (filter (λ e. not (p e)) ds))) other
-      ∙ (ap (λ (b : Bool). cond b (d ∷ filter p (filter (λ e. not (p e)) ds)) (filter p (filter (λ e. not (p e)) ds))) other
+      ∙ (ap (λ (b : Bool). cond b (d ∷ filter p (filter (λ e. not (p e)) ds)) (filter p (filter (λ e. not (p e)) ds)))
+      other
       ∙ none_left p ds)
 ]
 
@@ -31,11 +32,12 @@ look_ready zero x = refl
 look_ready (suc head) x = refl
 
 -- The hand's work about the row is then to look.
-looks_next : (v : View) (x : ℕ) → work_about x v ≡ SetMark x ∷ [] → work_about x (view_after (turned v x) 0) ≡ Look x ∷ []
+looks_next : (v : View) (x : ℕ) → work_about x v ≡ SetMark x ∷ [] → work_about x (view_after (turned v x) 0)
+    ≡ Look x ∷ []
 looks_next v x is =
     let others = filter (λ d. not (is_about x d)) (open_work v) in
     ap (λ (ds : List Duty). work_about x (view_by (turned v x) ds 0)) is
-    ∙ (ap (λ (ds : List Duty). filter (is_about x) (ds ++ others)) (look_ready v.head x)
+    ∙ (ap (λ (ds : List Duty). filter (is_about x) (ds ++ others)) (look_ready v.actor.head x)
     ∙ (ap (λ (b : Bool). cond b (Look x ∷ filter (is_about x) others) (filter (is_about x) others)) (eq-eqb x x refl)
     ∙ ap (λ (ds : List Duty). Look x ∷ ds) (none_left (is_about x) (open_work v))))
 
@@ -49,4 +51,4 @@ pub still_marks : (v u : View) (x : ℕ) → CanAct v → work_about x v ≡ Set
     → CanAct u
 still_marks v u x acts is after =
     subst CanAct (sym after) (subst (λ (ds : List Duty). CanAct (view_by (turned v x) ds 0)) (sym is)
-    (acts.0, subst MayWait (sym (look_ready v.head x)) refl))
+    (acts.0, subst MayWait (sym (look_ready v.actor.head x)) refl))

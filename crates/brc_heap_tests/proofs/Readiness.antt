@@ -36,7 +36,7 @@ still_acts running leaves =
     ((λ gone. absurd (let e : Running ≡ Gone = sym (leaves.status ∙ running.0) ∙ gone in cc)), leaves.waits)
 
 -- A hand that has locked nothing may give up any reference.
-pub unlocked_keeps : (v : View) (x : ℕ) → v.locked ≡ None → KeepsLock v x
+pub unlocked_keeps : (v : View) (x : ℕ) → v.actor.locked ≡ None → KeepsLock v x
 unlocked_keeps v x none = λ e. absurd (let wrong : None ≡ Some x = sym none ∙ e in cc)
 
 -- A hand that can act still can after a call.
@@ -109,11 +109,11 @@ pub main_alone : {heap : TableState} {main : HandState} {layout : Layout} → Is
     → main.view ≡ main_view layout → IsAlone heap main
 main_alone table is = record {
   table = table;
-  status = ap (λ (v : View). v.status) is;
-  agenda = ap (λ (v : View). v.agenda) is;
-  aside = ap (λ (v : View). v.aside) is;
+  status = ap (λ (v : View). v.actor.status) is;
+  agenda = ap (λ (v : View). v.actor.agenda) is;
+  aside = ap (λ (v : View). v.actor.aside) is;
   references = ap (λ (v : View). v.references) is;
-  unlocked = ap (λ (v : View). v.locked) is;
+  unlocked = ap (λ (v : View). v.actor.locked) is;
 }
 
 -- and so does a worker's.
@@ -121,16 +121,16 @@ pub worker_alone : {heap : TableState} {hand : HandState} {thread : ℕ} → IsO
     → hand.view ≡ worker_view heap.layout thread → IsAlone heap hand
 worker_alone table is = record {
   table = table;
-  status = ap (λ (v : View). v.status) is;
-  agenda = ap (λ (v : View). v.agenda) is;
-  aside = ap (λ (v : View). v.aside) is;
+  status = ap (λ (v : View). v.actor.status) is;
+  agenda = ap (λ (v : View). v.actor.agenda) is;
+  aside = ap (λ (v : View). v.actor.aside) is;
   references = ap (λ (v : View). v.references) is;
-  unlocked = ap (λ (v : View). v.locked) is;
+  unlocked = ap (λ (v : View). v.actor.locked) is;
 }
 
 -- Such a hand has no work at all,
 pub alone_work : {heap : TableState} {hand : HandState} → IsAlone heap hand → open_work hand.view ≡ []
-alone_work {heap} {hand} alone = ap (λ (ds : List Duty). ds ++ hand.view.aside) alone.agenda ∙ alone.aside
+alone_work {heap} {hand} alone = ap (λ (ds : List Duty). ds ++ hand.view.actor.aside) alone.agenda ∙ alone.aside
 
 -- is ready to retain and release the root,
 pub ready_alone : {heap : TableState} {hand : HandState} → IsAlone heap hand → IsReady heap hand
@@ -229,7 +229,7 @@ row_again x v u w same is after =
 -- A hand without other work has none after a call that leaves nothing to do about its row.
 pub rests_still : {x : ℕ} {v u : View} → open_work v ≡ [] → Leaves x [] v u → open_work u ≡ []
 rests_still {x} {v} {u} rests leaves =
-    ap (λ (ds : List Duty). ds ++ u.aside) leaves.agenda
+    ap (λ (ds : List Duty). ds ++ u.actor.aside) leaves.agenda
     ∙ (leaves.aside ∙ ap (filter (λ (d : Duty). not (is_about x d))) rests)
 
 -- What a hand borrows it still borrows after a call.

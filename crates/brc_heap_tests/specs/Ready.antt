@@ -14,7 +14,7 @@ pub record IsReadyAt (heap : TableState) (hand : HandState) (x : ℕ) : Type 0 w
   pub held : 1 ≤ holds hand.view x
   pub idle : HasNoWork hand.view x
   pub few : length hand.view.references < most_references
-  pub unlocked : hand.view.locked ≡ None
+  pub unlocked : hand.view.actor.locked ≡ None
 
 -- The same of the root's object.
 abbrev pub IsReady : TableState → HandState → Type 0
@@ -31,17 +31,17 @@ pub record IsResting (heap : TableState) (hand : HandState) (locked : Option ℕ
   pub running : IsRunning hand.view
   pub held : 1 ≤ holds hand.view root_row
   pub rests : open_work hand.view ≡ []
-  pub locked_is : hand.view.locked ≡ locked
+  pub locked_is : hand.view.actor.locked ≡ locked
   pub returned : HasBack hand locked
 
 -- The hand runs, has nothing to do, not even aside, holds one reference, to the root, and has locked nothing.
 pub record IsAlone (heap : TableState) (hand : HandState) : Type 0 where
   pub table : IsOf heap hand
-  pub status : hand.view.status ≡ Running
-  pub agenda : hand.view.agenda ≡ []
-  pub aside : hand.view.aside ≡ []
+  pub status : hand.view.actor.status ≡ Running
+  pub agenda : hand.view.actor.agenda ≡ []
+  pub aside : hand.view.actor.aside ≡ []
   pub references : hand.view.references ≡ root_row ∷ []
-  pub unlocked : hand.view.locked ≡ None
+  pub unlocked : hand.view.actor.locked ≡ None
 
 -- a fact that a struct can keep
 pub alone-prop : (heap : TableState) (hand : HandState) → IsProp (IsAlone heap hand)

@@ -23,7 +23,7 @@ same_cell list cell =
     ap (λ (b : Bool). b && (cell == cell)) (eq-eqb list list refl) ∙ eq-eqb cell cell refl
 
 -- The hand has loaded the cell, which has the item.
-pub item_borrowed : (v : View) (list cell x : ℕ) → v.locked ≡ Some list → suc x ≤ row_count v.layout
+pub item_borrowed : (v : View) (list cell x : ℕ) → v.actor.locked ≡ Some list → suc x ≤ row_count v.layout
     → Borrows (view_after (loading_cell v list cell) (suc x)) x
 item_borrowed v list cell x locked there =
     let event : WordEvent = record { address = Cell list cell; found = suc x; left = suc x } in

@@ -15,13 +15,13 @@ use Rattle.brc_table.specs.Hands.{MayWait}
 pub record Keeps (v u : View) : Type 0 where
   pub layout : u.layout ≡ v.layout
   pub thread : u.thread ≡ v.thread
-  pub status : u.status ≡ v.status
+  pub status : u.actor.status ≡ v.actor.status
   pub references : u.references ≡ v.references
-  pub used : u.used ≡ v.used
-  pub head : u.head ≡ v.head
+  pub used : u.actor.used ≡ v.actor.used
+  pub head : u.actor.head ≡ v.actor.head
   pub given : u.given ≡ v.given
   pub taken_slot : u.in_slot ≡ v.in_slot
-  pub waits : MayWait u.agenda
+  pub waits : MayWait u.actor.agenda
   pub work : open_work u ≡ open_work v
   pub kinds : (y word : ℕ) → knows_kind y word v ≡ true → knows_kind y word u ≡ true
 
@@ -32,7 +32,7 @@ TakesSlot x _ = ⊥
 
 -- The hand uses the slot of the file or socket alone: it has locked the object, or finalises it just now.
 abbrev pub HasSlot : View → ℕ → Type 0
-HasSlot v x = (v.locked ≡ Some x) ⊎ TakesSlot x v.agenda
+HasSlot v x = (v.actor.locked ≡ Some x) ⊎ TakesSlot x v.actor.agenda
 
 -- the row that a cell's word names, if the cell isn't empty
 abbrev pub row_in : ℕ → Option ℕ

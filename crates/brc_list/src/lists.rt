@@ -48,16 +48,17 @@ impl<'h, T: Drop> Lists<'h, T> {
         requires counted { IsCounted hand.old.view.layout row }
         requires held { HoldsOne hand.old.view row }
         requires idle { HasNoWork hand.old.view row }
-        requires unlocked { hand.old.view.locked ≡ None }
+        requires unlocked { hand.old.view.actor.locked ≡ None }
         ensures table { IsOf self.now hand.new }
         ensures carried { hand.new.carried ≡ hand.old.carried }
         ensures slots { hand.new.slots
             ≡ (if result then (row, hand.new.view.in_slot) ∷ hand.old.slots else hand.old.slots) }
         ensures kind { (word : ℕ) → result ≡ true → 0 < word
             → knows_kind row word hand.old.view ≡ true → hand.new.view.in_slot ≡ resources_of word }
-        ensures events { (found : ℕ) × (hand.new.view ≡ view_after (locking hand.old.view row hand.new.view.in_slot) found)
+        ensures events { (found : ℕ) × (hand.new.view ≡ view_after (locking hand.old.view row hand.new.view.in_slot)
+            found)
             × (result ≡ (found == free_word)) }
-        ensures locked { hand.new.view.locked ≡ (if result then Some row else None) }
+        ensures locked { hand.new.view.actor.locked ≡ (if result then Some row else None) }
         ensures keeps { KeepsButSlot hand.old.view hand.new.view }
     {
         self.heap.words().gate_lock(hand, row) == FREE
@@ -70,7 +71,7 @@ impl<'h, T: Drop> Lists<'h, T> {
         requires running { IsRunning hand.old.view }
         requires held { HoldsOne hand.old.view row }
         requires idle { HasNoWork hand.old.view row }
-        requires locked { hand.old.view.locked ≡ Some row }
+        requires locked { hand.old.view.actor.locked ≡ Some row }
         requires retains { HasNoRetain hand.old.view }
         requires returned { FirstSlot hand.old.slots row hand.old.view.in_slot }
         ensures table { IsOf self.now hand.new }
@@ -78,7 +79,7 @@ impl<'h, T: Drop> Lists<'h, T> {
         ensures slots { hand.new.slots ≡ behind_slot hand.old.slots }
         ensures events { hand.new.view
             ≡ view_after (unlocking hand.old.view row) (overwritten (unlocking hand.old.view row)) }
-        ensures unlocked { hand.new.view.locked ≡ None }
+        ensures unlocked { hand.new.view.actor.locked ≡ None }
         ensures keeps { Keeps hand.old.view hand.new.view }
     {
         self.heap.words().gate_unlock(hand, row);
@@ -98,7 +99,7 @@ impl<'h, T: Drop> Lists<'h, T> {
             × (result ≡ cells_of word) × ((before : ℕ) → 0 < before → knows_kind row before hand.old.view ≡ true
             → word ≡ before) }
         ensures cells { (i : ℕ) → i < result → KnowsCell hand.new.view row i }
-        ensures locked { hand.new.view.locked ≡ hand.old.view.locked }
+        ensures locked { hand.new.view.actor.locked ≡ hand.old.view.actor.locked }
         ensures keeps { Keeps hand.old.view hand.new.view }
     {
         let word = self.heap.words().kind_load(hand, row);
@@ -123,8 +124,8 @@ impl<'h, T: Drop> Lists<'h, T> {
         ensures carried { hand.new.carried ≡ hand.old.carried }
         ensures slots { hand.new.slots ≡ hand.old.slots }
         ensures sees { (word : ℕ) × SeesItem row cell word hand.old.view hand.new.view × (result ≡ row_in word) }
-        ensures borrows { (x : ℕ) → result ≡ Some x → hand.old.view.locked ≡ Some row → Borrows hand.new.view x }
-        ensures locked { hand.new.view.locked ≡ hand.old.view.locked }
+        ensures borrows { (x : ℕ) → result ≡ Some x → hand.old.view.actor.locked ≡ Some row → Borrows hand.new.view x }
+        ensures locked { hand.new.view.actor.locked ≡ hand.old.view.actor.locked }
         ensures keeps { Keeps hand.old.view hand.new.view }
     {
         let words = self.heap.words();
@@ -159,7 +160,7 @@ impl<'h, T: Drop> Lists<'h, T> {
         ensures slots { hand.new.slots ≡ hand.old.slots }
         ensures swaps { (found : ℕ) × SwapsItem row cell (word_of item) found hand.old.view hand.new.view
             × (result ≡ row_in found) }
-        ensures locked { hand.new.view.locked ≡ hand.old.view.locked }
+        ensures locked { hand.new.view.actor.locked ≡ hand.old.view.actor.locked }
         ensures keeps { KeepsBesides hand.old.view hand.new.view }
     {
         let words = self.heap.words();
@@ -197,7 +198,7 @@ impl<'h, T: Drop> Lists<'h, T> {
         requires table { IsOf self.now hand.old }
         requires slot { HasSlot hand.old.view row }
         requires lent { FirstSlot hand.old.slots row 0 }
-        requires whole { hand.old.view.locked ≡ Some row → hand.old.view.in_slot ≡ 1 }
+        requires whole { hand.old.view.actor.locked ≡ Some row → hand.old.view.in_slot ≡ 1 }
         ensures table { IsOf self.now hand.new }
         ensures carried { hand.new.carried ≡ hand.old.carried }
         ensures view { hand.new.view ≡ hand.old.view }

@@ -29,7 +29,8 @@ use Rattle.brc_model.specs.declared.layout.Layout.{Layout}
 use Rattle.brc_model.specs.Layout.{none_row, root_row, block_of, row_at, index_of}
 use Rattle.brc_model.specs.Machine.{is_running, has_room}
 pub use Rattle.brc_model.specs.Action.{StepActor, Action, Skip, Stuck, Silent, Calls, Does, always, by_exit, with_row}
-pub use Rattle.brc_model.specs.Stops.{owned_rows, row_locked, none_of, holds_some, stopping, first_named, give_up_first, give_up, stop_in_call, stop_action}
+pub use Rattle.brc_model.specs.Stops.{owned_rows, row_locked, none_of, holds_some, stopping, first_named,
+give_up_first, give_up, stop_in_call, stop_action}
 
 -- the kind word of a number
 abbrev pub number_word : ℕ → ℕ
@@ -193,8 +194,8 @@ dispatch_instruction layout t used before context at variables (Some Fail) = Sil
 -- Returns what a thread does inside an instruction that takes several steps, by how far it is. An item is borrowed as
 -- it is found, or fetched with a reference of its own. A stored item's reference is the variable's (`set`), or a new
 -- one (`put`); the item that stood in the cell is released. (Python/C API manual, List Objects.) What the host grants
--- becomes an object. A resource is out of its state of a variable while a call of the host uses it, and goes back however the call
--- ends.
+-- becomes an object. A resource is out of its state of a variable while a call of the host uses it, and goes back
+-- however the call ends.
 abbrev pub dispatch_inside : Layout → ℕ → ℕ → Context → ℕ → List (Option ℕ) → Stage → Option Instr → Action
 dispatch_inside layout t used context at variables InRange (Some (Borrow to list index otherwise)) =
     with_row (row_of variables list)

@@ -31,7 +31,8 @@ HasTrueKind words var row = (x : ℕ) → row ≡ Some x → IsTrueKind (kind_of
 abbrev pub HaveTrueKinds : (ℕ → ℕ) → State → List (Option ℕ) → Type 0
 HaveTrueKinds words s variables = (v : ℕ) → HasTrueKind words (var_of s v) (row_of variables v)
 
--- In a call, each variable has the kind of its state of a variable in the state in which paths reach the thread's point.
+-- In a call, each variable has the kind of its state of a variable in the state in which paths reach the thread's
+-- point.
 abbrev pub KnowsKinds : List Instr → (ℕ → ℕ) → Place → Type 0
 KnowsKinds code words (Idle left) = Unit {0}
 KnowsKinds code words (InCall context at variables) =

@@ -1,5 +1,5 @@
-//! The model of accepted modules: variables' states, paths, the abstract state of references, the step world, and the laws
-//! about them.
+//! The model of accepted modules: variables' states, paths, the abstract state of references, the step world, and the
+//! laws about them.
 //!
 //! The crate runs nothing. It has the types that the definitions in specs/ use, and public functions with empty bodies,
 //! whose contracts are the laws.

@@ -15,15 +15,15 @@ use Rattle.brc_heap.proofs.Handing.{root_counted}
 use Rattle.brc_free.specs.Works.{HasWorked, ComesToSettle, AtOnce, to_settle}
 
 -- With no other work, nothing is aside after the release of the root.
-pub nothing_aside : (v : View) (x : ℕ) → v.agenda ≡ [] → v.aside ≡ []
+pub nothing_aside : (v : View) (x : ℕ) → v.actor.agenda ≡ [] → v.actor.aside ≡ []
     → filter (λ d. not (is_about x d)) (open_work v) ≡ []
 nothing_aside v x idle none =
-    ap (λ (ds : List Duty). filter (λ d. not (is_about x d)) (ds ++ v.aside)) idle
+    ap (λ (ds : List Duty). filter (λ d. not (is_about x d)) (ds ++ v.actor.aside)) idle
     ∙ ap (λ (ds : List Duty). filter (λ d. not (is_about x d)) ds) none
 
 -- The hand settles next,
-pub comes_at_once : (v u : View) (x : ℕ) → IsFree v → u.status ≡ v.status → u.agenda ≡ []
-    → u.aside ≡ filter (λ d. not (is_about x d)) (open_work v) → ComesToSettle u []
+pub comes_at_once : (v u : View) (x : ℕ) → IsFree v → u.actor.status ≡ v.actor.status → u.actor.agenda ≡ []
+    → u.actor.aside ≡ filter (λ d. not (is_about x d)) (open_work v) → ComesToSettle u []
 comes_at_once v u x free same idle aside =
     AtOnce (same ∙ free.running) (aside ∙ nothing_aside v x free.agenda free.aside) idle
 
@@ -36,9 +36,11 @@ holds_none v u root is =
     ∙ ap (without_one root_row) root)
 
 -- Once it has settled it may leave.
-pub may_leave : (v u w : View) (cs : List HostCall) → IsFree v → v.references ≡ root_row ∷ [] → u.status ≡ v.status
-    → u.aside ≡ filter (λ d. not (is_about root_row d)) (open_work v)
-    → u.references ≡ without_reference v.layout root_row v.references → HasWorked (to_settle [] u) cs [] w → w.head ≡ 0
+pub may_leave : (v u w : View) (cs : List HostCall) → IsFree v → v.references ≡ root_row ∷ [] → u.actor.status
+    ≡ v.actor.status
+    → u.actor.aside ≡ filter (λ d. not (is_about root_row d)) (open_work v)
+    → u.references ≡ without_reference v.layout root_row v.references → HasWorked (to_settle [] u) cs [] w
+    → w.actor.head ≡ 0
     → MayLeave w
 may_leave v u w cs free root same aside references at empty = record {
   free = record {
@@ -58,4 +60,4 @@ finish_first (suc head) = refl
 -- and then nothing is left.
 pub finished : (v u w : View) (cs : List HostCall) → HasWorked v cs (Finish ∷ []) u → w ≡ view_after u 2
     → w ≡ view_by u (Finish ∷ []) 2
-finished v u w cs at is = is ∙ ap (λ (ds : List Duty). view_by u ds 2) (at.agenda ∙ finish_first u.head)
+finished v u w cs at is = is ∙ ap (λ (ds : List Duty). view_by u ds 2) (at.agenda ∙ finish_first u.actor.head)

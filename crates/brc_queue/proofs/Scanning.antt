@@ -18,11 +18,12 @@ use Rattle.brc_free.proofs.Working.{keeps_beside, worked_first, worked_on, worke
 -- ---- a claim
 
 -- The mark wasn't set, and nothing is left to do.
-pub claim_none : (v w : View) (x found : ℕ) → v.head ≡ 0 → (found == 1) ≡ false → w ≡ view_after (claiming v x) found
-    → w.agenda ≡ ready w.head []
+pub claim_none : (v w : View) (x found : ℕ) → v.actor.head ≡ 0 → (found == 1) ≡ false → w
+    ≡ view_after (claiming v x) found
+    → w.actor.agenda ≡ ready w.actor.head []
 claim_none v w x found empty none is =
-    ap (λ (z : View). z.agenda) is
-    ∙ (ap (λ (b : Bool). ready v.head (((if b then MergeSwap x Handed ∷ [] else []) ++ Settle ∷ []) ++ [])) none
+    ap (λ (z : View). z.actor.agenda) is
+    ∙ (ap (λ (b : Bool). ready v.actor.head (((if b then MergeSwap x Handed ∷ [] else []) ++ Settle ∷ []) ++ [])) none
     ∙ ap (λ (head : ℕ). ready head (Settle ∷ [])) empty)
 
 -- What the step of a claim keeps.
@@ -46,12 +47,14 @@ scan_first (suc head) i n rest = refl
 one_less : (n : ℕ) → suc n - 1 ≡ n
 one_less n = omega (arith)
 
-scanned : (v w : View) (i n found : ℕ) (rest : List Duty) → v.agenda ≡ Scan i (suc n) ∷ rest → w ≡ view_after v found
+scanned : (v w : View) (i n found : ℕ) (rest : List Duty) → v.actor.agenda ≡ Scan i (suc n) ∷ rest → w
+    ≡ view_after v found
     → HasWorked v [] (claimed (row_at v.layout v.thread i) found ++ Settle ∷ Scan (i + 1) (suc n - 1) ∷ rest) w
 scanned v w i n found rest next is =
     worked_on v v w [] (Scan i (suc n)) rest
     (claimed (row_at v.layout v.thread i) found ++ Settle ∷ Scan (i + 1) (suc n - 1) ∷ rest) found
-    (worked_first v (Scan i (suc n) ∷ rest) (next ∙ sym (scan_first v.head i n rest))) (scan_first v.head i n rest) refl
+    (worked_first v (Scan i (suc n) ∷ rest) (next ∙ sym (scan_first v.actor.head i n rest)))
+    (scan_first v.actor.head i n rest) refl
     refl is (record {
       status = refl;
       used = refl;
@@ -65,8 +68,9 @@ scanned v w i n found rest next is =
       behind_claim x false = refl
 
 -- The mark wasn't set, and the next row is scanned.
-pub scanned_none : (v w : View) (i n found : ℕ) (rest : List Duty) → v.agenda ≡ Scan i (suc n) ∷ rest
-    → w ≡ view_after v found → (found == 1) ≡ false → w.head ≡ 0 → HasWorked v [] (Scan (i + 1) (suc n - 1) ∷ rest) w
+pub scanned_none : (v w : View) (i n found : ℕ) (rest : List Duty) → v.actor.agenda ≡ Scan i (suc n) ∷ rest
+    → w ≡ view_after v found → (found == 1) ≡ false → w.actor.head ≡ 0
+    → HasWorked v [] (Scan (i + 1) (suc n - 1) ∷ rest) w
 scanned_none v w i n found rest next is none still =
     let at = subst (λ (ds : List Duty). HasWorked v [] (ds ++ Settle ∷ Scan (i + 1) (suc n - 1) ∷ rest) w)
     (ap (λ (b : Bool). if b then MergeSwap (row_at v.layout v.thread i) Handed ∷ [] else []) none)
@@ -80,13 +84,13 @@ scanned_none v w i n found rest next is none still =
     }
 
 -- A scan leaves the chain as it is.
-pub scan_head : (v w : View) (i n found : ℕ) (rest : List Duty) → v.agenda ≡ Scan i (suc n) ∷ rest
-    → w ≡ view_after v found → v.head ≡ 0 → w.head ≡ 0
+pub scan_head : (v w : View) (i n found : ℕ) (rest : List Duty) → v.actor.agenda ≡ Scan i (suc n) ∷ rest
+    → w ≡ view_after v found → v.actor.head ≡ 0 → w.actor.head ≡ 0
 scan_head v w i n found rest next is empty =
-    ap (λ (z : View). z.head) (is ∙ ap (λ (ds : List Duty). view_by v ds found) next) ∙ empty
+    ap (λ (z : View). z.actor.head) (is ∙ ap (λ (ds : List Duty). view_by v ds found) next) ∙ empty
 
 -- The mark was set, and the object is merged next.
-pub scanned_one : (v w : View) (i n found : ℕ) (rest : List Duty) → v.agenda ≡ Scan i (suc n) ∷ rest
+pub scanned_one : (v w : View) (i n found : ℕ) (rest : List Duty) → v.actor.agenda ≡ Scan i (suc n) ∷ rest
     → w ≡ view_after v found → (found == 1) ≡ true
     → HasWorked v [] (MergeSwap (row_at v.layout v.thread i) Handed ∷ Settle ∷ Scan (i + 1) (suc n - 1) ∷ rest) w
 scanned_one v w i n found rest next is one =
@@ -96,26 +100,27 @@ scanned_one v w i n found rest next is one =
 
 -- The hand has then settled, and the next row is scanned.
 pub scanned_settled : (v u w : View) (x : ℕ) (cs : List HostCall) (rest : List Duty)
-    → HasWorked v [] (MergeSwap x Handed ∷ Settle ∷ rest) u → HasWorked u cs (claimed_left u.agenda) w
+    → HasWorked v [] (MergeSwap x Handed ∷ Settle ∷ rest) u → HasWorked u cs (claimed_left u.actor.agenda) w
     → HasWorked v cs rest w
 scanned_settled v u w x cs rest at settled =
     worked_then v u w [] cs (MergeSwap x Handed ∷ Settle ∷ rest) rest at
     (subst (λ (ds : List Duty). HasWorked u cs (claimed_left ds) w)
-    (at.agenda ∙ plain_first u.head (MergeSwap x Handed) (Settle ∷ rest) refl) settled)
+    (at.agenda ∙ plain_first u.actor.head (MergeSwap x Handed) (Settle ∷ rest) refl) settled)
 
 -- ---- all rows
 
 -- A row that is left to scan is scanned next.
-pub scans_next : (u : View) (i used : ℕ) → i < used → u.agenda ≡ ready u.head (Scan i (used - i) ∷ Finish ∷ [])
-    → u.agenda ≡ Scan i (suc (used - i - 1)) ∷ Finish ∷ []
+pub scans_next : (u : View) (i used : ℕ) → i < used → u.actor.agenda
+    ≡ ready u.actor.head (Scan i (used - i) ∷ Finish ∷ [])
+    → u.actor.agenda ≡ Scan i (suc (used - i - 1)) ∷ Finish ∷ []
 scans_next u i used more is =
     let count : used - i ≡ suc (used - i - 1) = omega (arith, more) in
-    is ∙ (ap (λ (n : ℕ). ready u.head (Scan i n ∷ Finish ∷ [])) count
-    ∙ scan_first u.head i (used - i - 1) (Finish ∷ []))
+    is ∙ (ap (λ (n : ℕ). ready u.actor.head (Scan i n ∷ Finish ∷ [])) count
+    ∙ scan_first u.actor.head i (used - i - 1) (Finish ∷ []))
 
 -- Once it is scanned, the rows behind it are left.
 pub scans_on : (v u w : View) (cs fs : List HostCall) (i used : ℕ) → i < used
-    → HasWorked v cs (Scan i (used - i) ∷ Finish ∷ []) u → HasWorked u fs (scan_left u.agenda) w
+    → HasWorked v cs (Scan i (used - i) ∷ Finish ∷ []) u → HasWorked u fs (scan_left u.actor.agenda) w
     → HasWorked v (cs ++ fs) (Scan (i + 1) (used - (i + 1)) ∷ Finish ∷ []) w
 scans_on v u w cs fs i used more at scans =
     let next = scans_next u i used more at.agenda in

@@ -15,7 +15,7 @@ use Rattle.brc_free.specs.Works.{HasWorked, to_settle}
 pub record Claims (i : ℕ) (closes : List HostCall) (v w : View) : Type 0 where
   pub found : ℕ
   pub follows : HasWorked (view_after (claiming v (row_at v.layout v.thread i)) found) closes [] w
-  pub settled : w.head ≡ 0
+  pub settled : w.actor.head ≡ 0
 
 -- The hand has taken the marks of the first rows of its block, by rising number, with these closes of the host.
 pub data HasScanned (v : View) : ℕ → List HostCall → View → Type 0 where
@@ -25,7 +25,7 @@ pub data HasScanned (v : View) : ℕ → List HostCall → View → Type 0 where
 
 -- To scan the marks of all used rows, and then to say that the thread is gone, is what comes next.
 abbrev pub ScansNext : View → Type 0
-ScansNext v = v.agenda ≡ ready v.head (Scan 0 v.used ∷ Finish ∷ [])
+ScansNext v = v.actor.agenda ≡ ready v.actor.head (Scan 0 v.actor.used ∷ Finish ∷ [])
 
 -- The first duty is to scan the mark of the thread's row with index i, and n more behind it.
 pub record ScanNext (i : ℕ) (ds : List Duty) : Type 0 where
@@ -51,6 +51,6 @@ pub record HasLeft (closes : List HostCall) (v w : View) : Type 0 where
   pub closes_are : closes ≡ first ++ later
   pub releases : HasWorked (released_locally v root_row word) [] [] released
   pub settles : HasWorked (to_settle [] released) first [] settled
-  pub empty : settled.head ≡ 0
+  pub empty : settled.actor.head ≡ 0
   pub scans : HasWorked (view_after (leaving settled) 1) later (Finish ∷ []) scanned
   pub gone : w ≡ view_after scanned 2

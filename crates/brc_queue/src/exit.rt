@@ -6,7 +6,7 @@ ghost use Rattle.brc_host.specs.HostCalls.{HostCall, HasAnswered, close_faults};
 ghost use Rattle.brc_model.specs.declared.actor.Status.TheVariants.{Gone};
 ghost use Rattle.brc_model.specs.declared.duty.Duty.TheVariants.{Finish};
 ghost use Rattle.brc_model.specs.Layout.{root_row};
-ghost use Rattle.brc_table.specs.Hands.{IsOf};
+ghost use Rattle.brc_table.specs.Hands.{IsOf, KeepsButView};
 ghost use Rattle.brc_table.specs.Calls.{IsFree};
 ghost use Rattle.brc_free.specs.Works.{HasWorked};
 ghost use Rattle.brc_queue.specs.Scans.{ScansNext, ScanNext, HasLeft, scan_left};
@@ -30,17 +30,18 @@ impl<'h, T: Drop> Queue<'h, T> {
     pub fn leave<R: Wait, H: Host<Res = T>>(&self, rt: &R, hand: &mut Hand<T>, host: &mut H) -> u64
         requires table { IsOf self.now hand.old }
         requires free { IsFree hand.old.view }
-        requires settled { hand.old.view.head ≡ 0 }
-        requires unlocked { hand.old.view.locked ≡ None }
+        requires settled { hand.old.view.actor.head ≡ 0 }
+        requires unlocked { hand.old.view.actor.locked ≡ None }
         requires root { hand.old.view.references ≡ root_row ∷ [] }
         ensures table { IsOf self.now hand.new }
         ensures carried { hand.new.carried ≡ hand.old.carried }
         ensures slots { hand.new.slots ≡ hand.old.slots }
-        ensures gone { hand.new.view.status ≡ Gone }
-        ensures idle { (hand.new.view.agenda ≡ []) × (hand.new.view.aside ≡ []) × (hand.new.view.head ≡ 0) }
+        ensures gone { hand.new.view.actor.status ≡ Gone }
+        ensures idle { (hand.new.view.actor.agenda ≡ []) × (hand.new.view.actor.aside ≡ [])
+            × (hand.new.view.actor.head ≡ 0) }
         ensures holds_none { hand.new.view.references ≡ [] }
         ensures thread { hand.new.view.thread ≡ hand.old.view.thread }
-        ensures used { hand.new.view.used ≡ hand.old.view.used }
+        ensures used { hand.new.view.actor.used ≡ hand.old.view.actor.used }
         ensures work { (closes : List HostCall) × HasLeft closes hand.old.view hand.new.view
             × (result ≡ raised (close_faults closes) 0)
             × HasAnswered H.answers H.counts host.old closes host.new }
@@ -59,13 +60,11 @@ impl<'h, T: Drop> Queue<'h, T> {
     /// up to the greatest number.
     fn scan<R: Wait, H: Host<Res = T>>(&self, rt: &R, hand: &mut Hand<T>, host: &mut H) -> u64
         requires table { IsOf self.now hand.old }
-        requires alive { hand.old.view.status ≢ Gone }
-        requires settled { hand.old.view.head ≡ 0 }
+        requires alive { hand.old.view.actor.status ≢ Gone }
+        requires settled { hand.old.view.actor.head ≡ 0 }
         requires duty { ScansNext hand.old.view }
-        ensures table { hand.new.table ≡ hand.old.table }
-        ensures carried { hand.new.carried ≡ hand.old.carried }
-        ensures slots { hand.new.slots ≡ hand.old.slots }
-        ensures settled { hand.new.view.head ≡ 0 }
+        ensures kept { KeepsButView hand.old hand.new }
+        ensures settled { hand.new.view.actor.head ≡ 0 }
         ensures work { (closes : List HostCall) × HasWorked hand.old.view closes (Finish ∷ []) hand.new.view
             × (result ≡ raised (close_faults closes) 0)
             × HasAnswered H.answers H.counts host.old closes host.new }
@@ -87,16 +86,14 @@ impl<'h, T: Drop> Queue<'h, T> {
         index: u32,
     ) -> u64
         requires table { IsOf self.now hand.old }
-        requires alive { hand.old.view.status ≢ Gone }
-        requires settled { hand.old.view.head ≡ 0 }
-        requires used { index < hand.old.view.used }
-        requires duty { ScanNext index hand.old.view.agenda }
-        ensures table { hand.new.table ≡ hand.old.table }
-        ensures carried { hand.new.carried ≡ hand.old.carried }
-        ensures slots { hand.new.slots ≡ hand.old.slots }
-        ensures settled { hand.new.view.head ≡ 0 }
+        requires alive { hand.old.view.actor.status ≢ Gone }
+        requires settled { hand.old.view.actor.head ≡ 0 }
+        requires used { index < hand.old.view.actor.used }
+        requires duty { ScanNext index hand.old.view.actor.agenda }
+        ensures kept { KeepsButView hand.old hand.new }
+        ensures settled { hand.new.view.actor.head ≡ 0 }
         ensures work { (closes : List HostCall)
-            × HasWorked hand.old.view closes (scan_left hand.old.view.agenda) hand.new.view
+            × HasWorked hand.old.view closes (scan_left hand.old.view.actor.agenda) hand.new.view
             × (result ≡ raised (close_faults closes) 0)
             × HasAnswered H.answers H.counts host.old closes host.new }
     {

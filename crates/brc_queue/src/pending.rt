@@ -3,7 +3,7 @@
 ghost use Rattle.std.specs.Prelude.{◌≡◌, ◌<◌, List};
 ghost use Rattle.brc_host.specs.HostCounts.{raised};
 ghost use Rattle.brc_host.specs.HostCalls.{HostCall, HasAnswered, close_faults};
-ghost use Rattle.brc_table.specs.Hands.{IsOf};
+ghost use Rattle.brc_table.specs.Hands.{IsOf, KeepsButView};
 ghost use Rattle.brc_table.specs.Calls.{IsFree};
 ghost use Rattle.brc_heap.specs.Steps.{Keeps};
 ghost use Rattle.brc_queue.specs.Scans.{Claims, HasScanned};
@@ -30,15 +30,15 @@ impl<'h, T: Drop> Queue<'h, T> {
     ) -> u64
         requires table { IsOf self.now hand.old }
         requires free { IsFree hand.old.view }
-        requires settled { hand.old.view.head ≡ 0 }
+        requires settled { hand.old.view.actor.head ≡ 0 }
         ensures table { IsOf self.now hand.new }
         ensures carried { hand.new.carried ≡ hand.old.carried }
         ensures slots { hand.new.slots ≡ hand.old.slots }
         ensures free { IsFree hand.new.view }
-        ensures settled { hand.new.view.head ≡ 0 }
+        ensures settled { hand.new.view.actor.head ≡ 0 }
         ensures keeps { Keeps hand.old.view hand.new.view }
         ensures work { (closes : List HostCall)
-            × HasScanned hand.old.view hand.old.view.used closes hand.new.view
+            × HasScanned hand.old.view hand.old.view.actor.used closes hand.new.view
             × (result ≡ raised (close_faults closes) 0)
             × HasAnswered H.answers H.counts host.old closes host.new }
     {
@@ -60,11 +60,9 @@ impl<'h, T: Drop> Queue<'h, T> {
     ) -> u64
         requires table { IsOf self.now hand.old }
         requires free { IsFree hand.old.view }
-        requires settled { hand.old.view.head ≡ 0 }
-        requires used { index < hand.old.view.used }
-        ensures table { hand.new.table ≡ hand.old.table }
-        ensures carried { hand.new.carried ≡ hand.old.carried }
-        ensures slots { hand.new.slots ≡ hand.old.slots }
+        requires settled { hand.old.view.actor.head ≡ 0 }
+        requires used { index < hand.old.view.actor.used }
+        ensures kept { KeepsButView hand.old hand.new }
         ensures keeps { Keeps hand.old.view hand.new.view }
         ensures work { (closes : List HostCall) × Claims index closes hand.old.view hand.new.view
             × (result ≡ raised (close_faults closes) 0)

@@ -5,7 +5,7 @@ ghost use Rattle.brc_model.specs.declared.duty.Duty.{Duty};
 ghost use Rattle.brc_model.specs.declared.duty.Duty.TheVariants.{SetMark, Look};
 ghost use Rattle.brc_table.specs.Turns.{MayGoOn, turned_to};
 ghost use Rattle.brc_table.specs.Views.{view_after, work_about};
-ghost use Rattle.brc_table.specs.Hands.{IsOf};
+ghost use Rattle.brc_table.specs.Hands.{IsOf, KeepsButView};
 ghost use Rattle.brc_table.specs.Calls.{CanAct};
 ghost use Rattle.brc_heap.specs.Calls.{Leaves};
 ghost use Rattle.brc_heap.specs.Marks.{look_answer, look_left, looked_after};
@@ -61,12 +61,10 @@ impl<'h, T: Drop> Queue<'h, T> {
     pub(crate) fn set_mark(&self, hand: &mut Hand<T>, row: u32, work: Work)
         requires table { IsOf self.now hand.old }
         requires may { MayGoOn work hand.old.view }
-        requires duty { MarksNext row (turned_to work hand.old.view row).agenda }
-        ensures table { hand.new.table ≡ hand.old.table }
-        ensures carried { hand.new.carried ≡ hand.old.carried }
-        ensures slots { hand.new.slots ≡ hand.old.slots }
+        requires duty { MarksNext row (turned_to work hand.old.view row).actor.agenda }
+        ensures kept { KeepsButView hand.old hand.new }
         ensures events { hand.new.view ≡ view_after (turned_to work hand.old.view row) 0 }
-        ensures left { (rest : List Duty) → (turned_to work hand.old.view row).agenda ≡ SetMark row ∷ rest
+        ensures left { (rest : List Duty) → (turned_to work hand.old.view row).actor.agenda ≡ SetMark row ∷ rest
             → HasStepped (turned_to work hand.old.view row) (Look row ∷ rest) hand.new.view }
     {
         let words = self.heap.words();
@@ -99,13 +97,11 @@ impl<'h, T: Drop> Queue<'h, T> {
     pub(crate) fn look_after(&self, hand: &mut Hand<T>, row: u32, work: Work) -> Looked
         requires table { IsOf self.now hand.old }
         requires may { MayGoOn work hand.old.view }
-        requires duty { LooksNext row (turned_to work hand.old.view row).agenda }
-        ensures table { hand.new.table ≡ hand.old.table }
-        ensures carried { hand.new.carried ≡ hand.old.carried }
-        ensures slots { hand.new.slots ≡ hand.old.slots }
+        requires duty { LooksNext row (turned_to work hand.old.view row).actor.agenda }
+        ensures kept { KeepsButView hand.old hand.new }
         ensures events { (said : ℕ) × (found : ℕ) × (result ≡ look_answer said found)
             × (hand.new.view ≡ looked_after (turned_to work hand.old.view row) said found) }
-        ensures left { (rest : List Duty) → (turned_to work hand.old.view row).agenda ≡ Look row ∷ rest
+        ensures left { (rest : List Duty) → (turned_to work hand.old.view row).actor.agenda ≡ Look row ∷ rest
             → HasStepped (turned_to work hand.old.view row) (look_left row result ++ rest) hand.new.view }
     {
         let words = self.heap.words();

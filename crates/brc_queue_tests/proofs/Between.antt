@@ -29,8 +29,8 @@ main_holds {heap} {main} layout table is = record {
   table = table;
   running = subst IsRunning (sym is) (refl, tt);
   rests = ap open_work is;
-  head = ap (λ (v : View). v.head) is;
-  locked_is = ap (λ (v : View). v.locked) is;
+  head = ap (λ (v : View). v.actor.head) is;
+  locked_is = ap (λ (v : View). v.actor.locked) is;
   returned = tt;
   references = ap (λ (v : View). v.references) is;
 }
@@ -42,8 +42,8 @@ worker_holds {heap} {hand} thread table is = record {
   table = table;
   running = subst IsRunning (sym is) (refl, tt);
   rests = ap open_work is;
-  head = ap (λ (v : View). v.head) is;
-  locked_is = ap (λ (v : View). v.locked) is;
+  head = ap (λ (v : View). v.actor.head) is;
+  locked_is = ap (λ (v : View). v.actor.locked) is;
   returned = tt;
   references = ap (λ (v : View). v.references) is;
 }
@@ -63,15 +63,15 @@ pub free_at_rest : {heap : TableState} {hand : HandState} {item locked : Option 
     → IsFree hand.view
 free_at_rest {heap} {hand} rest = record {
   running = rest.running.0;
-  agenda = no_first hand.view.agenda hand.view.aside rest.rests;
-  aside = no_second hand.view.agenda hand.view.aside rest.rests;
+  agenda = no_first hand.view.actor.agenda hand.view.actor.aside rest.rests;
+  aside = no_second hand.view.actor.agenda hand.view.actor.aside rest.rests;
 }
 
 -- What a hand has to show for it to rest after a call.
 rests_again : {heap : TableState} {before after : HandState} {item locked next now : Option ℕ}
     → IsResting heap before item locked → IsOf heap after → after.view.layout ≡ before.view.layout
-    → after.view.status ≡ before.view.status → MayWait after.view.agenda → open_work after.view ≡ []
-    → after.view.head ≡ 0 → after.view.locked ≡ now → HasBack after now
+    → after.view.actor.status ≡ before.view.actor.status → MayWait after.view.actor.agenda → open_work after.view ≡ []
+    → after.view.actor.head ≡ 0 → after.view.actor.locked ≡ now → HasBack after now
     → after.view.references ≡ with_item before.view.layout (word_of next) (root_row ∷ [])
     → IsResting heap after next now
 rests_again {heap} {before} {after} {item} {locked} {next} {now} rest table layout status waits work head is back
@@ -87,8 +87,8 @@ rests_again {heap} {before} {after} {item} {locked} {next} {now} rest table layo
 
 -- Beside the row's work, there is none.
 none_beside : {heap : TableState} {before : HandState} {item locked : Option ℕ} (x : ℕ) (after : View)
-    → IsResting heap before item locked → after.agenda ≡ []
-    → after.aside ≡ filter (λ d. not (is_about x d)) (open_work before.view) → open_work after ≡ []
+    → IsResting heap before item locked → after.actor.agenda ≡ []
+    → after.actor.aside ≡ filter (λ d. not (is_about x d)) (open_work before.view) → open_work after ≡ []
 none_beside x after rest agenda aside =
     ap (λ (ds : List Duty). ds ++ after.aside) agenda
     ∙ (aside ∙ ap (filter (λ (d : Duty). not (is_about x d))) rest.rests)
@@ -112,7 +112,7 @@ pub after_giving : {heap : TableState} {before after : HandState} (thread : ℕ)
     → IsOf heap after → HasGiven thread before.view after.view → Holds heap after None
 after_giving {heap} {before} {after} thread rest table gives =
     rests_again rest table gives.layout gives.status (subst MayWait (sym gives.agenda) tt)
-    (ap (λ (ds : List Duty). ds ++ after.view.aside) gives.agenda ∙ (gives.aside ∙ rest.rests))
+    (ap (λ (ds : List Duty). ds ++ after.view.actor.aside) gives.agenda ∙ (gives.aside ∙ rest.rests))
     (gives.head ∙ rest.head) (gives.sight.locked ∙ rest.locked_is) tt
     (gives.references ∙ rest.references)
 
@@ -127,7 +127,7 @@ back_again before after (Some x) slots same back = record {
 -- and a call about a row, after which nothing is to be done, leaves it with these references.
 pub after_call : {heap : TableState} {before after : HandState} {item locked : Option ℕ} (next : Option ℕ) (x : ℕ)
     → IsResting heap before item locked → IsOf heap after → Leaves x [] before.view after.view
-    → after.view.head ≡ before.view.head → after.slots ≡ before.slots
+    → after.view.actor.head ≡ before.view.actor.head → after.slots ≡ before.slots
     → after.view.references ≡ with_item before.view.layout (word_of next) (root_row ∷ [])
     → IsResting heap after next locked
 after_call {heap} {before} {after} {item} {locked} next x rest table leaves head slots references =
@@ -142,7 +142,7 @@ after_call {heap} {before} {after} {item} {locked} next x rest table leaves head
 after_list : {heap : TableState} {before after : HandState} {item locked next now : Option ℕ}
     (references : List ℕ) (slot : ℕ) → IsResting heap before item locked → IsOf heap after
     → Keeps (record before.view { references = references; in_slot = slot }) after.view
-    → after.view.locked ≡ now → HasBack after now
+    → after.view.actor.locked ≡ now → HasBack after now
     → references ≡ with_item before.view.layout (word_of next) (root_row ∷ []) → IsResting heap after next now
 after_list references slot rest table keeps is back all =
     rests_again rest table keeps.layout keeps.status keeps.waits (keeps.work ∙ rest.rests) (keeps.head ∙ rest.head)
@@ -151,7 +151,7 @@ after_list references slot rest table keeps is back all =
 -- as one that asks,
 pub after_asking : {heap : TableState} {before after : HandState} {item locked : Option ℕ}
     → IsResting heap before item locked → IsOf heap after → Keeps before.view after.view
-    → after.view.locked ≡ before.view.locked → after.slots ≡ before.slots → IsResting heap after item locked
+    → after.view.actor.locked ≡ before.view.actor.locked → after.slots ≡ before.slots → IsResting heap after item locked
 after_asking {heap} {before} {after} {item} {locked} rest table keeps same slots =
     after_list before.view.references before.view.in_slot rest table keeps (same ∙ rest.locked_is)
     (back_again before after locked slots keeps.taken_slot rest.returned) rest.references
@@ -160,7 +160,8 @@ after_asking {heap} {before} {after} {item} {locked} rest table keeps same slots
 pub after_lock : {heap : TableState} {before after : HandState} {item : Option ℕ} (row : ℕ) (result : Bool)
     → Holds heap before item → IsOf heap after → KeepsButSlot before.view after.view
     → after.slots ≡ (if result then (row, after.view.in_slot) ∷ before.slots else before.slots)
-    → after.view.locked ≡ (if result then Some row else None) → result ≡ true → IsResting heap after item (Some row)
+    → after.view.actor.locked ≡ (if result then Some row else None) → result ≡ true → IsResting heap after item
+    (Some row)
 after_lock row false rest table keeps slots locked is = absurd cc
 after_lock {heap} {before} {after} row true rest table keeps slots locked is =
     after_list before.view.references after.view.in_slot rest table keeps locked
@@ -169,7 +170,7 @@ after_lock {heap} {before} {after} row true rest table keeps slots locked is =
 -- a lock that another thread has just now,
 pub after_miss : {heap : TableState} {before after : HandState} {item : Option ℕ} (row : ℕ) (result : Bool)
     → Holds heap before item → IsOf heap after → KeepsButSlot before.view after.view
-    → after.view.locked ≡ (if result then Some row else None) → result ≡ false → Holds heap after item
+    → after.view.actor.locked ≡ (if result then Some row else None) → result ≡ false → Holds heap after item
 after_miss row true rest table keeps locked is = absurd cc
 after_miss {heap} {before} {after} row false rest table keeps locked is =
     after_list before.view.references after.view.in_slot rest table keeps locked tt rest.references
@@ -178,7 +179,7 @@ after_miss {heap} {before} {after} row false rest table keeps locked is =
 pub after_swap : {heap : TableState} {before after : HandState} {item : Option ℕ} (row cell found : ℕ)
     (next : Option ℕ) → IsResting heap before item (Some row) → IsOf heap after → KeepsBesides before.view after.view
     → SwapsItem row cell (word_of item) found before.view after.view → next ≡ row_in found
-    → after.slots ≡ before.slots → after.view.locked ≡ Some row → IsResting heap after next (Some row)
+    → after.slots ≡ before.slots → after.view.actor.locked ≡ Some row → IsResting heap after next (Some row)
 after_swap {heap} {before} {after} {item} row cell found next rest table keeps swaps is slots locked =
     let layout = before.view.layout in
     let word : word_of next ≡ found = ap word_of is ∙ word_row found in
@@ -192,7 +193,7 @@ after_swap {heap} {before} {after} {item} row cell found next rest table keeps s
 -- or an unlock.
 pub after_unlock : {heap : TableState} {before after : HandState} {item : Option ℕ} (row : ℕ)
     → IsResting heap before item (Some row) → IsOf heap after → Keeps before.view after.view
-    → after.view.locked ≡ None → Holds heap after item
+    → after.view.actor.locked ≡ None → Holds heap after item
 after_unlock {heap} {before} {after} row rest table keeps locked =
     after_list before.view.references before.view.in_slot rest table keeps locked tt rest.references
 
@@ -207,11 +208,11 @@ comes_to_settle {heap} {before} {after} x rest released =
 
 -- and rests.
 pub after_release : {heap : TableState} {before after : HandState} {between : View} {closes : List HostCall} (x : ℕ)
-    → Holds heap before (Some x) → HasReleased x before.view between → IsOf heap after → after.view.head ≡ 0
+    → Holds heap before (Some x) → HasReleased x before.view between → IsOf heap after → after.view.actor.head ≡ 0
     → HasWorked (to_settle [] between) closes [] after.view → Holds heap after None
 after_release {heap} {before} {after} {between} x rest released table head worked =
     let layout = before.view.layout in
-    let none : after.view.agenda ≡ [] = worked.agenda in
+    let none : after.view.actor.agenda ≡ [] = worked.agenda in
     rests_again rest table (worked.keeps.layout ∙ released.layout) (worked.keeps.status ∙ released.status)
     (subst MayWait (sym none) tt)
     (none_beside x after.view rest none (worked.keeps.aside ∙ released.aside)) head
@@ -222,8 +223,8 @@ after_release {heap} {before} {after} {between} x rest released table head worke
 
 -- So it does after it has looked through its queue.
 pub after_looking : {heap : TableState} {before after : HandState} → Holds heap before None → IsOf heap after
-    → IsFree after.view → after.view.head ≡ 0 → steps.Keeps before.view after.view → Holds heap after None
+    → IsFree after.view → after.view.actor.head ≡ 0 → steps.Keeps before.view after.view → Holds heap after None
 after_looking {heap} {before} {after} rest table free head keeps =
     rests_again rest table keeps.layout keeps.status (subst MayWait (sym free.agenda) tt)
-    (ap (λ (ds : List Duty). ds ++ after.view.aside) free.agenda ∙ free.aside) head
+    (ap (λ (ds : List Duty). ds ++ after.view.actor.aside) free.agenda ∙ free.aside) head
     (keeps.locked ∙ rest.locked_is) tt (keeps.references ∙ rest.references)

@@ -13,11 +13,11 @@ pub main_holds : {heap : TableState} {main : HandState} → IsOf heap main → m
 main_holds {heap} {main} table is none = record {
   table = table;
   layout = ap (λ (v : View). v.layout) is;
-  status = ap (λ (v : View). v.status) is;
-  agenda = ap (λ (v : View). v.agenda) is;
-  aside = ap (λ (v : View). v.aside) is;
+  status = ap (λ (v : View). v.actor.status) is;
+  agenda = ap (λ (v : View). v.actor.agenda) is;
+  aside = ap (λ (v : View). v.actor.aside) is;
   references = ap (λ (v : View). v.references) is;
-  unlocked = ap (λ (v : View). v.locked) is;
+  unlocked = ap (λ (v : View). v.actor.locked) is;
   none = none shared_row;
 }
 
@@ -27,11 +27,11 @@ pub worker_holds : {heap : TableState} {hand : HandState} (thread : ℕ) → hea
 worker_holds {heap} {hand} thread small table is none = record {
   table = table;
   layout = table.1 ∙ small;
-  status = ap (λ (v : View). v.status) is;
-  agenda = ap (λ (v : View). v.agenda) is;
-  aside = ap (λ (v : View). v.aside) is;
+  status = ap (λ (v : View). v.actor.status) is;
+  agenda = ap (λ (v : View). v.actor.agenda) is;
+  aside = ap (λ (v : View). v.actor.aside) is;
   references = ap (λ (v : View). v.references) is;
-  unlocked = ap (λ (v : View). v.locked) is;
+  unlocked = ap (λ (v : View). v.actor.locked) is;
   none = none shared_row;
 }
 

@@ -30,8 +30,8 @@ no_second (d ∷ ds) es e = absurd cc
 pub free_at_rest : {heap : TableState} {hand : HandState} → IsAtRest heap hand None → IsFree hand.view
 free_at_rest {heap} {hand} rest = record {
   running = rest.running.0;
-  agenda = no_first hand.view.agenda hand.view.aside rest.rests;
-  aside = no_second hand.view.agenda hand.view.aside rest.rests;
+  agenda = no_first hand.view.actor.agenda hand.view.actor.aside rest.rests;
+  aside = no_second hand.view.actor.agenda hand.view.actor.aside rest.rests;
 }
 
 -- Main still has no work after it has given out a worker's hand,
@@ -40,7 +40,7 @@ pub rests_after_giving : {heap : TableState} {before after : HandState} {thread 
 rests_after_giving {heap} {before} {after} rest table gives = record {
   table = table;
   running = (gives.status ∙ rest.running.0, subst MayWait (sym gives.agenda) tt);
-  rests = ap (λ (ds : List Duty). ds ++ after.view.aside) gives.agenda ∙ (gives.aside ∙ rest.rests);
+  rests = ap (λ (ds : List Duty). ds ++ after.view.actor.aside) gives.agenda ∙ (gives.aside ∙ rest.rests);
   locked_is = gives.sight.locked ∙ rest.locked_is;
   returned = tt;
 }
@@ -63,7 +63,7 @@ rests_after_call {heap} {before} {after} {x} rest table leaves = record {
   table = table;
   running = (leaves.status ∙ rest.running.0, leaves.waits);
   rests =
-      ap (λ (ds : List Duty). ds ++ after.view.aside) leaves.agenda
+      ap (λ (ds : List Duty). ds ++ after.view.actor.aside) leaves.agenda
       ∙ (leaves.aside ∙ ap (filter (λ (d : Duty). not (is_about x d))) rest.rests);
   locked_is = leaves.sight.locked ∙ rest.locked_is;
   returned = tt;
@@ -76,7 +76,7 @@ rests_after_release {heap} {before} {after} {x} rest table released = record {
   table = table;
   running = (released.status ∙ rest.running.0, subst MayWait (sym released.agenda) tt);
   rests =
-      ap (λ (ds : List Duty). ds ++ after.view.aside) released.agenda
+      ap (λ (ds : List Duty). ds ++ after.view.actor.aside) released.agenda
       ∙ (released.aside ∙ ap (filter (λ (d : Duty). not (is_about x d))) rest.rests);
   locked_is = released.locked ∙ rest.locked_is;
   returned = tt;
@@ -89,15 +89,15 @@ settles_at_rest rest = let free = free_at_rest rest in AtOnce free.running free.
 -- and has no work then.
 pub rests_after_settling : {heap : TableState} {before after : HandState} {closes : List HostCall}
     → IsAtRest heap before None
-    → IsOf heap after → after.view.head ≡ 0 → HasWorked (to_settle [] before.view) closes [] after.view
+    → IsOf heap after → after.view.actor.head ≡ 0 → HasWorked (to_settle [] before.view) closes [] after.view
     → IsAtRest heap after None
 rests_after_settling {heap} {before} {after} rest table empty stands =
-    let none : after.view.agenda ≡ [] = stands.agenda in
+    let none : after.view.actor.agenda ≡ [] = stands.agenda in
     record {
       table = table;
       running = (stands.keeps.status ∙ rest.running.0, subst MayWait (sym none) tt);
       rests =
-          ap (λ (ds : List Duty). ds ++ after.view.aside) none
+          ap (λ (ds : List Duty). ds ++ after.view.actor.aside) none
           ∙ (stands.keeps.aside ∙ (free_at_rest rest).aside);
       locked_is = stands.keeps.locked ∙ rest.locked_is;
       returned = tt;
@@ -147,7 +147,7 @@ without_second x y rows apart =
     ∙ ap (λ (ys : List ℕ). y ∷ ys) (without_first x rows)
 
 -- A hand that has locked another object may give up any reference to this one.
-pub keeps_other : (v : View) (x y : ℕ) → v.locked ≡ Some y → (y == x) ≡ false → KeepsLock v x
+pub keeps_other : (v : View) (x y : ℕ) → v.actor.locked ≡ Some y → (y == x) ≡ false → KeepsLock v x
 keeps_other v x y locked apart = λ this.
     let same : Some y ≡ Some x = sym locked ∙ this in
     absurd (let wrong : true ≡ false = sym (eq-eqb y x cc) ∙ apart in cc)

@@ -23,7 +23,7 @@ holds_first v x rest is =
 
 -- It may put the object into a cell of the root, which it has locked,
 pub may_put : (v : View) (x : ℕ) (rest : List ℕ) → v.references ≡ x ∷ rest → open_work v ≡ []
-    → v.locked ≡ Some root_row → x ≢ root_row → MayPut v (suc x)
+    → v.actor.locked ≡ Some root_row → x ≢ root_row → MayPut v (suc x)
 may_put v x rest is rests locked apart = (
   inr (holds_first v x rest is),
   ap (filter (is_about x)) rests,

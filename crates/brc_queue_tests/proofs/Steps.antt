@@ -21,7 +21,7 @@ use Rattle.brc_queue_tests.specs.Sharing.{HasWork, shared_row}
 pub open_is : {heap : TableState} {hand : HandState} {rows : List ℕ} {work : List Duty} → HasWork heap hand rows work
     → open_work hand.view ≡ work
 open_is {heap} {hand} {rows} {work} has =
-    ap (λ (ds : List Duty). ds ++ hand.view.aside) has.agenda
+    ap (λ (ds : List Duty). ds ++ hand.view.actor.aside) has.agenda
     ∙ (ap (λ (ds : List Duty). work ++ ds) has.aside ∙ append-nil work)
 
 -- A hand still carries nothing from the shared row after a call that leaves what it carries.

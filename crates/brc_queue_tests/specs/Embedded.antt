@@ -16,8 +16,8 @@ pub record IsResting (heap : TableState) (hand : HandState) (item locked : Optio
   pub table : IsOf heap hand
   pub running : IsRunning hand.view
   pub rests : open_work hand.view ≡ []
-  pub head : hand.view.head ≡ 0
-  pub locked_is : hand.view.locked ≡ locked
+  pub head : hand.view.actor.head ≡ 0
+  pub locked_is : hand.view.actor.locked ≡ locked
   pub returned : HasBack hand locked
   pub references : hand.view.references ≡ with_item hand.view.layout (word_of item) (root_row ∷ [])
 

@@ -14,5 +14,5 @@ pub record IsAtRest (heap : TableState) (hand : HandState) (locked : Option ℕ)
   pub table : IsOf heap hand
   pub running : IsRunning hand.view
   pub rests : open_work hand.view ≡ []
-  pub locked_is : hand.view.locked ≡ locked
+  pub locked_is : hand.view.actor.locked ≡ locked
   pub returned : HasBack hand locked

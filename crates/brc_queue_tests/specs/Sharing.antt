@@ -21,11 +21,11 @@ shared_row = 2
 pub record HasWork (heap : TableState) (hand : HandState) (rows : List ℕ) (work : List Duty) : Type 0 where
   pub table : IsOf heap hand
   pub layout : hand.view.layout ≡ small_layout
-  pub status : hand.view.status ≡ Running
-  pub agenda : hand.view.agenda ≡ work
-  pub aside : hand.view.aside ≡ []
+  pub status : hand.view.actor.status ≡ Running
+  pub agenda : hand.view.actor.agenda ≡ work
+  pub aside : hand.view.actor.aside ≡ []
   pub references : hand.view.references ≡ rows
-  pub unlocked : hand.view.locked ≡ None
+  pub unlocked : hand.view.actor.locked ≡ None
   pub none : carried_of hand shared_row ≡ None
 
 -- The hand has nothing to do, and holds one reference, to the root.

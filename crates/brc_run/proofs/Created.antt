@@ -84,7 +84,8 @@ module _ (end : EndState) (workers rows : ℕ) (same : end.layout ≡ plain_layo
       let hand : Joined = record { thread = suc k; used = t.created } in
       let is = subst (λ (l : Layout). RowsAreUsed l end.words hand) same (used k d low) in
       let most : suc k * rows ≤ workers * rows = mul-le-mul_right rows low in
-      let there : (i : ℕ) → i < rows → row_at layout (suc k) i < row_count layout = λ i below. omega (arith, most, below) in
+      let there : (i : ℕ) → i < rows → row_at layout (suc k) i < row_count layout = λ i below. omega
+      (arith, most, below) in
       let own : (i : ℕ) → i < rows → block_of layout (row_at layout (suc k) i) ≡ suc k =
       λ i below. block_at layout (suc k) i low below in
       let at : (i : ℕ) → index_of layout (suc k) (row_at layout (suc k) i) ≡ i = λ i. index_at layout (suc k) i in
@@ -122,23 +123,24 @@ module _ (end : EndState) (workers rows : ℕ) (same : end.layout ≡ plain_layo
 module _ (end : EndState) (joined : List Joined) (all : All (RowsAreUsed end.layout end.words) joined)
     (gone : List (HandState × Ran))
     (each : (k : ℕ) (w : HandState × Ran) → k < length gone → let hand = (get_or gone k w).0 in
-    Contains joined (record { thread = hand.view.thread; used = hand.view.used }))
+    Contains joined (record { thread = hand.view.thread; used = hand.view.actor.used }))
     (numbered : (k : ℕ) (w : HandState × Ran) → k < length gone → (get_or gone k w).0.view.thread ≡ k + 1)
     (counted : (k : ℕ) (w : HandState × Ran) → k < length gone
-    → (totals_of (get_or gone k w).1).created ≡ (get_or gone k w).0.view.used) where
+    → (totals_of (get_or gone k w).1).created ≡ (get_or gone k w).0.view.actor.used) where
   pub used_by_all : (k : ℕ) (d : Totals) → k < length gone
       → RowsAreUsed end.layout end.words (record { thread = suc k; used = (get_or (totals_in gone) k d).created })
   used_by_all k d low = elim (slice_get_cases gone k).1 [
     | inl some ↦
         let w = some.0 in
         let hand = (get_or gone k w).0 in
-        let joined_hand : Joined = record { thread = hand.view.thread; used = hand.view.used } in
+        let joined_hand : Joined = record { thread = hand.view.thread; used = hand.view.actor.used } in
         let is = All-contains (RowsAreUsed end.layout end.words) joined joined_hand all (each k w low) in
         let thread : hand.view.thread ≡ suc k = omega (arith, numbered k w low) in
-        let used : hand.view.used ≡ (get_or (totals_in gone) k d).created =
+        let used : hand.view.actor.used ≡ (get_or (totals_in gone) k d).created =
         sym (counted k w low)
         ∙ ap (λ (t : Totals). t.created) (sym (get_or-map (λ (v : HandState × Ran). totals_of v.1) gone k w d low)) in
         subst (λ (n : ℕ). RowsAreUsed end.layout end.words (record { thread = suc k; used = n })) used
-        (subst (λ (t : ℕ). RowsAreUsed end.layout end.words (record { thread = t; used = hand.view.used })) thread is)
+        (subst (λ (t : ℕ). RowsAreUsed end.layout end.words (record { thread = t; used = hand.view.actor.used }))
+        thread is)
     | inr past ↦ absurd (omega (arith, past.0, low))
   ]

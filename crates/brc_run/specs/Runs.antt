@@ -25,8 +25,8 @@ use Rattle.brc_run.specs.Tallies.{tally_at_end}
 pub record MayEnd (v : View) : Type 0 where
   pub thread : v.thread ≡ 0
   pub free : IsFree v
-  pub settled : v.head ≡ 0
-  pub unlocked : v.locked ≡ None
+  pub settled : v.actor.head ≡ 0
+  pub unlocked : v.actor.locked ≡ None
   pub root : v.references ≡ root_row ∷ []
 
 -- what each worker has counted
@@ -34,10 +34,10 @@ abbrev pub totals_in : List (HandState × Ran) → List Totals
 totals_in gone = map (λ w. totals_of w.1) gone
 
 -- The tally of a run with this number of workers, and of rows for each. Each worker makes the call `call.times` times,
--- or is stopped where it has begun `steps` instructions: its thread is gone, and has made the events of the calls, those
--- of its stop, if it was stopped, and then those of its exit, and its host was asked for just what they ask. The tally
--- is of the end of the heap that they share, at which each thread is gone, of what each worker has counted of its host's
--- answers, and of the closes of main that failed.
+-- or is stopped where it has begun `steps` instructions: its thread is gone, and has made the events of the calls,
+-- those of its stop, if it was stopped, and then those of its exit, and its host was asked for just what they ask. The
+-- tally is of the end of the heap that they share, at which each thread is gone, of what each worker has counted of its
+-- host's answers, and of the closes of main that failed.
 pub record IsTallyOf {S : Type 0} (answers : S → HostCall → S → Type 0) (counts : S → HostCounts) (m : Module)
     (workers rows : ℕ) (call : Call) (steps close_faults : ℕ) (tally : Tally) : Type 0 where
   pub heap : TableState

@@ -79,12 +79,12 @@ fn joined<T: Drop>(
 ) -> Result<Vec<Totals>, RunFault>
     requires of { IsOf heap.now main.old }
     requires gone { (k : ℕ) (w : _) → k < vec_len gone → let hand = (slice_index_or gone.items k w).0 in
-        IsOf heap.now hand × (hand.view.status ≡ Gone) × (hand.slots ≡ []) }
+        IsOf heap.now hand × (hand.view.actor.status ≡ Gone) × (hand.slots ≡ []) }
     ensures of { IsOf heap.now main.new }
     ensures main { main.new.view.thread ≡ main.old.view.thread }
     ensures totals { IfOk result (λ totals. totals.items ≡ totals_in gone.items) }
     ensures each { OnOk result ((k : ℕ) (w : _) → k < vec_len gone → let hand = (slice_index_or gone.items k w).0 in
-        HasJoined main.new.view (record { thread = hand.view.thread; used = hand.view.used })) }
+        HasJoined main.new.view (record { thread = hand.view.thread; used = hand.view.actor.used })) }
     ensures fault { IfErr result (λ fault. fault ≡ RunFault.NoMemory) }
 {
     let totals = totals_of(alloc, gone.as_slice())?;

@@ -91,11 +91,14 @@ counts_within (x ∷ xs) (suc i) some = omega (arith, counts_within xs i some)
 
 -- One more for the row x, or one less: its own count changes, and no other one.
 pub set_to : (xs : List ℕ) (x v z : ℕ) (ns : List ℕ) (n : ℕ) → ns ≡ slice_set xs x v → n ≡ slice_index_or xs z 0
-    → ((x ≡ z → z < length xs → slice_index_or ns z 0 ≡ v) × (x ≢ z → slice_index_or ns z 0 ≡ n)) × (length ns ≡ length xs)
+    → ((x ≡ z → z < length xs → slice_index_or ns z 0 ≡ v) × (x ≢ z → slice_index_or ns z 0 ≡ n))
+    × (length ns ≡ length xs)
 set_to xs x v z ns n is was = (
   (
-    λ e low. ap (λ (ys : List ℕ). slice_index_or ys z 0) is ∙ get_or-set_at xs x z v 0 (sym e) (subst (λ (k : ℕ). k < length xs) (sym e) low),
-    λ apart. ap (λ (ys : List ℕ). slice_index_or ys z 0) is ∙ (get_or-set_other xs x z v 0 (λ e. apart (sym e)) ∙ sym was),
+    λ e low. ap (λ (ys : List ℕ). slice_index_or ys z 0) is ∙ get_or-set_at xs x z v 0 (sym e)
+        (subst (λ (k : ℕ). k < length xs) (sym e) low),
+    λ apart. ap (λ (ys : List ℕ). slice_index_or ys z 0) is ∙ (get_or-set_other xs x z v 0 (λ e. apart (sym e))
+        ∙ sym was),
   ),
   ap length is ∙ length-set xs x v,
 )
@@ -129,7 +132,8 @@ agree_less counts after rows x agree some is z low =
       | inl same ↦
           let e = eqb-true x z same in
           let less = times_less x rows (omega (arith, some, held)) in
-          sets.0.0 e within ∙ (let n : slice_index_or counts x 0 - 1 ≡ times x (without_one x rows) = omega (arith, less, held, some) in
+          sets.0.0 e within ∙ (let n : slice_index_or counts x 0 - 1 ≡ times x (without_one x rows) = omega
+          (arith, less, held, some) in
           n ∙ ap (λ (k : ℕ). times k (without_one x rows)) e)
       | inr apart ↦
           let e = eqb-false x z apart in
@@ -225,7 +229,8 @@ pub found_is : (layout : Layout) (found : ℕ) (rows : List ℕ) → IsPlainLayo
     → with_item layout found rows ≡ with_found (row_in found) rows
 found_is layout zero rows plain = refl
 found_is layout (suc zero) rows plain = refl
-found_is layout (suc (suc y)) rows plain = lists_one_more {layout = layout} {other = layout} (suc y) rows (some_counted {layout = layout} (suc y) plain (ne_eqb (suc y) 0 (λ e. absurd cc))) refl
+found_is layout (suc (suc y)) rows plain = lists_one_more {layout = layout} {other = layout} (suc y) rows
+(some_counted {layout = layout} (suc y) plain (ne_eqb (suc y) 0 (λ e. absurd cc))) refl
 
 -- So these references are left when the hand has put an item into a cell.
 pub put_leaves : (layout other : Layout) (found item : ℕ) (answer : Option ℕ) (rows later : List ℕ)

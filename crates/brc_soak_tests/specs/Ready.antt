@@ -17,17 +17,17 @@ pub record IsResting (heap : TableState) (hand : HandState) (locked : Option ℕ
   pub table : IsOf heap hand
   pub running : IsRunning hand.view
   pub rests : open_work hand.view ≡ []
-  pub locked_is : hand.view.locked ≡ locked
+  pub locked_is : hand.view.actor.locked ≡ locked
   pub returned : HasBack hand locked
 
 -- The hand was just given out: it has done nothing yet, and holds one reference, to the root.
 pub record IsFresh (heap : TableState) (hand : HandState) : Type 0 where
   pub table : IsOf heap hand
-  pub status : hand.view.status ≡ Running
-  pub agenda : hand.view.agenda ≡ []
-  pub aside : hand.view.aside ≡ []
+  pub status : hand.view.actor.status ≡ Running
+  pub agenda : hand.view.actor.agenda ≡ []
+  pub aside : hand.view.actor.aside ≡ []
   pub references : hand.view.references ≡ root_row ∷ []
-  pub unlocked : hand.view.locked ≡ None
+  pub unlocked : hand.view.actor.locked ≡ None
 
 -- a fact that a struct can keep
 pub fresh-prop : (heap : TableState) (hand : HandState) → IsProp (IsFresh heap hand)

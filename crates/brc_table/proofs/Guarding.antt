@@ -121,7 +121,8 @@ module _ (layout : Layout) (words : List ℕ) (views : List View) (v : View) (d 
       it.stands.reads a has ∙ plain (slice_index words (place a)) in
       let at : address_of now.layout v.thread v.actor.head d ≡ a =
       subst (λ (l : Layout). address_of l v.thread v.actor.head d ≡ a) (sym it.stands.layout_is) it.at in
-      let after : (machine_by_duty now v.thread v.actor d it.rest).memory a ≡ new_word v.thread v.actor.head d (now.memory a) =
+      let after : (machine_by_duty now v.thread v.actor d it.rest).memory a ≡ new_word v.thread v.actor.head d
+      (now.memory a) =
       ap (λ (b : Address). written now.memory b (new_word v.thread v.actor.head d (now.memory b)) a) at
       ∙ written_here now.memory a (new_word v.thread v.actor.head d (now.memory a)) in
       it.other (ap (new_word v.thread v.actor.head d) (sym found) ∙ (sym after ∙ (same ∙ found)))

@@ -244,10 +244,12 @@ module _ (kept : DutiesAreKept) (within : DutiesAreWithin) (stay : GuardedCellsS
     no_slot (ThreadWord t) word x table = refl
 
     -- The rule holds after the step, which changes no slot.
-    pub passes_after : Passes layout (set words (place_of v d) left) (set views id (view_by v (d ∷ rest) found)) [] None m
+    pub passes_after : Passes layout (set words (place_of v d) left) (set views id (view_by v (d ∷ rest) found)) []
+        None m
     unfolding changes
     passes_after =
-        passes layout words views id v (view_by v (d ∷ rest) found) does.stands does.here (set words (place_of v d) left)
+        passes layout words views id v (view_by v (d ∷ rest) found) does.stands does.here
+        (set words (place_of v d) left)
         changes [] None (λ x which.
         let a = v.actor in
         let address = address_of m.layout v.thread a.head d in

@@ -64,7 +64,8 @@ impl<T: Drop> Words<T> {
         requires slot { HoldsItsOwn hand.old row }
         ensures table { hand.new.table ≡ hand.old.table }
         ensures carried { hand.new.carried ≡ hand.old.carried }
-        ensures view { hand.new.view ≡ view_after (slot_filled hand.old.view) (overwritten (slot_filled hand.old.view)) }
+        ensures view { hand.new.view ≡ view_after (slot_filled hand.old.view)
+            (overwritten (slot_filled hand.old.view)) }
         ensures slots { hand.new.slots ≡ behind_slot hand.old.slots }
     {
         duties_are_kept();

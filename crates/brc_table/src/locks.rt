@@ -59,7 +59,8 @@ impl<T: Drop> Words<T> {
         requires slot { FirstSlot hand.old.slots row hand.old.view.in_slot }
         ensures table { hand.new.table ≡ hand.old.table }
         ensures carried { hand.new.carried ≡ hand.old.carried }
-        ensures view { hand.new.view ≡ view_after (unlocking hand.old.view row) (overwritten (unlocking hand.old.view row)) }
+        ensures view { hand.new.view ≡ view_after (unlocking hand.old.view row)
+            (overwritten (unlocking hand.old.view row)) }
         ensures slots { hand.new.slots ≡ behind_slot hand.old.slots }
     {
         work_is_put_aside();

@@ -37,7 +37,8 @@ seen_knows v u x (suc word) kind plain sees is = elim (cases_Bool (is_immortal_r
   | inr counted ↦ HasSeen (suc word) counted (omega arith) sees.seen is
 ]
 
-owns_kind : (y : ℕ) (slot : VarState) (kind : Kind) (row : Option ℕ) → owns y (with_kind slot kind) row ≡ owns y slot row
+owns_kind : (y : ℕ) (slot : VarState) (kind : Kind) (row : Option ℕ) → owns y (with_kind slot kind) row
+    ≡ owns y slot row
 owns_kind y Empty kind row = refl
 owns_kind y (Owned k) kind None = refl
 owns_kind y (Owned k) kind (Some x) = refl

@@ -46,7 +46,7 @@ called_ready hand after ready called = record {
 
 -- A hand that has looked through its queue holds what it held.
 pub looked_called : (hand after : HandState) → IsReady hand → Keeps hand.view after.view → IsFree after.view
-    → after.view.head ≡ 0 → after.table ≡ hand.table → after.carried ≡ hand.carried → after.slots ≡ hand.slots
+    → after.view.actor.head ≡ 0 → after.table ≡ hand.table → after.carried ≡ hand.carried → after.slots ≡ hand.slots
     → HasCalled hand after
 looked_called hand after ready keeps free settled table carried slots = record {
   follows = follows_by hand after table keeps.layout keeps.thread keeps.given carried (omega (arith, keeps.used));

@@ -28,14 +28,14 @@ no_second (x ∷ xs) ys none = absurd cc
 
 -- A hand that rests has no work.
 pub no_work : (hand : HandState) → Rests hand → open_work hand.view ≡ []
-no_work hand rests = ap (λ (ds : List Duty). ds ++ hand.view.aside) rests.agenda ∙ rests.aside
+no_work hand rests = ap (λ (ds : List Duty). ds ++ hand.view.actor.aside) rests.agenda ∙ rests.aside
 
 -- ---- calls
 
 -- The hand is the same one, later.
 pub follows_by : (hand after : HandState) → after.table ≡ hand.table → after.view.layout ≡ hand.view.layout
     → after.view.thread ≡ hand.view.thread → after.view.given ≡ hand.view.given → after.carried ≡ hand.carried
-    → hand.view.used ≤ after.view.used → IsLater hand after
+    → hand.view.actor.used ≤ after.view.actor.used → IsLater hand after
 follows_by hand after table layout thread given carried used = record {
   table = table;
   layout = layout;
@@ -48,7 +48,7 @@ follows_by hand after table layout thread given carried used = record {
 -- A call about one row that leaves no work.
 pub left_acts : (hand after : HandState) (x : ℕ) → Rests hand → Leaves x [] hand.view after.view
     → after.table ≡ hand.table → after.carried ≡ hand.carried → after.slots ≡ hand.slots
-    → after.view.head ≡ hand.view.head → ActsElsewhere hand after
+    → after.view.actor.head ≡ hand.view.actor.head → ActsElsewhere hand after
 left_acts hand after x rests left table carried slots head = record {
   acts = record {
     follows = follows_by hand after table left.layout left.thread left.given carried (omega (arith, left.used));
@@ -76,8 +76,8 @@ born_acts hand after rests born table carried slots =
         follows = follows_by hand after table born.layout born.thread born.given carried (omega (arith, born.used));
         rests = record {
           running = born.status ∙ rests.running;
-          agenda = no_first after.view.agenda after.view.aside none;
-          aside = no_second after.view.agenda after.view.aside none;
+          agenda = no_first after.view.actor.agenda after.view.actor.aside none;
+          aside = no_second after.view.actor.agenda after.view.actor.aside none;
           settled = born.head ∙ rests.settled;
         };
         more = record { layout = born.layout; kinds = born.sight.kinds };
@@ -90,15 +90,16 @@ born_acts hand after rests born table carried slots =
 
 -- A call on a list that changes no reference.
 pub kept_acts : (hand after : HandState) → Rests hand → Keeps hand.view after.view → after.table ≡ hand.table
-    → after.carried ≡ hand.carried → after.slots ≡ hand.slots → after.view.locked ≡ hand.view.locked → Acts hand after
+    → after.carried ≡ hand.carried → after.slots ≡ hand.slots → after.view.actor.locked ≡ hand.view.actor.locked
+    → Acts hand after
 kept_acts hand after rests kept table carried slots locked =
     let none = kept.work ∙ no_work hand rests in
     record {
       follows = follows_by hand after table kept.layout kept.thread kept.given carried (omega (arith, kept.used));
       rests = record {
         running = kept.status ∙ rests.running;
-        agenda = no_first after.view.agenda after.view.aside none;
-        aside = no_second after.view.agenda after.view.aside none;
+        agenda = no_first after.view.actor.agenda after.view.actor.aside none;
+        aside = no_second after.view.actor.agenda after.view.actor.aside none;
         settled = kept.head ∙ rests.settled;
       };
       more = record { layout = kept.layout; kinds = kept.kinds };
@@ -165,13 +166,13 @@ beside_back hand references rests = record {
 
 -- A release, and what it takes to settle.
 pub released_rests : (hand mid : HandState) (x : ℕ) → Rests hand → HasReleased x hand.view mid.view
-    → mid.view.aside ≡ []
+    → mid.view.actor.aside ≡ []
 released_rests hand mid x rests released =
     released.aside ∙ ap (filter (λ (d : Duty). not (is_about x d))) (no_work hand rests)
 
 pub released_acts : (hand mid after : HandState) (x : ℕ) (closes : List HostCall) → Rests hand
     → HasReleased x hand.view mid.view
-    → HasWorked (to_settle [] mid.view) closes [] after.view → after.view.head ≡ 0 → after.table ≡ hand.table
+    → HasWorked (to_settle [] mid.view) closes [] after.view → after.view.actor.head ≡ 0 → after.table ≡ hand.table
     → after.carried ≡ hand.carried → after.slots ≡ hand.slots → ActsElsewhere hand after
 released_acts hand mid after x closes rests released worked settled table carried slots =
     let keeps = worked.keeps in
@@ -203,8 +204,8 @@ kept_rests hand after rests kept =
     let none = kept.work ∙ no_work hand rests in
     record {
       running = kept.status ∙ rests.running;
-      agenda = no_first after.view.agenda after.view.aside none;
-      aside = no_second after.view.agenda after.view.aside none;
+      agenda = no_first after.view.actor.agenda after.view.actor.aside none;
+      aside = no_second after.view.actor.agenda after.view.actor.aside none;
       settled = kept.head ∙ rests.settled;
     }
 

@@ -43,8 +43,9 @@ HaveGiven heap state first hand k rows after =
     → Stops code (place_of state.vars first) hand.view state.vars rows after.view)
 
 -- A hand whose chain is empty.
-as_unchained : (hand : HandState) → hand.view.head ≡ 0 → hand ≡ unchained hand
-as_unchained hand empty = λ i. record hand { view = record hand.view { head = empty i } }
+as_unchained : (hand : HandState) → hand.view.actor.head ≡ 0 → hand ≡ unchained hand
+as_unchained hand empty = λ i. record hand { view = record hand.view
+{ actor = record hand.view.actor { head = empty i } } }
 
 module _ (heap : TableState) (state : State) (first : List (Option ℕ)) (hand : HandState)
     (is : IsIn heap (OwnsAsMuch state) first hand) where
@@ -100,7 +101,8 @@ module _ (heap : TableState) (state : State) (first : List (Option ℕ)) (hand :
 
   -- All have given up what they owned, and the hand has settled.
   module _ (rows : List (Option ℕ)) (now after : HandState) (given : HaveGiven heap state first hand 16 rows now)
-      (cs : List HostCall) (worked : HasWorked (to_settle [] now.view) cs [] after.view) (empty : after.view.head ≡ 0)
+      (cs : List HostCall) (worked : HasWorked (to_settle [] now.view) cs [] after.view)
+      (empty : after.view.actor.head ≡ 0)
     where
       pub all_returned : after.table ≡ now.table → after.carried ≡ now.carried → after.slots ≡ now.slots → (base : Base)
           (s : State) → Fits base s first hand → OwnsAsMuch state s → HasReturned base after
@@ -179,7 +181,8 @@ pub record IsUnlocked (heap : TableState) (state : State) (rows : List (Option �
       (place_of state.vars rows) now.view
 
 module _ (heap : TableState) (state : State) (rows : List (Option ℕ)) (hand : HandState) where
-  pub unlocked_now : (now : HandState) (object : ℕ) → state.locked ≡ Some object → IsOf heap now → hand.view.agenda ≡ []
+  pub unlocked_now : (now : HandState) (object : ℕ) → state.locked ≡ Some object → IsOf heap now
+      → hand.view.actor.agenda ≡ []
       → HasDone (instructions.Unlock object) Success rows hand rows now → Unlocks object rows hand.view now.view
       → IsUnlocked heap state rows hand now
   unlocked_now now object locked of none done unlocks =

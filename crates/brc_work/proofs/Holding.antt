@@ -28,7 +28,8 @@ use Rattle.brc_work.proofs.Owning.{sum_at, sum_both, sum_lists}
 -- ---- what a slot says of its row
 
 -- A variable in use names an object.
-pub named : (held : ℕ → ℕ) (v : View) (slot : VarState) (row : Option ℕ) → is_empty slot ≡ false → SlotFits held v slot row
+pub named : (held : ℕ → ℕ) (v : View) (slot : VarState) (row : Option ℕ) → is_empty slot ≡ false
+    → SlotFits held v slot row
     → (x : ℕ) × (row ≡ Some x)
 named held v Empty row used fits = let wrong : true ≡ false = used in absurd cc
 named held v (Owned k) row used fits = (fits.object, fits.is)

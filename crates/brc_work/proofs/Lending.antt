@@ -13,7 +13,7 @@ use Rattle.brc_work.proofs.Holding.{lock_of}
 
 -- The variable names the object that the hand has locked, whose slot has a resource.
 pub record OnFile (hand : HandState) (row : ℕ) : Type 0 where
-  pub locked : hand.view.locked ≡ Some row
+  pub locked : hand.view.actor.locked ≡ Some row
   pub whole : hand.view.in_slot ≡ 1
   pub rest : List (ℕ × ℕ)
   pub slots : hand.slots ≡ (row, 1) ∷ rest

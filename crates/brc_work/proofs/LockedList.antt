@@ -33,7 +33,7 @@ use Rattle.brc_work.proofs.Trading.{less_held}
 pub record OnList (hand : HandState) (row : ℕ) : Type 0 where
   pub one : HoldsOne hand.view row
   pub held : 1 ≤ holds hand.view row
-  pub locked : hand.view.locked ≡ Some row
+  pub locked : hand.view.actor.locked ≡ Some row
   pub counted : IsCounted hand.view.layout row
 
 pub on_list : (base : Base) (s : State) (rows : List (Option ℕ)) (hand : HandState) (list row : ℕ)
@@ -53,14 +53,15 @@ on_list base s rows hand list row fits is named =
 -- The hand has asked how many cells the list has,
 pub sized_acts : (hand after : HandState) (x word : ℕ) → Rests hand → Keeps hand.view after.view
     → after.table ≡ hand.table → after.carried ≡ hand.carried → after.slots ≡ hand.slots
-    → after.view.locked ≡ hand.view.locked → after.view ≡ view_after (asking hand.view x) word → ActsElsewhere hand after
+    → after.view.actor.locked ≡ hand.view.actor.locked → after.view ≡ view_after (asking hand.view x) word
+    → ActsElsewhere hand after
 sized_acts hand after x word rests kept table carried slots locked view = record {
   acts = kept_acts hand after rests kept table carried slots locked;
   cells = asked_cells hand.view after.view x word view;
 }
 
 -- or has looked into a cell.
-pub item_cells : (v u : View) (x cell word : ℕ) → v.locked ≡ Some x → SeesItem x cell word v u → KeepsCells v u
+pub item_cells : (v u : View) (x cell word : ℕ) → v.actor.locked ≡ Some x → SeesItem x cell word v u → KeepsCells v u
 item_cells v u x cell word locks sees y i before locked seen =
     let same : x ≡ y = some_is x y (sym locks ∙ locked) in
     let here : known_cell x i v ≡ Some before = ap (λ (z : ℕ). known_cell z i v) same ∙ seen in
@@ -74,7 +75,7 @@ item_cells v u x cell word locks sees y i before locked seen =
 
 pub item_acts : (hand after : HandState) (x cell word : ℕ) → Rests hand → Keeps hand.view after.view
     → after.table ≡ hand.table → after.carried ≡ hand.carried → after.slots ≡ hand.slots
-    → hand.view.locked ≡ Some x → after.view.locked ≡ Some x → SeesItem x cell word hand.view after.view
+    → hand.view.actor.locked ≡ Some x → after.view.actor.locked ≡ Some x → SeesItem x cell word hand.view after.view
     → ActsElsewhere hand after
 item_acts hand after x cell word rests kept table carried slots before locked sees = record {
   acts = kept_acts hand after rests kept table carried slots (locked ∙ sym before);
@@ -112,7 +113,7 @@ came_out hand after x cell item (suc old) result swaps is =
 
 pub swapped_acts : (hand after : HandState) (x : ℕ) → Rests hand → KeepsBesides hand.view after.view
     → after.table ≡ hand.table → after.carried ≡ hand.carried → after.slots ≡ hand.slots
-    → hand.view.locked ≡ Some x → after.view.locked ≡ Some x → Acts hand after
+    → hand.view.actor.locked ≡ Some x → after.view.actor.locked ≡ Some x → Acts hand after
 swapped_acts hand after x rests kept table carried slots before locked =
     let mid = with_references hand after.view.references in
     let beside = beside_acts hand after.view.references rests in
@@ -120,8 +121,8 @@ swapped_acts hand after x rests kept table carried slots before locked =
     (kept_acts mid after beside.acts.rests kept table carried slots (locked ∙ sym before))
 
 module _ (hand after : HandState) (row item old : ℕ) (counted : IsCounted hand.view.layout row)
-    (held : 1 ≤ holds hand.view row) (locked : hand.view.locked ≡ Some row) (puts : MayPut hand.view (suc item))
-    (layout : after.view.layout ≡ hand.view.layout) (now : after.view.locked ≡ Some row)
+    (held : 1 ≤ holds hand.view row) (locked : hand.view.actor.locked ≡ Some row) (puts : MayPut hand.view (suc item))
+    (layout : after.view.layout ≡ hand.view.layout) (now : after.view.actor.locked ≡ Some row)
     (is : after.view.references
     ≡ with_reference hand.view.layout old (without_reference hand.view.layout item hand.view.references)) where
   abbrev rest : List ℕ
@@ -194,7 +195,7 @@ knows_cell v u x cell kinds knows =
 
 -- What a hand may put that has just made a reference to it.
 module _ (hand mid : HandState) (x item : ℕ) (on : OnList hand x) (rests : Rests mid)
-    (layout : mid.view.layout ≡ hand.view.layout) (locked : mid.view.locked ≡ hand.view.locked)
+    (layout : mid.view.layout ≡ hand.view.layout) (locked : mid.view.actor.locked ≡ hand.view.actor.locked)
     (more : mid.view.references ≡ with_reference hand.view.layout item hand.view.references) where
   more_is : (y : ℕ) → IsCounted hand.view.layout y → holds mid.view y ≡ holds hand.view y + one_if (item == y)
   more_is y counted =
@@ -238,7 +239,8 @@ out_is hand after x cell item old found result swaps is this =
 -- The worker has asked how many cells its list has.
 pub sized_fits : (base : Base) (s : State) (rows : List (Option ℕ)) (hand after : HandState) (x word : ℕ)
     → Fits base s rows hand → Keeps hand.view after.view → after.table ≡ hand.table → after.carried ≡ hand.carried
-    → after.slots ≡ hand.slots → after.view.locked ≡ hand.view.locked → after.view ≡ view_after (asking hand.view x) word
+    → after.slots ≡ hand.slots → after.view.actor.locked ≡ hand.view.actor.locked → after.view
+    ≡ view_after (asking hand.view x) word
     → Fits base s rows after
 sized_fits base s rows hand after x word fits kept table carried slots locked view =
     same_fits base s rows hand after fits (sized_acts hand after x word fits.rests kept table carried slots locked view)

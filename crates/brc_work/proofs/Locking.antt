@@ -29,14 +29,15 @@ use Rattle.brc_work.proofs.Staying.{names_more, slot_bare, lent_still}
 -- ---- without a lock
 
 -- A hand that has locked nothing borrows nothing.
-pub borrows_none : (held : ℕ → ℕ) (v : View) (slot : VarState) (row : Option ℕ) → v.locked ≡ None → SlotFits held v slot row
+pub borrows_none : (held : ℕ → ℕ) (v : View) (slot : VarState) (row : Option ℕ) → v.actor.locked ≡ None
+    → SlotFits held v slot row
     → borrows_item slot ≡ false
 borrows_none held v Empty row none fits = refl
 borrows_none held v (Owned k) row none fits = refl
 borrows_none held v (Caller k) row none fits = refl
 borrows_none held v (Locked k) row none fits = absurd (none_some fits.borrows.list (sym none ∙ fits.borrows.locked))
 
-slot_unlocked : (held : ℕ → ℕ) (v u : View) (slot : VarState) (row : Option ℕ) → KnowsMore v u → v.locked ≡ None
+slot_unlocked : (held : ℕ → ℕ) (v u : View) (slot : VarState) (row : Option ℕ) → KnowsMore v u → v.actor.locked ≡ None
     → SlotFits held v slot row → SlotFits held u slot row
 slot_unlocked held v u Empty row more none fits = tt
 slot_unlocked held v u (Owned k) row more none fits = names_more v u k row more fits
@@ -45,7 +46,7 @@ slot_unlocked held v u (Locked k) row more none fits =
     absurd (none_some fits.borrows.list (sym none ∙ fits.borrows.locked))
 
 pub no_lock : (base : Base) (s : State) (rows : List (Option ℕ)) (hand : HandState) → Fits base s rows hand
-    → s.locked ≡ None → (hand.view.locked ≡ None) × (hand.slots ≡ base.first.vars)
+    → s.locked ≡ None → (hand.view.actor.locked ≡ None) × (hand.slots ≡ base.first.vars)
 no_lock base s rows hand fits none =
     subst (λ (l : Option ℕ). LocksAs l base.first.vars s rows hand) none fits.lock
 
@@ -96,14 +97,14 @@ module _ (base : Base) (s : State) (rows : List (Option ℕ)) (hand after : Hand
   }
 
   -- that fails,
-  pub still_fits : after.view.locked ≡ None → after.slots ≡ hand.slots → Fits base s rows after
+  pub still_fits : after.view.actor.locked ≡ None → after.slots ≡ hand.slots → Fits base s rows after
   still_fits unlocked slots =
       tried_with s refl (subst (λ (l : Option ℕ). LocksAs l base.first.vars s rows after) (sym none)
       (unlocked, slots ∙ (no_lock base s rows hand fits none).1))
 
   -- and one that wins.
   pub lock_is : (i x : ℕ) → is_empty (var_of s i) ≡ false → is_one_of (kind_of (var_of s i)) lockable ≡ true
-      → row_of rows i ≡ Some x → after.view.locked ≡ Some x → after.slots ≡ (x, after.view.in_slot) ∷ hand.slots
+      → row_of rows i ≡ Some x → after.view.actor.locked ≡ Some x → after.slots ≡ (x, after.view.in_slot) ∷ hand.slots
       → ((word : ℕ) → 0 < word → knows_kind x word hand.view ≡ true → after.view.in_slot ≡ resources_of word)
       → Fits base (with_lock s (Some i)) rows after
   lock_is i x used can names locked slots kinds =
@@ -129,7 +130,7 @@ module _ (base : Base) (s : State) (rows : List (Option ℕ)) (hand after : Hand
 pub unlocks : (base : Base) (s : State) (rows : List (Option ℕ)) (hand after : HandState) (i : ℕ)
     → Fits base s rows hand → LockFits base.first.vars s rows hand i → Keeps hand.view after.view
     → after.table ≡ hand.table → after.carried ≡ hand.carried → after.slots ≡ behind_slot hand.slots
-    → after.view.locked ≡ None → Fits base (with_lock (without_items s) None) rows after
+    → after.view.actor.locked ≡ None → Fits base (with_lock (without_items s) None) rows after
 unlocks base s rows hand after i fits lock kept table carried slots unlocked = record {
   ready = fits.ready;
   room = fits.room;

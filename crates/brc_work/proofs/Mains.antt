@@ -41,7 +41,7 @@ keeps_then thread v u w kept given = record {
   head = given.head ∙ kept.head;
   sight = sight_then v u w kept.sight given.sight;
   waits = subst MayWait (sym given.agenda) tt;
-  work = ap (λ (ds : List Duty). ds ++ w.aside) given.agenda ∙ given.aside ∙ kept.work;
+  work = ap (λ (ds : List Duty). ds ++ w.actor.aside) given.agenda ∙ given.aside ∙ kept.work;
 }
 
 -- What `hand_out` asks of main holds before each hand.
@@ -90,7 +90,8 @@ pub joins_then : (v u w gone : View) → JoinsMore v u → w ≡ joining u gone 
 joins_then v u w gone more is = record {
   same =
       is
-      ∙ (ap (λ (z : View). record z { joined = record { thread = gone.thread; used = gone.used } ∷ u.joined }) more.same
+      ∙ (ap (λ (z : View). record z { joined = record { thread = gone.thread; used = gone.actor.used } ∷ u.joined })
+      more.same
       ∙ ap (λ (hands : List Joined). record v { joined = hands }) (sym (ap (λ (z : View). z.joined) is)));
   still = λ hand has.
       subst (λ (z : View). HasJoined z hand) (sym is) (still_joined u gone hand (more.still hand has));
@@ -100,9 +101,9 @@ pub joins_none : (v : View) → JoinsMore v v
 joins_none v = record { same = refl; still = λ hand has. has }
 
 pub joined_now : (u w gone : View) → w ≡ joining u gone
-    → HasJoined w (record { thread = gone.thread; used = gone.used })
+    → HasJoined w (record { thread = gone.thread; used = gone.actor.used })
 joined_now u w gone is =
-    subst (λ (z : View). HasJoined z (record { thread = gone.thread; used = gone.used })) (sym is)
+    subst (λ (z : View). HasJoined z (record { thread = gone.thread; used = gone.actor.used })) (sym is)
     (0, omega arith, refl)
 
 -- What main kept as it gave out hands it keeps as it joins them.

@@ -89,7 +89,8 @@ lists_no layout (Caller k) row bare = refl
 lists_no layout (Locked k) row bare = refl
 
 -- Where no variable owns a reference, there is none.
-pub sum_none : (f : VarState → Option ℕ → ℕ) → ((var : VarState) (row : Option ℕ) → is_owned var ≡ false → f var row ≡ 0)
+pub sum_none : (f : VarState → Option ℕ → ℕ) → ((var : VarState) (row : Option ℕ) → is_owned var ≡ false → f var row
+    ≡ 0)
     → (vars : List VarState) (rows : List (Option ℕ)) → list_any is_owned vars ≡ false
     → over_variables f vars rows ≡ 0
 sum_none f bare [] rows none = refl

@@ -14,7 +14,7 @@ use Rattle.brc_work.specs.Fits.{KnowsKind, Unknown, OfNone, OfRoot, HasSeen, Nam
 -- A hand has locked what it had locked, and what it has seen in the locked list is still there.
 pub record Stays (v u : View) : Type 0 where
   pub more : KnowsMore v u
-  pub locked : u.locked ≡ v.locked
+  pub locked : u.actor.locked ≡ v.actor.locked
   pub cells : KeepsCells v u
 
 -- ---- one variable
@@ -61,7 +61,8 @@ slot_stays held v u (Locked kind) row stays fits = record {
 }
 
 -- Where nothing is borrowed any more, it stays true whatever became of the list.
-pub slot_bare : (held : ℕ → ℕ) (v u : View) (slot : VarState) (row : Option ℕ) → KnowsMore v u → SlotFits held v slot row
+pub slot_bare : (held : ℕ → ℕ) (v u : View) (slot : VarState) (row : Option ℕ) → KnowsMore v u
+    → SlotFits held v slot row
     → SlotFits held u (without_item slot) row
 slot_bare held v u Empty row more fits = tt
 slot_bare held v u (Owned kind) row more fits = names_more v u kind row more fits

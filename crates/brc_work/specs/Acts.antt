@@ -13,14 +13,14 @@ pub record KnowsMore (v u : View) : Type 0 where
 
 -- What the hand has seen in the list that it has locked is still there.
 abbrev pub KeepsCells : View → View → Type 0
-KeepsCells v u = (x i word : ℕ) → v.locked ≡ Some x → known_cell x i v ≡ Some word → known_cell x i u ≡ Some word
+KeepsCells v u = (x i word : ℕ) → v.actor.locked ≡ Some x → known_cell x i v ≡ Some word → known_cell x i u ≡ Some word
 
 -- The hand has done something, and rests again. It has locked what it had locked.
 pub record Acts (hand after : HandState) : Type 0 where
   pub follows : IsLater hand after
   pub rests : Rests after
   pub more : KnowsMore hand.view after.view
-  pub locked : after.view.locked ≡ hand.view.locked
+  pub locked : after.view.actor.locked ≡ hand.view.actor.locked
   pub in_slot : after.view.in_slot ≡ hand.view.in_slot
   pub slots : after.slots ≡ hand.slots
 

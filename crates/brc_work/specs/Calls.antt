@@ -37,7 +37,7 @@ pub record IsAt (heap : TableState) (code : List Instr) (at : ℕ) (rows : List 
 pub record HasReturned (base : Base) (hand : HandState) : Type 0 where
   pub follows : IsLater base.first hand
   pub rests : Rests hand
-  pub unlocked : hand.view.locked ≡ None
+  pub unlocked : hand.view.actor.locked ≡ None
   pub slots : hand.slots ≡ base.first.vars
   pub held : (y : ℕ) → IsCounted base.first.view.layout y → holds hand.view y ≡ base.held y
   pub few : length hand.view.references ≤ base.most

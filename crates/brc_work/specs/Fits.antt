@@ -83,23 +83,23 @@ pub record LockFits (first : List (ℕ × ℕ)) (s : State) (rows : List (Option
   pub counted : IsCounted hand.view.layout object
   pub lasting : borrows_item (var_of s i) ≡ false
   pub used : is_empty (var_of s i) ≡ false
-  pub locked : hand.view.locked ≡ Some object
+  pub locked : hand.view.actor.locked ≡ Some object
   pub slots : hand.slots ≡ (object, hand.view.in_slot) ∷ first
   pub resource : is_one_of (kind_of (var_of s i)) with_resource ≡ true → hand.view.in_slot ≡ 1
 
 -- What the state says of the lock is true. Without a lock the hand has the slots that it had first.
 abbrev pub LocksAs : Option ℕ → List (ℕ × ℕ) → State → List (Option ℕ) → HandState → Type 0
-LocksAs None first s rows hand = (hand.view.locked ≡ None) × (hand.slots ≡ first)
+LocksAs None first s rows hand = (hand.view.actor.locked ≡ None) × (hand.slots ≡ first)
 LocksAs (Some i) first s rows hand = LockFits first s rows hand i
 
 -- ---- the hand
 
 -- The hand runs, has nothing to do, and its dying chain is empty.
 pub record Rests (hand : HandState) : Type 0 where
-  pub running : hand.view.status ≡ Running
-  pub agenda : hand.view.agenda ≡ []
-  pub aside : hand.view.aside ≡ []
-  pub settled : hand.view.head ≡ 0
+  pub running : hand.view.actor.status ≡ Running
+  pub agenda : hand.view.actor.agenda ≡ []
+  pub aside : hand.view.actor.aside ≡ []
+  pub settled : hand.view.actor.head ≡ 0
 
 -- most of the references that a worker's hand holds as its calls begin
 abbrev pub call_references : ℕ
@@ -108,7 +108,7 @@ call_references = 2 ^ 31
 -- A hand that may make calls: it rests, has locked nothing, and holds the root and few references.
 pub record IsReady (hand : HandState) : Type 0 where
   pub rests : Rests hand
-  pub unlocked : hand.view.locked ≡ None
+  pub unlocked : hand.view.actor.locked ≡ None
   pub root : 1 ≤ holds hand.view root_row
   pub few : length hand.view.references < call_references
 
@@ -119,7 +119,7 @@ pub record IsLater (first hand : HandState) : Type 0 where
   pub thread : hand.view.thread ≡ first.view.thread
   pub given : hand.view.given ≡ first.view.given
   pub carried : hand.carried ≡ first.carried
-  pub used : first.view.used ≤ hand.view.used
+  pub used : first.view.actor.used ≤ hand.view.actor.used
 
 -- What a call stands on: `first`, the hand with which the worker's call began; and what the hand holds beside what the
 -- variables of this call own. `held` says of each object how many references that is, and it is no more than `most` in

@@ -29,10 +29,10 @@ HasJoinedAll v = (t : ℕ) → is_given t v ≡ true → IsJoined t v
 pub record KeepsMain (v u : View) : Type 0 where
   pub layout : u.layout ≡ v.layout
   pub number : u.thread ≡ v.thread
-  pub status : u.status ≡ v.status
-  pub used : u.used ≡ v.used
+  pub status : u.actor.status ≡ v.actor.status
+  pub used : u.actor.used ≡ v.actor.used
   pub references : u.references ≡ v.references
-  pub head : u.head ≡ v.head
+  pub head : u.actor.head ≡ v.actor.head
   pub sight : KeepsKnown v u
-  pub waits : MayWait u.agenda
+  pub waits : MayWait u.actor.agenda
   pub work : open_work u ≡ open_work v

@@ -24,7 +24,8 @@ use Rattle.brc_work.specs.Traces.{Traces, MakesTrace, instruction_at, has_read, 
 -- ---- places
 
 -- A thread at the place begins the instruction at the point next, in this context and variables.
-pub record DispatchesAt (code : List Instr) (place : Place) (context : Context) (at : ℕ) (rows : List (Option ℕ)) : Type 0
+pub record DispatchesAt (code : List Instr) (place : Place) (context : Context) (at : ℕ) (rows : List (Option ℕ))
+    : Type 0
   where
     pub does : (layout : Layout) (t used : ℕ) → dispatch layout t used code place
         ≡ dispatch_instruction layout t used place context at rows (slice_get code at)
@@ -115,7 +116,7 @@ pub record MakesBirth (to word : ℕ) (rows : List (Option ℕ)) (v : View) (aft
     : Type 0 where
   pub named : after_rows ≡ slice_set rows to (Some (next_row v))
   pub first : (code : List Instr) (place next : Place) (holding : Holding)
-      → dispatch v.layout v.thread v.used code place ≡ Does (BirthKind (next_row v) holding word) [] (always next)
+      → dispatch v.layout v.thread v.actor.used code place ≡ Does (BirthKind (next_row v) holding word) [] (always next)
       → has_read code place ≡ false → MakesTrace (begun_at place) [] code place v next u
   pub read : (code : List Instr) (place : Place) (context : Context) (at file most otherwise count : ℕ)
       → slice_get code at ≡ Some (instructions.Read to file most otherwise) → count ≤ most → word ≡ number_word count

@@ -18,7 +18,7 @@ use Rattle.brc_work.specs.Traces.{MakesTrace}
 
 -- the hand, if its dying chain were empty
 abbrev pub unchained : HandState → HandState
-unchained hand = record hand { view = record hand.view { head = 0 } }
+unchained hand = record hand { view = record hand.view { actor = record hand.view.actor { head = 0 } } }
 
 -- Variables and hand are in some state in which `can` holds, but for the hand's dying chain.
 pub record IsGivingUp (heap : TableState) (can : State → Type 0) (rows : List (Option ℕ)) (hand : HandState) : Type 0

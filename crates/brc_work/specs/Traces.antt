@@ -28,7 +28,6 @@ use Rattle.brc_model.specs.Machine.{actor_by}
 use Rattle.brc_model.specs.Trace.{events_of}
 use Rattle.brc_table.specs.declared.view.View.{View}
 use Rattle.brc_model.specs.declared.event.WordEvent.{WordEvent}
-use Rattle.brc_table.specs.Views.{actor_of}
 use Rattle.brc_queue.specs.Scans.{HasScanned}
 
 -- ---- calls of the host
@@ -50,7 +49,8 @@ pub data Requests (es : List WordEvent) : Instr → HostCall → Type 0 where
       → Requests es (instructions.Connect to peer otherwise) (Connect peer failed)
   ForBytes : (to file most otherwise : ℕ) (got : Option ℕ)
       → Requests es (instructions.Read to file most otherwise) (Read most got)
-  ForLine : (file number otherwise : ℕ) (before : List WordEvent) (last : WordEvent) (failed : Bool) → es ≡ before ++ last ∷ []
+  ForLine : (file number otherwise : ℕ) (before : List WordEvent) (last : WordEvent) (failed : Bool) → es
+      ≡ before ++ last ∷ []
       → Requests es (instructions.Write file number otherwise)
       (Write (decimal (argument_part last.found) ++ 10 ∷ []) failed)
 
@@ -145,7 +145,7 @@ pub data Makes (layout : Layout) (t : ℕ) (code : List Instr) (p : Place) (a : 
 
 -- the thread that the hand is of, with these duties to do
 abbrev pub thread_with : View → List Duty → Actor
-thread_with v ds = record (actor_of v) { agenda = ds }
+thread_with v ds = record v.actor { agenda = ds }
 
 -- What the hand's trace has gained from v to u are events by which its thread goes, with these calls of the host, from
 -- place p, with duties ds to do, to place q, with duties es to do. It has begun this many instructions.
@@ -166,6 +166,6 @@ MakesTrace begun calls code p v q u = Traces begun calls code p [] v q [] u
 pub data MakesCalls (code : List Instr) (v : View) : ℕ → ℕ → List HostCall → View → Type 0 where
   NoCall : MakesCalls code v 0 0 [] v
   OneMore : (n begun within : ℕ) (calls closes more : List HostCall) (u w x : View)
-      → MakesCalls code v n begun calls u → HasScanned u u.used closes w
+      → MakesCalls code v n begun calls u → HasScanned u u.actor.used closes w
       → MakesTrace within more code (Idle 1) w (Idle 0) x
       → MakesCalls code v (n + 1) (begun + within) (calls ++ (closes ++ more)) x

@@ -59,7 +59,7 @@ pub record CallsAndLeaves (code : List Instr) (times steps : ℕ) (done : Bool) 
 pub record IsGone (j : Job) (hand : HandState) : Type 0 where
   pub of : IsOf j.heap hand
   pub thread_is : hand.view.thread ≡ j.thread
-  pub gone : hand.view.status ≡ Gone
+  pub gone : hand.view.actor.status ≡ Gone
   pub no_slot : hand.slots ≡ []
 
 -- The worker's hand has done its job: it has made the calls, or was stopped by its bound, is gone, and holds nothing.
@@ -67,14 +67,15 @@ pub record IsGone (j : Job) (hand : HandState) : Type 0 where
 pub record HasGone {S : Type 0} (answers : S → HostCall → S → Type 0) (counts : S → HostCounts) (j : Job)
     (hand : HandState) (ran : Ran) : Type 0 where
   pub hand_is : IsGone j hand
-  pub idle : (hand.view.agenda ≡ []) × (hand.view.aside ≡ []) × (hand.view.head ≡ 0)
+  pub idle : (hand.view.actor.agenda ≡ []) × (hand.view.actor.aside ≡ []) × (hand.view.actor.head ≡ 0)
   pub holds_none : hand.view.references ≡ []
-  pub created : (totals_of ran).created ≡ hand.view.used
+  pub created : (totals_of ran).created ≡ hand.view.actor.used
   -- the host before, and once the worker is gone
   pub first : S
   pub later : S
   pub asked : Asked answers counts first later no_totals (totals_of ran)
-      (λ calls. CallsAndLeaves j.code j.times j.steps (is_done ran) calls (worker_view j.heap.layout j.thread) hand.view)
+      (λ calls. CallsAndLeaves j.code j.times j.steps (is_done ran) calls (worker_view j.heap.layout j.thread)
+      hand.view)
   -- the greatest bound stops no worker
   pub unbounded : j.steps ≡ greatest_bound → is_done ran ≡ true
 

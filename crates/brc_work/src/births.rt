@@ -80,7 +80,7 @@ impl<'h, T: Drop> Worker<'h, T> {
         resource: Option<T>,
     )
         requires fits { IsIn self.now (λ s. CanFill s to) rows.old hand.old }
-        requires room { has_room hand.old.view.layout hand.old.view.thread hand.old.view.used ≡ true }
+        requires room { has_room hand.old.view.layout hand.old.view.thread hand.old.view.actor.used ≡ true }
         requires kind { IsBornWith kind arg }
         requires resource { resources resource ≡ resources_of (kind_word kind arg) }
         ensures of { IsOf self.now hand.new }

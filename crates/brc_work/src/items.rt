@@ -178,7 +178,7 @@ impl<'h, T: Drop> Worker<'h, T> {
         requires rests { Rests hand.old }
         requires counted { IsCounted hand.old.view.layout row }
         requires held { 1 ≤ holds hand.old.view row }
-        requires locked { hand.old.view.locked ≡ Some row }
+        requires locked { hand.old.view.actor.locked ≡ Some row }
         requires knows { KnowsCell hand.old.view row cell }
         requires puts { MayPut hand.old.view (suc item) }
         requires few { length hand.old.view.references < most_references }

@@ -47,7 +47,7 @@ impl<'h, T: Drop> Worker<'h, T> {
         requires function { function < length checked.now.module.functions }
         ensures of { IsOf self.now hand.new }
         ensures called { HasCalled hand.old hand.new }
-        ensures created { (totals_of result).created + hand.old.view.used ≡ hand.new.view.used }
+        ensures created { (totals_of result).created + hand.old.view.actor.used ≡ hand.new.view.actor.used }
         ensures asked { Asked H.answers H.counts host.old host.new no_totals (totals_of result)
             (λ calls. RanBy (code_of (slice_get checked.now.module.functions function)) times steps (is_done result)
             calls hand.old.view hand.new.view) }

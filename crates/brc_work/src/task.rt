@@ -61,14 +61,16 @@ pub(crate) struct WorkerPromise<T: Drop, H> {
 
 impl<T: Drop, H: Host<Res = T>> Promise<Remains<T>> for WorkerPromise<T, H> {
     ghost kept_by = { λ p done. Ends H.answers H.counts
-        (job p.heap.value p.checked.value.«module» p.function p.times p.steps p.thread) done.hand done.ran done.called };
+        (job p.heap.value p.checked.value.«module» p.function p.times p.steps p.thread) done.hand done.ran done.called
+        };
 }
 
 impl<'a, T: Drop, H: Host<Res = T>, G: Gate> Task<'a, T, H, G> {
     /// Makes the calls, unless the workers are called off, and lets the hand leave.
     pub(crate) fn work<R: Wait>(self, rt: &R, called_off: &AtomicBool) -> Remains<T>
         ensures { Ends H.answers H.counts (job self.entry.heap.now self.entry.checked.now.module
-            self.entry.function self.entry.times self.entry.steps self.entry.thread) result.hand result.ran result.called }
+            self.entry.function self.entry.times self.entry.steps self.entry.thread) result.hand result.ran
+            result.called }
     {
         let Task {
             heap,
@@ -137,7 +139,7 @@ fn leaves_at_once<R: Wait, T: Drop, H: Host<Res = T>>(
     requires fresh { IsFresh heap.now hand.old.view.thread hand.old }
     ensures of { IsOf heap.now hand.new }
     ensures thread { hand.new.view.thread ≡ hand.old.view.thread }
-    ensures gone { hand.new.view.status ≡ Gone }
+    ensures gone { hand.new.view.actor.status ≡ Gone }
     ensures no_slot { hand.new.slots ≡ [] }
     ensures asked { Asked H.answers H.counts host.old host.new no_totals result
         (λ calls. HasLeft calls hand.old.view hand.new.view) }

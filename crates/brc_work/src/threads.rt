@@ -121,7 +121,8 @@ fn run_all<'w, R: Threads + Wait + Sync, T: Send + Drop, H: Host<Res = T> + Send
         move |scope| -> (Vec<(Hand<T>, Ran)>, bool)
             requires { ((k : ℕ) (t : _) → k < vec_len tasks → let task = slice_index_or tasks.items k t in
                 job task.heap.now task.checked.now.module task.function task.times task.steps task.thread
-                ≡ job heap.now checked.now.module function times steps (k + 1)) × (threads.items ≡ []) × (vec_len tasks ≤
+                ≡ job heap.now checked.now.module function times steps (k + 1)) × (threads.items ≡ [])
+                × (vec_len tasks ≤
                 vec_capacity threads)
                 × (answer.items ≡ []) × (vec_len tasks ≤ vec_capacity answer) }
             ensures { (vec_len result.0 ≡ vec_len tasks.entry) × ((k : ℕ) (w : _) → k < vec_len result.0
@@ -169,7 +170,8 @@ fn join_all<'w, R: Threads, T: Send + Drop, H: Host<Res = T>>(
     requires room { vec_len threads ≤ vec_capacity answer }
     requires begun { (k : ℕ) (b : _) → k < vec_len threads
         → IfOk (slice_index_or threads.items k b) (λ s. let promise = s.promise in
-        job promise.heap.value promise.checked.value.«module» promise.function promise.times promise.steps promise.thread
+        job promise.heap.value promise.checked.value.«module» promise.function promise.times promise.steps
+        promise.thread
         ≡ job heap.now checked.now.module function times steps (k + 1))
         × IfErr (slice_index_or threads.items k b) (λ done. Ends H.answers H.counts
         (job heap.now checked.now.module function times steps (k + 1)) done.hand done.ran done.called) }
@@ -192,7 +194,8 @@ fn join_all<'w, R: Threads, T: Send + Drop, H: Host<Res = T>>(
 /// Returns what the worker leaves: if it has a thread, once that has ended.
 fn left_by<R: Threads, T: Send + Drop, H: Host<Res = T>>(rt: &R, begun: Refl<T, H>) -> Remains<T>
     ensures { (j : Job) → IfOk begun (λ s. let promise = s.promise in
-        job promise.heap.value promise.checked.value.«module» promise.function promise.times promise.steps promise.thread ≡ j)
+        job promise.heap.value promise.checked.value.«module» promise.function promise.times promise.steps
+        promise.thread ≡ j)
         → IfErr begun (λ done. Ends H.answers H.counts j done.hand done.ran done.called)
         → Ends H.answers H.counts j result.hand result.ran result.called }
 {

@@ -8,6 +8,6 @@ use Rattle.brc_table.specs.Hands.{TableState, HandState, IsOf}
 pub record HoldsRoot (heap : TableState) (hand : HandState) : Type 0 where
   pub table : IsOf heap hand
   pub free : IsFree hand.view
-  pub settled : hand.view.head ≡ 0
-  pub unlocked : hand.view.locked ≡ None
+  pub settled : hand.view.actor.head ≡ 0
+  pub unlocked : hand.view.actor.locked ≡ None
   pub references : hand.view.references ≡ root_row ∷ []

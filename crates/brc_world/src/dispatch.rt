@@ -148,7 +148,8 @@ fn next_instruction(
     requires empty { thread.old.agenda.items ≡ [] }
     requires room { 8 ≤ vec_capacity thread.old.agenda }
     ensures { HasDispatched thread.old (action_at layout number left
-        (slice_get (code_of (slice_get functions.now thread.old.function)) thread.old.at) thread.old) result thread.new }
+        (slice_get (code_of (slice_get functions.now thread.old.function)) thread.old.at) thread.old) result
+        thread.new }
 {
     match code_of(functions, thread.function).get(thread.at) {
         Some(instr) => begin(*instr, layout, number, thread, left),
@@ -168,7 +169,8 @@ fn this_instruction(
     requires empty { thread.old.agenda.items ≡ [] }
     requires room { 8 ≤ vec_capacity thread.old.agenda }
     ensures { HasDispatched thread.old (action_inside layout number stage
-        (slice_get (code_of (slice_get functions.now thread.old.function)) thread.old.at) thread.old) result thread.new }
+        (slice_get (code_of (slice_get functions.now thread.old.function)) thread.old.at) thread.old) result
+        thread.new }
 {
     match code_of(functions, thread.function).get(thread.at) {
         Some(instr) => go_on_inside(*instr, stage, layout, number, thread),

@@ -53,7 +53,8 @@ pub fn do_duty(
     ensures word { IsStored memory.old (address_of layout number thread.old.head duty.now)
         (new_word number thread.old.head duty.now
         (found_by layout number (word_in memory.old) (actor_of thread.old) duty.now)) memory.new }
-    ensures actor { actor_of thread.new ≡ actor_after layout number (word_in memory.old) (actor_of thread.old) duty.now }
+    ensures actor { actor_of thread.new ≡ actor_after layout number (word_in memory.old) (actor_of thread.old)
+        duty.now }
     ensures found { result ≡ found_by layout number (word_in memory.old) (actor_of thread.old) duty.now }
     ensures calls { thread.new.left ≡ thread.old.left }
     ensures point { thread.new.at ≡ thread.old.at }

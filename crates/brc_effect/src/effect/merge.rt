@@ -43,8 +43,8 @@ impl Doer {
         }))
     }
 
-    /// Rules `Merges`, `MergesToZero`, `MergesForHanded` and `MergeLost`. After a claim the count still has the reference
-    /// that the queue held, and the thread releases it next (`merge_forgets_the_handed_reference`).
+    /// Rules `Merges`, `MergesToZero`, `MergesForHanded` and `MergeLost`. After a claim the count still has the
+    /// reference that the queue held, and the thread releases it next (`merge_forgets_the_handed_reference`).
     #[inline(always)]
     pub(super) fn merge_exchange(
         self,

@@ -24,8 +24,8 @@ use Rattle.brc_model.proofs.Basics.Lists.{get_or-replicate_default}
 use Rattle.brc_model.proofs.Dispatch.Holds.{Activation, call_of, IsOuter, IsActivation, outermost, of_variables}
 use Rattle.brc_model.specs.Layout.{root_row}
 
--- What a variable's state says of the row in its variable. What a variable borrows from its caller the thread holds outside the
--- call. (Python/C API manual, Reference Count Details: the caller lends its arguments for the whole call.)
+-- What a variable's state says of the row in its variable. What a variable borrows from its caller the thread holds
+-- outside the call. (Python/C API manual, Reference Count Details: the caller lends its arguments for the whole call.)
 abbrev pub IsGrounded : Activation → VarState → Option ℕ → Type 0
 IsGrounded call Empty row = Unit {0}
 IsGrounded call (Owned k) row = (r : ℕ) × (row ≡ Some r)
@@ -74,7 +74,8 @@ pub row_of-set_other : (rows : List (Option ℕ)) (x v : ℕ) (row : Option ℕ)
     → row_of (slice_set rows x row) v ≡ row_of rows v
 row_of-set_other rows x v row ne = get_or-set_other rows x v row None ne
 
-pub grounded-put : (call : Activation) (s : State) (rows : List (Option ℕ)) (x : ℕ) (var : VarState) (row : Option ℕ) → x
+pub grounded-put : (call : Activation) (s : State) (rows : List (Option ℕ)) (x : ℕ) (var : VarState) (row : Option ℕ)
+    → x
     < length s.vars
     → x < length rows → IsGrounded call var row
     → ((v : ℕ) → IsGrounded call (var_of s v) (row_of rows v)) → (v : ℕ)

@@ -1,4 +1,5 @@
--- What the states and the rows of variables say of items: a variable that borrows from the locked list names an item of it.
+-- What the states and the rows of variables say of items: a variable that borrows from the locked list names an item of
+-- it.
 use Rattle.std.proofs.Common.{◌≡◌, ℕ, zero, suc, ◌<◌, true, false, List, inl, inr, length, Option, None, Some, sym, refl, ap, ◌∙◌, subst, arith}
 use Rattle.std.specs.Prelude.{slice_get, slice_set}
 use Rattle.std.proofs.lemmas.Bool.{false≢true}

@@ -1,4 +1,5 @@
--- What the states and the rows of variables say of kinds: a variable's state says nothing false of the object that its variable names.
+-- What the states and the rows of variables say of kinds: a variable's state says nothing false of the object that its
+-- variable names.
 use Rattle.std.proofs.Common.{◌≡◌, ℕ, zero, suc, ◌<◌, true, List, inl, inr, length, Option, Some, refl, sym, ap, ◌∙◌, subst}
 use Rattle.std.specs.Prelude.{slice_set}
 use Rattle.std.proofs.lemmas.Bool.Decides.{eqb_tells}
@@ -99,7 +100,8 @@ true_with_kind words s rows x kind in_vars names old v =
           (var_with_kind words (var_of s x) kind (row_of rows x) names) in
           subst (λ (w : ℕ). HasTrueKind words (var_of (put s x var) w) (row_of rows w)) (sym this.1) there
       | inr other ↦
-          subst (λ (w : VarState). HasTrueKind words w (row_of rows v)) (sym (var_of-put_other s x v var other.1)) (old v)
+          subst (λ (w : VarState). HasTrueKind words w (row_of rows v)) (sym (var_of-put_other s x v var other.1))
+          (old v)
     ]
 
 -- ---- once nothing is borrowed from the locked list any more

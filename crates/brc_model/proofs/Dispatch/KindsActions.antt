@@ -66,7 +66,8 @@ in_call_leaves : (code : List Instr) (words : ℕ → ℕ) (layout : Layout) (t 
     → LeavesKinds code words (dispatch_instruction layout t used before context at variables (slice_get code at))
 in_call_leaves code words layout t used before context at variables s knew accepted instructions inside named known =
     let here = knows_at code words at variables s accepted instructions inside named known in
-    subst (λ (o : Option Instr). LeavesKinds code words (dispatch_instruction layout t used before context at variables o))
+    subst (λ (o : Option Instr). LeavesKinds code words (dispatch_instruction layout t used before context at
+    variables o))
     (sym here.1) (instruction_leaves code words layout t used before context at variables s here.0 knew here.2)
 
 dispatch_leaves : (code : List Instr) (words : ℕ → ℕ) (layout : Layout) (t used : ℕ) (place : Place)

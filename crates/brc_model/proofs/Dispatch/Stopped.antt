@@ -154,7 +154,8 @@ as_root AsCaller x held = held
 as_root InFlight x held = absurd cc
 
 -- What a stopped thread has to unlock it holds: its own variable owns it, or its caller lends it.
-stop_holds : (code : List Instr) (context : Context) (s : State) (variables : List (Option ℕ)) (c x : ℕ) (var : VarState)
+stop_holds : (code : List Instr) (context : Context) (s : State) (variables : List (Option ℕ)) (c x : ℕ)
+    (var : VarState)
     → var_of s c ≡ var → is_kept var ≡ true → row_of variables c ≡ Some x
     → IsGrounded (call_of code context) var (row_of variables c)
     → (by : Holding) × (of_stopped (owned_rows s.vars variables ∷ map none_of context.outer) by x ≡ true)

@@ -53,7 +53,8 @@ follows_behind m t layout used place rest (Settles stays) = (tt, tt)
 follows_behind m t layout used place rest (Exits leaves) = (tt, (tt, tt))
 
 -- The work ends with the duty to leave exactly if the thread's new place is that of an exit.
-pub follows_leave : (layout : Layout) (t used : ℕ) (place : Place) (rest : List Duty) → MayFollow layout t used place rest
+pub follows_leave : (layout : Layout) (t used : ℕ) (place : Place) (rest : List Duty)
+    → MayFollow layout t used place rest
     → has_leave rest ≡ is_departing place
 follows_leave layout t used place rest (Nothing stays) = sym (stays_elsewhere place stays)
 follows_leave layout t used place rest (Settles stays) = sym (stays_elsewhere place stays)

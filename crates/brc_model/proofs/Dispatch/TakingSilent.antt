@@ -221,5 +221,6 @@ module _ {code : List Instr} {g : Scene} {before : Place} {context : Context} {a
   again_taken to times here =
       either (SilentTaken code g []) (nat_lt (turns_at context at) times) (InCall (with_turn context at) to variables)
       (InCall context (at + 1) variables)
-      (λ more. jump_taken code g (with_turn context at) to variables (jump_fits to (Again to times) Fault here refl refl))
+      (λ more. jump_taken code g (with_turn context at) to variables
+      (jump_fits to (Again to times) Fault here refl refl))
       (jump_taken code g context (at + 1) variables (jump_fits (at + 1) (Again to times) Success here refl refl))

@@ -110,7 +110,8 @@ module _ (p : Accounts) (n : ℕ) (m : Machine) (t : ℕ) (a : Actor) where
 
   -- Such a step leaves the list as it is.
   pub own_list_kept : (d : Duty) (rest : List Duty) → AtDuty p n m t a d rest → drops_items d ≡ false
-      → KeepsList m (machine_by_duty m t a d rest) a (actor_by m.layout t a d rest (m.memory (address_of m.layout t a.head d)))
+      → KeepsList m (machine_by_duty m t a d rest) a (actor_by m.layout t a d rest
+      (m.memory (address_of m.layout t a.head d)))
   own_list_kept d rest here keeps x e = (
     still_locked d rest x here keeps e,
     record {

@@ -170,7 +170,8 @@ module _ {p : Accounts} {n : ℕ} {m : Machine} {t : ℕ} {a : Actor} {rest : Li
 
 module _ {p : Accounts} {n : ℕ} {m : Machine} {t : ℕ} {a : Actor} {d : Duty} {rest : List Duty} where
   -- After a thread's step the unused rows of every thread's block are blank.
-  pub blanks_after : AtDuty p n m t a d rest → (u : ℕ) (b : Actor) → slice_get (machine_by_duty m t a d rest).actors u ≡ Some b
+  pub blanks_after : AtDuty p n m t a d rest → (u : ℕ) (b : Actor) → slice_get (machine_by_duty m t a d rest).actors u
+      ≡ Some b
       → BlankFits m.layout (memory_by m t a d) u b.used b.agenda
   blanks_after here u b is =
       let after = actor_by m.layout t a d rest (found_by m t a d) in

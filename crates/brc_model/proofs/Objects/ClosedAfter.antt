@@ -37,7 +37,8 @@ one_is x y e = elim (either_true (y == x) false e) [ inl same ↦ eqb-true y x s
 
 module _ {p : Accounts} {n : ℕ} {m : Machine} {t : ℕ} {a : Actor} {d : Duty} {rest : List Duty} where
   -- A closed row stays closed.
-  pub closed_stays : (x : ℕ) → AtDuty p n m t a d rest → m.life x ≡ Closed → (machine_by_duty m t a d rest).life x ≡ Closed
+  pub closed_stays : (x : ℕ) → AtDuty p n m t a d rest → m.life x ≡ Closed → (machine_by_duty m t a d rest).life x
+      ≡ Closed
   closed_stays x here was =
       elim (life_step d x here) [
         | GoesOn same other ↦ same ∙ was
@@ -46,7 +47,8 @@ module _ {p : Accounts} {n : ℕ} {m : Machine} {t : ℕ} {a : Actor} {d : Duty}
         | IsBorn now unborn above born none ↦ absurd (unborn_not_closed (sym unborn ∙ was))
       ]
 
-  pub closed_is_after : (x : ℕ) → AtDuty p n m t a d rest → is_among x (machine_by_duty m t a d rest).abstract.closed ≡ true
+  pub closed_is_after : (x : ℕ) → AtDuty p n m t a d rest → is_among x (machine_by_duty m t a d rest).abstract.closed
+      ≡ true
       → (machine_by_duty m t a d rest).life x ≡ Closed
   closed_is_after x here is =
       elim (closed_step m t d (m.memory (address_of m.layout t a.head d))) [
@@ -99,7 +101,8 @@ module _ {p : Accounts} {n : ℕ} {m : Machine} {t : ℕ} {a : Actor} {d : Duty}
             ])
       ]
 
-  pub closed_once_after : AtDuty p n m t a d rest → AllPairs (λ x y. x ≢ y) (machine_by_duty m t a d rest).abstract.closed
+  pub closed_once_after : AtDuty p n m t a d rest → AllPairs (λ x y. x ≢ y)
+      (machine_by_duty m t a d rest).abstract.closed
   closed_once_after here =
       let Q : List ℕ → Type 0 = λ l. AllPairs (λ x y. x ≢ y) l in
       elim (closed_step m t d (m.memory (address_of m.layout t a.head d))) [
@@ -130,7 +133,8 @@ module _ {p : Accounts} {n : ℕ} {m : Machine} {t : ℕ} {a : Actor} {d : Duty}
         | IsBorn now unborn counted born none ↦ now
       ]
 
-  pub dying_after : (x u : ℕ) → AtDuty p n m t a d rest → n ≤ u → dies_by ((machine_by_duty m t a d rest).life x) u ≡ false
+  pub dying_after : (x u : ℕ) → AtDuty p n m t a d rest → n ≤ u → dies_by ((machine_by_duty m t a d rest).life x) u
+      ≡ false
   dying_after x u here past =
       let within : t < n = omega (arith, slice_get_within m.actors t a here.found, here.core.threads) in
       elim (life_step d x here) [

@@ -97,7 +97,8 @@ module _ {p : Accounts} {n : ℕ} {m : Machine} {t : ℕ} {a : Actor} {d : Duty}
 
 module _ {p : Accounts} {n : ℕ} {m : Machine} {t : ℕ} {a : Actor} {rest : List Duty} where
   -- Every step changes a row's life in one of these four ways.
-  pub life_step : (d : Duty) (x : ℕ) → AtDuty p n m t a d rest → LifeStep m t d x ((machine_by_duty m t a d rest).life x)
+  pub life_step : (d : Duty) (x : ℕ) → AtDuty p n m t a d rest
+      → LifeStep m t d x ((machine_by_duty m t a d rest).life x)
   life_step (BirthLocal y h) x here =
       let next : IsNext m t a y = (head_of here).0 in
       elim (eqb_tells y x) [

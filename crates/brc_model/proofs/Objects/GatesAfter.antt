@@ -83,7 +83,8 @@ module _ {p : Accounts} {n : ℕ} {m : Machine} {t : ℕ} {a : Actor} {rest : Li
 
   -- A live row's gate still fits.
   live_gate_after : (d : Duty) (x : ℕ) → AtDuty p n m t a d rest → m.life x ≡ Live
-      → LiveGate m.actors x (m.memory (Gate x)) → LiveGate (machine_by_duty m t a d rest).actors x (memory_by m t a d (Gate x))
+      → LiveGate m.actors x (m.memory (Gate x)) → LiveGate (machine_by_duty m t a d rest).actors x
+      (memory_by m t a d (Gate x))
   live_gate_after (LockGate y) x here lives live =
       let none : a.locked ≡ None = (head_of here).2 in
       let after = actor_by m.layout t a (LockGate y) rest (m.memory (Gate y)) in
@@ -132,7 +133,8 @@ module _ {p : Accounts} {n : ℕ} {m : Machine} {t : ℕ} {a : Actor} {d : Duty}
 
   -- After a thread's step each gate fits its row's life.
   pub gates_after : AtDuty p n m t a d rest → (x : ℕ)
-      → GateFits (machine_by_duty m t a d rest).actors x ((machine_by_duty m t a d rest).life x) (memory_by m t a d (Gate x))
+      → GateFits (machine_by_duty m t a d rest).actors x ((machine_by_duty m t a d rest).life x)
+      (memory_by m t a d (Gate x))
   gates_after here x =
       let Fits : Life → Type 0 = λ l. GateFits (machine_by_duty m t a d rest).actors x l (memory_by m t a d (Gate x)) in
       elim (life_step d x here) [

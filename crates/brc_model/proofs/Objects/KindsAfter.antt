@@ -86,7 +86,8 @@ module _ {p : Accounts} {n : ℕ} {m : Machine} {t : ℕ} {a : Actor} {rest : Li
 module _ {p : Accounts} {n : ℕ} {m : Machine} {t : ℕ} {a : Actor} {d : Duty} {rest : List Duty} where
   -- After a thread's step the kind word of each born row names its kind.
   pub kinds_after : AtDuty p n m t a d rest → (x : ℕ) → (machine_by_duty m t a d rest).life x ≢ Unborn
-      → kind_part ((machine_by_duty m t a d rest).memory (KindOf x)) ≡ kind_number ((machine_by_duty m t a d rest).abstract.kinds x)
+      → kind_part ((machine_by_duty m t a d rest).memory (KindOf x))
+      ≡ kind_number ((machine_by_duty m t a d rest).abstract.kinds x)
   kinds_after here x born =
       elim (before_or_now x here born) [
         | inl was ↦

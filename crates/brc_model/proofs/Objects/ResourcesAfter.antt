@@ -28,7 +28,8 @@ module _ {p : Accounts} {n : ℕ} {m : Machine} {t : ℕ} {a : Actor} where
       let unborn = next_unborn p n m t a x here.core here.found next in
       let fit : ResourcesFit Unborn (resources_at m x) =
       subst (λ (l : Life). ResourcesFit l (resources_at m x)) unborn (here.core.resources x) in
-      subst (λ (l : Life). ResourcesFit l (resources_at (machine_by_duty m t a (BirthSlot x h) rest) x)) (sym unborn) fit
+      subst (λ (l : Life). ResourcesFit l (resources_at (machine_by_duty m t a (BirthSlot x h) rest) x)) (sym unborn)
+      fit
 
   -- ---- every step
 

@@ -62,7 +62,8 @@ module _ (p : Accounts) (n : ℕ) (m : Machine) (t : ℕ) (a : Actor) where
   returning_finds x rest here = lent_leaves_none x here.core here.found (head_of here)
 
   pub after_lend : (x : ℕ) (rest : List Duty) → AtDuty p n m t a (LendSlot x) rest
-      → ResourcesFit ((machine_by_duty m t a (LendSlot x) rest).life x) (resources_at (machine_by_duty m t a (LendSlot x) rest) x)
+      → ResourcesFit ((machine_by_duty m t a (LendSlot x) rest).life x)
+      (resources_at (machine_by_duty m t a (LendSlot x) rest) x)
   after_lend x rest here =
       let d : Duty = LendSlot x in
       let new = resources_at (machine_by_duty m t a d rest) x in
@@ -88,7 +89,8 @@ module _ (p : Accounts) (n : ℕ) (m : Machine) (t : ℕ) (a : Actor) where
       )
 
   pub after_return : (x : ℕ) (rest : List Duty) → AtDuty p n m t a (ReturnSlot x) rest
-      → ResourcesFit ((machine_by_duty m t a (ReturnSlot x) rest).life x) (resources_at (machine_by_duty m t a (ReturnSlot x) rest) x)
+      → ResourcesFit ((machine_by_duty m t a (ReturnSlot x) rest).life x)
+      (resources_at (machine_by_duty m t a (ReturnSlot x) rest) x)
   after_return x rest here =
       let d : Duty = ReturnSlot x in
       let new = resources_at (machine_by_duty m t a d rest) x in

@@ -82,7 +82,8 @@ module _ (p : Accounts) (n : ℕ) (m : Machine) (t : ℕ) (a : Actor) where
       omega (arith, fit.placed, closes, one_here x, resources_low (m.memory (KindOf x)))
 
   pub after_take : (x : ℕ) (rest : List Duty) → AtDuty p n m t a (TakeSlot x) rest
-      → ResourcesFit ((machine_by_duty m t a (TakeSlot x) rest).life x) (resources_at (machine_by_duty m t a (TakeSlot x) rest) x)
+      → ResourcesFit ((machine_by_duty m t a (TakeSlot x) rest).life x)
+      (resources_at (machine_by_duty m t a (TakeSlot x) rest) x)
   after_take x rest here =
       let d : Duty = TakeSlot x in
       let next : List Duty = CloseResource x ∷ [] in
@@ -144,7 +145,8 @@ module _ (p : Accounts) (n : ℕ) (m : Machine) (t : ℕ) (a : Actor) where
       (sym (still_dies d rest x here refl dies)) fits
 
   pub after_end : (x : ℕ) (rest : List Duty) → AtDuty p n m t a (SettleEnd x) rest
-      → ResourcesFit ((machine_by_duty m t a (SettleEnd x) rest).life x) (resources_at (machine_by_duty m t a (SettleEnd x) rest) x)
+      → ResourcesFit ((machine_by_duty m t a (SettleEnd x) rest).life x)
+      (resources_at (machine_by_duty m t a (SettleEnd x) rest) x)
   after_end x rest here =
       let d : Duty = SettleEnd x in
       let dies = (head_of here).1 in
@@ -213,7 +215,8 @@ module _ (p : Accounts) (n : ℕ) (m : Machine) (t : ℕ) (a : Actor) where
       ∙ cells_weigh (closing x) x (i + 1) k refl refl) (λ some. fits.5)
 
   pub after_kind : (x : ℕ) (rest : List Duty) → AtDuty p n m t a (SettleKind x) rest
-      → ResourcesFit ((machine_by_duty m t a (SettleKind x) rest).life x) (resources_at (machine_by_duty m t a (SettleKind x) rest) x)
+      → ResourcesFit ((machine_by_duty m t a (SettleKind x) rest).life x)
+      (resources_at (machine_by_duty m t a (SettleKind x) rest) x)
   after_kind x rest here =
       let d : Duty = SettleKind x in
       let word = m.memory (KindOf x) in

@@ -76,7 +76,8 @@ module _ {p : Accounts} {n : ℕ} {m : Machine} where
   -- A thread's next duty keeps the invariant of every counted row.
   pub rows_after : (t : ℕ) (a : Actor) (d : Duty) (rest : List Duty) → CoreInvariant p n m
       → slice_get m.actors t ≡ Some a → a.agenda ≡ d ∷ rest → NotGone a → (x : ℕ) → IsCounted m.layout x
-      → RowInvariant (block_of m.layout x) ((machine_by_duty m t a d rest).life x) (numbers_of (machine_by_duty m t a d rest) x)
+      → RowInvariant (block_of m.layout x) ((machine_by_duty m t a d rest).life x)
+      (numbers_of (machine_by_duty m t a d rest) x)
   rows_after t a d rest core actor agenda runs x some =
       let s : AtDuty p n m t a d rest = record { core = core; found = actor; agenda = agenda } in
       elim (eqb_tells (subject m.layout t d) x) [

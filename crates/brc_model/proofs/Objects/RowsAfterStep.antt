@@ -28,7 +28,8 @@ following m t a d = continuation m.layout t (is_running a.status) a.head d (foun
 -- The row's invariant holds after the step.
 abbrev pub KeepsRow : Machine → ℕ → Actor → Duty → List Duty → ℕ → Type 0
 KeepsRow m t a d rest x =
-    RowInvariant (block_of m.layout x) ((machine_by_duty m t a d rest).life x) (numbers_of (machine_by_duty m t a d rest) x)
+    RowInvariant (block_of m.layout x) ((machine_by_duty m t a d rest).life x)
+    (numbers_of (machine_by_duty m t a d rest) x)
 
 module _ {p : Accounts} {n : ℕ} {m : Machine} {t : ℕ} {a : Actor} {d : Duty} {rest : List Duty} where
   pub weighed : AtDuty p n m t a d rest → (next : List Duty) → following m t a d ≡ next → (x : ℕ)
@@ -65,8 +66,10 @@ pub row_becomes : (m : Machine) (t : ℕ) (a : Actor) (d : Duty) (rest : List Du
     → (k : Numbers) → IsSame k (numbers_of (machine_by_duty m t a d rest) x) → RowInvariant (block_of m.layout x) life k
     → KeepsRow m t a d rest x
 row_becomes m t a d rest x next follows life lives k same holds =
-    let now : (machine_by_duty m t a d rest).life x ≡ life = ap (λ (ds : List Duty). life_by m.life t d ds x) follows ∙ lives in
-    let numbers : k ≡ numbers_of (machine_by_duty m t a d rest) x = same_numbers k (numbers_of (machine_by_duty m t a d rest) x) same in
+    let now : (machine_by_duty m t a d rest).life x ≡ life = ap (λ (ds : List Duty). life_by m.life t d ds x) follows
+    ∙ lives in
+    let numbers : k ≡ numbers_of (machine_by_duty m t a d rest) x = same_numbers k
+    (numbers_of (machine_by_duty m t a d rest) x) same in
     subst (λ (l : Life). RowInvariant (block_of m.layout x) l (numbers_of (machine_by_duty m t a d rest) x)) (sym now)
     (subst (λ (k : Numbers). RowInvariant (block_of m.layout x) life k) numbers holds)
 
@@ -79,7 +82,8 @@ pub record RowStays (m : Machine) (t : ℕ) (a : Actor) (d : Duty) (rest : List 
     pub local : m.memory (Local x) ≡ (machine_by_duty m t a d rest).memory (Local x)
     pub shared : m.memory (Shared x) ≡ (machine_by_duty m t a d rest).memory (Shared x)
     pub mark : m.memory (Mark x) ≡ (machine_by_duty m t a d rest).memory (Mark x)
-    pub references : references_to x m.abstract.references ≡ references_to x (machine_by_duty m t a d rest).abstract.references
+    pub references : references_to x m.abstract.references
+        ≡ references_to x (machine_by_duty m t a d rest).abstract.references
     pub waiting : sum_by (waits x) next ≡ waits x d
     pub carried : sum_by (carries x) next ≡ carries x d
     pub merging : sum_by (merges x) next ≡ merges x d

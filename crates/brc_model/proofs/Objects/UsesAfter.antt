@@ -40,7 +40,8 @@ dying_not_unborn t e = cc
 
 module _ {p : Accounts} {n : ℕ} {m : Machine} {t : ℕ} {a : Actor} {d : Duty} {rest : List Duty} where
   -- A born row never becomes unborn.
-  pub stays_born : (x : ℕ) → AtDuty p n m t a d rest → m.life x ≢ Unborn → (machine_by_duty m t a d rest).life x ≢ Unborn
+  pub stays_born : (x : ℕ) → AtDuty p n m t a d rest → m.life x ≢ Unborn → (machine_by_duty m t a d rest).life x ≢
+      Unborn
   stays_born x here born = born_left m.life t d (next_of m t a d) x born
 
   -- An unborn row stays unborn unless the step is the last of its birth.
@@ -61,7 +62,8 @@ module _ {p : Accounts} {n : ℕ} {m : Machine} {t : ℕ} {a : Actor} {rest : Li
   born_next _ x here e = absurd (none_some x e)
 
   -- The row that a birth makes is live.
-  born_lives : (d : Duty) (x : ℕ) → AtDuty p n m t a d rest → born_row d ≡ Some x → (machine_by_duty m t a d rest).life x ≡ Live
+  born_lives : (d : Duty) (x : ℕ) → AtDuty p n m t a d rest → born_row d ≡ Some x
+      → (machine_by_duty m t a d rest).life x ≡ Live
   born_lives (BirthLocal y h) x here e = ap (λ (b : Bool). cond b Live (m.life x)) (eq-eqb y x (some_is y x e))
   born_lives _ x here e = absurd (none_some x e)
 
@@ -124,7 +126,8 @@ module _ {p : Accounts} {n : ℕ} {m : Machine} {t : ℕ} {a : Actor} {d : Duty}
       }
 
   -- After a thread's step the used rows of each thread's block are born, and the others aren't.
-  pub uses_after : AtDuty p n m t a d rest → (u : ℕ) (b : Actor) → slice_get (machine_by_duty m t a d rest).actors u ≡ Some b
+  pub uses_after : AtDuty p n m t a d rest → (u : ℕ) (b : Actor) → slice_get (machine_by_duty m t a d rest).actors u
+      ≡ Some b
       → UsesFit m.layout (machine_by_duty m t a d rest).life u b.used
   uses_after here u b is =
       let after = actor_by m.layout t a d rest (found_by m t a d) in
@@ -134,8 +137,10 @@ module _ {p : Accounts} {n : ℕ} {m : Machine} {t : ℕ} {a : Actor} {d : Duty}
             sym (ap (slice_get (slice_set m.actors t after)) same.1
             ∙ slice_get-set_same m.actors t after (slice_get_within m.actors t a here.found)) ∙ is in
             let own : UsesFit m.layout (machine_by_duty m t a d rest).life u after.used =
-            subst (λ (w : ℕ). UsesFit m.layout (machine_by_duty m t a d rest).life w after.used) (sym same.1) (own_uses here) in
-            subst (λ (c : Actor). UsesFit m.layout (machine_by_duty m t a d rest).life u c.used) (some_is after b written_is)
+            subst (λ (w : ℕ). UsesFit m.layout (machine_by_duty m t a d rest).life w after.used) (sym same.1)
+            (own_uses here) in
+            subst (λ (c : Actor). UsesFit m.layout (machine_by_duty m t a d rest).life u c.used)
+            (some_is after b written_is)
             own
         | inr apart ↦ others_uses u b here apart.1 (sym (slice_get-set_other m.actors t u after apart.1) ∙ is)
       ]
@@ -206,7 +211,8 @@ module _ {p : Accounts} {n : ℕ} {m : Machine} {t : ℕ} {a : Actor} {d : Duty}
         | IsBorn now unborn above this none ↦ inr this
       ]
 
-  pub born_has_after : AtDuty p n m t a d rest → (x : ℕ) → IsCounted m.layout x → (machine_by_duty m t a d rest).life x ≢ Unborn
+  pub born_has_after : AtDuty p n m t a d rest → (x : ℕ) → IsCounted m.layout x → (machine_by_duty m t a d rest).life
+      x ≢ Unborn
       → is_among x (machine_by_duty m t a d rest).abstract.born ≡ true
   born_has_after here x above born =
       let Q : List ℕ → Type 0 = λ l. is_among x l ≡ true in

@@ -206,7 +206,8 @@ own_goes p m event t a fits holds found same =
     action_goes m t a (exit_of event.1) (begins_by m t a event.1) (action_of m.functions m.states m.layout t a event.1)
     found
     (action_lowers m t a event.1 (code_here p m a.function fits holds) (holds.counts t a found)) in
-    let at_var : StaysBounded m (after m t event.1 (slice_get m.actors t)) t a (begins m t event.1 (slice_get m.actors t)) =
+    let at_var : StaysBounded m (after m t event.1 (slice_get m.actors t)) t a
+    (begins m t event.1 (slice_get m.actors t)) =
     subst (λ (o : Option StepActor). StaysBounded m (after m t event.1 o) t a (begins m t event.1 o)) (sym found) own in
     subst (λ (u : ℕ). StaysBounded m (after m u event.1 (slice_get m.actors u)) t a
     (begins m t event.1 (slice_get m.actors t))) (sym same) at_var

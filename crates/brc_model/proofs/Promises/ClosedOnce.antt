@@ -26,7 +26,8 @@ use Rattle.brc_model.specs.Invariant.{AtDuty}
 abbrev StaysAmong : Machine → Machine → Type 0
 StaysAmong m new = (x : ℕ) → is_among x m.abstract.closed ≡ true → is_among x new.abstract.closed ≡ true
 
-stays_among : (m : Machine) (t : ℕ) (a : Actor) (d : Duty) (rest : List Duty) → StaysAmong m (machine_by_duty m t a d rest)
+stays_among : (m : Machine) (t : ℕ) (a : Actor) (d : Duty) (rest : List Duty)
+    → StaysAmong m (machine_by_duty m t a d rest)
 stays_among m t a d rest = λ x was.
     elim (closed_step m t d (m.memory (address_of m.layout t a.head d))) [
       | SameClosed none same ↦ ap (is_among x) same ∙ was

@@ -216,10 +216,12 @@ module _ {p : Accounts} {n : ℕ} {m : Machine} {t : ℕ} {a : Actor} {rest : Li
       → AllBehind (machine_by_duty m t a (SettleCell x i k) rest) t (cells_from x (i + 1) k ++ rest)
   emptied_known x i k here =
       let fits = head_of here in
-      cells_known (machine_by_duty m t a (SettleCell x i k) rest) t x (i + 1) k rest fits.0 (emptying_dies x i k here) fits.3
+      cells_known (machine_by_duty m t a (SettleCell x i k) rest) t x (i + 1) k rest fits.0 (emptying_dies x i k here)
+      fits.3
       (one_emptied m.memory x i k fits.4) fits.5 (still_behind here)
 
-  next_behind : (d : Duty) → AtDuty p n m t a d rest → BehindOf (machine_by_duty m t a d rest) t (next_of m t a d ++ rest)
+  next_behind : (d : Duty) → AtDuty p n m t a d rest → BehindOf (machine_by_duty m t a d rest) t
+      (next_of m t a d ++ rest)
   next_behind (SettleCell x i k) here =
       let new = machine_by_duty m t a (SettleCell x i k) rest in
       behind_tail new t (next_of m t a (SettleCell x i k) ++ rest)

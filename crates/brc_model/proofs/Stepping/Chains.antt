@@ -82,7 +82,8 @@ module _ {p : Accounts} {n : ℕ} {m : Machine} where
 
 module _ {p : Accounts} {n : ℕ} {m : Machine} {t : ℕ} {a : Actor} {rest : List Duty} where
   die_chain : (x : ℕ) (agenda : List Duty) → AtDuty p n m t a (Die x) rest
-      → ((y : ℕ) → finalised agenda y ≡ finalised rest y) → ChainFits (machine_by_duty m t a (Die x) rest) t (x + 1) agenda
+      → ((y : ℕ) → finalised agenda y ≡ finalised rest y) → ChainFits (machine_by_duty m t a (Die x) rest) t
+      (x + 1) agenda
   die_chain x agenda here same =
       let old = chain_here here in
       let this : one_if (x == x) ≡ 1 = ap one_if (eq-eqb x x refl) in
@@ -126,7 +127,8 @@ module _ {p : Accounts} {n : ℕ} {m : Machine} {t : ℕ} {a : Actor} {rest : Li
         held = held_same m.abstract.references t (Die x ∷ rest) (ready (x + 1) rest) ready_so.more ready_so.less;
         chain = die_chain x (ready (x + 1) rest) here ready_so.hands;
         fits = agenda_shown m t a (Die x) rest (ready (x + 1) rest) a.status alive refl refl ready_so.fits;
-        knows = λ b status head used locked. ready_so.knows (machine_by_duty m t a (Die x) rest) b head (still_behind here);
+        knows = λ b status head used locked. ready_so.knows (machine_by_duty m t a (Die x) rest) b head
+            (still_behind here);
       })
 
 -- ---- `Settle` takes the first row from the chain
@@ -218,7 +220,8 @@ module _ {p : Accounts} {n : ℕ} {m : Machine} {t : ℕ} {a : Actor} {rest : Li
   -- ---- `SettleEnd` closes the row
 
   end_chain : (x : ℕ) (agenda : List Duty) → AtDuty p n m t a (SettleEnd x) rest
-      → ((y : ℕ) → finalised agenda y ≡ finalised rest y) → ChainFits (machine_by_duty m t a (SettleEnd x) rest) t a.head agenda
+      → ((y : ℕ) → finalised agenda y ≡ finalised rest y) → ChainFits (machine_by_duty m t a (SettleEnd x) rest) t
+      a.head agenda
   end_chain x agenda here kept =
       let old = chain_here here in
       let this : one_if (x == x) ≡ 1 = ap one_if (eq-eqb x x refl) in

@@ -133,7 +133,8 @@ module _ {p : Accounts} {n : ℕ} {m : Machine} {t : ℕ} {a : Actor} {d : Duty}
   -- The chain fits after a step that changes no gate and no life, if the duties finalise what they did before.
   exit_chain : (agenda : List Duty) → AtDuty p n m t a d rest
       → ((y : ℕ) → memory_by m t a d (Gate y) ≡ m.memory (Gate y))
-      → ((y : ℕ) → (machine_by_duty m t a d rest).life y ≡ m.life y) → ((y : ℕ) → finalised agenda y ≡ finalised (d ∷ rest) y)
+      → ((y : ℕ) → (machine_by_duty m t a d rest).life y ≡ m.life y)
+      → ((y : ℕ) → finalised agenda y ≡ finalised (d ∷ rest) y)
       → ChainFits (machine_by_duty m t a d rest) t a.head agenda
   exit_chain agenda here gates lives hands =
       chain_same m (machine_by_duty m t a d rest) t a.head (d ∷ rest) agenda (record {

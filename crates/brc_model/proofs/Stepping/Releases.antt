@@ -143,7 +143,8 @@ module _ {p : Accounts} {n : ℕ} {m : Machine} {t : ℕ} {a : Actor} {rest : Li
         | true ↦ λ e.
             let owns = counts_owner m t a x e living in
             let some = count_above t x a here.core here.found owns (weight_here x here (eq-eqb x x refl) refl) living in
-            let same_word : (machine_by_duty m t a d rest).memory (Local x) ≡ word = written_here m.memory (Local x) word in
+            let same_word : (machine_by_duty m t a d rest).memory (Local x) ≡ word = written_here m.memory
+            (Local x) word in
             own_next (ReleaseStore x word) here alive refl refl refl
             (first ∙ ap (λ (b : Bool). cond b (ReleaseStore x word ∷ []) (SharedLoad x Own ∷ [])) e)
             (keeps (ReleaseStore x word) (λ k o. refl) (λ k o. refl)) later (λ b status head used locked. (
@@ -193,7 +194,8 @@ module _ {p : Accounts} {n : ℕ} {m : Machine} {t : ℕ} {a : Actor} {rest : Li
         | true ↦ λ e.
             let one : local_part w ≡ 1 = eqb-true _ _ e in
             let down = owner_down w fits.3 in
-            let now : (machine_by_duty m t a d rest).memory (Local x) ≡ w - 1 = written_here m.memory (Local x) (w - 1) in
+            let now : (machine_by_duty m t a d rest).memory (Local x) ≡ w - 1 = written_here m.memory (Local x)
+            (w - 1) in
             let zero_left : local_part (w - 1) ≡ 0 = omega (arith, down.1, one) in
             let owner : owner_part (w - 1) ≡ t + 1 = down.0 ∙ ap owner_part (sym fits.2) ∙ fits.1.owner in
             own_next (DecideAtZero x) here alive refl refl refl (ap (λ (b : Bool). cond b (DecideAtZero x ∷ []) []) e)

@@ -88,7 +88,8 @@ agenda_from _ used status rest inner later = later
 module _ {p : Accounts} {n : ℕ} {m : Machine} {t : ℕ} {a : Actor} {d : Duty} {rest : List Duty} where
   settles_on : (e : Duty) (x : ℕ) → AtDuty p n m t a d rest → NotGone a → SettlingStep m t a d x rest → KeepsHand e x
       → next_of m t a d ≡ e ∷ []
-      → ((machine_by_duty m t a d rest).life x ≡ Dying t → IsDyingWord t ((machine_by_duty m t a d rest).memory (Gate x)) → (b : Actor)
+      → ((machine_by_duty m t a d rest).life x ≡ Dying t
+      → IsDyingWord t ((machine_by_duty m t a d rest).memory (Gate x)) → (b : Actor)
       → HeadFits (machine_by_duty m t a d rest) t b e rest) → FitsAfter p m t a d rest
   settles_on e x here alive step keeps next knows =
       let dying : dies_next (e ∷ []) ≡ None = ap (λ (k : Hand). k.dying) keeps in

@@ -278,7 +278,8 @@ module _ {p : Accounts} {n : ℕ} {m : Machine} {t : ℕ} {a : Actor} {d : Duty}
 
 module _ {p : Accounts} {n : ℕ} {m : Machine} {t : ℕ} {a : Actor} {rest : List Duty} where
   -- After a thread's step each mark is clear, or set and watched.
-  pub marks_after : (d : Duty) → AtDuty p n m t a d rest → NotGone a → (x : ℕ) → MarkFits (machine_by_duty m t a d rest) x
+  pub marks_after : (d : Duty) → AtDuty p n m t a d rest → NotGone a → (x : ℕ)
+      → MarkFits (machine_by_duty m t a d rest) x
   marks_after (SetMark y) here alive x =
       elim (eqb_tells y x) [
         | inl same ↦

@@ -20,7 +20,7 @@ use Rattle.brc_model.specs.declared.duty.Holding.TheVariants.{AsCaller}
 use Rattle.brc_model.specs.declared.state.Exit.TheVariants.{Success, Fault}
 use Rattle.brc_model.specs.declared.event.WordEvent.{WordEvent}
 use Rattle.brc_table.specs.declared.view.View.{View}
-use Rattle.brc_table.specs.Views.{view_by, view_after, bearing, next_row, slot_filled, slot_filled_by}
+use Rattle.brc_table.specs.Views.{view_by, view_after, bearing, next_row, slot_filled, slot_filled_by, with_next}
 use Rattle.brc_heap.specs.Calls.{born}
 use Rattle.brc_model.specs.Trace.{events_of}
 use Rattle.brc_work.specs.Traces.{Makes, Refl, Reads, Continues, Traces, MakesTrace, thread_with, begun_at, has_read}
@@ -36,28 +36,28 @@ birth_next has x holding = cond has (BirthSlot x holding ∷ []) (BirthLocal x h
 
 -- the hand before it stores the first local word
 abbrev pub begun : View → ℕ → View
-begun v word = record (view_after (bearing v word) 0) { agenda = BirthLocal (next_row v) AsCaller ∷ [] }
+begun v word = with_next (view_after (bearing v word) 0) (BirthLocal (next_row v) AsCaller ∷ [])
 
-filled_is : (has : Bool) (head x : ℕ) (u : View) → u.agenda ≡ ready head (birth_next has x AsCaller ++ [])
-    → slot_filled u ≡ record u { agenda = BirthLocal x AsCaller ∷ [] }
+filled_is : (has : Bool) (head x : ℕ) (u : View) → u.actor.agenda ≡ ready head (birth_next has x AsCaller ++ [])
+    → slot_filled u ≡ with_next u (BirthLocal x AsCaller ∷ [])
 filled_is true zero x u is = ap (λ (ds : List Duty). slot_filled_by ds u) is
 filled_is true (suc head) x u is = ap (λ (ds : List Duty). slot_filled_by ds u) is
 filled_is false zero x u is =
-    ap (λ (ds : List Duty). slot_filled_by ds u) is ∙ ap (λ (ds : List Duty). record u { agenda = ds }) is
+    ap (λ (ds : List Duty). slot_filled_by ds u) is ∙ ap (with_next u) is
 filled_is false (suc head) x u is =
-    ap (λ (ds : List Duty). slot_filled_by ds u) is ∙ ap (λ (ds : List Duty). record u { agenda = ds }) is
+    ap (λ (ds : List Duty). slot_filled_by ds u) is ∙ ap (with_next u) is
 
 -- A birth is two stores.
 born_is : (v : View) (word : ℕ) → born v word ≡ view_by (begun v word) (BirthLocal (next_row v) AsCaller ∷ []) 0
 born_is v word =
     ap (λ (u : View). view_after u 0)
-    (filled_is (has_resource word) v.head (next_row v) (view_after (bearing v word) 0) refl)
+    (filled_is (has_resource word) v.actor.head (next_row v) (view_after (bearing v word) 0) refl)
 
 -- The thread puts the resource into the slot, if the object has one: by this no word changes.
 fills : (has : Bool) (code : List Instr) (q : Place) (x : ℕ) (holding : Holding) (u : View)
-    → Traces 0 [] code q (ready u.head (birth_next has x holding ++ [])) u q (BirthLocal x holding ∷ []) u
+    → Traces 0 [] code q (ready u.actor.head (birth_next has x holding ++ [])) u q (BirthLocal x holding ∷ []) u
 fills true code q x holding u =
-    let filled : Traces 0 [] code q (BirthSlot x holding ∷ []) u q (ready u.head (BirthLocal x holding ∷ [])) u =
+    let filled : Traces 0 [] code q (BirthSlot x holding ∷ []) u q (ready u.actor.head (BirthLocal x holding ∷ [])) u =
     record {
       events = [];
       trace = sym (append-nil u.trace);
@@ -66,12 +66,12 @@ fills true code q x holding u =
       thread = refl;
     } in
     subst (λ (ds : List Duty). Traces 0 [] code q ds u q (BirthLocal x holding ∷ []) u)
-    (sym (comes_next u.head (BirthSlot x holding) [] refl))
+    (sym (comes_next u.actor.head (BirthSlot x holding) [] refl))
     (with_duties code q q (BirthSlot x holding ∷ []) _ (BirthLocal x holding ∷ []) u u
-    (comes_next u.head (BirthLocal x holding) [] refl) filled)
+    (comes_next u.actor.head (BirthLocal x holding) [] refl) filled)
 fills false code q x holding u =
     subst (λ (ds : List Duty). Traces 0 [] code q ds u q (BirthLocal x holding ∷ []) u)
-    (sym (comes_next u.head (BirthLocal x holding) [] refl)) (no_trace code q (BirthLocal x holding ∷ []) u)
+    (sym (comes_next u.actor.head (BirthLocal x holding) [] refl)) (no_trace code q (BirthLocal x holding ∷ []) u)
 
 birth_same : (v : View) (word : ℕ) (holding : Holding)
     → IsSame (bearing v word) (BirthKind (next_row v) holding word) (BirthKind (next_row v) AsCaller word) 0
@@ -97,12 +97,13 @@ born_after {n} {cs} code p q v word holding first =
     (traces_then code q q q duties locally locally stored stored filled
     (fills (has_resource word) code q x holding stored)
     (quietly code q locally stored filled refl refl refl refl))
-    (with_duties code q q locally _ [] filled last (no_duty v.head)
+    (with_duties code q q locally _ [] filled last (no_duty v.actor.head)
     (continues_with code q filled (BirthLocal x holding) (BirthLocal x AsCaller) [] [] 0
     (record { event = refl; status = refl; head = refl; used = refl; locked = refl; lent = refl }) refl))))
 
 -- A hand without work turns to a birth.
-turns_to_birth : {n : ℕ} {cs : List HostCall} (code : List Instr) (p q : Place) (v : View) (word : ℕ) → v.agenda ≡ []
+turns_to_birth : {n : ℕ} {cs : List HostCall} (code : List Instr) (p q : Place) (v : View) (word : ℕ) → v.actor.agenda
+    ≡ []
     → MakesTrace n cs code p v q v → MakesTrace n cs code p v q (bearing v word)
 turns_to_birth code p q v word none one =
     let x = next_row v in
@@ -111,7 +112,7 @@ turns_to_birth code p q v word none one =
 
 -- The birth of what `read` has read.
 reads : (code : List Instr) (place : Place) (context : Context) (at : ℕ) (rows : List (Option ℕ)) (v : View)
-    (to file most otherwise count : ℕ) → v.agenda ≡ []
+    (to file most otherwise count : ℕ) → v.actor.agenda ≡ []
     → slice_get code at ≡ Some (instructions.Read to file most otherwise) → count ≤ most
     → MakesTrace 1 (asked.Read most (Some count) ∷ []) code place v (Inside context at rows Granted) v
     → Traces 1 (asked.Read most (Some count) ∷ []) code place [] v
@@ -142,7 +143,7 @@ reads code place context at rows v to file most otherwise count none found few g
     }
 
 -- A hand gives birth to an object.
-pub bears : (to word : ℕ) (rows after_rows : List (Option ℕ)) (v u : View) → v.agenda ≡ [] → u ≡ born v word
+pub bears : (to word : ℕ) (rows after_rows : List (Option ℕ)) (v u : View) → v.actor.agenda ≡ [] → u ≡ born v word
     → after_rows ≡ slice_set rows to (Some (next_row v)) → MakesBirth to word rows v after_rows u
 bears to word rows after_rows v u none is named = record {
   named = named;
@@ -168,10 +169,10 @@ bears to word rows after_rows v u none is named = record {
 
 module _ (to otherwise word : ℕ) (i : Instr) (rows after_rows : List (Option ℕ)) (v u : View) where
   -- An instruction that makes an object, if the hand's block has room for it.
-  pub makes_object : has_room v.layout v.thread v.used ≡ true → MakesBirth to word rows v after_rows u
+  pub makes_object : has_room v.layout v.thread v.actor.used ≡ true → MakesBirth to word rows v after_rows u
       → (code : List Instr) (place : Place) (context : Context) (at : ℕ)
-      → dispatch v.layout v.thread v.used code place
-      ≡ birth_action v.layout v.thread v.used context at rows to word otherwise
+      → dispatch v.layout v.thread v.actor.used code place
+      ≡ birth_action v.layout v.thread v.actor.used context at rows to word otherwise
       → has_read code place ≡ false
       → MakesTrace (begun_at place) [] code place v (InCall context (at + 1) after_rows) u
   makes_object room birth code place context at is new =
@@ -186,10 +187,11 @@ module _ (to otherwise word : ℕ) (i : Instr) (rows after_rows : List (Option �
 
 -- An instruction that needs room for an object goes on at `otherwise` without it.
 pub makes_no_object : (to otherwise : ℕ) (rows after_rows : List (Option ℕ)) (v : View)
-    → has_room v.layout v.thread v.used ≡ false → after_rows ≡ slice_set rows to None
+    → has_room v.layout v.thread v.actor.used ≡ false → after_rows ≡ slice_set rows to None
     → (work : Action) (code : List Instr) (place : Place) (context : Context)
-    → dispatch v.layout v.thread v.used code place
-    ≡ cond (has_room v.layout v.thread v.used) work (Silent [] (InCall context otherwise (slice_set rows to None)))
+    → dispatch v.layout v.thread v.actor.used code place
+    ≡ cond (has_room v.layout v.thread v.actor.used) work
+    (Silent [] (InCall context otherwise (slice_set rows to None)))
     → MakesTrace (begun_at place) [] code place v (InCall context otherwise after_rows) v
 makes_no_object to otherwise rows after_rows v room named work code place context is =
     let goes = λ (b : Bool). cond b work (Silent [] (InCall context otherwise (slice_set rows to None))) in
@@ -198,35 +200,35 @@ makes_no_object to otherwise rows after_rows v room named work code place contex
     (goes_silently code place v (InCall context otherwise (slice_set rows to None)) [] (is ∙ ap goes room))
 
 pub makes_num : (to value otherwise : ℕ) (rows after_rows : List (Option ℕ)) (v u : View)
-    → has_room v.layout v.thread v.used ≡ true → MakesBirth to (number_word value) rows v after_rows u
+    → has_room v.layout v.thread v.actor.used ≡ true → MakesBirth to (number_word value) rows v after_rows u
     → Performs [] (instructions.Num to value otherwise) Success rows v after_rows u
 makes_num to value otherwise rows after_rows v u room birth = λ code place context at before.
     let i = instructions.Num to value otherwise in
     begins_one before
     (makes_object to otherwise (number_word value) i rows after_rows v u room birth code place context at
-    (begins i code place context at rows before v.layout v.thread v.used) before.comes.begins)
+    (begins i code place context at rows before v.layout v.thread v.actor.used) before.comes.begins)
 
 pub makes_no_num : (to value otherwise : ℕ) (rows after_rows : List (Option ℕ)) (v : View)
-    → has_room v.layout v.thread v.used ≡ false → after_rows ≡ slice_set rows to None
+    → has_room v.layout v.thread v.actor.used ≡ false → after_rows ≡ slice_set rows to None
     → Performs [] (instructions.Num to value otherwise) Fault rows v after_rows v
 makes_no_num to value otherwise rows after_rows v room named = λ code place context at before.
     let i = instructions.Num to value otherwise in
     begins_one before (makes_no_object to otherwise rows after_rows v room named _ code place context
-    (begins i code place context at rows before v.layout v.thread v.used))
+    (begins i code place context at rows before v.layout v.thread v.actor.used))
 
 pub makes_list : (to cells otherwise : ℕ) (rows after_rows : List (Option ℕ)) (v u : View)
-    → has_room v.layout v.thread v.used ≡ true → MakesBirth to (list_word cells) rows v after_rows u
+    → has_room v.layout v.thread v.actor.used ≡ true → MakesBirth to (list_word cells) rows v after_rows u
     → Performs [] (instructions.List to cells otherwise) Success rows v after_rows u
 makes_list to cells otherwise rows after_rows v u room birth = λ code place context at before.
     let i = instructions.List to cells otherwise in
     begins_one before
     (makes_object to otherwise (list_word cells) i rows after_rows v u room birth code place context at
-    (begins i code place context at rows before v.layout v.thread v.used) before.comes.begins)
+    (begins i code place context at rows before v.layout v.thread v.actor.used) before.comes.begins)
 
 pub makes_no_list : (to cells otherwise : ℕ) (rows after_rows : List (Option ℕ)) (v : View)
-    → has_room v.layout v.thread v.used ≡ false → after_rows ≡ slice_set rows to None
+    → has_room v.layout v.thread v.actor.used ≡ false → after_rows ≡ slice_set rows to None
     → Performs [] (instructions.List to cells otherwise) Fault rows v after_rows v
 makes_no_list to cells otherwise rows after_rows v room named = λ code place context at before.
     let i = instructions.List to cells otherwise in
     begins_one before (makes_no_object to otherwise rows after_rows v room named _ code place context
-    (begins i code place context at rows before v.layout v.thread v.used))
+    (begins i code place context at rows before v.layout v.thread v.actor.used))

@@ -42,17 +42,17 @@ no_duty (suc head) = refl
 -- The thread's duty d is the hand's duty e: they make the same event and change the same. A hand lends by no duty.
 pub record IsSame (u : View) (d e : Duty) (found : ℕ) : Type 0 where
   pub event : events_of u.layout u.thread (thread_with u []) d found ≡ event_of u e found ∷ []
-  pub status : status_by u.status d ≡ status_by u.status e
-  pub head : new_head u.head d found ≡ new_head u.head e found
-  pub used : used_by u.used d ≡ used_by u.used e
-  pub locked : locked_by u.locked d found ≡ locked_by u.locked e found
+  pub status : status_by u.actor.status d ≡ status_by u.actor.status e
+  pub head : new_head u.actor.head d found ≡ new_head u.actor.head e found
+  pub used : used_by u.actor.used d ≡ used_by u.actor.used e
+  pub locked : locked_by u.actor.locked d found ≡ locked_by u.actor.locked e found
   pub lent : lent_by None d found ≡ None
 
 -- what comes next after the thread's duty
 abbrev pub next_duties : View → Duty → List Duty → ℕ → List Duty
 next_duties u d rest found =
-    ready (new_head u.head d found)
-    (continuation u.layout u.thread (is_running u.status) u.head d found ++ rest)
+    ready (new_head u.actor.head d found)
+    (continuation u.layout u.thread (is_running u.actor.status) u.actor.head d found ++ rest)
 
 module _ (code : List Instr) (q : Place) (u : View) (d e : Duty) (rest behind : List Duty) (found : ℕ)
     (same : IsSame u d e found) where
@@ -61,7 +61,7 @@ module _ (code : List Instr) (q : Place) (u : View) (d e : Duty) (rest behind : 
   same_thread = λ i. record {
     status = same.status i;
     agenda = next_duties u d rest found;
-    aside = u.aside;
+    aside = u.actor.aside;
     head = same.head i;
     used = same.used i;
     locked = same.locked i;
@@ -69,9 +69,10 @@ module _ (code : List Instr) (q : Place) (u : View) (d e : Duty) (rest behind : 
   }
 
   -- The duty is the first one of an instruction,
-  pub starts_with : (next : ℕ → Place) → dispatch u.layout u.thread u.used code q ≡ Does d rest next
+  pub starts_with : (next : ℕ → Place) → dispatch u.layout u.thread u.actor.used code q ≡ Does d rest next
       → (is_birth d && has_read code q) ≡ false
-      → Traces (begun_by q d found) [] code q [] u (next found) (next_duties u d rest found) (view_by u (e ∷ behind) found)
+      → Traces (begun_by q d found) [] code q [] u (next found) (next_duties u d rest found)
+      (view_by u (e ∷ behind) found)
   starts_with next is new = record {
     events = events_of u.layout u.thread (thread_with u []) d found;
     trace = ap (λ (es : List WordEvent). u.trace ++ es) (sym same.event);
@@ -98,9 +99,9 @@ module _ (code : List Instr) (q : Place) (u : View) (d e : Duty) (rest behind : 
   }
 
 -- A hand with nothing to do does nothing.
-pub does_nothing : (u : View) (found : ℕ) → u.agenda ≡ [] → view_after u found ≡ u
+pub does_nothing : (u : View) (found : ℕ) → u.actor.agenda ≡ [] → view_after u found ≡ u
 does_nothing u found none = ap (λ (ds : List Duty). view_by u ds found) none
 
-pub does_first : (u : View) (found : ℕ) (e : Duty) (behind : List Duty) → u.agenda ≡ e ∷ behind
+pub does_first : (u : View) (found : ℕ) (e : Duty) (behind : List Duty) → u.actor.agenda ≡ e ∷ behind
     → view_after u found ≡ view_by u (e ∷ behind) found
 does_first u found e behind is = ap (λ (ds : List Duty). view_by u ds found) is

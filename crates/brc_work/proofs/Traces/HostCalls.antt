@@ -71,7 +71,7 @@ asks_connect to peer otherwise = record {
 module _ (i : Instr) (to otherwise word : ℕ) (is : AsksFor i to otherwise word) (rows after_rows : List (Option ℕ))
     (v : View) where
   -- If the hand's block has room for the object, the thread calls the host, and goes on where the answer says.
-  asks_host : has_room v.layout v.thread v.used ≡ true → (call : HostCall) → Requests [] i call
+  asks_host : has_room v.layout v.thread v.actor.used ≡ true → (call : HostCall) → Requests [] i call
       → (code : List Instr) (place : Place) (context : Context) (at : ℕ) → IsBefore i code place context at rows
       → MakesTrace 1 (call ∷ []) code place v
       (by_exit (Inside context at rows Granted) (InCall context otherwise (slice_set rows to None)) (exit_of call)) v
@@ -79,15 +79,15 @@ module _ (i : Instr) (to otherwise word : ℕ) (is : AsksFor i to otherwise word
       let after =
       by_exit (Inside context at rows Granted) (InCall context otherwise (slice_set rows to None)) in
       begins_one before (calls_host code place v None after i call
-      (begins i code place context at rows before v.layout v.thread v.used
-      ∙ (is.asks v.layout v.thread v.used place context at rows
+      (begins i code place context at rows before v.layout v.thread v.actor.used
+      ∙ (is.asks v.layout v.thread v.actor.used place context at rows
       ∙ ap (λ (b : Bool). cond b (Calls None after) (Silent [] (InCall context otherwise (slice_set rows to None))))
       room))
       (before.comes.names ∙ before.found) asks)
 
   -- The host grants the resource,
   pub grants : (u : View) (call : HostCall) → Requests [] i call → has_failed call ≡ false
-      → has_room v.layout v.thread v.used ≡ true → MakesBirth to word rows v after_rows u
+      → has_room v.layout v.thread v.actor.used ≡ true → MakesBirth to word rows v after_rows u
       → Performs (call ∷ []) i Success rows v after_rows u
   grants u call asks succeeds room birth = λ code place context at before.
       let granted = Inside context at rows Granted in
@@ -101,13 +101,13 @@ module _ (i : Instr) (to otherwise word : ℕ) (is : AsksFor i to otherwise word
       (subst (λ (b : Bool). MakesTrace 1 calls code place v (by_exit granted refused (cond b Fault Success)) v) succeeds
       (asks_host room call asks code place context at before))
       (birth.first code granted (next (slice_set rows to (Some (next_row v)))) (by_variable context to)
-      (goes_on i code place context at rows before v.layout v.thread v.used Granted
-      ∙ is.bears v.layout v.thread v.used context at rows)
+      (goes_on i code place context at rows before v.layout v.thread v.actor.used Granted
+      ∙ is.bears v.layout v.thread v.actor.used context at rows)
       (ap is_read before.found ∙ is.reads_nothing))))
 
   -- or refuses it,
   pub refuses : (call : HostCall) → Requests [] i call → has_failed call ≡ true
-      → has_room v.layout v.thread v.used ≡ true → after_rows ≡ slice_set rows to None
+      → has_room v.layout v.thread v.actor.used ≡ true → after_rows ≡ slice_set rows to None
       → Performs (call ∷ []) i Fault rows v after_rows v
   refuses call asks fails room named = λ code place context at before.
       let granted = Inside context at rows Granted in
@@ -120,13 +120,13 @@ module _ (i : Instr) (to otherwise word : ℕ) (is : AsksFor i to otherwise word
       (asks_host room call asks code place context at before)))
 
   -- or isn't asked, since there is no room for the object.
-  pub asks_nothing : has_room v.layout v.thread v.used ≡ false → after_rows ≡ slice_set rows to None
+  pub asks_nothing : has_room v.layout v.thread v.actor.used ≡ false → after_rows ≡ slice_set rows to None
       → Performs [] i Fault rows v after_rows v
   asks_nothing room named = λ code place context at before.
       subst (λ (o : Option ℕ). MakesTrace 1 [] code place v (place_after context o after_rows) v) (sym (is.faults at))
       (begins_one before (makes_no_object to otherwise rows after_rows v room named _ code place context
-      (begins i code place context at rows before v.layout v.thread v.used
-      ∙ is.asks v.layout v.thread v.used place context at rows)))
+      (begins i code place context at rows before v.layout v.thread v.actor.used
+      ∙ is.asks v.layout v.thread v.actor.used place context at rows)))
 
 -- ---- a resource that is lent
 
@@ -139,10 +139,11 @@ module _ (code : List Instr) (context : Context) (at : ℕ) (rows : List (Option
   -- hand makes no step on a word meanwhile. If the thread is before an instruction, that has begun with it.
   lends : {n : ℕ} (start p q : Place) (i : Instr) (call : HostCall) (one : MakesTrace n [] code start v p u)
       → slice_get code at ≡ Some i → Requests one.events i call
-      → dispatch v.layout v.thread u.used code p ≡ lend_action context at rows file
-      → dispatch v.layout v.thread u.used code (Inside context at rows Lent)
+      → dispatch v.layout v.thread u.actor.used code p ≡ lend_action context at rows file
+      → dispatch v.layout v.thread u.actor.used code (Inside context at rows Lent)
       ≡ Calls (row_of rows file) (λ e. Inside context at rows (Called e))
-      → dispatch v.layout v.thread u.used code (Inside context at rows (Called (exit_of call))) ≡ return_action rows
+      → dispatch v.layout v.thread u.actor.used code (Inside context at rows (Called (exit_of call)))
+      ≡ return_action rows
       file q
       → MakesTrace (n + begun_at p) (call ∷ []) code start v q u
   lends {n} start p q i call one found asks takes calls puts =
@@ -153,7 +154,7 @@ module _ (code : List Instr) (context : Context) (at : ℕ) (rows : List (Option
       let a = thread_with u [] in
       let b = actor_by v.layout v.thread a (LendSlot row) [] 1 in
       let same : actor_by v.layout v.thread b (ReturnSlot row) [] 0 ≡ a =
-      λ i. record (thread_with u []) { agenda = no_duty u.head i } in
+      λ i. record (thread_with u []) { agenda = no_duty u.actor.head i } in
       let no_more : one.events ++ [] ≡ one.events = append-nil one.events in
       let takes_it : Makes v.layout v.thread code start (thread_with v []) begun [] (one.events ++ []) lent b =
       Dispatches n [] one.events p a (LendSlot row) [] (always lent) 1 one.makes refl
@@ -163,11 +164,11 @@ module _ (code : List Instr) (context : Context) (at : ℕ) (rows : List (Option
       Asks begun [] one.events lent b (row_of rows file) called i call
       (subst (λ (es : List WordEvent). Makes v.layout v.thread code start (thread_with v []) begun [] es lent b) no_more
       takes_it)
-      (no_duty u.head) calls found asks in
+      (no_duty u.actor.head) calls found asks in
       let puts_it : Makes v.layout v.thread code start (thread_with v []) ((begun + 0) + 0) (call ∷ [])
       (one.events ++ []) q (actor_by v.layout v.thread b (ReturnSlot row) [] 0) =
       Dispatches (begun + 0) (call ∷ []) one.events (called (exit_of call)) b (ReturnSlot row) [] (always q) 0 asks_it
-      (no_duty u.head) (puts ∙ ap (works ReturnSlot q) names) refl in
+      (no_duty u.actor.head) (puts ∙ ap (works ReturnSlot q) names) refl in
       record {
         events = one.events;
         trace = one.trace;
@@ -185,18 +186,19 @@ module _ (code : List Instr) (context : Context) (at : ℕ) (rows : List (Option
 
 -- Without room for the number nothing is read.
 pub reads_nothing : (to file most otherwise : ℕ) (rows after_rows : List (Option ℕ)) (v : View)
-    → has_room v.layout v.thread v.used ≡ false → after_rows ≡ slice_set rows to None
+    → has_room v.layout v.thread v.actor.used ≡ false → after_rows ≡ slice_set rows to None
     → Performs [] (instructions.Read to file most otherwise) Fault rows v after_rows v
 reads_nothing to file most otherwise rows after_rows v room named = λ code place context at before.
     begins_one before (makes_no_object to otherwise rows after_rows v room named _ code place context
-    (begins (instructions.Read to file most otherwise) code place context at rows before v.layout v.thread v.used))
+    (begins (instructions.Read to file most otherwise) code place context at rows before v.layout v.thread
+    v.actor.used))
 
 module _ (to file most otherwise row : ℕ) (rows after_rows : List (Option ℕ)) (v : View)
-    (names : row_of rows file ≡ Some row) (room : has_room v.layout v.thread v.used ≡ true) where
+    (names : row_of rows file ≡ Some row) (room : has_room v.layout v.thread v.actor.used ≡ true) where
   -- The thread goes on where the host's answer says.
   asks_read : (got : Option ℕ) (q : Place) (code : List Instr) (place : Place) (context : Context) (at : ℕ)
       → IsBefore (instructions.Read to file most otherwise) code place context at rows
-      → dispatch_inside v.layout v.thread v.used context at rows (Called (exit_of (asked.Read most got)))
+      → dispatch_inside v.layout v.thread v.actor.used context at rows (Called (exit_of (asked.Read most got)))
       (Some (instructions.Read to file most otherwise))
       ≡ return_action rows file q
       → MakesTrace 1 (asked.Read most got ∷ []) code place v q v
@@ -207,9 +209,10 @@ module _ (to file most otherwise row : ℕ) (rows after_rows : List (Option ℕ)
       subst (λ (n : ℕ). MakesTrace (0 + n) (asked.Read most got ∷ []) code place v q v) before.comes.begun
       (lends code context at rows file row names v v place place q i (asked.Read most got)
       (no_trace code place [] v) before.found (ForBytes to file most otherwise got)
-      (begins i code place context at rows before v.layout v.thread v.used ∙ ap goes room)
-      (goes_on i code place context at rows before v.layout v.thread v.used Lent)
-      (goes_on i code place context at rows before v.layout v.thread v.used (Called (exit_of (asked.Read most got)))
+      (begins i code place context at rows before v.layout v.thread v.actor.used ∙ ap goes room)
+      (goes_on i code place context at rows before v.layout v.thread v.actor.used Lent)
+      (goes_on i code place context at rows before v.layout v.thread v.actor.used
+      (Called (exit_of (asked.Read most got)))
       ∙ puts))
 
   -- The number is how many bytes were read,
@@ -235,13 +238,13 @@ module _ (to file most otherwise row : ℕ) (rows after_rows : List (Option ℕ)
 abbrev pub sends : ℕ → Bool → HostCall
 sends word failed = asked.Write (decimal (argument_part word) ++ 10 ∷ []) failed
 
-module _ (file number otherwise object row word : ℕ) (rows : List (Option ℕ)) (v u : View) (idle : v.agenda ≡ [])
+module _ (file number otherwise object row word : ℕ) (rows : List (Option ℕ)) (v u : View) (idle : v.actor.agenda ≡ [])
     (names_number : row_of rows number ≡ Some object) (names_file : row_of rows file ≡ Some row)
     (is : u ≡ view_after (asking v object) word) where
   -- The thread loads the number's kind word, and goes on where the host's answer says.
   asks_write : (failed : Bool) (q : Place) (code : List Instr) (place : Place) (context : Context) (at : ℕ)
       → IsBefore (instructions.Write file number otherwise) code place context at rows
-      → dispatch_inside v.layout v.thread v.used context at rows (Called (exit_of (sends word failed)))
+      → dispatch_inside v.layout v.thread v.actor.used context at rows (Called (exit_of (sends word failed)))
       (Some (instructions.Write file number otherwise))
       ≡ return_action rows file q
       → MakesTrace 1 (sends word failed ∷ []) code place v q u
@@ -249,15 +252,15 @@ module _ (file number otherwise object row word : ℕ) (rows : List (Option ℕ)
       let i = instructions.Write file number otherwise in
       let loaded = Inside context at rows Loaded in
       let one = asks_kind_once code place (always loaded) v idle object word
-      (begins_with i code place context at rows before v.layout v.thread v.used number object
+      (begins_with i code place context at rows before v.layout v.thread v.actor.used number object
       (λ x. Does (KindLoad x) [] (always loaded)) refl names_number) in
       subst (λ (n : ℕ). MakesTrace (n + 0) (sends word failed ∷ []) code place v q u) before.comes.begun
       (subst (MakesTrace (begun_at place + 0) (sends word failed ∷ []) code place v q) (sym is)
       (lends code context at rows file row names_file v (view_after (asking v object) word) place loaded q i
       (sends word failed) one.0 before.found (ForLine file number otherwise [] (kind_event object word) failed one.1)
-      (goes_on i code place context at rows before v.layout v.thread v.used Loaded)
-      (goes_on i code place context at rows before v.layout v.thread v.used Lent)
-      (goes_on i code place context at rows before v.layout v.thread v.used (Called (exit_of (sends word failed)))
+      (goes_on i code place context at rows before v.layout v.thread v.actor.used Loaded)
+      (goes_on i code place context at rows before v.layout v.thread v.actor.used Lent)
+      (goes_on i code place context at rows before v.layout v.thread v.actor.used (Called (exit_of (sends word failed)))
       ∙ puts)))
 
   -- The host has written the number,

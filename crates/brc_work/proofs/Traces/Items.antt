@@ -35,7 +35,7 @@ use Rattle.brc_work.proofs.Traces.Starting.{asks_kind, looks_in, retains}
 -- The variable names the list, whose kind word says how many cells it has. The hand has loaded that word. The cell is
 -- that of the instruction.
 pub record HasSized (list row index cell size word : ℕ) (rows : List (Option ℕ)) (v u : View) : Type 0 where
-  pub none : v.agenda ≡ []
+  pub none : v.actor.agenda ≡ []
   pub names : row_of rows list ≡ Some row
   pub same : cell ≡ index
   pub size_is : size ≡ cells_of word
@@ -60,8 +60,8 @@ at_none empty holds (suc x) is = absurd (none_some x (sym is))
 module _ (list row index cell size word : ℕ) (rows : List (Option ℕ)) (v mid : View)
     (sized : HasSized list row index cell size word rows v mid) where
   -- After that look the hand has nothing to do.
-  idle : mid.agenda ≡ []
-  idle = ap (λ (u : View). u.agenda) sized.view_is ∙ no_duty v.head
+  idle : mid.actor.agenda ≡ []
+  idle = ap (λ (u : View). u.actor.agenda) sized.view_is ∙ no_duty v.actor.head
 
   module _ (i : Instr) (code : List Instr) (place : Place) (context : Context) (at : ℕ)
       (before : IsBefore i code place context at rows) (outside : Place) where
@@ -71,12 +71,12 @@ module _ (list row index cell size word : ℕ) (rows : List (Option ℕ)) (v mid
 
     -- The instruction begins with the look: without the cell the thread is outside.
     abbrev LooksFirst : Type 0
-    LooksFirst = dispatch_instruction v.layout v.thread v.used place context at rows (Some i)
+    LooksFirst = dispatch_instruction v.layout v.thread v.actor.used place context at rows (Some i)
         ≡ with_row (row_of rows list) (λ x. Does (KindLoad x) [] (by_range index inside outside))
 
     -- The instruction goes on with a look into the cell.
     abbrev LooksInto : (ℕ → Place) → Type 0
-    LooksInto holds = dispatch_inside mid.layout mid.thread mid.used context at rows InRange (Some i)
+    LooksInto holds = dispatch_inside mid.layout mid.thread mid.actor.used context at rows InRange (Some i)
         ≡ with_row (row_of rows list) (λ x. Does (CellLoad x index) [] (by_item outside holds))
 
     -- The word found decides where the thread is.
@@ -87,7 +87,7 @@ module _ (list row index cell size word : ℕ) (rows : List (Option ℕ)) (v mid
         subst (λ (q : Place). MakesTrace 1 [] code place v q mid) (ap (λ (c : Bool). cond c inside outside) answer)
         (subst (MakesTrace 1 [] code place v (next word)) (sym sized.view_is)
         (begins_one before (asks_kind code place next v sized.none row word
-        (begins_with i code place context at rows before v.layout v.thread v.used list row
+        (begins_with i code place context at rows before v.layout v.thread v.actor.used list row
         (λ x. Does (KindLoad x) [] next) is sized.names))))
 
     -- The list has no such cell,
@@ -106,7 +106,7 @@ module _ (list row index cell size word : ℕ) (rows : List (Option ℕ)) (v mid
         subst (MakesTrace 0 [] code inside mid (next w))
         (sym (view_is ∙ ap (λ (n : ℕ). view_after (loading_cell mid row n) w) sized.same))
         (looks_in code inside next mid idle row index w
-        (goes_on_with i code place context at rows before mid.layout mid.thread mid.used InRange list row
+        (goes_on_with i code place context at rows before mid.layout mid.thread mid.actor.used InRange list row
         (λ x. Does (CellLoad x index) [] next) is sized.names))
 
     -- The cell is empty,
@@ -191,9 +191,10 @@ module _ (list row index cell size word : ℕ) (rows : List (Option ℕ)) (v mid
         (traces_then code place (holds item) last [] [] [] v seen u
         (finds_item i code place context at before (place_without context) w item seen holds low found refl refl)
         (subst (MakesTrace 0 [] code (holds item) seen last) (sym is)
-        (retains code (holds item) (always last) seen (ap (λ (x : View). x.agenda) found.view_is ∙ no_duty mid.head)
+        (retains code (holds item) (always last) seen (ap (λ (x : View). x.actor.agenda) found.view_is
+        ∙ no_duty mid.actor.head)
         item local shared (by_variable context to)
-        (goes_on i code place context at rows before seen.layout seen.thread seen.used (Found item)))))
+        (goes_on i code place context at rows before seen.layout seen.thread seen.actor.used (Found item)))))
 
   -- ---- items that are stored
 
@@ -266,6 +267,6 @@ module _ (list row index cell size word : ℕ) (rows : List (Option ℕ)) (v mid
         (traces_then code in_range holding last [] [] [] mid held u
         (subst (MakesTrace 0 [] code in_range mid holding) (sym holds)
         (retains code in_range (always holding) mid idle item local shared InFlight
-        (goes_on_with i code place context at rows before mid.layout mid.thread mid.used InRange from item
+        (goes_on_with i code place context at rows before mid.layout mid.thread mid.actor.used InRange from item
         (λ y. Does (RetainLoad y InFlight) [] (always holding)) refl is)))
         (puts_in i Retained InFlight item code place last context at before is (λ layout t used. refl) held u swap))

@@ -10,7 +10,7 @@ use Rattle.brc_model.specs.declared.layout.Layout.{Layout}
 use Rattle.brc_model.specs.declared.actor.Actor.{Actor}
 use Rattle.brc_model.specs.declared.event.WordEvent.{WordEvent}
 use Rattle.brc_table.specs.declared.view.View.{View}
-use Rattle.brc_table.specs.Views.{open_work}
+use Rattle.brc_table.specs.Views.{open_work, with_work}
 use Rattle.brc_model.specs.Trace.{events_of}
 use Rattle.brc_work.specs.Traces.{Makes, Refl, Silently, Asks, Dispatches, Reads, Continues, Closes, Requests, ForFile, ForPeer, ForBytes, ForLine, Traces, thread_with, read_birth, begun_at, begun_by}
 
@@ -121,12 +121,12 @@ quietly code p ds v w trace layout thread same = record {
 
 -- A hand without work turns to other duties.
 pub turns_to : (code : List Instr) (p : Place) (ds agenda : List Duty) (v : View) (references : List ℕ) (n : ℕ)
-    → v.agenda ≡ []
+    → v.actor.agenda ≡ []
     → Traces 0 [] code p ds v p ds
-    (record v { agenda = agenda; aside = open_work v; references = references; in_slot = n })
+    (record (with_work v agenda (open_work v)) { references = references; in_slot = n })
 turns_to code p ds agenda v references n none =
-    let same : v.aside ≡ open_work v = ap (λ (es : List Duty). es ++ v.aside) (sym none) in
-    quietly code p ds v (record v { agenda = agenda; aside = open_work v; references = references; in_slot = n }) refl
+    let same : v.actor.aside ≡ open_work v = ap (λ (es : List Duty). es ++ v.actor.aside) (sym none) in
+    quietly code p ds v (record (with_work v agenda (open_work v)) { references = references; in_slot = n }) refl
     refl
     refl (λ i. record (thread_with v ds) { aside = same i })
 

@@ -19,8 +19,10 @@ use Rattle.brc_work.specs.Performs.{IsBefore, Performs}
 use Rattle.brc_work.proofs.Traces.Places.{begins_with, begins_one}
 use Rattle.brc_work.proofs.Traces.Starting.{asks_kind}
 
-module _ (from row word otherwise : ℕ) (kind seen : Kind) (rows : List (Option ℕ)) (v u : View) (none : v.agenda ≡ [])
-    (names : row_of rows from ≡ Some row) (is : u ≡ view_after (asking v row) word) (sees : seen ≡ kind_of_word word) where
+module _ (from row word otherwise : ℕ) (kind seen : Kind) (rows : List (Option ℕ)) (v u : View) (none : v.actor.agenda
+    ≡ [])
+    (names : row_of rows from ≡ Some row) (is : u ≡ view_after (asking v row) word) (sees : seen ≡ kind_of_word word)
+    where
   -- The thread goes on where the word found says.
   asked : (b : Bool) → same_kind seen kind ≡ b → (code : List Instr) (place : Place) (context : Context) (at : ℕ)
       → IsBefore (instructions.As from kind otherwise) code place context at rows
@@ -33,7 +35,8 @@ module _ (from row word otherwise : ℕ) (kind seen : Kind) (rows : List (Option
       ∙ ap (λ (c : Bool). InCall context (cond c (at + 1) otherwise) rows) answer)
       (subst (MakesTrace 1 [] code place v (next word)) (sym is)
       (begins_one before (asks_kind code place next v none row word
-      (begins_with (instructions.As from kind otherwise) code place context at rows before v.layout v.thread v.used
+      (begins_with (instructions.As from kind otherwise) code place context at rows before v.layout v.thread
+      v.actor.used
       from row
       (λ x. Does (KindLoad x) [] next) refl names))))
 

@@ -19,7 +19,7 @@ use Rattle.brc_work.proofs.Traces.Joining.{no_trace, traces_then, traces_before}
 use Rattle.brc_work.proofs.Traces.Places.{begins_with, begins_one}
 use Rattle.brc_work.proofs.Traces.Starting.{tries, unlocks}
 
-module _ (object row n found : ℕ) (rows : List (Option ℕ)) (v u : View) (none : v.agenda ≡ [])
+module _ (object row n found : ℕ) (rows : List (Option ℕ)) (v u : View) (none : v.actor.agenda ≡ [])
     (names : row_of rows object ≡ Some row) (is : u ≡ view_after (locking v row n) found) where
   -- The thread is where the word found says, which also says whether the instruction has begun.
   tried : (b : Bool) → (found == free_word) ≡ b → (code : List Instr) (place : Place) (context : Context) (at : ℕ)
@@ -32,7 +32,8 @@ module _ (object row n found : ℕ) (rows : List (Option ℕ)) (v u : View) (non
       (subst (λ (c : Bool). MakesTrace (cond c (begun_at place) 0) [] code place v (cond c gets place) u) answer
       (subst (MakesTrace (begun_by place (LockGate row) found) [] code place v (next found)) (sym is)
       (tries code place next v none row n found
-      (begins_with (instructions.Lock object) code place context at rows before v.layout v.thread v.used object row
+      (begins_with (instructions.Lock object) code place context at rows before v.layout v.thread v.actor.used object
+      row
       (λ x. Does (LockGate x) [] next) refl names))))
 
   -- The object is locked,
@@ -62,12 +63,13 @@ waits_first object rows v u w one other = λ code place context at before.
     traces_before code place place (InCall context (at + 1) rows) [] [] [] v u w (one code place context at before)
     (other code place context at before)
 
-pub makes_unlock : (object row found : ℕ) (rows : List (Option ℕ)) (v u : View) → v.agenda ≡ []
+pub makes_unlock : (object row found : ℕ) (rows : List (Option ℕ)) (v u : View) → v.actor.agenda ≡ []
     → row_of rows object ≡ Some row → u ≡ view_after (unlocking v row) found
     → Performs [] (instructions.Unlock object) Success rows v rows u
 makes_unlock object row found rows v u none names is = λ code place context at before.
     let next = always (InCall context (at + 1) rows) in
     subst (MakesTrace 1 [] code place v (next found)) (sym is)
     (begins_one before (unlocks code place next v none row found
-    (begins_with (instructions.Unlock object) code place context at rows before v.layout v.thread v.used object row
+    (begins_with (instructions.Unlock object) code place context at rows before v.layout v.thread v.actor.used object
+    row
     (λ x. Does (UnlockGate x) [] next) refl names)))

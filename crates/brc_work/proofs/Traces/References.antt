@@ -35,16 +35,16 @@ pub makes_none : (to : ℕ) (rows after_rows : List (Option ℕ)) (v : View)
 makes_none to rows after_rows v named = λ code place context at before.
     let moves = gain v.thread (by_variable context to) none_row in
     begins_one before (goes_silently code place v (InCall context (at + 1) after_rows) moves
-    (begins (instructions.NoneObject to) code place context at rows before v.layout v.thread v.used
+    (begins (instructions.NoneObject to) code place context at rows before v.layout v.thread v.actor.used
     ∙ ap (λ (rs : List (Option ℕ)). Silent moves (InCall context (at + 1) rs)) (sym named)))
 
-pub makes_newref : (to from row word found : ℕ) (rows after_rows : List (Option ℕ)) (v u : View) → v.agenda ≡ []
+pub makes_newref : (to from row word found : ℕ) (rows after_rows : List (Option ℕ)) (v u : View) → v.actor.agenda ≡ []
     → row_of rows from ≡ Some row → after_rows ≡ slice_set rows to (Some row) → u ≡ retained v row word found
     → Performs [] (instructions.Newref to from) Success rows v after_rows u
 makes_newref to from row word found rows after_rows v u none names named is = λ code place context at before.
     let next = λ (rs : List (Option ℕ)). always (InCall context (at + 1) rs) in
     let starts =
-    begins_with (instructions.Newref to from) code place context at rows before v.layout v.thread v.used from row
+    begins_with (instructions.Newref to from) code place context at rows before v.layout v.thread v.actor.used from row
     (λ x. Does (RetainLoad x (by_variable context to)) [] (next (slice_set rows to (Some x)))) refl names in
     subst (MakesTrace 1 [] code place v (InCall context (at + 1) after_rows)) (sym is)
     (begins_one before (retains code place (next after_rows) v none row word found (by_variable context to)
@@ -56,7 +56,7 @@ pub makes_move : (to from row : ℕ) (rows after_rows : List (Option ℕ)) (v : 
 makes_move to from row rows after_rows v names named = λ code place context at before.
     let moves = λ (x : ℕ). pass_on v.thread (by_variable context from) (by_variable context to) x in
     begins_one before (goes_silently code place v (InCall context (at + 1) after_rows) (moves row)
-    (begins_with (instructions.Move to from) code place context at rows before v.layout v.thread v.used from row
+    (begins_with (instructions.Move to from) code place context at rows before v.layout v.thread v.actor.used from row
     (λ x. Silent (moves x) (InCall context (at + 1) (slice_set (slice_set rows from None) to (Some x)))) refl names
     ∙ ap (λ (rs : List (Option ℕ)). Silent (moves row) (InCall context (at + 1) rs)) (sym named)))
 
@@ -82,4 +82,4 @@ pub makes_fail : (rows : List (Option ℕ)) (v : View) (code : List Instr) (plac
     → IsBefore instructions.Fail code place context at rows → MakesTrace 1 [] code place v (Idle context.left) v
 makes_fail rows v code place context at before =
     begins_one before (goes_silently code place v (Idle context.left) []
-    (begins instructions.Fail code place context at rows before v.layout v.thread v.used))
+    (begins instructions.Fail code place context at rows before v.layout v.thread v.actor.used))

@@ -26,7 +26,8 @@ use Rattle.brc_work.proofs.Traces.Working.{settle_if, WorksOn, goes_on, works_on
 
 -- The duty that follows the load of the local word is none on a slot.
 after_load : (immortal counts : Bool) (head x word : ℕ) (u : View)
-    → u.agenda ≡ ready head (cond immortal [] (cond counts (ReleaseStore x word ∷ []) (SharedLoad x Own ∷ [])) ++ [])
+    → u.actor.agenda ≡ ready head (cond immortal [] (cond counts (ReleaseStore x word ∷ []) (SharedLoad x Own ∷ []))
+    ++ [])
     → slot_emptied u ≡ u
 after_load true counts zero x word u is = ap (λ (ds : List Duty). slot_emptied_by ds u) is
 after_load true counts (suc head) x word u is = ap (λ (ds : List Duty). slot_emptied_by ds u) is
@@ -37,8 +38,9 @@ after_load false false (suc head) x word u is = ap (λ (ds : List Duty). slot_em
 
 -- It closes nothing.
 no_close_after_load : (immortal counts : Bool) (head x word : ℕ) (u : View)
-    → u.agenda ≡ ready head (cond immortal [] (cond counts (ReleaseStore x word ∷ []) (SharedLoad x Own ∷ [])) ++ [])
-    → closes_by u.agenda false ≡ []
+    → u.actor.agenda ≡ ready head (cond immortal [] (cond counts (ReleaseStore x word ∷ []) (SharedLoad x Own ∷ []))
+    ++ [])
+    → closes_by u.actor.agenda false ≡ []
 no_close_after_load true counts zero x word u is = ap (λ (ds : List Duty). closes_by ds false) is
 no_close_after_load true counts (suc head) x word u is = ap (λ (ds : List Duty). closes_by ds false) is
 no_close_after_load false true zero x word u is = ap (λ (ds : List Duty). closes_by ds false) is
@@ -68,15 +70,17 @@ module _ {n : ℕ} (code : List Instr) (p : Place) (ds : List Duty) (w : View) (
       elim (cases_Bool (counts_here v word)) [
         | inl counts ↦
             subst (WorksOn later n [] code p ds w q)
-            (ap (λ (y : View). view_after y word) (after_load (is_immortal_word word) (counts_here v word) v.head x word
+            (ap (λ (y : View). view_after y word) (after_load (is_immortal_word word) (counts_here v word)
+            v.actor.head x word
             loaded refl)
             ∙ ap (λ (b : Bool). cond b (view_after loaded word) loaded) (sym counts))
             (subst (λ (cs : List HostCall). WorksOn later n cs code p ds w q (view_after (slot_emptied loaded) word))
-            (no_close_after_load (is_immortal_word word) (counts_here v word) v.head x word loaded refl)
+            (no_close_after_load (is_immortal_word word) (counts_here v word) v.actor.head x word loaded refl)
             (works_on code p ds w q [] loaded _ (view_after (slot_emptied loaded) word) (loads word)
             (Next [] loaded word false Unchanged)))
         | inr shares ↦
-            subst (WorksOn later n [] code p ds w q) (ap (λ (b : Bool). cond b (view_after loaded word) loaded) (sym shares))
+            subst (WorksOn later n [] code p ds w q) (ap (λ (b : Bool). cond b (view_after loaded word) loaded)
+            (sym shares))
             (loads
             word)
       ]
@@ -86,17 +90,17 @@ settles : {n : ℕ} (code : List Instr) (p : Place) (ds : List Duty) (w : View) 
     (v : View) → ((word : ℕ) → Traces n [] code p ds w q
     (next_duties (releasing v x) (ReleaseLoad x holding) (settle_if true) word) (view_after (releasing v x) word))
     → (word : ℕ) (cs : List HostCall) (mid after : View) → HasWorked (released_locally v x word) [] [] mid
-    → HasWorked (to_settle [] mid) cs [] after → after.head ≡ 0 → Traces n cs code p ds w q [] after
+    → HasWorked (to_settle [] mid) cs [] after → after.actor.head ≡ 0 → Traces n cs code p ds w q [] after
 settles code p ds w q holding x v first word cs mid after released settled empty =
     let off = works_on code p ds w q [] (released_locally v x word) [] mid
     (stores code p ds w q holding x v true first word) released.works in
-    worked_off code p ds w q after (settled.agenda ∙ no_duty after.head) empty
+    worked_off code p ds w q after (settled.agenda ∙ no_duty after.actor.head) empty
     (works_on code p ds w q [] (to_settle [] mid) cs after
-    (comes_to_settle code p ds w q mid (released.agenda ∙ no_duty mid.head) off) settled.works)
+    (comes_to_settle code p ds w q mid (released.agenda ∙ no_duty mid.actor.head) off) settled.works)
 
 -- A reference is given up: by the first duty of an instruction, or by the next one of the thread's agenda.
-pub releases : (x word : ℕ) (cs : List HostCall) (v mid after : View) → v.agenda ≡ []
-    → HasWorked (released_locally v x word) [] [] mid → HasWorked (to_settle [] mid) cs [] after → after.head ≡ 0
+pub releases : (x word : ℕ) (cs : List HostCall) (v mid after : View) → v.actor.agenda ≡ []
+    → HasWorked (released_locally v x word) [] [] mid → HasWorked (to_settle [] mid) cs [] after → after.actor.head ≡ 0
     → MakesRelease cs x v after
 releases x word cs v mid after none released settled empty =
     let references = without_reference v.layout x v.references in
@@ -107,7 +111,7 @@ releases x word cs v mid after none released settled empty =
           traces_before code place place next [] [] _ v (releasing v x) _
           (turns_to code place [] (ReleaseLoad x AsCaller ∷ []) v references v.in_slot none)
           (starts_with code place (releasing v x) (ReleaseLoad x holding) (ReleaseLoad x AsCaller) rest [] w
-          (load_same x holding v w) (always next) (is v.layout v.thread v.used) refl))
+          (load_same x holding v w) (always next) (is v.layout v.thread v.actor.used) refl))
           word cs mid after released settled empty;
       next = λ code place holding.
           let ds = ReleaseLoad x holding ∷ rest in

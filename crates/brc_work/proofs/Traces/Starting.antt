@@ -18,7 +18,7 @@ use Rattle.brc_model.specs.declared.state.Exit.{Exit}
 use Rattle.brc_model.specs.declared.address.Address.TheVariants.{KindOf}
 use Rattle.brc_model.specs.declared.event.WordEvent.{WordEvent}
 use Rattle.brc_table.specs.declared.view.View.{View}
-use Rattle.brc_table.specs.Views.{view_by, view_after, open_work, with_reference, retaining, asking, locking, unlocking, loading_cell}
+use Rattle.brc_table.specs.Views.{view_by, view_after, open_work, with_reference, retaining, asking, locking, unlocking, loading_cell, with_work}
 use Rattle.brc_heap.specs.Calls.{retained}
 use Rattle.brc_work.specs.Traces.{Makes, Refl, Dispatches, Silently, Asks, Requests, Traces, MakesTrace, thread_with, instruction_at, exit_of, begun_at, begun_by, is_birth, is_close, has_read}
 use Rattle.brc_work.proofs.Traces.Joining.{only_these, no_trace, turns_to, traces_then, traces_before, with_duties}
@@ -26,7 +26,7 @@ use Rattle.brc_work.proofs.Traces.Duties.{comes_next, no_duty, IsSame, next_duti
 
 module _ (code : List Instr) (p : Place) (v : View) where
   -- A silent step,
-  pub goes_silently : (q : Place) (moves : List Move) → dispatch v.layout v.thread v.used code p ≡ Silent moves q
+  pub goes_silently : (q : Place) (moves : List Move) → dispatch v.layout v.thread v.actor.used code p ≡ Silent moves q
       → MakesTrace (begun_at p) [] code p v q v
   goes_silently q moves is = record {
     events = [];
@@ -38,7 +38,7 @@ module _ (code : List Instr) (p : Place) (v : View) where
 
   -- and a call of the host, as its instruction asks for it.
   pub calls_host : (row : Option ℕ) (after : Exit → Place) (i : Instr) (call : HostCall)
-      → dispatch v.layout v.thread v.used code p ≡ Calls row after → instruction_at code p ≡ Some i
+      → dispatch v.layout v.thread v.actor.used code p ≡ Calls row after → instruction_at code p ≡ Some i
       → Requests [] i call
       → MakesTrace (begun_at p) (call ∷ []) code p v (after (exit_of call)) v
   calls_host row after i call is names asks = record {
@@ -55,12 +55,12 @@ kind_event x word = record { address = KindOf x; found = word; left = word }
 
 -- the hand without work that turns to the duties, and has these references and this slot
 abbrev pub busy : View → List Duty → List ℕ → ℕ → View
-busy v ds references n = record v { agenda = ds; aside = open_work v; references = references; in_slot = n }
+busy v ds references n = record (with_work v ds (open_work v)) { references = references; in_slot = n }
 
-module _ (code : List Instr) (p : Place) (next : ℕ → Place) (v : View) (none : v.agenda ≡ []) where
+module _ (code : List Instr) (p : Place) (next : ℕ → Place) (v : View) (none : v.actor.agenda ≡ []) where
   -- A hand that makes one step.
   one_step : (d : Duty) (references : List ℕ) (n found : ℕ)
-      → dispatch v.layout v.thread v.used code p ≡ Does d [] next
+      → dispatch v.layout v.thread v.actor.used code p ≡ Does d [] next
       → (is_birth d && has_read code p) ≡ false
       → IsSame (busy v (d ∷ []) references n) d d found
       → next_duties (busy v (d ∷ []) references n) d [] found ≡ []
@@ -73,24 +73,25 @@ module _ (code : List Instr) (p : Place) (next : ℕ → Place) (v : View) (none
       (starts_with code p turned d d [] [] found same next is new))
 
   -- A look at a kind,
-  pub asks_kind : (x word : ℕ) → dispatch v.layout v.thread v.used code p ≡ Does (KindLoad x) [] next
+  pub asks_kind : (x word : ℕ) → dispatch v.layout v.thread v.actor.used code p ≡ Does (KindLoad x) [] next
       → MakesTrace (begun_at p) [] code p v (next word) (view_after (asking v x) word)
   asks_kind x word is =
       one_step (KindLoad x) v.references v.in_slot word is refl
-      (record { event = refl; status = refl; head = refl; used = refl; locked = refl; lent = refl }) (no_duty v.head)
+      (record { event = refl; status = refl; head = refl; used = refl; locked = refl; lent = refl })
+      (no_duty v.actor.head)
 
   -- which makes one event: the word that it finds,
-  pub asks_kind_once : (x word : ℕ) → dispatch v.layout v.thread v.used code p ≡ Does (KindLoad x) [] next
+  pub asks_kind_once : (x word : ℕ) → dispatch v.layout v.thread v.actor.used code p ≡ Does (KindLoad x) [] next
       → (one : MakesTrace (begun_at p) [] code p v (next word) (view_after (asking v x) word))
       × (one.events ≡ [] ++ kind_event x word ∷ [])
   asks_kind_once x word is =
-      let aside : v.aside ≡ open_work v = ap (λ (ds : List Duty). ds ++ v.aside) (sym none) in
+      let aside : v.actor.aside ≡ open_work v = ap (λ (ds : List Duty). ds ++ v.actor.aside) (sym none) in
       let one : MakesTrace (begun_at p) [] code p v (next word) (view_after (asking v x) word) = record {
         events = kind_event x word ∷ [];
         trace = refl;
         makes = subst (λ (a : Actor).
             Makes v.layout v.thread code p (thread_with v []) (begun_at p) [] (kind_event x word ∷ []) (next word) a)
-            (λ i. record (thread_with v []) { agenda = no_duty v.head i; aside = aside i })
+            (λ i. record (thread_with v []) { agenda = no_duty v.actor.head i; aside = aside i })
             (only_these (Dispatches 0 [] [] p (thread_with v []) (KindLoad x) [] next word Refl refl is refl));
         layout = refl;
         thread = refl;
@@ -98,24 +99,27 @@ module _ (code : List Instr) (p : Place) (next : ℕ → Place) (v : View) (none
       (one, refl)
 
   -- a try to lock,
-  pub tries : (x n found : ℕ) → dispatch v.layout v.thread v.used code p ≡ Does (LockGate x) [] next
+  pub tries : (x n found : ℕ) → dispatch v.layout v.thread v.actor.used code p ≡ Does (LockGate x) [] next
       → MakesTrace (begun_by p (LockGate x) found) [] code p v (next found) (view_after (locking v x n) found)
   tries x n found is =
       one_step (LockGate x) v.references n found is refl
-      (record { event = refl; status = refl; head = refl; used = refl; locked = refl; lent = refl }) (no_duty v.head)
+      (record { event = refl; status = refl; head = refl; used = refl; locked = refl; lent = refl })
+      (no_duty v.actor.head)
 
-  pub unlocks : (x found : ℕ) → dispatch v.layout v.thread v.used code p ≡ Does (UnlockGate x) [] next
+  pub unlocks : (x found : ℕ) → dispatch v.layout v.thread v.actor.used code p ≡ Does (UnlockGate x) [] next
       → MakesTrace (begun_at p) [] code p v (next found) (view_after (unlocking v x) found)
   unlocks x found is =
       one_step (UnlockGate x) v.references v.in_slot found is refl
-      (record { event = refl; status = refl; head = refl; used = refl; locked = refl; lent = refl }) (no_duty v.head)
+      (record { event = refl; status = refl; head = refl; used = refl; locked = refl; lent = refl })
+      (no_duty v.actor.head)
 
   -- and a look into a cell.
-  pub looks_in : (x i word : ℕ) → dispatch v.layout v.thread v.used code p ≡ Does (CellLoad x i) [] next
+  pub looks_in : (x i word : ℕ) → dispatch v.layout v.thread v.actor.used code p ≡ Does (CellLoad x i) [] next
       → MakesTrace (begun_at p) [] code p v (next word) (view_after (loading_cell v x i) word)
   looks_in x i word is =
       one_step (CellLoad x i) v.references v.in_slot word is refl
-      (record { event = refl; status = refl; head = refl; used = refl; locked = refl; lent = refl }) (no_duty v.head)
+      (record { event = refl; status = refl; head = refl; used = refl; locked = refl; lent = refl })
+      (no_duty v.actor.head)
 
 -- ---- retains
 
@@ -125,7 +129,7 @@ retain_next immortal counts x word holding =
     cond immortal [] (cond counts (RetainStore x holding word ∷ []) (RetainAdd x holding ∷ []))
 
 counted_by : (code : List Instr) (q : Place) (head x word found : ℕ) (d e : Duty) (u : View)
-    → u.agenda ≡ e ∷ [] → IsSame u d e found
+    → u.actor.agenda ≡ e ∷ [] → IsSame u d e found
     → is_close d ≡ false → ready head (d ∷ []) ≡ d ∷ [] → next_duties u d [] found ≡ []
     → Traces 0 [] code q (ready head (d ∷ [])) u q [] (view_after u found)
 counted_by code q head x word found d e u is same off first last =
@@ -136,7 +140,7 @@ counted_by code q head x word found d e u is same off first last =
 
 -- The reference is counted in the local word, in the shared word or nowhere.
 counts : (immortal own : Bool) (code : List Instr) (q : Place) (head x word found : ℕ) (holding : Holding) (u : View)
-    → u.agenda ≡ ready head (retain_next immortal own x word AsCaller ++ [])
+    → u.actor.agenda ≡ ready head (retain_next immortal own x word AsCaller ++ [])
     → Traces 0 [] code q (ready head (retain_next immortal own x word holding ++ [])) u q [] (view_after u found)
 counts true own code q head x word found holding u is =
     let none = is ∙ no_duty head in
@@ -146,26 +150,27 @@ counts false true code q head x word found holding u is =
     counted_by code q head x word found (RetainStore x holding word) (RetainStore x AsCaller word) u
     (is ∙ comes_next head (RetainStore x AsCaller word) [] refl)
     (record { event = refl; status = refl; head = refl; used = refl; locked = refl; lent = refl }) refl
-    (comes_next head (RetainStore x holding word) [] refl) (no_duty u.head)
+    (comes_next head (RetainStore x holding word) [] refl) (no_duty u.actor.head)
 counts false false code q head x word found holding u is =
     counted_by code q head x word found (RetainAdd x holding) (RetainAdd x AsCaller) u
     (is ∙ comes_next head (RetainAdd x AsCaller) [] refl)
     (record { event = refl; status = refl; head = refl; used = refl; locked = refl; lent = refl }) refl
-    (comes_next head (RetainAdd x holding) [] refl) (no_duty u.head)
+    (comes_next head (RetainAdd x holding) [] refl) (no_duty u.actor.head)
 
 -- A hand retains an object.
-pub retains : (code : List Instr) (p : Place) (next : ℕ → Place) (v : View) (none : v.agenda ≡ []) (x word found : ℕ)
-    (holding : Holding) → dispatch v.layout v.thread v.used code p ≡ Does (RetainLoad x holding) [] next
+pub retains : (code : List Instr) (p : Place) (next : ℕ → Place) (v : View) (none : v.actor.agenda ≡ [])
+    (x word found : ℕ)
+    (holding : Holding) → dispatch v.layout v.thread v.actor.used code p ≡ Does (RetainLoad x holding) [] next
     → MakesTrace (begun_at p) [] code p v (next word) (retained v x word found)
 retains code p next v none x word found holding is =
     let turned = retaining v x in
     let loaded = view_after turned word in
     let immortal = is_immortal_word word in
-    let own = counts_locally v.thread (is_running v.status) word && nat_lt (local_part word) most_local in
-    let duties = ready v.head (retain_next immortal own x word holding ++ []) in
+    let own = counts_locally v.thread (is_running v.actor.status) word && nat_lt (local_part word) most_local in
+    let duties = ready v.actor.head (retain_next immortal own x word holding ++ []) in
     traces_before code p p (next word) [] [] [] v turned (view_after loaded found)
     (turns_to code p [] (RetainLoad x AsCaller ∷ []) v (with_reference v.layout x v.references) v.in_slot none)
     (traces_then code p (next word) (next word) [] duties [] turned loaded (view_after loaded found)
     (starts_with code p turned (RetainLoad x holding) (RetainLoad x AsCaller) [] [] word
     (record { event = refl; status = refl; head = refl; used = refl; locked = refl; lent = refl }) next is refl)
-    (counts immortal own code (next word) v.head x word found holding loaded refl))
+    (counts immortal own code (next word) v.actor.head x word found holding loaded refl))

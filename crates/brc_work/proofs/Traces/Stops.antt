@@ -154,16 +154,16 @@ module _ (code : List Instr) (p : Place) (v : View) (vars : List VarState) where
       (settles_behind (holds_some (owned_rows vars (slice_set rows k None) ∷ [])))))))
 
   -- A thread with something to give up has nothing to settle yet.
-  nothing_later : (rows : List (Option ℕ)) (u : View) → Stops rows u → u.agenda ≡ []
+  nothing_later : (rows : List (Option ℕ)) (u : View) → Stops rows u → u.actor.agenda ≡ []
       → list_any is_some (owned_rows vars rows) ≡ true → Traces 0 [] code p [] v (place_of vars rows) [] u
   nothing_later rows u on none some =
       let q = place_of vars rows in
-      with_duties code p q [] (ready u.head []) [] v u (no_duty u.head)
+      with_duties code p q [] (ready u.actor.head []) [] v u (no_duty u.actor.head)
       (with_agenda code p [] v q u [] none
       (subst (λ (b : Bool). WorksOn (not (b || false)) 0 [] code p [] v q u) some on))
 
   -- Another one is given up.
-  pub stops_on : (rows after_rows : List (Option ℕ)) (k : ℕ) (u w : View) → Stops rows u → u.agenda ≡ []
+  pub stops_on : (rows after_rows : List (Option ℕ)) (k : ℕ) (u w : View) → Stops rows u → u.actor.agenda ≡ []
       → (loosens : Loosens k rows u after_rows w) → row_of (owned_rows vars rows) k ≡ Some loosens.row
       → ((i : ℕ) → i < k → row_of (owned_rows vars rows) i ≡ None) → Stops after_rows w
   stops_on rows after_rows k u w on none loosens is below =
@@ -184,35 +184,36 @@ module _ (code : List Instr) (p : Place) (v : View) (vars : List VarState) where
       (traces_then code q q next [] [] _ u (releasing u x) (view_after (releasing u x) n)
       (turns_to code q [] (ReleaseLoad x AsCaller ∷ []) u references u.in_slot none)
       (subst (λ (r : Place). Traces (begun_at r) [] code q [] (releasing u x) next
-      (next_duties (releasing u x) (ReleaseLoad x holding) (settle_if later) n) (view_after (releasing u x) n)) stopping_is
+      (next_duties (releasing u x) (ReleaseLoad x holding) (settle_if later) n) (view_after (releasing u x) n))
+      stopping_is
       (starts_with code q (releasing u x) (ReleaseLoad x holding) (ReleaseLoad x AsCaller) (settle_if later) [] n
-      (load_same x holding u n) (always next) (first_given rows k x is below u.layout u.thread u.used) refl))) in
+      (load_same x holding u n) (always next) (first_given rows k x is below u.layout u.thread u.actor.used) refl))) in
       subst (λ (rs : List (Option ℕ)). Stops rs w) (sym loosens.emptied)
       (works_on code p [] v next [] (released_locally u x word) [] w
       (stores code p [] v next holding x u later first word) loosens.works.works)
 
   -- With nothing left to give up, the hand settles, and its thread is done with its calls.
   pub stops_last : (rows : List (Option ℕ)) (cs : List HostCall) (u w : View) → Stops rows u
-      → list_any is_some (owned_rows vars rows) ≡ false → u.agenda ≡ [] → HasWorked (to_settle [] u) cs [] w
-      → w.head ≡ 0 → Traces 0 cs code p [] v (Idle 0) [] w
+      → list_any is_some (owned_rows vars rows) ≡ false → u.actor.agenda ≡ [] → HasWorked (to_settle [] u) cs [] w
+      → w.actor.head ≡ 0 → Traces 0 cs code p [] v (Idle 0) [] w
   stops_last rows cs u w on bare none settled empty =
       let q = place_of vars rows in
       let ends : q ≡ Idle 0 =
       ap (λ (b : Bool). cond (b || false) (Stopping None (owned_rows vars rows ∷ [])) (Idle 0)) bare in
       subst (λ (r : Place). Traces 0 cs code p [] v r [] w) ends
-      (worked_off code p [] v q w (settled.agenda ∙ no_duty w.head) empty
+      (worked_off code p [] v q w (settled.agenda ∙ no_duty w.actor.head) empty
       (works_on code p [] v q [] (to_settle [] u) cs w
       (comes_to_settle code p [] v q u none
       (subst (λ (b : Bool). WorksOn (not (b || false)) 0 [] code p [] v q u) bare on)) settled.works))
 
 -- A thread that has just stopped.
-pub stops_first : (code : List Instr) (v : View) (vars : List VarState) (rows : List (Option ℕ)) → v.agenda ≡ []
-    → v.head ≡ 0 → Stops code (place_of vars rows) v vars rows v
+pub stops_first : (code : List Instr) (v : View) (vars : List VarState) (rows : List (Option ℕ)) → v.actor.agenda ≡ []
+    → v.actor.head ≡ 0 → Stops code (place_of vars rows) v vars rows v
 stops_first code v vars rows none empty =
     let q = place_of vars rows in
     let later = not (holds_some (owned_rows vars rows ∷ [])) in
-    let nothing : [] ≡ behind_of v.head v.agenda (settle_if later) =
-    sym (ap (λ (ds : List Duty). behind_of v.head ds (settle_if later)) none
+    let nothing : [] ≡ behind_of v.actor.head v.actor.agenda (settle_if later) =
+    sym (ap (λ (ds : List Duty). behind_of v.actor.head ds (settle_if later)) none
     ∙ ap (λ (head : ℕ). ready head (settle_if later)) empty ∙ nothing_behind later) in
     record {
       traces = with_duties code q q [] [] _ v v nothing (no_trace code q [] v);

@@ -39,43 +39,48 @@ swap_next head found = ready head (release_found found ++ Settle ∷ [])
 
 -- The thread swaps the cell, however it holds the item. It gives up what it finds there, and settles.
 swaps : (code : List Instr) (place next : Place) (row cell item found : ℕ) (holding : Holding) (v : View)
-    → v.agenda ≡ []
-    → dispatch v.layout v.thread v.used code place ≡ Does (CellSwap row cell item holding) (Settle ∷ []) (always next)
-    → Traces (begun_at place) [] code place [] v next (swap_next v.head found) (swapped v row cell (suc item) found)
+    → v.actor.agenda ≡ []
+    → dispatch v.layout v.thread v.actor.used code place ≡ Does (CellSwap row cell item holding) (Settle ∷ [])
+    (always next)
+    → Traces (begun_at place) [] code place [] v next (swap_next v.actor.head found)
+    (swapped v row cell (suc item) found)
 swaps code place next row cell item found holding v none is =
     let d = CellSwap row cell item holding in
     let events = events_of v.layout v.thread (thread_with v []) d found in
     let stored : ℕ → WordEvent = λ left. record { address = Cell row cell; found = found; left = left } in
-    let aside : v.aside ≡ open_work v = ap (λ (ds : List Duty). ds ++ v.aside) (sym none) in
+    let aside : v.actor.aside ≡ open_work v = ap (λ (ds : List Duty). ds ++ v.actor.aside) (sym none) in
     record {
       events = events;
       trace = ap (λ (left : ℕ). v.trace ++ stored left ∷ []) (sym (add-one item));
       makes = subst (λ (a : Actor).
           Makes v.layout v.thread code place (thread_with v []) (begun_at place) [] events next a)
-          (λ i. record (thread_with v (swap_next v.head found)) { aside = aside i })
-          (only_these (Dispatches 0 [] [] place (thread_with v []) d (Settle ∷ []) (always next) found Refl refl is refl));
+          (λ i. record (thread_with v (swap_next v.actor.head found)) { aside = aside i })
+          (only_these (Dispatches 0 [] [] place (thread_with v []) d (Settle ∷ []) (always next) found Refl refl is
+          refl));
       layout = refl;
       thread = refl;
     }
 
 -- If the cell was empty, a thread whose chain is empty has nothing more to do.
-pub swaps_nothing : (row cell item found : ℕ) (v u : View) → v.agenda ≡ [] → v.head ≡ 0 → row_in found ≡ None
+pub swaps_nothing : (row cell item found : ℕ) (v u : View) → v.actor.agenda ≡ [] → v.actor.head ≡ 0 → row_in found
+    ≡ None
     → u ≡ swapped v row cell (suc item) found → MakesSwap [] row cell item v u
 swaps_nothing row cell item found v u none empty nothing is = λ code place next holding does.
     subst (MakesTrace (begun_at place) [] code place v next) (sym is)
-    (with_duties code place next [] (swap_next v.head found) [] v (swapped v row cell (suc item) found)
-    (ap (swap_next v.head) (word_none found nothing) ∙ ap (λ (head : ℕ). ready head (Settle ∷ [])) empty)
-    (swaps code place next row cell item found holding v none (does v.layout v.thread v.used)))
+    (with_duties code place next [] (swap_next v.actor.head found) [] v (swapped v row cell (suc item) found)
+    (ap (swap_next v.actor.head) (word_none found nothing) ∙ ap (λ (head : ℕ). ready head (Settle ∷ [])) empty)
+    (swaps code place next row cell item found holding v none (does v.layout v.thread v.actor.used)))
 
 -- Otherwise the hand gives up the item that came out.
-pub swaps_item : {cs : List HostCall} (row cell item found old : ℕ) (v mid u : View) → v.agenda ≡ []
+pub swaps_item : {cs : List HostCall} (row cell item found old : ℕ) (v mid u : View) → v.actor.agenda ≡ []
     → row_in found ≡ Some old
     → mid ≡ swapped v row cell (suc item) found → MakesRelease cs old mid u → MakesSwap cs row cell item v u
 swaps_item row cell item found old v mid u none some is releases = λ code place next holding does.
     let duties = ReleaseLoad old InFlight ∷ Settle ∷ [] in
     traces_then code place next next [] duties [] v mid u
     (subst (Traces (begun_at place) [] code place [] v next duties) (sym is)
-    (with_duties code place next [] (swap_next v.head found) duties v (swapped v row cell (suc item) found)
-    (ap (swap_next v.head) (word_some found old some) ∙ comes_next v.head (ReleaseLoad old InFlight) (Settle ∷ []) refl)
-    (swaps code place next row cell item found holding v none (does v.layout v.thread v.used))))
+    (with_duties code place next [] (swap_next v.actor.head found) duties v (swapped v row cell (suc item) found)
+    (ap (swap_next v.actor.head) (word_some found old some) ∙ comes_next v.actor.head (ReleaseLoad old InFlight)
+    (Settle ∷ []) refl)
+    (swaps code place next row cell item found holding v none (does v.layout v.thread v.actor.used))))
     (releases.next code next InFlight)

@@ -19,7 +19,7 @@ use Rattle.brc_work.proofs.Traces.Starting.{goes_silently}
 pub makes_goto : (to : ℕ) (rows : List (Option ℕ)) (v : View) → Performs [] (instructions.Goto to) Success rows v rows v
 makes_goto to rows v = λ code place context at before.
     begins_one before (goes_silently code place v (InCall context to rows) []
-    (begins (instructions.Goto to) code place context at rows before v.layout v.thread v.used))
+    (begins (instructions.Goto to) code place context at rows before v.layout v.thread v.actor.used))
 
 -- The thread goes where the count of the turns says.
 counted : (b : Bool) (at to times : ℕ) (context : Context) (rows : List (Option ℕ)) (v : View)
@@ -30,7 +30,7 @@ counted b at to times context rows v answer code place before =
     let back = InCall (with_turn context at) to rows in
     let past = InCall context (at + 1) rows in
     begins_one before (goes_silently code place v (cond b back past) []
-    (begins (instructions.Again to times) code place context at rows before v.layout v.thread v.used
+    (begins (instructions.Again to times) code place context at rows before v.layout v.thread v.actor.used
     ∙ ap (λ (c : Bool). Silent [] (cond c back past)) answer))
 
 module _ (at times : ℕ) (turns : List ℕ) where

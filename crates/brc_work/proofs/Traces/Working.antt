@@ -181,21 +181,22 @@ nothing_behind false = refl
 -- many instructions. Its thread has the hand's duties there, and, if `later` says so, to settle behind them.
 pub record WorksOn (later : Bool) (begun : ℕ) (cs : List HostCall) (code : List Instr) (p : Place) (ds : List Duty)
     (v : View) (q : Place) (u : View) : Type 0 where
-  pub traces : Traces begun cs code p ds v q (behind_of u.head u.agenda (settle_if later)) u
-  pub off : are_off_slots u.agenda ≡ true
+  pub traces : Traces begun cs code p ds v q (behind_of u.actor.head u.actor.agenda (settle_if later)) u
+  pub off : are_off_slots u.actor.agenda ≡ true
 
 -- A dying object's resource is taken out of its slot and closed without a step on a word.
 takes_slot : (code : List Instr) (q : Place) (u : View) (x : ℕ) (failed : Bool) (rest : List Duty)
     → Traces 0 (Close failed ∷ []) code q (TakeSlot x ∷ rest) u q (SettleEnd x ∷ rest) u
 takes_slot code q u x failed rest =
-    let taken : Traces 0 [] code q (TakeSlot x ∷ rest) u q (ready u.head (CloseResource x ∷ rest)) u = record {
+    let taken : Traces 0 [] code q (TakeSlot x ∷ rest) u q (ready u.actor.head (CloseResource x ∷ rest)) u = record {
       events = [];
       trace = sym (append-nil u.trace);
       makes = Continues 0 [] [] q (thread_with u (TakeSlot x ∷ rest)) (TakeSlot x) rest 1 Refl refl refl;
       layout = refl;
       thread = refl;
     } in
-    let closed : Traces 0 (Close failed ∷ []) code q (CloseResource x ∷ rest) u q (ready u.head (SettleEnd x ∷ rest)) u
+    let closed : Traces 0 (Close failed ∷ []) code q (CloseResource x ∷ rest) u q
+    (ready u.actor.head (SettleEnd x ∷ rest)) u
     =
     record {
       events = [];
@@ -206,9 +207,9 @@ takes_slot code q u x failed rest =
     } in
     traces_then code q q q (TakeSlot x ∷ rest) (CloseResource x ∷ rest) (SettleEnd x ∷ rest) u u u
     (with_duties code q q (TakeSlot x ∷ rest) _ (CloseResource x ∷ rest) u u
-    (comes_next u.head (CloseResource x) rest refl) taken)
+    (comes_next u.actor.head (CloseResource x) rest refl) taken)
     (with_duties code q q (CloseResource x ∷ rest) _ (SettleEnd x ∷ rest) u u
-    (comes_next u.head (SettleEnd x) rest refl) closed)
+    (comes_next u.actor.head (SettleEnd x) rest refl) closed)
 
 unslotted : (u : View) (d : Duty) (tail : List Duty) → takes_out d ≡ false → slot_emptied_by (d ∷ tail) u ≡ u
 unslotted u (TakeSlot x) tail other = absurd (let wrong : true ≡ false = other in cc)
@@ -218,25 +219,27 @@ module _ {later : Bool} {n : ℕ} (code : List Instr) (p : Place) (ds : List Dut
   -- After one duty more the thread still has the hand's duties.
   pub goes_on : {cs : List HostCall} (u : View) (d e : Duty) (tail : List Duty) (found : ℕ)
       → IsSame u d e found
-      → (continuation u.layout u.thread (is_running u.status) u.head e found
-      ≡ continuation u.layout u.thread (is_running u.status) u.head d found)
+      → (continuation u.layout u.thread (is_running u.actor.status) u.actor.head e found
+      ≡ continuation u.layout u.thread (is_running u.actor.status) u.actor.head d found)
       → is_off_slots e ≡ true → takes_out e ≡ false → are_off_slots tail ≡ true
       → Traces n cs code p ds v q (next_duties u d (tail ++ settle_if later) found) (view_by u (e ∷ tail) found)
       → WorksOn later n cs code p ds v q (view_by u (e ∷ tail) found)
   goes_on u d e tail found same next off other behind one =
       let after = view_by u (e ∷ tail) found in
-      let more = continuation u.layout u.thread (is_running u.status) u.head e found in
+      let more = continuation u.layout u.thread (is_running u.actor.status) u.actor.head e found in
       let rest = settle_if later in
-      let head = new_head u.head e found in
+      let head = new_head u.actor.head e found in
       let duties : next_duties u d (tail ++ rest) found ≡ behind_of head (ready head (more ++ tail)) rest =
-      ap (λ (h : ℕ). ready h (continuation u.layout u.thread (is_running u.status) u.head d found ++ (tail ++ rest)))
+      ap (λ (h : ℕ). ready h (continuation u.layout u.thread (is_running u.actor.status) u.actor.head d found
+      ++ (tail ++ rest)))
       same.head
       ∙ (ap (λ (es : List Duty). ready head (es ++ (tail ++ rest))) (sym next)
       ∙ (ap (ready head) (sym (append_assoc more tail rest)) ∙ ready_behind head (more ++ tail) rest)) in
       record {
         traces = with_duties code p q ds (next_duties u d (tail ++ rest) found) _ v after duties one;
         off = ready_off head (more ++ tail)
-            (off_then more tail (next_off u.layout u.thread (is_running u.status) u.head e found off other) behind);
+            (off_then more tail (next_off u.layout u.thread (is_running u.actor.status) u.actor.head e found off
+            other) behind);
       }
 
   -- It is the first of its agenda.
@@ -252,14 +255,14 @@ module _ {later : Bool} {n : ℕ} (code : List Instr) (p : Place) (ds : List Dut
       (continues_with code q u d d rest tail found same (no_close d off)))
 
   -- the thread's duties, where the hand's are these
-  pub with_agenda : {cs : List HostCall} (u : View) (es : List Duty) → u.agenda ≡ es
+  pub with_agenda : {cs : List HostCall} (u : View) (es : List Duty) → u.actor.agenda ≡ es
       → (on : WorksOn later n cs code p ds v q u)
-      → Traces n cs code p ds v q (behind_of u.head es (settle_if later)) u
+      → Traces n cs code p ds v q (behind_of u.actor.head es (settle_if later)) u
   with_agenda u es is on =
       with_duties code p q ds _ (behind_of u.head es (settle_if later)) v u
       (ap (λ (fs : List Duty). behind_of u.head fs (settle_if later)) is) on.traces
 
-  plain_next : {cs : List HostCall} (u : View) (found : ℕ) (d : Duty) (tail : List Duty) → u.agenda ≡ d ∷ tail
+  plain_next : {cs : List HostCall} (u : View) (found : ℕ) (d : Duty) (tail : List Duty) → u.actor.agenda ≡ d ∷ tail
       → takes_out d ≡ false → WorksOn later n cs code p ds v q u → WorksOn later n cs code p ds v q
       (view_after (slot_emptied u) found)
   plain_next {cs} u found d tail is other on =
@@ -274,7 +277,7 @@ module _ {later : Bool} {n : ℕ} (code : List Instr) (p : Place) (ds : List Dut
       → WorksOn later n (cs ++ []) code p ds v q u
   with_no_call cs u on = subst (λ (ks : List HostCall). WorksOn later n ks code p ds v q u) (sym (append-nil cs)) on
 
-  next_by : (cs : List HostCall) (u : View) (found : ℕ) (failed : Bool) (es : List Duty) → u.agenda ≡ es
+  next_by : (cs : List HostCall) (u : View) (found : ℕ) (failed : Bool) (es : List Duty) → u.actor.agenda ≡ es
       → WorksOn later n cs code p ds v q u → WorksOn later n (cs ++ closes_by es failed) code p ds v q
       (view_after (slot_emptied u) found)
   next_by cs u found failed [] is on =
@@ -305,7 +308,8 @@ module _ {later : Bool} {n : ℕ} (code : List Instr) (p : Place) (ds : List Dut
       (next_by (cs ++ ks) x found failed x.agenda refl (works_on cs u ks x on other))
 
   -- until nothing is left to do.
-  pub worked_off : {cs : List HostCall} (u : View) → u.agenda ≡ [] → u.head ≡ 0 → WorksOn later n cs code p ds v q u
+  pub worked_off : {cs : List HostCall} (u : View) → u.actor.agenda ≡ [] → u.actor.head ≡ 0
+      → WorksOn later n cs code p ds v q u
       → Traces n cs code p ds v q [] u
   worked_off u none empty on =
       with_duties code p q ds (ready u.head (settle_if later)) [] v u
@@ -313,14 +317,14 @@ module _ {later : Bool} {n : ℕ} (code : List Instr) (p : Place) (ds : List Dut
 
 -- A hand with nothing else to do comes to settle, as its thread does behind its agenda.
 pub comes_to_settle : {n : ℕ} {cs : List HostCall} (code : List Instr) (p : Place) (ds : List Duty) (v : View)
-    (q : Place) (u : View) → u.agenda ≡ [] → WorksOn true n cs code p ds v q u
+    (q : Place) (u : View) → u.actor.agenda ≡ [] → WorksOn true n cs code p ds v q u
     → WorksOn false n cs code p ds v q (to_settle [] u)
 comes_to_settle code p ds v q u none on =
-    let settles = ready u.head (Settle ∷ []) in
+    let settles = ready u.actor.head (Settle ∷ []) in
     record {
-      traces = with_duties code p q ds settles _ v (to_settle [] u) (sym (settles_alone u.head))
+      traces = with_duties code p q ds settles _ v (to_settle [] u) (sym (settles_alone u.actor.head))
           (traces_behind code p q q ds settles settles v u (to_settle [] u)
           (with_agenda code p ds v q u [] none on)
           (quietly code q settles u (to_settle [] u) refl refl refl refl));
-      off = ready_off u.head (Settle ∷ []) refl;
+      off = ready_off u.actor.head (Settle ∷ []) refl;
     }

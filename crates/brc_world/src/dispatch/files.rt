@@ -96,7 +96,8 @@ pub(super) fn write(number: Variable, thread: &mut Thread, left: u32) -> Start
 #[inline(always)]
 fn lend(file: Variable, thread: &mut Thread, left: u32) -> Start
     requires { CanDispatch thread.old }
-    ensures { HasDispatched thread.old (lend_action (context_in left thread.old) thread.old.at thread.old.variables file)
+    ensures { HasDispatched thread.old (lend_action (context_in left thread.old) thread.old.at thread.old.variables
+        file)
         result thread.new }
 {
     match thread.row_of(file) {
@@ -141,7 +142,8 @@ pub(super) fn use_lent(instr: Instr, thread: &mut Thread) -> Start
 #[inline(always)]
 pub(super) fn put_back(instr: Instr, exit: Exit, thread: &mut Thread) -> Start
     requires { CanDispatch thread.old }
-    ensures { (layout : Layout) (t : ℕ) → HasDispatched thread.old (action_inside layout t (stages.Called exit) (Some instr)
+    ensures { (layout : Layout) (t : ℕ) → HasDispatched thread.old (action_inside layout t (stages.Called exit)
+        (Some instr)
         thread.old) result thread.new }
 {
     let next = thread.at + 1;

@@ -26,7 +26,8 @@ use brc_model::{Duty, Holding, Stage};
 pub(super) fn ask_for_cell(instr: Instr, thread: &mut Thread, left: u32) -> Start
     requires can { CanDispatch thread.old }
     requires item { uses_cell instr ≡ true }
-    ensures { (layout : Layout) (t : ℕ) → HasDispatched thread.old (action_at layout t left (Some instr) thread.old) result
+    ensures { (layout : Layout) (t : ℕ) → HasDispatched thread.old (action_at layout t left (Some instr) thread.old)
+        result
         thread.new }
 {
     match instr {
@@ -170,7 +171,8 @@ fn load_cell(row: u32, index: u8, question: Question) -> Start
 #[inline(always)]
 pub(super) fn retain_found(instr: Instr, item: u32, thread: &mut Thread) -> Start
     requires { CanDispatch thread.old }
-    ensures { (layout : Layout) (t : ℕ) → HasDispatched thread.old (action_inside layout t (stages.Found item) (Some instr)
+    ensures { (layout : Layout) (t : ℕ) → HasDispatched thread.old (action_inside layout t (stages.Found item)
+        (Some instr)
         thread.old) result thread.new }
 {
     let next = thread.at + 1;
@@ -224,7 +226,8 @@ fn set(list: Variable, index: u8, from: Variable, otherwise: u8, thread: &mut Th
 #[inline(always)]
 pub(super) fn give_up_item(instr: Instr, thread: &mut Thread) -> Start
     requires { CanDispatch thread.old }
-    ensures { (layout : Layout) (t : ℕ) → HasDispatched thread.old (action_inside layout t stages.OutOfRange (Some instr)
+    ensures { (layout : Layout) (t : ℕ) → HasDispatched thread.old (action_inside layout t stages.OutOfRange
+        (Some instr)
         thread.old) result thread.new }
 {
     let left = thread.left;

@@ -23,7 +23,8 @@ loop-value-preserved c =
     (let here = count_here root_row [] in omega (arith, here)) (omega arith)) in (
       c.if-not-at_root.ensures.resting refl,
       has.references
-          ∙ ap (λ (held : Option ℕ). with_item c.at_root.new.hand.view.layout (word_of held) (root_row ∷ [])) c.in-None.is,
+          ∙ ap (λ (held : Option ℕ). with_item c.at_root.new.hand.view.layout (word_of held) (root_row ∷ []))
+          c.in-None.is,
       c.in_ok-posts_or_keeps.ensures.resting,
       c.in_ok-posts_or_keeps.ensures.holds,
       c.in_ok-posts_or_keeps.ensures.counted,

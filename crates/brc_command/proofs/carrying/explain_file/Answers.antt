@@ -38,5 +38,6 @@ returns-in-Some-clause-left g c =
     leaves_fault says gives c.args.file.now c.as_slice.result.now only
     (subst (ReadsAsModule gives c.args.file.now) (sym c.as_slice.ensures.value) c.in_ok-bytes.ensures.loaded)
     c.in-Some.fault c.in-Ok.field-0.text.items _ _
-    (subst (λ (f : Option StepFault). IsExplained says c.as_slice.result.now only f c.in-Ok.field-0.text.items) c.in-Some.is
+    (subst (λ (f : Option StepFault). IsExplained says c.as_slice.result.now only f c.in-Ok.field-0.text.items)
+    c.in-Some.is
     c.in-Ok.ensures.explained) (search rules)

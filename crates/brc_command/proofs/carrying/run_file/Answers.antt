@@ -20,8 +20,11 @@ returns-in-Ok-write_tally-clause-reported g c =
         ran = record {
           known = search rules;
           ran = subst (λ (call : Call). IsTallyOfRun (map (λ path. path.now) c.args.asked.now.paths.now)
-              (map (λ peer. peer.now) c.args.asked.now.peers.now) c.in-Ok.checked.module c.args.asked.now.threads c.args.asked.now.rows call
-              c.args.asked.now.steps c.in_ok-tally.tally) (c.in-Some.ensures.found ∙ ap (λ (m : Module). calls_named m c.args.asked.now.function.now c.args.asked.now.times) c.module.ensures.value) c.in_ok-tally.ensures;
+              (map (λ peer. peer.now) c.args.asked.now.peers.now) c.in-Ok.checked.module c.args.asked.now.threads
+              c.args.asked.now.rows call
+              c.args.asked.now.steps c.in_ok-tally.tally) (c.in-Some.ensures.found
+              ∙ ap (λ (m : Module). calls_named m c.args.asked.now.function.now c.args.asked.now.times)
+              c.module.ensures.value) c.in_ok-tally.ensures;
         };
         reported = search rules;
       },
@@ -41,8 +44,11 @@ returns-clause-begun g c = λ is.
         ran = record {
           known = search rules;
           ran = subst (λ (call : Call). IsTallyOfRun (map (λ path. path.now) c.args.asked.now.paths.now)
-              (map (λ peer. peer.now) c.args.asked.now.peers.now) c.in-Ok.checked.module c.args.asked.now.threads c.args.asked.now.rows call
-              c.args.asked.now.steps c.in_ok-tally.tally) (c.in-Some.ensures.found ∙ ap (λ (m : Module). calls_named m c.args.asked.now.function.now c.args.asked.now.times) c.module.ensures.value) c.in_ok-tally.ensures;
+              (map (λ peer. peer.now) c.args.asked.now.peers.now) c.in-Ok.checked.module c.args.asked.now.threads
+              c.args.asked.now.rows call
+              c.args.asked.now.steps c.in_ok-tally.tally) (c.in-Some.ensures.found
+              ∙ ap (λ (m : Module). calls_named m c.args.asked.now.function.now c.args.asked.now.times)
+              c.module.ensures.value) c.in_ok-tally.ensures;
         };
         reported = search rules;
       },

@@ -14,7 +14,8 @@ returns-in-Ok-clause-reported g c =
     later _ gives c.args.schedule.now c.as_slice-2.result.now c.in_ok-module.ensures.gives_no_more
     (subst (ReadsAsSchedule _ c.args.schedule.now) (sym c.as_slice-2.ensures.value) c.in_ok-schedule.ensures.loaded) in
     step_reported gives c.args.file.now c.args.schedule.now c.as_slice.result.now c.as_slice-2.result.now _ _
-    read planned (c.read_standard_input_twice.ensures.apart c.if-read_standard_input_twice.false) c.in-Ok.ensures.stepped
+    read planned (c.read_standard_input_twice.ensures.apart c.if-read_standard_input_twice.false)
+    c.in-Ok.ensures.stepped
 
 pub returns-clause-stopped : goal.returns-clause-stopped
 returns-clause-stopped g c =

@@ -22,9 +22,9 @@ pub loop-init : goal.loop-init
 loop-init g c =
     let duty = c.requires.duty in
     let taken = c.take_local.ensures in (
-      taken.table,
-      taken.carried,
-      taken.slots,
+      taken.kept.table,
+      taken.kept.carried,
+      taken.kept.slots,
       (
         duty.reason,
         duty.rest,
@@ -55,9 +55,9 @@ loop-preserved g c =
     let kept = c.loop.invariant in
     let (r, rest, next, at) = kept.3 in
     let tried = c.merge.ensures in (
-      tried.table ∙ kept.0,
-      tried.carried ∙ kept.1,
-      tried.slots ∙ kept.2,
+      tried.kept.table ∙ kept.0,
+      tried.kept.carried ∙ kept.1,
+      tried.kept.slots ∙ kept.2,
       (
         r,
         rest,

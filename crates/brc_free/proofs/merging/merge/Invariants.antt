@@ -10,5 +10,5 @@ abbrev pub invariant-loop : goal.invariant-loop
 invariant-loop g l =
     (l.hand.table ≡ l.fn.hand.table) × (l.hand.carried ≡ l.fn.hand.carried)
     × (l.hand.slots ≡ l.fn.hand.slots)
-    × ((r : Reason) × (rest : List Duty) × (l.fn.hand.view.agenda ≡ MergeSwap l.fn.row r ∷ rest)
+    × ((r : Reason) × (rest : List Duty) × (l.fn.hand.view.actor.agenda ≡ MergeSwap l.fn.row r ∷ rest)
     × HasWorked l.fn.hand.view [] (MergeLoad l.fn.row l.carried r ∷ rest) l.hand.view)

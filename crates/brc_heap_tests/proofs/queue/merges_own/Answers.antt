@@ -30,7 +30,8 @@ pub step-requires-clause-next : goal.step-requires-clause-next
 step-requires-clause-next c =
     let at = at_exchange _ c.step-queued.new.hand.view root_row _ c.step-queued.result
     (loads (goal.at.step-requires-clause-next c).After-local_count-carried) c.step-queued.ensures.view in
-    subst (IsNext (MergeExchange root_row c.local_count-carried.result c.step-queued.result Handed)) (sym at.agenda) refl
+    subst (IsNext (MergeExchange root_row c.local_count-carried.result c.step-queued.result Handed)) (sym at.agenda)
+    refl
 
 -- The exchange wins, and the handed reference is given up.
 releases : (c : After-step-queued) → (four : View) (found : ℕ)

@@ -31,10 +31,11 @@ returns-clause-tally g c = elim c.match-ran.branch [
       let layout = c.finished-end.ensures.layout ∙ c.in_ok-heap.ensures.layout in
       let ok : w.joined-counted.result ≡ Ok c.in_ok-totals.totals = sym w.counted-is ∙ c.in_ok-totals.was in
       let items : vec_items c.in_ok-totals.totals ≡ totals_in (vec_items gone) =
-      subst (λ r. IfOk r (λ totals. vec_items totals ≡ totals_in (vec_items gone))) ok w.joined-counted.ensures.totals in
+      subst (λ r. IfOk r (λ totals. vec_items totals ≡ totals_in (vec_items gone))) ok w.joined-counted.ensures.totals
+      in
       let each =
       subst (λ r. OnOk r ((k : ℕ) (v : _) → k < vec_len gone → let hand = (get_or (vec_items gone) k v).0 in
-      HasJoined w.joined-counted.new.main.view (record { thread = hand.view.thread; used = hand.view.used }))) ok
+      HasJoined w.joined-counted.new.main.view (record { thread = hand.view.thread; used = hand.view.actor.used }))) ok
       w.joined-counted.ensures.each in
       let tally
       : c.in_ok-tally_of.field-0
@@ -64,11 +65,13 @@ returns-clause-tally g c = elim c.match-ran.branch [
               c.finished-end.ensures.root (λ k d low. used_by_all end c.match-ran.main.view.joined
               c.finished-end.ensures.joined (vec_items gone)
               (λ i v below. subst (λ (u : HandState). let hand = (get_or (vec_items gone) i v).0 in
-              HasJoined u.view (record { thread = hand.view.thread; used = hand.view.used })) (sym w.main-is)
+              HasJoined u.view (record { thread = hand.view.thread; used = hand.view.actor.used })) (sym w.main-is)
               (each i v (omega (arith, below, len))))
               (λ i v below. (w.in-Ok.ensures.gone i v (omega (arith, below, len))).hand_is.thread_is)
-              (λ i v below. (w.in-Ok.ensures.gone i v (omega (arith, below, len))).created) k d (omega (arith, low, len, as_many))) no_totals;
+              (λ i v below. (w.in-Ok.ensures.gone i v (omega (arith, below, len))).created) k d
+              (omega (arith, low, len, as_many))) no_totals;
         };
       }
-  | in-Err w ↦ absurd (let wrong : Err w.into.result ≡ Ok c.in_ok-totals.totals = sym w.counted-is ∙ c.in_ok-totals.was in cc)
+  | in-Err w ↦ absurd (let wrong : Err w.into.result ≡ Ok c.in_ok-totals.totals = sym w.counted-is
+      ∙ c.in_ok-totals.was in cc)
 ]

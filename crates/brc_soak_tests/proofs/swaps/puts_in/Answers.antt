@@ -10,7 +10,8 @@ pub counts_found-requires-clause-whole : goal.counts_found-requires-clause-whole
 counts_found-requires-clause-whole c =
     let rows : List ℕ = c.args.hand.now.view.references in
     tells_whole c.less.new.self (without_one c.args.item rows)
-    (tells_less c.args.ledger.now c.less.new.self rows c.args.item c.requires.tells c.requires.some c.less.ensures.counts
+    (tells_less c.args.ledger.now c.less.new.self rows c.args.item c.requires.tells c.requires.some
+    c.less.ensures.counts
     c.less.ensures.total)
 
 pub returns-clause-held : goal.returns-clause-held
@@ -20,7 +21,8 @@ returns-clause-held c =
     let swaps = c.swap_item-found.ensures.swaps in
     let left =
     put_leaves c.args.heap.now.layout c.args.hand.now.view.layout swaps.0 c.args.item c.swap_item-found.result rows
-    c.swap_item-found.new.hand.view.references plain c.requires.resting.table.1 c.requires.item swaps.1.references swaps.2 in
+    c.swap_item-found.new.hand.view.references plain c.requires.resting.table.1 c.requires.item swaps.1.references
+    swaps.2 in
     subst (λ (ys : List ℕ). 1 ≤ times c.args.list ys) (sym left)
     (held_with c.args.list c.swap_item-found.result (without_one c.args.item rows)
     (held_after c.args.list c.args.item rows c.requires.held
@@ -38,5 +40,6 @@ returns-clause-tells c =
     put_leaves c.args.heap.now.layout c.args.hand.now.view.layout swaps.0 item c.swap_item-found.result rows later
     plain c.requires.resting.table.1 c.requires.item swaps.1.references swaps.2 in
     tells_equal c.counts_found.new.ledger (with_found c.swap_item-found.result (without_one item rows)) later
-    (c.counts_found.ensures (without_one item rows) (tells_less c.args.ledger.now c.less.new.self rows item c.requires.tells
+    (c.counts_found.ensures (without_one item rows) (tells_less c.args.ledger.now c.less.new.self rows item
+    c.requires.tells
     c.requires.some c.less.ensures.counts c.less.ensures.total)) left

@@ -7,7 +7,8 @@ pub unreachable-requires : goal.unreachable-requires
 unreachable-requires c =
     let (s, reaches) = c.requires.reached in
     c.in_default.not-Some s
-    (c.entry.ensures ∙ state_known c.args.checked.now.module _ c.args.function c.args.at s c.states_are_true.ensures.truth
+    (c.entry.ensures ∙ state_known c.args.checked.now.module _ c.args.function c.args.at s
+    c.states_are_true.ensures.truth
     c.requires.function reaches)
 
 pub returns : goal.returns

@@ -19,7 +19,7 @@ join-requires g c =
     let same : get_or (vec_items c.args.gone) was.joined left ≡ left =
     sym (subst (λ xs. left ≡ get_or xs was.joined left) began.0 here) in
     let facts =
-    subst (λ w. IsOf c.args.heap.now w.0 × (w.0.view.status ≡ Gone) × (w.0.slots ≡ [])) same
+    subst (λ w. IsOf c.args.heap.now w.0 × (w.0.view.actor.status ≡ Gone) × (w.0.slots ≡ [])) same
     (c.requires.gone was.joined left (omega (arith, was.passed, step.1, began.1))) in
     record { table = search rules; other_table = search (rules, facts); gone = facts.1; no_slot = facts.2 }
 
@@ -47,8 +47,8 @@ loop-left-preserved g c =
     let is = c.join.ensures.view in
     record {
       of = search rules;
-      carried = c.join.ensures.carried ∙ was.carried;
-      slots = c.join.ensures.slots ∙ was.slots;
+      carried = c.join.ensures.kept.carried ∙ was.carried;
+      slots = c.join.ensures.kept.slots ∙ was.slots;
       more = joins_then c.args.main.now.view before after left.0.view was.more is;
       joined = was.joined + 1;
       passed = omega (arith, was.passed, step.1);
@@ -57,16 +57,16 @@ loop-left-preserved g c =
           let now : left ≡ get_or first was.joined w = let h = was.place 0 w in grind rules in
           below_more (λ i. HasJoined after (record {
             thread = (get_or first i w).0.view.thread;
-            used = (get_or first i w).0.view.used;
+            used = (get_or first i w).0.view.actor.used;
           })) was.joined
           (λ i low. subst (λ z. HasJoined z (record {
             thread = (get_or first i w).0.view.thread;
-            used = (get_or first i w).0.view.used;
+            used = (get_or first i w).0.view.actor.used;
           })) (sym is) (still_joined before left.0.view (record {
             thread = (get_or first i w).0.view.thread;
-            used = (get_or first i w).0.view.used;
+            used = (get_or first i w).0.view.actor.used;
           }) (was.each i w low)))
-          (subst (λ v. HasJoined after (record { thread = v.0.view.thread; used = v.0.view.used })) now
+          (subst (λ v. HasJoined after (record { thread = v.0.view.thread; used = v.0.view.actor.used })) now
           (joined_now before after left.0.view is)) k below;
     }
 
@@ -76,5 +76,5 @@ returns-clause-each g c = λ k w below.
     let began = c.into_iter-left-iterator.ensures.into_iter_gives in
     subst (λ xs. HasJoined c.loop-left.main.view (record {
       thread = (get_or xs k w).0.view.thread;
-      used = (get_or xs k w).0.view.used;
+      used = (get_or xs k w).0.view.actor.used;
     })) began.0 (was.each k w (omega (arith, below, was.passed, c.in-None.ensures.steps.0, began.1)))

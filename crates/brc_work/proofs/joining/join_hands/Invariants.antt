@@ -17,5 +17,5 @@ invariant-loop-left g l = record {
   place : (k : ℕ) (w : _) → k < into_iter_len l.left-iterator → get_or (into_iter_items l.left-iterator) k w
       ≡ get_or (into_iter_items l.initial.left-iterator) (joined + k) w;
   each : (k : ℕ) (w : _) → k < joined → let hand = (get_or (into_iter_items l.initial.left-iterator) k w).0 in
-      HasJoined l.main.view (record { thread = hand.view.thread; used = hand.view.used });
+      HasJoined l.main.view (record { thread = hand.view.thread; used = hand.view.actor.used });
 }

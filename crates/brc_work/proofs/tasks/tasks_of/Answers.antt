@@ -31,7 +31,8 @@ loop-host-preserved g c =
       room = search (rules, was.room);
       each = λ k t below.
           grown (λ i s. job s.heap.now s.checked.now.module s.function s.times s.steps s.thread
-          ≡ job heap c.args.checked.now.module c.args.function c.args.times c.args.steps (i + 1)) (vec_items c.loop-host.tasks)
+          ≡ job heap c.args.checked.now.module c.args.function c.args.times c.args.steps (i + 1))
+          (vec_items c.loop-host.tasks)
           (vec_items c.push.new.self) count added.0
           (λ d. subst (λ s. job s.heap.now s.checked.now.module s.function s.times s.steps s.thread
           ≡ job heap c.args.checked.now.module c.args.function c.args.times c.args.steps (count + 1))

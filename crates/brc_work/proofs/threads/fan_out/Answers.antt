@@ -27,8 +27,8 @@ returns-else-called-clause-joined g c = λ t given.
           let w = some.0 in
           let ends = (c.run_all-gone.ensures.ends k.0 w low).0 in
           let hand = (get_or (vec_items gone) k.0 w).0 in (
-            hand.view.used,
-            subst (λ (n : ℕ). HasJoined c.join_hands.new.main.view (record { thread = n; used = hand.view.used }))
+            hand.view.actor.used,
+            subst (λ (n : ℕ). HasJoined c.join_hands.new.main.view (record { thread = n; used = hand.view.actor.used }))
                 (ends.thread_is ∙ k.2) (c.join_hands.ensures.each k.0 w low),
           )
       | inr past ↦ absurd (omega (arith, past.0, low))

@@ -30,8 +30,9 @@ returns-clause-work g c =
       subst (λ (ds : List Duty). HasWorked v (Close failed ∷ []) ds w) (sym (ap behind duty.next))
           (ended_empty v v w [] c.args.row found failed duty.rest
           (worked_first v (TakeSlot c.args.row ∷ duty.rest)
-          (duty.next ∙ sym (take_slot_first v.head c.args.row duty.rest)))
-          (c.gate_close.ensures.view ∙ ap (λ (z : View). view_after (slot_emptied z) found) c.lend-resource.ensures.view)
+          (duty.next ∙ sym (take_slot_first v.actor.head c.args.row duty.rest)))
+          (c.gate_close.ensures.view ∙ ap (λ (z : View). view_after (slot_emptied z) found)
+          c.lend-resource.ensures.view)
           (finalising_unlocked v (TakeSlot c.args.row) duty.rest c.args.row c.rows_are_there.ensures duty.next
           (eq-eqb c.args.row c.args.row refl))),
       c.faults_of.ensures,

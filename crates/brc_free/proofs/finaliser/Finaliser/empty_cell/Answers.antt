@@ -15,16 +15,18 @@ use Rattle.brc_free.proofs.SettleDuties.{cell_emptied, item_found}
 use Rattle.brc_free.proofs.finaliser.Finaliser.empty_cell.Goals as goal
 
 -- The cell is empty. What was there is given up next, and then come the cells that are left.
-emptied : (v w : View) (row cell found : ℕ) (duty : CellNext row cell v.agenda) → RowsAreThere v → w ≡ view_after v found
+emptied : (v w : View) (row cell found : ℕ) (duty : CellNext row cell v.actor.agenda) → RowsAreThere v → w
+    ≡ view_after v found
     → HasWorked v [] (release_found found ++ (cells_from row (cell + 1) duty.count ++ duty.rest)) w
 emptied v w row cell found duty there is =
     let begins = worked_first v (SettleCell row cell duty.count ∷ duty.rest)
-    (duty.next ∙ sym (settle_cell_first v.head row cell duty.count duty.rest)) in
+    (duty.next ∙ sym (settle_cell_first v.actor.head row cell duty.count duty.rest)) in
     cell_emptied v v w [] row cell duty.count found duty.rest begins is
     (finalising_unlocked v (SettleCell row cell duty.count) duty.rest row there duty.next (eq-eqb row row refl))
 
 -- There was an item, which is given up next.
-item_next : (v w : View) (row cell found : ℕ) (duty : CellNext row cell v.agenda) → RowsAreThere v → w ≡ view_after v found
+item_next : (v w : View) (row cell found : ℕ) (duty : CellNext row cell v.actor.agenda) → RowsAreThere v → w
+    ≡ view_after v found
     → found ≢ 0
     → HasWorked v [] (ReleaseLoad (found - 1) InFlight ∷ (cells_from row (cell + 1) duty.count ++ duty.rest)) w
 item_next v w row cell found duty there is some =

@@ -15,7 +15,7 @@ loop-cell-init g c =
       refl,
       refl,
       λ rest is. worked_first v (cells_from c.args.row 0 c.args.cells ++ rest)
-          (is ∙ sym (cells_first v.head c.args.row 0 c.args.cells rest)),
+          (is ∙ sym (cells_first v.actor.head c.args.row 0 c.args.cells rest)),
     )
 
 pub loop-cell-preserved : goal.loop-cell-preserved
@@ -25,12 +25,12 @@ loop-cell-preserved g c =
     let w = c.empty_cell.new.hand.view in
     let kept = c.loop-cell.invariant in
     let emptied = c.empty_cell.ensures in (
-      emptied.table ∙ kept.0,
-      emptied.carried ∙ kept.1,
-      emptied.slots ∙ kept.2,
+      emptied.kept.table ∙ kept.0,
+      emptied.kept.carried ∙ kept.1,
+      emptied.kept.slots ∙ kept.2,
       λ rest is.
           worked_call v u w [] (SettleCell c.args.row c.loop-cell.cell c.args.cells ∷ rest) cells_left
           (subst (λ (ds : List Duty). HasWorked v [] ds u)
           (cell_next c.args.row c.loop-cell.cell c.args.cells rest c.loop-cell-test.true) (kept.3 rest is))
-          (settle_cell_first u.head c.args.row c.loop-cell.cell c.args.cells rest) emptied.work,
+          (settle_cell_first u.actor.head c.args.row c.loop-cell.cell c.args.cells rest) emptied.work,
     )

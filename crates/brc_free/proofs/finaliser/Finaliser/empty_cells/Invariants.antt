@@ -9,5 +9,5 @@ abbrev pub invariant-loop-cell : goal.invariant-loop-cell
 invariant-loop-cell g l =
     (l.hand.table ≡ l.fn.hand.table) × (l.hand.carried ≡ l.fn.hand.carried)
     × (l.hand.slots ≡ l.fn.hand.slots)
-    × ((rest : List Duty) → l.fn.hand.view.agenda ≡ cells_from l.fn.row 0 l.fn.cells ++ rest
+    × ((rest : List Duty) → l.fn.hand.view.actor.agenda ≡ cells_from l.fn.row 0 l.fn.cells ++ rest
     → HasWorked l.fn.hand.view [] (cells_from l.fn.row l.cell l.fn.cells ++ rest) l.hand.view)

@@ -16,21 +16,21 @@ use Rattle.brc_free.proofs.finaliser.Finaliser.end_release.Goals as goal
 pub returns-in-Skip-clause-work : goal.returns-in-Skip-clause-work
 returns-in-Skip-clause-work g c = λ rest next.
     worked_first c.args.hand.now.view rest
-    (next ∙ ap (λ (ds : List Duty). ready c.args.hand.now.view.head (ds ++ rest))
+    (next ∙ ap (λ (ds : List Duty). ready c.args.hand.now.view.actor.head (ds ++ rest))
     (nothing_left c.args.row c.args.release c.in-Skip.is))
 
 -- What the answer says comes next.
 zero_next : (v : View) (x : ℕ) (answer : LocalRelease) (rest : List Duty) → answer ≡ local.Zero
-    → EndsRelease x answer rest v → v.agenda ≡ DecideAtZero x ∷ rest
+    → EndsRelease x answer rest v → v.actor.agenda ≡ DecideAtZero x ∷ rest
 zero_next v x answer rest is next =
-    next ∙ (ap (λ (a : LocalRelease). ready v.head (local_left x a ++ rest)) is
-    ∙ plain_first v.head (DecideAtZero x) rest refl)
+    next ∙ (ap (λ (a : LocalRelease). ready v.actor.head (local_left x a ++ rest)) is
+    ∙ plain_first v.actor.head (DecideAtZero x) rest refl)
 
 share_next : (v : View) (x : ℕ) (answer : LocalRelease) (rest : List Duty) → answer ≡ local.Share
-    → EndsRelease x answer rest v → v.agenda ≡ SharedLoad x Own ∷ rest
+    → EndsRelease x answer rest v → v.actor.agenda ≡ SharedLoad x Own ∷ rest
 share_next v x answer rest is next =
-    next ∙ (ap (λ (a : LocalRelease). ready v.head (local_left x a ++ rest)) is
-    ∙ plain_first v.head (SharedLoad x Own) rest refl)
+    next ∙ (ap (λ (a : LocalRelease). ready v.actor.head (local_left x a ++ rest)) is
+    ∙ plain_first v.actor.head (SharedLoad x Own) rest refl)
 
 pub decide_at_zero-requires-clause-duty : goal.decide_at_zero-requires-clause-duty
 decide_at_zero-requires-clause-duty g c =

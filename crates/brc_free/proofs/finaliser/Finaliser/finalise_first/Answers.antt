@@ -44,7 +44,7 @@ cells g c rest comes =
 
 -- Once they are empty, the object is closed next.
 empty : (g : given.Over) (c : After-cells_of g) (w : View) (rest : List Duty)
-    → ((later : List Duty) → c.step-kind.new.hand.view.agenda
+    → ((later : List Duty) → c.step-kind.new.hand.view.actor.agenda
     ≡ cells_from (c.head-row.result - 1) 0 c.cells_of.result ++ later
     → HasWorked c.step-kind.new.hand.view [] (SettleEnd (c.head-row.result - 1) ∷ later) w)
     → ComesToSettle c.args.hand.now.view rest
@@ -91,8 +91,8 @@ gate_close-requires-clause-table g c =
     let at = empty g (goal.at.gate_close-requires-clause-table g c).After-cells_of c.empty_cells.new.hand.view _
     c.empty_cells.ensures.work c.requires.duty.1 in
     let words = c.words-words.ensures ∙ c.self.view_is in (
-      c.empty_cells.ensures.table ∙ (c.step-kind.ensures.table
-          ∙ (c.gate_load.ensures.table ∙ (c.requires.table.0 ∙ sym (ap (λ (t : TableState). t.table) words)))),
+      c.empty_cells.ensures.kept.table ∙ (c.step-kind.ensures.table
+          ∙ (c.gate_load.ensures.kept.table ∙ (c.requires.table.0 ∙ sym (ap (λ (t : TableState). t.table) words)))),
       at.keeps.layout ∙ (c.requires.table.1 ∙ sym (ap (λ (t : TableState). t.layout) words)),
     )
 

@@ -19,7 +19,7 @@ use Rattle.brc_free.proofs.finaliser.Finaliser.give_up.Goals as goal
 -- What a try leaves.
 tried : (g : given.Over) (c : After-release_shared g)
     → HasWorked c.args.hand.now.view [] (shared_left c.args.row c.loop.invariant.3.0 c.release_shared.result
-    ++ behind c.args.hand.now.view.agenda) c.release_shared.new.hand.view
+    ++ behind c.args.hand.now.view.actor.agenda) c.release_shared.new.hand.view
 tried g c =
     let at = c.loop.invariant.3.1 in
     worked_more at (worked_by (c.release_shared.ensures.left _ _ (at.agenda ∙ plain_first _ (SharedLoad c.args.row _) _
@@ -27,11 +27,11 @@ tried g c =
 
 -- The object is in its owner's queue: its mark is set next.
 queued : (g : given.Over) (c : After-release_shared g) → c.release_shared.result ≡ shared.Queued
-    → HasWorked c.args.hand.now.view [] (SetMark c.args.row ∷ behind c.args.hand.now.view.agenda)
+    → HasWorked c.args.hand.now.view [] (SetMark c.args.row ∷ behind c.args.hand.now.view.actor.agenda)
     c.release_shared.new.hand.view
 queued g c is =
     subst (λ (s : SharedRelease). HasWorked c.args.hand.now.view [] (shared_left c.args.row c.loop.invariant.3.0 s
-    ++ behind c.args.hand.now.view.agenda) c.release_shared.new.hand.view) is (tried g c)
+    ++ behind c.args.hand.now.view.actor.agenda) c.release_shared.new.hand.view) is (tried g c)
 
 pub loop-init : goal.loop-init
 loop-init g c =
@@ -50,7 +50,7 @@ loop-init g c =
 pub release_shared-requires-clause-duty : goal.release_shared-requires-clause-duty
 release_shared-requires-clause-duty g c = record {
   reason = c.loop.invariant.3.0;
-  rest = behind c.args.hand.now.view.agenda;
+  rest = behind c.args.hand.now.view.actor.agenda;
   next = c.loop.invariant.3.1.agenda ∙ plain_first _ (SharedLoad c.args.row _) _ refl;
 }
 
@@ -63,7 +63,7 @@ pub post-requires-clause-duty : goal.post-requires-clause-duty
 post-requires-clause-duty g c =
     let at = queued g (goal.at.post-requires-clause-duty g c).After-release_shared c.in-Queued.is in
     record {
-      rest = behind c.args.hand.now.view.agenda;
+      rest = behind c.args.hand.now.view.actor.agenda;
       next = at.agenda ∙ plain_first _ (SetMark c.args.row) _ refl;
     }
 
@@ -71,20 +71,20 @@ pub returns-in-Left-clause-work : goal.returns-in-Left-clause-work
 returns-in-Left-clause-work g c =
     let (said, found, is, view) = c.post.ensures.events in
     subst (λ (a : Looked). HasWorked c.args.hand.now.view [] (look_left c.args.row a
-    ++ behind c.args.hand.now.view.agenda) c.post.new.hand.view) c.in-Left.is
+    ++ behind c.args.hand.now.view.actor.agenda) c.post.new.hand.view) c.in-Left.is
     (has_posted c.post.result said found
     (queued g (goal.at.returns-in-Left-clause-work g c).After-release_shared c.in-Queued.is) is view)
 
 -- The owner doesn't look there any more: the object is merged next.
 claimed : (g : given.Over) (c : After-post g) → c.post.result ≡ looks.Claimed
-    → HasWorked c.args.hand.now.view [] (SetMark c.args.row ∷ behind c.args.hand.now.view.agenda)
+    → HasWorked c.args.hand.now.view [] (SetMark c.args.row ∷ behind c.args.hand.now.view.actor.agenda)
     c.release_shared.new.hand.view
-    → HasWorked c.args.hand.now.view [] (MergeSwap c.args.row Handed ∷ behind c.args.hand.now.view.agenda)
+    → HasWorked c.args.hand.now.view [] (MergeSwap c.args.row Handed ∷ behind c.args.hand.now.view.actor.agenda)
     c.post.new.hand.view
 claimed g c claims at =
     let (said, found, is, view) = c.post.ensures.events in
     subst (λ (a : Looked). HasWorked c.args.hand.now.view [] (look_left c.args.row a
-    ++ behind c.args.hand.now.view.agenda) c.post.new.hand.view) claims
+    ++ behind c.args.hand.now.view.actor.agenda) c.post.new.hand.view) claims
     (has_posted c.post.result said found at is view)
 
 pub merge-requires-clause-table : goal.merge-requires-clause-table
@@ -106,7 +106,7 @@ merge-requires-clause-duty g c =
     let at = claimed g place.After-post c.in-Claimed.is (queued g place.After-release_shared c.in-Queued.is) in
     record {
       reason = Handed;
-      rest = behind c.args.hand.now.view.agenda;
+      rest = behind c.args.hand.now.view.actor.agenda;
       next = at.agenda ∙ plain_first _ (MergeSwap c.args.row Handed) _ refl;
     }
 
@@ -118,12 +118,12 @@ loop-preserved-in-Claimed g c =
     let merged = c.merge.ensures in
     let place = goal.at.loop-preserved-in-Claimed g c in
     let at = claimed g place.After-post c.in-Claimed.is (queued g place.After-release_shared c.in-Queued.is) in (
-      merged.table ∙ (posts.table ∙ (tried.table ∙ kept.0)),
-      merged.carried ∙ (posts.carried ∙ (tried.carried ∙ kept.1)),
-      merged.slots ∙ (posts.slots ∙ (tried.slots ∙ kept.2)),
+      merged.kept.table ∙ (posts.table ∙ (tried.table ∙ kept.0)),
+      merged.kept.carried ∙ (posts.carried ∙ (tried.carried ∙ kept.1)),
+      merged.kept.slots ∙ (posts.slots ∙ (tried.slots ∙ kept.2)),
       (
         Handed,
-        worked_call _ _ _ [] (MergeSwap c.args.row Handed ∷ behind c.args.hand.now.view.agenda) merge_left at
+        worked_call _ _ _ [] (MergeSwap c.args.row Handed ∷ behind c.args.hand.now.view.actor.agenda) merge_left at
             (plain_first _ (MergeSwap c.args.row Handed) _ refl) merged.work,
       ),
     )
@@ -138,7 +138,7 @@ loop-preserved g c =
       (
         kept.3.0,
         subst (λ (s : SharedRelease). HasWorked c.args.hand.now.view [] (shared_left c.args.row kept.3.0 s
-            ++ behind c.args.hand.now.view.agenda) c.release_shared.new.hand.view) c.in-Again.is
+            ++ behind c.args.hand.now.view.actor.agenda) c.release_shared.new.hand.view) c.in-Again.is
             (tried g (goal.at.loop-preserved g c).After-release_shared),
       ),
     )

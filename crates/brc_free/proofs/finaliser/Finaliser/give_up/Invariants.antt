@@ -9,4 +9,5 @@ abbrev pub invariant-loop : goal.invariant-loop
 invariant-loop g l =
     (l.hand.table ≡ l.fn.hand.table) × (l.hand.carried ≡ l.fn.hand.carried)
     × (l.hand.slots ≡ l.fn.hand.slots)
-    × ((r : Reason) × HasWorked l.fn.hand.view [] (SharedLoad l.fn.row r ∷ behind l.fn.hand.view.agenda) l.hand.view)
+    × ((r : Reason) × HasWorked l.fn.hand.view [] (SharedLoad l.fn.row r ∷ behind l.fn.hand.view.actor.agenda)
+    l.hand.view)

@@ -11,15 +11,17 @@ use Rattle.brc_free.proofs.SettleDuties.{to_settle_next}
 use Rattle.brc_free.proofs.finaliser.Finaliser.merge_claimed.Goals as goal
 
 -- The object is merged and its handed reference given up, so that the hand settles next.
-given_up : (v u w : View) (row : ℕ) (duty : ClaimedNext row v.agenda) → HasWorked v [] (merge_left v.agenda) u
-    → HasWorked u [] (behind u.agenda) w → HasWorked v [] (Settle ∷ duty.rest) w
+given_up : (v u w : View) (row : ℕ) (duty : ClaimedNext row v.actor.agenda)
+    → HasWorked v [] (merge_left v.actor.agenda) u
+    → HasWorked u [] (behind u.actor.agenda) w → HasWorked v [] (Settle ∷ duty.rest) w
 given_up v u w row duty merged gives =
     worked_call v u w [] (SharedLoad row Handed ∷ Settle ∷ duty.rest) behind
     (subst (λ (ds : List Duty). HasWorked v [] (merge_left ds) u) duty.next merged)
-    (plain_first u.head (SharedLoad row Handed) (Settle ∷ duty.rest) refl) gives
+    (plain_first u.actor.head (SharedLoad row Handed) (Settle ∷ duty.rest) refl) gives
 
 -- It may settle in the midst of its work, since it isn't gone.
-comes : (v w : View) (rest : List Duty) → v.status ≢ Gone → HasWorked v [] (Settle ∷ rest) w → ComesToSettle w rest
+comes : (v w : View) (rest : List Duty) → v.actor.status ≢ Gone → HasWorked v [] (Settle ∷ rest) w
+    → ComesToSettle w rest
 comes v w rest alive at = InWork rest (λ gone. alive (sym at.keeps.status ∙ gone)) at.agenda
 
 pub settle-requires-clause-duty : goal.settle-requires-clause-duty

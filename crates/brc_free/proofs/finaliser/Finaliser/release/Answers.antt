@@ -24,7 +24,7 @@ ends : (g : given.Over) (c : After-release_local-release g)
     → EndsRelease c.args.row c.release_local-release.result [] c.release_local-release.new.hand.view
 ends g c =
     c.release_local-release.ensures.left.agenda
-    ∙ local_ready c.release_local-release.new.hand.view.head c.args.row c.release_local-release.result
+    ∙ local_ready c.release_local-release.new.hand.view.actor.head c.args.row c.release_local-release.result
 
 pub end_release-requires-clause-duty : goal.end_release-requires-clause-duty
 end_release-requires-clause-duty g c =

@@ -52,9 +52,9 @@ loop-preserved g c =
     let w = c.finalise_first.new.hand.view in
     let kept = c.loop.invariant in
     let one = c.finalise_first.ensures in (
-      one.table ∙ kept.0,
-      one.carried ∙ kept.1,
-      one.slots ∙ kept.2,
+      one.kept.table ∙ kept.0,
+      one.kept.carried ∙ kept.1,
+      one.kept.slots ∙ kept.2,
       λ rest comes.
           let before = kept.3 rest comes in
           let after = one.work rest before.0 in

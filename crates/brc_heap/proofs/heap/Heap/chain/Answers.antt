@@ -6,5 +6,6 @@ use Rattle.brc_heap.proofs.heap.Heap.chain.Goals as goal
 
 pub returns-clause-stepped : goal.returns-clause-stepped
 returns-clause-stepped g c = λ v rest at.
-    subst (HasStepped v rest) (sym (c.step.ensures.view ∙ ap (view_after c.args.hand.now.view) c.step.ensures.overwrites))
+    subst (HasStepped v rest) (sym (c.step.ensures.view ∙ ap (view_after c.args.hand.now.view)
+    c.step.ensures.overwrites))
     (died at c.rows_are_there.ensures)

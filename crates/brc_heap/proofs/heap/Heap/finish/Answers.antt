@@ -71,7 +71,7 @@ loop-thread-preserved g c =
     let is : (word ≡ 0) ⊎ (word ≡ 3) =
     ended_word word peek.says c.if-word-eq-RUNNING.false c.if-word-eq-LEAVING.false in
     record {
-      of = (peek.table ∙ kept.of.0, ap (λ (v : View). v.layout) peek.view ∙ kept.of.1);
+      of = (peek.kept.table ∙ kept.of.0, ap (λ (v : View). v.layout) peek.view ∙ kept.of.1);
       heap = kept.heap;
       main = ap (λ (v : View). v.thread) peek.view ∙ kept.main;
       workers = kept.workers;
@@ -80,8 +80,8 @@ loop-thread-preserved g c =
       seen =
           below_next (SeesEnd c.thread_peek-word.new.hand.view) c.loop-thread.thread
           (λ t low. peek.keeps t (kept.seen t low)) (peek.sees kept.main is);
-      carried = peek.carried ∙ kept.carried;
-      slots = peek.slots ∙ kept.slots;
+      carried = peek.kept.carried ∙ kept.carried;
+      slots = peek.kept.slots ∙ kept.slots;
       words = kept.words ++ word ∷ [];
       each = length-append kept.words (word ∷ []) ∙ omega (arith, kept.each);
       ended = All-append (λ (w : ℕ). (w ≡ 0) ⊎ (w ≡ 3)) kept.words (word ∷ []) kept.ended (ended_one word is);

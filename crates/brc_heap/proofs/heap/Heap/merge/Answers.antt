@@ -8,7 +8,7 @@ use Rattle.brc_heap.proofs.heap.Heap.merge.Goals as goal
 pub returns-in-Dying-clause-own : goal.returns-in-Dying-clause-own
 returns-in-Dying-clause-own g c = λ r rest next dying.
     own_dies _ c.args.row c.args.carried c.go_on-word.result c.step-found.result r rest next
-    (subst (λ (v : View). FindsKnown v v.agenda c.step-found.result) c.go_on-word.ensures.view
+    (subst (λ (v : View). FindsKnown v v.actor.agenda c.step-found.result) c.go_on-word.ensures.view
     c.step-found.ensures.finds)
     (sym c.merge_step-step.ensures ∙ dying)
 

@@ -14,7 +14,7 @@ returns-clause-left g c =
 pub returns-clause-head : goal.returns-clause-head
 returns-clause-head g c =
     let (word, found, owner, view) = c.retain_steps.ensures.events in
-    ap (λ (v : View). v.head) view ∙ retained_head c.args.hand.now.view c.args.row word found
+    ap (λ (v : View). v.actor.head) view ∙ retained_head c.args.hand.now.view c.args.row word found
 
 pub returns-clause-references : goal.returns-clause-references
 returns-clause-references g c =

@@ -42,7 +42,7 @@ returns-then-mark_claim-ne-SET-clause-work g c =
         found = found;
         follows = subst (λ (z : View). HasWorked z [] [] w) is (worked_first w []
             (claim_none v w (row_at v.layout v.thread c.args.index) found c.requires.settled none is));
-        settled = ap (λ (z : View). z.head) is ∙ c.requires.settled;
+        settled = ap (λ (z : View). z.actor.head) is ∙ c.requires.settled;
       },
       refl,
       NoCall,

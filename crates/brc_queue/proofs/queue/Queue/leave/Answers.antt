@@ -69,7 +69,7 @@ pub scan-more-requires-clause-table : goal.scan-more-requires-clause-table
 scan-more-requires-clause-table g c = λ κs lives.
     let of = c.settle-failed.ensures.table in
     let same = c.new-finaliser.ensures ∙ c.self.view_is in (
-      c.thread_leave.ensures.table ∙ (of.0 ∙ ap (λ (t : TableState). t.table) same),
+      c.thread_leave.ensures.kept.table ∙ (of.0 ∙ ap (λ (t : TableState). t.table) same),
       ap (λ (z : View). z.layout) c.thread_leave.ensures.view
           ∙ (of.1 ∙ ap (λ (t : TableState). t.layout) same),
     )
@@ -77,7 +77,7 @@ scan-more-requires-clause-table g c = λ κs lives.
 pub step-requires-clause-table : goal.step-requires-clause-table
 step-requires-clause-table g c =
     let same = c.new-finaliser.ensures ∙ sym c.words-2.ensures in (
-      c.scan-more.ensures.table ∙ (c.thread_leave.ensures.table
+      c.scan-more.ensures.kept.table ∙ (c.thread_leave.ensures.kept.table
           ∙ (c.settle-failed.ensures.table.0 ∙ ap (λ (t : TableState). t.table) same)),
       c.scan-more.ensures.work.1.keeps.layout ∙ (ap (λ (z : View). z.layout) c.thread_leave.ensures.view
           ∙ (c.settle-failed.ensures.table.1 ∙ ap (λ (t : TableState). t.layout) same)),
@@ -86,7 +86,7 @@ step-requires-clause-table g c =
 pub returns-clause-table : goal.returns-clause-table
 returns-clause-table g c =
     let heap = c.new-finaliser.ensures ∙ c.self.view_is in (
-      c.step.ensures.table ∙ (c.scan-more.ensures.table ∙ (c.thread_leave.ensures.table
+      c.step.ensures.table ∙ (c.scan-more.ensures.kept.table ∙ (c.thread_leave.ensures.kept.table
           ∙ (c.settle-failed.ensures.table.0 ∙ ap (λ (t : TableState). t.table) heap))),
       ap (λ (z : View). z.layout) (ends g (goal.at.returns-clause-table g c).After-step)
           ∙ (c.scan-more.ensures.work.1.keeps.layout ∙ (ap (λ (z : View). z.layout) c.thread_leave.ensures.view
@@ -97,10 +97,10 @@ pub returns-clause-idle : goal.returns-clause-idle
 returns-clause-idle g c =
     let at = goal.at.returns-clause-idle g c in
     let end = ends g at.After-step in (
-      ap (λ (z : View). z.agenda) end,
-      ap (λ (z : View). z.aside) end ∙ (c.scan-more.ensures.work.1.keeps.aside
-          ∙ (ap (λ (z : View). z.aside) c.thread_leave.ensures.view ∙ (may g at.After-settle-failed).free.aside)),
-      ap (λ (z : View). z.head) end ∙ c.scan-more.ensures.settled,
+      ap (λ (z : View). z.actor.agenda) end,
+      ap (λ (z : View). z.actor.aside) end ∙ (c.scan-more.ensures.work.1.keeps.aside
+          ∙ (ap (λ (z : View). z.actor.aside) c.thread_leave.ensures.view ∙ (may g at.After-settle-failed).free.aside)),
+      ap (λ (z : View). z.actor.head) end ∙ c.scan-more.ensures.settled,
     )
 
 pub returns-clause-holds_none : goal.returns-clause-holds_none
@@ -120,8 +120,8 @@ returns-clause-thread g c =
 pub returns-clause-used : goal.returns-clause-used
 returns-clause-used g c =
     let at = goal.at.returns-clause-used g c in
-    ap (λ (z : View). z.used) (ends g at.After-step)
-    ∙ (c.scan-more.ensures.work.1.keeps.used ∙ (ap (λ (z : View). z.used) c.thread_leave.ensures.view
+    ap (λ (z : View). z.actor.used) (ends g at.After-step)
+    ∙ (c.scan-more.ensures.work.1.keeps.used ∙ (ap (λ (z : View). z.actor.used) c.thread_leave.ensures.view
     ∙ ((settled g at.After-settle-failed).1.keeps.used ∙ c.release.ensures.released.used)))
 
 pub returns-clause-work : goal.returns-clause-work

@@ -32,9 +32,9 @@ loop-index-preserved g c =
     let kept = c.loop-index.invariant in
     let one = c.claim.ensures in
     let before = kept.6 in (
-      one.table ∙ kept.0,
-      one.carried ∙ kept.1,
-      one.slots ∙ kept.2,
+      one.kept.table ∙ kept.0,
+      one.kept.carried ∙ kept.1,
+      one.kept.slots ∙ kept.2,
       record {
         running = one.keeps.status ∙ kept.3.running;
         agenda = one.work.1.follows.agenda;

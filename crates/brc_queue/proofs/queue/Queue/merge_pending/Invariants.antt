@@ -10,7 +10,7 @@ use Rattle.brc_queue.proofs.queue.Queue.merge_pending.Given as goal
 abbrev pub invariant-loop-index : goal.invariant-loop-index
 invariant-loop-index g l =
     (l.hand.table ≡ l.fn.hand.table) × (l.hand.carried ≡ l.fn.hand.carried) × (l.hand.slots ≡ l.fn.hand.slots)
-    × IsFree l.hand.view × (l.hand.view.head ≡ 0) × Keeps l.fn.hand.view l.hand.view
+    × IsFree l.hand.view × (l.hand.view.actor.head ≡ 0) × Keeps l.fn.hand.view l.hand.view
     × ((closes : List HostCall) × HasScanned l.fn.hand.view l.index closes l.hand.view
     × (l.failed ≡ raised (close_faults closes) 0)
     × HasAnswered g.H.Host.answers g.H.Host.counts l.fn.host closes l.host)

@@ -18,8 +18,8 @@ loop-index-init g c =
       c.requires.settled,
       (
         [],
-        worked_first v (Scan 0 (v.used - 0) ∷ Finish ∷ [])
-            (c.requires.duty ∙ ap (λ (n : ℕ). ready v.head (Scan 0 n ∷ Finish ∷ [])) (all_left v.used)),
+        worked_first v (Scan 0 (v.actor.used - 0) ∷ Finish ∷ [])
+            (c.requires.duty ∙ ap (λ (n : ℕ). ready v.actor.head (Scan 0 n ∷ Finish ∷ [])) (all_left v.actor.used)),
         refl,
         NoCall,
       ),
@@ -35,13 +35,13 @@ loop-index-preserved g c =
     let kept = c.loop-index.invariant in
     let one = c.scan_row.ensures in
     let before = kept.4 in (
-      one.table ∙ kept.0,
-      one.carried ∙ kept.1,
-      one.slots ∙ kept.2,
+      one.kept.table ∙ kept.0,
+      one.kept.carried ∙ kept.1,
+      one.kept.slots ∙ kept.2,
       one.settled,
       (
         before.0 ++ one.work.0,
-        scans_on v u w before.0 one.work.0 c.loop-index.index v.used
+        scans_on v u w before.0 one.work.0 c.loop-index.index v.actor.used
             (subst (λ (n : ℕ). c.loop-index.index < n) c.used-index-end.ensures c.loop-index-test.true) before.1
             one.work.1,
         c.saturating_add-failed.ensures

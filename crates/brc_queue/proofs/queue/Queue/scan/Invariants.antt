@@ -9,8 +9,8 @@ use Rattle.brc_queue.proofs.queue.Queue.scan.Given as goal
 abbrev pub invariant-loop-index : goal.invariant-loop-index
 invariant-loop-index g l =
     (l.hand.table ≡ l.fn.hand.table) × (l.hand.carried ≡ l.fn.hand.carried) × (l.hand.slots ≡ l.fn.hand.slots)
-    × (l.hand.view.head ≡ 0)
+    × (l.hand.view.actor.head ≡ 0)
     × ((closes : List HostCall)
-    × HasWorked l.fn.hand.view closes (Scan l.index (l.fn.hand.view.used - l.index) ∷ Finish ∷ []) l.hand.view
+    × HasWorked l.fn.hand.view closes (Scan l.index (l.fn.hand.view.actor.used - l.index) ∷ Finish ∷ []) l.hand.view
     × (l.failed ≡ raised (close_faults closes) 0)
     × HasAnswered g.H.Host.answers g.H.Host.counts l.fn.host closes l.host)

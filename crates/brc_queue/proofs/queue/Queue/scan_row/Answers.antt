@@ -24,7 +24,8 @@ returns-then-found-ne-SET-clause-work g c =
       [],
       subst (λ (ds : List Duty). HasWorked v [] ds w) (sym (ap scan_left duty.next))
           (scanned_none v w c.args.index duty.more found duty.rest duty.next c.step-found.ensures.view none
-          (scan_head v w c.args.index duty.more found duty.rest duty.next c.step-found.ensures.view c.requires.settled)),
+          (scan_head v w c.args.index duty.more found duty.rest duty.next c.step-found.ensures.view
+          c.requires.settled)),
       refl,
       NoCall,
     )

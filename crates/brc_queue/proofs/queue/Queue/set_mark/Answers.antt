@@ -9,5 +9,6 @@ use Rattle.brc_queue.proofs.queue.Queue.set_mark.Goals as goal
 pub returns-clause-left : goal.returns-clause-left
 returns-clause-left g c = λ rest next.
     let v = turned_to c.args.work c.args.hand.now.view c.args.row in
-    subst (HasStepped v (Look c.args.row ∷ rest)) (sym (c.go_on.ensures.view ∙ ap (view_after v) c.go_on.ensures.overwrites))
+    subst (HasStepped v (Look c.args.row ∷ rest))
+    (sym (c.go_on.ensures.view ∙ ap (view_after v) c.go_on.ensures.overwrites))
     (mark_stepped next)

@@ -74,7 +74,7 @@ give_back-requires-clause-whole g c = λ locked.
 
 pub give_back-requires-clause-slot : goal.give_back-requires-clause-slot
 give_back-requires-clause-slot g c =
-    inl (ap (λ (v : View). v.locked) c.lend-resource.ensures.view
+    inl (ap (λ (v : View). v.actor.locked) c.lend-resource.ensures.view
     ∙ (on g (goal.at.give_back-requires-clause-slot g c).After-row_in-row).locked)
 
 pub bear-requires-clause-fits : goal.bear-requires-clause-fits

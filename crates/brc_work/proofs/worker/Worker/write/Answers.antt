@@ -106,7 +106,7 @@ text g c =
 pub give_back-requires-clause-slot : goal.give_back-requires-clause-slot
 give_back-requires-clause-slot g c =
     let at = goal.at.give_back-requires-clause-slot g c in
-    inl (ap (λ (v : View). v.locked) c.lend-resource.ensures.view
+    inl (ap (λ (v : View). v.actor.locked) c.lend-resource.ensures.view
     ∙ (on g at.After-row_in-row (asked g at.After-arg_of-value)).locked)
 
 pub returns-in-Ok-clause-done : goal.returns-in-Ok-clause-done

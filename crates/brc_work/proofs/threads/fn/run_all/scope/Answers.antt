@@ -13,7 +13,8 @@ loop-task-preserved g c =
     let step = c.in-Some.ensures.steps in
     let left = vec_len c.loop-task.threads in
     let added = c.push.ensures.by_index in
-    let job_of = job c.captures.heap.now c.captures.checked.now.module c.captures.function c.captures.times c.captures.steps in
+    let job_of = job c.captures.heap.now c.captures.checked.now.module c.captures.function c.captures.times
+    c.captures.steps in
     let task = c.in-Some.task in
     let first = into_iter_items c.into_iter-task-iterator.result in
     let began = c.into_iter-task-iterator.ensures.into_iter_gives in
@@ -30,19 +31,22 @@ loop-task-preserved g c =
       place = λ k t below. let h = was.place (k + 1) t in grind rules;
       begun = λ k b below.
           pushed (λ i b. IfOk b (λ s. let promise = s.promise in
-          job promise.heap.value promise.checked.value.module promise.function promise.times promise.steps promise.thread
+          job promise.heap.value promise.checked.value.module promise.function promise.times promise.steps
+          promise.thread
           ≡ job_of (i + 1))
           × IfErr b (λ done. Ends g.H.Host.answers g.H.Host.counts (job_of (i + 1)) done.hand done.ran done.called))
           (vec_items c.loop-task.threads) (vec_items c.push.new.self) left c.match-spawn_with.begun added.0
           (λ d. added.1 d (search rules)) was.begun (elim c.match-spawn_with.branch [
             | in-Ok w ↦
                 subst (λ b. IfOk b (λ s. let promise = s.promise in
-                job promise.heap.value promise.checked.value.module promise.function promise.times promise.steps promise.thread
+                job promise.heap.value promise.checked.value.module promise.function promise.times promise.steps
+                promise.thread
                 ≡ job_of (left + 1))
                 × IfErr b (λ done. Ends g.H.Host.answers g.H.Host.counts (job_of (left + 1)) done.hand done.ran
                 done.called))
                 (sym w.begun-is) (
-                  subst (λ p. job p.heap.value p.checked.value.module p.function p.times p.steps p.thread ≡ job_of (left + 1))
+                  subst (λ p. job p.heap.value p.checked.value.module p.function p.times p.steps p.thread
+                  ≡ job_of (left + 1))
                       (sym w.in-Ok.ensures.ok) (search (rules, place)),
                   tt,
                 )
