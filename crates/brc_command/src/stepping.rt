@@ -6,7 +6,7 @@ ghost use Rattle.brc_model.specs.Safety.{AreCalls};
 ghost use Rattle.brc_schedule.specs.Text.{IsSchedule};
 ghost use Rattle.brc_world.specs.Runs.{world_after, events_of_line, events_of};
 ghost use Rattle.brc_world.specs.Tallies.{tally_of};
-ghost use Rattle.brc_world.specs.Worlds.{seen};
+ghost use Rattle.brc_world.specs.Worlds.{model_of};
 ghost use Rattle.brc_command.specs.declared.step_fault.StepFault.TheVariants.{Output};
 ghost use Rattle.brc_command.specs.Calls.{calls_of};
 ghost use Rattle.brc_command.specs.Texts.{last_world, HasTally, StepsTo, StepsTowards, IsFaultOfTexts};
@@ -112,7 +112,7 @@ fn take_lines<T: Terminal>(
     terminal: &mut T,
 ) -> Result<(), NoMemory>
     requires { All (λ line. line.thread < length world.old.actors) lines.now }
-    ensures { OnOk result (seen world.new ≡ world_after (seen world.old) (events_of lines.now)) }
+    ensures { OnOk result (model_of world.new ≡ world_after (model_of world.old) (events_of lines.now)) }
 {
     let mut made = 0;
     for line in lines {
@@ -130,7 +130,7 @@ fn take_line<T: Terminal>(
     terminal: &mut T,
 ) -> Result<(), NoMemory>
     requires { line.thread < length world.old.actors }
-    ensures stepped { OnOk result (seen world.new ≡ world_after (seen world.old) (events_of_line line)) }
+    ensures stepped { OnOk result (model_of world.new ≡ world_after (model_of world.old) (events_of_line line)) }
     ensures as_many { length world.new.actors ≡ length world.old.actors }
 {
     let mut made = before;

@@ -5,7 +5,7 @@ ghost use Rattle.std.specs.List.{All};
 ghost use Rattle.std.specs.Io.KnownBytes.{Appends};
 ghost use Rattle.brc_lang.specs.Written.{AppendsBeginning};
 ghost use Rattle.brc_world.specs.Runs.{world_after, events_of_line, events_of};
-ghost use Rattle.brc_world.specs.Worlds.{seen};
+ghost use Rattle.brc_world.specs.Worlds.{model_of};
 ghost use Rattle.brc_trace.specs.TraceText.{past_by, past_at, entries_by, entries_at, lines_text, trace_text};
 ghost use Rattle.brc_trace.specs.TraceText.{StandsAmong, IsTraced, StopsAmong};
 
@@ -36,13 +36,13 @@ pub fn trace<W: Write>(
     out: &mut W,
 ) -> Result<(), TraceFault>
     requires threads { All (λ line. line.thread < length world.old.actors) schedule.now.steps }
-    requires functions { «module».now.functions ≡ (seen world.old).functions }
-    ensures made { OnOk result (seen world.new ≡ world_after (seen world.old) (events_of schedule.now.steps)) }
+    requires functions { «module».now.functions ≡ (model_of world.old).functions }
+    ensures made { OnOk result (model_of world.new ≡ world_after (model_of world.old) (events_of schedule.now.steps)) }
     ensures whole { OnOk result (Appends (W.contents out.old) (W.contents out.new)
-        (trace_text paint (seen world.old) (events_of schedule.now.steps))) }
-    ensures stopped { OnErr result (StandsAmong (seen world.old) (events_of schedule.now.steps) (seen world.new)) }
+        (trace_text paint (model_of world.old) (events_of schedule.now.steps))) }
+    ensures stopped { OnErr result (StandsAmong (model_of world.old) (events_of schedule.now.steps) (model_of world.new)) }
     ensures begun { OnErr result (AppendsBeginning (W.contents out.old) (W.contents out.new)
-        (trace_text paint (seen world.old) (events_of schedule.now.steps))) }
+        (trace_text paint (model_of world.old) (events_of schedule.now.steps))) }
     ensures as_many { length world.new.actors ≡ length world.old.actors }
 {
     let mut tracer = Tracer {
@@ -74,10 +74,10 @@ impl Tracer {
     ) -> Result<(), TraceFault>
         requires there { All (λ line. line.thread < length world.old.actors) lines.now }
         requires fits { length self.old.past.parts ≡ length world.old.actors }
-        ensures traced { OnOk result (IsTraced paint functions.now (seen world.old) self.old.past
-            (events_of lines.now) (seen world.new) self.new.past (W.contents out.old) (W.contents out.new)) }
-        ensures stopped { OnErr result (StopsAmong paint functions.now (seen world.old) self.old.past
-            (events_of lines.now) (seen world.new) (W.contents out.old) (W.contents out.new)) }
+        ensures traced { OnOk result (IsTraced paint functions.now (model_of world.old) self.old.past
+            (events_of lines.now) (model_of world.new) self.new.past (W.contents out.old) (W.contents out.new)) }
+        ensures stopped { OnErr result (StopsAmong paint functions.now (model_of world.old) self.old.past
+            (events_of lines.now) (model_of world.new) (W.contents out.old) (W.contents out.new)) }
         ensures as_many { length world.new.actors ≡ length world.old.actors }
     {
         for line in lines {
@@ -98,10 +98,10 @@ impl Tracer {
     ) -> Result<(), TraceFault>
         requires there { steps.thread < length world.old.actors }
         requires fits { length self.old.past.parts ≡ length world.old.actors }
-        ensures traced { OnOk result (IsTraced paint functions.now (seen world.old) self.old.past
-            (events_of_line steps) (seen world.new) self.new.past (W.contents out.old) (W.contents out.new)) }
-        ensures stopped { OnErr result (StopsAmong paint functions.now (seen world.old) self.old.past
-            (events_of_line steps) (seen world.new) (W.contents out.old) (W.contents out.new)) }
+        ensures traced { OnOk result (IsTraced paint functions.now (model_of world.old) self.old.past
+            (events_of_line steps) (model_of world.new) self.new.past (W.contents out.old) (W.contents out.new)) }
+        ensures stopped { OnErr result (StopsAmong paint functions.now (model_of world.old) self.old.past
+            (events_of_line steps) (model_of world.new) (W.contents out.old) (W.contents out.new)) }
         ensures as_many { length world.new.actors ≡ length world.old.actors }
         ensures remembers { OnOk result (length self.new.past.parts ≡ length self.old.past.parts) }
     {
@@ -128,10 +128,10 @@ impl Tracer {
     ) -> Result<(), TraceFault>
         requires there { thread < length world.old.actors }
         requires fits { length self.old.past.parts ≡ length world.old.actors }
-        ensures traced { OnOk result (IsTraced paint functions.now (seen world.old) self.old.past
-            ((thread, choice) ∷ []) (seen world.new) self.new.past (W.contents out.old) (W.contents out.new)) }
-        ensures stopped { OnErr result (StopsAmong paint functions.now (seen world.old) self.old.past
-            ((thread, choice) ∷ []) (seen world.new) (W.contents out.old) (W.contents out.new)) }
+        ensures traced { OnOk result (IsTraced paint functions.now (model_of world.old) self.old.past
+            ((thread, choice) ∷ []) (model_of world.new) self.new.past (W.contents out.old) (W.contents out.new)) }
+        ensures stopped { OnErr result (StopsAmong paint functions.now (model_of world.old) self.old.past
+            ((thread, choice) ∷ []) (model_of world.new) (W.contents out.old) (W.contents out.new)) }
         ensures as_many { length world.new.actors ≡ length world.old.actors }
         ensures remembers { OnOk result (length self.new.past.parts ≡ length self.old.past.parts) }
     {
@@ -155,8 +155,8 @@ impl Tracer {
         requires there { thread < length world.now.actors }
         requires fits { length self.old.past.parts ≡ length world.now.actors }
         ensures line { OnOk result (self.new.line ≡ lines_text paint functions.now
-            (entries_at (seen world.now) self.old.past (thread, choice))) }
-        ensures past { OnOk result (self.new.past ≡ past_at (seen world.now) self.old.past (thread, choice)) }
+            (entries_at (model_of world.now) self.old.past (thread, choice))) }
+        ensures past { OnOk result (self.new.past ≡ past_at (model_of world.now) self.old.past (thread, choice)) }
         ensures remembers { OnOk result (length self.new.past.parts ≡ length self.old.past.parts) }
     {
         match world.next_event(&mut self.scratch, usize::from(thread), choice) {

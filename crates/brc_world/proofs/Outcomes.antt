@@ -21,7 +21,7 @@ use Rattle.brc_world.specs.declared.thread.Thread.{Thread}
 use Rattle.brc_world.specs.Answers.{IsAnswer}
 use Rattle.brc_world.specs.Actors.{actor_of}
 use Rattle.brc_world.specs.Storage.{Columns, word_in}
-use Rattle.brc_world.specs.Worlds.{Contents, seen, IsWorld}
+use Rattle.brc_world.specs.Worlds.{Contents, model_of, IsWorld}
 use Rattle.brc_world.proofs.Stepping.{with_words}
 use Rattle.brc_model.specs.declared.layout.Layout.{Layout}
 use Rattle.brc_model.specs.Layout.{row_count}
@@ -50,8 +50,8 @@ seen_as : (accepted : Accepted) (layout : Layout) (old new : Columns) (threads :
     (after : Thread) (f g : Faults)
     (memory : Address → ℕ) (next : StepActor) (faults : Faults)
     → word_in new ≡ memory → actor_of after ≡ next → g ≡ faults
-    → seen (contents accepted layout new (slice_set threads t after) g)
-    ≡ with_words (seen (contents accepted layout old threads f)) t memory next faults
+    → model_of (contents accepted layout new (slice_set threads t after) g)
+    ≡ with_words (model_of (contents accepted layout old threads f)) t memory next faults
 seen_as accepted layout old new threads t after f g memory next faults words actor counts =
     rw (map-set actor_of threads t after, words, actor, counts) refl
 
@@ -60,10 +60,10 @@ made : (accepted : Accepted) (layout : Layout) (old new : Columns) (threads : Li
     (a : StepActor) (after : Thread) (f g : Faults) (r : Result Did NoMemory) (memory : Address → ℕ) (next : StepActor)
     (faults : Faults)
     → Turned old new a (actor_of after) f g r memory next faults
-    → step (seen (contents accepted layout old threads f)) t choice
-    ≡ with_words (seen (contents accepted layout old threads f)) t memory next faults
-    → OnOk r (seen (contents accepted layout new (slice_set threads t after) g)
-    ≡ step (seen (contents accepted layout old threads f)) t choice)
+    → step (model_of (contents accepted layout old threads f)) t choice
+    ≡ with_words (model_of (contents accepted layout old threads f)) t memory next faults
+    → OnOk r (model_of (contents accepted layout new (slice_set threads t after) g)
+    ≡ step (model_of (contents accepted layout old threads f)) t choice)
 made accepted layout old new threads t choice a after f g (Ok did) memory next faults turned is =
     seen_as accepted layout old new threads t after f g memory next faults turned.words turned.actor turned.faults_are
     ∙ sym is
@@ -87,7 +87,7 @@ sized : (p : Accepted) (layout : Layout) (old new : Columns) (threads : List Thr
     (f g : Faults)
     → IsWorld p.module (contents p layout old threads f) → length new.local ≡ length old.local
     → length new.thread ≡ length old.thread
-    → IsReachable p.module (seen (contents p layout new (slice_set threads t after) g))
+    → IsReachable p.module (model_of (contents p layout new (slice_set threads t after) g))
     → IsWorld p.module (contents p layout new (slice_set threads t after) g)
 sized p layout old new threads t after f g world same_rows same_threads reachable =
     let many : length (map actor_of (slice_set threads t after)) ≡ length (map actor_of threads) =
@@ -103,14 +103,14 @@ goes : (p : Accepted) (layout : Layout) (old new : Columns) (threads : List Thre
     (faults : Faults)
     → Turned old new (actor_of before) (actor_of after) f g r memory next faults
     → before ≡ slice_index_or threads t before
-    → step (seen (contents p layout old threads f)) t choice
-    ≡ with_words (seen (contents p layout old threads f)) t memory next faults
+    → step (model_of (contents p layout old threads f)) t choice
+    ≡ with_words (model_of (contents p layout old threads f)) t memory next faults
     → IsWorld p.module (contents p layout old threads f)
-    → IsReachable p.module (step (seen (contents p layout old threads f)) t choice)
+    → IsReachable p.module (step (model_of (contents p layout old threads f)) t choice)
     → IsWorld p.module (contents p layout new (slice_set threads t after) g)
 goes p layout old new threads t choice before after f g (Ok did) memory next faults turned at is world leads =
-    let now : seen (contents p layout new (slice_set threads t after) g)
-    ≡ step (seen (contents p layout old threads f)) t choice =
+    let now : model_of (contents p layout new (slice_set threads t after) g)
+    ≡ step (model_of (contents p layout old threads f)) t choice =
     made p layout old new threads t choice (actor_of before) after f g (Ok did) memory next faults turned is
     in
     sized p layout old new threads t after f g world turned.rows turned.threads
@@ -125,8 +125,8 @@ goes p layout old new threads t choice before after f g (Err e) memory next faul
 pub record Outcome (p : Accepted) (layout : Layout) (old new : Columns) (threads : List Thread) (t : ℕ)
     (choice : Choice) (after : Thread) (f g : Faults) (r : Result Did NoMemory) : Type 0 where
   pub world : IsWorld p.module (contents p layout new (slice_set threads t after) g)
-  pub made : OnOk r (seen (contents p layout new (slice_set threads t after) g)
-      ≡ step (seen (contents p layout old threads f)) t choice)
+  pub made : OnOk r (model_of (contents p layout new (slice_set threads t after) g)
+      ≡ step (model_of (contents p layout old threads f)) t choice)
   pub stays : OnErr r (contents p layout new (slice_set threads t after) g
       ≡ contents p layout old threads f)
 
@@ -135,10 +135,10 @@ pub outcome : (p : Accepted) (layout : Layout) (old new : Columns) (threads : Li
     (faults : Faults)
     → Turned old new (actor_of before) (actor_of after) f g r memory next faults
     → before ≡ slice_index_or threads t before
-    → step (seen (contents p layout old threads f)) t choice
-    ≡ with_words (seen (contents p layout old threads f)) t memory next faults
+    → step (model_of (contents p layout old threads f)) t choice
+    ≡ with_words (model_of (contents p layout old threads f)) t memory next faults
     → IsWorld p.module (contents p layout old threads f)
-    → IsReachable p.module (step (seen (contents p layout old threads f)) t choice)
+    → IsReachable p.module (step (model_of (contents p layout old threads f)) t choice)
     → Outcome p layout old new threads t choice after f g r
 outcome p layout old new threads t choice before after f g r memory next faults turned at is world leads = record {
   world = goes p layout old new threads t choice before after f g r memory next faults turned at is world leads;
@@ -151,7 +151,7 @@ outcome p layout old new threads t choice before after f g r memory next faults 
 pub thread_at : (accepted : Accepted) (layout : Layout) (words : Columns) (threads : List Thread) (t : ℕ)
     (faults : Faults) (before : Thread)
     → before ≡ slice_index_or threads t before → t < length (map actor_of threads)
-    → slice_get (seen (contents accepted layout words threads faults)).actors t ≡ Some (actor_of before)
+    → slice_get (model_of (contents accepted layout words threads faults)).actors t ≡ Some (actor_of before)
 thread_at accepted layout words threads t faults before at lt =
     let within : t < length threads = subst (λ (n : ℕ). t < n) (length-map threads actor_of) lt in
     let found : slice_get threads t ≡ Some before = slice_get-get_or threads t before within ∙ ap Some (sym at) in
@@ -194,7 +194,7 @@ pub first_seen : (p : Accepted) (rows : ℕ) (layout : Layout) (calls : List Cal
     (threads : List Thread)
     → layout ≡ first_layout rows calls → word_in words ≡ first_memory layout.workers
     → map actor_of threads ≡ main_actor ∷ map worker_actor calls
-    → seen (contents p layout words threads no_faults) ≡ first_of p rows calls
+    → model_of (contents p layout words threads no_faults) ≡ first_of p rows calls
 first_seen p rows layout calls words threads so word actors =
     rw (word, actors, so) refl
 

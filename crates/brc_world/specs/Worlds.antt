@@ -23,8 +23,8 @@ pub record Contents : Type 0 where
   pub faults : Faults
 
 -- the model's world of these contents: its states are those that the accepted module's table gives
-abbrev pub seen : Contents → World
-seen c = record {
+abbrev pub model_of : Contents → World
+model_of c = record {
   functions = c.accepted.module.functions;
   states = states_of c.accepted.module c.accepted.table;
   layout = c.layout;
@@ -36,7 +36,7 @@ seen c = record {
 
 -- the contents of a reachable world, in which each row and each thread has its words
 pub record IsWorld (p : Module) (c : Contents) : Type 0 where
-  pub reachable : IsReachable p (seen c)
+  pub reachable : IsReachable p (model_of c)
   pub rows : length c.words.local ≡ row_count c.layout
   pub threads : length c.words.thread ≡ length c.actors
 

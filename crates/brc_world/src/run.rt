@@ -2,7 +2,7 @@
 
 ghost use Rattle.std.specs.Prelude.{◌≡◌, ◌<◌, length, OnOk, OnErr};
 ghost use Rattle.std.specs.List.{All};
-ghost use Rattle.brc_world.specs.Worlds.{seen};
+ghost use Rattle.brc_world.specs.Worlds.{model_of};
 ghost use Rattle.brc_world.specs.Runs.{world_after, events_of_line, events_of, StandsWithin};
 
 use crate::did::Did;
@@ -16,8 +16,8 @@ impl World<'_> {
     /// it would have changed the world.
     pub fn run(&mut self, schedule: &Schedule) -> Result<(), NoMemory>
         requires { All (λ line. line.thread < length self.old.actors) schedule.now.steps }
-        ensures done { OnOk result (seen self.new ≡ world_after (seen self.old) (events_of schedule.now.steps)) }
-        ensures stopped { OnErr result (StandsWithin (seen self.old) (events_of schedule.now.steps) (seen self.new)) }
+        ensures done { OnOk result (model_of self.new ≡ world_after (model_of self.old) (events_of schedule.now.steps)) }
+        ensures stopped { OnErr result (StandsWithin (model_of self.old) (events_of schedule.now.steps) (model_of self.new)) }
         ensures as_many { length self.new.actors ≡ length self.old.actors }
     {
         for line in schedule.steps.as_slice() {
@@ -31,8 +31,8 @@ impl World<'_> {
     /// steps change nothing, and are not tried.
     pub fn take_steps(&mut self, line: Steps) -> Result<(), NoMemory>
         requires { line.thread < length self.old.actors }
-        ensures done { OnOk result (seen self.new ≡ world_after (seen self.old) (events_of_line line)) }
-        ensures stopped { OnErr result (StandsWithin (seen self.old) (events_of_line line) (seen self.new)) }
+        ensures done { OnOk result (model_of self.new ≡ world_after (model_of self.old) (events_of_line line)) }
+        ensures stopped { OnErr result (StandsWithin (model_of self.old) (events_of_line line) (model_of self.new)) }
         ensures as_many { length self.new.actors ≡ length self.old.actors }
     {
         let thread = usize::from(line.thread);

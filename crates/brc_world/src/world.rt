@@ -7,7 +7,7 @@ ghost use Rattle.brc_model.specs.Limits.{row_limit};
 ghost use Rattle.brc_model.specs.World.{first_world, step};
 ghost use Rattle.brc_check.specs.Tables.{states_of};
 ghost use Rattle.brc_world.specs.Sights.{sight_at};
-ghost use Rattle.brc_world.specs.Worlds.{seen, choice_of};
+ghost use Rattle.brc_world.specs.Worlds.{model_of, choice_of};
 ghost use Rattle.brc_world.specs.Tallies.{used_of, is_born, is_closed_row, rows_born, left_in, tally_of};
 ghost use Rattle.brc_world.specs.MachineTallies.{IsMachineTally};
 ghost use Rattle.brc_world.specs.Answers.{is_gone_at, IsAnswer};
@@ -87,7 +87,7 @@ impl<'a> World<'a> {
         requires some_rows { 0 < rows }
         requires most_rows { rows ≤ row_limit }
         requires calls_fit { AreCalls checked.now.module calls.now }
-        ensures { IfOk result (λ w. seen w ≡ first_world checked.now.module
+        ensures { IfOk result (λ w. model_of w ≡ first_world checked.now.module
             (states_of checked.now.module checked.now.table) rows calls.now) }
     {
         worlds_lead_on();
@@ -122,7 +122,7 @@ impl<'a> World<'a> {
     /// Returns whether the thread is gone: it takes no further step.
     pub fn is_gone(&self, thread: usize) -> bool
         requires { thread < length self.now.actors }
-        ensures { result ≡ is_gone_at (seen self.now) thread }
+        ensures { result ≡ is_gone_at (model_of self.now) thread }
     {
         matches!(self.threads[thread].status, Status::Gone)
     }
@@ -130,8 +130,8 @@ impl<'a> World<'a> {
     /// Returns the tally of the world: how many threads run, how many objects were created and closed, and which are
     /// left. Returns `NoMemory` if memory is refused.
     pub fn tally(&self, alloc: Global) -> Result<Tally, NoMemory>
-        ensures counted { IfOk result (λ tally. tally ≡ tally_of (seen self.now)) }
-        ensures machine { IfOk result (IsMachineTally (seen self.now)) }
+        ensures counted { IfOk result (λ tally. tally ≡ tally_of (model_of self.now)) }
+        ensures machine { IfOk result (IsMachineTally (model_of self.now)) }
     {
         worlds_are_small();
         tallies_follow_machines();
@@ -151,7 +151,7 @@ impl<'a> World<'a> {
 
     /// Returns the rows of all counted objects that have been born, in rising order.
     fn rows_born(&self, alloc: Global) -> Result<Vec<u32>, NoMemory>
-        ensures { IfOk result (λ born. born.items ≡ rows_born (seen self.now)) }
+        ensures { IfOk result (λ born. born.items ≡ rows_born (model_of self.now)) }
     {
         worlds_are_small();
         let mut born = Vec::new(alloc);
@@ -166,8 +166,8 @@ impl<'a> World<'a> {
     /// Returns the rows of `born` whose objects aren't closed, with the objects' kinds.
     fn left_of(&self, alloc: Global, born: &[u32]) -> Result<Sequence<Left>, NoMemory>
         requires { All (λ row. row < row_count self.now.layout) born.now }
-        ensures { IfOk result (λ left. left ≡ map (left_in (seen self.now))
-            (filter (λ row. not (is_closed_row (seen self.now) row)) born.now)) }
+        ensures { IfOk result (λ left. left ≡ map (left_in (model_of self.now))
+            (filter (λ row. not (is_closed_row (model_of self.now) row)) born.now)) }
     {
         let mut left = Sequence::new(alloc);
         for row in born {
@@ -180,7 +180,7 @@ impl<'a> World<'a> {
 
     fn is_closed(&self, row: u32) -> bool
         requires { row < row_count self.now.layout }
-        ensures { result ≡ is_closed_row (seen self.now) row }
+        ensures { result ≡ is_closed_row (model_of self.now) row }
     {
         is_closed(self.memory.load(Address::Gate { row }))
     }
@@ -188,7 +188,7 @@ impl<'a> World<'a> {
     /// Returns whether an object has been born in the row: the row is counted, and the thread of its block has used it.
     fn is_born(&self, row: u32) -> bool
         requires { row < row_count self.now.layout }
-        ensures { result ≡ is_born (seen self.now) row }
+        ensures { result ≡ is_born (model_of self.now) row }
     {
         worlds_are_small();
         let block = block_of(self.layout, row);
@@ -208,7 +208,7 @@ impl<'a> World<'a> {
 
     fn left_in(&self, row: u32) -> Left
         requires { row < row_count self.now.layout }
-        ensures { result ≡ left_in (seen self.now) row }
+        ensures { result ≡ left_in (model_of self.now) row }
     {
         Left {
             row,
@@ -227,7 +227,7 @@ impl<'a> World<'a> {
         choice: Choice,
     ) -> Result<Option<Sight>, NoMemory>
         requires { thread < length self.now.actors }
-        ensures { IfOk result (λ sight. sight ≡ sight_at (seen self.now) thread choice) }
+        ensures { IfOk result (λ sight. sight ≡ sight_at (model_of self.now) thread choice) }
     {
         worlds_are_small();
         steps_are_within();
@@ -248,10 +248,10 @@ impl<'a> World<'a> {
     #[inline]
     pub fn step(&mut self, thread: usize, choice: Choice) -> Result<Did, NoMemory>
         requires { thread < length self.old.actors }
-        ensures made { OnOk result (seen self.new ≡ step (seen self.old) thread choice) }
-        ensures answer { IfOk result (IsAnswer (seen self.old) thread (seen self.new)) }
+        ensures made { OnOk result (model_of self.new ≡ step (model_of self.old) thread choice) }
+        ensures answer { IfOk result (IsAnswer (model_of self.old) thread (model_of self.new)) }
         ensures unchanged { OnErr result (self.new ≡ self.old) }
-        ensures refused { IfErr result (λ _. step (seen self.old) thread choice ≢ seen self.old) }
+        ensures refused { IfErr result (λ _. step (model_of self.old) thread choice ≢ model_of self.old) }
         ensures as_many { length self.new.actors ≡ length self.old.actors }
     {
         match choice {
@@ -264,10 +264,10 @@ impl<'a> World<'a> {
     #[inline(always)]
     fn go_on(&mut self, thread: usize, exit: Exit) -> Result<Did, NoMemory>
         requires { thread < length self.old.actors }
-        ensures made { OnOk result (seen self.new ≡ step (seen self.old) thread (choice_of exit)) }
-        ensures answer { IfOk result (IsAnswer (seen self.old) thread (seen self.new)) }
+        ensures made { OnOk result (model_of self.new ≡ step (model_of self.old) thread (choice_of exit)) }
+        ensures answer { IfOk result (IsAnswer (model_of self.old) thread (model_of self.new)) }
         ensures unchanged { OnErr result (self.new ≡ self.old) }
-        ensures refused { IfErr result (λ _. step (seen self.old) thread (choice_of exit) ≢ seen self.old) }
+        ensures refused { IfErr result (λ _. step (model_of self.old) thread (choice_of exit) ≢ model_of self.old) }
         ensures as_many { length self.new.actors ≡ length self.old.actors }
     {
         worlds_are_small();
@@ -287,10 +287,10 @@ impl<'a> World<'a> {
 
     fn look_for(&mut self, thread: usize, row: u32) -> Result<Did, NoMemory>
         requires { thread < length self.old.actors }
-        ensures made { OnOk result (seen self.new ≡ step (seen self.old) thread (claims row)) }
-        ensures answer { IfOk result (IsAnswer (seen self.old) thread (seen self.new)) }
+        ensures made { OnOk result (model_of self.new ≡ step (model_of self.old) thread (claims row)) }
+        ensures answer { IfOk result (IsAnswer (model_of self.old) thread (model_of self.new)) }
         ensures unchanged { OnErr result (self.new ≡ self.old) }
-        ensures refused { IfErr result (λ _. step (seen self.old) thread (claims row) ≢ seen self.old) }
+        ensures refused { IfErr result (λ _. step (model_of self.old) thread (claims row) ≢ model_of self.old) }
         ensures as_many { length self.new.actors ≡ length self.old.actors }
     {
         worlds_are_small();
@@ -308,8 +308,8 @@ impl<'a> World<'a> {
 
     fn stop(&mut self, thread: usize) -> Did
         requires { thread < length self.old.actors }
-        ensures made { seen self.new ≡ step (seen self.old) thread stops }
-        ensures answer { IsAnswer (seen self.old) thread (seen self.new) result }
+        ensures made { model_of self.new ≡ step (model_of self.old) thread stops }
+        ensures answer { IsAnswer (model_of self.old) thread (model_of self.new) result }
         ensures as_many { length self.new.actors ≡ length self.old.actors }
     {
         worlds_are_small();

@@ -1,12 +1,12 @@
 use Rattle.std.proofs.Common.{List, ap}
 use Rattle.brc_schedule.specs.declared.schedule.Steps.{Steps}
 use Rattle.brc_world.specs.Runs.{world_after, events_of}
-use Rattle.brc_world.specs.Worlds.{seen}
+use Rattle.brc_world.specs.Worlds.{model_of}
 use Rattle.brc_trace.proofs.Traces.{made_to}
 use Rattle.brc_trace.proofs.tracing.trace.Goals as goal
 
 pub returns-clause-made : goal.returns-clause-made
 returns-clause-made g c =
     made_to c.trace_lines.result _ _ _ _ _ _ _ _ _ _
-    (ap (λ (l : List Steps). world_after (seen c.args.world.now) (events_of l)) c.as_slice.ensures)
+    (ap (λ (l : List Steps). world_after (model_of c.args.world.now) (events_of l)) c.as_slice.ensures)
     c.trace_lines.ensures.traced

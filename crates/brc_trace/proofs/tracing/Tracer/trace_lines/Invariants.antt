@@ -1,14 +1,14 @@
 -- The steps of so many lines are taken, and their lines are written.
 use Rattle.std.proofs.Common.{◌≡◌, length, take}
 use Rattle.brc_world.specs.Runs.{events_of}
-use Rattle.brc_world.specs.Worlds.{seen}
+use Rattle.brc_world.specs.Worlds.{model_of}
 use Rattle.brc_trace.specs.TraceText.{IsTraced}
 use Rattle.brc_trace.proofs.tracing.Tracer.trace_lines.Given as goal
 
 abbrev pub invariant-loop-line : goal.invariant-loop-line
 invariant-loop-line g l = record {
-  traced : IsTraced l.paint l.functions (seen l.initial.world) l.initial.self.past
-      (events_of (take l.line-index l.lines)) (seen l.world) l.self.past
+  traced : IsTraced l.paint l.functions (model_of l.initial.world) l.initial.self.past
+      (events_of (take l.line-index l.lines)) (model_of l.world) l.self.past
       (g.W.Write.contents l.initial.out) (g.W.Write.contents l.out);
   fits : length l.self.past.parts ≡ length l.world.actors;
   as_many : length l.world.actors ≡ length l.initial.world.actors;

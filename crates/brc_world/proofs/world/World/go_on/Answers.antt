@@ -4,7 +4,7 @@ use Rattle.brc_model.specs.declared.actor.Status.TheVariants.{Gone}
 use Rattle.brc_model.specs.Actions.{status_action}
 use Rattle.brc_world.specs.Actors.{actor_of, memory_by, actor_by, faults_by, waits}
 use Rattle.brc_world.specs.Storage.{word_in}
-use Rattle.brc_world.specs.Worlds.{seen, choice_of}
+use Rattle.brc_world.specs.Worlds.{model_of, choice_of}
 use Rattle.brc_world.proofs.Outcomes.{contents, Turned, Outcome, outcome, answered, refusal, thread_at}
 use Rattle.brc_world.proofs.Answering.{going_answers}
 use Rattle.brc_world.proofs.Waiting.{waits_locked, moves_unless_waiting}
@@ -16,7 +16,7 @@ use Rattle.brc_world.proofs.world.World.go_on.Goals as goal
 -- The world that the model sees before the step.
 abbrev old_world : After-index_mut → World
 old_world c =
-    seen (contents c.self.inside.accepted.now c.self.inside.layout c.self.inside.memory
+    model_of (contents c.self.inside.accepted.now c.self.inside.layout c.self.inside.memory
     c.self.inside.threads.items c.self.inside.faults)
 
 -- The thread is there.
@@ -80,7 +80,7 @@ outcome_of c =
     let before = c.index_mut.result.now in
     let after = c.act.new.thread in
     let f = c.self.inside.faults in
-    let w = seen (contents p layout words threads f) in
+    let w = model_of (contents p layout words threads f) in
     let action = status_action p.module.functions layout t (actor_of before) before.status in
     let memory = memory_by layout t (word_in words) (actor_of before) action in
     let next = actor_by layout t (word_in words) (actor_of before) c.args.exit action in

@@ -4,7 +4,7 @@ use Rattle.brc_model.specs.World.{World, step}
 use Rattle.brc_model.specs.declared.thread.Choice.TheVariants.{Claim}
 use Rattle.brc_world.specs.Actors.{actor_of, finds_mark, memory_claimed, actor_claimed}
 use Rattle.brc_world.specs.Storage.{word_in}
-use Rattle.brc_world.specs.Worlds.{seen}
+use Rattle.brc_world.specs.Worlds.{model_of}
 use Rattle.brc_world.proofs.Outcomes.{contents, Turned, Outcome, outcome, on_ok, on_err, answered, refusal, thread_at}
 use Rattle.brc_world.proofs.Answering.{claim_answers}
 use Rattle.brc_world.proofs.Stepping.{can_claim, claim_is, claim_moves, claim_stays}
@@ -14,7 +14,7 @@ use Rattle.brc_world.proofs.world.World.look_for.Goals as goal
 -- The world that the model sees before the step.
 abbrev old_world : After-index_mut → World
 old_world c =
-    seen (contents c.self.inside.accepted.now c.self.inside.layout c.self.inside.memory
+    model_of (contents c.self.inside.accepted.now c.self.inside.layout c.self.inside.memory
     c.self.inside.threads.items c.self.inside.faults)
 
 -- The thread is there.
@@ -75,7 +75,7 @@ outcome_of c =
     let before = c.index_mut.result.now in
     let after = c.claim.new.thread in
     let f = c.self.inside.faults in
-    let w = seen (contents p layout words threads f) in
+    let w = model_of (contents p layout words threads f) in
     let memory = memory_claimed layout t (word_in words) (actor_of before) c.args.row in
     let next = actor_claimed layout t (word_in words) (actor_of before) c.args.row in
     let turned : Turned words c.claim.new.memory (actor_of before) (actor_of after) f f c.claim.result memory next f =

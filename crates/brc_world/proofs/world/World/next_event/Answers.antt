@@ -7,7 +7,7 @@ use Rattle.brc_world.specs.declared.event.Sight.{Sight}
 use Rattle.brc_world.specs.declared.no_memory.NoMemory.{NoMemory}
 use Rattle.brc_world.specs.Actors.{actor_of}
 use Rattle.brc_world.specs.Sights.{sight_by}
-use Rattle.brc_world.specs.Worlds.{seen}
+use Rattle.brc_world.specs.Worlds.{model_of}
 use Rattle.brc_world.proofs.Outcomes.{contents, thread_at}
 use Rattle.brc_world.proofs.Stepping.{can_act}
 use Rattle.brc_world.proofs.world.World.next_event.Goals as goal
@@ -51,7 +51,7 @@ pub returns : goal.returns
 returns c =
     let p = c.self.inside.accepted.now in
     let threads = c.self.inside.threads.items in
-    let w = seen (contents p c.self.inside.layout c.self.inside.memory threads c.self.inside.faults) in
+    let w = model_of (contents p c.self.inside.layout c.self.inside.memory threads c.self.inside.faults) in
     let within = rw (sym c.self.view_is) at c.requires in
     let here =
     thread_at p c.self.inside.layout c.self.inside.memory threads c.args.thread c.self.inside.faults

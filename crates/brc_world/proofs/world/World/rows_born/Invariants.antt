@@ -1,5 +1,5 @@
 use Rattle.std.proofs.Common.{◌≡◌, ◌-◌, ◌≤◌}
-use Rattle.brc_world.specs.Worlds.{seen}
+use Rattle.brc_world.specs.Worlds.{model_of}
 use Rattle.brc_world.specs.Tallies.{born_below}
 use Rattle.brc_world.proofs.world.World.rows_born.Given as goal
 
@@ -7,5 +7,5 @@ use Rattle.brc_world.proofs.world.World.rows_born.Given as goal
 abbrev pub invariant-loop-row : goal.invariant-loop-row
 invariant-loop-row l = record {
   first : 1 ≤ l.row;
-  born : l.born.items ≡ born_below (seen l.fn.self) (l.row - 1);
+  born : l.born.items ≡ born_below (model_of l.fn.self) (l.row - 1);
 }

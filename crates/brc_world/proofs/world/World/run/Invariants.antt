@@ -1,10 +1,10 @@
 use Rattle.std.proofs.Common.{◌≡◌, length, take}
-use Rattle.brc_world.specs.Worlds.{seen}
+use Rattle.brc_world.specs.Worlds.{model_of}
 use Rattle.brc_world.specs.Runs.{world_after, events_of}
 use Rattle.brc_world.proofs.world.World.run.Given as goal
 
 abbrev pub invariant-loop-line : goal.invariant-loop-line
 invariant-loop-line l = record {
-  stands : seen l.self ≡ world_after (seen l.fn.self) (events_of (take l.line-index l.line-items));
+  stands : model_of l.self ≡ world_after (model_of l.fn.self) (events_of (take l.line-index l.line-items));
   as_many : length l.self.actors ≡ length l.fn.self.actors;
 }

@@ -4,7 +4,7 @@ use Rattle.brc_model.specs.declared.thread.Choice.TheVariants.{Stop}
 use Rattle.brc_model.specs.World.{World}
 use Rattle.brc_world.specs.Actors.{actor_of, action_stopped, silently}
 use Rattle.brc_world.specs.Storage.{word_in}
-use Rattle.brc_world.specs.Worlds.{seen}
+use Rattle.brc_world.specs.Worlds.{model_of}
 use Rattle.brc_world.proofs.Outcomes.{contents, Turned, Outcome, outcome, answered, thread_at}
 use Rattle.brc_world.proofs.Answering.{stop_answers}
 use Rattle.brc_world.proofs.Stepping.{stop_is}
@@ -14,7 +14,7 @@ use Rattle.brc_world.proofs.world.World.stop.Goals as goal
 -- The world that the model sees before the step.
 abbrev old_world : After-index_mut → World
 old_world c =
-    seen (contents c.self.inside.accepted.now c.self.inside.layout c.self.inside.memory
+    model_of (contents c.self.inside.accepted.now c.self.inside.layout c.self.inside.memory
     c.self.inside.threads.items c.self.inside.faults)
 
 -- The thread is there.
@@ -39,7 +39,7 @@ outcome_of c =
     let before = c.index_mut.result.now in
     let after = c.stop.new.thread in
     let f = c.self.inside.faults in
-    let w = seen (contents p layout words threads f) in
+    let w = model_of (contents p layout words threads f) in
     let next = silently (actor_of before) (action_stopped w.states (actor_of before)) in
     let turned : Turned words words (actor_of before) (actor_of after) f f (Ok c.stop.result) (word_in words) next f =
     record {

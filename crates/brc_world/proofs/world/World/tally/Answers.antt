@@ -1,13 +1,13 @@
 use Rattle.std.proofs.Common.{refl, sym, ap, ◌∙◌, arith}
 use Rattle.std.proofs.lemmas.Grind.{common_steps}
-use Rattle.brc_world.specs.Worlds.{seen}
+use Rattle.brc_world.specs.Worlds.{model_of}
 use Rattle.brc_world.specs.Tallies.{still_runs, tally_of}
 use Rattle.brc_world.specs.Actors.{actor_of}
 use Rattle.brc_world.proofs.Tallying.{born_there, count_over, tally_as}
 use Rattle.brc_world.proofs.world.World.tally.Goals as goal
 
 pub left_of-requires : goal.left_of-requires
-left_of-requires c = rw (c.deref.ensures.value, c.in_ok-born.ensures) (born_there (seen c.args.self.now) (omega arith))
+left_of-requires c = rw (c.deref.ensures.value, c.in_ok-born.ensures) (born_there (model_of c.args.self.now) (omega arith))
 
 pub overflow_sub-result : goal.overflow_sub-result
 overflow_sub-result c =
@@ -16,7 +16,7 @@ overflow_sub-result c =
 
 pub returns-clause-counted : goal.returns-clause-counted
 returns-clause-counted c =
-    tally_as (seen c.args.self.now) c.len.result c.running_in.result c.len-2.result c.saturating_sub.result
+    tally_as (model_of c.args.self.now) c.len.result c.running_in.result c.len-2.result c.saturating_sub.result
     c.len-5.result c.self.inside.faults.calls c.self.inside.faults.closes c.in_ok-left.left c.in_ok-born.born.items
     (rw (sym c.self.view_is) (grind (arith, common_steps)))
     (rw (sym c.self.view_is) (c.running_in.ensures
