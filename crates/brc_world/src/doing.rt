@@ -301,7 +301,7 @@ pub fn stop(checked: &Checked, thread: &mut Thread) -> Did
                     Some(variable) => thread.row_of(variable),
                     None => None,
                 };
-                thread.variables = owned_rows(&state.slots, &thread.variables);
+                thread.variables = owned_rows(&state.vars, &thread.variables);
                 thread.stop(locked);
             }
         }
