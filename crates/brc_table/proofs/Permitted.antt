@@ -23,6 +23,7 @@ use Rattle.brc_table.specs.Uses.{IsDue, first_use, first_due, held_after, Uses}
 use Rattle.brc_table.specs.Plays.{SuitsFirst, FirstFindsOwner, FindsKnown}
 use Rattle.brc_table.specs.Accesses.{HasAccess, IsNext}
 use Rattle.brc_table.specs.DutySteps.{DueSlot, OverwritesFirst, Steps, StepsBy, said}
+use Rattle.brc_table.proofs.Changing.{taken_same}
 use Rattle.brc_table.proofs.Stepping.{read_of}
 use Rattle.brc_table.proofs.Allowed as allowed
 use Rattle.brc_table.proofs.Allowed.{IsAt, IsNextAt, Knows, Seen}
@@ -51,7 +52,7 @@ module _ (laws : ModelLaws) (words : TableState) (hand : HandState) (begins : Vi
       allowed.becomes_here laws words hand begins layout slots id index me seen becomes
 
   module _ (d : Duty) (rest : List Duty) (next : IsNextAt u d rest index) (f : ℕ → ℕ)
-      (leaves : allowed.Leaves laws layout me.0 u d rest index becoming next f) where
+      (leaves : allowed.KeepsDuty laws layout me.0 u d rest index becoming next f) where
     -- What the hand learns, beside what becomes of its slots.
     learns : (found : ℕ) (after : Me (Option T) View) → Knows u d found → Uses begins me found after
         → Steps begins me found after
@@ -77,7 +78,7 @@ module _ (laws : ModelLaws) (words : TableState) (hand : HandState) (begins : Vi
       ap (λ (ds : List Duty). view_by u ds found) (sym next.agenda),
       rows,
       λ follows.
-          follows ∙ (sym becoming.slots.taken ∙ sym (ap (taken_after u.taken) (stays found))),
+          follows ∙ (sym (taken_same becoming) ∙ sym (ap (taken_after u.taken) (stays found))),
       sym (ap (λ (s : SlotUse). held_after (held_in me.1) s (first_due (d ∷ rest) found)) (stays found))
           ∙ ap (λ (ds : List Duty). held_after (held_in me.1) (first_use ds found) (first_due ds found))
           (sym next.agenda),
@@ -105,7 +106,7 @@ module _ (laws : ModelLaws) (words : TableState) (hand : HandState) (begins : Vi
       → (f : ℕ → ℕ)
       → ((running : Bool) (n found : ℕ) → Suits u.thread running n d found
       → f found ≡ new_word u.thread u.actor.head d found)
-      → allowed.Leaves laws layout me.0 u e rest index becoming next f
+      → allowed.KeepsDuty laws layout me.0 u e rest index becoming next f
   next_leaves d has e rest next like f leaves = elim (word_of u.layout u.thread u.actor.head d has) [
     | inl object ↦
         let is_at : IsAt u e rest index = record {

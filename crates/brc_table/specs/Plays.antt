@@ -25,8 +25,8 @@ FirstFindsOwner v (d ∷ rest) found = FindsOwner v.layout d found
 
 -- What a hand knows of what its first duty finds. A load of a kind word finds what the hand has seen there. If the hand
 -- has locked the object, the kind word says how many resources the object's slot had when the hand took it; and none's
--- kind word says that it is none. A load of a cell that no other hand changes finds what the hand has seen there. A merge
--- for a handed reference that wins leaves that reference counted.
+-- kind word says that it is none. A load of a cell that no other hand changes finds what the hand has seen there. A
+-- merge for a handed reference that wins leaves that reference counted.
 abbrev pub FindsKnown : View → List Duty → ℕ → Type 0
 FindsKnown v (KindLoad x ∷ rest) found =
     ((word : ℕ) → 0 < word → knows_kind x word v ≡ true → found ≡ word)

@@ -31,7 +31,8 @@ swap-requires g c =
           (sym (c.self.invariant.1 ∙ ap word_count layout_is)) there),
       subst (λ (w : ℕ). Allows (λ (s : State (Option _) View). TableStands shared.key s.words s.homes s.views)
           shared.table_id.slots hand.seat.id hand.seat.me c.in_cell-index.result (λ found. w)
-          (λ found after. Swaps g.B.Swap.list g.B.Swap.cell g.B.Swap.item hand.seat.me found after)) (sym c.requires.item)
+          (λ found after. Swaps g.B.Swap.list g.B.Swap.cell g.B.Swap.item hand.seat.me found after))
+          (sym c.requires.item)
           (swap_allowed c.work_is_put_aside.ensures c.immortals_are_free.ensures c.accounts_are_there.ensures
           c.chains_are_there.ensures c.items_are_there.ensures c.cells_are_swapped.ensures shared.key hand.seat.me.0
           g.B.Swap.list g.B.Swap.cell g.B.Swap.item may shared.table_id.slots hand.seat.id c.in_cell-index.result
