@@ -208,12 +208,10 @@ invariant_of-hand g c =
     let fits = c.hand.invariant in
     let step = stepped begins d c.hand.inside.seat.me after c.operate-word.result found is known
     c.operate-word.ensures.step (c.said_by-found.ensures u.layout u.thread u.actor.head) in
-    let thread : after.0.thread ≡ before.thread =
-    ap (λ (v : View). v.thread) step.0.0 ∙ (next.thread_next u d is known found ∙ ap (λ (v : View). v.thread) same) in
-    let layout : after.0.layout ≡ before.layout =
-    ap (λ (v : View). v.layout) step.0.0 ∙ (next.layout_next u d is known found ∙ ap (λ (v : View). v.layout) same) in
-    let given : after.0.given ≡ before.given =
-    ap (λ (v : View). v.given) step.0.0 ∙ (next.given_next u d is known found ∙ ap (λ (v : View). v.given) same) in
+    let now = step.0.0 ∙ next.view_next u d is known found in
+    let thread : after.0.thread ≡ before.thread = ap (λ (v : View). v.thread) now ∙ ap (λ (v : View). v.thread) same in
+    let layout : after.0.layout ≡ before.layout = ap (λ (v : View). v.layout) now ∙ ap (λ (v : View). v.layout) same in
+    let given : after.0.given ≡ before.given = ap (λ (v : View). v.given) now ∙ ap (λ (v : View). v.given) same in
     let status : is_running after.0.actor.status ≡ is_running (status_by before.actor.status d) =
     ap (λ (v : View). is_running v.actor.status) step.0.0
     ∙ (ap is_running (next.status_next u d is known found)
