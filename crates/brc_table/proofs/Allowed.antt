@@ -25,8 +25,9 @@ use Rattle.brc_table.specs.Rule.{Stands}
 use Rattle.brc_table.specs.Homes.{SlotsStand, TableStands}
 use Rattle.brc_table.specs.Plays.{FindsKnown}
 use Rattle.brc_table.specs.Hands.{TableState, HandState}
-use Rattle.brc_table.specs.Begins.{Passes, Becomes, KeepsSlots}
+use Rattle.brc_table.specs.Begins.{Passes, Becomes}
 use Rattle.brc_table.specs.Places.{HasWord, place, IsObjectWord, IsTableWord}
+use Rattle.brc_table.proofs.Changing.{taken_same, locked_same}
 use Rattle.brc_table.proofs.CellGuards.{change_guards}
 use Rattle.brc_table.proofs.Lists.{set_view}
 use Rattle.brc_table.proofs.ThreadsKept.{KeepsThreads, object_step}
@@ -52,14 +53,15 @@ SlotTells v _ found = Unit {0}
 
 slot_tells : ModelLaws → {T : Type 0} (layout : Layout) (s : State (Option T) View)
     (table : TableStands layout s.words s.homes s.views) (id : ℕ) (v u : View) → get_elem? s.views id ≡ some v
-    → KeepsSlots v u → (d : Duty) → HasWord table.stands.machine.layout (address_of u.layout u.thread u.actor.head d)
+    → Becomes layout v u → (d : Duty) → HasWord table.stands.machine.layout
+    (address_of u.layout u.thread u.actor.head d)
     → SlotTells u d (read_of u d (slice_index s.words (place_of u d)))
-slot_tells laws layout s table id v u here same (KindLoad x) there = λ locked.
-    let mine : v.actor.locked ≡ Some x = sym same.locked ∙ locked in
-    same.in_slot x mine
+slot_tells laws layout s table id v u here becomes (KindLoad x) there = λ locked.
+    let mine : v.actor.locked ≡ Some x = sym (locked_same becomes) ∙ locked in
+    becomes.in_slot x mine
     ∙ (slot_full laws.full layout s.words s.homes s.views table id x v here mine
     ∙ ap resources_of (table.stands.reads (KindOf x) there))
-slot_tells laws layout s table id v u here same _ there = tt
+slot_tells laws layout s table id v u here becomes _ there = tt
 
 -- The hand's first duty finds what the hand knows of it.
 finds_known : ModelLaws → (layout : Layout) (words : List ℕ) (views : List View) (id : ℕ) (v : View) (d : Duty)
@@ -157,7 +159,7 @@ module _ (laws : ModelLaws) (layout : Layout) (v u : View)
         let machine = first.stands.layout_is ∙ sym holds.stands.layout_is in
         subst (λ (k : ℕ). Knows u d (read_of u d k)) same
         (knows s.words (set s.views id u) id does
-        (slot_tells laws layout s holds id v u here becomes.slots d
+        (slot_tells laws layout s holds id v u here becomes d
         (subst (λ (l : Layout). HasWord l (address_of u.layout u.thread u.actor.head d)) machine
         (has laws.kept laws.within laws.guarded layout s.words (set s.views id u) id u d rest does))))
 
@@ -214,16 +216,15 @@ module _ (laws : ModelLaws) (layout : Layout) (v u : View)
       pub slots_now : use_of d (read_of u d word) ≡ Stays
           → SlotsStand now.stands.machine s.homes (set s.views id w)
       slots_now stays =
-          let keeps = becomes.slots in
           slots_kept holds.stands.machine now.stands.machine s.homes s.views id v w holds.slots here layout_stays
           (record {
-            taken = ap (taken_after u.taken) stays ∙ keeps.taken;
-            in_slot = keeps.in_slot;
-            locked = lock_stays u.actor.locked d (read_of u d word) stays ∙ keeps.locked;
+            taken = ap (taken_after u.taken) stays ∙ taken_same becomes;
+            in_slot = becomes.in_slot;
+            locked = lock_stays u.actor.locked d (read_of u d word) stays ∙ locked_same becomes;
             used = λ x uses.
                 used_left u d rest (read_of u d word) x next.agenda
                 (λ gives. let wrong : Stays ≡ Gives x = sym stays ∙ gives in absurd cc)
-                (λ locks. lock_stays u.actor.locked d (read_of u d word) stays ∙ locks) (keeps.used x uses);
+                (λ locks. lock_stays u.actor.locked d (read_of u d word) stays ∙ locks) (becomes.uses x uses);
           }) now.slots
 
   -- The step is allowed if it leaves the duty's new word, and slots as they are, and the hand learns no more than what

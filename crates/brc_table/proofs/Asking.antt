@@ -14,7 +14,7 @@ use Rattle.brc_table.proofs.Becoming.{then_begins, rearranged}
 pub asking_becomes : WorkIsPutAside → KindsAreAsked → ImmortalsAreFree → (layout : Layout) (v : View) (x : ℕ)
     → IsRunning v → HasNoWork v x → MayRead v x → Becomes layout v (asking v x)
 asking_becomes put law free layout v x running none (inl may) =
-    then_begins put layout v (asking v x) running.1 (refl, (λ y locks. refl), refl)
+    then_begins put layout v (asking v x) running.1 refl (λ y locks. refl)
     (λ words views id stands here.
     let usable =
     has_at_hand free layout words views id v x
@@ -25,7 +25,7 @@ asking_becomes put law free layout v x running none (inl may) =
     (law s.accounts (1 + s.machine.layout.workers) s.machine v.thread (rested v).actor x s.counts
     (is_ready layout words views id v s here running.0) (alone v x none) (inl usable.at_hand))))
 asking_becomes put law free layout v x running none (inr first) =
-    then_begins put layout v (asking v x) running.1 (refl, (λ y locks. refl), refl)
+    then_begins put layout v (asking v x) running.1 refl (λ y locks. refl)
     (λ words views id s here.
     rearranged layout words views id (rested v) s here (KindLoad x ∷ []) (open_work v)
     (law s.accounts (1 + s.machine.layout.workers) s.machine v.thread (rested v).actor x s.counts

@@ -1,6 +1,6 @@
 -- Changes of a hand's view at which no word changes: the hand turns to other work, or it begins a retain, a release or
 -- a birth. First it puts its next duty aside, which may wait.
-use Rattle.std.proofs.Common.{◌≡◌, ◌⊎◌, ℕ, ◌+◌, ◌<◌, ◌≤◌, true, List, [], ◌∷◌, ◌++◌, length, set, inl, inr, refl, sym, ap, ◌∙◌, subst, arith}
+use Rattle.std.proofs.Common.{Some, ◌≡◌, ◌⊎◌, ℕ, ◌+◌, ◌<◌, ◌≤◌, true, List, [], ◌∷◌, ◌++◌, length, set, inl, inr, refl, sym, ap, ◌∙◌, subst, arith}
 use Rattle.std.specs.Prelude.{◌==◌, not, count_by}
 use Rattle.std.specs.List.{filter}
 use Rattle.std.proofs.lemmas.Bool.Decides.{eqb_tells}
@@ -25,10 +25,10 @@ use Rattle.brc_table.specs.declared.view.View.{View}
 use Rattle.brc_table.specs.Views.{open_work, turned, with_reference, without_reference, retaining, releasing, next_row, bearing, rested, with_work, with_next}
 use Rattle.brc_table.specs.Rule.{Stands}
 use Rattle.brc_table.specs.Hands.{most_references, HoldsOne, MayUse, KeepsLock, HasNoWork, MayWait, IsRunning}
-use Rattle.brc_table.specs.Begins.{Passes, Becomes}
+use Rattle.brc_table.specs.Begins.{Passes, KeepsButWork, Becomes}
 use Rattle.brc_table.proofs.Lists.{set_view}
 use Rattle.brc_table.proofs.Accounts.{with_account_same, with_account_other, with_account_itself, count_with_reference, count_without_reference}
-use Rattle.brc_table.proofs.Passing.{passes_on, becomes_same, SameSlots, waiting_keeps}
+use Rattle.brc_table.proofs.Passing.{passes_on, becomes_same, waiting_uses}
 use Rattle.brc_table.proofs.AtHand.{is_ready, alone, has_one, with_one, has_at_hand, with_at_hand}
 use Rattle.brc_table.proofs.Changing.{passes}
 use Rattle.brc_table.proofs.ThreadsKept.{threads_same}
@@ -119,9 +119,9 @@ rested_from law layout v (d ∷ []) is may =
           rearranged layout words views id v stands here [] (d ∷ v.actor.aside)
           (law stands.accounts (1 + stands.machine.layout.workers) stands.machine v.thread v.actor d stands.counts
           (stands.acts id v here) is may);
-      slots =
-          waiting_keeps v (with_work v [] (d ∷ v.actor.aside)) (subst MayWait (sym is) may)
-          (refl, (λ y locks. refl), refl);
+      same = refl;
+      in_slot = λ y locks. refl;
+      uses = waiting_uses v (with_work v [] (d ∷ v.actor.aside)) (subst MayWait (sym is) may) refl;
     }
 rested_from law layout v (d ∷ e ∷ ds) is may = absurd may
 
@@ -131,19 +131,22 @@ pub rested_becomes : WorkIsPutAside → (layout : Layout) (v : View) → MayWait
 rested_becomes law layout v may = rested_from law layout v v.actor.agenda refl may
 
 -- A hand that has put all its work aside may go on to other work.
-pub then_begins : WorkIsPutAside → (layout : Layout) (v u : View) → MayWait v.actor.agenda → SameSlots v u
+pub then_begins : WorkIsPutAside → (layout : Layout) (v u : View) → MayWait v.actor.agenda → KeepsButWork v u
+    → ((x : ℕ) → v.actor.locked ≡ Some x → u.in_slot ≡ v.in_slot)
     → ((words : List ℕ) (views : List View) (id : ℕ) (stands : Stands layout words views)
     → get_elem? views id ≡ some (rested v)
     → Passes layout words (set views id u) v.taken v.actor.locked stands.machine)
     → Becomes layout v u
-then_begins law layout v u may same next = record {
+then_begins law layout v u may same in_slot next = record {
   passes = λ words views id stands here.
       let rest = (rested_becomes law layout v may).passes words views id stands here in
       passes_on stands.machine rest.stands.machine rest.slots
       (subst (λ (l : List View). Passes layout words l v.taken v.actor.locked rest.stands.machine)
       (set-set views id (rested v) u)
       (next words (set views id (rested v)) id rest.stands (set_view views id v (rested v) here)));
-  slots = waiting_keeps v u may same;
+  same = same;
+  in_slot = in_slot;
+  uses = waiting_uses v u may (ap (λ (w : View). w.actor.locked) same);
 }
 
 -- ---- turning to other work
@@ -174,7 +177,7 @@ turned_at law layout v x words views id stands here (inr one) =
 pub turned_becomes : WorkIsPutAside → WorkIsTakenBack → (layout : Layout) (v : View) (x : ℕ) → MayWait v.actor.agenda
     → Becomes layout v (turned v x)
 turned_becomes put take layout v x may =
-    then_begins put layout v (turned v x) may (refl, (λ y locks. refl), refl) (λ words views id stands here.
+    then_begins put layout v (turned v x) may refl (λ y locks. refl) (λ words views id stands here.
     let fits =
     (stands.counts.kept.core.each v.thread (rested v).actor (stands.acts id (rested v) here)).2 in
     let few : count_by (is_about x) (open_work v) ≤ 1 = omega (arith, fits.apart x) in
@@ -187,7 +190,7 @@ pub retaining_becomes : WorkIsPutAside → RetainsBegin → ImmortalsAreFree →
     → IsRunning v → HasNoWork v x → MayUse v x → length v.references < most_references
     → Becomes layout v (retaining v x)
 retaining_becomes put law free layout v x running none may few =
-    then_begins put layout v (retaining v x) running.1 (refl, (λ y locks. refl), refl)
+    then_begins put layout v (retaining v x) running.1 refl (λ y locks. refl)
     (λ words views id stands here.
     let usable =
     has_at_hand free layout words views id v x
@@ -217,7 +220,7 @@ retaining_becomes put law free layout v x running none may few =
 pub releasing_becomes : WorkIsPutAside → ReleasesBegin → ImmortalsAreFree → (layout : Layout) (v : View) (x : ℕ)
     → IsRunning v → HasNoWork v x → HoldsOne v x → KeepsLock v x → Becomes layout v (releasing v x)
 releasing_becomes put law free layout v x running none holding keeps =
-    then_begins put layout v (releasing v x) running.1 (refl, (λ y locks. refl), refl)
+    then_begins put layout v (releasing v x) running.1 refl (λ y locks. refl)
     (λ words views id stands here.
     let one =
     has_one free layout words views id v x
@@ -245,7 +248,7 @@ pub bearing_becomes : WorkIsPutAside → BirthsBegin → (layout : Layout) (v : 
     → 0 < v.thread → has_room v.layout v.thread v.actor.used ≡ true → is_counted_kind (kind_of_word word) ≡ true
     → cells_of word ≤ cell_limit → Becomes layout v (bearing v word)
 bearing_becomes put law layout v word running worker room kind few =
-    then_begins put layout v (bearing v word) running.1 (refl, (λ y locks. refl), refl)
+    then_begins put layout v (bearing v word) running.1 refl (λ y locks. refl)
     (λ words views id stands here.
     let s = stands in
     let m = s.machine in

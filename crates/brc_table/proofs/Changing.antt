@@ -29,7 +29,7 @@ use Rattle.brc_table.specs.Rule.{reading, Guards, IsGone, Stands}
 use Rattle.brc_table.specs.Threads.{ThreadsStand}
 use Rattle.brc_table.specs.Views.{is_given}
 use Rattle.brc_table.specs.Homes.{times_in}
-use Rattle.brc_table.specs.Begins.{Passes, KeepsSlots, Becomes}
+use Rattle.brc_table.specs.Begins.{Passes, Becomes}
 use Rattle.brc_table.proofs.Lists.{slice_get-set_same, slice_get-set_other, set_view}
 
 -- A hand guards what it guarded, if lives and gates are as before.
@@ -272,20 +272,21 @@ module _ (layout : Layout) (words : List ℕ) (views : List View) (id : ℕ) (v 
     slots = λ x which. ap (λ (m : Machine). m.memory (Slot x)) changed_machine ∙ same x which;
   }
 
--- A hand that stays as it is.
-pub itself_keeps : (v : View) → KeepsSlots v v
-itself_keeps v = record {
-  taken = refl;
-  in_slot = λ x locks. refl;
-  locked = refl;
-  used = λ x uses. uses;
-}
+-- The hand has taken the slots that it had taken, and has locked what it had locked.
+pub taken_same : {layout : Layout} {v u : View} → Becomes layout v u → u.taken ≡ v.taken
+taken_same becomes = ap (λ (w : View). w.taken) becomes.same
 
+pub locked_same : {layout : Layout} {v u : View} → Becomes layout v u → u.actor.locked ≡ v.actor.locked
+locked_same becomes = ap (λ (w : View). w.actor.locked) becomes.same
+
+-- A hand may stay as it is.
 pub itself_becomes : (layout : Layout) (v : View) → Becomes layout v v
 itself_becomes layout v = record {
   passes = λ words views id stands here.
       subst (λ (l : List View). Passes layout words l v.taken v.actor.locked stands.machine)
       (sym (set_again views id v here))
       (record { stands = stands; slots = λ x which. refl });
-  slots = itself_keeps v;
+  same = refl;
+  in_slot = λ x locks. refl;
+  uses = λ x uses. uses;
 }

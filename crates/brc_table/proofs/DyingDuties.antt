@@ -14,7 +14,7 @@ use Rattle.brc_table.specs.Accesses.{IsNext}
 use Rattle.brc_table.specs.Begins.{Becomes}
 use Rattle.brc_table.specs.Uses.{IsDue}
 use Rattle.brc_table.specs.Calls.{SettlesFrom, ClosesRow}
-use Rattle.brc_table.proofs.Passing.{becomes_same, waiting_keeps}
+use Rattle.brc_table.proofs.Passing.{becomes_same, waiting_uses}
 use Rattle.brc_table.proofs.Becoming.{rearranged}
 use Rattle.brc_table.proofs.Duties.{runs_on, first_there}
 
@@ -28,9 +28,9 @@ settling_from law layout v [] is may some =
           rearranged layout words views id v stands here (Settle ∷ []) v.actor.aside
           (law stands.accounts (1 + stands.machine.layout.workers) stands.machine v.thread v.actor stands.counts
           (record { found = stands.acts id v here; running = may.0; agenda = is }) may.1 some);
-      slots =
-          waiting_keeps v (with_next v (Settle ∷ [])) (subst MayWait (sym is) tt)
-          (refl, (λ y locks. refl), refl);
+      same = refl;
+      in_slot = λ y locks. refl;
+      uses = waiting_uses v (with_next v (Settle ∷ [])) (subst MayWait (sym is) tt) refl;
     }
 settling_from law layout v (Settle ∷ rest) is may some =
     becomes_same layout v (with_next v (Settle ∷ rest)) (ap (with_next v) is)

@@ -15,7 +15,7 @@ use Rattle.brc_table.specs.Begins.{Passes, Becomes}
 use Rattle.brc_table.specs.Hands.{MayWait}
 use Rattle.brc_model.specs.Machine.{Machine}
 use Rattle.brc_table.specs.Calls.{IsFree, MayLeave}
-use Rattle.brc_table.proofs.Passing.{passes_on, waiting_keeps}
+use Rattle.brc_table.proofs.Passing.{passes_on, waiting_uses}
 use Rattle.brc_table.proofs.Becoming.{rearranged}
 use Rattle.brc_table.proofs.FreeDropped.{HasJust, drops_all, plain_immortal}
 use mathlib.Core.Option.{some}
@@ -34,7 +34,9 @@ claiming_becomes law layout v x free own there = record {
       (record { found = stands.acts id v here; running = free.running; agenda = free.agenda }) free.aside
       (subst (λ (l : Layout). block_of l x ≡ v.thread) told own)
       (subst (λ (l : Layout). x < row_count l) told there));
-  slots = waiting_keeps v (claiming v x) (subst MayWait (sym free.agenda) tt) (refl, (λ y locks. refl), refl);
+  same = refl;
+  in_slot = λ y locks. refl;
+  uses = waiting_uses v (claiming v x) (subst MayWait (sym free.agenda) tt) refl;
 }
 
 -- ---- the beginning of an exit
@@ -74,7 +76,9 @@ leaving_becomes kept release law layout v may = record {
       leaves_from kept release layout words views id v may here stands.machine law
       (drops_all kept release layout words id v may.free stands.machine views here (stands.accounts v.thread AsCaller 0)
       (record { stands = stands; slots = λ x. refl; just = refl }));
-  slots = waiting_keeps v (leaving v) (subst MayWait (sym may.free.agenda) tt) (refl, (λ y locks. refl), refl);
+  same = refl;
+  in_slot = λ y locks. refl;
+  uses = waiting_uses v (leaving v) (subst MayWait (sym may.free.agenda) tt) refl;
 }
 
 -- Main's rows in front are at their own numbers.

@@ -20,11 +20,8 @@ pub locking_becomes : WorkIsPutAside → LocksBegin → ImmortalsAreFree → (la
     → IsRunning v → IsCounted v.layout x → HasNoWork v x → HoldsOne v x → v.actor.locked ≡ None
     → Becomes layout v (locking v x n)
 locking_becomes put law free layout v x n running counted none holding unlocked =
-    then_begins put layout v (locking v x n) running.1 (
-      refl,
-      (λ y locks. let wrong : None ≡ Some y = sym unlocked ∙ locks in absurd cc),
-      refl,
-    )
+    then_begins put layout v (locking v x n) running.1 refl
+    (λ y locks. let wrong : None ≡ Some y = sym unlocked ∙ locks in absurd cc)
     (λ words views id stands here.
     let one =
     has_one free layout words views id v x
@@ -41,7 +38,7 @@ pub unlocking_becomes : WorkIsPutAside → UnlocksBegin → ImmortalsAreFree →
     → IsRunning v → HasNoWork v x → HoldsOne v x → v.actor.locked ≡ Some x → HasNoRetain v
     → Becomes layout v (unlocking v x)
 unlocking_becomes put law free layout v x running none holding locked retains =
-    then_begins put layout v (unlocking v x) running.1 (refl, (λ y locks. refl), refl)
+    then_begins put layout v (unlocking v x) running.1 refl (λ y locks. refl)
     (λ words views id stands here.
     let one =
     has_one free layout words views id v x
@@ -67,7 +64,7 @@ kind_some word i low = elim (cases_lt 0 word) [
 pub loading_becomes : WorkIsPutAside → CellLoadsBegin → ImmortalsAreFree → (layout : Layout) (v : View) (x i : ℕ)
     → IsRunning v → HasNoWork v x → MayLoad v x → KnowsCell v x i → Becomes layout v (loading_cell v x i)
 loading_becomes put law free layout v x i running none (inl (locked, holding)) knows =
-    then_begins put layout v (loading_cell v x i) running.1 (refl, (λ y locks. refl), refl)
+    then_begins put layout v (loading_cell v x i) running.1 refl (λ y locks. refl)
     (λ words views id stands here.
     let one =
     has_one free layout words views id v x
@@ -81,7 +78,7 @@ loading_becomes put law free layout v x i running none (inl (locked, holding)) k
     (is_ready layout words views id v s here running.0) (alone v x none) (inl (one.more, locked))
     (subst (λ (w : ℕ). i < cells_of w) (sym kind) knows.low))))
 loading_becomes put law free layout v x i running none (inr first) knows =
-    then_begins put layout v (loading_cell v x i) running.1 (refl, (λ y locks. refl), refl)
+    then_begins put layout v (loading_cell v x i) running.1 refl (λ y locks. refl)
     (λ words views id s here.
     let more : 0 < knows.word = kind_some knows.word i knows.low in
     let kind = s.kinds_seen id x knows.word (rested v) here more knows.seen in

@@ -167,24 +167,18 @@ module _ (u : View) (d : Duty) (next : IsNext d u.actor.agenda) (has : HasAccess
       (c.like.slots found ∙ use_same d has found)
       ∙ ap (held_after slots (use_of d 0)) (c.like.due c.rest [] found))
 
-  -- What the step leaves of the thread.
+  -- The hand after the step, and its thread.
+  pub view_next : (found : ℕ) → view_after u found ≡ view_by u (c.first ∷ c.rest) found
+  view_next found = ap (λ (ds : List Duty). view_by u ds found) c.is
+
   pub status_next : (found : ℕ) → (view_after u found).actor.status ≡ status_by u.actor.status d
-  status_next found = ap (λ (ds : List Duty). (view_by u ds found).actor.status) c.is ∙ c.like.status u.actor.status
+  status_next found = ap (λ (v : View). v.actor.status) (view_next found) ∙ c.like.status u.actor.status
 
   pub head_next : (found : ℕ) → (view_after u found).actor.head ≡ new_head u.actor.head d found
-  head_next found = ap (λ (ds : List Duty). (view_by u ds found).actor.head) c.is ∙ c.like.head u.actor.head found
+  head_next found = ap (λ (v : View). v.actor.head) (view_next found) ∙ c.like.head u.actor.head found
 
   pub used_next : (found : ℕ) → (view_after u found).actor.used ≡ used_by u.actor.used d
-  used_next found = ap (λ (ds : List Duty). (view_by u ds found).actor.used) c.is ∙ c.like.used u.actor.used
-
-  pub thread_next : (found : ℕ) → (view_after u found).thread ≡ u.thread
-  thread_next found = ap (λ (ds : List Duty). (view_by u ds found).thread) c.is
-
-  pub layout_next : (found : ℕ) → (view_after u found).layout ≡ u.layout
-  layout_next found = ap (λ (ds : List Duty). (view_by u ds found).layout) c.is
-
-  pub given_next : (found : ℕ) → (view_after u found).given ≡ u.given
-  given_next found = ap (λ (ds : List Duty). (view_by u ds found).given) c.is
+  used_next found = ap (λ (v : View). v.actor.used) (view_next found) ∙ c.like.used u.actor.used
 
 -- The row of work that is about it is there.
 pub work_row_there : (v : View) (x : ℕ) (d : Duty) → RowsAreThere v → IsNext d (work_about x v)

@@ -10,12 +10,13 @@ use Rattle.brc_model.specs.declared.duty.Duty.TheVariants.{BirthSlot, BirthLocal
 use Rattle.brc_model.specs.declared.layout.Layout.{Layout}
 use Rattle.brc_model.specs.Machine.{Machine}
 use Rattle.brc_model.specs.OpenWork.{may_wait}
-use Rattle.brc_model.specs.SlotLaws.{needs_slot}
+use Rattle.brc_model.specs.SlotLaws.{UsesSlot, needs_slot}
 use Rattle.brc_table.specs.declared.view.View.{View}
+use Rattle.brc_table.specs.Views.{with_work}
 use Rattle.brc_table.specs.Hands.{MayWait}
 use Rattle.brc_table.specs.Homes.{times_in}
-use Rattle.brc_table.specs.Begins.{Passes, KeepsSlots, Becomes}
-use Rattle.brc_table.proofs.Changing.{itself_becomes}
+use Rattle.brc_table.specs.Begins.{Passes, Becomes}
+use Rattle.brc_table.proofs.Changing.{taken_same, locked_same, itself_becomes}
 use Rattle.brc_table.proofs.Lists.{set_view}
 
 -- ---- two changes in a row
@@ -41,16 +42,16 @@ becomes_then layout v w u first second = record {
         stands = both.stands;
         slots = λ x which.
             both.slots x (elim which [
-              | inl none ↦ inl (ap (times_in x) first.slots.taken ∙ none)
-              | inr locks ↦ inr (first.slots.locked ∙ locks)
+              | inl none ↦ inl (ap (times_in x) (taken_same first) ∙ none)
+              | inr locks ↦ inr (locked_same first ∙ locks)
             ]) ∙ one.slots x which;
       };
-  slots = record {
-    taken = second.slots.taken ∙ first.slots.taken;
-    in_slot = λ x locks. second.slots.in_slot x (first.slots.locked ∙ locks) ∙ first.slots.in_slot x locks;
-    locked = second.slots.locked ∙ first.slots.locked;
-    used = λ x uses. second.slots.used x (first.slots.used x uses);
-  };
+  same = second.same ∙ ap (λ (z : View). record (with_work z u.actor.agenda u.actor.aside) {
+    references = u.references;
+    in_slot = u.in_slot;
+  }) first.same;
+  in_slot = λ x locks. second.in_slot x (locked_same first ∙ locks) ∙ first.in_slot x locks;
+  uses = λ x uses. second.uses x (first.uses x uses);
 }
 
 -- A hand may keep its view.
@@ -74,20 +75,8 @@ none_used x [] may = refl
 none_used x (d ∷ []) may = ap (λ (b : Bool). b || false) (waits_free x d may)
 none_used x (d ∷ e ∷ ds) may = absurd may
 
--- The hand has the slots and the lock that it had.
-abbrev pub SameSlots : View → View → Type 0
-SameSlots v u =
-    (u.taken ≡ v.taken) × ((x : ℕ) → v.actor.locked ≡ Some x → u.in_slot ≡ v.in_slot)
-    × (u.actor.locked ≡ v.actor.locked)
-
 -- so a hand whose next duty may wait uses the slot of no object but the one that it has locked.
-pub waiting_keeps : (v u : View) → MayWait v.actor.agenda → SameSlots v u → KeepsSlots v u
-waiting_keeps v u may same = record {
-  taken = same.0;
-  in_slot = same.1;
-  locked = same.2;
-  used = λ x uses. elim uses [
-    | inl locks ↦ inl (same.2 ∙ locks)
-    | inr needs ↦ absurd (false≢true (sym (none_used x v.actor.agenda may) ∙ needs))
-  ];
-}
+pub waiting_uses : (v u : View) → MayWait v.actor.agenda → u.actor.locked ≡ v.actor.locked → (x : ℕ)
+    → UsesSlot v.actor x → UsesSlot u.actor x
+waiting_uses v u may same x (inl locks) = inl (same ∙ locks)
+waiting_uses v u may same x (inr needs) = absurd (false≢true (sym (none_used x v.actor.agenda may) ∙ needs))

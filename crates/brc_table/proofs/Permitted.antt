@@ -23,6 +23,7 @@ use Rattle.brc_table.specs.Uses.{IsDue, first_use, first_due, held_after, Uses}
 use Rattle.brc_table.specs.Plays.{SuitsFirst, FirstFindsOwner, FindsKnown}
 use Rattle.brc_table.specs.Accesses.{HasAccess, IsNext}
 use Rattle.brc_table.specs.DutySteps.{DueSlot, OverwritesFirst, Steps, StepsBy, said}
+use Rattle.brc_table.proofs.Changing.{taken_same}
 use Rattle.brc_table.proofs.Stepping.{read_of}
 use Rattle.brc_table.proofs.Allowed as allowed
 use Rattle.brc_table.proofs.Allowed.{IsAt, IsNextAt, Knows, Seen}
@@ -77,7 +78,7 @@ module _ (laws : ModelLaws) (words : TableState) (hand : HandState) (begins : Vi
       ap (λ (ds : List Duty). view_by u ds found) (sym next.agenda),
       rows,
       λ follows.
-          follows ∙ (sym becoming.slots.taken ∙ sym (ap (taken_after u.taken) (stays found))),
+          follows ∙ (sym (taken_same becoming) ∙ sym (ap (taken_after u.taken) (stays found))),
       sym (ap (λ (s : SlotUse). held_after (held_in me.1) s (first_due (d ∷ rest) found)) (stays found))
           ∙ ap (λ (ds : List Duty). held_after (held_in me.1) (first_use ds found) (first_due ds found))
           (sym next.agenda),

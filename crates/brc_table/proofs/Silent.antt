@@ -11,7 +11,7 @@ use Rattle.brc_model.specs.declared.address.Address.TheVariants.{Local, Shared, 
 use Rattle.brc_model.specs.declared.actor.Status.TheVariants.{Gone}
 use Rattle.brc_model.specs.declared.duty.Holding.{Holding}
 use Rattle.brc_model.specs.declared.duty.Duty.{Duty}
-use Rattle.brc_model.specs.declared.duty.Duty.TheVariants.{BirthSlot, BirthLocal, TakeSlot, CloseResource, SettleEnd}
+use Rattle.brc_model.specs.declared.duty.Duty.TheVariants.{Settle, BirthSlot, BirthLocal, Scan, TakeSlot, CloseResource, SettleEnd}
 use Rattle.brc_model.specs.declared.layout.Layout.{Layout}
 use Rattle.brc_model.specs.Duties.{address_of, new_word, continuation, ready}
 use Rattle.brc_model.specs.declared.actor.Actor.{Actor}
@@ -23,7 +23,7 @@ use Rattle.brc_table.specs.Places.{HasWord}
 use Rattle.brc_table.specs.Views.{slot_filled_by, slot_emptied_by, with_next}
 use Rattle.brc_table.specs.Homes.{times_in}
 use Rattle.brc_table.specs.Rule.{Guards, Stands}
-use Rattle.brc_table.specs.Begins.{Passes, KeepsThread, Becomes}
+use Rattle.brc_table.specs.Begins.{Passes, Becomes}
 use Rattle.brc_table.specs.Calls.{OwnsFirst, ClosesRow}
 use Rattle.brc_table.proofs.Passing.{becomes_then}
 use Rattle.brc_table.proofs.SlotsUsed.{or_true}
@@ -93,27 +93,13 @@ record Silent (x : ℕ) (d next : Duty) : Type 0 where
   actor : (layout : Layout) (t found : ℕ) (v : View) (rest : List Duty)
       → actor_by layout t v.actor d rest found ≡ (with_next v (next ∷ rest)).actor
 
-birth_actor : (layout : Layout) (t found x : ℕ) (h : Holding) (v : View) (rest : List Duty) (head : ℕ) → v.actor.head
-    ≡ head
-    → actor_by layout t v.actor (BirthSlot x h) rest found ≡ (with_next v (BirthLocal x h ∷ rest)).actor
-birth_actor layout t found x h v rest zero is =
-    ap (λ (k : ℕ). record v.actor { agenda = ready k (BirthLocal x h ∷ rest) }) is
-birth_actor layout t found x h v rest (suc head) is =
-    ap (λ (k : ℕ). record v.actor { agenda = ready k (BirthLocal x h ∷ rest) }) is
-
-take_actor : (layout : Layout) (t found x : ℕ) (v : View) (rest : List Duty) (head : ℕ) → v.actor.head ≡ head
-    → actor_by layout t v.actor (TakeSlot x) rest found ≡ (with_next v (CloseResource x ∷ rest)).actor
-take_actor layout t found x v rest zero is =
-    ap (λ (k : ℕ). record v.actor { agenda = ready k (CloseResource x ∷ rest) }) is
-take_actor layout t found x v rest (suc head) is =
-    ap (λ (k : ℕ). record v.actor { agenda = ready k (CloseResource x ∷ rest) }) is
-
-close_actor : (layout : Layout) (t found x : ℕ) (v : View) (rest : List Duty) (head : ℕ) → v.actor.head ≡ head
-    → actor_by layout t v.actor (CloseResource x) rest found ≡ (with_next v (SettleEnd x ∷ rest)).actor
-close_actor layout t found x v rest zero is =
-    ap (λ (k : ℕ). record v.actor { agenda = ready k (SettleEnd x ∷ rest) }) is
-close_actor layout t found x v rest (suc head) is =
-    ap (λ (k : ℕ). record v.actor { agenda = ready k (SettleEnd x ∷ rest) }) is
+-- A duty that needs a slot is never skipped.
+ready_silent : (x head : ℕ) (d : Duty) (rest : List Duty) → needs_slot x d ≡ true → ready head (d ∷ rest) ≡ d ∷ rest
+ready_silent x zero Settle rest needs = absurd cc
+ready_silent x zero (Scan i n) rest needs = absurd cc
+ready_silent x (suc head) (Scan i n) rest needs = absurd cc
+ready_silent x zero _ rest needs = refl
+ready_silent x (suc head) _ rest needs = refl
 
 same_row : (x : ℕ) → (x == x) ≡ true
 same_row x = eq-eqb x x refl
@@ -124,7 +110,8 @@ birth_silent x h = record {
   needs = same_row x;
   on = λ y is. is;
   lives = λ life layout t running head found y. refl;
-  actor = λ layout t found v rest. birth_actor layout t found x h v rest v.actor.head refl;
+  actor = λ layout t found v rest.
+      ap (λ (ds : List Duty). (with_next v ds).actor) (ready_silent x v.actor.head (BirthLocal x h) rest (same_row x));
 }
 
 take_silent : (x : ℕ) → Silent x (TakeSlot x) (CloseResource x)
@@ -133,7 +120,8 @@ take_silent x = record {
   needs = same_row x;
   on = λ y is. is;
   lives = λ life layout t running head found y. refl;
-  actor = λ layout t found v rest. take_actor layout t found x v rest v.actor.head refl;
+  actor = λ layout t found v rest.
+      ap (λ (ds : List Duty). (with_next v ds).actor) (ready_silent x v.actor.head (CloseResource x) rest (same_row x));
 }
 
 close_silent : (x : ℕ) → Silent x (CloseResource x) (SettleEnd x)
@@ -142,7 +130,8 @@ close_silent x = record {
   needs = same_row x;
   on = λ y is. is;
   lives = λ life layout t running head found y. refl;
-  actor = λ layout t found v rest. close_actor layout t found x v rest v.actor.head refl;
+  actor = λ layout t found v rest.
+      ap (λ (ds : List Duty). (with_next v ds).actor) (ready_silent x v.actor.head (SettleEnd x) rest (same_row x));
 }
 
 -- ---- the change
@@ -239,7 +228,9 @@ module _ (kept : DutiesAreKept) (unlocked : NeededSlotsAreUnlocked) (layout : La
     silent_becomes : Becomes layout v u
     silent_becomes = record {
       passes = passed;
-      slots = record { taken = refl; in_slot = λ y locks. refl; locked = refl; used = keeps_used };
+      same = refl;
+      in_slot = λ y locks. refl;
+      uses = keeps_used;
     }
 
   -- A hand that gives birth to an object puts its resource into its slot.
@@ -267,16 +258,14 @@ module _ (kept : DutiesAreKept) (unlocked : NeededSlotsAreUnlocked) (layout : La
 
 -- ---- what stays
 
-pub filled_keeps : (v : View) (x : ℕ) (ds : List Duty) → OwnsFirst x ds → KeepsThread v (slot_filled_by ds v)
-filled_keeps v x (BirthSlot y h ∷ []) same =
-    record { layout = refl; thread = refl; status = refl; head = refl; used = refl; given = refl }
-filled_keeps v x (BirthLocal y h ∷ []) same =
-    record { layout = refl; thread = refl; status = refl; head = refl; used = refl; given = refl }
-filled_keeps v x _ same = absurd same
+pub filled_alive : (v : View) (x : ℕ) (ds : List Duty) → OwnsFirst x ds → v.actor.status ≢ Gone
+    → (slot_filled_by ds v).actor.status ≢ Gone
+filled_alive v x (BirthSlot y h ∷ []) same alive = alive
+filled_alive v x (BirthLocal y h ∷ []) same alive = alive
+filled_alive v x _ same alive = absurd same
 
-pub emptied_keeps : (v : View) (x : ℕ) (ds : List Duty) → ClosesRow x ds → KeepsThread v (slot_emptied_by ds v)
-emptied_keeps v x (TakeSlot y ∷ rest) same =
-    record { layout = refl; thread = refl; status = refl; head = refl; used = refl; given = refl }
-emptied_keeps v x (SettleEnd y ∷ rest) same =
-    record { layout = refl; thread = refl; status = refl; head = refl; used = refl; given = refl }
-emptied_keeps v x _ same = absurd same
+pub emptied_alive : (v : View) (x : ℕ) (ds : List Duty) → ClosesRow x ds → v.actor.status ≢ Gone
+    → (slot_emptied_by ds v).actor.status ≢ Gone
+emptied_alive v x (TakeSlot y ∷ rest) same alive = alive
+emptied_alive v x (SettleEnd y ∷ rest) same alive = alive
+emptied_alive v x _ same alive = absurd same

@@ -24,6 +24,7 @@ use Rattle.brc_model.specs.Knowledge.{HeadOf}
 use Rattle.brc_table.specs.Homes.{resources, rows_of, held_in, TableStands}
 use Rattle.brc_table.specs.Begins.{Becomes}
 use Rattle.brc_table.specs.Uses.{FirstSlot, IsDue, first_use, first_due, held_after, Uses}
+use Rattle.brc_table.proofs.Changing.{taken_same, locked_same}
 use Rattle.brc_table.proofs.Stepping.{Does, read_of, relies}
 use Rattle.brc_table.proofs.SlotLists.{last_of}
 use Rattle.brc_table.proofs.SlotsKept.{slots_given}
@@ -123,7 +124,7 @@ module _ (laws : ModelLaws)
         let first = allowed.first laws layout v u d rest index becomes next s holds id here
         in
         due_is laws.known layout s.words (set s.views id u) id v u d rest it found x (resources slot) gives_it
-        (sym becomes.slots.locked) becomes.slots.in_slot
+        (sym (locked_same becomes)) becomes.in_slot
         (λ y locks. first.slots y (inr locks) ∙ (holds.slots.locked id y v here locks).1) due
 
     module _ (f : ℕ → ℕ)
@@ -143,16 +144,16 @@ module _ (laws : ModelLaws)
                 slots_given m now.stands.machine s.homes s.views id v (view_by u (d ∷ rest) found) holds.slots here
                 (allowed.layout_stays laws layout v u d rest index becomes next s holds id
                 here f leaves) x rows taken
-                (ap (taken_after u.taken) gives_it ∙ ap behind_first (becomes.slots.taken ∙ taken)) slot row_low
+                (ap (taken_after u.taken) gives_it ∙ ap behind_first ((taken_same becomes) ∙ taken)) slot row_low
                 (holds_due ∙ sym (stays x))
                 (λ y apart uses.
                 used_left u d rest found y next.agenda
                 (λ same. apart (sym (gives_row y x (sym gives_it ∙ same))))
-                (λ locks. lock.kept y apart locks) (becomes.slots.used y uses)) now.slots
+                (λ locks. lock.kept y apart locks) (becomes.uses y uses)) now.slots
                 (λ y locks.
                 let before = lock.left y locks in
-                let mine : v.actor.locked ≡ Some y = sym becomes.slots.locked ∙ before.1 in
-                (before.0, mine, becomes.slots.in_slot y mine));
+                let mine : v.actor.locked ≡ Some y = sym (locked_same becomes) ∙ before.1 in
+                (before.0, mine, becomes.in_slot y mine));
           }
 
   -- A step is allowed whose duty gives the slot back, if it holds what is due.
@@ -185,7 +186,7 @@ module _ (laws : ModelLaws)
               allowed.rows_now laws layout v u d rest index becomes next s holds id mine f
                   leaves,
               λ same.
-                  ap behind_first (follows ∙ sym becomes.slots.taken) ∙ sym (ap (taken_after u.taken) gives_it),
+                  ap behind_first (follows ∙ sym (taken_same becomes)) ∙ sym (ap (taken_after u.taken) gives_it),
               sym (ap (λ (z : SlotUse). held_after ((x, resources slot) ∷ held_in ps) z
                   (first_due (d ∷ rest) found_now)) gives_it)
                   ∙ ap (λ (ds : List Duty). held_after ((x, resources slot) ∷ held_in ps) (first_use ds found_now)

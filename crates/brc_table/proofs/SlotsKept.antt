@@ -15,9 +15,15 @@ use Rattle.brc_model.specs.Machine.{Machine}
 use Rattle.brc_model.specs.SlotLaws.{UsesSlot}
 use Rattle.brc_table.specs.declared.view.View.{View}
 use Rattle.brc_table.specs.Homes.{resources, times_in, times_taken, IsHome, HoldsHome, SlotsStand}
-use Rattle.brc_table.specs.Begins.{KeepsSlots}
 use Rattle.brc_table.proofs.Lists.{set_view}
 use Rattle.brc_table.proofs.Picked.{count_more}
+
+-- The hand has the slots that it had, and uses each that it used.
+pub record KeepsSlots (v w : View) : Type 0 where
+  pub taken : w.taken ≡ v.taken
+  pub in_slot : (x : ℕ) → v.actor.locked ≡ Some x → w.in_slot ≡ v.in_slot
+  pub locked : w.actor.locked ≡ v.actor.locked
+  pub used : (x : ℕ) → UsesSlot v.actor x → UsesSlot w.actor x
 
 module _ {T : Type 0} (m n : Machine) (homes : List (home.Option (Option T))) (views : List View) (id : ℕ) (v w : View)
     (old : SlotsStand m homes views) (here : get_elem? views id ≡ home.some v) (layout_same : n.layout ≡ m.layout) where

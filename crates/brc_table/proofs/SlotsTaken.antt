@@ -25,6 +25,7 @@ use Rattle.brc_table.specs.Views.{view_by, taken_after}
 use Rattle.brc_table.specs.Homes.{resources, held_in, times_taken, IsHome, HoldsHome, TableStands}
 use Rattle.brc_table.specs.Begins.{Becomes}
 use Rattle.brc_table.specs.Uses.{first_use, first_due, held_after, Uses}
+use Rattle.brc_table.proofs.Changing.{taken_same, locked_same}
 use Rattle.brc_table.proofs.Stepping.{Does, read_of, relies}
 use Rattle.brc_table.proofs.SlotsKept.{slots_taken}
 use Rattle.brc_table.proofs.SlotsUsed.{used_left, used_now}
@@ -123,7 +124,7 @@ module _ (laws : ModelLaws) (layout : Layout) (v u : View) (d : Duty)
         | inl this ↦
             let mine : z ≡ v = some-injective z v (sym there ∙ (ap (get_elem? s.views) this.1 ∙ here)) in
             free_of u (it.stands.acts id u it.here)
-            (becomes.slots.used x (subst (λ (w : View). UsesSlot w.actor x) mine uses))
+            (becomes.uses x (subst (λ (w : View). UsesSlot w.actor x) mine uses))
         | inr apart ↦ free_of z (it.stands.acts other z (set_else s.views id other u apart.1 ∙ there)) uses
       ]
 
@@ -171,12 +172,12 @@ module _ (laws : ModelLaws) (layout : Layout) (v u : View) (d : Duty)
                   slots_taken m now.stands.machine s.homes s.views id v (view_by u (d ∷ rest) found) holds.slots here
                   (allowed.layout_stays laws layout v u d rest index becomes next s holds id
                   here f leaves) x
-                  (ap (taken_after u.taken) takes_it ∙ ap (λ (rows : List ℕ). x ∷ rows) becomes.slots.taken) is_home
+                  (ap (taken_after u.taken) takes_it ∙ ap (λ (rows : List ℕ). x ∷ rows) (taken_same becomes)) is_home
                   (used_now u d rest found x takes_it)
                   (λ y uses.
                   used_left u d rest found y next.agenda
                   (λ gives. let wrong : Takes x ≡ Gives y = sym takes_it ∙ gives in absurd cc) (lock y)
-                  (becomes.slots.used y uses)) now.slots locks;
+                  (becomes.uses y uses)) now.slots locks;
             }
 
   -- A step is allowed whose duty takes the slot whatever it finds.
@@ -198,8 +199,8 @@ module _ (laws : ModelLaws) (layout : Layout) (v u : View) (d : Duty)
       let now =
       stands_now s holds id mine takes_it f leaves (λ y locks. leave_lock ∙ locks)
       (λ y locks.
-      let before : v.actor.locked ≡ Some y = sym becomes.slots.locked ∙ (sym leave_lock ∙ locks) in
-      inr (before, becomes.slots.in_slot y before)) in
+      let before : v.actor.locked ≡ Some y = sym (locked_same becomes) ∙ (sym leave_lock ∙ locks) in
+      inr (before, becomes.in_slot y before)) in
       let due : resources slot.slot ≡ first_due (d ∷ rest) found_now =
       slot.holds ∙ (sym (slot_then s holds id mine takes_it)
       ∙ (due_known laws.known layout s.words (set s.views id u) id u d rest (it s holds id mine takes_it) x all
@@ -218,7 +219,7 @@ module _ (laws : ModelLaws) (layout : Layout) (v u : View) (d : Duty)
                   leaves,
               λ follows.
                   ap (λ (rows : List ℕ). x ∷ rows) (follows ∙
-                  (ap (λ (z : View). z.taken) is_me ∙ sym becomes.slots.taken))
+                  (ap (λ (z : View). z.taken) is_me ∙ sym (taken_same becomes)))
                   ∙ sym (ap (taken_after u.taken) takes_it),
               ap (λ (n : ℕ). (x, n) ∷ held_in me.1) due
                   ∙ (sym (ap (λ (w : SlotUse). held_after (held_in me.1) w (first_due (d ∷ rest) found_now)) takes_it)

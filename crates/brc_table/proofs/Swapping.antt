@@ -37,7 +37,7 @@ use Rattle.brc_table.specs.Swaps.{with_item, without_item, swapped, MayPut, MayS
 use Rattle.brc_table.proofs.Accounts.{with_account_same, with_account_other, count_with_reference, count_without_reference}
 use Rattle.brc_table.proofs.CellGuards.{change_there, change_by, change_guards, guards_apart}
 use Rattle.brc_table.proofs.RowsThere.{rows_there}
-use Rattle.brc_table.proofs.Passing.{waiting_keeps}
+use Rattle.brc_table.proofs.Passing.{waiting_uses}
 use Rattle.brc_table.proofs.AtHand.{is_ready, alone, has_one}
 use Rattle.brc_table.proofs.Becoming.{rested_becomes}
 use Rattle.brc_table.proofs.Changing.{Changes, passes}
@@ -344,7 +344,13 @@ module _ (put : WorkIsPutAside) (free : ImmortalsAreFree) (there : AccountsAreTh
       let now = moved.stands in
       let held_slots : SlotsStand now.machine s.homes (set s.views id w) =
       slots_kept holds.stands.machine now.machine s.homes s.views id v w holds.slots mine
-      (now.layout_is ∙ sym holds.stands.layout_is) (waiting_keeps v w may.running.1 (refl, (λ y locks. refl), refl))
+      (now.layout_is ∙ sym holds.stands.layout_is)
+      (record {
+        taken = refl;
+        in_slot = λ y locks. refl;
+        locked = refl;
+        used = waiting_uses v w may.running.1 refl;
+      })
       (λ y which. moved.slots y which ∙ (puts.slots y ∙ first.slots y which)) in
       let rows_now : RowsAreThere w =
       rows_there there chains layout (set s.words index word) (set s.views id w) id w now

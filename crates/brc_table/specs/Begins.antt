@@ -7,6 +7,7 @@ use Rattle.brc_model.specs.declared.layout.Layout.{Layout}
 use Rattle.brc_model.specs.Machine.{Machine}
 use Rattle.brc_model.specs.SlotLaws.{UsesSlot}
 use Rattle.brc_table.specs.declared.view.View.{View}
+use Rattle.brc_table.specs.Views.{with_work}
 use Rattle.brc_table.specs.Rule.{Stands}
 use Rattle.brc_table.specs.Homes.{times_in}
 
@@ -19,24 +20,16 @@ pub record Passes (layout : Layout) (words : List ℕ) (views : List View) (take
   pub slots : (x : ℕ) → (times_in x taken ≡ 0) ⊎ (locked ≡ Some x)
       → stands.machine.memory (Slot x) ≡ before.memory (Slot x)
 
--- The hand has the slots that it had, and uses each that it used.
-pub record KeepsSlots (v u : View) : Type 0 where
-  pub taken : u.taken ≡ v.taken
-  pub in_slot : (x : ℕ) → v.actor.locked ≡ Some x → u.in_slot ≡ v.in_slot
-  pub locked : u.actor.locked ≡ v.actor.locked
-  pub used : (x : ℕ) → UsesSlot v.actor x → UsesSlot u.actor x
+-- The hand is as before, but for its work, its references and what it knows of the slot of its lock.
+abbrev pub KeepsButWork : View → View → Type 0
+KeepsButWork v u =
+    u ≡ record (with_work v u.actor.agenda u.actor.aside) { references = u.references; in_slot = u.in_slot }
 
--- In each table that meets the rule, a hand with the one view may have the other.
+-- In each table that meets the rule, a hand with the one view may have the other. It has the slots that it had, and
+-- uses each that it used.
 pub record Becomes (layout : Layout) (v u : View) : Type 0 where
   pub passes : (words : List ℕ) (views : List View) (id : ℕ) (stands : Stands layout words views)
       → get_elem? views id ≡ some v → Passes layout words (slice_set views id u) v.taken v.actor.locked stands.machine
-  pub slots : KeepsSlots v u
-
--- The layout, the thread, its status, its chain, its used rows and the hands that it has given out are as before.
-pub record KeepsThread (v u : View) : Type 0 where
-  pub layout : u.layout ≡ v.layout
-  pub thread : u.thread ≡ v.thread
-  pub status : u.actor.status ≡ v.actor.status
-  pub head : u.actor.head ≡ v.actor.head
-  pub used : u.actor.used ≡ v.actor.used
-  pub given : u.given ≡ v.given
+  pub same : KeepsButWork v u
+  pub in_slot : (x : ℕ) → v.actor.locked ≡ Some x → u.in_slot ≡ v.in_slot
+  pub uses : (x : ℕ) → UsesSlot v.actor x → UsesSlot u.actor x

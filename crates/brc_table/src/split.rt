@@ -83,8 +83,7 @@ impl<T: Drop> Words<T> {
         ensures worker { IsOf self.now result }
         ensures main_view { main.new.view ≡ giving main.old.view thread }
         ensures worker_view { result.view ≡ worker_view self.now.layout thread }
-        ensures carried { main.new.carried ≡ main.old.carried }
-        ensures slots { main.new.slots ≡ main.old.slots }
+        ensures kept { KeepsButView main.old main.new }
         ensures none { CarriesNothing result }
         ensures no_slot { result.slots ≡ [] }
     {
@@ -100,8 +99,7 @@ impl<T: Drop> Words<T> {
         ensures worker { IsOf self.now result }
         ensures main_view { main.new.view ≡ giving main.old.view thread }
         ensures worker_view { result.view ≡ worker_view self.now.layout thread }
-        ensures carried { main.new.carried ≡ main.old.carried }
-        ensures slots { main.new.slots ≡ main.old.slots }
+        ensures kept { KeepsButView main.old main.new }
         ensures none { CarriesNothing result }
         ensures no_slot { result.slots ≡ [] }
     {

@@ -17,7 +17,7 @@ ghost use Rattle.brc_table.specs.Turns.{MayGoOn, turned_to};
 ghost use Rattle.brc_table.specs.DutySteps.{DueSlot, OverwritesFirst, StepsBy, said};
 ghost use Rattle.brc_effect.specs.Accesses.{IfStored, left_by};
 ghost use Rattle.brc_table.specs.Accesses.{HasAccess, HasCell, HasChain, HasUsedRow, IsNext, row_of};
-ghost use Rattle.brc_table.specs.Begins.{Becomes, KeepsThread};
+ghost use Rattle.brc_table.specs.Begins.{Becomes};
 ghost use Rattle.brc_table.specs.Hands.{IsOf};
 ghost use Rattle.brc_table.specs.Calls.{CanAct};
 
@@ -129,7 +129,6 @@ impl<T: Drop> Words<T> {
     pub(crate) fn step_from<B: Begins>(&self, hand: &mut Hand<T>, duty: &Duty) -> u64
         requires table { IsOf self.now hand.old }
         requires begins { Becomes self.now.layout hand.old.view (B.begins hand.old.view) }
-        requires thread { KeepsThread hand.old.view (B.begins hand.old.view) }
         requires alive { (B.begins hand.old.view).actor.status ≢ Gone }
         requires known { HasAccess duty.now }
         requires there { HasWord self.now.layout

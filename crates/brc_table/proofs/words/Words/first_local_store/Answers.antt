@@ -1,11 +1,9 @@
-use Rattle.std.proofs.Common.{◌≢◌, ◌<◌, refl, sym, subst}
-use Rattle.brc_model.specs.declared.actor.Status.{Status}
-use Rattle.brc_model.specs.declared.actor.Status.TheVariants.{Gone}
+use Rattle.std.proofs.Common.{◌<◌, refl, subst}
 use Rattle.brc_model.specs.declared.layout.Layout.{Layout}
 use Rattle.brc_model.specs.Layout.{row_count}
 use Rattle.brc_model.specs.Duties.{resources_of}
 use Rattle.brc_table.proofs.Duties.{own_next, own_due, owns_first_there}
-use Rattle.brc_table.proofs.Silent.{filled_becomes, filled_keeps}
+use Rattle.brc_table.proofs.Silent.{filled_becomes, filled_alive}
 use Rattle.brc_table.proofs.SlotLists.{taken_once}
 use Rattle.brc_table.proofs.words.Words.first_local_store.Goals as goal
 
@@ -16,10 +14,6 @@ step_from-requires-clause-begins g c =
     v.actor.agenda refl c.requires.duty c.requires.alive
     (taken_once c.args.hand.now c.args.row (resources_of c.requires.slot.word) c.slots_are_taken.ensures
     c.requires.slot.first)
-
-pub step_from-requires-clause-thread : goal.step_from-requires-clause-thread
-step_from-requires-clause-thread g c =
-    filled_keeps c.args.hand.now.view c.args.row c.args.hand.now.view.actor.agenda c.requires.duty
 
 pub step_from-requires-clause-there : goal.step_from-requires-clause-there
 step_from-requires-clause-there g c =
@@ -38,9 +32,7 @@ step_from-requires-clause-due g c =
 
 pub step_from-requires-clause-alive : goal.step_from-requires-clause-alive
 step_from-requires-clause-alive g c =
-    let v = c.args.hand.now.view in
-    subst (λ (s : Status). s ≢ Gone) (sym (filled_keeps v c.args.row v.actor.agenda c.requires.duty).status)
-    c.requires.alive
+    let v = c.args.hand.now.view in filled_alive v c.args.row v.actor.agenda c.requires.duty c.requires.alive
 
 pub step_from-requires-clause-next : goal.step_from-requires-clause-next
 step_from-requires-clause-next g c =

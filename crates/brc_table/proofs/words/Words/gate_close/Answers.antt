@@ -1,10 +1,8 @@
-use Rattle.std.proofs.Common.{◌≢◌, ◌<◌, refl, sym, subst}
-use Rattle.brc_model.specs.declared.actor.Status.{Status}
-use Rattle.brc_model.specs.declared.actor.Status.TheVariants.{Gone}
+use Rattle.std.proofs.Common.{◌<◌, refl, subst}
 use Rattle.brc_model.specs.declared.layout.Layout.{Layout}
 use Rattle.brc_model.specs.Layout.{row_count}
 use Rattle.brc_table.proofs.DyingDuties.{gate_close_next, gate_close_there, close_due}
-use Rattle.brc_table.proofs.Silent.{emptied_becomes, emptied_keeps}
+use Rattle.brc_table.proofs.Silent.{emptied_becomes, emptied_alive}
 use Rattle.brc_table.proofs.SlotLists.{taken_once}
 use Rattle.brc_table.proofs.words.Words.gate_close.Goals as goal
 
@@ -15,10 +13,6 @@ step_from-requires-clause-begins g c =
     v.actor.agenda refl c.requires.duty c.requires.alive
     (taken_once c.args.hand.now c.args.row 0 c.slots_are_taken.ensures c.requires.slot)
 
-pub step_from-requires-clause-thread : goal.step_from-requires-clause-thread
-step_from-requires-clause-thread g c =
-    emptied_keeps c.args.hand.now.view c.args.row c.args.hand.now.view.actor.agenda c.requires.duty
-
 pub step_from-requires-clause-there : goal.step_from-requires-clause-there
 step_from-requires-clause-there g c =
     let v = c.args.hand.now.view in
@@ -27,9 +21,7 @@ step_from-requires-clause-there g c =
 
 pub step_from-requires-clause-alive : goal.step_from-requires-clause-alive
 step_from-requires-clause-alive g c =
-    let v = c.args.hand.now.view in
-    subst (λ (s : Status). s ≢ Gone) (sym (emptied_keeps v c.args.row v.actor.agenda c.requires.duty).status)
-    c.requires.alive
+    let v = c.args.hand.now.view in emptied_alive v c.args.row v.actor.agenda c.requires.duty c.requires.alive
 
 pub step_from-requires-clause-next : goal.step_from-requires-clause-next
 step_from-requires-clause-next g c =

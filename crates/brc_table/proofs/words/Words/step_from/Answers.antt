@@ -17,7 +17,7 @@ use Rattle.brc_model.specs.Within.{Suits}
 use Rattle.brc_table.specs.declared.view.View.{View}
 use Rattle.brc_effect.specs.Accesses.{IfStored, left_by}
 use Rattle.brc_table.specs.Accesses.{HasAccess, IsNext}
-use Rattle.brc_table.specs.Begins.{KeepsThread}
+use Rattle.brc_table.specs.Begins.{KeepsButWork}
 use Rattle.brc_table.specs.DutySteps.{DueSlot, Steps, StepsBy}
 use Rattle.brc_table.specs.Hands.{HandState, TableState}
 use Rattle.brc_table.specs.Rule.{reading}
@@ -95,12 +95,13 @@ operate-word-requires-clause-allowed g c =
     let view_is = c.hand.view_is in
     let words = c.args.self.now in
     let access = c.access_of-access.result in
-    let keeps = subst (λ (h : HandState). KeepsThread h.view (begins h.view)) (sym view_is) c.requires.thread in
-    let thread : hand.thread ≡ u.thread = c.hand.invariant.1 ∙ sym keeps.thread in
-    let head : hand.head ≡ u.actor.head = c.hand.invariant.3 ∙ sym keeps.head in
+    let same = subst (λ (h : HandState). KeepsButWork h.view (begins h.view)) (sym view_is) c.requires.begins.same in
+    let thread : hand.thread ≡ u.thread = c.hand.invariant.1 ∙ sym (ap (λ (v : View). v.thread) same) in
+    let head : hand.head ≡ u.actor.head = c.hand.invariant.3 ∙ sym (ap (λ (v : View). v.actor.head) same) in
     let layout : c.self.inside.layout ≡ u.layout =
     c.self.invariant.0 ∙ (ap (λ (w : TableState). w.layout) c.self.view_is
-    ∙ (sym c.requires.table.1 ∙ (ap (λ (h : HandState). h.view.layout) (sym view_is) ∙ sym keeps.layout))) in
+    ∙ (sym c.requires.table.1 ∙ (ap (λ (h : HandState). h.view.layout) (sym view_is)
+    ∙ sym (ap (λ (v : View). v.layout) same)))) in
     let index : c.place_at-index.result ≡ place (address_of u.layout u.thread u.actor.head d) =
     c.place_at-index.ensures ∙ ap place c.address_of-address.ensures
     ∙ (ap (λ (l : Layout). place (address_of l hand.thread hand.head d)) layout
@@ -127,12 +128,12 @@ operate-word-requires-clause-before g c =
     let d = c.args.duty.now in
     let view_is = c.hand.view_is in
     let access = c.access_of-access.result in
-    let keeps = subst (λ (h : HandState). KeepsThread h.view (begins h.view)) (sym view_is) c.requires.thread in
+    let same = subst (λ (h : HandState). KeepsButWork h.view (begins h.view)) (sym view_is) c.requires.begins.same in
     next.before_next u d (subst (λ (h : HandState). IsNext d (begins h.view).actor.agenda) (sym view_is)
     c.requires.next)
     c.requires.known access
     (subst (λ (t : ℕ). IfStored access (λ b. b ≡ overwritten_by t (d ∷ [])))
-    (c.hand.invariant.1 ∙ sym keeps.thread) c.access_of-access.ensures.before)
+    (c.hand.invariant.1 ∙ sym (ap (λ (v : View). v.thread) same)) c.access_of-access.ensures.before)
 
 pub operate-word-requires-clause-says : goal.operate-word-requires-clause-says
 operate-word-requires-clause-says g c =
@@ -142,13 +143,13 @@ operate-word-requires-clause-says g c =
     let d = c.args.duty.now in
     let view_is = c.hand.view_is in
     let access = c.access_of-access.result in
-    let keeps = subst (λ (h : HandState). KeepsThread h.view (begins h.view)) (sym view_is) c.requires.thread in
+    let same = subst (λ (h : HandState). KeepsButWork h.view (begins h.view)) (sym view_is) c.requires.begins.same in
     next.says_next u d (subst (λ (h : HandState). IsNext d (begins h.view).actor.agenda) (sym view_is) c.requires.next)
     c.requires.known access
     (subst (λ (t : ℕ). IfStored access (λ b. reading (address_of u.layout t u.actor.head d) b ≡ b))
-    (c.hand.invariant.1 ∙ sym keeps.thread)
+    (c.hand.invariant.1 ∙ sym (ap (λ (v : View). v.thread) same))
     (subst (λ (k : ℕ). IfStored access (λ b. reading (address_of u.layout hand.thread k d) b ≡ b))
-    (c.hand.invariant.3 ∙ sym keeps.head)
+    (c.hand.invariant.3 ∙ sym (ap (λ (v : View). v.actor.head) same))
     (next.stored_says u.layout hand.thread hand.head d access c.access_of-access.ensures.started)))
 
 pub operate-word-requires-clause-knows : goal.operate-word-requires-clause-knows
@@ -159,11 +160,11 @@ operate-word-requires-clause-knows g c =
     let d = c.args.duty.now in
     let view_is = c.hand.view_is in
     let access = c.access_of-access.result in
-    let keeps = subst (λ (h : HandState). KeepsThread h.view (begins h.view)) (sym view_is) c.requires.thread in
+    let same = subst (λ (h : HandState). KeepsButWork h.view (begins h.view)) (sym view_is) c.requires.begins.same in
     next.knows_next u d (subst (λ (h : HandState). IsNext d (begins h.view).actor.agenda) (sym view_is) c.requires.next)
     c.requires.known access
     (subst (λ (t : ℕ). IfStored access (λ b. (found : ℕ) → Overwrites t d found → found ≡ b))
-    (c.hand.invariant.1 ∙ sym keeps.thread) c.access_of-access.ensures.knows)
+    (c.hand.invariant.1 ∙ sym (ap (λ (v : View). v.thread) same)) c.access_of-access.ensures.knows)
 
 -- What the hand has done, and what the word that it found said.
 stepped : (begins : View → View) (duty : Duty) {T : Type 0} (me after : Me (Option T) View) (word found : ℕ)
@@ -201,30 +202,28 @@ invariant_of-hand g c =
     let view_is = c.hand.view_is in
     let found = c.said_by-found.result in
     let after = c.operate-word.new.seat.me in
-    let keeps = subst (λ (h : HandState). KeepsThread h.view (begins h.view)) (sym view_is) c.requires.thread in
+    let same = subst (λ (h : HandState). KeepsButWork h.view (begins h.view)) (sym view_is) c.requires.begins.same in
     let is = subst (λ (h : HandState). IsNext d (begins h.view).actor.agenda) (sym view_is) c.requires.next in
     let known = c.requires.known in
     let fits = c.hand.invariant in
     let step = stepped begins d c.hand.inside.seat.me after c.operate-word.result found is known
     c.operate-word.ensures.step (c.said_by-found.ensures u.layout u.thread u.actor.head) in
-    let thread : after.0.thread ≡ before.thread =
-    ap (λ (v : View). v.thread) step.0.0 ∙ (next.thread_next u d is known found ∙ keeps.thread) in
-    let layout : after.0.layout ≡ before.layout =
-    ap (λ (v : View). v.layout) step.0.0 ∙ (next.layout_next u d is known found ∙ keeps.layout) in
-    let given : after.0.given ≡ before.given =
-    ap (λ (v : View). v.given) step.0.0 ∙ (next.given_next u d is known found ∙ keeps.given) in
+    let now = step.0.0 ∙ next.view_next u d is known found in
+    let thread : after.0.thread ≡ before.thread = ap (λ (v : View). v.thread) now ∙ ap (λ (v : View). v.thread) same in
+    let layout : after.0.layout ≡ before.layout = ap (λ (v : View). v.layout) now ∙ ap (λ (v : View). v.layout) same in
+    let given : after.0.given ≡ before.given = ap (λ (v : View). v.given) now ∙ ap (λ (v : View). v.given) same in
     let status : is_running after.0.actor.status ≡ is_running (status_by before.actor.status d) =
     ap (λ (v : View). is_running v.actor.status) step.0.0
     ∙ (ap is_running (next.status_next u d is known found)
-    ∙ ap (λ (s : Status). is_running (status_by s d)) keeps.status) in (
+    ∙ ap (λ (s : Status). is_running (status_by s d)) (ap (λ (v : View). v.actor.status) same)) in (
       step.0.2 fits.0,
       fits.1 ∙ sym thread,
       c.runs_after-running.ensures before.actor.status fits.2 ∙ sym status,
       c.head_after-head.ensures
-          ∙ (ap (λ (k : ℕ). new_head k d found) (fits.3 ∙ sym keeps.head)
+          ∙ (ap (λ (k : ℕ). new_head k d found) (fits.3 ∙ sym (ap (λ (v : View). v.actor.head) same))
           ∙ sym (ap (λ (v : View). v.actor.head) step.0.0 ∙ next.head_next u d is known found)),
       c.used_after-used.ensures
-          ∙ (ap (λ (k : ℕ). used_by k d) (fits.4 ∙ sym keeps.used)
+          ∙ (ap (λ (k : ℕ). used_by k d) (fits.4 ∙ sym (ap (λ (v : View). v.actor.used) same))
           ∙ sym (ap (λ (v : View). v.actor.used) step.0.0 ∙ next.used_next u d is known found)),
       step.0.1,
       λ main. fits.6 (sym thread ∙ main) ∙ sym (ap (λ (l : Layout). l.workers) layout),
@@ -249,11 +248,11 @@ record Made (begins : View → View) (hand : HandState) (d : Duty) (found : ℕ)
   finds : FindsKnown (begins hand.view) (begins hand.view).actor.agenda found
 
 made : (begins : View → View) (hand : HandState) (d : Duty) {T : Type 0} (me after : Me (Option T) View)
-    (word found : ℕ) → me.0 ≡ hand.view → held_in me.1 ≡ hand.slots → KeepsThread hand.view (begins hand.view)
+    (word found : ℕ) → me.0 ≡ hand.view → held_in me.1 ≡ hand.slots → KeepsButWork hand.view (begins hand.view)
     → IsNext d (begins hand.view).actor.agenda → HasAccess d → StepsBy begins me word after
     → ((layout : Layout) (t head : ℕ) → found ≡ reading (address_of layout t head d) word)
     → Made begins hand d found after.0 (held_in after.1)
-made begins hand d me after word found view_is slots_is keeps coming known steps says =
+made begins hand d me after word found view_is slots_is same coming known steps says =
     let u = begins me.0 in
     let is = subst (λ (v : View). IsNext d (begins v).actor.agenda) (sym view_is) coming in
     let step = stepped begins d me after word found is known steps (says u.layout u.thread u.actor.head) in
@@ -263,7 +262,8 @@ made begins hand d me after word found view_is slots_is keeps coming known steps
           ∙ ap (λ (l : List (ℕ × ℕ)). held_after l (use_of d 0) (first_due (d ∷ []) found)) slots_is);
       view_is = step.0.0 ∙ ap (λ (v : View). view_after (begins v) found) view_is;
       overwrites =
-          subst (λ (t : ℕ). Overwrites t d found) (ap (λ (v : View). (begins v).thread) view_is ∙ keeps.thread)
+          subst (λ (t : ℕ). Overwrites t d found) (ap (λ (v : View). (begins v).thread) view_is
+          ∙ ap (λ (v : View). v.thread) same)
           (next.overwrites_next u d is known found step.4);
       suits = subst (λ (v : View). SuitsFirst (begins v) (begins v).actor.agenda found) view_is step.1;
       owner = subst (λ (v : View). FirstFindsOwner (begins v) (begins v).actor.agenda found) view_is step.2;
@@ -274,40 +274,40 @@ pub returns-clause-slots : goal.returns-clause-slots
 returns-clause-slots g c =
     (made g.B.Begins.begins c.args.hand.now c.args.duty.now c.hand.inside.seat.me c.operate-word.new.seat.me
     c.operate-word.result c.said_by-found.result (ap (λ (h : HandState). h.view) c.hand.view_is)
-    (ap (λ (h : HandState). h.slots) c.hand.view_is) c.requires.thread c.requires.next c.requires.known
+    (ap (λ (h : HandState). h.slots) c.hand.view_is) c.requires.begins.same c.requires.next c.requires.known
     c.operate-word.ensures.step c.said_by-found.ensures).slots_are
 
 pub returns-clause-view : goal.returns-clause-view
 returns-clause-view g c =
     (made g.B.Begins.begins c.args.hand.now c.args.duty.now c.hand.inside.seat.me c.operate-word.new.seat.me
     c.operate-word.result c.said_by-found.result (ap (λ (h : HandState). h.view) c.hand.view_is)
-    (ap (λ (h : HandState). h.slots) c.hand.view_is) c.requires.thread c.requires.next c.requires.known
+    (ap (λ (h : HandState). h.slots) c.hand.view_is) c.requires.begins.same c.requires.next c.requires.known
     c.operate-word.ensures.step c.said_by-found.ensures).view_is
 
 pub returns-clause-overwrites : goal.returns-clause-overwrites
 returns-clause-overwrites g c =
     (made g.B.Begins.begins c.args.hand.now c.args.duty.now c.hand.inside.seat.me c.operate-word.new.seat.me
     c.operate-word.result c.said_by-found.result (ap (λ (h : HandState). h.view) c.hand.view_is)
-    (ap (λ (h : HandState). h.slots) c.hand.view_is) c.requires.thread c.requires.next c.requires.known
+    (ap (λ (h : HandState). h.slots) c.hand.view_is) c.requires.begins.same c.requires.next c.requires.known
     c.operate-word.ensures.step c.said_by-found.ensures).overwrites
 
 pub returns-clause-suits : goal.returns-clause-suits
 returns-clause-suits g c =
     (made g.B.Begins.begins c.args.hand.now c.args.duty.now c.hand.inside.seat.me c.operate-word.new.seat.me
     c.operate-word.result c.said_by-found.result (ap (λ (h : HandState). h.view) c.hand.view_is)
-    (ap (λ (h : HandState). h.slots) c.hand.view_is) c.requires.thread c.requires.next c.requires.known
+    (ap (λ (h : HandState). h.slots) c.hand.view_is) c.requires.begins.same c.requires.next c.requires.known
     c.operate-word.ensures.step c.said_by-found.ensures).suits
 
 pub returns-clause-owner : goal.returns-clause-owner
 returns-clause-owner g c =
     (made g.B.Begins.begins c.args.hand.now c.args.duty.now c.hand.inside.seat.me c.operate-word.new.seat.me
     c.operate-word.result c.said_by-found.result (ap (λ (h : HandState). h.view) c.hand.view_is)
-    (ap (λ (h : HandState). h.slots) c.hand.view_is) c.requires.thread c.requires.next c.requires.known
+    (ap (λ (h : HandState). h.slots) c.hand.view_is) c.requires.begins.same c.requires.next c.requires.known
     c.operate-word.ensures.step c.said_by-found.ensures).owner
 
 pub returns-clause-finds : goal.returns-clause-finds
 returns-clause-finds g c =
     (made g.B.Begins.begins c.args.hand.now c.args.duty.now c.hand.inside.seat.me c.operate-word.new.seat.me
     c.operate-word.result c.said_by-found.result (ap (λ (h : HandState). h.view) c.hand.view_is)
-    (ap (λ (h : HandState). h.slots) c.hand.view_is) c.requires.thread c.requires.next c.requires.known
+    (ap (λ (h : HandState). h.slots) c.hand.view_is) c.requires.begins.same c.requires.next c.requires.known
     c.operate-word.ensures.step c.said_by-found.ensures).finds
