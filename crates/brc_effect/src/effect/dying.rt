@@ -10,6 +10,7 @@ use super::{Doer, Effect, Next};
 use crate::kinds::{cells_of, has_resource};
 use brc_model::Duty;
 use brc_word::next_of_dying;
+use brc_word::values::EMPTY;
 
 impl Doer {
     /// The object is the new head of the thread's dying chain: its gate links it to the old one. So the deallocation of
@@ -60,7 +61,7 @@ impl Doer {
         ensures { IsEffect self (duties.SettleCell row cell cells) found result }
     {
         let then = cell_or_end(row, cell + 1, cells);
-        if found == 0 {
+        if found == EMPTY {
             return self.then(Next::One(then));
         }
         let row = (found - 1) as u32;

@@ -11,6 +11,7 @@ use super::{Doer, Effect, Next};
 use crate::outcomes::{MergeStep, merge_step};
 use brc_model::{Duty, Reason};
 use brc_word::local_count;
+use brc_word::values::NOBODY;
 
 impl Doer {
     /// The thread carries the local count that it found. If the word is nobody's already, the object has been merged,
@@ -19,7 +20,7 @@ impl Doer {
     pub(super) fn merge_swap(self, row: u32, reason: Reason, found: u64) -> Effect
         ensures { IsEffect self (duties.MergeSwap row reason) found result }
     {
-        if found == 0 {
+        if found == NOBODY {
             return self.then(once_merged(row, reason));
         }
         let load = Duty::MergeLoad {

@@ -7,6 +7,7 @@ ghost use Rattle.brc_effect.specs.Effects.{IsEffect};
 
 use super::{Doer, Effect, Next};
 use brc_model::{Duty, Holding};
+use brc_word::values::EMPTY;
 
 impl Doer {
     /// Swaps the thread's reference to the item for what the cell holds. (C API manual, `PyList_SetItem`: the list
@@ -19,7 +20,7 @@ impl Doer {
         ensures { (row cell item : ℕ) (holding : Holding)
             → IsEffect self (duties.CellSwap row cell item holding) found result }
     {
-        if found == 0 {
+        if found == EMPTY {
             return self.then(Next::Nothing);
         }
         let old = Duty::ReleaseLoad {

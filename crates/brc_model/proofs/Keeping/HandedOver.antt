@@ -77,9 +77,9 @@ module _ (p : Accounts) (n : ℕ) (m : Machine) (t u : ℕ) (a b : Actor) (x : �
       let old = core.each t a hands.giver in
       let account = with_one_less (p t) AsCaller x in
       let own : Fits account given t a =
-      moved_fits m (give_up t x) t a hands.giver x (λ k y other. held_elsewhere bag t AsCaller x k y has other)
-      (p t) account
-      old hands.giver_free giver_stays (holds_less bag t (p t) a.agenda a.aside AsCaller x old.0.holds has hands.some)
+      moved_fits m (give_up t x) t a hands.giver x (λ k y other. held_elsewhere bag t AsCaller x k y has other) (p t)
+      account old hands.giver_free giver_stays
+      (holds_less bag t (p t) a.agenda a.aside AsCaller x old.0.holds has hands.some)
       (bounded_less m.layout (p t) x old.0.bounded)
       (less_locks (p t) m t a a x old.0.locks refl (λ k y. omega arith)
       (making_none a AsCaller x old.1 hands.giver_free)
@@ -95,9 +95,9 @@ module _ (p : Accounts) (n : ℕ) (m : Machine) (t u : ℕ) (a b : Actor) (x : �
       subst (λ (c : Account). Fits c given u b) (sym was) (each_given u b hands.taker) in
       let account = with_one_more (p u) AsCaller x in
       let own : Fits account handed u b =
-      moved_fits given (gain u AsCaller x) u b hands.taker x (λ k y other. held_besides bag u AsCaller x k y other)
-      (p u)
-      account old hands.taker_free hands.taker_stays (holds_more bag u (p u) b.agenda b.aside AsCaller x old.0.holds)
+      moved_fits given (gain u AsCaller x) u b hands.taker x
+      (λ k y other. held_besides bag u AsCaller x k y other) (p u) account old hands.taker_free hands.taker_stays
+      (holds_more bag u (p u) b.agenda b.aside AsCaller x old.0.holds)
       (bounded_more m.layout (p u) x old.0.bounded (λ counted. hands.room))
       (more_locks (p u) given u b b x old.0.locks refl (λ k y. omega arith)) in
       each_moved after_giving given u b account (gain u AsCaller x) hands.taker
