@@ -44,8 +44,8 @@ HaveGiven heap state first hand k rows after =
 
 -- A hand whose chain is empty.
 as_unchained : (hand : HandState) → hand.view.actor.head ≡ 0 → hand ≡ unchained hand
-as_unchained hand empty = λ i. record hand { view = record hand.view
-{ actor = record hand.view.actor { head = empty i } } }
+as_unchained hand empty =
+    λ i. record hand { view = record hand.view { actor = record hand.view.actor { head = empty i } } }
 
 module _ (heap : TableState) (state : State) (first : List (Option ℕ)) (hand : HandState)
     (is : IsIn heap (OwnsAsMuch state) first hand) where

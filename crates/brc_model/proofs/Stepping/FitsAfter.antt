@@ -31,8 +31,8 @@ memory_by m t a d = written m.memory (address_of m.layout t a.head d) (new_word 
 
 -- What the lemmas `thread_after_*` conclude: the thread fits after its step.
 abbrev pub FitsAfter : Accounts → Machine → ℕ → Actor → Duty → List Duty → Type 0
-FitsAfter p m t a d rest = ThreadFits p (machine_by_duty m t a d rest) t
-(actor_by m.layout t a d rest (found_by m t a d))
+FitsAfter p m t a d rest =
+    ThreadFits p (machine_by_duty m t a d rest) t (actor_by m.layout t a d rest (found_by m t a d))
 
 -- The thread runs or is leaving.
 abbrev pub NotGone : Actor → Type 0
