@@ -4,6 +4,7 @@ use Rattle.std.proofs.Common.{◌≡◌, ℕ, zero, suc, ◌+◌, ◌<◌, ◌�
 use Rattle.std.specs.Prelude.{◌==◌, ◌&&◌}
 use Rattle.std.proofs.lemmas.Bool.{eq-eqb, eqb-true, ne_eqb, cases_lt}
 use Rattle.std.proofs.lemmas.Bool.Decides.{eqb_tells}
+use Rattle.brc_word.specs.declared.values.TheConstants.{EMPTY}
 use Rattle.brc_model.specs.declared.duty.Holding.{Holding}
 use Rattle.brc_model.specs.declared.duty.Holding.TheVariants.{InFlight}
 use Rattle.brc_model.specs.AbstractState.{AbstractState, without, moved, references_to, same}
@@ -39,7 +40,7 @@ fills_cell x i _ = false
 
 -- A cell that is empty stays empty, unless the step fills it.
 pub still_empty : (m : Machine) (t : ℕ) (a : Actor) (d : Duty) (x i : ℕ) → fills_cell x i d ≡ false
-    → m.memory (Cell x i) ≡ 0 → memory_after m t a d (Cell x i) ≡ 0
+    → m.memory (Cell x i) ≡ EMPTY → memory_after m t a d (Cell x i) ≡ EMPTY
 still_empty m t a (SettleCell y j k) x i off empty = zero_written ((y == x) && (j == i)) (m.memory (Cell x i)) empty
 still_empty m t a (CellSwap y j z h) x i off empty =
     ap (λ (b : Bool). cond b (z + 1) (m.memory (Cell x i))) off ∙ empty
@@ -101,8 +102,8 @@ module _ {p : Accounts} {n : ℕ} {m : Machine} {t : ℕ} {a : Actor} {rest : Li
 
 module _ {p : Accounts} {n : ℕ} {m : Machine} {t : ℕ} {a : Actor} {d : Duty} {rest : List Duty} where
   -- So an empty cell of a row that isn't live stays empty.
-  pub stays_empty : (x i : ℕ) → AtDuty p n m t a d rest → (m.life x ≡ Live → ⊥) → m.memory (Cell x i) ≡ 0
-      → memory_after m t a d (Cell x i) ≡ 0
+  pub stays_empty : (x i : ℕ) → AtDuty p n m t a d rest → (m.life x ≡ Live → ⊥) → m.memory (Cell x i) ≡ EMPTY
+      → memory_after m t a d (Cell x i) ≡ EMPTY
   stays_empty x i here dead empty = still_empty m t a d x i (dead_unfilled d x i here dead) empty
 
 -- ---- references

@@ -2,6 +2,7 @@
 use Rattle.std.proofs.Common.{◌≡◌, ◌≢◌, ℕ, ◌<◌, ◌≤◌, true, inl, inr, Some, refl, sym, ap, ◌∙◌, subst, arith}
 use Rattle.std.specs.Prelude.{◌==◌, List}
 use Rattle.std.proofs.lemmas.Bool.{eq-eqb}
+use Rattle.brc_word.specs.declared.values.TheConstants.{RUNNING, MERGED}
 use Rattle.brc_word.specs.Words.{immortal_local, owner_part, local_part, phase_part}
 use Rattle.brc_model.specs.declared.duty.Holding.{Holding}
 use Rattle.brc_model.specs.declared.duty.Reason.{Reason}
@@ -27,9 +28,9 @@ pub record LeavesRow (m new : Machine) (t : ℕ) (a after : Actor) (x : ℕ) : T
   pub layout : new.layout ≡ m.layout
   pub status : after.status ≡ a.status
   pub local : OwnsLocally m t a x → new.memory (Local x) ≡ m.memory (Local x)
-  pub merged : phase_part (m.memory (Shared x)) ≡ 3 → phase_part (new.memory (Shared x)) ≡ 3
+  pub merged : phase_part (m.memory (Shared x)) ≡ MERGED → phase_part (new.memory (Shared x)) ≡ MERGED
   pub references : HoldsAsMany m new t x
-  pub stopped : (u : ℕ) → m.memory (ThreadWord u) ≢ 1 → new.memory (ThreadWord u) ≢ 1
+  pub stopped : (u : ℕ) → m.memory (ThreadWord u) ≢ RUNNING → new.memory (ThreadWord u) ≢ RUNNING
   pub born : m.life x ≢ Unborn → new.life x ≢ Unborn
 
 -- What a step leaves unchanged of a list that a thread has locked.
@@ -71,10 +72,10 @@ module _ (m new : Machine) (t : ℕ) (a after : Actor) where
   block_kept : (x : ℕ) → LeavesIt x → block_of m.layout x ≡ t → block_of new.layout x ≡ t
   block_kept x leaves mine = ap (λ (r : Layout). block_of r x) leaves.layout ∙ mine
 
-  stopped_kept : (x : ℕ) → LeavesIt x → m.memory (ThreadWord (block_of m.layout x)) ≢ 1
-      → new.memory (ThreadWord (block_of new.layout x)) ≢ 1
+  stopped_kept : (x : ℕ) → LeavesIt x → m.memory (ThreadWord (block_of m.layout x)) ≢ RUNNING
+      → new.memory (ThreadWord (block_of new.layout x)) ≢ RUNNING
   stopped_kept x leaves stopped =
-      subst (λ (r : Layout). new.memory (ThreadWord (block_of r x)) ≢ 1) (sym leaves.layout)
+      subst (λ (r : Layout). new.memory (ThreadWord (block_of r x)) ≢ RUNNING) (sym leaves.layout)
       (leaves.stopped (block_of m.layout x) stopped)
 
   may_merge_kept : (x : ℕ) → LeavesIt x → MayMerge m t x → MayMerge new t x

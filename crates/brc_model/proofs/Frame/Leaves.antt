@@ -4,6 +4,7 @@ use Rattle.std.specs.Prelude.{◌==◌, slice_get, sum_by}
 use Rattle.std.proofs.lemmas.List.Sums.{sum_by-cons}
 use Rattle.std.proofs.lemmas.Bool.{eqb-true, eq-eqb, ne_eqb}
 use Rattle.std.proofs.lemmas.Bool.Decides.{eqb_tells}
+use Rattle.brc_word.specs.declared.values.TheConstants.{RUNNING, MERGED}
 use Rattle.brc_model.specs.declared.duty.Holding.{Holding}
 use Rattle.brc_model.specs.declared.duty.Holding.TheVariants.{InFlight}
 use Rattle.brc_word.specs.Words.{owner_part, biased_part, phase_part, fresh_word, released_word, merged_word, local_word, free_word, locked_word}
@@ -169,25 +170,25 @@ module _ {p : Accounts} {n : ℕ} {m : Machine} {t : ℕ} {a : Actor} {rest : Li
 abbrev phase_after : Machine → ℕ → ℕ → ℕ → ℕ
 phase_after m y v x = phase_part (written m.memory (Shared y) v (Shared x))
 
-phase_written : (m : Machine) (y v x : ℕ) → (phase_part (m.memory (Shared y)) ≡ 3 → phase_part v ≡ 3)
-    → phase_part (m.memory (Shared x)) ≡ 3 → phase_after m y v x ≡ 3
+phase_written : (m : Machine) (y v x : ℕ) → (phase_part (m.memory (Shared y)) ≡ MERGED → phase_part v ≡ MERGED)
+    → phase_part (m.memory (Shared x)) ≡ MERGED → phase_after m y v x ≡ MERGED
 phase_written m y v x here was =
     elim (eqb_tells y x) [
       | inl same ↦
-          let P : ℕ → Type 0 = λ z. phase_part (m.memory (Shared z)) ≡ 3 → phase_after m y v z ≡ 3 in
+          let P : ℕ → Type 0 = λ z. phase_part (m.memory (Shared z)) ≡ MERGED → phase_after m y v z ≡ MERGED in
           let itself : P y = λ w. ap phase_part (written_here m.memory (Shared y) v) ∙ here w in
           subst P same.1 itself was
       | inr other ↦ ap phase_part (written_apart m.memory (Shared y) (Shared x) v (apart_shared y x other.1)) ∙ was
     ]
 
-released_merged : (w : ℕ) → 1 ≤ biased_part w → phase_part w ≡ 3 → phase_part (released_word w) ≡ 3
+released_merged : (w : ℕ) → 1 ≤ biased_part w → phase_part w ≡ MERGED → phase_part (released_word w) ≡ MERGED
 released_merged w some phase =
     let other : (w == fresh_word) ≡ false = ne_eqb w fresh_word (λ e. absurd (omega (arith, phase, e))) in
     ap (λ (b : Bool). phase_part (cond b (w + 2) (w - 4))) other ∙ (shared_down w some).1 ∙ phase
 
 module _ {p : Accounts} {n : ℕ} {m : Machine} {t : ℕ} {a : Actor} {rest : List Duty} where
   -- A step leaves a merged row merged.
-  pub merged_left : (d : Duty) → AtDuty p n m t a d rest → (x : ℕ) → phase_part (m.memory (Shared x)) ≡ 3
+  pub merged_left : (d : Duty) → AtDuty p n m t a d rest → (x : ℕ) → phase_part (m.memory (Shared x)) ≡ MERGED
       → phase_part (written m.memory (address_of m.layout t a.head d)
       (new_word t a.head d (m.memory (address_of m.layout t a.head d))) (Shared x)) ≡ 3
   merged_left (RetainAdd y h) here x was =
@@ -197,7 +198,7 @@ module _ {p : Accounts} {n : ℕ} {m : Machine} {t : ℕ} {a : Actor} {rest : Li
   merged_left (SharedExchange y r w) here x was =
       let alive = exchange_alive y w r here in
       phase_written m y (cond (m.memory (Shared y) == w) (released_word w) (m.memory (Shared y))) x
-      (λ phase. either (λ v. phase_part v ≡ 3) (m.memory (Shared y) == w) (released_word w) (m.memory (Shared y))
+      (λ phase. either (λ v. phase_part v ≡ MERGED) (m.memory (Shared y) == w) (released_word w) (m.memory (Shared y))
       (λ won.
       let same : m.memory (Shared y) ≡ w = eqb-true (m.memory (Shared y)) w won in
       released_merged w (subst (λ (v : ℕ). 1 ≤ biased_part v) same (shared_range _ _ alive.live))
@@ -205,13 +206,13 @@ module _ {p : Accounts} {n : ℕ} {m : Machine} {t : ℕ} {a : Actor} {rest : Li
   merged_left (MergeLoad y c r) here x was = ap phase_part (written_load m.memory (Shared y) (Shared x)) ∙ was
   merged_left (MergeExchange y c w r) here x was =
       phase_written m y (cond (m.memory (Shared y) == w) (merged_word w c) (m.memory (Shared y))) x
-      (λ phase. either (λ v. phase_part v ≡ 3) (m.memory (Shared y) == w) (merged_word w c) (m.memory (Shared y))
+      (λ phase. either (λ v. phase_part v ≡ MERGED) (m.memory (Shared y) == w) (merged_word w c) (m.memory (Shared y))
       (λ won. (shared_merged w c).1) phase) was
   merged_left _ here x was = was
 
 -- ---- thread words
 
-thread_written : (m : Machine) (t u v : ℕ) → v ≢ 1 → m.memory (ThreadWord u) ≢ 1
+thread_written : (m : Machine) (t u v : ℕ) → v ≢ RUNNING → m.memory (ThreadWord u) ≢ RUNNING
     → written m.memory (ThreadWord t) v (ThreadWord u) ≢ 1
 thread_written m t u v other was =
     elim (eqb_tells t u) [
@@ -223,7 +224,7 @@ thread_written m t u v other was =
     ]
 
 -- A thread that isn't running doesn't run after the step.
-pub stopped_left : (m : Machine) (t : ℕ) (a : Actor) (d : Duty) (u : ℕ) → m.memory (ThreadWord u) ≢ 1
+pub stopped_left : (m : Machine) (t : ℕ) (a : Actor) (d : Duty) (u : ℕ) → m.memory (ThreadWord u) ≢ RUNNING
     → written m.memory (address_of m.layout t a.head d)
     (new_word t a.head d (m.memory (address_of m.layout t a.head d)))
     (ThreadWord u) ≢ 1

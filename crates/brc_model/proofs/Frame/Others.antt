@@ -5,8 +5,8 @@ use Rattle.std.proofs.lemmas.Bool.{eq-eqb, eqb-true}
 use Rattle.std.proofs.lemmas.Bool.Decides.{eqb_tells}
 use Rattle.std.proofs.lemmas.List.Sums.{sum_by-cons}
 use Rattle.std.proofs.lemmas.Option.{slice_get_within}
+use Rattle.brc_word.specs.declared.values.TheConstants.{RUNNING, MERGED, EMPTY}
 use Rattle.brc_model.specs.declared.duty.Holding.{Holding}
-use Rattle.brc_word.specs.declared.values.TheConstants.{EMPTY}
 use Rattle.brc_word.specs.Words.{phase_part}
 use Rattle.brc_model.specs.declared.duty.Duty.{Duty}
 use Rattle.brc_model.specs.declared.duty.Duty.TheVariants.{Die, Settle, SettleKind, SettleCell, TakeSlot, CloseResource, SettleEnd, Leave, Scan, Finish, ClaimMark, BirthKind, BirthSlot, BirthLocal, KindLoad, LockGate, UnlockGate, CellLoad, CellSwap, LendSlot, ReturnSlot}
@@ -33,8 +33,8 @@ pub record LeavesMemory (m new : Machine) (t : ℕ) : Type 0 where
   pub layout : new.layout ≡ m.layout
   pub locals : (u x : ℕ) (b : Actor) → u ≢ t → slice_get m.actors u ≡ Some b → OwnsLocally m u b x
       → new.memory (Local x) ≡ m.memory (Local x)
-  pub merged : (x : ℕ) → phase_part (m.memory (Shared x)) ≡ 3 → phase_part (new.memory (Shared x)) ≡ 3
-  pub stopped : (u : ℕ) → m.memory (ThreadWord u) ≢ 1 → new.memory (ThreadWord u) ≢ 1
+  pub merged : (x : ℕ) → phase_part (m.memory (Shared x)) ≡ MERGED → phase_part (new.memory (Shared x)) ≡ MERGED
+  pub stopped : (u : ℕ) → m.memory (ThreadWord u) ≢ RUNNING → new.memory (ThreadWord u) ≢ RUNNING
   pub words : (u : ℕ) → u ≢ t → new.memory (ThreadWord u) ≡ m.memory (ThreadWord u)
   pub gates : (u x : ℕ) → u ≢ t → dies_by (m.life x) u ≡ true → new.memory (Gate x) ≡ m.memory (Gate x)
   pub locks : (u x : ℕ) (b : Actor) → u ≢ t → slice_get m.actors u ≡ Some b → b.locked ≡ Some x
@@ -42,8 +42,8 @@ pub record LeavesMemory (m new : Machine) (t : ℕ) : Type 0 where
   -- The list that another thread has locked is as it was.
   pub lists : (u x : ℕ) (b : Actor) → u ≢ t → slice_get m.actors u ≡ Some b → b.locked ≡ Some x → LeavesList m new x
   -- An empty cell of a row that another thread finalises stays empty.
-  pub cells : (u x i : ℕ) → u ≢ t → dies_by (m.life x) u ≡ true → m.memory (Cell x i) ≡ 0
-      → new.memory (Cell x i) ≡ 0
+  pub cells : (u x i : ℕ) → u ≢ t → dies_by (m.life x) u ≡ true → m.memory (Cell x i) ≡ EMPTY
+      → new.memory (Cell x i) ≡ EMPTY
   -- A kind word that names a counted kind still names one.
   pub kinds : (x : ℕ) → HasCountedKind m.memory x → HasCountedKind new.memory x
   pub lives : (u x : ℕ) → u ≢ t → dies_by (new.life x) u ≡ dies_by (m.life x) u

@@ -5,6 +5,7 @@ use Rattle.std.specs.Prelude.{◌==◌, ◌&&◌, ◌⊎◌, count_by}
 use Rattle.std.specs.List.{list_any}
 use Rattle.std.proofs.lemmas.Bool.{cases_Bool}
 use Rattle.std.proofs.Math.Path.{fun_ext}
+use Rattle.brc_word.specs.declared.values.TheConstants.{EMPTY}
 use Rattle.brc_model.specs.declared.duty.Holding.TheVariants.{AsCaller}
 use Rattle.brc_model.specs.declared.address.Address.{Address}
 use Rattle.brc_model.specs.declared.address.Address.TheVariants.{KindOf, Cell}
@@ -102,7 +103,7 @@ module _ (p : Accounts) (n : ℕ) (m : Machine) (t : ℕ) (a : Actor) (x i y : �
   abbrev put : List Reference
   put = cell_reference x i y ∷ without (reference_of t AsCaller y) m.abstract.references
 
-  pub item_put : m.memory (Cell x i) ≡ 0 → i < cells_of (m.memory (KindOf x)) → MayPut (p t) a (suc y)
+  pub item_put : m.memory (Cell x i) ≡ EMPTY → i < cells_of (m.memory (KindOf x)) → MayPut (p t) a (suc y)
       → Counts (with_account p t (with_one_less (p t) AsCaller y)) n (changed m x i (suc y) put)
   item_put empty low may =
       let bag = m.abstract.references in
@@ -161,7 +162,7 @@ module _ (p : Accounts) (n : ℕ) (m : Machine) (t : ℕ) (a : Actor) (x i y : �
 
 -- ---- either step where there is no item
 
-same_memory : (memory : Address → ℕ) (x i : ℕ) → memory (Cell x i) ≡ 0 → written memory (Cell x i) 0 ≡ memory
+same_memory : (memory : Address → ℕ) (x i : ℕ) → memory (Cell x i) ≡ EMPTY → written memory (Cell x i) 0 ≡ memory
 same_memory memory x i empty =
     fun_ext (λ b. ap (λ (w : ℕ). written memory (Cell x i) w b) (sym empty) ∙ written_load memory (Cell x i) b)
 
@@ -210,7 +211,7 @@ filled m t x i w = record m {
 
 module _ {p : Accounts} {n : ℕ} {m : Machine} {t : ℕ} {a : Actor} where
   put_any : (x i w : ℕ) → Counts p n m → IsReady m t a → GuardsCells m t a x → HasNoRetainAside a
-      → m.memory (Cell x i) ≡ 0 → i < cells_of (m.memory (KindOf x)) → MayPut (p t) a w
+      → m.memory (Cell x i) ≡ EMPTY → i < cells_of (m.memory (KindOf x)) → MayPut (p t) a w
       → Counts (with_account p t (without_item (p t) w)) n (filled m t x i w)
   put_any x i zero counts ready guards retains is low may =
       subst (λ (q : Accounts). Counts q n (filled m t x i 0)) (sym (with_account_itself p t))

@@ -4,6 +4,7 @@ use Rattle.std.proofs.Common.{◌≡◌, ◌≢◌, ℕ, ◌+◌, ◌<◌, ◌�
 use Rattle.std.specs.Prelude.{◌==◌, ◌&&◌, count_by, sum_by}
 use Rattle.std.proofs.lemmas.Bool.{eqb-true}
 use Rattle.std.proofs.lemmas.List.Sums.{sum_by-cons}
+use Rattle.brc_word.specs.declared.values.TheConstants.{NOBODY}
 use Rattle.brc_model.specs.declared.duty.Holding.{Holding}
 use Rattle.brc_model.specs.declared.duty.Holding.TheVariants.{InFlight}
 use Rattle.brc_model.specs.declared.duty.Reason.TheVariants.{Own, Handed}
@@ -30,7 +31,7 @@ use Rattle.brc_model.proofs.Keeping.WorkBegins.{ready_holds}
 -- What a duty would have to find at a row that isn't born.
 record IsBlank (m : Machine) (x : ℕ) : Type 0 where
   life : m.life x ≡ Unborn
-  local : m.memory (Local x) ≡ 0
+  local : m.memory (Local x) ≡ NOBODY
   references : references_to x m.abstract.references ≡ 0
   cells : (list i : ℕ) → m.memory (Cell list i) ≢ x + 1
 
@@ -50,7 +51,7 @@ backs_none m t a x y blank is (ByItem list i locked word) = blank.cells list i (
 -- No thread owns it.
 owns_none : (m : Machine) (t : ℕ) (a : Actor) (x y : ℕ) → IsBlank m x → y ≡ x → OwnsLocally m t a y → ⊥
 owns_none m t a x y blank is owns =
-    let here : m.memory (Local y) ≡ 0 = ap (λ (z : ℕ). m.memory (Local z)) is ∙ blank.local in
+    let here : m.memory (Local y) ≡ NOBODY = ap (λ (z : ℕ). m.memory (Local z)) is ∙ blank.local in
     absurd (omega (arith, owns.owner, here))
 
 born_none : (m : Machine) (x y : ℕ) → IsBlank m x → y ≡ x → (m.life y ≡ Unborn → ⊥) → ⊥

@@ -3,6 +3,7 @@ use Rattle.std.proofs.Common.{◌≡◌, ◌≢◌, ◌⊎◌, ℕ, zero, suc, �
 use Rattle.std.specs.Prelude.{◌==◌, ◌&&◌}
 use Rattle.std.proofs.lemmas.Bool.{eq-eqb, ne_eqb, cases_lt}
 use Rattle.std.proofs.lemmas.Bool.Decides.{eqb_tells}
+use Rattle.brc_word.specs.declared.values.TheConstants.{EMPTY}
 use Rattle.brc_model.specs.declared.address.Address.TheVariants.{Cell}
 use Rattle.brc_model.specs.Layout.{row_count}
 use Rattle.brc_model.specs.Limits.{cell_limit}
@@ -178,7 +179,7 @@ module _ {p : Accounts} {n : ℕ} {m : Machine} where
   pub no_others : (x : ℕ) → Counts p n m → HasNoOthers x (row_count m.layout) m.abstract.references
   no_others x counts y i past =
       let core = counts.kept.core in
-      let empty : m.memory (Cell y i) ≡ 0 = elim past [
+      let empty : m.memory (Cell y i) ≡ EMPTY = elim past [
         | inl row ↦ elim (unborn_by (m.life y)) [
           | inl unborn ↦ empty_by (m.life y) (m.memory (Cell y i)) unborn (core.cells y i)
           | inr born ↦ absurd (omega (arith, born_within y core born, row))

@@ -7,6 +7,7 @@ use Rattle.std.proofs.lemmas.Bool.{cases_lt}
 use Rattle.std.proofs.lemmas.Bool.Decides.{eqb_tells}
 use Rattle.std.proofs.lemmas.Option.{slice_get_cases}
 use Rattle.std.proofs.lemmas.List.Sums.{sum_by-cons}
+use Rattle.brc_word.specs.declared.values.TheConstants.{EMPTY}
 use Rattle.brc_model.specs.declared.duty.Holding.{Holding}
 use Rattle.brc_model.specs.declared.duty.Holding.TheVariants.{ByVariable, AsCaller, InFlight}
 use Rattle.brc_model.specs.declared.duty.Reason.TheVariants.{Own}
@@ -179,7 +180,7 @@ module _ {p : Accounts} {n : ℕ} {m : Machine} where
   cell_there : (y i object : ℕ) → CoreInvariant p n m → HasFewCells m
       → 0 < held (cell_reference y i object) m.abstract.references → (y < row_count m.layout) × (i < cell_limit)
   cell_there y i object core few some =
-      let full : m.memory (Cell y i) ≡ 0 → ⊥ = λ empty.
+      let full : m.memory (Cell y i) ≡ EMPTY → ⊥ = λ empty.
       let none : word_holds (m.memory (Cell y i)) object ≡ 0 = ap (λ (w : ℕ). word_holds w object) empty in
       absurd (omega (arith, core.cells_hold y i object, none, some)) in (
         born_within y core

@@ -28,6 +28,7 @@ use Rattle.brc_model.proofs.Stepping.Exits.{marked_born}
 use Rattle.brc_model.specs.Limits.{cell_limit}
 use Rattle.brc_model.specs.declared.layout.Layout.{Layout}
 use Rattle.std.proofs.lemmas.Bool.{cases_Bool}
+use Rattle.brc_word.specs.declared.values.TheConstants.{SET}
 use Rattle.brc_model.specs.Layout.{row_count, block_of, row_at, is_immortal_row}
 
 -- ---- duties
@@ -146,7 +147,7 @@ module _ {p : Accounts} {n : ℕ} {m : Machine} where
             absurd (omega (arith, row.references, some))
       ])
 
-  pub marked_small : (x : ℕ) → CoreInvariant p n m → m.memory (Mark x) ≡ 1 → x < row_count m.layout
+  pub marked_small : (x : ℕ) → CoreInvariant p n m → m.memory (Mark x) ≡ SET → x < row_count m.layout
   marked_small x core set = born_within x core (marked_born x core set)
 
   -- The head of a chain is at most the number of all rows.

@@ -4,6 +4,7 @@ use Rattle.std.specs.Prelude.{◌==◌, slice_get, slice_set}
 use Rattle.std.proofs.lemmas.Bool.{ne_eqb}
 use Rattle.std.proofs.lemmas.Bool.Decides.{eqb_tells}
 use Rattle.std.proofs.lemmas.Option.{slice_get_within}
+use Rattle.brc_word.specs.declared.values.TheConstants.{EMPTY}
 use Rattle.brc_model.specs.declared.duty.Holding.{Holding}
 use Rattle.brc_model.specs.declared.duty.Duty.{Duty}
 use Rattle.brc_model.specs.declared.duty.Duty.TheVariants.{SettleKind, TakeSlot, BirthKind, BirthSlot, BirthLocal, KindLoad, LendSlot, ReturnSlot}
@@ -45,7 +46,7 @@ kind_zero m t a (SettleKind y) x apart was = written_load m.memory (KindOf y) (K
 kind_zero m t a (KindLoad y) x apart was = written_load m.memory (KindOf y) (KindOf x) ∙ was
 kind_zero m t a _ x apart was = was
 
-slot_zero : (m : Machine) (t : ℕ) (a : Actor) (d : Duty) (x : ℕ) → fills_slot d x ≡ false → m.memory (Slot x) ≡ 0
+slot_zero : (m : Machine) (t : ℕ) (a : Actor) (d : Duty) (x : ℕ) → fills_slot d x ≡ false → m.memory (Slot x) ≡ EMPTY
     → memory_by m t a d (Slot x) ≡ 0
 slot_zero m t a (BirthSlot y h) x apart was = still_zero (y == x) 1 (m.memory (Slot x)) apart was
 slot_zero m t a (ReturnSlot y) x apart was = still_zero (y == x) 1 (m.memory (Slot x)) apart was

@@ -1,6 +1,7 @@
 -- After each step too, the cells of rows without an object are empty, and so are those past an object's number of
 -- cells.
 use Rattle.std.proofs.Common.{◌≡◌, ℕ, ◌≤◌, List, inl, inr, Some, refl, sym, ◌∙◌, subst, arith}
+use Rattle.brc_word.specs.declared.values.TheConstants.{EMPTY}
 use Rattle.brc_model.specs.declared.duty.Duty.{Duty}
 use Rattle.brc_model.specs.declared.duty.Duty.TheVariants.{SettleEnd}
 use Rattle.brc_model.specs.declared.address.Address.TheVariants.{KindOf, Cell}
@@ -31,9 +32,9 @@ module _ {p : Accounts} {n : ℕ} {m : Machine} {t : ℕ} {a : Actor} {d : Duty}
 
 module _ {p : Accounts} {n : ℕ} {m : Machine} {t : ℕ} {a : Actor} {rest : List Duty} where
   -- The cells of a row are empty when it is closed.
-  ended_cell : (d : Duty) (x i : ℕ) → AtDuty p n m t a d rest → ended_row d ≡ Some x → m.memory (Cell x i) ≡ 0
+  ended_cell : (d : Duty) (x i : ℕ) → AtDuty p n m t a d rest → ended_row d ≡ Some x → m.memory (Cell x i) ≡ EMPTY
   ended_cell (SettleEnd y) x i here ended =
-      subst (λ (z : ℕ). m.memory (Cell z i) ≡ 0) (some_is y x ended) ((head_of here).3 i)
+      subst (λ (z : ℕ). m.memory (Cell z i) ≡ EMPTY) (some_is y x ended) ((head_of here).3 i)
   ended_cell _ x i here ended = absurd (none_some x ended)
 
 module _ {p : Accounts} {n : ℕ} {m : Machine} {t : ℕ} {a : Actor} {d : Duty} {rest : List Duty} where

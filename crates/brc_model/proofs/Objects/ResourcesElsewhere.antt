@@ -2,6 +2,7 @@
 use Rattle.std.proofs.Common.{◌≡◌, ◌≢◌, ℕ, ◌≤◌, Bool, true, false, cond, List, Option, Some, refl, sym, ap, ◌∙◌, subst, arith}
 use Rattle.std.specs.Prelude.{◌==◌}
 use Rattle.std.proofs.lemmas.Bool.{eq-eqb, ne_eqb, eqb-false}
+use Rattle.brc_word.specs.declared.values.TheConstants.{FULL}
 use Rattle.brc_model.specs.declared.duty.Duty.{Duty}
 use Rattle.brc_model.specs.declared.duty.Duty.TheVariants.{SettleKind, SettleCell, TakeSlot, CloseResource, SettleEnd, BirthSlot, BirthLocal, LendSlot, ReturnSlot}
 use Rattle.brc_model.specs.declared.address.Address.TheVariants.{KindOf, Slot, Resource}
@@ -110,8 +111,8 @@ module _ (p : Accounts) (n : ℕ) (m : Machine) (t : ℕ) (a : Actor) where
       → lends x (actor_by m.layout t a d rest (found_by m t a d)) ≡ lends x a
   lends_same (LendSlot y) rest x here e =
       let none = none_named a.lent x (head_of here).2 in
-      either (λ (o : Option ℕ). one_if (names o x) ≡ one_if (names a.lent x)) (m.memory (Slot y) == 1) (Some y) a.lent
-      (λ found. turned y x e ∙ sym none) refl
+      either (λ (o : Option ℕ). one_if (names o x) ≡ one_if (names a.lent x)) (m.memory (Slot y) == FULL) (Some y)
+      a.lent (λ found. turned y x e ∙ sym none) refl
   lends_same (ReturnSlot y) rest x here e =
       let lent : a.lent ≡ Some y = head_of here in
       sym (ap (λ (o : Option ℕ). one_if (names o x)) lent ∙ turned y x e)

@@ -2,6 +2,7 @@
 use Rattle.std.proofs.Common.{◌≡◌, ℕ, Bool, false, cond, List, Some, refl, sym, ap, subst, arith}
 use Rattle.std.specs.Prelude.{slice_get}
 use Rattle.std.proofs.lemmas.Bool.{eq-eqb}
+use Rattle.brc_word.specs.declared.values.TheConstants.{EMPTY, FULL}
 use Rattle.brc_model.specs.declared.duty.Duty.{Duty}
 use Rattle.brc_model.specs.declared.duty.Duty.TheVariants.{LendSlot, ReturnSlot}
 use Rattle.brc_model.specs.declared.address.Address.TheVariants.{KindOf, Slot}
@@ -29,7 +30,7 @@ module _ (p : Accounts) (n : ℕ) (m : Machine) (t : ℕ) (a : Actor) where
   kept_weights d rest x here row not = settling_kept x (closing x) (of_closing x) p n m t a d rest here row not
 
   -- A thread that is about to lend a resource finds it in its slot.
-  pub lending_finds : (x : ℕ) (rest : List Duty) → AtDuty p n m t a (LendSlot x) rest → m.memory (Slot x) ≡ 1
+  pub lending_finds : (x : ℕ) (rest : List Duty) → AtDuty p n m t a (LendSlot x) rest → m.memory (Slot x) ≡ FULL
   lending_finds x rest here =
       let head = head_of here in
       let lives = (locked_alive t a x here.core here.found head.1).life in
@@ -43,7 +44,7 @@ module _ (p : Accounts) (n : ℕ) (m : Machine) (t : ℕ) (a : Actor) where
 
   -- The slot of a resource that the thread has lent is empty.
   pub lent_leaves_none : (x : ℕ) → CoreInvariant p n m → slice_get m.actors t ≡ Some a → a.lent ≡ Some x
-      → m.memory (Slot x) ≡ 0
+      → m.memory (Slot x) ≡ EMPTY
   lent_leaves_none x core found lent =
       let locked = (core.each t a found).0.lent x lent in
       let lives = (locked_alive t a x core found locked).life in
@@ -58,7 +59,7 @@ module _ (p : Accounts) (n : ℕ) (m : Machine) (t : ℕ) (a : Actor) where
       )
 
   -- A thread that returns a resource finds the slot empty.
-  pub returning_finds : (x : ℕ) (rest : List Duty) → AtDuty p n m t a (ReturnSlot x) rest → m.memory (Slot x) ≡ 0
+  pub returning_finds : (x : ℕ) (rest : List Duty) → AtDuty p n m t a (ReturnSlot x) rest → m.memory (Slot x) ≡ EMPTY
   returning_finds x rest here = lent_leaves_none x here.core here.found (head_of here)
 
   pub after_lend : (x : ℕ) (rest : List Duty) → AtDuty p n m t a (LendSlot x) rest

@@ -4,6 +4,7 @@ use Rattle.std.specs.Prelude.{◌==◌, nat_lt, sum_by}
 use Rattle.std.proofs.lemmas.Bool.{eq-eqb, cases_Bool}
 use Rattle.std.proofs.lemmas.Bool.Decides.{eqb_tells}
 use Rattle.std.proofs.lemmas.List.Sums.{sum_by-cons}
+use Rattle.brc_word.specs.declared.values.TheConstants.{FULL}
 use Rattle.brc_model.specs.declared.duty.Duty.{Duty}
 use Rattle.brc_model.specs.declared.duty.Duty.TheVariants.{SettleKind, SettleCell, TakeSlot, CloseResource, SettleEnd}
 use Rattle.brc_model.specs.declared.address.Address.TheVariants.{KindOf, Cell, Slot, Resource}
@@ -55,7 +56,7 @@ module _ (p : Accounts) (n : ℕ) (m : Machine) (t : ℕ) (a : Actor) where
       ]
 
   -- A thread that takes the resource of a dying row out of its slot finds it there.
-  pub taking_finds : (x : ℕ) (rest : List Duty) → AtDuty p n m t a (TakeSlot x) rest → m.memory (Slot x) ≡ 1
+  pub taking_finds : (x : ℕ) (rest : List Duty) → AtDuty p n m t a (TakeSlot x) rest → m.memory (Slot x) ≡ FULL
   taking_finds x rest here =
       let d : Duty = TakeSlot x in
       let dies = (head_of here).1 in

@@ -1,5 +1,6 @@
 -- How the steps about a row's mark and the steps of a merge change the row's numbers.
 use Rattle.std.proofs.Common.{◌≡◌, ◌≢◌, ℕ, ◌+◌, ◌-◌, ◌≤◌, refl, ◌∙◌, arith}
+use Rattle.brc_word.specs.declared.values.TheConstants.{ONE_REFERENCE, MERGED}
 use Rattle.brc_word.specs.Words.{local_part, biased_part, phase_part, bias, dead_word, merged_word}
 use Rattle.brc_model.specs.RowInvariant.{Numbers, IsDefault, IsQueued, AtZero, AboveZero, InOwned, InSwapped, InMerged, IsLive, IsDead}
 use Rattle.brc_model.proofs.Objects.RowSteps.{shared_down, shared_merged, shared_range, merged_only, mode_kept}
@@ -7,7 +8,8 @@ use Rattle.brc_model.proofs.Objects.RowSteps.{shared_down, shared_merged, shared
 -- ---- the handed reference of a merged object
 
 -- `Decrements`, for a handed reference: the merged object lives on.
-pub handed_lost : (owner : ℕ) (n : Numbers) → IsLive owner n → phase_part n.shared ≡ 3 → n.shared - 4 ≢ dead_word
+pub handed_lost : (owner : ℕ) (n : Numbers) → IsLive owner n → phase_part n.shared ≡ MERGED
+    → n.shared - ONE_REFERENCE ≢ dead_word
     → 1 ≤ n.waiting
     → IsLive owner (record n { shared = n.shared - 4; waiting = n.waiting - 1 })
 handed_lost owner n live phase alive some =

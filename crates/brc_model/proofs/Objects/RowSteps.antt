@@ -1,5 +1,6 @@
 -- Each step that changes a row's counts keeps the row's invariant.
 use Rattle.std.proofs.Common.{◌≡◌, ◌≢◌, ℕ, ◌+◌, ◌-◌, ◌<◌, ◌≤◌, ◌∙◌, arith}
+use Rattle.brc_word.specs.declared.values.TheConstants.{QUEUED, MERGED}
 use Rattle.brc_word.specs.Words.{most_local, owner_part, local_part, biased_part, phase_part, bias, fresh_word, dead_word, merged_word}
 use Rattle.brc_model.specs.RowInvariant.{Numbers, IsDefault, IsQueued, AtZero, AboveZero, InOwned, InSwapped, InMerged, IsLive, IsDead, IsOwned, IsMerged, Phased, Mode}
 
@@ -20,7 +21,8 @@ pub shared_down : (w : ℕ) → 1 ≤ biased_part w
     → (biased_part (w - 4) + 1 ≡ biased_part w) × (phase_part (w - 4) ≡ phase_part w)
 shared_down w some = (omega arith, omega arith)
 
-pub shared_merged : (w c : ℕ) → (biased_part (merged_word w c) ≡ biased_part w + c) × (phase_part (merged_word w c) ≡ 3)
+pub shared_merged : (w c : ℕ)
+    → (biased_part (merged_word w c) ≡ biased_part w + c) × (phase_part (merged_word w c) ≡ MERGED)
 shared_merged w c = (omega arith, omega arith)
 
 -- ---- modes
@@ -33,12 +35,12 @@ owned_only owner n live some = elim live.mode [
   | InMerged m ↦ absurd (omega (arith, m.local, some))
 ]
 
-not_merged : (n : Numbers) → Phased n → phase_part n.shared ≡ 3 → ⊥
+not_merged : (n : Numbers) → Phased n → phase_part n.shared ≡ MERGED → ⊥
 not_merged n (IsDefault p w b) phase = absurd (omega (arith, p, phase))
 not_merged n (IsQueued p w) phase = absurd (omega (arith, p, phase))
 
 -- The shared word says that the row is merged.
-pub merged_only : (owner : ℕ) (n : Numbers) → IsLive owner n → phase_part n.shared ≡ 3 → IsMerged n
+pub merged_only : (owner : ℕ) (n : Numbers) → IsLive owner n → phase_part n.shared ≡ MERGED → IsMerged n
 merged_only owner n live phase = elim live.mode [
   | InOwned m ↦ absurd (not_merged n m.phased phase)
   | InSwapped m ↦ absurd (not_merged n m.phased phase)
@@ -48,7 +50,8 @@ merged_only owner n live phase = elim live.mode [
 -- A step that leaves the local word leaves the mode too, if the new shared word and the pending decrements fit it.
 pub mode_kept : (owner : ℕ) (n : Numbers) (shared mark references waiting : ℕ)
     → (Phased n → Phased (record n { shared = shared; mark = mark; references = references; waiting = waiting }))
-    → (IsMerged n → (phase_part shared ≡ 3) × (bias + 1 ≤ biased_part shared) × (mark + waiting ≤ 1)) → Mode owner n
+    → (IsMerged n → (phase_part shared ≡ MERGED) × (bias + 1 ≤ biased_part shared) × (mark + waiting ≤ 1))
+    → Mode owner n
     → Mode owner (record n { shared = shared; mark = mark; references = references; waiting = waiting })
 mode_kept owner n shared mark references waiting phased merged (InOwned m) = InOwned (record {
   owned = m.owned;
@@ -195,7 +198,7 @@ shared_gained owner n live =
 pub shared_queued : (owner : ℕ) (n : Numbers) → IsLive owner n → n.shared ≡ fresh_word → 1 ≤ n.references
     → IsLive owner (record n { shared = n.shared + 2; references = n.references - 1; waiting = n.waiting + 1 })
 shared_queued owner n live fresh referenced =
-    let parts : (biased_part (n.shared + 2) ≡ biased_part n.shared) × (phase_part (n.shared + 2) ≡ 2) =
+    let parts : (biased_part (n.shared + 2) ≡ biased_part n.shared) × (phase_part (n.shared + 2) ≡ QUEUED) =
     (omega (arith, fresh), omega (arith, fresh)) in
     record {
       sum = omega (arith, live.sum, parts.0, referenced);

@@ -2,6 +2,7 @@
 use Rattle.std.proofs.Common.{◌≡◌, ℕ, ◌+◌, ◌-◌, ◌≤◌, Bool, true, false, cond, List, [], ◌∷◌, ◌++◌, refl, sym, ap, ◌∙◌, subst, arith, inl, inr}
 use Rattle.std.specs.Prelude.{◌==◌}
 use Rattle.std.proofs.lemmas.List.Sums.{sum_by-append}
+use Rattle.brc_word.specs.declared.values.TheConstants.{SET, UNSET}
 use Rattle.brc_model.specs.AbstractState.{references_to}
 use Rattle.brc_model.specs.declared.duty.Reason.TheVariants.{Handed}
 use Rattle.brc_model.specs.declared.duty.Duty.{Duty}
@@ -65,14 +66,13 @@ pub record Takes (m : Machine) (t : ℕ) (a : Actor) (d : Duty) (rest : List Dut
     pub lives : (next : List Duty) → life_by m.life t d next y ≡ with_life m.life (dies_next next) (Dying t) y
     pub local : m.memory (Local y) ≡ (machine_by_duty m t a d rest).memory (Local y)
     pub shared : m.memory (Shared y) ≡ (machine_by_duty m t a d rest).memory (Shared y)
-    pub mark : (machine_by_duty m t a d rest).memory (Mark y) ≡ 0
-    pub references : references_to y m.abstract.references
-        ≡ references_to y (machine_by_duty m t a d rest).abstract.references
+    pub mark : (machine_by_duty m t a d rest).memory (Mark y) ≡ UNSET
+    pub references : references_to y m.abstract.references ≡ references_to y (machine_by_duty m t a d rest).abstract.references
 
 module _ {p : Accounts} {n : ℕ} {m : Machine} {t : ℕ} {a : Actor} {d : Duty} {rest : List Duty} where
   -- `MarkGone`, `ScanFindsNone` and `NothingToClaim`: if the mark wasn't set, the row is unchanged.
   takes_none : {tail : List Duty} {y : ℕ} → AtDuty p n m t a d rest → IsCounted m.layout y → Takes m t a d rest y tail
-      → m.memory (Mark y) ≡ 0 → KeepsRow m t a d rest y
+      → m.memory (Mark y) ≡ UNSET → KeepsRow m t a d rest y
   takes_none {tail = tail} {y = y} s some takes unset =
       let follows : following m t a d ≡ tail = takes.follows ∙ ap (λ (w : ℕ). claimed y w ++ tail) unset in
       row_stays {next = tail} {x = y} s some (record {
@@ -95,7 +95,7 @@ module _ {p : Accounts} {n : ℕ} {m : Machine} {t : ℕ} {a : Actor} {d : Duty}
   -- `MarkTakenBack`, `ScanFindsMark` and `MarkClaimed`: if the mark was set, its pending decrement goes over to the
   -- duty that merges the object.
   takes_one : {tail : List Duty} {y : ℕ} → AtDuty p n m t a d rest → IsCounted m.layout y → Takes m t a d rest y tail
-      → m.memory (Mark y) ≡ 1 → KeepsRow m t a d rest y
+      → m.memory (Mark y) ≡ SET → KeepsRow m t a d rest y
   takes_one {tail = tail} {y = y} s some takes set =
       let k = numbers_of m y in
       let follows : following m t a d ≡ hands y ++ tail = takes.follows ∙ ap (λ (w : ℕ). claimed y w ++ tail) set in
@@ -156,7 +156,7 @@ module _ {p : Accounts} {n : ℕ} {m : Machine} {t : ℕ} {a : Actor} {rest : Li
   pub row_after_take_mark : {y : ℕ} → AtDuty p n m t a (TakeMark y) rest → KeepsRow m t a (TakeMark y) rest y
   row_after_take_mark {y = y} s =
       let takes : Takes m t a (TakeMark y) rest y [] = record {
-        follows = elim (m.memory (Mark y) == 1) as (λ b. cond b (hands y) [] ≡ cond b (hands y) [] ++ []) [
+        follows = elim (m.memory (Mark y) == SET) as (λ b. cond b (hands y) [] ≡ cond b (hands y) [] ++ []) [
           | true ↦ refl
           | false ↦ refl
         ];

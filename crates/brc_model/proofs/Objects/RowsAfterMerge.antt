@@ -4,6 +4,7 @@ use Rattle.std.specs.Prelude.{◌==◌, sum_by}
 use Rattle.std.proofs.lemmas.Bool.{ne_eqb}
 use Rattle.std.proofs.lemmas.Bool.Decides.{eqb_tells}
 use Rattle.std.proofs.lemmas.List.Sums.{sum_by-cons}
+use Rattle.brc_word.specs.declared.values.TheConstants.{NOBODY}
 use Rattle.brc_word.specs.Words.{local_part, dead_word, merged_word}
 use Rattle.brc_model.specs.declared.duty.Reason.{Reason}
 use Rattle.brc_model.specs.declared.duty.Reason.TheVariants.{Own, Handed}
@@ -36,8 +37,8 @@ module _ {p : Accounts} {n : ℕ} {m : Machine} {t : ℕ} {a : Actor} {rest : Li
       let fits = head_fits_of s in
       let k = numbers_of m y in
       let c = local_part (m.memory (Local y)) in
-      let owned : (m.memory (Local y) == 0) ≡ false =
-      ne_eqb _ _ (λ (e : m.memory (Local y) ≡ 0). absurd (omega (arith, e, fits.1.owner))) in
+      let owned : (m.memory (Local y) == NOBODY) ≡ false =
+      ne_eqb _ _ (λ (e : m.memory (Local y) ≡ NOBODY). absurd (omega (arith, e, fits.1.owner))) in
       let weights = weighed s (MergeLoad y c Own ∷ []) (rw owned refl) y in
       let one = one_own y in
       let decided : 1 ≤ k.deciding = omega (arith, weights.deciding, one) in
@@ -63,8 +64,8 @@ module _ {p : Accounts} {n : ℕ} {m : Machine} {t : ℕ} {a : Actor} {d : Duty}
 
 module _ {p : Accounts} {n : ℕ} {m : Machine} {t : ℕ} {a : Actor} {rest : List Duty} where
   -- `LocalTakenOut`, for a claimed mark.
-  claims_some : {y : ℕ} → AtDuty p n m t a (MergeSwap y Handed) rest → (m.memory (Local y) == 0) ≡ false
-      → m.memory (Local y) ≢ 0 → KeepsRow m t a (MergeSwap y Handed) rest y
+  claims_some : {y : ℕ} → AtDuty p n m t a (MergeSwap y Handed) rest → (m.memory (Local y) == NOBODY) ≡ false
+      → m.memory (Local y) ≢ NOBODY → KeepsRow m t a (MergeSwap y Handed) rest y
   claims_some {y = y} s test found =
       let fits = head_fits_of s in
       let k = numbers_of m y in

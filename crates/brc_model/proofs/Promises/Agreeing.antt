@@ -1,6 +1,7 @@
 -- The invariant of a row implies that the row's counts agree.
 use Rattle.std.proofs.Common.{◌≡◌, ◌≢◌, ℕ, ◌+◌, ◌<◌, ◌≤◌, ◌⊎◌, Bool, true, false, inl, inr, refl, ap, arith}
 use Rattle.std.specs.Prelude.{◌==◌, ◌||◌}
+use Rattle.brc_word.specs.declared.values.TheConstants.{NOBODY, DEFAULT, QUEUED, MERGED}
 use Rattle.brc_word.specs.Words.{owner_part, local_part, biased_part, phase_part, bias}
 use Rattle.brc_model.specs.declared.duty.Reason.TheVariants.{Own}
 use Rattle.brc_model.specs.declared.duty.Duty.{Duty}
@@ -28,13 +29,13 @@ data LocalSays (owner : ℕ) (n : Numbers) : Type 0 where
 -- What it says of a live row.
 record LiveSays (owner : ℕ) (n : Numbers) : Type 0 where
   total : local_part n.local + biased_part n.shared + n.carried ≡ n.references + n.mark + n.waiting + bias
-  default_none : phase_part n.shared ≡ 0 → n.mark + n.waiting ≡ 0
-  default_counts : phase_part n.shared ≡ 0 → bias ≤ biased_part n.shared
-  queued_one : phase_part n.shared ≡ 2 → n.mark + n.waiting ≡ 1
-  merged_free : phase_part n.shared ≡ 3 → n.local ≡ 0
-  merged_counts : phase_part n.shared ≡ 3 → bias < biased_part n.shared
+  default_none : phase_part n.shared ≡ DEFAULT → n.mark + n.waiting ≡ 0
+  default_counts : phase_part n.shared ≡ DEFAULT → bias ≤ biased_part n.shared
+  queued_one : phase_part n.shared ≡ QUEUED → n.mark + n.waiting ≡ 1
+  merged_free : phase_part n.shared ≡ MERGED → n.local ≡ NOBODY
+  merged_counts : phase_part n.shared ≡ MERGED → bias < biased_part n.shared
   phase : IsPhase (phase_part n.shared)
-  local : phase_part n.shared ≢ 3 → LocalSays owner n
+  local : phase_part n.shared ≢ MERGED → LocalSays owner n
 
 phased_says : (owner : ℕ) (n : Numbers) → IsLive owner n → LocalSays owner n → Phased n → LiveSays owner n
 phased_says owner n live local (IsDefault p w b) = record {

@@ -23,6 +23,7 @@ use Rattle.brc_model.specs.OpenWork.{scans, Linked, dies_by, finalised}
 use Rattle.brc_model.proofs.Work.Deciders.{sum_zero}
 use Rattle.brc_model.proofs.Basics.Blocks.{born_used}
 use Rattle.std.proofs.lemmas.Bool.{cases_Bool}
+use Rattle.brc_word.specs.declared.values.TheConstants.{RUNNING, UNSET, EMPTY}
 use Rattle.brc_model.specs.Layout.{block_of, index_of, is_immortal_row, IsCounted}
 
 -- ---- each reference of a bag
@@ -42,7 +43,7 @@ pub record IsAtEnd (account : Account) (m : Machine) (t : ℕ) (a : Actor) : Typ
   pub aside : a.aside ≡ []
   pub head : a.head ≡ 0
   pub none : HoldsNone account
-  pub stopped : (m.memory (ThreadWord t) ≢ 1) ⊎ (a.used ≡ 0)
+  pub stopped : (m.memory (ThreadWord t) ≢ RUNNING) ⊎ (a.used ≡ 0)
 
 abbrev pub AreAtEnd : Accounts → Machine → Type 0
 AreAtEnd p m = (t : ℕ) (a : Actor) → slice_get m.actors t ≡ Some a → IsAtEnd (p t) m t a
@@ -70,7 +71,7 @@ module _ {p : Accounts} {n : ℕ} {m : Machine} where
   cell_open x i object core some =
       elim (cases_Bool (is_among x m.abstract.closed)) [
         | inl closed ↦
-            let empty : m.memory (Cell x i) ≡ 0 =
+            let empty : m.memory (Cell x i) ≡ EMPTY =
             subst (λ (l : Life). CellFits l (m.memory (Cell x i))) (core.closed_is x closed) (core.cells x i) in
             let none : word_holds (m.memory (Cell x i)) object ≡ 0 = ap (λ (w : ℕ). word_holds w object) empty in
             absurd (omega (arith, some, core.cells_hold x i object, none))
@@ -98,7 +99,7 @@ module _ {p : Accounts} {n : ℕ} {m : Machine} where
       omega (arith, agenda, aside))
 
   -- No mark is set, since no thread would watch it.
-  no_mark : (x : ℕ) → CoreInvariant p n m → AreAtEnd p m → m.memory (Mark x) ≡ 0
+  no_mark : (x : ℕ) → CoreInvariant p n m → AreAtEnd p m → m.memory (Mark x) ≡ UNSET
   no_mark x core done =
       elim (core.marks x) [
         | inl none ↦ none

@@ -4,6 +4,7 @@ use Rattle.std.proofs.Common.{◌≡◌, ◌≢◌, ℕ, ◌<◌, ◌≤◌, con
 use Rattle.std.specs.Prelude.{◌==◌, count_by}
 use Rattle.std.proofs.lemmas.Bool.{cases_Bool, cases_lt, eq-eqb}
 use Rattle.std.proofs.lemmas.List.Sums.{sum_by-cons}
+use Rattle.brc_word.specs.declared.values.TheConstants.{NOBODY}
 use Rattle.brc_model.specs.declared.duty.Holding.{Holding}
 use Rattle.brc_model.specs.AbstractState.{references_to}
 use Rattle.brc_model.specs.References.{one_if, reference_of}
@@ -116,7 +117,7 @@ module _ {p : Accounts} {n : ℕ} {m : Machine} where
       let one : one_if (x == x) ≡ 1 = ap one_if (eq-eqb x x refl) in
       let merging = first_weighs (merges x) m.actors t a (MergeExchange x c w Handed) rest next.found next.agenda in
       let waiting = first_weighs (waits x) m.actors t a (MergeExchange x c w Handed) rest next.found next.agenda in
-      let local : m.memory (Local x) ≡ 0 = elim live.mode [
+      let local : m.memory (Local x) ≡ NOBODY = elim live.mode [
         | InOwned s ↦ absurd (omega (arith, s.merging, merging, one))
         | InSwapped s ↦ s.local
         | InMerged s ↦ s.local

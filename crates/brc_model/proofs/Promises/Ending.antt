@@ -4,6 +4,7 @@ use Rattle.std.specs.Prelude.{◌==◌}
 use Rattle.std.proofs.lemmas.Bool.{eq-eqb, eqb-true, cases_lt}
 use Rattle.std.proofs.lemmas.Bool.Decides.{eqb_tells}
 use Rattle.std.proofs.lemmas.Option.{slice_get_within, slice_get-get_or}
+use Rattle.brc_word.specs.declared.values.TheConstants.{GONE, EMPTY}
 use Rattle.brc_word.specs.Words.{closed_word}
 use Rattle.brc_model.specs.declared.duty.Duty.{Duty}
 use Rattle.brc_model.specs.declared.address.Address.TheVariants.{Gate, KindOf, Cell, Slot, ThreadWord}
@@ -69,7 +70,7 @@ module _ (p : Accounts) (n : ℕ) (m : Machine) (counts : Counts p n m) (ended :
   at_end t a found = elim (ended t a found) [
     | inl gone ↦
         let nothing = gone_hold_nothing p n m t a counts found gone in
-        let word : m.memory (ThreadWord t) ≡ 3 = (core.each t a found).0.word ∙ ap status_word gone in
+        let word : m.memory (ThreadWord t) ≡ GONE = (core.each t a found).0.word ∙ ap status_word gone in
         record {
           agenda = nothing.agenda;
           aside = nothing.aside;
@@ -136,7 +137,7 @@ module _ (p : Accounts) (n : ℕ) (m : Machine) (counts : Counts p n m) (ended :
       held_in x one.holder one.has
 
   -- The kind word of a row that isn't born is 0, and so is its slot.
-  pub blank_row : (x : ℕ) → m.life x ≡ Unborn → (m.memory (KindOf x) ≡ 0) × (m.memory (Slot x) ≡ 0)
+  pub blank_row : (x : ℕ) → m.life x ≡ Unborn → (m.memory (KindOf x) ≡ 0) × (m.memory (Slot x) ≡ EMPTY)
   blank_row x unborn =
       let t = block_of m.layout x in
       let within = block_within m.layout x core.some_rows in

@@ -5,6 +5,7 @@ use Rattle.std.specs.Prelude.{◌==◌, ◌&&◌, slice_get}
 use Rattle.std.proofs.lemmas.Option.{slice_get_within}
 use Rattle.std.proofs.lemmas.Bool.{eq-eqb}
 use Rattle.std.proofs.lemmas.Bool.Decides.{eqb_tells}
+use Rattle.brc_word.specs.declared.values.TheConstants.{RUNNING}
 use Rattle.brc_word.specs.Words.{local_word}
 use Rattle.brc_model.specs.declared.duty.Duty.{Duty}
 use Rattle.brc_model.specs.declared.duty.Duty.TheVariants.{RetainLoad, RetainStore, ReleaseLoad, ReleaseStore, MergeSwap, SettleCell, CellLoad, CellSwap, BirthSlot, BirthLocal, TakeSlot, LendSlot, ReturnSlot}
@@ -233,7 +234,7 @@ by_local m t x y word may changed = elim (eqb_tells y x) [
 
 module _ {p : Accounts} {n : ℕ} {m : Machine} {t : ℕ} {a : Actor} {d : Duty} {rest : List Duty} where
   -- A thread that runs has the word of a running thread.
-  runs_word : (u : ℕ) → AtDuty p n m t a d rest → Runs m u → m.memory (ThreadWord u) ≡ 1
+  runs_word : (u : ℕ) → AtDuty p n m t a d rest → Runs m u → m.memory (ThreadWord u) ≡ RUNNING
   runs_word u here (b, found, runs) = (here.core.each u b found).0.word ∙ ap status_word runs
 
 module _ {p : Accounts} {n : ℕ} {m : Machine} {t : ℕ} {a : Actor} {rest : List Duty} where

@@ -2,6 +2,7 @@
 use Rattle.std.proofs.Common.{◌≡◌, ℕ, ◌+◌, ◌-◌, ◌<◌, Bool, true, List, inl, inr, refl, sym, ap, ◌∙◌, subst, arith}
 use Rattle.std.specs.Prelude.{◌==◌, ◌&&◌}
 use Rattle.std.proofs.lemmas.Bool.{cases_Bool, eqb-true, ne_eqb}
+use Rattle.brc_word.specs.declared.values.TheConstants.{UNSET}
 use Rattle.brc_lang.specs.declared.module.Module.{Module}
 use Rattle.brc_word.specs.Words.{immortal_local, local_part, is_immortal_word, dying_word, closed_word, free_word}
 use Rattle.brc_model.specs.declared.thread.Choice.{Choice}
@@ -196,7 +197,7 @@ immortals_shown n = record {
 
 module _ {p : Accounts} {n : ℕ} {m : Machine} where
   -- An immortal object's mark is never set.
-  immortal_mark : (x : ℕ) → CoreInvariant p n m → is_immortal_row m.layout x ≡ true → m.memory (Mark x) ≡ 0
+  immortal_mark : (x : ℕ) → CoreInvariant p n m → is_immortal_row m.layout x ≡ true → m.memory (Mark x) ≡ UNSET
   immortal_mark x core immortal = elim (core.marks x) [
     | inl none ↦ none
     | inr set ↦ absurd (immortal_apart m.layout x x set.1 immortal refl)

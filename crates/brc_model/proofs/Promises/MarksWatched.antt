@@ -3,6 +3,7 @@ use Rattle.std.proofs.Common.{◌≡◌, ◌≢◌, ℕ, ◌+◌, ◌<◌, Bool,
 use Rattle.std.specs.Prelude.{◌&&◌, ◌||◌, nat_le, nat_lt, slice_get}
 use Rattle.std.specs.List.{list_any}
 use Rattle.std.proofs.lemmas.Bool.{lt-ltb}
+use Rattle.brc_word.specs.declared.values.TheConstants.{RUNNING, SET, UNSET}
 use Rattle.brc_lang.specs.declared.module.Module.{Module}
 use Rattle.brc_lang.specs.Grammar.{IsModule}
 use Rattle.brc_model.specs.Paths.{IsAcceptable}
@@ -41,7 +42,8 @@ status_runs Gone e = absurd (omega (arith, e))
 
 module _ {p : Accounts} {n : ℕ} {m : Machine} where
   -- A marked row was born, so the thread of its block exists.
-  by_running : (x : ℕ) → CoreInvariant p n m → m.memory (Mark x) ≡ 1 → m.memory (ThreadWord (block_of m.layout x)) ≡ 1
+  by_running : (x : ℕ) → CoreInvariant p n m → m.memory (Mark x) ≡ SET
+      → m.memory (ThreadWord (block_of m.layout x)) ≡ RUNNING
       → IsWatched m x
   by_running x core marked word =
       let used = born_used x core (marked_born x core marked) in
@@ -96,7 +98,7 @@ exit_scans a Running x fits low e = agenda_scans a.used Running x a.agenda fits 
 exit_scans a Leaving x fits low e = agenda_scans a.used Leaving x a.agenda fits low e
 
 module _ {p : Accounts} {n : ℕ} {m : Machine} where
-  by_exit : (x : ℕ) (a : Actor) → CoreInvariant p n m → m.memory (Mark x) ≡ 1
+  by_exit : (x : ℕ) (a : Actor) → CoreInvariant p n m → m.memory (Mark x) ≡ SET
       → slice_get m.actors (block_of m.layout x) ≡ Some a
       → scans (index_of m.layout (block_of m.layout x) x) a.agenda ≡ true → IsWatched m x
   by_exit x a core marked found e =
@@ -120,13 +122,13 @@ by_look m x weighs =
 -- ---- all marks
 
 module _ {p : Accounts} {n : ℕ} {m : Machine} where
-  watched_so : (x : ℕ) → CoreInvariant p n m → m.memory (Mark x) ≡ 1 → core.IsWatched m x → IsWatched m x
+  watched_so : (x : ℕ) → CoreInvariant p n m → m.memory (Mark x) ≡ SET → core.IsWatched m x → IsWatched m x
   watched_so x kept marked (core.ByRunning word) = by_running x kept marked word
   watched_so x kept marked (core.ByExit a found e) = by_exit x a kept marked found e
   watched_so x kept marked (core.ByLook weighs) = by_look m x weighs
 
   -- A mark that is set is watched, whatever code the threads run.
-  pub mark_watched : (x : ℕ) → CoreInvariant p n m → m.memory (Mark x) ≢ 0 → IsWatched m x
+  pub mark_watched : (x : ℕ) → CoreInvariant p n m → m.memory (Mark x) ≢ UNSET → IsWatched m x
   mark_watched x kept set =
       elim (kept.marks x) [
         | inl none ↦ absurd (set none)

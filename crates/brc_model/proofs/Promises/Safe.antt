@@ -1,5 +1,6 @@
 -- The invariant implies what an accepted module promises, so each accepted module is safe.
 use Rattle.std.proofs.Common.{◌≡◌, ℕ, ◌+◌, ◌<◌, true, List, inl, length, refl, ap, ◌∙◌, subst, arith, ◌≤◌, Option}
+use Rattle.brc_word.specs.declared.values.TheConstants.{GONE}
 use Rattle.brc_lang.specs.declared.module.Module.{Module}
 use Rattle.brc_lang.specs.Grammar.{IsModule}
 use Rattle.brc_model.specs.declared.thread.Call.{Call}
@@ -44,7 +45,7 @@ module _ {p : Accounts} {n : ℕ} {m : Machine} where
       let fits : AgendaFits a Gone = subst (λ (s : Status). AgendaFits a s) status (core.each t a found).1 in
       let old = (core.each t a found).0 in
       let left = old.exited (ap (λ (s : Status). exits s a.agenda) status) in
-      let word : m.memory (ThreadWord t) ≡ 3 = old.word ∙ ap status_word status in
+      let word : m.memory (ThreadWord t) ≡ GONE = old.word ∙ ap status_word status in
       record {
         agenda = fits.0;
         aside = left.1;

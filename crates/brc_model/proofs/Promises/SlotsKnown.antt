@@ -6,6 +6,7 @@ use Rattle.std.proofs.Common.{◌≡◌, ◌≢◌, ℕ, Bool, cond, List, inl, 
 use Rattle.std.specs.Prelude.{◌==◌, slice_get}
 use Rattle.std.proofs.lemmas.Bool.{eq-eqb}
 use Rattle.std.proofs.lemmas.Bool.Decides.{eqb_tells}
+use Rattle.brc_word.specs.declared.values.TheConstants.{EMPTY}
 use Rattle.brc_word.specs.Words.{closed_word}
 use Rattle.brc_model.specs.declared.duty.Holding.{Holding}
 use Rattle.brc_model.specs.declared.duty.Duty.{Duty}
@@ -39,7 +40,7 @@ use Rattle.brc_model.proofs.Promises.Ending.{at_end, is_closed, blank_row}
 module _ (p : Accounts) (n : ℕ) (m : Machine) (t : ℕ) (a : Actor) where
   -- The slot of the row that is born next is empty.
   unborn_slot : (x : ℕ) (h : Holding) (w : ℕ) (rest : List Duty) → AtDuty p n m t a (BirthKind x h w) rest
-      → m.memory (Slot x) ≡ 0
+      → m.memory (Slot x) ≡ EMPTY
   unborn_slot x h w rest here =
       let next = (head_of here).0 in
       (blanks_here here).slots x (next_block m t a x next) (omega (arith, next_index m t a x next)) refl
@@ -65,7 +66,7 @@ module _ (p : Accounts) (n : ℕ) (m : Machine) (t : ℕ) (a : Actor) where
       omega (arith, fit.placed, none_closing, unclosed, unlent)
 
   -- The resource of a row that the thread closes is closed, so the slot is empty.
-  closing_slot : (x : ℕ) (rest : List Duty) → AtDuty p n m t a (SettleEnd x) rest → m.memory (Slot x) ≡ 0
+  closing_slot : (x : ℕ) (rest : List Duty) → AtDuty p n m t a (SettleEnd x) rest → m.memory (Slot x) ≡ EMPTY
   closing_slot x rest here =
       let d : Duty = SettleEnd x in
       let dies = (head_of here).1 in
@@ -119,7 +120,7 @@ module _ (p : Accounts) (n : ℕ) (m : Machine) (x : ℕ) (counts : Counts p n m
   none_lends = sum_zero (lends x) m.actors (λ u b found. none_named b.lent x (all_returned u b found))
 
   -- The slot of a closed row is empty.
-  closed_slot : m.memory (Gate x) ≡ closed_word → m.memory (Slot x) ≡ 0
+  closed_slot : m.memory (Gate x) ≡ closed_word → m.memory (Slot x) ≡ EMPTY
   closed_slot closed =
       let fit : ResourcesFit Closed (resources_at m x) =
       subst (λ (l : Life). ResourcesFit l (resources_at m x)) (is_closed p n m counts ended x closed)

@@ -5,6 +5,7 @@ use Rattle.std.specs.Prelude.{◌==◌, slice_get, slice_set, map}
 use Rattle.std.proofs.Math.Path.{fun_ext}
 use Rattle.std.proofs.lemmas.Option.{slice_get_within}
 use Rattle.std.proofs.lemmas.Bool.{eqb-true, not-false}
+use Rattle.brc_word.specs.declared.values.TheConstants.{UNSET}
 use Rattle.brc_lang.specs.declared.module.Module.{Module}
 use Rattle.brc_model.specs.declared.thread.Choice.{Choice}
 use Rattle.brc_model.specs.declared.thread.Choice.TheVariants.{Ok, Fault, Claim, Stop}
@@ -189,14 +190,14 @@ claim_is w t a row may found is =
     ∙ ap (λ (b : Bool). world_of (machine_by (machine_of w) t a Success (claimed row a b))) is
 
 pub claim_moves : (w : World) (t : ℕ) (a : StepActor) (row : ℕ) → slice_get w.actors t ≡ Some a
-    → may_claim w.layout t a row ≡ true → w.memory (Mark row) ≢ 0 → step w t (Claim row) ≢ w
+    → may_claim w.layout t a row ≡ true → w.memory (Mark row) ≢ UNSET → step w t (Claim row) ≢ w
 claim_moves w t a row found may marked e =
     let done : world_of (does_by (machine_of w) t a Success (ClaimMark row) [] (always a.place)) ≡ w =
     sym (claim_is w t a row true found may) ∙ e in
     marked (sym (ap (λ (v : World). v.memory (Mark row)) done) ∙ written_here w.memory (Mark row) 0)
 
 -- Clearing a mark that isn't set leaves memory unchanged.
-unmarked_stays : (memory : Address → ℕ) (row : ℕ) → memory (Mark row) ≡ 0 → written memory (Mark row) 0 ≡ memory
+unmarked_stays : (memory : Address → ℕ) (row : ℕ) → memory (Mark row) ≡ UNSET → written memory (Mark row) 0 ≡ memory
 unmarked_stays memory row none =
     fun_ext (λ (b : Address). ap (λ (word : ℕ). written memory (Mark row) word b) (sym none)
     ∙ written_load memory (Mark row) b)
@@ -208,8 +209,8 @@ none_claimed head row found empty none =
     ∙ ap (λ (h : ℕ). ready h (Settle ∷ [])) empty
 
 miss_stays : (w : World) (t : ℕ) (a : StepActor) (row : ℕ) → slice_get w.actors t ≡ Some a → a.actor.agenda ≡ []
-    → a.actor.head ≡ 0
-    → w.memory (Mark row) ≡ 0 → world_of (does_by (machine_of w) t a Success (ClaimMark row) [] (always a.place)) ≡ w
+    → a.actor.head ≡ 0 → w.memory (Mark row) ≡ UNSET
+    → world_of (does_by (machine_of w) t a Success (ClaimMark row) [] (always a.place)) ≡ w
 miss_stays w t a row found rest empty none =
     let agenda = none_claimed a.actor.head row (w.memory (Mark row)) empty none ∙ sym rest in
     let same : step_actor w.layout t a (ClaimMark row) [] a.place (w.memory (Mark row)) ≡ a =
@@ -221,7 +222,7 @@ miss_stays w t a row found rest empty none =
     λ i. record w { memory = memory i; actors = actors i }
 
 pub claim_misses : (p : Module) (w : World) (t : ℕ) (a : StepActor) (row : ℕ) → IsReachable p w
-    → slice_get w.actors t ≡ Some a → may_claim w.layout t a row ≡ true → w.memory (Mark row) ≡ 0
+    → slice_get w.actors t ≡ Some a → may_claim w.layout t a row ≡ true → w.memory (Mark row) ≡ UNSET
     → step w t (Claim row) ≡ w
 claim_misses p w t a row here found may none =
     let rest = (claimer w.layout t a row may).agenda in

@@ -2,6 +2,7 @@
 use Rattle.std.proofs.Common.{◌≡◌, ◌≤◌, ◌<◌, ℕ, Bool, true, false, cond, List, [], ◌∷◌, inl, inr, refl, sym, ap, ◌∙◌, subst, arith}
 use Rattle.std.specs.Prelude.{◌==◌}
 use Rattle.std.proofs.lemmas.Bool.Decides.{eqb_tells}
+use Rattle.brc_word.specs.declared.values.TheConstants.{EMPTY}
 use Rattle.brc_model.specs.declared.duty.Holding.{Holding}
 use Rattle.brc_model.specs.declared.duty.Duty.{Duty}
 use Rattle.brc_model.specs.declared.duty.Duty.TheVariants.{BirthKind, BirthSlot, BirthLocal}
@@ -51,7 +52,7 @@ module _ {p : Accounts} {n : ℕ} {m : Machine} {t : ℕ} {a : Actor} {rest : Li
       let new = machine_by_duty m t a d rest in
       let said : HasCountedKind new.memory x =
       ap (λ (v : ℕ). is_counted_kind (kind_of_word v)) (written_here m.memory (KindOf x) w) ∙ fits.2 in
-      let empty : m.memory (Slot x) ≡ 0 = (blanks_here here).slots x (next_block m t a x fits.0)
+      let empty : m.memory (Slot x) ≡ EMPTY = (blanks_here here).slots x (next_block m t a x fits.0)
       (omega (arith, next_index m t a x fits.0)) refl in
       elim (has_resource w) as (λ b. has_resource w ≡ b → FitsAfter p m t a d rest) [
         | true ↦ λ e.

@@ -3,6 +3,7 @@
 use Rattle.std.proofs.Common.{◌≡◌, ℕ, ◌+◌, ◌-◌, Bool, true, false, cond, List, [], ◌∷◌, ◌++◌, inl, inr, None, refl, ap, ◌∙◌, subst, arith, ◌≢◌}
 use Rattle.std.specs.Prelude.{◌==◌}
 use Rattle.std.proofs.lemmas.Bool.{eqb-true}
+use Rattle.brc_word.specs.declared.values.TheConstants.{SET}
 use Rattle.brc_model.specs.declared.duty.Holding.{Holding}
 use Rattle.brc_model.specs.declared.duty.Reason.TheVariants.{Handed}
 use Rattle.brc_model.specs.declared.duty.Duty.{Duty}
@@ -36,14 +37,14 @@ use Rattle.brc_model.proofs.Stepping.Steps.{own_steady, is_steady}
 
 module _ {p : Accounts} {n : ℕ} {m : Machine} where
   -- A marked row is counted.
-  pub mark_above : (x : ℕ) → CoreInvariant p n m → m.memory (Mark x) ≡ 1 → IsCounted m.layout x
+  pub mark_above : (x : ℕ) → CoreInvariant p n m → m.memory (Mark x) ≡ SET → IsCounted m.layout x
   mark_above x core marked = elim (core.marks x) [
     | inl none ↦ absurd (omega (arith, none, marked))
     | inr some ↦ some.1
   ]
 
   -- A marked row was born.
-  pub marked_born : (x : ℕ) → CoreInvariant p n m → m.memory (Mark x) ≡ 1 → m.life x ≢ Unborn
+  pub marked_born : (x : ℕ) → CoreInvariant p n m → m.memory (Mark x) ≡ SET → m.life x ≢ Unborn
   marked_born x core marked = λ unborn.
       let row =
       subst (λ (l : Life). RowInvariant (block_of m.layout x) l (numbers_of m x)) unborn
@@ -60,7 +61,7 @@ record ClaimStep (m : Machine) (t : ℕ) (a : Actor) (d : Duty) (x : ℕ) (rest 
   held : (agenda : List Duty) → ((h : Holding) (object : ℕ) → extra_of agenda h object ≡ false)
       → ((h : Holding) (object : ℕ) → lacks_of agenda h object ≡ false)
       → HeldStep m.abstract.references (bag_by m t a d) t (d ∷ rest) agenda
-  block : m.memory (Mark x) ≡ 1 → block_of m.layout x ≡ t
+  block : m.memory (Mark x) ≡ SET → block_of m.layout x ≡ t
   later : Later a.used a.status (behind ++ rest)
   knows : (new : Machine) → AllBehind new t rest → AllBehind new t (behind ++ rest)
 
@@ -68,9 +69,9 @@ module _ {p : Accounts} {n : ℕ} {m : Machine} {t : ℕ} {a : Actor} {d : Duty}
   claim_step : (x : ℕ) (behind : List Duty) → AtDuty p n m t a d rest → NotGone a → is_steady d ≡ true
       → ClaimStep m t a d x rest behind → FitsAfter p m t a d rest
   claim_step x behind here alive steady step =
-      elim (m.memory (Mark x) == 1) as (λ b. (m.memory (Mark x) == 1) ≡ b → FitsAfter p m t a d rest) [
+      elim (m.memory (Mark x) == SET) as (λ b. (m.memory (Mark x) == SET) ≡ b → FitsAfter p m t a d rest) [
         | true ↦ λ e.
-            let marked : m.memory (Mark x) ≡ 1 = eqb-true (m.memory (Mark x)) 1 e in
+            let marked : m.memory (Mark x) ≡ SET = eqb-true (m.memory (Mark x)) 1 e in
             let above = mark_above x here.core marked in
             own_steady (MergeSwap x Handed ∷ behind) (MergeSwap x Handed ∷ (behind ++ rest)) here alive steady (record {
               next_is = step.next_is ∙ ap (λ (b : Bool). cond b (MergeSwap x Handed ∷ []) [] ++ behind) e;

@@ -1,6 +1,7 @@
 -- A resource stays lent to the thread that has locked its object.
 use Rattle.std.proofs.Common.{◌≡◌, ℕ, true, false, cond, List, Some, sym, ◌∙◌}
 use Rattle.std.specs.Prelude.{◌==◌}
+use Rattle.brc_word.specs.declared.values.TheConstants.{FULL}
 use Rattle.brc_model.specs.declared.duty.Duty.{Duty}
 use Rattle.brc_model.specs.declared.duty.Duty.TheVariants.{LockGate, UnlockGate, LendSlot, ReturnSlot}
 use Rattle.brc_model.specs.declared.address.Address.TheVariants.{Slot}
@@ -22,7 +23,7 @@ module _ {p : Accounts} {n : ℕ} {m : Machine} {t : ℕ} {a : Actor} {rest : Li
   lent_after (UnlockGate y) here x e = absurd (none_some x (sym (head_of here).4 ∙ e))
   lent_after (LendSlot y) here x e =
       let fits = head_of here in
-      elim (m.memory (Slot y) == 1) as (λ b. cond b (Some y) a.lent ≡ Some x → a.locked ≡ Some x) [
+      elim (m.memory (Slot y) == FULL) as (λ b. cond b (Some y) a.lent ≡ Some x → a.locked ≡ Some x) [
         | true ↦ λ is. fits.1 ∙ is
         | false ↦ λ is. absurd (none_some x (sym fits.2 ∙ is))
       ] e

@@ -6,6 +6,7 @@
 use Rattle.std.proofs.Common.{◌≡◌, ℕ, ◌<◌, ◌≤◌, Bool, true, List, [], ◌∷◌, refl, sym, ap, ◌∙◌, subst, arith, Option}
 use Rattle.std.specs.Prelude.{◌==◌}
 use Rattle.std.proofs.lemmas.Bool.{eq-eqb}
+use Rattle.brc_word.specs.declared.values.TheConstants.{UNSET, NOBODY}
 use Rattle.brc_model.specs.declared.duty.Duty.{Duty}
 use Rattle.brc_model.specs.declared.duty.Duty.TheVariants.{RetainStore, ReleaseStore, SetMark, Die, SettleEnd, Leave, Finish, BirthKind, BirthSlot, BirthLocal, UnlockGate, ReturnSlot}
 use Rattle.brc_model.specs.declared.address.Address.{Address}
@@ -85,7 +86,7 @@ phased_free n (IsQueued phase one) some = omega (arith, one, some)
 
 module _ {p : Accounts} {n : ℕ} {m : Machine} {t : ℕ} {a : Actor} {rest : List Duty} where
   -- At most one decrement is pending, and it is the one that this duty is about to queue. So the mark is clear.
-  mark_free : (x : ℕ) → AtDuty p n m t a (SetMark x) rest → m.memory (Mark x) ≡ 0
+  mark_free : (x : ℕ) → AtDuty p n m t a (SetMark x) rest → m.memory (Mark x) ≡ UNSET
   mark_free x here =
       let one : one_if (x == x) ≡ 1 = ap one_if (eq-eqb x x refl) in
       let weighs = first_weighs (waits x) m.actors t a (SetMark x) rest here.found here.agenda in
@@ -131,7 +132,7 @@ next_unused : (m : Machine) (t : ℕ) (a : Actor) (x : ℕ) → IsNext m t a x �
 next_unused m t a x next = omega (arith, next_index m t a x next)
 
 module _ {p : Accounts} {n : ℕ} {m : Machine} {t : ℕ} {a : Actor} {d : Duty} {rest : List Duty} where
-  next_local : (x : ℕ) → AtDuty p n m t a d rest → IsNext m t a x → m.memory (Local x) ≡ 0
+  next_local : (x : ℕ) → AtDuty p n m t a d rest → IsNext m t a x → m.memory (Local x) ≡ NOBODY
   next_local x here next =
       let above = next_counted m t a x next in
       (subst (λ (l : Life). RowInvariant (block_of m.layout x) l (numbers_of m x))

@@ -4,6 +4,7 @@ use Rattle.std.specs.Prelude.{◌==◌, slice_get}
 use Rattle.std.proofs.lemmas.Bool.{eq-eqb}
 use Rattle.std.proofs.lemmas.Bool.Decides.{eqb_tells}
 use Rattle.std.proofs.lemmas.List.Sums.{sum_by-cons}
+use Rattle.brc_word.specs.declared.values.TheConstants.{NOBODY, MERGED}
 use Rattle.brc_word.specs.Words.{phase_part}
 use Rattle.brc_model.specs.declared.duty.Reason.{Reason}
 use Rattle.brc_model.specs.declared.duty.Reason.TheVariants.{Own, Handed}
@@ -121,8 +122,8 @@ module _ {p : Accounts} {n : ℕ} {m : Machine} {t : ℕ} {a : Actor} {rest : Li
       (merger_of other.who x other.which here.core other.found other.some) phased
 
   -- If the local word is 0, a thread that claimed the row's mark finds the row merged.
-  pub swapped_apart : (x : ℕ) → AtDuty p n m t a (MergeSwap x Handed) rest → m.memory (Local x) ≡ 0
-      → phase_part (m.memory (Shared x)) ≡ 3
+  pub swapped_apart : (x : ℕ) → AtDuty p n m t a (MergeSwap x Handed) rest → m.memory (Local x) ≡ NOBODY
+      → phase_part (m.memory (Shared x)) ≡ MERGED
   swapped_apart x here none =
       elim (claim_alive x here).live.mode [
         | InOwned o ↦ absurd (omega (arith, o.owned, none))

@@ -4,6 +4,7 @@ use Rattle.std.specs.Prelude.{◌==◌, slice_get, sum_by}
 use Rattle.std.proofs.lemmas.Bool.{eqb-true, ne_eqb, leb-true, le-leb}
 use Rattle.std.proofs.lemmas.Bool.Decides.{eqb_tells}
 use Rattle.std.proofs.lemmas.List.Sums.{sum_by-cons}
+use Rattle.brc_word.specs.declared.values.TheConstants.{RUNNING, LEAVING, SET, UNSET}
 use Rattle.brc_model.specs.declared.duty.Duty.{Duty}
 use Rattle.brc_model.specs.declared.duty.Duty.TheVariants.{SetMark, Look, TakeMark, Settle, SettleCell, SettleEnd, Leave, Scan, Finish, ClaimMark}
 use Rattle.brc_model.specs.declared.address.Address.TheVariants.{Mark, ThreadWord}
@@ -177,7 +178,7 @@ module _ {p : Accounts} {n : ℕ} {m : Machine} {t : ℕ} {a : Actor} {rest : Li
 module _ {p : Accounts} {n : ℕ} {m : Machine} where
   -- A marked row is among the rows that the thread of its block has used.
   pub marked_within : (t : ℕ) (a : Actor) (x : ℕ) → CoreInvariant p n m → slice_get m.actors t ≡ Some a
-      → m.memory (Mark x) ≡ 1 → block_of m.layout x ≡ t → index_of m.layout t x < a.used
+      → m.memory (Mark x) ≡ SET → block_of m.layout x ≡ t → index_of m.layout t x < a.used
   marked_within t a x core found marked block =
       let used = born_used x core (marked_born x core marked) in
       let it : used.by ≡ a = some_is used.by a (sym used.found ∙ ap (slice_get m.actors) block ∙ found) in
@@ -195,8 +196,8 @@ mine_after m t a d rest x found block e =
     (ap (λ (u : ℕ). scans (index_of m.layout u x) after.agenda) block ∙ e)
 
 running_after : (p : Accounts) (n : ℕ) (m : Machine) (t : ℕ) (a : Actor) (d : Duty) (rest : List Duty) (x : ℕ)
-    → AtDuty p n m t a d rest → (a.status ≡ Gone → ⊥) → m.memory (Mark x) ≡ 1
-    → m.memory (ThreadWord (block_of m.layout x)) ≡ 1 → IsWatched (machine_by_duty m t a d rest) x
+    → AtDuty p n m t a d rest → (a.status ≡ Gone → ⊥) → m.memory (Mark x) ≡ SET
+    → m.memory (ThreadWord (block_of m.layout x)) ≡ RUNNING → IsWatched (machine_by_duty m t a d rest) x
 running_after p n m t a (Leave y k) [] x here alive marked runs =
     elim (eqb_tells (block_of m.layout x) t) [
       | inl same ↦
@@ -212,8 +213,8 @@ running_after p n m t a Finish [] x here alive marked runs =
     elim (eqb_tells (block_of m.layout x) t) [
       | inl same ↦
           let fits = agenda_here here alive in
-          let word : m.memory (ThreadWord t) ≡ 2 = (here.core.each t a here.found).0.word ∙ ap status_word fits in
-          let still : m.memory (ThreadWord t) ≡ 1 = ap (λ (z : ℕ). m.memory (ThreadWord z)) (sym same.1) ∙ runs in
+          let word : m.memory (ThreadWord t) ≡ LEAVING = (here.core.each t a here.found).0.word ∙ ap status_word fits in
+          let still : m.memory (ThreadWord t) ≡ RUNNING = ap (λ (z : ℕ). m.memory (ThreadWord z)) (sym same.1) ∙ runs in
           absurd (omega (arith, word, still))
       | inr other ↦ ByRunning (words_left m t a Finish (block_of m.layout x) other.1 ∙ runs)
     ]
@@ -223,8 +224,8 @@ running_after p n m t a (Look y) rest x here alive marked runs =
 running_after p n m t a _ rest x here alive marked runs = ByRunning runs
 
 module _ {p : Accounts} {n : ℕ} {m : Machine} {t : ℕ} {a : Actor} {d : Duty} {rest : List Duty} where
-  exit_after : (x : ℕ) (b : Actor) → AtDuty p n m t a d rest → NotGone a → m.memory (Mark x) ≡ 1 → Spares m.layout t d x
-      → slice_get m.actors (block_of m.layout x) ≡ Some b
+  exit_after : (x : ℕ) (b : Actor) → AtDuty p n m t a d rest → NotGone a → m.memory (Mark x) ≡ SET
+      → Spares m.layout t d x → slice_get m.actors (block_of m.layout x) ≡ Some b
       → scans (index_of m.layout (block_of m.layout x) x) b.agenda ≡ true → IsWatched (machine_by_duty m t a d rest) x
   exit_after x b here alive marked spares found e =
       elim (eqb_tells (block_of m.layout x) t) [
@@ -243,7 +244,7 @@ module _ {p : Accounts} {n : ℕ} {m : Machine} {t : ℕ} {a : Actor} {d : Duty}
             (actor_by m.layout t a d rest (found_by m t a d)) other.1 ∙ found) e
       ]
 
-  watched_after : (x : ℕ) → AtDuty p n m t a d rest → NotGone a → m.memory (Mark x) ≡ 1 → Spares m.layout t d x
+  watched_after : (x : ℕ) → AtDuty p n m t a d rest → NotGone a → m.memory (Mark x) ≡ SET → Spares m.layout t d x
       → IsWatched m x → IsWatched (machine_by_duty m t a d rest) x
   watched_after x here alive marked spares (ByRunning runs) = running_after p n m t a d rest x here alive marked runs
   watched_after x here alive marked spares (ByExit b found e) = exit_after x b here alive marked spares found e
@@ -252,7 +253,7 @@ module _ {p : Accounts} {n : ℕ} {m : Machine} {t : ℕ} {a : Actor} {d : Duty}
 -- ---- all marks
 
 abbrev pub MarkFits : Machine → ℕ → Type 0
-MarkFits m x = (m.memory (Mark x) ≡ 0) ⊎ ((m.memory (Mark x) ≡ 1) × (IsCounted m.layout x) × IsWatched m x)
+MarkFits m x = (m.memory (Mark x) ≡ UNSET) ⊎ ((m.memory (Mark x) ≡ SET) × (IsCounted m.layout x) × IsWatched m x)
 
 module _ {p : Accounts} {n : ℕ} {m : Machine} {t : ℕ} {a : Actor} {d : Duty} {rest : List Duty} where
   mark_kept : (x : ℕ) → AtDuty p n m t a d rest → NotGone a → Spares m.layout t d x
