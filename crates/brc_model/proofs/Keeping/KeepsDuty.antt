@@ -32,7 +32,8 @@ use Rattle.brc_model.specs.Layout.{IsCounted}
 
 module _ {p : Accounts} {n : ℕ} {m : Machine} {t : ℕ} {a : Actor} {d : Duty} {rest : List Duty} where
   others_and_own : AtDuty p n m t a d rest → FitsAfter p m t a d rest
-      → AsideFits (machine_by_duty m t a d rest) t (actor_by m.layout t a d rest (found_by m t a d)) → (u : ℕ) (b : Actor)
+      → AsideFits (machine_by_duty m t a d rest) t (actor_by m.layout t a d rest (found_by m t a d))
+      → (u : ℕ) (b : Actor)
       → slice_get (slice_set m.actors t (actor_by m.layout t a d rest (found_by m t a d))) u ≡ Some b
       → Fits (p u) (machine_by_duty m t a d rest) u b
   others_and_own here own aside =
@@ -43,7 +44,8 @@ module _ {p : Accounts} {n : ℕ} {m : Machine} {t : ℕ} {a : Actor} {d : Duty}
 
   pub keeps_by : AtDuty p n m t a d rest → NotGone a → FitsAfter p m t a d rest
       → ((x : ℕ) → ((machine_by_duty m t a d rest).memory (Mark x) ≡ UNSET) ⊎
-      (((machine_by_duty m t a d rest).memory (Mark x) ≡ SET) × (IsCounted m.layout x) × IsWatched (machine_by_duty m t a d rest) x))
+      (((machine_by_duty m t a d rest).memory (Mark x) ≡ SET) × (IsCounted m.layout x)
+      × IsWatched (machine_by_duty m t a d rest) x))
       → CoreInvariant p n (machine_by_duty m t a d rest)
   keeps_by here alive own marks =
       let within : t < n = omega (arith, slice_get_within m.actors t a here.found, here.core.threads) in

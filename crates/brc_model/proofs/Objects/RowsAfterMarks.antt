@@ -67,7 +67,8 @@ pub record Takes (m : Machine) (t : ℕ) (a : Actor) (d : Duty) (rest : List Dut
     pub local : m.memory (Local y) ≡ (machine_by_duty m t a d rest).memory (Local y)
     pub shared : m.memory (Shared y) ≡ (machine_by_duty m t a d rest).memory (Shared y)
     pub mark : (machine_by_duty m t a d rest).memory (Mark y) ≡ UNSET
-    pub references : references_to y m.abstract.references ≡ references_to y (machine_by_duty m t a d rest).abstract.references
+    pub references : references_to y m.abstract.references
+        ≡ references_to y (machine_by_duty m t a d rest).abstract.references
 
 module _ {p : Accounts} {n : ℕ} {m : Machine} {t : ℕ} {a : Actor} {d : Duty} {rest : List Duty} where
   -- `MarkGone`, `ScanFindsNone` and `NothingToClaim`: if the mark wasn't set, the row is unchanged.
