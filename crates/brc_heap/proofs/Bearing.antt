@@ -109,5 +109,11 @@ owns_by x zero false = refl
 owns_by x (suc head) false = refl
 
 -- Its last duty is to put the resource into the slot, or to store the first local word.
-pub owns_next : (v : View) (word : ℕ) → OwnsFirst (next_row v) (view_after (bearing v word) 0).actor.agenda
+owns_next : (v : View) (word : ℕ) → OwnsFirst (next_row v) (view_after (bearing v word) 0).actor.agenda
 owns_next v word = owns_by (next_row v) v.actor.head (has_resource word)
+
+pub owns_after : {u v : View} {row word : ℕ} → u ≡ view_after (bearing v word) 0 → row ≡ next_row v
+    → OwnsFirst row u.actor.agenda
+owns_after {u} {v} {row} {word} view is =
+    subst (λ (y : ℕ). OwnsFirst y u.actor.agenda) (sym is)
+    (subst (λ (w : View). OwnsFirst (next_row v) w.actor.agenda) (sym view) (owns_next v word))

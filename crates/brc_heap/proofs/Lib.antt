@@ -8,7 +8,7 @@ pub mod Tries
 pub mod MergeTries
 pub mod MarkTries
 mod Looks
-mod Bearing
+pub mod Bearing
 mod Asking
 mod OwnRows
 pub mod Handing

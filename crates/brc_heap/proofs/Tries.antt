@@ -146,7 +146,7 @@ pub lowered_here : {u : View} (v : View) (x word : ℕ) → u ≡ view_after (re
 lowered_here {u} v x word is =
     ap (λ (z : View). lowered z word) is
     ∙ here_by (view_after (releasing v x) word) word (is_immortal_word word) (counts_here v word)
-    (λ immortal. ap (λ (b : Bool). ready v.head (loaded_next x word b (counts_here v word) ++ [])) immortal)
+    (λ immortal. ap (λ (b : Bool). ready v.actor.head (loaded_next x word b (counts_here v word) ++ [])) immortal)
 
 -- ---- the last local reference
 

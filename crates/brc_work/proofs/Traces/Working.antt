@@ -259,8 +259,8 @@ module _ {later : Bool} {n : ℕ} (code : List Instr) (p : Place) (ds : List Dut
       → (on : WorksOn later n cs code p ds v q u)
       → Traces n cs code p ds v q (behind_of u.actor.head es (settle_if later)) u
   with_agenda u es is on =
-      with_duties code p q ds _ (behind_of u.head es (settle_if later)) v u
-      (ap (λ (fs : List Duty). behind_of u.head fs (settle_if later)) is) on.traces
+      with_duties code p q ds _ (behind_of u.actor.head es (settle_if later)) v u
+      (ap (λ (fs : List Duty). behind_of u.actor.head fs (settle_if later)) is) on.traces
 
   plain_next : {cs : List HostCall} (u : View) (found : ℕ) (d : Duty) (tail : List Duty) → u.actor.agenda ≡ d ∷ tail
       → takes_out d ≡ false → WorksOn later n cs code p ds v q u → WorksOn later n cs code p ds v q
@@ -312,7 +312,7 @@ module _ {later : Bool} {n : ℕ} (code : List Instr) (p : Place) (ds : List Dut
       → WorksOn later n cs code p ds v q u
       → Traces n cs code p ds v q [] u
   worked_off u none empty on =
-      with_duties code p q ds (ready u.head (settle_if later)) [] v u
+      with_duties code p q ds (ready u.actor.head (settle_if later)) [] v u
       (ap (λ (head : ℕ). ready head (settle_if later)) empty ∙ nothing_behind later) (with_agenda u [] none on)
 
 -- A hand with nothing else to do comes to settle, as its thread does behind its agenda.

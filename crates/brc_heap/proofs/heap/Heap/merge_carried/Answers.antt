@@ -48,8 +48,8 @@ returns-clause-again g c = λ r duty again. record {
       ∙ ap (λ (s : MergeStep). still_carried s c.args.carried) again);
 }
 
-pub returns-clause-view_after : goal.returns-clause-view_after
-returns-clause-view_after g c = λ other.
+pub returns-clause-done : goal.returns-clause-view_after
+returns-clause-done g c = λ other.
     c.remember.ensures.row ∙ (c.still_carried.ensures ∙ carries_none c.merge-step.result c.args.carried other)
 
 pub returns-clause-references : goal.returns-clause-references
