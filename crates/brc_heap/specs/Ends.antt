@@ -1,5 +1,6 @@
 -- What a heap's end tells, and when it comes.
 use Rattle.std.specs.Prelude.{◌≡◌, ◌⊎◌, ℕ, zero, suc, ◌+◌, ◌<◌, Bool, ◌==◌, nat_lt, Option, None, Some, List, [], ◌∷◌, ◌++◌, length, All}
+use Rattle.brc_word.specs.declared.values.TheConstants.{NOT_STARTED, RUNNING, LEAVING, GONE}
 use Rattle.brc_word.specs.Words.{closed_word}
 use Rattle.brc_model.specs.declared.address.Address.TheVariants.{ThreadWord}
 use Rattle.brc_model.specs.Layout.{row_count, IsCounted}
@@ -45,7 +46,7 @@ having_looked v words = record v { trace = v.trace ++ looks_from 0 words }
 
 -- These are words of threads that are gone or were never started.
 abbrev pub AllEnded : List ℕ → Type 0
-AllEnded words = All (λ word. (word ≡ 0) ⊎ (word ≡ 3)) words
+AllEnded words = All (λ word. (word ≡ NOT_STARTED) ⊎ (word ≡ GONE)) words
 
 -- The hand has looked at the words of threads by rising number, up to the first that runs or is leaving: one whose hand
 -- it hasn't joined.
@@ -53,7 +54,7 @@ pub record FoundRunning (v u : View) : Type 0 where
   pub before : List ℕ
   pub ended : AllEnded before
   pub word : ℕ
-  pub runs : (word ≡ 1) ⊎ (word ≡ 2)
+  pub runs : (word ≡ RUNNING) ⊎ (word ≡ LEAVING)
   pub apart : IsJoined (length before) v → ⊥
   pub view_is : u ≡ having_looked v (before ++ word ∷ [])
 

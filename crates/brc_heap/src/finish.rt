@@ -17,7 +17,7 @@ use brc_table::{
     Closed, Hand, joined_hands_are_gone, rows_end_in_every_table, seen_ends_are_so,
     slots_end_in_every_table,
 };
-use brc_word::values::{LEAVING, RUNNING};
+use brc_word::values::{EMPTY, LEAVING, RUNNING};
 use brc_word::{closed, kind_number};
 use std::marker::Model;
 
@@ -126,7 +126,7 @@ impl<T: Drop> Final<T> {
     {
         self.closed.layout_is_plain();
         let word = self.closed.cell_word(row, cell);
-        if word == 0 {
+        if word == EMPTY {
             None
         } else {
             Some((word - 1) as u32)

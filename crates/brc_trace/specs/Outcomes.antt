@@ -1,5 +1,6 @@
 -- What a step brings about, as a reader of a trace sees it: a reference of the thread, a state or a lock, a life.
 use Rattle.std.specs.Prelude.{ℕ, ◌==◌, if◌then◌else◌, List, [], ◌++◌, Option, None, Some, codes}
+use Rattle.brc_word.specs.declared.values.TheConstants.{QUEUED, MERGED}
 use Rattle.brc_report.specs.declared.paint.Paint.{Paint}
 use Rattle.brc_report.specs.declared.paint.Role.TheVariants.{Life}
 use Rattle.brc_report.specs.Paint.{mark_text, reset_text}
@@ -37,12 +38,12 @@ lock_outcome (LockGate x) found = if found == free_word then happens x Locked el
 lock_outcome (UnlockGate x) found = happens x Unlocked
 lock_outcome _ found = None
 
--- the shared word has another state than before: 2 queued, 3 merged
+-- the shared word has another state than before: queued or merged
 abbrev pub phase_outcome : Address → ℕ → ℕ → Option Outcome
 phase_outcome (Shared x) found left =
     if phase_part left == phase_part found then None
-    else if phase_part left == 2 then happens x Queued
-    else if phase_part left == 3 then happens x Merged
+    else if phase_part left == QUEUED then happens x Queued
+    else if phase_part left == MERGED then happens x Merged
     else None
 phase_outcome _ found left = None
 

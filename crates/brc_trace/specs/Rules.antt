@@ -1,6 +1,7 @@
 -- The names of the rules of the step relation (`Rules` of the model), and the rule that a step goes by. A rule is found
 -- from the duty, the word found and the word left alone.
 use Rattle.std.specs.Prelude.{ℕ, Bool, ◌==◌, nat_lt, if◌then◌else◌, List, codes}
+use Rattle.brc_word.specs.declared.values.TheConstants.{RUNNING, SET, NOBODY}
 use Rattle.brc_word.specs.Words.{most_local, local_part, is_immortal_word, fresh_word, dead_word, free_word}
 use Rattle.brc_model.specs.declared.duty.Reason.{Reason}
 use Rattle.brc_model.specs.declared.duty.Reason.TheVariants.{Own, Handed}
@@ -130,10 +131,10 @@ rule_of t running (DecideAtZero x) found left = if found == fresh_word then Noth
 rule_of t running (SharedLoad x r) found left = SharedRead
 rule_of t running (SharedExchange x r w) found left = shared_rule w found left
 rule_of t running (SetMark x) found left = Marked
-rule_of t running (Look x) found left = if found == 1 then OwnerRuns else OwnerExits
-rule_of t running (TakeMark x) found left = if found == 1 then MarkTakenBack else MarkGone
-rule_of t running (ClaimMark x) found left = if found == 1 then MarkClaimed else NothingToClaim
-rule_of t running (MergeSwap x r) found left = if found == 0 then NobodysCount else LocalTakenOut
+rule_of t running (Look x) found left = if found == RUNNING then OwnerRuns else OwnerExits
+rule_of t running (TakeMark x) found left = if found == SET then MarkTakenBack else MarkGone
+rule_of t running (ClaimMark x) found left = if found == SET then MarkClaimed else NothingToClaim
+rule_of t running (MergeSwap x r) found left = if found == NOBODY then NobodysCount else LocalTakenOut
 rule_of t running (MergeLoad x c r) found left = MergeRead
 rule_of t running (MergeExchange x c w r) found left = merge_rule r w found left
 rule_of t running (Die x) found left = Chained
@@ -144,7 +145,7 @@ rule_of t running (TakeSlot x) found left = SlotEmptied
 rule_of t running (CloseResource x) found left = ResourceClosed
 rule_of t running (SettleEnd x) found left = Closes
 rule_of t running (Leave i n) found left = SaysLeaving
-rule_of t running (Scan i n) found left = if found == 1 then ScanFindsMark else ScanFindsNone
+rule_of t running (Scan i n) found left = if found == SET then ScanFindsMark else ScanFindsNone
 rule_of t running Finish found left = SaysGone
 
 -- Returns the rule of a step with this event: a silent step and a host call have names of their own.

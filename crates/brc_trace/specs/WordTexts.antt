@@ -1,5 +1,6 @@
 -- What the words of objects and threads say, as a reader of a trace sees it.
 use Rattle.std.specs.Prelude.{ℕ, ◌-◌, ◌/◌, ◌==◌, nat_lt, if◌then◌else◌, List, [], ◌++◌, codes, decimal}
+use Rattle.brc_word.specs.declared.values.TheConstants.{RUNNING, LEAVING, SET, DEFAULT, QUEUED, MERGED, EMPTY, NONE, NUM, LIST, FILE, SOCK}
 use Rattle.brc_word.specs.Words.{half, owner_part, local_part, is_immortal_word, biased_part, phase_part, bias, free_word, next_part, closed_word, kind_part, argument_part}
 use Rattle.brc_model.specs.declared.address.Address.{Address}
 use Rattle.brc_model.specs.declared.address.Address.TheVariants.{Local, Shared, Gate, KindOf, Mark, Cell, Slot, Resource, ThreadWord}
@@ -24,9 +25,9 @@ count_text biased =
 -- the object's state
 abbrev pub phase_text : ℕ → List ℕ
 phase_text phase =
-    if phase == 0 then codes " default"
-    else if phase == 2 then codes " queued"
-    else if phase == 3 then codes " merged"
+    if phase == DEFAULT then codes " default"
+    else if phase == QUEUED then codes " queued"
+    else if phase == MERGED then codes " merged"
     else codes " unused"
 
 abbrev pub shared_text : ℕ → List ℕ
@@ -50,21 +51,24 @@ gate_text word =
 -- the kind, with a number's value or how many cells a list has
 abbrev pub kind_text : ℕ → List ℕ
 kind_text word =
-    if kind_part word == 1 then codes "none"
-    else if kind_part word == 2 then codes "num " ++ decimal (argument_part word)
-    else if kind_part word == 3 then codes "list " ++ decimal (argument_part word)
-    else if kind_part word == 4 then codes "file"
-    else if kind_part word == 5 then codes "sock"
+    if kind_part word == NONE then codes "none"
+    else if kind_part word == NUM then codes "num " ++ decimal (argument_part word)
+    else if kind_part word == LIST then codes "list " ++ decimal (argument_part word)
+    else if kind_part word == FILE then codes "file"
+    else if kind_part word == SOCK then codes "sock"
     else codes "unborn"
 
 abbrev pub mark_text : ℕ → List ℕ
-mark_text word = if word == 1 then codes "set" else codes "clear"
+mark_text word = if word == SET then codes "set" else codes "clear"
 
 abbrev pub cell_text : ℕ → List ℕ
-cell_text word = if word == 0 then codes "empty" else row_text (word - 1)
+cell_text word = if word == EMPTY then codes "empty" else row_text (word - 1)
 
 abbrev pub status_text : ℕ → List ℕ
-status_text word = if word == 1 then codes "running" else if word == 2 then codes "leaving" else codes "gone"
+status_text word =
+    if word == RUNNING then codes "running"
+    else if word == LEAVING then codes "leaving"
+    else codes "gone"
 
 -- ---- a word of a step
 

@@ -8,6 +8,7 @@ use crate::line::Line;
 use crate::word::show_of_row;
 use brc_model::{Address, Duty, Exit, Reason};
 use brc_report::{Paint, Role};
+use brc_word::values::{FREE, MERGED, ONE_REFERENCE, QUEUED};
 use brc_word::{is_dead, is_fresh, is_immortal};
 use std::alloc::AllocError;
 
@@ -86,7 +87,7 @@ pub fn lock_outcome(duty: &Duty, found: u64) -> Option<Outcome>
     ensures { result ≡ lock_outcome duty.now found }
 {
     match *duty {
-        Duty::LockGate { row } if found == 1 => happens(row, Fate::Locked),
+        Duty::LockGate { row } if found == FREE => happens(row, Fate::Locked),
         Duty::UnlockGate { row } => happens(row, Fate::Unlocked),
         _ => None,
     }
@@ -98,12 +99,12 @@ pub fn phase_outcome(address: Address, found: u64, left: u64) -> Option<Outcome>
 {
     match address {
         Address::Shared { row } => {
-            let phase = left % 4;
-            if phase == found % 4 {
+            let phase = left % ONE_REFERENCE;
+            if phase == found % ONE_REFERENCE {
                 None
-            } else if phase == 2 {
+            } else if phase == QUEUED {
                 happens(row, Fate::Queued)
-            } else if phase == 3 {
+            } else if phase == MERGED {
                 happens(row, Fate::Merged)
             } else {
                 None

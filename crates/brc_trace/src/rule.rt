@@ -6,6 +6,7 @@ ghost use Rattle.brc_trace.specs.Rules.{rule_name, rule_of, rule_at, retain_rule
 
 use crate::word::owner_part;
 use brc_model::{Duty, Exit, Reason};
+use brc_word::values::{FILE, FREE, NOBODY, RUNNING, SET, SOCK};
 use brc_word::{is_dead, is_fresh, is_immortal, kind_number, local_count};
 use brc_world::Event;
 
@@ -186,7 +187,7 @@ pub fn rule_of(thread: u8, running: bool, duty: Duty, found: u64, left: u64) -> 
         Duty::BirthSlot { .. } => Rule::SlotFilled,
         Duty::BirthLocal { .. } => Rule::Born,
         Duty::KindLoad { .. } => Rule::KindRead,
-        Duty::LockGate { .. } => either(found == 1, Rule::Locks, Rule::LockHeld),
+        Duty::LockGate { .. } => either(found == FREE, Rule::Locks, Rule::LockHeld),
         Duty::UnlockGate { .. } => Rule::Unlocks,
         Duty::CellLoad { .. } => Rule::CellRead,
         Duty::CellSwap { .. } => Rule::ItemStored,
@@ -207,10 +208,10 @@ pub fn rule_of(thread: u8, running: bool, duty: Duty, found: u64, left: u64) -> 
         Duty::SharedLoad { .. } => Rule::SharedRead,
         Duty::SharedExchange { word, .. } => shared_rule(word, found, left),
         Duty::SetMark { .. } => Rule::Marked,
-        Duty::Look { .. } => either(found == 1, Rule::OwnerRuns, Rule::OwnerExits),
-        Duty::TakeMark { .. } => either(found == 1, Rule::MarkTakenBack, Rule::MarkGone),
-        Duty::ClaimMark { .. } => either(found == 1, Rule::MarkClaimed, Rule::NothingToClaim),
-        Duty::MergeSwap { .. } => either(found == 0, Rule::NobodysCount, Rule::LocalTakenOut),
+        Duty::Look { .. } => either(found == RUNNING, Rule::OwnerRuns, Rule::OwnerExits),
+        Duty::TakeMark { .. } => either(found == SET, Rule::MarkTakenBack, Rule::MarkGone),
+        Duty::ClaimMark { .. } => either(found == SET, Rule::MarkClaimed, Rule::NothingToClaim),
+        Duty::MergeSwap { .. } => either(found == NOBODY, Rule::NobodysCount, Rule::LocalTakenOut),
         Duty::MergeLoad { .. } => Rule::MergeRead,
         Duty::MergeExchange { word, reason, .. } => merge_rule(reason, word, found, left),
         Duty::Die { .. } => Rule::Chained,
@@ -223,7 +224,7 @@ pub fn rule_of(thread: u8, running: bool, duty: Duty, found: u64, left: u64) -> 
         Duty::CloseResource { .. } => Rule::ResourceClosed,
         Duty::SettleEnd { .. } => Rule::Closes,
         Duty::Leave { .. } => Rule::SaysLeaving,
-        Duty::Scan { .. } => either(found == 1, Rule::ScanFindsMark, Rule::ScanFindsNone),
+        Duty::Scan { .. } => either(found == SET, Rule::ScanFindsMark, Rule::ScanFindsNone),
         Duty::Finish => Rule::SaysGone,
     }
 }
@@ -301,5 +302,5 @@ fn has_resource(word: u64) -> bool
     ensures { result ≡ has_resource word }
 {
     let kind = kind_number(word);
-    kind == 4 || kind == 5
+    kind == FILE || kind == SOCK
 }

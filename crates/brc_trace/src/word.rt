@@ -8,6 +8,10 @@ ghost use Rattle.brc_trace.specs.WordTexts.{value_text, subject_text, left_text,
 
 use crate::line::Line;
 use brc_model::Address;
+use brc_word::values::{
+    DEFAULT, EMPTY, FILE, FREE, LEAVING, LIST, MERGED, NONE, NUM, ONE_REFERENCE, QUEUED, RUNNING,
+    SET, SOCK,
+};
 use brc_word::{is_closed, is_immortal, kind_argument, kind_number, local_count, next_of_dying};
 use std::alloc::AllocError;
 
@@ -132,8 +136,8 @@ fn show_local(word: u64, line: &mut Line) -> Result<(), AllocError>
 fn show_shared(word: u64, line: &mut Line) -> Result<(), AllocError>
     ensures { OnOk result (line.new ≡ line.old ++ shared_text word) }
 {
-    show_count(word / 4, line)?;
-    line.text(phase_name(word % 4))
+    show_count(word / ONE_REFERENCE, line)?;
+    line.text(phase_name(word % ONE_REFERENCE))
 }
 
 /// Adds the shared count with its sign. The biased one is 2^40 more.
@@ -151,11 +155,11 @@ fn show_count(biased: u64, line: &mut Line) -> Result<(), AllocError>
 fn phase_name(phase: u64) -> &'static str
     ensures { result.now ≡ phase_text phase }
 {
-    if phase == 0 {
+    if phase == DEFAULT {
         " default"
-    } else if phase == 2 {
+    } else if phase == QUEUED {
         " queued"
-    } else if phase == 3 {
+    } else if phase == MERGED {
         " merged"
     } else {
         " unused"
@@ -167,7 +171,7 @@ fn show_gate(word: u64, line: &mut Line) -> Result<(), AllocError>
 {
     if is_closed(word) {
         line.text("closed")
-    } else if word == 1 {
+    } else if word == FREE {
         line.text("free")
     } else if word < HALF {
         line.text("locked by ")?;
@@ -202,17 +206,17 @@ fn show_kind(word: u64, line: &mut Line) -> Result<(), AllocError>
     ensures { OnOk result (line.new ≡ line.old ++ kind_text word) }
 {
     let kind = kind_number(word);
-    if kind == 1 {
+    if kind == NONE {
         line.text("none")
-    } else if kind == 2 {
+    } else if kind == NUM {
         line.text("num ")?;
         line.number(u64::from(kind_argument(word)))
-    } else if kind == 3 {
+    } else if kind == LIST {
         line.text("list ")?;
         line.number(u64::from(kind_argument(word)))
-    } else if kind == 4 {
+    } else if kind == FILE {
         line.text("file")
-    } else if kind == 5 {
+    } else if kind == SOCK {
         line.text("sock")
     } else {
         line.text("unborn")
@@ -222,13 +226,13 @@ fn show_kind(word: u64, line: &mut Line) -> Result<(), AllocError>
 fn show_mark(word: u64, line: &mut Line) -> Result<(), AllocError>
     ensures { OnOk result (line.new ≡ line.old ++ mark_text word) }
 {
-    line.text(if word == 1 { "set" } else { "clear" })
+    line.text(if word == SET { "set" } else { "clear" })
 }
 
 fn show_cell(word: u64, line: &mut Line) -> Result<(), AllocError>
     ensures { OnOk result (line.new ≡ line.old ++ cell_text word) }
 {
-    if word == 0 {
+    if word == EMPTY {
         return line.text("empty");
     }
     line.text("row ")?;
@@ -238,9 +242,9 @@ fn show_cell(word: u64, line: &mut Line) -> Result<(), AllocError>
 fn show_status(word: u64, line: &mut Line) -> Result<(), AllocError>
     ensures { OnOk result (line.new ≡ line.old ++ status_text word) }
 {
-    line.text(if word == 1 {
+    line.text(if word == RUNNING {
         "running"
-    } else if word == 2 {
+    } else if word == LEAVING {
         "leaving"
     } else {
         "gone"

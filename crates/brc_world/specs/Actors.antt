@@ -1,5 +1,6 @@
 -- The model's view of a thread, and what a step changes in the words and in its thread, by the thread's action.
 use Rattle.std.specs.Prelude.{◌≡◌, ℕ, ◌≤◌, Bool, true, false, ◌==◌, ◌&&◌, not, if◌then◌else◌, List, [], ◌∷◌, reverse, Option}
+use Rattle.brc_word.specs.declared.values.TheConstants.{UNSET}
 use Rattle.brc_model.specs.declared.actor.Status.{Status}
 use Rattle.brc_model.specs.declared.actor.Status.TheVariants.{Running, Leaving, Gone}
 use Rattle.brc_model.specs.declared.address.Address.{Address}
@@ -149,7 +150,7 @@ CanAct layout t n threads memory a (Does d rest place) = CanDo layout t n thread
 
 -- the thread may claim the row, and finds its mark set
 abbrev pub finds_mark : Layout → ℕ → (Address → ℕ) → StepActor → ℕ → Bool
-finds_mark layout t memory a row = may_claim layout t a row && not (memory (Mark row) == 0)
+finds_mark layout t memory a row = may_claim layout t a row && not (memory (Mark row) == UNSET)
 
 -- the words after the thread claims the row
 abbrev pub memory_claimed : Layout → ℕ → (Address → ℕ) → StepActor → ℕ → Address → ℕ

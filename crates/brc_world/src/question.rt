@@ -1,7 +1,6 @@
 //! What a step asks of the word that its duty finds, and where the thread goes on by the answer.
 
 ghost use Rattle.std.specs.Prelude.{◌≡◌, ◌≤◌};
-ghost use Rattle.brc_model.specs.Duties.{cells_of};
 ghost use Rattle.brc_model.specs.Kinds.{same_kind, kind_of_word};
 ghost use Rattle.brc_model.specs.Limits.{total_limit};
 ghost use Rattle.brc_model.specs.StepMachine.{at_place};
@@ -10,10 +9,11 @@ ghost use Rattle.brc_world.specs.Questions.{outside_of, place_answered, IsAnswer
 
 use crate::tally::kind_numbered;
 use crate::thread::{Mode, Thread};
+use brc_effect::kinds::cells_of;
 use brc_lang::{Kind, Variable};
 use brc_model::Stage;
-use brc_word::values::LIST;
-use brc_word::{kind_argument, kind_number};
+use brc_word::kind_number;
+use brc_word::values::EMPTY;
 
 /// What a step asks of the word that its duty finds. The answer decides where the thread goes on.
 #[derive(Clone, Copy, Debug)]
@@ -116,23 +116,12 @@ fn is_of_kind(word: u64, kind: Kind) -> bool
     kind_numbered(kind_number(word)) == kind
 }
 
-/// Returns the number of cells of the object with the kind word: only a list has cells.
-fn cells_of(word: u64) -> u32
-    ensures { result ≡ cells_of word }
-{
-    if kind_number(word) == LIST {
-        kind_argument(word)
-    } else {
-        0
-    }
-}
-
 /// Returns the row that a cell's word names, or `None` if the cell is empty.
 fn item_in(word: u64) -> Option<u32>
     requires { word ≤ total_limit }
     ensures { result ≡ item_in word }
 {
-    if word == 0 {
+    if word == EMPTY {
         return None;
     }
     Some((word - 1) as u32)
