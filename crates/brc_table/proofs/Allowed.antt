@@ -120,8 +120,8 @@ module _ (laws : ModelLaws) (layout : Layout) (v u : View)
       }
 
   -- What a table asks of the word that the step leaves.
-  abbrev pub KeepsDuty : (ℕ → ℕ) → Type 0
-  KeepsDuty f =
+  abbrev pub LeavesWord : (ℕ → ℕ) → Type 0
+  LeavesWord f =
       ((found : ℕ) → Knows u d (read_of u d found)
       → read_of u d (f found) ≡ new_word u.thread u.actor.head d (read_of u d found))
       × ((words : List ℕ) (views : List View) (id : ℕ) (does : Does layout words views id u d rest)
@@ -172,7 +172,7 @@ module _ (laws : ModelLaws) (layout : Layout) (v u : View)
         (finds laws.kept laws.within laws.guarded layout s.words (set s.views id u) id u d rest does
         ∙ ap (read_of u d) same)
 
-    module _ (f : ℕ → ℕ) (leaves : KeepsDuty f) where
+    module _ (f : ℕ → ℕ) (leaves : LeavesWord f) where
       after : Passes layout (set s.words (place_of u d) (f word))
           (set (set s.views id u) id (view_by u (d ∷ rest) (read_of u d (slice_index s.words (place_of u d))))) [] None
           first.stands.machine
@@ -231,7 +231,7 @@ module _ (laws : ModelLaws) (layout : Layout) (v u : View)
   -- it knows.
   pub allows : {T : Type 0} (slots id : ℕ) (me : Me (Option T) View) (f : ℕ → ℕ)
       (then : ℕ → Me (Option T) View → Type 0)
-      → me.0 ≡ v → ((found : ℕ) → use_of d found ≡ Stays) → KeepsDuty f
+      → me.0 ≡ v → ((found : ℕ) → use_of d found ≡ Stays) → LeavesWord f
       → ((found : ℕ) → Knows u d (read_of u d found) → RowsAreThere (view_by u (d ∷ rest) (read_of u d found))
       → then found (view_by u (d ∷ rest) (read_of u d found), me.1))
       → Allows (λ (s : State (Option T) View). TableStands layout s.words s.homes s.views) slots id me index f then
@@ -272,7 +272,7 @@ module _ (laws : ModelLaws) (layout : Layout) (v u : View)
   itself word = object_reads (address_of u.layout u.thread u.actor.head d) word is_at.object
 
   pub object_leaves : (f : ℕ → ℕ) → ((found : ℕ) → Knows u d found → f found ≡ new_word u.thread u.actor.head d found)
-      → KeepsDuty laws layout v u d rest index becomes (object_next u d rest index is_at) f
+      → LeavesWord laws layout v u d rest index becomes (object_next u d rest index is_at) f
   object_leaves f leaves = (
     λ found known.
         itself (f found) ∙ (leaves found (subst (Knows u d) (itself found) known)

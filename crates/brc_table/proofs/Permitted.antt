@@ -52,7 +52,7 @@ module _ (laws : ModelLaws) (words : TableState) (hand : HandState) (begins : Vi
       allowed.becomes_here laws words hand begins layout slots id index me seen becomes
 
   module _ (d : Duty) (rest : List Duty) (next : IsNextAt u d rest index) (f : ℕ → ℕ)
-      (leaves : allowed.KeepsDuty laws layout me.0 u d rest index becoming next f) where
+      (leaves : allowed.LeavesWord laws layout me.0 u d rest index becoming next f) where
     -- What the hand learns, beside what becomes of its slots.
     learns : (found : ℕ) (after : Me (Option T) View) → Knows u d found → Uses begins me found after
         → Steps begins me found after
@@ -106,7 +106,7 @@ module _ (laws : ModelLaws) (words : TableState) (hand : HandState) (begins : Vi
       → (f : ℕ → ℕ)
       → ((running : Bool) (n found : ℕ) → Suits u.thread running n d found
       → f found ≡ new_word u.thread u.actor.head d found)
-      → allowed.KeepsDuty laws layout me.0 u e rest index becoming next f
+      → allowed.LeavesWord laws layout me.0 u e rest index becoming next f
   next_leaves d has e rest next like f leaves = elim (word_of u.layout u.thread u.actor.head d has) [
     | inl object ↦
         let is_at : IsAt u e rest index = record {

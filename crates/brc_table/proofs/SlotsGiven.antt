@@ -128,7 +128,7 @@ module _ (laws : ModelLaws)
         (λ y locks. first.slots y (inr locks) ∙ (holds.slots.locked id y v here locks).1) due
 
     module _ (f : ℕ → ℕ)
-        (leaves : allowed.KeepsDuty laws layout v u d rest index becomes next f) where
+        (leaves : allowed.LeavesWord laws layout v u d rest index becomes next f) where
       -- The rule holds after the step.
       pub stands_now : TableStands layout (set s.words index (f (slice_index s.words index)))
           (set s.homes x (home.some slot)) (set s.views id (view_by u (d ∷ rest) found))
@@ -161,7 +161,7 @@ module _ (laws : ModelLaws)
       (begins : View → View) (then : ℕ → Me (Option T) View → Type 0)
       → seat ≡ v → begins v ≡ u → x ∷ rows_of ps ≡ v.taken → IsDue u (d ∷ rest) (resources slot)
       → (all : (found : ℕ) → use_of d found ≡ Gives x)
-      → allowed.KeepsDuty laws layout v u d rest index becomes next f
+      → allowed.LeavesWord laws layout v u d rest index becomes next f
       → ((found : ℕ) (after : Me (Option T) View) → Knows u d (read_of u d found)
       → Uses begins (seat, (x, slot) ∷ ps) (read_of u d found) after → then found after)
       → Allows (λ (s : State (Option T) View). TableStands layout s.words s.homes s.views) slots id
@@ -199,7 +199,7 @@ module _ (laws : ModelLaws)
       (then : ℕ → Me (Option T) View → Type 0)
       → me.0 ≡ v → begins v ≡ u → rows_of me.1 ≡ v.taken → FirstSlot (held_in me.1) x n → IsDue u (d ∷ rest) n
       → (all : (found : ℕ) → use_of d found ≡ Gives x)
-      → allowed.KeepsDuty laws layout v u d rest index becomes next f
+      → allowed.LeavesWord laws layout v u d rest index becomes next f
       → ((found : ℕ) (after : Me (Option T) View) → Knows u d (read_of u d found)
       → Uses begins me (read_of u d found) after → then found after)
       → Allows (λ (s : State (Option T) View). TableStands layout s.words s.homes s.views) slots id me index f then

@@ -154,7 +154,7 @@ module _ (laws : ModelLaws) (layout : Layout) (v u : View) (d : Duty)
           (inl (is_home id v here))
 
       module _ (f : ℕ → ℕ)
-          (leaves : allowed.KeepsDuty laws layout v u d rest index becomes next f)
+          (leaves : allowed.LeavesWord laws layout v u d rest index becomes next f)
           (lock : (y : ℕ) → u.actor.locked ≡ Some y → locked_by u.actor.locked d found ≡ Some y)
           (locks : (y : ℕ) → locked_by u.actor.locked d found ≡ Some y
           → ((y ≡ x) × (m.memory (Slot x) ≡ u.in_slot)) ⊎ ((v.actor.locked ≡ Some y) × (u.in_slot ≡ v.in_slot))) where
@@ -184,7 +184,7 @@ module _ (laws : ModelLaws) (layout : Layout) (v u : View) (d : Duty)
   pub takes_allows : {T : Type 0} (slots id : ℕ) (me : Me (Option T) View) (f : ℕ → ℕ) (begins : View → View)
       (then : ℕ → Me (Option T) View → Type 0)
       → me.0 ≡ v → begins v ≡ u → (all : (found : ℕ) → use_of d found ≡ Takes x)
-      → allowed.KeepsDuty laws layout v u d rest index becomes next f
+      → allowed.LeavesWord laws layout v u d rest index becomes next f
       → ((found : ℕ) (after : Me (Option T) View) → Knows u d (read_of u d found)
       → Uses begins me (read_of u d found) after → then found after)
       → Allows (λ (s : State (Option T) View). TableStands layout s.words s.homes s.views) slots id me index f then

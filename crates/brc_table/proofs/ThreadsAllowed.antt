@@ -22,7 +22,7 @@ use Rattle.brc_table.specs.Places.{place}
 use Rattle.brc_table.proofs.Places.{place_within}
 use Rattle.brc_table.proofs.ThreadsKept.{KeepsThreads, reading_some, says_three, thread_step}
 use Rattle.brc_table.proofs.Stepping.{Does, place_of, read_of, has}
-use Rattle.brc_table.proofs.Allowed.{IsNextAt, KeepsDuty}
+use Rattle.brc_table.proofs.Allowed.{IsNextAt, LeavesWord}
 
 -- A thread that isn't gone has another status word.
 alive_word : (s : Status) → s ≢ Gone → status_word s ≡ 3 → ⊥
@@ -123,5 +123,5 @@ module _ (laws : ModelLaws) (layout : Layout) (v u : View)
         (λ is. absurd (not_gone words views i does own is))
   ]
 
-  pub thread_leaves : KeepsDuty laws layout v u d rest index becomes next f
+  pub thread_leaves : LeavesWord laws layout v u d rest index becomes next f
   thread_leaves = ((λ found known. left_says found), thread_keeps)
