@@ -51,3 +51,4 @@ mod Spares
 mod Splitting
 mod GivenHands
 mod Joining
+pub mod Kept
