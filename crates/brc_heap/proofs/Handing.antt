@@ -1,5 +1,5 @@
 -- Main may start a worker and give out its hand once it has retained the root for it.
-use Rattle.std.proofs.Common.{◌≡◌, ℕ, ◌+◌, ◌<◌, ◌≤◌, Bool, true, false, [], ◌∷◌, None, refl, sym, ap, ◌∙◌, subst, arith}
+use Rattle.std.proofs.Common.{◌≡◌, ℕ, ◌+◌, ◌<◌, ◌≤◌, Bool, true, false, List, [], ◌∷◌, None, refl, sym, ap, ◌∙◌, subst, arith}
 use Rattle.std.specs.Prelude.{◌==◌, ◌&&◌, ◌||◌, cond, count_by, nat_lt, if◌then◌else◌}
 use Rattle.std.specs.List.{list_any}
 use Rattle.std.proofs.lemmas.Bool.{lt-leb}
@@ -9,12 +9,14 @@ use Rattle.brc_model.specs.declared.address.Address.TheVariants.{ThreadWord}
 use Rattle.brc_model.specs.declared.layout.Layout.{Layout}
 use Rattle.brc_model.specs.Layout.{root_row, first_immortal_list, is_immortal_row}
 use Rattle.brc_table.specs.declared.view.View.{View}
-use Rattle.brc_table.specs.Views.{holds, is_given, with_reference}
+use Rattle.brc_table.specs.Views.{holds, is_given, with_reference, without_one, open_work, giving}
+use Rattle.brc_table.specs.Hands.{HasNoWork}
 use Rattle.brc_table.specs.KnownWords.{has_started, started_word, shows_kind, cell_known}
 use Rattle.brc_table.specs.Giving.{MayGive, MayStart, starting}
 use Rattle.brc_model.specs.declared.event.WordEvent.{WordEvent}
-use Rattle.brc_heap.specs.Calls.{KeepsKnown, Leaves}
+use Rattle.brc_heap.specs.Calls.{KeepsKnown, HasGiven, Leaves}
 use Rattle.brc_heap.proofs.KnownKept.{sight_then}
+use Rattle.brc_heap.proofs.Turning.{all_away}
 
 -- The root is counted.
 pub root_counted : (l : Layout) → is_immortal_row l root_row ≡ false
@@ -72,20 +74,24 @@ started_sight u thread =
       cells = λ y i is. fold-append (cell_known y i) None u.trace (event ∷ []);
     }
 
--- and its work.
-pub started_leaves : (v u w : View) (thread : ℕ) → Leaves root_row [] v u → w ≡ starting u thread
-    → Leaves root_row [] v w
-started_leaves v u w thread leaves is =
-    subst (Leaves root_row [] v) (sym is) (record {
+-- and so main has given out its hand.
+pub has_given : {v u w x : View} {thread : ℕ} → HasNoWork v root_row → Leaves root_row [] v u
+    → u.references ≡ with_reference v.layout root_row v.references → u.actor.head ≡ v.actor.head
+    → w ≡ starting u thread → x ≡ giving w thread → HasGiven thread v x
+has_given {v} {u} {w} {x} {thread} none leaves more head starts gives =
+    let known = sight_then v u (starting u thread) leaves.sight (started_sight u thread) in
+    subst (HasGiven thread v) (sym (gives ∙ ap (λ (z : View). giving z thread) starts)) (record {
       layout = leaves.layout;
-      thread = leaves.thread;
+      number = leaves.thread;
       status = leaves.status;
       used = leaves.used;
-      given = leaves.given;
-      sight = sight_then v u (starting u thread) leaves.sight (started_sight u thread);
-      waits = leaves.waits;
+      given = ap (λ (ts : List ℕ). thread ∷ ts) leaves.given;
+      references =
+          ap (without_one root_row) more
+          ∙ ap (λ (b : Bool). without_one root_row (if b then v.references else root_row ∷ v.references))
+          (root_counted v.layout);
+      head = head;
+      sight = record { locked = known.locked; in_slot = known.in_slot; kinds = known.kinds; cells = known.cells };
       agenda = leaves.agenda;
-      aside = leaves.aside;
-      left_is = leaves.left_is;
-      others = leaves.others;
+      aside = leaves.aside ∙ all_away root_row (open_work v) none;
     })

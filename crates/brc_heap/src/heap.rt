@@ -75,7 +75,6 @@ impl<T: Drop> Heap<T> {
     /// # Errors
     ///
     /// H2 if the thread's hand was given out before, or if the heap has no worker of this number.
-    #[tactic(auto, using(crate::proofs::Handing::started_leaves))]
     pub fn hand_out(&self, main: &mut Hand<T>, thread: u8) -> Result<Hand<T>, Taken>
         requires table { IsOf self.now main.old }
         requires main { main.old.view.thread ≡ 0 }

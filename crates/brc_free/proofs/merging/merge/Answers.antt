@@ -1,3 +1,4 @@
+use Rattle.brc_table.proofs.Kept.{kept_on}
 use Rattle.std.proofs.Common.{ℕ, Option, List, [], ◌++◌, refl, sym, ap, ◌∙◌, subst}
 use Rattle.brc_model.specs.declared.duty.Duty.{Duty}
 use Rattle.brc_model.specs.declared.duty.Duty.TheVariants.{MergeLoad}
@@ -22,9 +23,7 @@ pub loop-init : goal.loop-init
 loop-init g c =
     let duty = c.requires.duty in
     let taken = c.take_local.ensures in (
-      taken.kept.table,
-      taken.kept.carried,
-      taken.kept.slots,
+      taken.kept,
       (
         duty.reason,
         duty.rest,
@@ -37,12 +36,12 @@ loop-init g c =
 
 pub merge-requires-clause-duty : goal.merge-requires-clause-duty
 merge-requires-clause-duty g c =
-    let (r, rest, next, at) = c.loop.invariant.3 in
+    let (r, rest, next, at) = c.loop.invariant.1 in
     record { reason = r; rest = rest; next = at.agenda ∙ plain_first _ (MergeLoad _ _ r) rest refl }
 
 pub returns-in-Kept-clause-work : goal.returns-in-Kept-clause-work
 returns-in-Kept-clause-work g c =
-    let (r, rest, next, at) = c.loop.invariant.3 in
+    let (r, rest, next, at) = c.loop.invariant.1 in
     let here = at.agenda ∙ plain_first _ (MergeLoad c.args.row c.in-Some.carried r) rest refl in
     subst (λ (ds : List Duty). HasWorked c.args.hand.now.view [] ds c.merge.new.hand.view)
     (ap (λ (ds : List Duty). ds ++ rest)
@@ -53,11 +52,9 @@ returns-in-Kept-clause-work g c =
 pub loop-preserved : goal.loop-preserved
 loop-preserved g c =
     let kept = c.loop.invariant in
-    let (r, rest, next, at) = kept.3 in
+    let (r, rest, next, at) = kept.1 in
     let tried = c.merge.ensures in (
-      tried.kept.table ∙ kept.0,
-      tried.kept.carried ∙ kept.1,
-      tried.kept.slots ∙ kept.2,
+      kept_on kept.0 tried.kept,
       (
         r,
         rest,

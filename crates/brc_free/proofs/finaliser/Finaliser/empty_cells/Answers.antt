@@ -1,3 +1,4 @@
+use Rattle.brc_table.proofs.Kept.{kept_on, kept_itself}
 use Rattle.std.proofs.Common.{List, [], ◌∷◌, ◌++◌, refl, sym, ◌∙◌, subst}
 use Rattle.brc_model.specs.declared.duty.Duty.{Duty}
 use Rattle.brc_model.specs.declared.duty.Duty.TheVariants.{SettleCell}
@@ -11,9 +12,7 @@ use Rattle.brc_free.proofs.finaliser.Finaliser.empty_cells.Goals as goal
 pub loop-cell-init : goal.loop-cell-init
 loop-cell-init g c =
     let v = c.args.hand.now.view in (
-      refl,
-      refl,
-      refl,
+      kept_itself _,
       λ rest is. worked_first v (cells_from c.args.row 0 c.args.cells ++ rest)
           (is ∙ sym (cells_first v.actor.head c.args.row 0 c.args.cells rest)),
     )
@@ -25,12 +24,10 @@ loop-cell-preserved g c =
     let w = c.empty_cell.new.hand.view in
     let kept = c.loop-cell.invariant in
     let emptied = c.empty_cell.ensures in (
-      emptied.kept.table ∙ kept.0,
-      emptied.kept.carried ∙ kept.1,
-      emptied.kept.slots ∙ kept.2,
+      kept_on kept.0 emptied.kept,
       λ rest is.
           worked_call v u w [] (SettleCell c.args.row c.loop-cell.cell c.args.cells ∷ rest) cells_left
           (subst (λ (ds : List Duty). HasWorked v [] ds u)
-          (cell_next c.args.row c.loop-cell.cell c.args.cells rest c.loop-cell-test.true) (kept.3 rest is))
+          (cell_next c.args.row c.loop-cell.cell c.args.cells rest c.loop-cell-test.true) (kept.1 rest is))
           (settle_cell_first u.actor.head c.args.row c.loop-cell.cell c.args.cells rest) emptied.work,
     )

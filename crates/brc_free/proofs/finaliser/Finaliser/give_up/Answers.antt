@@ -1,3 +1,4 @@
+use Rattle.brc_table.proofs.Kept.{kept_on, kept_itself}
 use Rattle.std.proofs.Common.{◌≡◌, List, [], ◌∷◌, ◌++◌, refl, sym, ap, ◌∙◌, subst}
 use Rattle.brc_model.specs.declared.duty.Reason.TheVariants.{Handed}
 use Rattle.brc_model.specs.declared.duty.Duty.{Duty}
@@ -18,10 +19,10 @@ use Rattle.brc_free.proofs.finaliser.Finaliser.give_up.Goals as goal
 
 -- What a try leaves.
 tried : (g : given.Over) (c : After-release_shared g)
-    → HasWorked c.args.hand.now.view [] (shared_left c.args.row c.loop.invariant.3.0 c.release_shared.result
+    → HasWorked c.args.hand.now.view [] (shared_left c.args.row c.loop.invariant.1.0 c.release_shared.result
     ++ behind c.args.hand.now.view.actor.agenda) c.release_shared.new.hand.view
 tried g c =
-    let at = c.loop.invariant.3.1 in
+    let at = c.loop.invariant.1.1 in
     worked_more at (worked_by (c.release_shared.ensures.left _ _ (at.agenda ∙ plain_first _ (SharedLoad c.args.row _) _
     refl)))
 
@@ -30,15 +31,13 @@ queued : (g : given.Over) (c : After-release_shared g) → c.release_shared.resu
     → HasWorked c.args.hand.now.view [] (SetMark c.args.row ∷ behind c.args.hand.now.view.actor.agenda)
     c.release_shared.new.hand.view
 queued g c is =
-    subst (λ (s : SharedRelease). HasWorked c.args.hand.now.view [] (shared_left c.args.row c.loop.invariant.3.0 s
+    subst (λ (s : SharedRelease). HasWorked c.args.hand.now.view [] (shared_left c.args.row c.loop.invariant.1.0 s
     ++ behind c.args.hand.now.view.actor.agenda) c.release_shared.new.hand.view) is (tried g c)
 
 pub loop-init : goal.loop-init
 loop-init g c =
     let duty = c.requires.duty in (
-      refl,
-      refl,
-      refl,
+      kept_itself _,
       (
         duty.reason,
         subst (λ (ds : List Duty). HasWorked c.args.hand.now.view [] (SharedLoad c.args.row duty.reason ∷ ds)
@@ -49,14 +48,14 @@ loop-init g c =
 
 pub release_shared-requires-clause-duty : goal.release_shared-requires-clause-duty
 release_shared-requires-clause-duty g c = record {
-  reason = c.loop.invariant.3.0;
+  reason = c.loop.invariant.1.0;
   rest = behind c.args.hand.now.view.actor.agenda;
-  next = c.loop.invariant.3.1.agenda ∙ plain_first _ (SharedLoad c.args.row _) _ refl;
+  next = c.loop.invariant.1.1.agenda ∙ plain_first _ (SharedLoad c.args.row _) _ refl;
 }
 
 pub returns-in-Kept-clause-work : goal.returns-in-Kept-clause-work
 returns-in-Kept-clause-work g c =
-    given_up c.args.row c.loop.invariant.3.0 c.release_shared.result
+    given_up c.args.row c.loop.invariant.1.0 c.release_shared.result
     (tried g (goal.at.returns-in-Kept-clause-work g c).After-release_shared) c.in-Kept.is
 
 pub post-requires-clause-duty : goal.post-requires-clause-duty
@@ -118,9 +117,7 @@ loop-preserved-in-Claimed g c =
     let merged = c.merge.ensures in
     let place = goal.at.loop-preserved-in-Claimed g c in
     let at = claimed g place.After-post c.in-Claimed.is (queued g place.After-release_shared c.in-Queued.is) in (
-      merged.kept.table ∙ (posts.table ∙ (tried.table ∙ kept.0)),
-      merged.kept.carried ∙ (posts.carried ∙ (tried.carried ∙ kept.1)),
-      merged.kept.slots ∙ (posts.slots ∙ (tried.slots ∙ kept.2)),
+      kept_on (kept_on (kept_on kept.0 tried.kept) posts.kept) merged.kept,
       (
         Handed,
         worked_call _ _ _ [] (MergeSwap c.args.row Handed ∷ behind c.args.hand.now.view.actor.agenda) merge_left at
@@ -132,12 +129,10 @@ pub loop-preserved : goal.loop-preserved
 loop-preserved g c =
     let kept = c.loop.invariant in
     let lost = c.release_shared.ensures in (
-      lost.table ∙ kept.0,
-      lost.carried ∙ kept.1,
-      lost.slots ∙ kept.2,
+      kept_on kept.0 lost.kept,
       (
-        kept.3.0,
-        subst (λ (s : SharedRelease). HasWorked c.args.hand.now.view [] (shared_left c.args.row kept.3.0 s
+        kept.1.0,
+        subst (λ (s : SharedRelease). HasWorked c.args.hand.now.view [] (shared_left c.args.row kept.1.0 s
             ++ behind c.args.hand.now.view.actor.agenda) c.release_shared.new.hand.view) c.in-Again.is
             (tried g (goal.at.loop-preserved g c).After-release_shared),
       ),

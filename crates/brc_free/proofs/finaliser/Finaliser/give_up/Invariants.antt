@@ -1,3 +1,4 @@
+use Rattle.brc_table.specs.Hands.{KeepsButView}
 use Rattle.std.proofs.Common.{◌≡◌, [], ◌∷◌}
 use Rattle.brc_model.specs.declared.duty.Reason.{Reason}
 use Rattle.brc_model.specs.declared.duty.Duty.TheVariants.{SharedLoad}
@@ -7,7 +8,6 @@ use Rattle.brc_free.proofs.finaliser.Finaliser.give_up.Given as goal
 -- Each try that is lost, and each merge of the object, leaves a reference to be given up in the shared word.
 abbrev pub invariant-loop : goal.invariant-loop
 invariant-loop g l =
-    (l.hand.table ≡ l.fn.hand.table) × (l.hand.carried ≡ l.fn.hand.carried)
-    × (l.hand.slots ≡ l.fn.hand.slots)
+    KeepsButView l.fn.hand l.hand
     × ((r : Reason) × HasWorked l.fn.hand.view [] (SharedLoad l.fn.row r ∷ behind l.fn.hand.view.actor.agenda)
     l.hand.view)

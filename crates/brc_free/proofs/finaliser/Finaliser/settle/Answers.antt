@@ -1,3 +1,4 @@
+use Rattle.brc_table.proofs.Kept.{kept_on, kept_itself}
 use Rattle.std.proofs.Common.{ℕ, ◌+◌, [], ◌∷◌, ◌++◌, refl, sym, ap, ◌∙◌, subst}
 use Rattle.brc_host.specs.HostCounts.{count_limit, raised}
 use Rattle.brc_host.specs.HostCalls.{NoCall, close_faults}
@@ -12,9 +13,7 @@ use Rattle.brc_free.proofs.finaliser.Finaliser.settle.Goals as goal
 pub loop-init : goal.loop-init
 loop-init g c =
     let v = c.args.hand.now.view in (
-      refl,
-      refl,
-      refl,
+      kept_itself _,
       λ rest comes. (
         comes,
         (
@@ -30,12 +29,12 @@ pub returns-then-head-eq0-clause-table : goal.returns-then-head-eq0-clause-table
 returns-then-head-eq0-clause-table g c =
     let (rest, comes) = c.requires.duty in
     let kept = c.loop.invariant in
-    (kept.0 ∙ c.requires.table.0, (kept.3 rest comes).1.1.keeps.layout ∙ c.requires.table.1)
+    (kept.0.table ∙ c.requires.table.0, (kept.1 rest comes).1.1.keeps.layout ∙ c.requires.table.1)
 
 pub returns-then-head-eq0-clause-work : goal.returns-then-head-eq0-clause-work
 returns-then-head-eq0-clause-work g c = λ rest comes.
     let u = c.loop.hand.view in
-    let kept = c.loop.invariant.3 rest comes in
+    let kept = c.loop.invariant.1 rest comes in
     let empty = sym c.head.ensures ∙ c.if-head-eq0.true in
     let stands = subst (HasWorked (to_settle rest c.args.hand.now.view) kept.1.0 (Settle ∷ rest))
     (to_settle_none u rest empty kept.0) kept.1.1 in (
@@ -52,11 +51,9 @@ loop-preserved g c =
     let w = c.finalise_first.new.hand.view in
     let kept = c.loop.invariant in
     let one = c.finalise_first.ensures in (
-      one.kept.table ∙ kept.0,
-      one.kept.carried ∙ kept.1,
-      one.kept.slots ∙ kept.2,
+      kept_on kept.0 one.kept,
       λ rest comes.
-          let before = kept.3 rest comes in
+          let before = kept.1 rest comes in
           let after = one.work rest before.0 in
           let more = c.finalise_first.result in (
             InWork rest (λ gone. comes_alive u rest before.0 (sym after.1.keeps.status ∙ gone)) after.1.agenda,

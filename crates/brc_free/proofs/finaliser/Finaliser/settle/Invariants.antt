@@ -1,3 +1,4 @@
+use Rattle.brc_table.specs.Hands.{KeepsButView}
 use Rattle.std.proofs.Common.{◌≡◌, List, ◌∷◌}
 use Rattle.brc_host.specs.HostCounts.{raised}
 use Rattle.brc_host.specs.HostCalls.{HostCall, HasAnswered, close_faults}
@@ -9,8 +10,7 @@ use Rattle.brc_free.proofs.finaliser.Finaliser.settle.Given as goal
 -- After each object the hand settles what is left of its chain.
 abbrev pub invariant-loop : goal.invariant-loop
 invariant-loop g l =
-    (l.hand.table ≡ l.fn.hand.table) × (l.hand.carried ≡ l.fn.hand.carried)
-    × (l.hand.slots ≡ l.fn.hand.slots)
+    KeepsButView l.fn.hand l.hand
     × ((rest : List Duty) → ComesToSettle l.fn.hand.view rest → ComesToSettle l.hand.view rest
     × ((closes : List HostCall)
     × HasWorked (to_settle rest l.fn.hand.view) closes (Settle ∷ rest) (to_settle rest l.hand.view)

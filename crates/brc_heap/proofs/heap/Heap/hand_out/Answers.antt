@@ -4,7 +4,7 @@ use Rattle.brc_table.specs.declared.view.View.{View}
 use Rattle.brc_table.specs.Hands.{TableState}
 use Rattle.brc_table.specs.Giving.{MayGive}
 use Rattle.brc_table.specs.KnownWords.{has_started}
-use Rattle.brc_heap.proofs.Handing.{may_start, may_give}
+use Rattle.brc_heap.proofs.Handing.{may_start, may_give, has_given}
 use Rattle.brc_heap.proofs.heap.Heap.hand_out.Goals as goal
 
 pub thread_start-requires-clause-may_start : goal.thread_start-requires-clause-may_start
@@ -36,3 +36,8 @@ split-requires-clause-may_give g c =
     ))) (sym c.has_given.ensures ∙ c.if-has_given.false))
     (subst (λ (v : View). has_started c.args.thread v ≡ true) c.thread_start.ensures.view
     c.thread_start.ensures.started))
+
+pub returns-clause-left : goal.returns-clause-left
+returns-clause-left g c =
+    has_given c.requires.idle c.retain.ensures.left c.retain.ensures.references c.retain.ensures.head
+    c.thread_start.ensures.view c.split.ensures.main_view

@@ -1,3 +1,4 @@
+use Rattle.brc_table.proofs.Kept.{kept_on, kept_itself}
 use Rattle.std.proofs.Common.{refl, sym, ap, ◌∙◌, ℕ, [], ◌++◌}
 use Rattle.brc_host.specs.HostCalls.{NoCall, close_faults}
 use Rattle.brc_host.proofs.Answering.{answered_then, close_faults_then}
@@ -10,9 +11,7 @@ use Rattle.brc_queue.proofs.queue.Queue.merge_pending.Goals as goal
 pub loop-index-init : goal.loop-index-init
 loop-index-init g c =
     let v = c.args.hand.now.view in (
-      refl,
-      refl,
-      refl,
+      kept_itself _,
       c.requires.free,
       c.requires.settled,
       keeps_first v,
@@ -31,17 +30,15 @@ loop-index-preserved g c =
     let w = c.claim.new.hand.view in
     let kept = c.loop-index.invariant in
     let one = c.claim.ensures in
-    let before = kept.6 in (
-      one.kept.table ∙ kept.0,
-      one.kept.carried ∙ kept.1,
-      one.kept.slots ∙ kept.2,
+    let before = kept.4 in (
+      kept_on kept.0 one.kept,
       record {
-        running = one.keeps.status ∙ kept.3.running;
+        running = one.keeps.status ∙ kept.1.running;
         agenda = one.work.1.follows.agenda;
-        aside = one.keeps.aside ∙ kept.3.aside;
+        aside = one.keeps.aside ∙ kept.1.aside;
       },
       one.work.1.settled,
-      keeps_then v u w kept.5 one.keeps,
+      keeps_then v u w kept.3 one.keeps,
       (
         before.0 ++ one.work.0,
         Next c.loop-index.index before.0 one.work.0 u w before.1 one.work.1,

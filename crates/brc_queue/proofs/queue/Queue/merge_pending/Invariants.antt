@@ -1,3 +1,4 @@
+use Rattle.brc_table.specs.Hands.{KeepsButView}
 use Rattle.std.proofs.Common.{◌≡◌, List}
 use Rattle.brc_host.specs.HostCalls.{HostCall, HasAnswered, close_faults}
 use Rattle.brc_host.specs.HostCounts.{raised}
@@ -9,7 +10,7 @@ use Rattle.brc_queue.proofs.queue.Queue.merge_pending.Given as goal
 -- The marks of the rows before this one are taken, and the hand has nothing to do.
 abbrev pub invariant-loop-index : goal.invariant-loop-index
 invariant-loop-index g l =
-    (l.hand.table ≡ l.fn.hand.table) × (l.hand.carried ≡ l.fn.hand.carried) × (l.hand.slots ≡ l.fn.hand.slots)
+    KeepsButView l.fn.hand l.hand
     × IsFree l.hand.view × (l.hand.view.actor.head ≡ 0) × Keeps l.fn.hand.view l.hand.view
     × ((closes : List HostCall) × HasScanned l.fn.hand.view l.index closes l.hand.view
     × (l.failed ≡ raised (close_faults closes) 0)

@@ -1,3 +1,4 @@
+use Rattle.brc_table.proofs.Kept.{kept_on, kept_itself}
 use Rattle.std.proofs.Common.{◌≡◌, ℕ, ◌-◌, ◌<◌, [], ◌∷◌, refl, sym, ap, ◌∙◌, subst, arith, ◌++◌}
 use Rattle.brc_host.specs.HostCalls.{NoCall, close_faults}
 use Rattle.brc_host.proofs.Answering.{answered_then, close_faults_then}
@@ -12,9 +13,7 @@ use Rattle.brc_queue.proofs.queue.Queue.scan.Goals as goal
 pub loop-index-init : goal.loop-index-init
 loop-index-init g c =
     let v = c.args.hand.now.view in (
-      refl,
-      refl,
-      refl,
+      kept_itself _,
       c.requires.settled,
       (
         [],
@@ -34,10 +33,8 @@ loop-index-preserved g c =
     let w = c.scan_row.new.hand.view in
     let kept = c.loop-index.invariant in
     let one = c.scan_row.ensures in
-    let before = kept.4 in (
-      one.kept.table ∙ kept.0,
-      one.kept.carried ∙ kept.1,
-      one.kept.slots ∙ kept.2,
+    let before = kept.2 in (
+      kept_on kept.0 one.kept,
       one.settled,
       (
         before.0 ++ one.work.0,

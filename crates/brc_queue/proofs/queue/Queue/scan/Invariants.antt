@@ -1,3 +1,4 @@
+use Rattle.brc_table.specs.Hands.{KeepsButView}
 use Rattle.std.proofs.Common.{◌≡◌, ◌-◌, [], ◌∷◌, List}
 use Rattle.brc_host.specs.HostCalls.{HostCall, HasAnswered, close_faults}
 use Rattle.brc_host.specs.HostCounts.{raised}
@@ -8,7 +9,7 @@ use Rattle.brc_queue.proofs.queue.Queue.scan.Given as goal
 -- The rows from this one on are left to scan, and the hand has settled.
 abbrev pub invariant-loop-index : goal.invariant-loop-index
 invariant-loop-index g l =
-    (l.hand.table ≡ l.fn.hand.table) × (l.hand.carried ≡ l.fn.hand.carried) × (l.hand.slots ≡ l.fn.hand.slots)
+    KeepsButView l.fn.hand l.hand
     × (l.hand.view.actor.head ≡ 0)
     × ((closes : List HostCall)
     × HasWorked l.fn.hand.view closes (Scan l.index (l.fn.hand.view.actor.used - l.index) ∷ Finish ∷ []) l.hand.view
