@@ -40,7 +40,8 @@ pub fn trace<W: Write>(
     ensures made { OnOk result (model_of world.new ≡ world_after (model_of world.old) (events_of schedule.now.steps)) }
     ensures whole { OnOk result (Appends (W.contents out.old) (W.contents out.new)
         (trace_text paint (model_of world.old) (events_of schedule.now.steps))) }
-    ensures stopped { OnErr result (StandsAmong (model_of world.old) (events_of schedule.now.steps) (model_of world.new)) }
+    ensures stopped { OnErr result (StandsAmong (model_of world.old) (events_of schedule.now.steps)
+        (model_of world.new)) }
     ensures begun { OnErr result (AppendsBeginning (W.contents out.old) (W.contents out.new)
         (trace_text paint (model_of world.old) (events_of schedule.now.steps))) }
     ensures as_many { length world.new.actors ≡ length world.old.actors }

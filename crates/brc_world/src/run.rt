@@ -16,8 +16,10 @@ impl World<'_> {
     /// it would have changed the world.
     pub fn run(&mut self, schedule: &Schedule) -> Result<(), NoMemory>
         requires { All (λ line. line.thread < length self.old.actors) schedule.now.steps }
-        ensures done { OnOk result (model_of self.new ≡ world_after (model_of self.old) (events_of schedule.now.steps)) }
-        ensures stopped { OnErr result (StandsWithin (model_of self.old) (events_of schedule.now.steps) (model_of self.new)) }
+        ensures done { OnOk result (model_of self.new ≡ world_after (model_of self.old)
+            (events_of schedule.now.steps)) }
+        ensures stopped { OnErr result (StandsWithin (model_of self.old) (events_of schedule.now.steps)
+            (model_of self.new)) }
         ensures as_many { length self.new.actors ≡ length self.old.actors }
     {
         for line in schedule.steps.as_slice() {

@@ -29,7 +29,8 @@ loop-line-preserved g c = record {
 
 pub returns-clause-traced : goal.returns-clause-traced
 returns-clause-traced g c =
-    subst (λ (l : List Steps). IsTraced c.args.paint c.args.functions.now (model_of c.args.world.now) c.args.self.now.past
+    subst (λ (l : List Steps). IsTraced c.args.paint c.args.functions.now (model_of c.args.world.now)
+    c.args.self.now.past
     (events_of l) (model_of c.loop-line.world) c.loop-line.self.past (g.W.Write.contents c.args.out.now)
     (g.W.Write.contents c.loop-line.out))
     (take_all c.loop-line.line-index c.args.lines.now c.loop-line-test.false)

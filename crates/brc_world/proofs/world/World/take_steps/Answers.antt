@@ -13,7 +13,8 @@ returns-in_err-step-clause-stopped c =
 
 pub returns-in-Gone-clause-done : goal.returns-in-Gone-clause-done
 returns-in-Gone-clause-done c =
-    gone_done (model_of c.args.self.now) (model_of c.loop.self) (model_of c.step.new.self) c.from-thread.result c.args.line.thread
+    gone_done (model_of c.args.self.now) (model_of c.loop.self) (model_of c.step.new.self) c.from-thread.result
+    c.args.line.thread
     c.args.line.choice c.in_ok-step.field-0 c.loop.counter c.args.line.times c.from-thread.ensures
     c.loop.invariant.stands (omega arith)
     c.in_ok-step.ensures.made c.in_ok-step.ensures.answer c.in-Gone.is
@@ -21,7 +22,8 @@ returns-in-Gone-clause-done c =
 pub loop-preserved : goal.loop-preserved
 loop-preserved c = record {
   stands =
-      one_more (model_of c.args.self.now) (model_of c.loop.self) (model_of c.step.new.self) c.args.line.thread c.args.line.choice
+      one_more (model_of c.args.self.now) (model_of c.loop.self) (model_of c.step.new.self) c.args.line.thread
+      c.args.line.choice
       c.loop.counter c.loop.invariant.stands
       (rw c.from-thread.ensures at c.in_ok-step.ensures.made);
   as_many = c.in_ok-step.ensures.as_many ∙ c.loop.invariant.as_many;

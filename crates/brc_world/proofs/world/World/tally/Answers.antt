@@ -7,7 +7,8 @@ use Rattle.brc_world.proofs.Tallying.{born_there, count_over, tally_as}
 use Rattle.brc_world.proofs.world.World.tally.Goals as goal
 
 pub left_of-requires : goal.left_of-requires
-left_of-requires c = rw (c.deref.ensures.value, c.in_ok-born.ensures) (born_there (model_of c.args.self.now) (omega arith))
+left_of-requires c = rw (c.deref.ensures.value, c.in_ok-born.ensures)
+    (born_there (model_of c.args.self.now) (omega arith))
 
 pub overflow_sub-result : goal.overflow_sub-result
 overflow_sub-result c =
