@@ -112,8 +112,8 @@ owns_by x (suc head) false = refl
 owns_next : (v : View) (word : ℕ) → OwnsFirst (next_row v) (view_after (bearing v word) 0).actor.agenda
 owns_next v word = owns_by (next_row v) v.actor.head (has_resource word)
 
-pub owns_after : {u v : View} {row word : ℕ} → u ≡ view_after (bearing v word) 0 → row ≡ next_row v
+pub owns_after : (v : View) (word : ℕ) {u : View} {row : ℕ} → u ≡ view_after (bearing v word) 0 → row ≡ next_row v
     → OwnsFirst row u.actor.agenda
-owns_after {u} {v} {row} {word} view is =
+owns_after v word {u} {row} view is =
     subst (λ (y : ℕ). OwnsFirst y u.actor.agenda) (sym is)
     (subst (λ (w : View). OwnsFirst (next_row v) w.actor.agenda) (sym view) (owns_next v word))

@@ -59,7 +59,7 @@ impl<T: Drop> Heap<T> {
     }
 
     /// Makes the steps of `birth`.
-    #[tactic(auto, using(crate::proofs::Bearing::owns_after))]
+    
     fn birth_steps(&self, hand: &mut Hand<T>, word: u64, resource: Option<T>) -> u32
         requires table { IsOf self.now hand.old }
         requires running { IsRunning hand.old.view }

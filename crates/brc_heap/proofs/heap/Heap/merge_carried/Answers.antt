@@ -48,7 +48,7 @@ returns-clause-again g c = λ r duty again. record {
       ∙ ap (λ (s : MergeStep). still_carried s c.args.carried) again);
 }
 
-pub returns-clause-done : goal.returns-clause-view_after
+pub returns-clause-done : goal.returns-clause-done
 returns-clause-done g c = λ other.
     c.remember.ensures.row ∙ (c.still_carried.ensures ∙ carries_none c.merge-step.result c.args.carried other)
 
