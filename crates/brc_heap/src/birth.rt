@@ -59,7 +59,6 @@ impl<T: Drop> Heap<T> {
     }
 
     /// Makes the steps of `birth`.
-    
     fn birth_steps(&self, hand: &mut Hand<T>, word: u64, resource: Option<T>) -> u32
         requires table { IsOf self.now hand.old }
         requires running { IsRunning hand.old.view }
