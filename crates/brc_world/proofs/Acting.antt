@@ -104,10 +104,10 @@ module _ (layout : Layout) (t : ℕ) (memory : Address → ℕ) (a : StepActor) 
   called_by (Does (LockGate y) rest place) e found = absurd cc
   called_by (Does d rest place) e found = absurd cc
 
-  does_by : (agenda : List Duty) (c d : Duty) (rest : List Duty) (place : ℕ → Place) (did : Did)
+  one_duty : (agenda : List Duty) (c d : Duty) (rest : List Duty) (place : ℕ → Place) (did : Did)
       → c ≡ d → did ≡ answer_by memory agenda (Does c rest place)
       → DoneBy layout t memory a agenda exit (Does c rest place) d did
-  does_by agenda c d rest place did same answer =
+  one_duty agenda c d rest place did same answer =
       subst (λ (e : Duty). DoneBy layout t memory a agenda exit (Does c rest place) e did) same
       (record {
         step = record { answer = answer; memory_is = refl; actor = refl; faults = λ f. refl };
@@ -122,7 +122,7 @@ module _ (layout : Layout) (t : ℕ) (memory : Address → ℕ) (a : StepActor) 
   does_by (Silent moves place) d e = absurd cc
   does_by (Calls row place) d e = absurd cc
   does_by (Does (LockGate y) rest place) d e = absurd cc
-  does_by (Does c rest place) d e = does_by [] c d rest place answers.Moved (doing_is d c e) refl
+  does_by (Does c rest place) d e = one_duty [] c d rest place answers.Moved (doing_is d c e) refl
 
   locks_by : (x : Action) (row left next : ℕ) → starts.Locking row left next ≡ start_by x
       → DoneBy layout t memory a [] exit x (LockGate row) (entering (memory (Gate row)))
@@ -134,7 +134,7 @@ module _ (layout : Layout) (t : ℕ) (memory : Address → ℕ) (a : StepActor) 
       let same : y ≡ row = cc in
       subst (λ (z : ℕ). DoneBy layout t memory a [] exit (Does (LockGate y) rest place) (LockGate z)
       (entering (memory (Gate z)))) same
-      (does_by [] (LockGate y) (LockGate y) rest place (entering (memory (Gate y))) refl
+      (one_duty [] (LockGate y) (LockGate y) rest place (entering (memory (Gate y))) refl
       (enters (memory (Gate y) == free_word)))
   locks_by (Does c rest place) row left next e = absurd cc
 
@@ -167,7 +167,7 @@ module _ (functions : List Function) (layout : Layout) (t : ℕ) (memory : Addre
       → DoneBy layout t memory a agenda exit (agenda_action functions layout t a agenda) d answers.Moved
   agenda_does [] d e = does_by layout t memory a exit (agenda_action functions layout t a []) d e
   agenda_does (c ∷ rest) d e =
-      does_by layout t memory a exit (c ∷ rest) c d rest (always a.place) answers.Moved (doing_is d c e) refl
+      one_duty layout t memory a exit (c ∷ rest) c d rest (always a.place) answers.Moved (doing_is d c e) refl
 
   agenda_locks : (agenda : List Duty) (row left next : ℕ)
       → starts.Locking row left next ≡ first_start functions layout t a agenda
