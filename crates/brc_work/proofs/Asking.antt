@@ -112,7 +112,7 @@ module _ (base : Base) (s : State) (rows : List (Option ℕ)) (hand after : Hand
   in_vars = used_low s.vars from used
 
   -- The hand knows what the locked object's slot has, since it has just asked for the kind.
-  locked_kind : (i : ℕ) (lock : LockFits base.first.vars s rows after i) → LockFits base.first.vars next rows after i
+  locked_kind : (i : ℕ) (lock : LockFits base.first.slots s rows after i) → LockFits base.first.slots next rows after i
   locked_kind i lock = elim (eqb_tells i from) [
     | inl this ↦
         let slot_is : var_of next i ≡ with_kind (var_of s from) kind = ap (var_of next) this.1 ∙ low in_vars in
@@ -151,8 +151,8 @@ module _ (base : Base) (s : State) (rows : List (Option ℕ)) (hand after : Hand
         }
   ]
 
-  locks_kind : (locked : Option ℕ) → LocksAs locked base.first.vars s rows after
-      → LocksAs locked base.first.vars next rows after
+  locks_kind : (locked : Option ℕ) → LocksAs locked base.first.slots s rows after
+      → LocksAs locked base.first.slots next rows after
   locks_kind None lock = lock
   locks_kind (Some i) lock = locked_kind i lock
 
