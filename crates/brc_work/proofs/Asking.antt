@@ -54,7 +54,7 @@ lists_kind layout (Caller k) kind row = refl
 lists_kind layout (Locked k) kind row = refl
 
 -- A variable that has only another kind owns what it owned.
-sum_kind : (f : VarState → Option ℕ → ℕ) (i : ℕ) (vars : List VarState) (rows : List (Option ℕ)) (slot : VarState)
+sum_kind : (f : VarState → Option ℕ → ℕ) (i : ℕ) (slots : List VarState) (rows : List (Option ℕ)) (slot : VarState)
     → f slot (get_or rows i None) ≡ f (get_or slots i Empty) (get_or rows i None)
     → over_variables f (set slots i slot) rows ≡ over_variables f slots rows
 sum_kind f i [] rows slot same = refl
@@ -83,7 +83,7 @@ kind_is (Caller k) kind used = refl
 kind_is (Locked k) kind used = refl
 
 -- A variable in use is one of the sixteen.
-pub used_low : (vars : List VarState) (i : ℕ) → is_empty (get_or slots i Empty) ≡ false → i < length slots
+pub used_low : (slots : List VarState) (i : ℕ) → is_empty (get_or slots i Empty) ≡ false → i < length slots
 used_low [] i used = let wrong : true ≡ false = used in absurd cc
 used_low (s ∷ slots) zero used = omega arith
 used_low (s ∷ slots) (suc i) used = let rest = used_low slots i used in omega (arith, rest)
