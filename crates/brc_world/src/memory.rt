@@ -4,12 +4,10 @@ ghost use Rattle.std.specs.Prelude.{◌≡◌, ◌+◌, ◌*◌, ◌≤◌, leng
 ghost use Rattle.brc_model.specs.Within.{IsThere};
 ghost use Rattle.brc_model.specs.Limits.{worker_limit};
 ghost use Rattle.brc_model.specs.StepMachine.{first_memory};
-ghost use Rattle.brc_effect.specs.Accesses.{left_by};
 ghost use Rattle.brc_world.specs.Storage.{word_in, IsStored};
 ghost use Rattle.brc_model.specs.Layout.{row_count};
 
 use crate::no_memory::NoMemory;
-use brc_effect::Access;
 use brc_effect::rows::row_count;
 use brc_model::{Address, Layout};
 use brc_word::values::{FREE, LIST, NONE, RUNNING};
@@ -91,39 +89,23 @@ impl Memory {
         }
     }
 
-    /// Makes the operation on the word at the address, and returns the word found.
-    #[inline(always)]
-    pub fn operate(&mut self, address: Address, access: Access) -> u64
+    /// Stores the word at the address.
+    pub fn store(&mut self, address: Address, word: u64)
         requires { IsThere (length self.old.local) (length self.old.thread) address }
-        ensures found { result ≡ word_in self.old address }
-        ensures left { IsStored self.old address (left_by access (word_in self.old address)) self.new }
+        ensures { IsStored self.old address word self.new }
     {
         match address {
-            Address::Local { row } => changed(&mut self.local[row as usize], access),
-            Address::Shared { row } => changed(&mut self.shared[row as usize], access),
-            Address::Gate { row } => changed(&mut self.gate[row as usize], access),
-            Address::KindOf { row } => changed(&mut self.kind[row as usize], access),
-            Address::Mark { row } => changed(&mut self.mark[row as usize], access),
-            Address::Cell { row, cell } => changed(
-                &mut self.cell[CELLS * row as usize + cell as usize],
-                access,
-            ),
-            Address::Slot { row } => changed(&mut self.slot[row as usize], access),
-            Address::Resource { row } => changed(&mut self.resource[row as usize], access),
-            Address::ThreadWord { thread } => changed(&mut self.thread[thread as usize], access),
+            Address::Local { row } => self.local[row as usize] = word,
+            Address::Shared { row } => self.shared[row as usize] = word,
+            Address::Gate { row } => self.gate[row as usize] = word,
+            Address::KindOf { row } => self.kind[row as usize] = word,
+            Address::Mark { row } => self.mark[row as usize] = word,
+            Address::Cell { row, cell } => self.cell[CELLS * row as usize + cell as usize] = word,
+            Address::Slot { row } => self.slot[row as usize] = word,
+            Address::Resource { row } => self.resource[row as usize] = word,
+            Address::ThreadWord { thread } => self.thread[thread as usize] = word,
         }
     }
-}
-
-/// Makes the operation on the word, and returns the word found.
-#[inline(always)]
-fn changed(word: &mut u64, access: Access) -> u64
-    ensures found { result ≡ word.old }
-    ensures left { word.new ≡ left_by access word.old }
-{
-    let found = *word;
-    *word = access.leaves(found);
-    found
 }
 
 /// Returns the words before any step, or `NoMemory` if memory is refused. None is immortal. The root is a list of eight

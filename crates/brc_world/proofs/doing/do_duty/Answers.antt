@@ -13,8 +13,9 @@ address_of-address-requires-clause-indexed c =
 
 pub returns-clause-word : goal.returns-clause-word
 returns-clause-word c =
-    let found = ap (word_in c.args.memory.now) c.address_of-address.ensures in
+    let found = c.load-found.ensures ∙ ap (word_in c.args.memory.now) c.address_of-address.ensures in
     let suits =
     subst (λ (n : ℕ). Suits c.args.number (is_running c.args.thread.now.status) (length c.args.memory.now.local)
     c.args.duty.now n) (sym found) c.requires.suits in
-    rw (c.access_of-access.ensures.word _ _ _ suits, c.address_of-address.ensures) at c.operate-found.ensures.left
+    let left = c.leaves.ensures ∙ c.access_of-access.ensures.word _ _ _ suits in
+    rw (left, c.load-found.ensures, c.address_of-address.ensures) at c.store.ensures

@@ -1,6 +1,6 @@
 use Rattle.std.proofs.Common.{sym}
 use Rattle.brc_world.proofs.Storing.{stored_cell}
-use Rattle.brc_world.proofs.memory.Memory.operate.Goals as goal
+use Rattle.brc_world.proofs.memory.Memory.store.Goals as goal
 
 pub returns-in-Cell : goal.returns-in-Cell
 returns-in-Cell c =
