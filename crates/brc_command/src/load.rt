@@ -1,6 +1,6 @@
 ghost use Rattle.std.specs.Prelude.{◌≡◌, ◌<◌, ℕ, List, length, true, false, Ok, OnOk, IsErrOf};
 ghost use Rattle.brc_command.specs.declared.load.LoadError.TheVariants.{Unreadable};
-ghost use Rattle.brc_command.specs.Loading.{IsPrefix, IsReadSoFar};
+ghost use Rattle.brc_command.specs.Loading.{IsGivenPrefix, IsReadSoFar};
 
 use thiserror::Error;
 
@@ -36,7 +36,7 @@ pub trait Load {
     /// `Unreadable` or `NoMemory`.
     fn load_more(&mut self, path: &str, bytes: &mut Vec<u8>) -> Result<bool, LoadError>
         requires { IsReadSoFar (may_give self.old) path.now bytes.old.items }
-        ensures begun { OnOk result (IsPrefix (may_give self.new) path.now bytes.new.items) }
+        ensures begun { OnOk result (IsGivenPrefix (may_give self.new) path.now bytes.new.items) }
         ensures ended { result ≡ Ok true → may_give self.old path.now bytes.new.items }
         ensures longer { result ≡ Ok false → length bytes.old.items < length bytes.new.items }
         ensures lacking { IsErrOf result Unreadable → may_lack self.old path.now }
