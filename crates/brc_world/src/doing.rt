@@ -64,8 +64,8 @@ pub fn do_duty(
 {
     let all = memory.rows() as u32;
     let address = address_of(layout, number, thread.head, *duty);
-    let access = access_of(*duty, number, thread.head);
     let found = memory.load(address);
+    let access = access_of(*duty, number, thread.head);
     memory.store(address, access.leaves(found));
     let by = doer(layout, thread, number, all);
     let effect = by.effect(*duty, found);
