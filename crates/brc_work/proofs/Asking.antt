@@ -54,7 +54,7 @@ lists_kind layout (Caller k) kind row = refl
 lists_kind layout (Locked k) kind row = refl
 
 -- A variable that has only another kind owns what it owned.
-sum_kind : (f : VarState → Option ℕ → ℕ) (i : ℕ) (vars : List VarState) (rows : List (Option ℕ)) (slot : VarState)
+sum_kind : (f : VarState → Option ℕ → ℕ) (i : ℕ) (slots : List VarState) (rows : List (Option ℕ)) (slot : VarState)
     → f slot (get_or rows i None) ≡ f (get_or slots i Empty) (get_or rows i None)
     → over_variables f (set slots i slot) rows ≡ over_variables f slots rows
 sum_kind f i [] rows slot same = refl
@@ -83,7 +83,7 @@ kind_is (Caller k) kind used = refl
 kind_is (Locked k) kind used = refl
 
 -- A variable in use is one of the sixteen.
-pub used_low : (vars : List VarState) (i : ℕ) → is_empty (get_or slots i Empty) ≡ false → i < length slots
+pub used_low : (slots : List VarState) (i : ℕ) → is_empty (get_or slots i Empty) ≡ false → i < length slots
 used_low [] i used = let wrong : true ≡ false = used in absurd cc
 used_low (s ∷ slots) zero used = omega arith
 used_low (s ∷ slots) (suc i) used = let rest = used_low slots i used in omega (arith, rest)
@@ -112,7 +112,7 @@ module _ (base : Base) (s : State) (rows : List (Option ℕ)) (hand after : Hand
   in_vars = used_low s.vars from used
 
   -- The hand knows what the locked object's slot has, since it has just asked for the kind.
-  locked_kind : (i : ℕ) (lock : LockFits base.first.vars s rows after i) → LockFits base.first.vars next rows after i
+  locked_kind : (i : ℕ) (lock : LockFits base.first.slots s rows after i) → LockFits base.first.slots next rows after i
   locked_kind i lock = elim (eqb_tells i from) [
     | inl this ↦
         let slot_is : var_of next i ≡ with_kind (var_of s from) kind = ap (var_of next) this.1 ∙ low in_vars in
@@ -151,8 +151,8 @@ module _ (base : Base) (s : State) (rows : List (Option ℕ)) (hand after : Hand
         }
   ]
 
-  locks_kind : (locked : Option ℕ) → LocksAs locked base.first.vars s rows after
-      → LocksAs locked base.first.vars next rows after
+  locks_kind : (locked : Option ℕ) → LocksAs locked base.first.slots s rows after
+      → LocksAs locked base.first.slots next rows after
   locks_kind None lock = lock
   locks_kind (Some i) lock = locked_kind i lock
 

@@ -241,7 +241,7 @@ pub hands_stop_as_threads : HandsStopAsThreads
 hands_stop_as_threads functions states layout t function a running none = record {
   in_call = λ turns left at variables s known.
       let context : Context = record { left = left; turns = turns; outer = [] } in
-      GoesSilently Stop [] (stopping (row_locked s.locked variables) (owned_rows s.slots variables ∷ []))
+      GoesSilently Stop [] (stopping (row_locked s.locked variables) (owned_rows s.vars variables ∷ []))
       (stop_running functions states layout t function (InCall context at variables) a refl running none
       ∙ ap (stop_in_call context variables) known);
   between = λ left.

@@ -138,7 +138,7 @@ refits base s rows hand after to slot row fits low unlocked did says trades =
       few =
           let sums = sum_set (lists base.first.view.layout) to s.vars rows slot row in_vars in_rows in
           omega (arith, sums, trades.few, fits.few);
-      lock = locks_as base.first.vars s (put s to slot) rows (slice_set rows to row) hand after s.locked did.acts
+      lock = locks_as base.first.slots s (put s to slot) rows (slice_set rows to row) hand after s.locked did.acts
           (λ i is. (
             row_of-set_other rows to i row (elsewhere i is),
             says_same (var_of s i) (var_of (put s to slot) i) (var_of-put_other s to i slot (elsewhere i is)),
@@ -164,7 +164,7 @@ same_fits base s rows hand after fits did same = record {
   held = λ y counted. ap (λ (l : List ℕ). holds (record after.view { references = l }) y) same ∙ fits.held y counted;
   few = subst (λ (l : List ℕ). length l ≤ base.most + over_variables (lists base.first.view.layout) s.vars rows)
       (sym same) fits.few;
-  lock = locks_as base.first.vars s s rows rows hand after s.locked did.acts
+  lock = locks_as base.first.slots s s rows rows hand after s.locked did.acts
       (λ i is. (refl, says_same (var_of s i) (var_of s i) refl)) fits.lock;
 }
 
@@ -190,6 +190,6 @@ bare_fits base s rows hand after fits did same = record {
       ≤ base.most + over_variables (lists base.first.view.layout) (map without_item s.vars) rows) (sym same)
       (subst (λ (n : ℕ). length hand.view.references ≤ base.most + n)
       (sym (sum_without (lists base.first.view.layout) (lists_without base.first.view.layout) s.vars rows)) fits.few);
-  lock = locks_as base.first.vars s (without_items s) rows rows hand after s.locked did
+  lock = locks_as base.first.slots s (without_items s) rows rows hand after s.locked did
       (λ i is. (refl, says_bare s i)) fits.lock;
 }

@@ -161,7 +161,7 @@ may_unlock s object used locked =
     (ap (λ (o : Option ℕ). names o object) locked ∙ names_itself object)
 
 -- What borrows from the list is empty once the list is unlocked. So the same variables own references.
-owned_alike : (vars : List VarState) (i : ℕ)
+owned_alike : (slots : List VarState) (i : ℕ)
     → is_owned (slice_index_or (map without_item slots) i Empty) ≡ is_owned (slice_index_or slots i Empty)
 owned_alike [] i = refl
 owned_alike (Empty ∷ slots) zero = refl

@@ -138,7 +138,7 @@ module _ (base : Base) (s : State) (rows : List (Option ℕ)) (hand : HandState)
 
   -- ---- the lock
 
-  locked_slot : (i j x : ℕ) (slot : VarState) → var_of s i ≡ slot → LockFits base.first.vars s rows hand i → i ≢ j
+  locked_slot : (i j x : ℕ) (slot : VarState) → var_of s i ≡ slot → LockFits base.first.slots s rows hand i → i ≢ j
       → row_of rows i ≡ Some x → is_owned (var_of s j) ≡ true → row_of rows j ≡ Some x
       → IsCounted hand.view.layout x → 2 ≤ holds hand.view x
   locked_slot i j x Empty is lock apart row owned other counted =
@@ -151,7 +151,7 @@ module _ (base : Base) (s : State) (rows : List (Option ℕ)) (hand : HandState)
       let wrong : true ≡ false = sym (ap borrows_item is) ∙ lock.lasting in absurd cc
 
   -- A reference that may be given up isn't the last one to the locked object.
-  gives_up : (from x : ℕ) (locked : Option ℕ) → s.locked ≡ locked → LocksAs locked base.first.vars s rows hand
+  gives_up : (from x : ℕ) (locked : Option ℕ) → s.locked ≡ locked → LocksAs locked base.first.slots s rows hand
       → CanGive s from → row_of rows from ≡ Some x → KeepsLock hand.view x
   gives_up from x None is lock can row locked = absurd (none_some x (sym lock.0 ∙ locked))
   gives_up from x (Some i) is lock can row locked =
@@ -165,10 +165,10 @@ module _ (base : Base) (s : State) (rows : List (Option ℕ)) (hand : HandState)
   keeps_lock from x can row = gives_up from x s.locked refl fits.lock can row
 
   -- The locked object is one that the hand holds.
-  pub lock_of : (i : ℕ) → s.locked ≡ Some i → LockFits base.first.vars s rows hand i
-  lock_of i is = subst (λ (l : Option ℕ). LocksAs l base.first.vars s rows hand) is fits.lock
+  pub lock_of : (i : ℕ) → s.locked ≡ Some i → LockFits base.first.slots s rows hand i
+  lock_of i is = subst (λ (l : Option ℕ). LocksAs l base.first.slots s rows hand) is fits.lock
 
-  pub locked_held : (i : ℕ) (lock : LockFits base.first.vars s rows hand i) → 1 ≤ holds hand.view lock.object
+  pub locked_held : (i : ℕ) (lock : LockFits base.first.slots s rows hand i) → 1 ≤ holds hand.view lock.object
   locked_held i lock = elim (lasting_one i lock.object lock.used lock.lasting lock.names) [
     | inl immortal ↦ absurd (false≢true (sym lock.counted ∙ immortal))
     | inr more ↦ more

@@ -27,10 +27,10 @@ on_file base s rows hand file row fits is has named =
     record {
       locked = lock.locked ∙ ap Some same;
       whole = lock.resource has;
-      rest = base.first.vars;
+      rest = base.first.slots;
       slots =
-          lock.slots ∙ (ap (λ (x : ℕ). (x, hand.view.in_slot) ∷ base.first.vars) same
-          ∙ ap (λ (n : ℕ). (row, n) ∷ base.first.vars) (lock.resource has));
+          lock.slots ∙ (ap (λ (x : ℕ). (x, hand.view.in_slot) ∷ base.first.slots) same
+          ∙ ap (λ (n : ℕ). (row, n) ∷ base.first.slots) (lock.resource has));
     }
 
 pub there : (hand : HandState) (row : ℕ) → OnFile hand row → FirstSlot hand.slots row 1

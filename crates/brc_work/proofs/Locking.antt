@@ -46,9 +46,9 @@ slot_unlocked held v u (Locked k) row more none fits =
     absurd (none_some fits.borrows.list (sym none ∙ fits.borrows.locked))
 
 pub no_lock : (base : Base) (s : State) (rows : List (Option ℕ)) (hand : HandState) → Fits base s rows hand
-    → s.locked ≡ None → (hand.view.actor.locked ≡ None) × (hand.slots ≡ base.first.vars)
+    → s.locked ≡ None → (hand.view.actor.locked ≡ None) × (hand.slots ≡ base.first.slots)
 no_lock base s rows hand fits none =
-    subst (λ (l : Option ℕ). LocksAs l base.first.vars s rows hand) none fits.lock
+    subst (λ (l : Option ℕ). LocksAs l base.first.slots s rows hand) none fits.lock
 
 -- ---- a try to lock
 
@@ -61,7 +61,7 @@ module _ (base : Base) (s : State) (rows : List (Option ℕ)) (hand after : Hand
   abbrev more : KnowsMore hand.view after.view
   more = record { layout = kept.layout; kinds = kept.kinds }
 
-  tried_with : (next : State) → next.vars ≡ s.vars → LocksAs next.locked base.first.vars next rows after
+  tried_with : (next : State) → next.vars ≡ s.vars → LocksAs next.locked base.first.slots next rows after
       → Fits base next rows after
   tried_with next same lock = record {
     ready = fits.ready;
@@ -99,7 +99,7 @@ module _ (base : Base) (s : State) (rows : List (Option ℕ)) (hand after : Hand
   -- that fails,
   pub still_fits : after.view.actor.locked ≡ None → after.slots ≡ hand.slots → Fits base s rows after
   still_fits unlocked slots =
-      tried_with s refl (subst (λ (l : Option ℕ). LocksAs l base.first.vars s rows after) (sym none)
+      tried_with s refl (subst (λ (l : Option ℕ). LocksAs l base.first.slots s rows after) (sym none)
       (unlocked, slots ∙ (no_lock base s rows hand fits none).1))
 
   -- and one that wins.
@@ -128,7 +128,7 @@ module _ (base : Base) (s : State) (rows : List (Option ℕ)) (hand after : Hand
 -- ---- an unlock
 
 pub unlocks : (base : Base) (s : State) (rows : List (Option ℕ)) (hand after : HandState) (i : ℕ)
-    → Fits base s rows hand → LockFits base.first.vars s rows hand i → Keeps hand.view after.view
+    → Fits base s rows hand → LockFits base.first.slots s rows hand i → Keeps hand.view after.view
     → after.table ≡ hand.table → after.carried ≡ hand.carried → after.slots ≡ behind_slot hand.slots
     → after.view.actor.locked ≡ None → Fits base (with_lock (without_items s) None) rows after
 unlocks base s rows hand after i fits lock kept table carried slots unlocked = record {

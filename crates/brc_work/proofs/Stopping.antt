@@ -73,7 +73,7 @@ emptied_long : (k : ℕ) (s : State) → length (emptied k s).vars ≡ length s.
 emptied_long zero s = refl
 emptied_long (suc k) s =
     let before = emptied_long k s in
-    either (λ (t : State). length t.slots ≡ length s.vars) (is_owned (var_of s k)) (put (emptied k s) k Empty)
+    either (λ (t : State). length t.vars ≡ length s.vars) (is_owned (var_of s k)) (put (emptied k s) k Empty)
     (emptied k s)
     (λ is. length-set (emptied k s).vars k Empty ∙ before) before
 
@@ -107,7 +107,7 @@ emptied_bare (suc k) i s low there = elim (eq-or-lt_of_le {n = i} {m = k} (omega
       before
 ]
 
-none_owned : (vars : List VarState) → ((i : ℕ) → i < length slots → is_owned (slice_index_or slots i Empty) ≡ false)
+none_owned : (slots : List VarState) → ((i : ℕ) → i < length slots → is_owned (slice_index_or slots i Empty) ≡ false)
     → list_any is_owned slots ≡ false
 none_owned [] each = refl
 none_owned (slot ∷ slots) each =

@@ -38,7 +38,7 @@ pub record HasReturned (base : Base) (hand : HandState) : Type 0 where
   pub follows : IsLater base.first hand
   pub rests : Rests hand
   pub unlocked : hand.view.actor.locked ≡ None
-  pub slots : hand.slots ≡ base.first.vars
+  pub slots : hand.slots ≡ base.first.slots
   pub held : (y : ℕ) → IsCounted base.first.view.layout y → holds hand.view y ≡ base.held y
   pub few : length hand.view.references ≤ base.most
 

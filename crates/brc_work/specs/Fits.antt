@@ -148,7 +148,7 @@ pub record Fits (base : Base) (s : State) (rows : List (Option ℕ)) (hand : Han
       → holds hand.view y ≡ base.held y + over_variables (owns y) s.vars rows
   pub few : length hand.view.references
       ≤ base.most + over_variables (lists base.first.view.layout) s.vars rows
-  pub lock : LocksAs s.locked base.first.vars s rows hand
+  pub lock : LocksAs s.locked base.first.slots s rows hand
 
 -- ---- instructions
 

@@ -304,8 +304,8 @@ module _ {later : Bool} {n : ℕ} (code : List Instr) (p : Place) (ds : List Dut
   works_on cs u fs w on Unchanged = with_no_call cs u on
   works_on cs u fs w on (Next ks x found failed other) =
       subst (λ (hs : List HostCall). WorksOn later n hs code p ds v q (view_after (slot_emptied x) found))
-      (append_assoc cs ks (closes_by x.agenda failed))
-      (next_by (cs ++ ks) x found failed x.agenda refl (works_on cs u ks x on other))
+      (append_assoc cs ks (closes_by x.actor.agenda failed))
+      (next_by (cs ++ ks) x found failed x.actor.agenda refl (works_on cs u ks x on other))
 
   -- until nothing is left to do.
   pub worked_off : {cs : List HostCall} (u : View) → u.actor.agenda ≡ [] → u.actor.head ≡ 0

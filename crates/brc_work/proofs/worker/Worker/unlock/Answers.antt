@@ -17,7 +17,7 @@ use Rattle.brc_work.proofs.worker.Worker.unlock.Goals as goal
 
 -- The variable is the one whose object the hand has locked.
 locks : (g : given.Over) (c : Start g) → let may = c.requires.may in
-    LockFits may.base.first.vars may.state c.args.rows.now c.args.hand.now c.args.object
+    LockFits may.base.first.slots may.state c.args.rows.now c.args.hand.now c.args.object
 locks g c =
     let may = c.requires.may in
     lock_of _ _ _ _ may.fits c.args.object (locked_is may.state.locked c.args.object
@@ -44,7 +44,7 @@ unlock-requires-clause-returned g c =
     let lock = locks g (goal.at.unlock-requires-clause-returned g c).Start in
     subst (λ (x : ℕ). FirstSlot c.args.hand.now.slots x c.args.hand.now.view.in_slot)
     (some_is lock.object c.row_in-row.result (sym lock.names ∙ c.row_in-row.ensures))
-    (record { rest = c.requires.may.base.first.vars; is = lock.slots })
+    (record { rest = c.requires.may.base.first.slots; is = lock.slots })
 
 pub returns-clause-done : goal.returns-clause-done
 returns-clause-done g c = λ base s fits passes.
