@@ -9,8 +9,9 @@ use Rattle.brc_model.specs.declared.address.Address.TheVariants.{Gate, Cell}
 use Rattle.brc_model.specs.Duties.{address_of}
 use Rattle.brc_model.specs.Machine.{same_address, locked_by, status_by, used_by}
 use Rattle.brc_table.specs.declared.view.View.{View}
+use Rattle.brc_table.specs.declared.view.Joined.{Joined}
 use Rattle.brc_model.specs.declared.event.WordEvent.{WordEvent}
-use Rattle.brc_table.specs.Views.{view_by, event_of, with_work, with_next}
+use Rattle.brc_table.specs.Views.{view_by, event_of, with_next}
 use Rattle.brc_table.specs.KnownWords.{shows_kind, cell_known, known_cell}
 use Rattle.brc_heap.specs.Steps.{Keeps}
 
@@ -46,11 +47,20 @@ keeps_then one other = record {
   cells = λ x i is. other.cells x i (one.locked ∙ is) ∙ one.cells x i is;
 }
 
--- Whatever becomes of its work, its references and the hands that it has given out, the hand keeps the rest.
-pub keeps_rest : {v u : View} {ds es fs gs : List Duty} {rs ss ts us : List ℕ} → Keeps v u → gs ≡ fs → ss ≡ rs
-    → us ≡ ts
-    → Keeps (record (with_work v ds fs) { references = rs; given = ts })
-    (record (with_work u es gs) { references = ss; given = us })
+-- Whatever becomes of its work, its chain, its references and the hands that it has given out or joined, the hand keeps
+-- the rest.
+pub keeps_rest : {v u : View} {ds es fs gs : List Duty} {h k : ℕ} {rs ss ts us : List ℕ} {hands : List Joined}
+    → Keeps v u → gs ≡ fs → ss ≡ rs → us ≡ ts
+    → Keeps (record v {
+      actor = record v.actor { agenda = ds; aside = fs; head = h };
+      references = rs;
+      given = ts;
+    }) (record u {
+      actor = record u.actor { agenda = es; aside = gs; head = k };
+      references = ss;
+      given = us;
+      joined = hands;
+    })
 keeps_rest keeps aside references given = record {
   layout = keeps.layout;
   thread = keeps.thread;
