@@ -79,7 +79,7 @@ module _ (base : Base) (s : State) (rows : List (Option ℕ)) (hand after : Hand
     some_vars = ap (λ (l : List VarState). length l) same ∙ fits.some_vars;
     some_rows = fits.some_rows;
     each = λ i.
-        subst (λ (l : List VarState). SlotFits base.held after.view (var_of (record next { slots = l }) i)
+        subst (λ (l : List VarState). SlotFits base.held after.view (var_of (record next { vars = l }) i)
         (row_of rows i)) (sym same)
         (slot_unlocked base.held hand.view after.view (var_of s i) (row_of rows i) more
         (no_lock base s rows hand fits none).0

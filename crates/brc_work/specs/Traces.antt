@@ -143,9 +143,9 @@ pub data Makes (layout : Layout) (t : ℕ) (code : List Instr) (p : Place) (a : 
 
 -- ---- hands
 
--- the thread that the hand is of, with these duties to do
+-- The thread that the hand is of, with these duties to do. A hand lends by no duty.
 abbrev pub thread_with : View → List Duty → Actor
-thread_with v ds = record v.actor { agenda = ds }
+thread_with v ds = record v.actor { agenda = ds; lent = None }
 
 -- What the hand's trace has gained from v to u are events by which its thread goes, with these calls of the host, from
 -- place p, with duties ds to do, to place q, with duties es to do. It has begun this many instructions.

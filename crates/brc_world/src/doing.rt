@@ -66,13 +66,12 @@ pub fn do_duty(
     let address = address_of(layout, number, thread.head, *duty);
     let access = access_of(*duty, number, thread.head);
     let found = memory.load(address);
-    let left = access.leaves(found);
+    memory.store(address, access.leaves(found));
     let by = doer(layout, thread, number, all);
     let effect = by.effect(*duty, found);
     thread.change(effect.change);
     push(&mut thread.agenda, effect.next);
     thread.head = effect.head;
-    memory.store(address, left);
     pass_over(&mut thread.agenda, effect.head);
     found
 }

@@ -46,7 +46,7 @@ pub record IsSame (u : View) (d e : Duty) (found : ℕ) : Type 0 where
   pub head : new_head u.actor.head d found ≡ new_head u.actor.head e found
   pub used : used_by u.actor.used d ≡ used_by u.actor.used e
   pub locked : locked_by u.actor.locked d found ≡ locked_by u.actor.locked e found
-  pub lent : lent_by u.actor.lent d found ≡ lent_by u.actor.lent e found
+  pub lent : lent_by None d found ≡ None
 
 -- what comes next after the thread's duty
 abbrev pub next_duties : View → Duty → List Duty → ℕ → List Duty

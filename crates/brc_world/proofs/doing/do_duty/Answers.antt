@@ -17,5 +17,5 @@ returns-clause-word c =
     let suits =
     subst (λ (n : ℕ). Suits c.args.number (is_running c.args.thread.now.status) (length c.args.memory.now.local)
     c.args.duty.now n) (sym found) c.requires.suits in
-    let left = c.leaves-left.ensures ∙ c.access_of-access.ensures.word _ _ _ suits in
+    let left = c.leaves.ensures ∙ c.access_of-access.ensures.word _ _ _ suits in
     rw (left, c.load-found.ensures, c.address_of-address.ensures) at c.store.ensures
