@@ -25,7 +25,7 @@ pub loosened_acts : (hand after : HandState) (x : ℕ) → Rests (unchained hand
     → ActsElsewhere (unchained hand) (unchained after)
 loosened_acts hand after x rests released table carried slots =
     let keeps = released.keeps in
-    keeps_acts (unchained hand) (unchained after) (keeps_rest keeps keeps.aside keeps.references keeps.given)
+    keeps_acts (unchained hand) (unchained after) (keeps_rest {ds = []} keeps keeps.aside keeps.references keeps.given)
     (omega arith) rests.running released.agenda (none_aside (unchained hand) x rests) refl table carried slots
 
 -- ---- the states in between
