@@ -35,9 +35,9 @@ pub rests_after_birth : {heap : TableState} {before : HandState} (after : HandSt
     → IsOf heap after → HasBorn before.view after.view → IsAtRest heap after
 rests_after_birth after rest table born = record {
   table = table;
-  running = (born.status ∙ rest.running.0, born.waits);
+  running = (born.keeps.status ∙ rest.running.0, born.waits);
   rests = born.work ∙ rest.rests;
-  locked_is = born.sight.locked ∙ rest.locked_is;
+  locked_is = born.keeps.locked ∙ rest.locked_is;
   returned = tt;
 }
 

@@ -23,7 +23,7 @@ first_or_more (inr one) two = both_leave one two
 
 -- After a call a hand can act as before.
 pub still_acts : {x : ℕ} {left : List Duty} {v u : View} → CanAct v → Leaves x left v u → CanAct u
-still_acts acts leaves = ((λ gone. acts.0 (sym leaves.status ∙ gone)), leaves.waits)
+still_acts acts leaves = ((λ gone. acts.0 (sym leaves.keeps.status ∙ gone)), leaves.waits)
 
 -- ---- a newborn object
 

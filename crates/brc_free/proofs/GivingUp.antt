@@ -4,7 +4,7 @@ use Rattle.brc_model.specs.declared.duty.Reason.{Reason}
 use Rattle.brc_model.specs.declared.duty.Duty.{Duty}
 use Rattle.brc_model.specs.declared.duty.Duty.TheVariants.{SetMark}
 use Rattle.brc_table.specs.declared.view.View.{View}
-use Rattle.brc_table.specs.Views.{without_reference}
+use Rattle.brc_table.specs.Views.{turned, without_reference}
 use Rattle.brc_effect.specs.declared.outcomes.LocalRelease.{LocalRelease}
 use Rattle.brc_effect.specs.declared.outcomes.LocalRelease.TheVariants as local
 use Rattle.brc_effect.specs.declared.outcomes.SharedRelease.{SharedRelease}
@@ -12,7 +12,8 @@ use Rattle.brc_effect.specs.declared.outcomes.SharedRelease.TheVariants as share
 use Rattle.brc_effect.specs.declared.outcomes.Looked.{Looked}
 use Rattle.brc_heap.specs.Calls.{Leaves, local_left, shared_left}
 use Rattle.brc_heap.specs.Marks.{look_answer, look_left, posted}
-use Rattle.brc_heap.specs.Steps.{HasStepped}
+use Rattle.brc_heap.specs.Steps.{Keeps, HasStepped}
+use Rattle.brc_heap.proofs.Keeping.{keeps_then}
 use Rattle.brc_heap.proofs.Stepping.{plain_first}
 use Rattle.brc_heap.proofs.MarkTries.{posted_stepped}
 use Rattle.brc_free.specs.Works.{HasWorked, HasReleased}
@@ -45,19 +46,9 @@ has_posted {v} {u} {w} {x} {rest} answer said found at is view =
 -- A release has ended.
 pub released : {x : ℕ} {left : List Duty} {v u w : View} → Leaves x left v u
     → u.references ≡ without_reference v.layout x v.references → HasWorked u [] [] w → HasReleased x v w
-released {x} {left} {v} {u} {w} begun references at =
-    let keeps = at.keeps in
-    record {
-      layout = keeps.layout ∙ begun.layout;
-      thread = keeps.thread ∙ begun.thread;
-      status = keeps.status ∙ begun.status;
-      references = keeps.references ∙ references;
-      agenda = at.agenda;
-      aside = keeps.aside ∙ begun.aside;
-      used = keeps.used ∙ begun.used;
-      locked = keeps.locked ∙ begun.sight.locked;
-      in_slot = keeps.in_slot ∙ begun.sight.in_slot;
-      given = keeps.given ∙ begun.given;
-      kinds = λ y word seen. keeps.kinds y word (begun.sight.kinds y word seen);
-      cells = λ y i is. keeps.cells y i (begun.sight.locked ∙ is) ∙ begun.sight.cells y i is;
-    }
+released {x} {left} {v} {u} {w} begun references at = record {
+  keeps =
+      keeps_then (subst (λ (rows : List ℕ). Keeps (record (turned v x) { references = rows }) u) references begun.keeps)
+      at.keeps;
+  agenda = at.agenda;
+}

@@ -14,8 +14,9 @@ use Rattle.brc_table.specs.Views.{RowsAreThere, view_by, view_after, settling, s
 use Rattle.brc_table.specs.Calls.{MaySettle, SettlesFrom}
 use Rattle.brc_free.specs.Works.{Works, Next, HasWorked, ComesToSettle, AtOnce, InWork, to_settle, closes_by}
 use Rattle.brc_heap.specs.Steps.{Keeps}
-use Rattle.brc_heap.proofs.Stepping.{gate_apart, keeps_then, did_keeps}
-use Rattle.brc_free.proofs.Working.{head_unlocked, keeps_beside, worked_first, worked_on, worked_then}
+use Rattle.brc_heap.proofs.Keeping.{keeps_then, keeps_beside, did_keeps}
+use Rattle.brc_heap.proofs.Stepping.{gate_apart}
+use Rattle.brc_free.proofs.Working.{head_unlocked, worked_first, worked_on, worked_then}
 use Rattle.brc_free.proofs.FirstDuties.{settle_kind_first, settle_cell_first, take_slot_first, settle_end_first}
 
 -- ---- taking the first object off the chain
@@ -64,15 +65,7 @@ taken_off v w x found rest some row at is there =
     worked_on begun begun w [] Settle rest (SettleKind x ∷ Settle ∷ rest) found
     (worked_first begun (Settle ∷ rest) refl) (settle_ready v.actor.head rest some) refl refl
     (is ∙ ap (λ (z : View). view_after z found) (to_settle_begins v rest some at))
-    (record {
-      status = refl;
-      used = refl;
-      off = record {
-        locked = refl;
-        cells = λ y i is. refl;
-        gates = gate_apart v v (v.actor.head - 1) apart refl;
-      };
-    })
+    refl refl (record { locked = refl; cells = λ y i is. refl; gates = gate_apart v v (v.actor.head - 1) apart refl })
     (ap (λ (y : ℕ). SettleKind y ∷ Settle ∷ rest) (sym row))
 
 -- ---- its kind
@@ -84,11 +77,7 @@ pub kind_has_resource : (v u w : View) (cs : List HostCall) (x found : ℕ) (res
 kind_has_resource v u w cs x found rest at is has =
     worked_on v u w cs (SettleKind x) rest (TakeSlot x ∷ rest) found at (settle_kind_first u.actor.head x rest) refl
     refl is
-    (record {
-      status = refl;
-      used = refl;
-      off = record { locked = refl; cells = λ y i is. refl; gates = λ y is. refl };
-    })
+    refl refl (record { locked = refl; cells = λ y i is. refl; gates = λ y is. refl })
     (ap (λ (b : Bool). (if b then TakeSlot x ∷ [] else cells_from x 0 (cells_of found)) ++ rest) has)
 
 -- and any other object may have cells.
@@ -98,11 +87,7 @@ pub kind_has_cells : (v u w : View) (cs : List HostCall) (x found : ℕ) (rest :
 kind_has_cells v u w cs x found rest at is none =
     worked_on v u w cs (SettleKind x) rest (cells_from x 0 (cells_of found) ++ rest) found at
     (settle_kind_first u.actor.head x rest) refl refl is
-    (record {
-      status = refl;
-      used = refl;
-      off = record { locked = refl; cells = λ y i is. refl; gates = λ y is. refl };
-    })
+    refl refl (record { locked = refl; cells = λ y i is. refl; gates = λ y is. refl })
     (ap (λ (b : Bool). (if b then TakeSlot x ∷ [] else cells_from x 0 (cells_of found)) ++ rest) none)
 
 -- These may be as many as the code has counted.
@@ -136,15 +121,10 @@ pub cell_emptied : (v u w : View) (cs : List HostCall) (x i m found : ℕ) (rest
 cell_emptied v u w cs x i m found rest at is apart =
     worked_on v u w cs (SettleCell x i m) rest (release_found found ++ (cells_from x (i + 1) m ++ rest)) found at
     (settle_cell_first u.actor.head x i m rest) refl refl is
-    (record {
-      status = refl;
-      used = refl;
-      off = record {
-        locked = refl;
-        cells = λ y j is.
-            ap (λ (b : Bool). b && (i == j)) (gate_apart v u x apart at.keeps.locked y is);
-        gates = λ y is. refl;
-      };
+    refl refl (record {
+      locked = refl;
+      cells = λ y j is. ap (λ (b : Bool). b && (i == j)) (gate_apart v u x apart at.keeps.locked y is);
+      gates = λ y is. refl;
     })
     (behind_release found (cells_from x (i + 1) m) rest) where
       behind_release : (found : ℕ) (ds es : List Duty)
@@ -181,15 +161,7 @@ ended v u w cs x found rest at is apart =
     let has : u.actor.agenda ≡ SettleEnd x ∷ rest = at.agenda ∙ settle_end_first u.actor.head x rest in
     worked_on v u w cs (SettleEnd x) rest rest found at (settle_end_first u.actor.head x rest) refl refl
     (is ∙ ap (λ (ds : List Duty). view_after (slot_emptied_by ds u) found) has)
-    (record {
-      status = refl;
-      used = refl;
-      off = record {
-        locked = refl;
-        cells = λ y i is. refl;
-        gates = gate_apart v u x apart at.keeps.locked;
-      };
-    }) refl
+    refl refl (record { locked = refl; cells = λ y i is. refl; gates = gate_apart v u x apart at.keeps.locked }) refl
 
 -- and one whose resource was closed.
 pub ended_empty : (v u w : View) (cs : List HostCall) (x found : ℕ) (failed : Bool) (rest : List Duty)
@@ -207,19 +179,11 @@ ended_empty v u w cs x found failed rest at is apart =
       agenda = ap (λ (z : View). z.actor.agenda) does ∙ ap (λ (z : View). ready z.actor.head rest) (sym does);
       works = subst (Works v (cs ++ Close failed ∷ [])) (sym is) work;
       keeps =
-          keeps_then v u w at.keeps
+          keeps_then at.keeps
           (subst (Keeps u) (sym does)
-          (keeps_then u emptied (view_by emptied (SettleEnd x ∷ rest) found) (keeps_beside u (SettleEnd x ∷ rest))
-          (did_keeps emptied (SettleEnd x) rest found
-          (record {
-            status = refl;
-            used = refl;
-            off = record {
-              locked = refl;
-              cells = λ y i is. refl;
-              gates = gate_apart v u x apart at.keeps.locked;
-            };
-          }))));
+          (keeps_then (keeps_beside u (SettleEnd x ∷ rest))
+          (did_keeps emptied (SettleEnd x) rest found refl refl
+          (record { locked = refl; cells = λ y i is. refl; gates = gate_apart v u x apart at.keeps.locked }))));
     }
 
 -- ---- the end of the chain

@@ -5,30 +5,14 @@ use Rattle.brc_host.proofs.Answering.{host_faults_then}
 use Rattle.brc_model.specs.declared.duty.Duty.{Duty}
 use Rattle.brc_model.specs.declared.duty.Duty.TheVariants.{TakeSlot}
 use Rattle.brc_model.specs.Duties.{ready, continuation, new_head}
-use Rattle.brc_model.specs.Machine.{is_running}
+use Rattle.brc_model.specs.Machine.{is_running, status_by, used_by}
 use Rattle.brc_table.specs.declared.view.View.{View}
-use Rattle.brc_table.specs.Views.{RowsAreThere, view_by, view_after, slot_emptied, slot_emptied_by, with_next}
+use Rattle.brc_table.specs.Views.{RowsAreThere, view_by, view_after, slot_emptied, slot_emptied_by}
 use Rattle.brc_heap.specs.Steps.{Keeps, HasStepped, Steps, TakesNothing, Refl as NoStep, Next as OneStep}
-use Rattle.brc_heap.proofs.Stepping.{IsQuiet, keeps_first, keeps_then, did_keeps}
+use Rattle.brc_heap.proofs.Keeping.{StaysOff, keeps_first, keeps_then, did_keeps}
 use Rattle.brc_free.specs.Works.{Works, Refl, Next, HasWorked, closes_by}
 
 -- ---- what is kept
-
--- Other duties that come next change nothing else.
-pub keeps_beside : (u : View) (ds : List Duty) → Keeps u (with_next u ds)
-keeps_beside u ds = record {
-  layout = refl;
-  thread = refl;
-  status = refl;
-  references = refl;
-  aside = refl;
-  used = refl;
-  locked = refl;
-  in_slot = refl;
-  given = refl;
-  kinds = λ x word seen. seen;
-  cells = λ x i is. refl;
-}
 
 -- The object that the hand has locked isn't the first one of its chain.
 pub head_unlocked : (v : View) (x : ℕ) → RowsAreThere v → 0 < v.actor.head → x ≡ v.actor.head - 1
@@ -47,10 +31,11 @@ worked_first v ds is = record { agenda = is; works = Refl; keeps = keeps_first v
 pub worked_on : (v u w : View) (cs : List HostCall) (d : Duty) (rest ds : List Duty) (found : ℕ)
     → HasWorked v cs (d ∷ rest) u
     → ready u.actor.head (d ∷ rest) ≡ d ∷ rest → slot_emptied_by (d ∷ rest) u ≡ u → closes_by (d ∷ rest) false ≡ []
-    → w ≡ view_after u found → IsQuiet u d found
+    → w ≡ view_after u found → status_by u.actor.status d ≡ u.actor.status → used_by u.actor.used d ≡ u.actor.used
+    → StaysOff u d found
     → continuation u.layout u.thread (is_running u.actor.status) u.actor.head d found ++ rest ≡ ds
     → HasWorked v cs ds w
-worked_on v u w cs d rest ds found at first unslotted none is quiet next =
+worked_on v u w cs d rest ds found at first unslotted none is status used stays next =
     let has : u.actor.agenda ≡ d ∷ rest = at.agenda ∙ first in
     let does : w ≡ view_by u (d ∷ rest) found = is ∙ ap (λ (es : List Duty). view_by u es found) has in
     let same : slot_emptied u ≡ u = ap (λ (es : List Duty). slot_emptied_by es u) has ∙ unslotted in
@@ -68,9 +53,7 @@ worked_on v u w cs d rest ds found at first unslotted none is quiet next =
       works =
           subst (λ (z : View). Works v cs z) (ap (λ (z : View). view_after z found) same ∙ sym is)
           (subst (λ (fs : List HostCall). Works v fs (view_after (slot_emptied u) found)) no_more work);
-      keeps =
-          keeps_then v u w at.keeps
-          (subst (Keeps u) (sym does) (did_keeps u d rest found quiet));
+      keeps = keeps_then at.keeps (subst (Keeps u) (sym does) (did_keeps u d rest found status used stays));
     }
 
 -- ---- work after work
@@ -88,7 +71,7 @@ pub worked_then : (v u w : View) (cs fs : List HostCall) (ds es : List Duty) →
 worked_then v u w cs fs ds es one other = record {
   agenda = other.agenda;
   works = works_then v u w cs fs one.works other.works;
-  keeps = keeps_then v u w one.keeps other.keeps;
+  keeps = keeps_then one.keeps other.keeps;
 }
 
 -- The same of a call that leaves what it makes of the duties that it finds, the first of which needs a step.

@@ -10,15 +10,13 @@ use Rattle.brc_table.specs.Views.{view_after, event_of, asking}
 use Rattle.brc_table.specs.KnownWords.{shows_kind, knows_kind}
 use Rattle.brc_table.specs.Hands.{HasNoWork}
 use Rattle.brc_heap.specs.Calls.{Leaves}
-use Rattle.brc_heap.proofs.KnownKept.{same_sight}
 use Rattle.brc_heap.proofs.Bearing.{or_true}
 use Rattle.brc_heap.proofs.Leaving.{begun_works}
 use Rattle.brc_heap.proofs.Stepping.{plain_begins, plain_on, stepped_leaves}
 
 pub ask_leaves : (v : View) (x word : ℕ) → HasNoWork v x → Leaves x [] v (view_after (asking v x) word)
 ask_leaves v x word none =
-    stepped_leaves (begun_works x v (asking v x) none refl refl refl refl refl
-    (same_sight v (asking v x) refl refl refl) refl)
+    stepped_leaves (begun_works x v (KindLoad x) v.references none)
     (plain_on {d = KindLoad x} {rest = []} word (plain_begins refl refl) refl refl) tt
 
 pub ask_seen : (v : View) (x word : ℕ) → knows_kind x word (view_after (asking v x) word) ≡ true

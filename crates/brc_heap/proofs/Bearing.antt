@@ -9,11 +9,12 @@ use Rattle.brc_model.specs.declared.duty.Duty.TheVariants.{BirthKind, BirthSlot,
 use Rattle.brc_model.specs.declared.duty.Holding.TheVariants.{AsCaller}
 use Rattle.brc_model.specs.Duties.{ready, has_resource}
 use Rattle.brc_table.specs.declared.view.View.{View}
-use Rattle.brc_table.specs.Views.{view_by, view_after, event_of, bearing, next_row, slot_filled, slot_filled_by, with_next}
+use Rattle.brc_table.specs.Views.{view_by, view_after, event_of, bearing, open_work, next_row, slot_filled, slot_filled_by, with_next, with_work}
 use Rattle.brc_table.specs.Calls.{OwnsFirst}
 use Rattle.brc_table.specs.KnownWords.{shows_kind, knows_kind}
-use Rattle.brc_heap.specs.Calls.{KeepsKnown, born, HasBorn}
-use Rattle.brc_heap.proofs.KnownKept.{StaysOff, same_sight, sight_then, did_sight}
+use Rattle.brc_heap.specs.Calls.{born, with_newborn, HasBorn}
+use Rattle.brc_heap.specs.Steps.{Keeps}
+use Rattle.brc_heap.proofs.Keeping.{keeps_then, keeps_beside, did_on}
 
 -- A hand whose next duty is to put the new object's resource into its slot, or to store its first local word, does the
 -- latter next once the resource is there.
@@ -42,29 +43,26 @@ pub or_true : (b : Bool) → (b || true) ≡ true
 or_true true = refl
 or_true false = refl
 
--- A birth leaves what the hand has seen.
-birth_sight : (v : View) (word : ℕ)
-    → KeepsKnown v (view_by (begun v word) (BirthLocal (next_row v) AsCaller ∷ []) 0)
-birth_sight v word =
+-- A birth keeps the rest.
+birth_keeps : (v : View) (word : ℕ)
+    → let u = view_by (begun v word) (BirthLocal (next_row v) AsCaller ∷ []) 0 in
+    Keeps (with_work (with_newborn v) u.actor.agenda u.actor.aside) u
+birth_keeps v word =
     let x = next_row v in
-    let bears = bearing v word in
-    let stored = view_after bears 0 in
-    let filled = begun v word in
-    let stays : StaysOff bears (BirthKind x AsCaller word) 0 = record {
-      locked = refl;
-      cells = λ y i is. refl;
-      gates = λ y is. refl;
-    } in
-    sight_then v filled (view_by filled (BirthLocal x AsCaller ∷ []) 0)
-    (sight_then v stored filled
-    (sight_then v bears stored (same_sight v bears refl refl refl)
-    (did_sight bears (BirthKind x AsCaller word) [] 0 stays))
-    (same_sight stored filled refl refl refl))
-    (did_sight filled (BirthLocal x AsCaller) [] 0 (record {
+    let bears = with_work (with_newborn v) (BirthKind x AsCaller word ∷ []) (open_work v) in
+    let stored = view_by bears (BirthKind x AsCaller word ∷ []) 0 in
+    keeps_then (keeps_beside (with_work (with_newborn v) [] (open_work v)) (BirthKind x AsCaller word ∷ []))
+    (keeps_then (did_on bears (BirthKind x AsCaller word) [] 0 (record {
       locked = refl;
       cells = λ y i is. refl;
       gates = λ y is. refl;
     }))
+    (keeps_then (keeps_beside stored (BirthLocal x AsCaller ∷ []))
+    (did_on (begun v word) (BirthLocal x AsCaller) [] 0 (record {
+      locked = refl;
+      cells = λ y i is. refl;
+      gates = λ y is. refl;
+    }))))
 
 -- It sees the kind word that it stores,
 pub stored_seen : (v : View) (word : ℕ) → knows_kind (next_row v) word (view_after (bearing v word) 0) ≡ true
@@ -88,14 +86,8 @@ birth_seen v word =
 pub has_born : (v : View) (word : ℕ) → HasBorn v (born v word)
 has_born v word =
     subst (HasBorn v) (sym (born_is v word)) (record {
-      layout = refl;
-      thread = refl;
-      status = refl;
-      used = refl;
-      given = refl;
-      references = refl;
+      keeps = birth_keeps v word;
       head = refl;
-      sight = birth_sight v word;
       waits = tt;
       work = refl;
     })

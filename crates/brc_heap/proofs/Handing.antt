@@ -14,8 +14,9 @@ use Rattle.brc_table.specs.Hands.{HasNoWork}
 use Rattle.brc_table.specs.KnownWords.{has_started, started_word, shows_kind, cell_known}
 use Rattle.brc_table.specs.Giving.{MayGive, MayStart, starting}
 use Rattle.brc_model.specs.declared.event.WordEvent.{WordEvent}
-use Rattle.brc_heap.specs.Calls.{KeepsKnown, HasGiven, Leaves}
-use Rattle.brc_heap.proofs.KnownKept.{sight_then}
+use Rattle.brc_heap.specs.Calls.{HasGiven, Leaves}
+use Rattle.brc_heap.specs.Steps.{Keeps}
+use Rattle.brc_heap.proofs.Keeping.{keeps_then, keeps_rest}
 use Rattle.brc_heap.proofs.Turning.{all_away}
 
 -- The root is counted.
@@ -38,10 +39,10 @@ two_held v u is held =
 pub may_start : (v u : View) (thread : ℕ) → v.thread ≡ 0 → Leaves root_row [] v u → 0 < thread
     → thread ≤ v.layout.workers → is_given thread v ≡ false → MayStart u thread
 may_start v u thread main leaves some known not_given = record {
-  is_main = leaves.thread ∙ main;
+  is_main = leaves.keeps.thread ∙ main;
   some_worker = some;
-  known_worker = subst (λ (l : Layout). thread ≤ l.workers) (sym leaves.layout) known;
-  not_given = ap (list_any (λ t. t == thread)) leaves.given ∙ not_given;
+  known_worker = subst (λ (l : Layout). thread ≤ l.workers) (sym leaves.keeps.layout) known;
+  not_given = ap (list_any (λ t. t == thread)) leaves.keeps.given ∙ not_given;
 }
 
 -- and then give out its hand.
@@ -62,12 +63,19 @@ may_give v u thread main held leaves more start started =
     }
 
 -- The start of a worker leaves what main has seen of objects,
-started_sight : (u : View) (thread : ℕ) → KeepsKnown u (starting u thread)
-started_sight u thread =
+started_keeps : (u : View) (thread : ℕ) → Keeps u (starting u thread)
+started_keeps u thread =
     let event : WordEvent = record { address = ThreadWord thread; found = started_word thread u; left = 1 } in
     record {
+      layout = refl;
+      thread = refl;
+      status = refl;
+      references = refl;
+      aside = refl;
+      used = refl;
       locked = refl;
       in_slot = refl;
+      given = refl;
       kinds = λ y word seen.
           list_any-append (shows_kind y word) u.trace (event ∷ [])
           ∙ ap (λ (b : Bool). b || list_any (shows_kind y word) (event ∷ [])) seen;
@@ -79,19 +87,15 @@ pub has_given : {v u w x : View} {thread : ℕ} → HasNoWork v root_row → Lea
     → u.references ≡ with_reference v.layout root_row v.references → u.actor.head ≡ v.actor.head
     → w ≡ starting u thread → x ≡ giving w thread → HasGiven thread v x
 has_given {v} {u} {w} {x} {thread} none leaves more head starts gives =
-    let known = sight_then v u (starting u thread) leaves.sight (started_sight u thread) in
+    let rows : without_one root_row u.references ≡ v.references =
+    ap (without_one root_row) more
+    ∙ ap (λ (b : Bool). without_one root_row (if b then v.references else root_row ∷ v.references))
+    (root_counted v.layout) in
     subst (HasGiven thread v) (sym (gives ∙ ap (λ (z : View). giving z thread) starts)) (record {
-      layout = leaves.layout;
-      number = leaves.thread;
-      status = leaves.status;
-      used = leaves.used;
-      given = ap (λ (ts : List ℕ). thread ∷ ts) leaves.given;
-      references =
-          ap (without_one root_row) more
-          ∙ ap (λ (b : Bool). without_one root_row (if b then v.references else root_row ∷ v.references))
-          (root_counted v.layout);
+      keeps =
+          keeps_rest (keeps_then leaves.keeps (started_keeps u thread))
+          (leaves.keeps.aside ∙ all_away root_row (open_work v) none) rows
+          (ap (λ (ts : List ℕ). thread ∷ ts) leaves.keeps.given);
       head = head;
-      sight = record { locked = known.locked; in_slot = known.in_slot; kinds = known.kinds; cells = known.cells };
       agenda = leaves.agenda;
-      aside = leaves.aside ∙ all_away root_row (open_work v) none;
     })

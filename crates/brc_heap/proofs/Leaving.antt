@@ -10,10 +10,10 @@ use Rattle.brc_model.specs.Machine.{status_by, used_by}
 use Rattle.brc_model.specs.Duties.{duty_row}
 use Rattle.brc_model.specs.OpenWork.{names_row, is_about}
 use Rattle.brc_table.specs.declared.view.View.{View}
-use Rattle.brc_table.specs.Views.{open_work, turned}
+use Rattle.brc_table.specs.Views.{open_work, turned, first_of_all}
 use Rattle.brc_table.specs.Hands.{MayWait, HasNoWork}
-use Rattle.brc_heap.specs.Calls.{KeepsKnown, Leaves}
-use Rattle.brc_heap.proofs.KnownKept.{StaysAway, same_sight, sight_then}
+use Rattle.brc_heap.specs.Calls.{WorksAt, Leaves}
+use Rattle.brc_heap.proofs.Keeping.{StaysOff, keeps_first, keeps_then, keeps_rest}
 use Rattle.brc_heap.proofs.Turning.{away, passes, fails, none_aside, all_away}
 
 -- ---- rows of duties
@@ -75,47 +75,13 @@ others_stay x y (d ∷ ds) ne = elim (cases_Bool (is_about x d)) [
 
 -- ---- at work
 
--- The hand with view v has come to work at the row x, with view u.
-pub record WorksAt (x : ℕ) (v u : View) : Type 0 where
-  pub layout : u.layout ≡ v.layout
-  pub thread : u.thread ≡ v.thread
-  pub status : u.actor.status ≡ v.actor.status
-  pub used : u.actor.used ≡ v.actor.used
-  pub given : u.given ≡ v.given
-  pub sight : KeepsKnown v u
-  pub aside : u.actor.aside ≡ filter (away x) (open_work v)
-
 pub turned_works : (x : ℕ) (v : View) → WorksAt x v (turned v x)
-turned_works x v =
-    record {
-      layout = refl;
-      thread = refl;
-      status = refl;
-      used = refl;
-      given = refl;
-      sight = same_sight v (turned v x) refl refl refl;
-      aside = refl;
-    }
+turned_works x v = keeps_first (turned v x)
 
 -- A hand that begins work has put all its other work aside.
-pub begun_works : (x : ℕ) (v u : View) → HasNoWork v x → u.layout ≡ v.layout → u.thread ≡ v.thread
-    → u.actor.status ≡ v.actor.status → u.actor.used ≡ v.actor.used → u.given ≡ v.given → KeepsKnown v u
-    → u.actor.aside ≡ open_work v
-    → WorksAt x v u
-begun_works x v u none layout thread status used given sight aside = record {
-  layout = layout;
-  thread = thread;
-  status = status;
-  used = used;
-  given = given;
-  sight = sight;
-  aside = aside ∙ sym (all_away x (open_work v) none);
-}
-
--- The first duty changes neither the thread's status nor how many rows it has used, and touches no cell and no gate.
-abbrev pub KeepsStatus : List Duty → Type 0
-KeepsStatus [] = Unit {0}
-KeepsStatus (d ∷ ds) = ((s : Status) → status_by s d ≡ s) × ((n : ℕ) → used_by n d ≡ n) × StaysAway d
+pub begun_works : (x : ℕ) (v : View) (d : Duty) (references : List ℕ) → HasNoWork v x
+    → WorksAt x v (record (first_of_all d v) { references = references })
+begun_works x v d references none = keeps_rest (keeps_first v) (sym (all_away x (open_work v) none)) refl refl
 
 -- Says whether the duty is about a word that counts, that says the kind, or that is a mark's or a thread's, and changes
 -- neither its thread's status nor how many rows it has used.
@@ -138,46 +104,33 @@ is_plain (KindLoad x) = true
 is_plain _ = false
 
 -- Such a duty touches no cell and no gate.
-plain_stays : (d : Duty) → is_plain d ≡ true → StaysAway d
-plain_stays (LockGate y) is = absurd cc
-plain_stays (UnlockGate y) is = absurd cc
-plain_stays (Die y) is = absurd cc
-plain_stays Settle is = absurd cc
-plain_stays (SettleCell y i n) is = absurd cc
-plain_stays (SettleEnd y) is = absurd cc
-plain_stays (CellLoad y i) is = absurd cc
-plain_stays (CellSwap y i z h) is = absurd cc
-plain_stays _ is = record {
-  locked = λ locked found. refl;
-  cells = λ layout t head y i. refl;
-  gates = λ layout t head y. refl;
-}
+pub plain_off : (u : View) (d : Duty) (found : ℕ) → is_plain d ≡ true → StaysOff u d found
+plain_off u (LockGate y) found is = absurd cc
+plain_off u (UnlockGate y) found is = absurd cc
+plain_off u (Die y) found is = absurd cc
+plain_off u Settle found is = absurd cc
+plain_off u (SettleCell y i n) found is = absurd cc
+plain_off u (SettleEnd y) found is = absurd cc
+plain_off u (CellLoad y i) found is = absurd cc
+plain_off u (CellSwap y i z h) found is = absurd cc
+plain_off u _ found is = record { locked = refl; cells = λ y i e. refl; gates = λ y e. refl }
 
-plain_status : (d : Duty) (s : Status) → is_plain d ≡ true → status_by s d ≡ s
+pub plain_status : (d : Duty) (s : Status) → is_plain d ≡ true → status_by s d ≡ s
 plain_status (Leave i n) s is = absurd cc
 plain_status Finish s is = absurd cc
 plain_status _ s is = refl
 
-plain_used : (d : Duty) (n : ℕ) → is_plain d ≡ true → used_by n d ≡ n
+pub plain_used : (d : Duty) (n : ℕ) → is_plain d ≡ true → used_by n d ≡ n
 plain_used (BirthLocal x h) n is = absurd cc
 plain_used _ n is = refl
-
-pub plain_keeps : (d : Duty) (ds : List Duty) → is_plain d ≡ true → KeepsStatus (d ∷ ds)
-plain_keeps d ds is = ((λ s. plain_status d s is), (λ n. plain_used d n is), plain_stays d is)
 
 -- What is left of the hand's work.
 pub works_leave : (x : ℕ) (v u : View) (left : List Duty) → WorksAt x v u → u.actor.agenda ≡ left → AllAbout x left
     → MayWait left → Leaves x left v u
 works_leave x v u left works is all waits = record {
-  layout = works.layout;
-  thread = works.thread;
-  status = works.status;
-  used = works.used;
-  given = works.given;
-  sight = works.sight;
+  keeps = works;
   waits = subst MayWait (sym is) waits;
   agenda = is;
-  aside = works.aside;
   left_is =
       filter_both (is_about x) u.actor.agenda u.actor.aside
       ∙ (ap (λ (ds : List Duty). filter (is_about x) ds ++ filter (is_about x) u.actor.aside) is
@@ -217,20 +170,14 @@ away_again x (d ∷ ds) = elim (cases_Bool (is_about x d)) [
 pub leaves_then : (x : ℕ) (first second : List Duty) (v u w : View) → Leaves x first v u → Leaves x second u w
     → Leaves x second v w
 leaves_then x first second v u w one other = record {
-  layout = other.layout ∙ one.layout;
-  thread = other.thread ∙ one.thread;
-  status = other.status ∙ one.status;
-  used = other.used ∙ one.used;
-  given = other.given ∙ one.given;
-  sight = sight_then v u w one.sight other.sight;
-  waits = other.waits;
-  agenda = other.agenda;
-  aside =
-      other.aside
-      ∙ (filter_both (away x) u.actor.agenda u.actor.aside
+  keeps =
+      keeps_then (keeps_rest one.keeps
+      (filter_both (away x) u.actor.agenda u.actor.aside
       ∙ (ap (λ (ds : List Duty). filter (away x) ds ++ filter (away x) u.actor.aside) (one.agenda ∙ sym one.left_is)
       ∙ (ap (λ (ds : List Duty). ds ++ filter (away x) u.actor.aside) (none_away x (open_work u))
-      ∙ (ap (filter (away x)) one.aside ∙ away_again x (open_work v)))));
+      ∙ (ap (filter (away x)) one.keeps.aside ∙ away_again x (open_work v))))) refl one.keeps.given) other.keeps;
+  waits = other.waits;
+  agenda = other.agenda;
   left_is = other.left_is;
   others = λ y ne. other.others y ne ∙ one.others y ne;
 }

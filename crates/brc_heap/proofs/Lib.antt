@@ -1,7 +1,7 @@
 pub mod Turning
 mod Choices
 mod Retaining
-pub mod KnownKept
+pub mod Keeping
 pub mod Leaving
 pub mod Stepping
 pub mod Tries

@@ -179,7 +179,7 @@ begun_some {x} {r} {v = v} {u = u} is = subst (λ (c : Option ℕ). Leaves x (sw
 -- The hand is at the row already.
 pub stays_there : {v u : View} {x : ℕ} {d : Duty} → Leaves x (d ∷ []) v u → is_about x d ≡ true → turned u x ≡ u
 stays_there {v} {u} {x} {d} left about =
-    turned_itself u x d left.agenda about (ap (filter (is_about x)) left.aside ∙ none_aside x (open_work v))
+    turned_itself u x d left.agenda about (ap (filter (is_about x)) left.keeps.aside ∙ none_aside x (open_work v))
 
 pub first_view : {u w : View} (v : View) (x local word found : ℕ) → (local == 0) ≡ false → u
     ≡ view_after (turned v x) local

@@ -12,7 +12,6 @@ use Rattle.brc_table.specs.Views.{view_by, view_after, retaining}
 use Rattle.brc_table.specs.Hands.{HasNoWork}
 use Rattle.brc_heap.specs.Calls.{retained, Leaves}
 use Rattle.brc_heap.specs.Steps.{HasStepped}
-use Rattle.brc_heap.proofs.KnownKept.{same_sight}
 use Rattle.brc_heap.proofs.Leaving.{begun_works}
 use Rattle.brc_heap.proofs.Stepping.{plain_begins, plain_on, plain_first, stepped_leaves}
 
@@ -42,8 +41,7 @@ retain_stepped v x word found =
 -- A retain leaves nothing to do.
 pub retain_leaves : (v : View) (x word found : ℕ) → HasNoWork v x → Leaves x [] v (retained v x word found)
 retain_leaves v x word found none =
-    stepped_leaves (begun_works x v (retaining v x) none refl refl refl refl refl
-    (same_sight v (retaining v x) refl refl refl) refl)
+    stepped_leaves (begun_works x v (RetainLoad x AsCaller) (retaining v x).references none)
     (retain_stepped v x word found) tt
 
 pub retained_references : (v : View) (x word found : ℕ)

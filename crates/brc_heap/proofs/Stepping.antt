@@ -9,75 +9,11 @@ use Rattle.brc_model.specs.Duties.{ready, continuation, new_head}
 use Rattle.brc_model.specs.Machine.{is_running, status_by, used_by}
 use Rattle.brc_model.specs.OpenWork.{is_about, is_finalising, finalised, may_wait}
 use Rattle.brc_table.specs.declared.view.View.{View}
-use Rattle.brc_table.specs.Views.{RowsAreThere, view_by, view_after}
-use Rattle.brc_heap.specs.Calls.{Leaves}
+use Rattle.brc_table.specs.Views.{RowsAreThere, view_by, view_after, turned}
+use Rattle.brc_heap.specs.Calls.{WorksAt, Leaves}
 use Rattle.brc_heap.specs.Steps.{Keeps, TakesNothing, Steps, Refl, Next, HasStepped}
-use Rattle.brc_heap.proofs.KnownKept.{StaysOff, away_off, did_sight, sight_then}
-use Rattle.brc_heap.proofs.Leaving.{WorksAt, is_plain, plain_keeps, works_leave}
-
--- ---- what is kept
-
-pub keeps_first : (v : View) → Keeps v v
-keeps_first v = record {
-  layout = refl;
-  thread = refl;
-  status = refl;
-  references = refl;
-  aside = refl;
-  used = refl;
-  locked = refl;
-  in_slot = refl;
-  given = refl;
-  kinds = λ x word seen. seen;
-  cells = λ x i is. refl;
-}
-
-pub keeps_then : (v u w : View) → Keeps v u → Keeps u w → Keeps v w
-keeps_then v u w one other = record {
-  layout = other.layout ∙ one.layout;
-  thread = other.thread ∙ one.thread;
-  status = other.status ∙ one.status;
-  references = other.references ∙ one.references;
-  aside = other.aside ∙ one.aside;
-  used = other.used ∙ one.used;
-  locked = other.locked ∙ one.locked;
-  in_slot = other.in_slot ∙ one.in_slot;
-  given = other.given ∙ one.given;
-  kinds = λ x word seen. other.kinds x word (one.kinds x word seen);
-  cells = λ x i is. other.cells x i (one.locked ∙ is) ∙ one.cells x i is;
-}
-
--- The duty changes neither the hand's status nor its lock, uses no row, and touches neither the gate nor a cell of the
--- object that the hand has locked.
-pub record IsQuiet (u : View) (d : Duty) (found : ℕ) : Type 0 where
-  pub status : status_by u.actor.status d ≡ u.actor.status
-  pub used : used_by u.actor.used d ≡ u.actor.used
-  pub off : StaysOff u d found
-
--- So does a duty about counts, kinds or marks.
-pub plain_quiet : {u : View} {d : Duty} {found : ℕ} → is_plain d ≡ true → IsQuiet u d found
-plain_quiet {u} {d} {found} plain =
-    let keeps = plain_keeps d [] plain in
-    record { status = keeps.0 u.actor.status; used = keeps.1 u.actor.used; off = away_off u d found keeps.2 }
-
--- What one duty keeps.
-pub did_keeps : (u : View) (d : Duty) (rest : List Duty) (found : ℕ) → IsQuiet u d found
-    → Keeps u (view_by u (d ∷ rest) found)
-did_keeps u d rest found quiet =
-    let sight = did_sight u d rest found quiet.off in
-    record {
-      layout = refl;
-      thread = refl;
-      status = quiet.status;
-      references = refl;
-      aside = refl;
-      used = quiet.used;
-      locked = sight.locked;
-      in_slot = refl;
-      given = refl;
-      kinds = sight.kinds;
-      cells = sight.cells;
-    }
+use Rattle.brc_heap.proofs.Keeping.{StaysOff, keeps_first, keeps_then, did_keeps}
+use Rattle.brc_heap.proofs.Leaving.{is_plain, plain_status, plain_used, plain_off, works_leave}
 
 -- ---- the object that the hand has locked
 
@@ -127,10 +63,11 @@ plain_begins {v} {d} {rest} next plain = stepped_first (next ∙ sym (plain_firs
 
 -- The first duty that is left is done.
 stepped_on : (v u : View) (d : Duty) (rest ds : List Duty) (found : ℕ) → HasStepped v (d ∷ rest) u
-    → ready u.actor.head (d ∷ rest) ≡ d ∷ rest → TakesNothing (d ∷ rest) → IsQuiet u d found
+    → ready u.actor.head (d ∷ rest) ≡ d ∷ rest → TakesNothing (d ∷ rest)
+    → status_by u.actor.status d ≡ u.actor.status → used_by u.actor.used d ≡ u.actor.used → StaysOff u d found
     → continuation u.layout u.thread (is_running u.actor.status) u.actor.head d found ++ rest ≡ ds
     → HasStepped v ds (view_after u found)
-stepped_on v u d rest ds found at first takes quiet next =
+stepped_on v u d rest ds found at first takes status used stays next =
     let has : u.actor.agenda ≡ d ∷ rest = at.agenda ∙ first in
     let does : view_after u found ≡ view_by u (d ∷ rest) found = ap (λ (es : List Duty). view_by u es found) has in
     record {
@@ -139,8 +76,7 @@ stepped_on v u d rest ds found at first takes quiet next =
           ∙ (ap (λ (es : List Duty). ready (new_head u.actor.head d found) es) next
           ∙ ap (λ (z : View). ready z.actor.head ds) (sym does));
       steps = Next u found at.steps (subst TakesNothing (sym has) takes);
-      keeps = keeps_then v u (view_after u found) at.keeps
-          (subst (Keeps u) (sym does) (did_keeps u d rest found quiet));
+      keeps = keeps_then at.keeps (subst (Keeps u) (sym does) (did_keeps u d rest found status used stays));
     }
 
 -- It is one about counts, kinds or marks, and is followed by what the word found says.
@@ -149,7 +85,8 @@ pub plain_on : {v u : View} {d : Duty} {rest ds : List Duty} (found : ℕ) → H
     → HasStepped v (ds ++ rest) (view_after u found)
 plain_on {v} {u} {d} {rest} {ds} found at plain next =
     stepped_on v u d rest (ds ++ rest) found at (plain_first u.actor.head d rest plain) (plain_takes d rest plain)
-    (plain_quiet plain) (ap (λ (es : List Duty). es ++ rest) next)
+    (plain_status d u.actor.status plain) (plain_used d u.actor.used plain) (plain_off u d found plain)
+    (ap (λ (es : List Duty). es ++ rest) next)
 
 -- It is the death of an object, which goes to the head of the chain.
 pub died : {v u : View} {x : ℕ} {rest : List Duty} → HasStepped v (Die x ∷ rest) u → RowsAreThere u
@@ -157,12 +94,8 @@ pub died : {v u : View} {x : ℕ} {rest : List Duty} → HasStepped v (Die x ∷
 died {v} {u} {x} {rest} at there =
     let apart = finalising_unlocked u (Die x) rest x there (at.agenda ∙ die_first u.actor.head x rest)
     (eq-eqb x x refl) in
-    stepped_on v u (Die x) rest rest free_word at (die_first u.actor.head x rest) tt
-    (record {
-      status = refl;
-      used = refl;
-      off = record { locked = refl; cells = λ y i is. refl; gates = gate_apart u u x apart refl };
-    }) refl
+    stepped_on v u (Die x) rest rest free_word at (die_first u.actor.head x rest) tt refl refl
+    (record { locked = refl; cells = λ y i is. refl; gates = gate_apart u u x apart refl }) refl
 
 -- ---- steps after steps
 
@@ -174,7 +107,7 @@ pub stepped_then : {v u w : View} {ds es : List Duty} → HasStepped v ds u → 
 stepped_then {v} {u} {w} one other = record {
   agenda = other.agenda;
   steps = steps_then v u w one.steps other.steps;
-  keeps = keeps_then v u w one.keeps other.keeps;
+  keeps = keeps_then one.keeps other.keeps;
 }
 
 -- ---- work about one row
@@ -186,16 +119,9 @@ IsPiece x (d ∷ []) = (is_about x d ≡ true) × (is_plain d ≡ true) × (may_
 IsPiece x _ = ⊥
 
 stepped_works : (x : ℕ) (v b u : View) → WorksAt x v b → Keeps b u → WorksAt x v u
-stepped_works x v b u works keeps = record {
-  layout = keeps.layout ∙ works.layout;
-  thread = keeps.thread ∙ works.thread;
-  status = keeps.status ∙ works.status;
-  used = keeps.used ∙ works.used;
-  given = keeps.given ∙ works.given;
-  sight = sight_then v b u works.sight
-      (record { locked = keeps.locked; in_slot = keeps.in_slot; kinds = keeps.kinds; cells = keeps.cells });
-  aside = keeps.aside ∙ works.aside;
-}
+stepped_works x v b u works keeps =
+    subst (λ (rows : List ℕ). Keeps (record (turned v x) { references = rows }) u) (sym keeps.references)
+    (keeps_then works keeps)
 
 -- A hand that works at the row and goes on there leaves its other work as it was.
 pub stepped_leaves : {x : ℕ} {v b u : View} {left : List Duty} → WorksAt x v b → HasStepped b left u → IsPiece x left

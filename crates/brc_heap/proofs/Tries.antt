@@ -5,6 +5,7 @@ use Rattle.std.proofs.lemmas.Bool.{eq-eqb}
 use Rattle.brc_word.specs.Words.{local_part, is_immortal_word, fresh_word, dead_word, released_word}
 use Rattle.brc_model.specs.declared.duty.Duty.{Duty}
 use Rattle.brc_model.specs.declared.duty.Holding.{Holding}
+use Rattle.brc_model.specs.declared.duty.Holding.TheVariants.{AsCaller}
 use Rattle.brc_model.specs.declared.duty.Reason.{Reason}
 use Rattle.brc_model.specs.declared.duty.Reason.TheVariants.{Own}
 use Rattle.brc_model.specs.declared.duty.Duty.TheVariants.{ReleaseLoad, ReleaseStore, DecideAtZero, SharedLoad, SharedExchange, SetMark, MergeSwap, Die}
@@ -20,13 +21,12 @@ use Rattle.brc_effect.specs.declared.outcomes.ZeroStep.TheVariants as zeros
 use Rattle.brc_effect.specs.declared.outcomes.SharedRelease.{SharedRelease}
 use Rattle.brc_effect.specs.declared.outcomes.SharedRelease.TheVariants as shared
 use Rattle.brc_effect.specs.Outcomes.{zero_answer, shared_answer}
-use Rattle.brc_heap.specs.Calls.{counts_here, released_locally, chained, chained_by, local_answer, local_left, zero_left, shared_left}
+use Rattle.brc_heap.specs.Calls.{counts_here, released_locally, chained, chained_by, local_answer, local_left, zero_left, shared_left, WorksAt}
 use Rattle.brc_effect.specs.Outcomes.{local_answer as local_release}
 use Rattle.brc_heap.specs.Steps.{HasStepped, ended}
 use Rattle.brc_heap.specs.Tries.{lowered, zero_dies, shared_dies}
 use Rattle.brc_heap.proofs.Stepping.{plain_first, die_first, plain_begins, plain_on, IsPiece}
-use Rattle.brc_heap.proofs.KnownKept.{same_sight}
-use Rattle.brc_heap.proofs.Leaving.{WorksAt, begun_works}
+use Rattle.brc_heap.proofs.Leaving.{begun_works}
 
 -- ---- the local word
 
@@ -125,8 +125,7 @@ local_stays v u x word h rest answer said stays next is =
 -- A hand that begins a release has put all other work aside.
 pub releasing_works : (v : View) (x : ℕ) → HasNoWork v x → WorksAt x v (releasing v x)
 releasing_works v x none =
-    begun_works x v (releasing v x) none refl refl refl refl refl
-    (same_sight v (releasing v x) refl refl refl) refl
+    begun_works x v (ReleaseLoad x AsCaller) (releasing v x).references none
 
 pub local_piece : (x : ℕ) (answer : LocalRelease) → IsPiece x (local_left x answer)
 local_piece x local.Skip = tt

@@ -1,7 +1,6 @@
 -- What each call does to its hand's view, from the words that its steps find. A call's steps are those of the model:
 -- each is the hand's next duty, which finds some word (`view_after`).
-use Rattle.std.specs.Prelude.{◌≡◌, ◌≢◌, ◌⊎◌, ◌<◌, ◌≤◌, ◌++◌, true, ℕ, ◌+◌, ◌*◌, ◌==◌, Bool, not, if◌then◌else◌, List, [], ◌∷◌, None, Some}
-use Rattle.std.specs.List.{filter}
+use Rattle.std.specs.Prelude.{◌≡◌, ◌≢◌, ◌⊎◌, ◌<◌, ◌≤◌, ◌++◌, true, ℕ, ◌+◌, ◌*◌, ◌==◌, Bool, if◌then◌else◌, List, [], ◌∷◌, None, Some}
 use Rattle.brc_word.specs.Words.{owner_part, most_local, half, local_part, is_immortal_word, free_word}
 use Rattle.brc_lang.specs.declared.kind.Kind.{Kind}
 use Rattle.brc_lang.specs.declared.kind.Kind.TheVariants as kinds
@@ -13,15 +12,15 @@ use Rattle.brc_model.specs.declared.duty.Duty.TheVariants.{DecideAtZero, SharedL
 use Rattle.brc_model.specs.Kinds.{kind_number}
 use Rattle.brc_model.specs.Duties.{counts_locally, once_merged, resources_of}
 use Rattle.brc_model.specs.Machine.{is_running}
-use Rattle.brc_model.specs.OpenWork.{is_about}
 use Rattle.brc_model.specs.declared.layout.Layout.{Layout}
 use Rattle.brc_model.specs.Layout.{none_row}
 use Rattle.brc_model.specs.declared.address.Address.TheVariants.{Local}
 use Rattle.brc_table.specs.declared.view.View.{View}
 use Rattle.brc_model.specs.declared.event.WordEvent.{WordEvent}
-use Rattle.brc_table.specs.Views.{view_after, resumed, turned, slot_filled, asking, retaining, releasing, bearing, work_about, open_work, next_row, is_given}
-use Rattle.brc_table.specs.KnownWords.{knows_kind, known_cell}
+use Rattle.brc_table.specs.Views.{view_after, resumed, turned, slot_filled, asking, retaining, releasing, bearing, work_about, open_work, with_work, rested, next_row, is_given}
+use Rattle.brc_table.specs.KnownWords.{knows_kind}
 use Rattle.brc_table.specs.Hands.{HandState, MayWait, carried_of}
+use Rattle.brc_heap.specs.Steps.{Keeps}
 use Rattle.brc_effect.specs.Outcomes.{local_answer as local_release, merge_answer}
 use Rattle.brc_effect.specs.declared.outcomes.LocalRelease.{LocalRelease}
 use Rattle.brc_effect.specs.declared.outcomes.LocalRelease.TheVariants as local
@@ -111,16 +110,6 @@ pub record MergeIsBegun (r : Reason) (hand : HandState) (x carried : ℕ) : Type
 abbrev pub Merges : Reason → HandState → ℕ → Type 0
 Merges r hand x = MergeIsFirst r hand x ⊎ ((carried : ℕ) × MergeIsBegun r hand x carried)
 
--- ---- what a call keeps
-
--- The hand has locked what it had, and knows of the locked object's slot what it knew, and of kinds and of the cells of
--- the list that it has locked what it has seen.
-pub record KeepsKnown (v u : View) : Type 0 where
-  pub locked : u.actor.locked ≡ v.actor.locked
-  pub in_slot : u.in_slot ≡ v.in_slot
-  pub kinds : (y word : ℕ) → knows_kind y word v ≡ true → knows_kind y word u ≡ true
-  pub cells : (y i : ℕ) → v.actor.locked ≡ Some y → known_cell y i u ≡ known_cell y i v
-
 -- ---- kinds
 
 -- The hand has loaded the row's kind word. It is the word that the hand has seen there before, if it has. If the hand
@@ -152,17 +141,18 @@ IsBornWith _ arg = ⊥
 abbrev pub born : View → ℕ → View
 born v word = view_after (slot_filled (view_after (bearing v word) 0)) 0
 
+-- a hand that has used one row more, and holds a reference to its object
+abbrev pub with_newborn : View → View
+with_newborn v = record v {
+  actor = record v.actor { used = v.actor.used + 1 };
+  references = next_row v ∷ v.references;
+}
+
 -- The hand has given birth to the next object of its block, and holds its only reference. Its other work and its chain
 -- are as they were.
 pub record HasBorn (v u : View) : Type 0 where
-  pub layout : u.layout ≡ v.layout
-  pub thread : u.thread ≡ v.thread
-  pub status : u.actor.status ≡ v.actor.status
-  pub used : u.actor.used ≡ v.actor.used + 1
-  pub given : u.given ≡ v.given
-  pub references : u.references ≡ next_row v ∷ v.references
+  pub keeps : Keeps (with_work (with_newborn v) u.actor.agenda u.actor.aside) u
   pub head : u.actor.head ≡ v.actor.head
-  pub sight : KeepsKnown v u
   pub waits : MayWait u.actor.agenda
   pub work : open_work u ≡ open_work v
 
@@ -174,31 +164,23 @@ IsTaken layout main thread = (thread ≡ 0) ⊎ (layout.workers < thread) ⊎ (i
 
 -- Main has given out the thread's hand. It holds what it held before, and its work and its chain are as they were.
 pub record HasGiven (thread : ℕ) (v u : View) : Type 0 where
-  pub layout : u.layout ≡ v.layout
-  pub number : u.thread ≡ v.thread
-  pub status : u.actor.status ≡ v.actor.status
-  pub used : u.actor.used ≡ v.actor.used
-  pub given : u.given ≡ thread ∷ v.given
-  pub references : u.references ≡ v.references
+  pub keeps : Keeps (record (rested v) { given = thread ∷ v.given }) u
   pub head : u.actor.head ≡ v.actor.head
-  pub sight : KeepsKnown v u
   pub agenda : u.actor.agenda ≡ []
-  pub aside : u.actor.aside ≡ open_work v
 
 -- ---- what a call leaves
 
+-- The hand with view v works at the row x, with view u: all other work is aside, and beside its references the hand has
+-- kept the rest.
+abbrev pub WorksAt : ℕ → View → View → Type 0
+WorksAt x v u = Keeps (record (turned v x) { references = u.references }) u
+
 -- After a call about the row x, this is left of the hand's work about it, and comes next. All other work is aside, and
--- as it was. So are the thread, its status, its used rows, its lock and the hands that it has given out.
+-- as it was.
 pub record Leaves (x : ℕ) (left : List Duty) (v u : View) : Type 0 where
-  pub layout : u.layout ≡ v.layout
-  pub thread : u.thread ≡ v.thread
-  pub status : u.actor.status ≡ v.actor.status
-  pub used : u.actor.used ≡ v.actor.used
-  pub given : u.given ≡ v.given
-  pub sight : KeepsKnown v u
+  pub keeps : WorksAt x v u
   pub waits : MayWait u.actor.agenda
   pub agenda : u.actor.agenda ≡ left
-  pub aside : u.actor.aside ≡ filter (λ d. not (is_about x d)) (open_work v)
   pub left_is : work_about x u ≡ left
   pub others : (y : ℕ) → y ≢ x → work_about y u ≡ work_about y v
 

@@ -10,7 +10,8 @@ use Rattle.brc_table.specs.KnownWords.{knows_kind, known_cell}
 use Rattle.brc_table.specs.Views.{view_after}
 
 -- What no such work changes. The hand has seen the kinds that it had seen, and of the cells of the list that it has
--- locked what it had seen.
+-- locked what it had seen. A call that changes more says which hand it is as if this one had been: `v` with other
+-- references, say.
 pub record Keeps (v u : View) : Type 0 where
   pub layout : u.layout ≡ v.layout
   pub thread : u.thread ≡ v.thread

@@ -33,7 +33,7 @@ both_leave {x} {left} {next} {v} {u} {w} one two = leaves_then x left next v u w
 -- A hand that runs after a call can act.
 pub still_acts : {x : ℕ} {left : List Duty} {v u : View} → IsRunning v → Leaves x left v u → CanAct u
 still_acts running leaves =
-    ((λ gone. absurd (let e : Running ≡ Gone = sym (leaves.status ∙ running.0) ∙ gone in cc)), leaves.waits)
+    ((λ gone. absurd (let e : Running ≡ Gone = sym (leaves.keeps.status ∙ running.0) ∙ gone in cc)), leaves.waits)
 
 -- A hand that has locked nothing may give up any reference.
 pub unlocked_keeps : (v : View) (x : ℕ) → v.actor.locked ≡ None → KeepsLock v x
@@ -41,7 +41,7 @@ unlocked_keeps v x none = λ e. absurd (let wrong : None ≡ Some x = sym none �
 
 -- A hand that can act still can after a call.
 pub acts_still : {x : ℕ} {left : List Duty} {v u : View} → CanAct v → Leaves x left v u → CanAct u
-acts_still acts leaves = ((λ gone. acts.0 (sym leaves.status ∙ gone)), leaves.waits)
+acts_still acts leaves = ((λ gone. acts.0 (sym leaves.keeps.status ∙ gone)), leaves.waits)
 
 -- A hand that carries nothing carries nothing after a call that leaves what it carries.
 pub carries_still : (before after : HandState) → after.carried ≡ before.carried → CarriesNothing before
@@ -51,7 +51,7 @@ carries_still before after same none x =
 
 -- A running hand still runs after a call.
 pub still_runs : {x : ℕ} {left : List Duty} {v u : View} → IsRunning v → Leaves x left v u → IsRunning u
-still_runs running leaves = (leaves.status ∙ running.0, leaves.waits)
+still_runs running leaves = (leaves.keeps.status ∙ running.0, leaves.waits)
 
 -- With one more reference to the root, a hand holds the root, immortal or not.
 held_by : (immortal : Bool) (rows : List ℕ)
@@ -99,7 +99,7 @@ ready_again ready table leaves same = record {
   held = subst (λ (rows : List ℕ). 1 ≤ count_by (λ y. y == root_row) rows) (sym same) ready.held;
   idle = leaves.left_is;
   few = subst (λ (rows : List ℕ). length rows < most_references) (sym same) ready.few;
-  unlocked = leaves.sight.locked ∙ ready.unlocked;
+  unlocked = leaves.keeps.locked ∙ ready.unlocked;
 }
 
 -- ---- one reference, to the root
@@ -163,11 +163,11 @@ pub alone_after_giving : {heap : TableState} {before after : HandState} {thread 
     → IsOf heap after → HasGiven thread before.view after.view → IsAlone heap after
 alone_after_giving alone table gives = record {
   table = table;
-  status = gives.status ∙ alone.status;
+  status = gives.keeps.status ∙ alone.status;
   agenda = gives.agenda;
-  aside = gives.aside ∙ alone_work alone;
-  references = gives.references ∙ alone.references;
-  unlocked = gives.sight.locked ∙ alone.unlocked;
+  aside = gives.keeps.aside ∙ alone_work alone;
+  references = gives.keeps.references ∙ alone.references;
+  unlocked = gives.keeps.locked ∙ alone.unlocked;
 }
 
 -- and any hand after a call that leaves nothing to do, and the same references.
@@ -175,11 +175,11 @@ pub alone_again : {heap : TableState} {before after : HandState} {x : ℕ} → I
     → Leaves x [] before.view after.view → after.view.references ≡ before.view.references → IsAlone heap after
 alone_again {heap} {before} {after} {x} alone table leaves same = record {
   table = table;
-  status = leaves.status ∙ alone.status;
+  status = leaves.keeps.status ∙ alone.status;
   agenda = leaves.agenda;
-  aside = leaves.aside ∙ ap (filter (λ (d : Duty). not (is_about x d))) (alone_work alone);
+  aside = leaves.keeps.aside ∙ ap (filter (λ (d : Duty). not (is_about x d))) (alone_work alone);
   references = same ∙ alone.references;
-  unlocked = leaves.sight.locked ∙ alone.unlocked;
+  unlocked = leaves.keeps.locked ∙ alone.unlocked;
 }
 
 -- Work about another row is as it was.
@@ -230,22 +230,22 @@ row_again x v u w same is after =
 pub rests_still : {x : ℕ} {v u : View} → open_work v ≡ [] → Leaves x [] v u → open_work u ≡ []
 rests_still {x} {v} {u} rests leaves =
     ap (λ (ds : List Duty). ds ++ u.actor.aside) leaves.agenda
-    ∙ (leaves.aside ∙ ap (filter (λ (d : Duty). not (is_about x d))) rests)
+    ∙ (leaves.keeps.aside ∙ ap (filter (λ (d : Duty). not (is_about x d))) rests)
 
 -- What a hand borrows it still borrows after a call.
 pub borrows_again : {x : ℕ} {v u : View} → Leaves x [] v u → Borrows v x → Borrows u x
-borrows_again {x} {v} {u} leaves = borrows_still x v u leaves.sight leaves.layout
+borrows_again {x} {v} {u} leaves = borrows_still x x v u leaves.keeps
 
 -- A hand that has just given birth to an object is ready to retain and release it.
 pub ready_at_birth : {heap : TableState} {before after : HandState} {x : ℕ} → IsAlone heap before
     → x ≡ next_row before.view → IsOf heap after → HasBorn before.view after.view → IsReadyAt heap after x
 ready_at_birth {heap} {before} {after} {x} alone is table born =
     let refs : after.view.references ≡ x ∷ root_row ∷ [] =
-    born.references
+    born.keeps.references
     ∙ (ap (λ (y : ℕ). y ∷ before.view.references) (sym is) ∙ ap (λ (rows : List ℕ). x ∷ rows) alone.references) in
     record {
       table = table;
-      running = (born.status ∙ alone.status, born.waits);
+      running = (born.keeps.status ∙ alone.status, born.waits);
       held =
           omega (
             arith,
@@ -255,5 +255,5 @@ ready_at_birth {heap} {before} {after} {x} alone is table born =
           );
       idle = ap (filter (is_about x)) (born.work ∙ alone_work alone);
       few = omega (arith, ap length refs);
-      unlocked = born.sight.locked ∙ alone.unlocked;
+      unlocked = born.keeps.locked ∙ alone.unlocked;
     }

@@ -12,7 +12,7 @@ use Rattle.brc_table.specs.declared.view.View.{View}
 use Rattle.brc_table.specs.Views.{view_by, view_after, open_work, without_one, without_reference}
 use Rattle.brc_table.specs.Calls.{IsFree, MayLeave}
 use Rattle.brc_heap.proofs.Handing.{root_counted}
-use Rattle.brc_free.specs.Works.{HasWorked, ComesToSettle, AtOnce, to_settle}
+use Rattle.brc_free.specs.Works.{HasWorked, HasReleased, ComesToSettle, AtOnce, to_settle}
 
 -- With no other work, nothing is aside after the release of the root.
 pub nothing_aside : (v : View) (x : ℕ) → v.actor.agenda ≡ [] → v.actor.aside ≡ []
@@ -22,10 +22,10 @@ nothing_aside v x idle none =
     ∙ ap (λ (ds : List Duty). filter (λ d. not (is_about x d)) ds) none
 
 -- The hand settles next,
-pub comes_at_once : (v u : View) (x : ℕ) → IsFree v → u.actor.status ≡ v.actor.status → u.actor.agenda ≡ []
-    → u.actor.aside ≡ filter (λ d. not (is_about x d)) (open_work v) → ComesToSettle u []
-comes_at_once v u x free same idle aside =
-    AtOnce (same ∙ free.running) (aside ∙ nothing_aside v x free.agenda free.aside) idle
+pub comes_at_once : {v u : View} {x : ℕ} → IsFree v → HasReleased x v u → ComesToSettle u []
+comes_at_once {v} {u} {x} free released =
+    AtOnce (released.keeps.status ∙ free.running)
+    (released.keeps.aside ∙ nothing_aside v x free.agenda free.aside) released.agenda
 
 -- and holds nothing.
 pub holds_none : (v u : View) → v.references ≡ root_row ∷ []
@@ -36,19 +36,15 @@ holds_none v u root is =
     ∙ ap (without_one root_row) root)
 
 -- Once it has settled it may leave.
-pub may_leave : (v u w : View) (cs : List HostCall) → IsFree v → v.references ≡ root_row ∷ [] → u.actor.status
-    ≡ v.actor.status
-    → u.actor.aside ≡ filter (λ d. not (is_about root_row d)) (open_work v)
-    → u.references ≡ without_reference v.layout root_row v.references → HasWorked (to_settle [] u) cs [] w
-    → w.actor.head ≡ 0
-    → MayLeave w
-may_leave v u w cs free root same aside references at empty = record {
+pub may_leave : {v u w : View} {cs : List HostCall} → IsFree v → v.references ≡ root_row ∷ []
+    → HasReleased root_row v u → HasWorked (to_settle [] u) cs [] w → w.actor.head ≡ 0 → MayLeave w
+may_leave {v} {u} {w} free root released at empty = record {
   free = record {
-    running = at.keeps.status ∙ (same ∙ free.running);
+    running = at.keeps.status ∙ (released.keeps.status ∙ free.running);
     agenda = at.agenda;
-    aside = at.keeps.aside ∙ (aside ∙ nothing_aside v root_row free.agenda free.aside);
+    aside = at.keeps.aside ∙ (released.keeps.aside ∙ nothing_aside v root_row free.agenda free.aside);
   };
-  holds_none = at.keeps.references ∙ holds_none v u root references;
+  holds_none = at.keeps.references ∙ holds_none v u root released.keeps.references;
   settled = empty;
 }
 

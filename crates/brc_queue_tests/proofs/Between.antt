@@ -100,9 +100,9 @@ pub after_birth : {heap : TableState} {before after : HandState} (x : ℕ) → H
     → x ≡ next_row before.view → IsCounted before.view.layout x → HasBorn before.view after.view
     → Holds heap after (Some x)
 after_birth {heap} {before} {after} x rest table is counted born =
-    rests_again rest table born.layout born.status born.waits (born.work ∙ rest.rests) (born.head ∙ rest.head)
-    (born.sight.locked ∙ rest.locked_is) tt
-    (born.references
+    rests_again rest table born.keeps.layout born.keeps.status born.waits (born.work ∙ rest.rests)
+    (born.head ∙ rest.head) (born.keeps.locked ∙ rest.locked_is) tt
+    (born.keeps.references
     ∙ (ap (λ (y : ℕ). y ∷ before.view.references) (sym is)
     ∙ (ap (λ (rows : List ℕ). x ∷ rows) rest.references
     ∙ sym (ap (λ (b : Bool). if b then root_row ∷ [] else x ∷ root_row ∷ []) counted))))
@@ -111,10 +111,10 @@ after_birth {heap} {before} {after} x rest table is counted born =
 pub after_giving : {heap : TableState} {before after : HandState} (thread : ℕ) → Holds heap before None
     → IsOf heap after → HasGiven thread before.view after.view → Holds heap after None
 after_giving {heap} {before} {after} thread rest table gives =
-    rests_again rest table gives.layout gives.status (subst MayWait (sym gives.agenda) tt)
-    (ap (λ (ds : List Duty). ds ++ after.view.actor.aside) gives.agenda ∙ (gives.aside ∙ rest.rests))
-    (gives.head ∙ rest.head) (gives.sight.locked ∙ rest.locked_is) tt
-    (gives.references ∙ rest.references)
+    rests_again rest table gives.keeps.layout gives.keeps.status (subst MayWait (sym gives.agenda) tt)
+    (ap (λ (ds : List Duty). ds ++ after.view.actor.aside) gives.agenda ∙ (gives.keeps.aside ∙ rest.rests))
+    (gives.head ∙ rest.head) (gives.keeps.locked ∙ rest.locked_is) tt
+    (gives.keeps.references ∙ rest.references)
 
 back_again : (before after : HandState) (locked : Option ℕ) → after.slots ≡ before.slots
     → after.view.in_slot ≡ before.view.in_slot → HasBack before locked → HasBack after locked
@@ -131,10 +131,10 @@ pub after_call : {heap : TableState} {before after : HandState} {item locked : O
     → after.view.references ≡ with_item before.view.layout (word_of next) (root_row ∷ [])
     → IsResting heap after next locked
 after_call {heap} {before} {after} {item} {locked} next x rest table leaves head slots references =
-    rests_again rest table leaves.layout leaves.status leaves.waits
-    (none_beside x after.view rest leaves.agenda leaves.aside)
-    (head ∙ rest.head) (leaves.sight.locked ∙ rest.locked_is)
-    (back_again before after locked slots leaves.sight.in_slot rest.returned) references
+    rests_again rest table leaves.keeps.layout leaves.keeps.status leaves.waits
+    (none_beside x after.view rest leaves.agenda leaves.keeps.aside)
+    (head ∙ rest.head) (leaves.keeps.locked ∙ rest.locked_is)
+    (back_again before after locked slots leaves.keeps.in_slot rest.returned) references
 
 -- ---- calls of lists
 
@@ -203,8 +203,8 @@ after_unlock {heap} {before} {after} row rest table keeps locked =
 pub comes_to_settle : {heap : TableState} {before : HandState} {after : View} (x : ℕ) → Holds heap before (Some x)
     → HasReleased x before.view after → ComesToSettle after []
 comes_to_settle {heap} {before} {after} x rest released =
-    AtOnce (released.status ∙ rest.running.0)
-    (released.aside ∙ ap (filter (λ (d : Duty). not (is_about x d))) rest.rests) released.agenda
+    AtOnce (released.keeps.status ∙ rest.running.0)
+    (released.keeps.aside ∙ ap (filter (λ (d : Duty). not (is_about x d))) rest.rests) released.agenda
 
 -- and rests.
 pub after_release : {heap : TableState} {before after : HandState} {between : View} {closes : List HostCall} (x : ℕ)
@@ -213,12 +213,12 @@ pub after_release : {heap : TableState} {before after : HandState} {between : Vi
 after_release {heap} {before} {after} {between} x rest released table head worked =
     let layout = before.view.layout in
     let none : after.view.actor.agenda ≡ [] = worked.agenda in
-    rests_again rest table (worked.keeps.layout ∙ released.layout) (worked.keeps.status ∙ released.status)
+    rests_again rest table (worked.keeps.layout ∙ released.keeps.layout) (worked.keeps.status ∙ released.keeps.status)
     (subst MayWait (sym none) tt)
-    (none_beside x after.view rest none (worked.keeps.aside ∙ released.aside)) head
-    (worked.keeps.locked ∙ (released.locked ∙ rest.locked_is)) tt
+    (none_beside x after.view rest none (worked.keeps.aside ∙ released.keeps.aside)) head
+    (worked.keeps.locked ∙ (released.keeps.locked ∙ rest.locked_is)) tt
     (worked.keeps.references
-    ∙ (released.references
+    ∙ (released.keeps.references
     ∙ (ap (without_reference layout x) rest.references ∙ without_with layout (suc x) (root_row ∷ []))))
 
 -- So it does after it has looked through its queue.

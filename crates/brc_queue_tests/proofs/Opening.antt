@@ -41,11 +41,11 @@ pub still_holds : {heap : TableState} {before after : HandState} (thread : ℕ) 
     → HoldsRoot heap after
 still_holds {heap} {before} {after} thread has table gives same = record {
   table = table;
-  layout = gives.layout ∙ has.layout;
-  status = gives.status ∙ has.status;
+  layout = gives.keeps.layout ∙ has.layout;
+  status = gives.keeps.status ∙ has.status;
   agenda = gives.agenda;
-  aside = gives.aside ∙ open_is has;
-  references = gives.references ∙ has.references;
-  unlocked = gives.sight.locked ∙ has.unlocked;
+  aside = gives.keeps.aside ∙ open_is has;
+  references = gives.keeps.references ∙ has.references;
+  unlocked = gives.keeps.locked ∙ has.unlocked;
   none = none_still before after same has.none;
 }

@@ -39,9 +39,9 @@ pub rests_after_giving : {heap : TableState} {before after : HandState} {thread 
     → IsOf heap after → HasGiven thread before.view after.view → IsAtRest heap after None
 rests_after_giving {heap} {before} {after} rest table gives = record {
   table = table;
-  running = (gives.status ∙ rest.running.0, subst MayWait (sym gives.agenda) tt);
-  rests = ap (λ (ds : List Duty). ds ++ after.view.actor.aside) gives.agenda ∙ (gives.aside ∙ rest.rests);
-  locked_is = gives.sight.locked ∙ rest.locked_is;
+  running = (gives.keeps.status ∙ rest.running.0, subst MayWait (sym gives.agenda) tt);
+  rests = ap (λ (ds : List Duty). ds ++ after.view.actor.aside) gives.agenda ∙ (gives.keeps.aside ∙ rest.rests);
+  locked_is = gives.keeps.locked ∙ rest.locked_is;
   returned = tt;
 }
 
@@ -50,9 +50,9 @@ pub rests_after_birth : {heap : TableState} {before after : HandState} → IsAtR
     → HasBorn before.view after.view → IsAtRest heap after None
 rests_after_birth rest table born = record {
   table = table;
-  running = (born.status ∙ rest.running.0, born.waits);
+  running = (born.keeps.status ∙ rest.running.0, born.waits);
   rests = born.work ∙ rest.rests;
-  locked_is = born.sight.locked ∙ rest.locked_is;
+  locked_is = born.keeps.locked ∙ rest.locked_is;
   returned = tt;
 }
 
@@ -61,11 +61,11 @@ pub rests_after_call : {heap : TableState} {before after : HandState} {x : ℕ} 
     → IsOf heap after → Leaves x [] before.view after.view → IsAtRest heap after None
 rests_after_call {heap} {before} {after} {x} rest table leaves = record {
   table = table;
-  running = (leaves.status ∙ rest.running.0, leaves.waits);
+  running = (leaves.keeps.status ∙ rest.running.0, leaves.waits);
   rests =
       ap (λ (ds : List Duty). ds ++ after.view.actor.aside) leaves.agenda
-      ∙ (leaves.aside ∙ ap (filter (λ (d : Duty). not (is_about x d))) rest.rests);
-  locked_is = leaves.sight.locked ∙ rest.locked_is;
+      ∙ (leaves.keeps.aside ∙ ap (filter (λ (d : Duty). not (is_about x d))) rest.rests);
+  locked_is = leaves.keeps.locked ∙ rest.locked_is;
   returned = tt;
 }
 
@@ -74,11 +74,11 @@ pub rests_after_release : {heap : TableState} {before after : HandState} {x : �
     → IsOf heap after → HasReleased x before.view after.view → IsAtRest heap after None
 rests_after_release {heap} {before} {after} {x} rest table released = record {
   table = table;
-  running = (released.status ∙ rest.running.0, subst MayWait (sym released.agenda) tt);
+  running = (released.keeps.status ∙ rest.running.0, subst MayWait (sym released.agenda) tt);
   rests =
       ap (λ (ds : List Duty). ds ++ after.view.actor.aside) released.agenda
-      ∙ (released.aside ∙ ap (filter (λ (d : Duty). not (is_about x d))) rest.rests);
-  locked_is = released.locked ∙ rest.locked_is;
+      ∙ (released.keeps.aside ∙ ap (filter (λ (d : Duty). not (is_about x d))) rest.rests);
+  locked_is = released.keeps.locked ∙ rest.locked_is;
   returned = tt;
 }
 

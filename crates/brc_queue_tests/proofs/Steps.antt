@@ -37,12 +37,12 @@ pub after_call : {heap : TableState} {before after : HandState} {rows : List ℕ
     → after.view.references ≡ later → carried_of after shared_row ≡ None → HasWork heap after later left
 after_call {heap} {before} {after} {rows} {work} x left later has alone table leaves references none = record {
   table = table;
-  layout = leaves.layout ∙ has.layout;
-  status = leaves.status ∙ has.status;
+  layout = leaves.keeps.layout ∙ has.layout;
+  status = leaves.keeps.status ∙ has.status;
   agenda = leaves.agenda;
-  aside = leaves.aside ∙ (ap (filter (λ (d : Duty). not (is_about x d))) (open_is has) ∙ alone);
+  aside = leaves.keeps.aside ∙ (ap (filter (λ (d : Duty). not (is_about x d))) (open_is has) ∙ alone);
   references = references;
-  unlocked = leaves.sight.locked ∙ has.unlocked;
+  unlocked = leaves.keeps.locked ∙ has.unlocked;
   none = none;
 }
 

@@ -10,13 +10,14 @@ use Rattle.brc_table.specs.Views.{holds}
 use Rattle.brc_heap.specs.Steps.{Keeps}
 use Rattle.brc_work.specs.Calls.{HasCalled}
 use Rattle.brc_work.specs.Fits.{IsReady}
-use Rattle.brc_work.proofs.CallsBelow.{follows_by}
+use Rattle.brc_heap.proofs.Keeping.{keeps_first}
+use Rattle.brc_work.proofs.CallsBelow.{keeps_later}
 use Rattle.brc_work.proofs.Fitting.{follows_on}
 
 -- A hand that has made no call yet.
 pub not_called : (hand : HandState) → IsReady hand → HasCalled hand hand
 not_called hand ready = record {
-  follows = follows_by hand hand refl refl refl refl refl (omega arith);
+  follows = keeps_later (keeps_first hand.view) (omega arith) refl refl;
   rests = ready.rests;
   unlocked = ready.unlocked;
   slots = refl;
@@ -49,7 +50,7 @@ pub looked_called : (hand after : HandState) → IsReady hand → Keeps hand.vie
     → after.view.actor.head ≡ 0 → after.table ≡ hand.table → after.carried ≡ hand.carried → after.slots ≡ hand.slots
     → HasCalled hand after
 looked_called hand after ready keeps free settled table carried slots = record {
-  follows = follows_by hand after table keeps.layout keeps.thread keeps.given carried (omega (arith, keeps.used));
+  follows = keeps_later keeps (omega arith) table carried;
   rests = record {
     running = free.running;
     agenda = free.agenda;

@@ -4,6 +4,7 @@ use Rattle.std.specs.Prelude.{not}
 use Rattle.std.specs.List.{filter}
 use Rattle.std.proofs.lemmas.List.Sums.{fold-append}
 use Rattle.brc_host.specs.HostCalls.{HostCall}
+use Rattle.brc_model.specs.declared.actor.Status.TheVariants.{Running}
 use Rattle.brc_model.specs.declared.duty.Duty.{Duty}
 use Rattle.brc_model.specs.OpenWork.{is_about}
 use Rattle.brc_table.specs.declared.view.View.{View}
@@ -11,7 +12,9 @@ use Rattle.brc_table.specs.Views.{open_work, asking, view_after}
 use Rattle.brc_table.specs.KnownWords.{cell_known, known_cell}
 use Rattle.brc_table.specs.Hands.{HandState}
 use Rattle.brc_heap.specs.Calls.{Leaves, HasBorn}
-use Rattle.brc_list.specs.Calls.{Keeps}
+use Rattle.brc_heap.specs.Steps.{Keeps}
+use Rattle.brc_heap.proofs.Keeping.{keeps_first, keeps_then, keeps_beside}
+use Rattle.brc_list.specs.Calls.{Keeps as KeepsInList}
 use Rattle.brc_free.specs.Works.{HasReleased, HasWorked, to_settle}
 use Rattle.brc_work.specs.Acts.{KeepsCells, Acts, ActsElsewhere}
 use Rattle.brc_work.specs.Fits.{Rests, IsLater}
@@ -32,174 +35,72 @@ no_work hand rests = ap (λ (ds : List Duty). ds ++ hand.view.actor.aside) rests
 
 -- ---- calls
 
--- The hand is the same one, later.
-pub follows_by : (hand after : HandState) → after.table ≡ hand.table → after.view.layout ≡ hand.view.layout
-    → after.view.thread ≡ hand.view.thread → after.view.given ≡ hand.view.given → after.carried ≡ hand.carried
-    → hand.view.actor.used ≤ after.view.actor.used → IsLater hand after
-follows_by hand after table layout thread given carried used = record {
-  table = table;
-  layout = layout;
-  thread = thread;
-  given = given;
-  carried = carried;
-  used = used;
+-- the hand with other work, used rows and references
+abbrev pub changed : View → List Duty → List Duty → ℕ → List ℕ → View
+changed v ds fs used rows = record v {
+  actor = record v.actor { agenda = ds; aside = fs; used = used };
+  references = rows;
 }
+
+-- A hand that keeps the rest is the same one, later.
+pub keeps_later : {hand after : HandState} {ds fs : List Duty} {used : ℕ} {rows : List ℕ}
+    → Keeps (changed hand.view ds fs used rows) after.view → hand.view.actor.used ≤ used → after.table ≡ hand.table
+    → after.carried ≡ hand.carried → IsLater hand after
+keeps_later keeps more table carried = record {
+  table = table;
+  layout = keeps.layout;
+  thread = keeps.thread;
+  given = keeps.given;
+  carried = carried;
+  used = omega (arith, keeps.used, more);
+}
+
+-- A call that keeps the rest and leaves no work.
+pub keeps_acts : (hand after : HandState) {ds fs : List Duty} {used : ℕ} {rows : List ℕ}
+    → Keeps (changed hand.view ds fs used rows) after.view → hand.view.actor.used ≤ used
+    → hand.view.actor.status ≡ Running → after.view.actor.agenda ≡ [] → fs ≡ [] → after.view.actor.head ≡ 0
+    → after.table ≡ hand.table → after.carried ≡ hand.carried → after.slots ≡ hand.slots → ActsElsewhere hand after
+keeps_acts hand after keeps more running agenda aside settled table carried slots = record {
+  acts = record {
+    follows = keeps_later keeps more table carried;
+    rests = record {
+      running = keeps.status ∙ running;
+      agenda = agenda;
+      aside = keeps.aside ∙ aside;
+      settled = settled;
+    };
+    more = record { layout = keeps.layout; kinds = keeps.kinds };
+    locked = keeps.locked;
+    in_slot = keeps.in_slot;
+    slots = slots;
+  };
+  cells = λ y i word locked seen. keeps.cells y i locked ∙ seen;
+}
+
+-- A hand that rests has nothing aside when it turns to a row.
+pub none_aside : (hand : HandState) (x : ℕ) → Rests hand
+    → filter (λ (d : Duty). not (is_about x d)) (open_work hand.view) ≡ []
+none_aside hand x rests = ap (filter (λ (d : Duty). not (is_about x d))) (no_work hand rests)
 
 -- A call about one row that leaves no work.
 pub left_acts : (hand after : HandState) (x : ℕ) → Rests hand → Leaves x [] hand.view after.view
     → after.table ≡ hand.table → after.carried ≡ hand.carried → after.slots ≡ hand.slots
     → after.view.actor.head ≡ hand.view.actor.head → ActsElsewhere hand after
-left_acts hand after x rests left table carried slots head = record {
-  acts = record {
-    follows = follows_by hand after table left.layout left.thread left.given carried (omega (arith, left.used));
-    rests = record {
-      running = left.status ∙ rests.running;
-      agenda = left.agenda;
-      aside = left.aside ∙ ap (filter (λ (d : Duty). not (is_about x d))) (no_work hand rests);
-      settled = head ∙ rests.settled;
-    };
-    more = record { layout = left.layout; kinds = left.sight.kinds };
-    locked = left.sight.locked;
-    in_slot = left.sight.in_slot;
-    slots = slots;
-  };
-  cells = λ y i word locked seen. left.sight.cells y i locked ∙ seen;
-}
+left_acts hand after x rests left table carried slots head =
+    keeps_acts hand after left.keeps (omega arith) rests.running left.agenda (none_aside hand x rests)
+    (head ∙ rests.settled) table carried slots
 
 -- A birth.
 pub born_acts : (hand after : HandState) → Rests hand → HasBorn hand.view after.view
     → after.table ≡ hand.table → after.carried ≡ hand.carried → after.slots ≡ hand.slots → ActsElsewhere hand after
 born_acts hand after rests born table carried slots =
     let none = born.work ∙ no_work hand rests in
-    record {
-      acts = record {
-        follows = follows_by hand after table born.layout born.thread born.given carried (omega (arith, born.used));
-        rests = record {
-          running = born.status ∙ rests.running;
-          agenda = no_first after.view.actor.agenda after.view.actor.aside none;
-          aside = no_second after.view.actor.agenda after.view.actor.aside none;
-          settled = born.head ∙ rests.settled;
-        };
-        more = record { layout = born.layout; kinds = born.sight.kinds };
-        locked = born.sight.locked;
-        in_slot = born.sight.in_slot;
-        slots = slots;
-      };
-      cells = λ y i word locked seen. born.sight.cells y i locked ∙ seen;
-    }
-
--- A call on a list that changes no reference.
-pub kept_acts : (hand after : HandState) → Rests hand → Keeps hand.view after.view → after.table ≡ hand.table
-    → after.carried ≡ hand.carried → after.slots ≡ hand.slots → after.view.actor.locked ≡ hand.view.actor.locked
-    → Acts hand after
-kept_acts hand after rests kept table carried slots locked =
-    let none = kept.work ∙ no_work hand rests in
-    record {
-      follows = follows_by hand after table kept.layout kept.thread kept.given carried (omega (arith, kept.used));
-      rests = record {
-        running = kept.status ∙ rests.running;
-        agenda = no_first after.view.actor.agenda after.view.actor.aside none;
-        aside = no_second after.view.actor.agenda after.view.actor.aside none;
-        settled = kept.head ∙ rests.settled;
-      };
-      more = record { layout = kept.layout; kinds = kept.kinds };
-      locked = locked;
-      in_slot = kept.taken_slot;
-      slots = slots;
-    }
-
--- A look at a kind word changes nothing that the hand has seen of cells.
-pub asked_cells : (v u : View) (x word : ℕ) → u ≡ view_after (asking v x) word → KeepsCells v u
-asked_cells v u x word is y i before locked seen =
-    ap (known_cell y i) is ∙ (fold-append (cell_known y i) None v.trace _ ∙ seen)
-
--- A hand that has done nothing.
-pub itself_acts : (hand : HandState) → Rests hand → ActsElsewhere hand hand
-itself_acts hand rests = record {
-  acts = record {
-    follows = follows_by hand hand refl refl refl refl refl (omega arith);
-    rests = rests;
-    more = record { layout = refl; kinds = λ x word seen. seen };
-    locked = refl;
-    in_slot = refl;
-    slots = refl;
-  };
-  cells = λ x i word locked seen. seen;
-}
-
--- the hand with other references
-abbrev pub with_references : HandState → List ℕ → HandState
-with_references hand references = record hand { view = record hand.view { references = references } }
-
-pub beside_acts : (hand : HandState) (references : List ℕ) → Rests hand
-    → ActsElsewhere hand (with_references hand references)
-beside_acts hand references rests = record {
-  acts = record {
-    follows = follows_by hand (with_references hand references) refl refl refl refl refl (omega arith);
-    rests = record {
-      running = rests.running;
-      agenda = rests.agenda;
-      aside = rests.aside;
-      settled = rests.settled;
-    };
-    more = record { layout = refl; kinds = λ x word seen. seen };
-    locked = refl;
-    in_slot = refl;
-    slots = refl;
-  };
-  cells = λ x i word locked seen. seen;
-}
-
-pub beside_back : (hand : HandState) (references : List ℕ) → Rests hand
-    → ActsElsewhere (with_references hand references) hand
-beside_back hand references rests = record {
-  acts = record {
-    follows = follows_by (with_references hand references) hand refl refl refl refl refl (omega arith);
-    rests = rests;
-    more = record { layout = refl; kinds = λ x word seen. seen };
-    locked = refl;
-    in_slot = refl;
-    slots = refl;
-  };
-  cells = λ x i word locked seen. seen;
-}
-
--- A release, and what it takes to settle.
-pub released_rests : (hand mid : HandState) (x : ℕ) → Rests hand → HasReleased x hand.view mid.view
-    → mid.view.actor.aside ≡ []
-released_rests hand mid x rests released =
-    released.aside ∙ ap (filter (λ (d : Duty). not (is_about x d))) (no_work hand rests)
-
-pub released_acts : (hand mid after : HandState) (x : ℕ) (closes : List HostCall) → Rests hand
-    → HasReleased x hand.view mid.view
-    → HasWorked (to_settle [] mid.view) closes [] after.view → after.view.actor.head ≡ 0 → after.table ≡ hand.table
-    → after.carried ≡ hand.carried → after.slots ≡ hand.slots → ActsElsewhere hand after
-released_acts hand mid after x closes rests released worked settled table carried slots =
-    let keeps = worked.keeps in
-    record {
-      acts = record {
-        follows = follows_by hand after table (keeps.layout ∙ released.layout) (keeps.thread ∙ released.thread)
-            (keeps.given ∙ released.given) carried (omega (arith, keeps.used, released.used));
-        rests = record {
-          running = keeps.status ∙ (released.status ∙ rests.running);
-          agenda = worked.agenda;
-          aside = keeps.aside ∙ released_rests hand mid x rests released;
-          settled = settled;
-        };
-        more = record {
-          layout = keeps.layout ∙ released.layout;
-          kinds = λ y word seen. keeps.kinds y word (released.kinds y word seen);
-        };
-        locked = keeps.locked ∙ released.locked;
-        in_slot = keeps.in_slot ∙ released.in_slot;
-        slots = slots;
-      };
-      cells = λ y i word locked seen.
-          keeps.cells y i (released.locked ∙ locked) ∙ (released.cells y i locked ∙ seen);
-    }
+    keeps_acts hand after born.keeps (omega arith) rests.running
+    (no_first after.view.actor.agenda after.view.actor.aside none)
+    (no_second after.view.actor.agenda after.view.actor.aside none) (born.head ∙ rests.settled) table carried slots
 
 -- What a call on a list leaves, whatever becomes of the lock.
-pub kept_rests : (hand after : HandState) → Rests hand → Keeps hand.view after.view → Rests after
+pub kept_rests : (hand after : HandState) → Rests hand → KeepsInList hand.view after.view → Rests after
 kept_rests hand after rests kept =
     let none = kept.work ∙ no_work hand rests in
     record {
@@ -209,10 +110,70 @@ kept_rests hand after rests kept =
       settled = kept.head ∙ rests.settled;
     }
 
-pub kept_follows : (hand after : HandState) → Keeps hand.view after.view → after.table ≡ hand.table
+pub kept_follows : (hand after : HandState) → KeepsInList hand.view after.view → after.table ≡ hand.table
     → after.carried ≡ hand.carried → IsLater hand after
-kept_follows hand after kept table carried =
-    follows_by hand after table kept.layout kept.thread kept.given carried (omega (arith, kept.used))
+kept_follows hand after kept table carried = record {
+  table = table;
+  layout = kept.layout;
+  thread = kept.thread;
+  given = kept.given;
+  carried = carried;
+  used = omega (arith, kept.used);
+}
+
+-- One that changes no reference.
+pub kept_acts : (hand after : HandState) → Rests hand → KeepsInList hand.view after.view → after.table ≡ hand.table
+    → after.carried ≡ hand.carried → after.slots ≡ hand.slots → after.view.actor.locked ≡ hand.view.actor.locked
+    → Acts hand after
+kept_acts hand after rests kept table carried slots locked = record {
+  follows = kept_follows hand after kept table carried;
+  rests = kept_rests hand after rests kept;
+  more = record { layout = kept.layout; kinds = kept.kinds };
+  locked = locked;
+  in_slot = kept.taken_slot;
+  slots = slots;
+}
+
+-- A look at a kind word changes nothing that the hand has seen of cells.
+pub asked_cells : (v u : View) (x word : ℕ) → u ≡ view_after (asking v x) word → KeepsCells v u
+asked_cells v u x word is y i before locked seen =
+    ap (known_cell y i) is ∙ (fold-append (cell_known y i) None v.trace _ ∙ seen)
+
+-- A hand that has done nothing.
+pub itself_acts : (hand : HandState) → Rests hand → ActsElsewhere hand hand
+itself_acts hand rests =
+    keeps_acts hand hand (keeps_first hand.view) (omega arith) rests.running rests.agenda rests.aside rests.settled refl
+    refl refl
+
+-- the hand with other references
+abbrev pub with_references : HandState → List ℕ → HandState
+with_references hand references = record hand { view = record hand.view { references = references } }
+
+pub beside_acts : (hand : HandState) (references : List ℕ) → Rests hand
+    → ActsElsewhere hand (with_references hand references)
+beside_acts hand references rests =
+    keeps_acts hand (with_references hand references) (keeps_first (with_references hand references).view) (omega arith)
+    rests.running rests.agenda rests.aside rests.settled refl refl refl
+
+pub beside_back : (hand : HandState) (references : List ℕ) → Rests hand
+    → ActsElsewhere (with_references hand references) hand
+beside_back hand references rests =
+    keeps_acts (with_references hand references) hand (keeps_first hand.view) (omega arith) rests.running rests.agenda
+    rests.aside rests.settled refl refl refl
+
+-- A release, and what it takes to settle.
+pub released_rests : (hand mid : HandState) (x : ℕ) → Rests hand → HasReleased x hand.view mid.view
+    → mid.view.actor.aside ≡ []
+released_rests hand mid x rests released = released.keeps.aside ∙ none_aside hand x rests
+
+pub released_acts : (hand mid after : HandState) (x : ℕ) (closes : List HostCall) → Rests hand
+    → HasReleased x hand.view mid.view
+    → HasWorked (to_settle [] mid.view) closes [] after.view → after.view.actor.head ≡ 0 → after.table ≡ hand.table
+    → after.carried ≡ hand.carried → after.slots ≡ hand.slots → ActsElsewhere hand after
+released_acts hand mid after x closes rests released worked settled table carried slots =
+    keeps_acts hand after
+    (keeps_then (keeps_then released.keeps (keeps_beside mid.view (to_settle [] mid.view).actor.agenda)) worked.keeps)
+    (omega arith) rests.running worked.agenda (none_aside hand x rests) settled table carried slots
 
 -- the hand that knows something else of the locked object's slot
 abbrev pub with_slot : HandState → ℕ → HandState

@@ -13,59 +13,46 @@ use Rattle.brc_model.specs.OpenWork.{is_about}
 use Rattle.brc_table.specs.Hands.{IsRunning, HasNoWork, MayWait, most_references}
 use Rattle.brc_table.specs.Views.{holds, is_given, HasJoined}
 use Rattle.brc_heap.specs.Calls.{HasGiven}
-use Rattle.brc_heap.proofs.KnownKept.{same_sight, sight_then}
+use Rattle.brc_heap.proofs.Keeping.{keeps_first, keeps_then as both_keep, keeps_rest}
 use Rattle.brc_work.specs.Mains.{MayFanOut, KeepsMain, JoinsMore}
 
 -- Main has given out no hand yet.
 pub keeps_itself : (v : View) → MayFanOut v → KeepsMain v v
-keeps_itself v may = record {
-  layout = refl;
-  number = refl;
-  status = refl;
-  used = refl;
-  references = refl;
-  head = refl;
-  sight = same_sight v v refl refl refl;
-  waits = may.running.1;
-  work = refl;
-}
+keeps_itself v may = record { keeps = keeps_first v; head = refl; waits = may.running.1; work = refl }
 
 -- Main has given out one hand more.
 pub keeps_then : (thread : ℕ) (v u w : View) → KeepsMain v u → HasGiven thread u w → KeepsMain v w
 keeps_then thread v u w kept given = record {
-  layout = given.layout ∙ kept.layout;
-  number = given.number ∙ kept.number;
-  status = given.status ∙ kept.status;
-  used = given.used ∙ kept.used;
-  references = given.references ∙ kept.references;
+  keeps =
+      both_keep
+      (keeps_rest kept.keeps (sym given.keeps.aside) kept.keeps.references (sym given.keeps.given)) given.keeps;
   head = given.head ∙ kept.head;
-  sight = sight_then v u w kept.sight given.sight;
   waits = subst MayWait (sym given.agenda) tt;
-  work = ap (λ (ds : List Duty). ds ++ w.actor.aside) given.agenda ∙ given.aside ∙ kept.work;
+  work = ap (λ (ds : List Duty). ds ++ w.actor.aside) given.agenda ∙ given.keeps.aside ∙ kept.work;
 }
 
 -- What `hand_out` asks of main holds before each hand.
 module _ (v u : View) (may : MayFanOut v) (kept : KeepsMain v u) where
   pub still_main : u.thread ≡ 0
-  still_main = kept.number ∙ may.is_main
+  still_main = kept.keeps.thread ∙ may.is_main
 
   pub still_runs : IsRunning u
-  still_runs = (kept.status ∙ may.running.0, kept.waits)
+  still_runs = (kept.keeps.status ∙ may.running.0, kept.waits)
 
   pub still_holds : 1 ≤ holds u root_row
-  still_holds = subst (λ (rows : List ℕ). 1 ≤ count_by (λ y. y == root_row) rows) (sym kept.references) may.held
+  still_holds = subst (λ (rows : List ℕ). 1 ≤ count_by (λ y. y == root_row) rows) (sym kept.keeps.references) may.held
 
   pub still_idle : HasNoWork u root_row
   still_idle = ap (filter (is_about root_row)) kept.work ∙ may.idle
 
   pub still_few : length u.references < most_references
-  still_few = subst (λ (rows : List ℕ). length rows < most_references) (sym kept.references) may.few
+  still_few = subst (λ (rows : List ℕ). length rows < most_references) (sym kept.keeps.references) may.few
 
 -- No hand of a later worker was given out.
 pub free_then : (thread : ℕ) (v w : View) → HasGiven thread v w
     → ((t : ℕ) → thread ≤ t → is_given t v ≡ false) → (t : ℕ) → thread + 1 ≤ t → is_given t w ≡ false
 free_then thread v w given free t above =
-    ap (list_any (λ (s : ℕ). s == t)) given.given
+    ap (list_any (λ (s : ℕ). s == t)) given.keeps.given
     ∙ ap (λ (b : Bool). b || is_given t v) (ne_eqb thread t (λ e. absurd (omega (arith, above, e))))
     ∙ free t (omega (arith, above))
 
@@ -75,7 +62,7 @@ pub given_then : (thread : ℕ) (v w : View) → HasGiven thread v w → (t : �
 given_then thread v w given t is = elim (eqb_tells thread t) [
   | inl same ↦ inl same.1
   | inr apart ↦
-      inr (sym (ap (list_any (λ (s : ℕ). s == t)) given.given
+      inr (sym (ap (list_any (λ (s : ℕ). s == t)) given.keeps.given
       ∙ ap (λ (b : Bool). b || is_given t v) apart.0) ∙ is)
 ]
 
@@ -109,15 +96,9 @@ joined_now u w gone is =
 -- What main kept as it gave out hands it keeps as it joins them.
 pub keeps_joined : (v u w : View) → KeepsMain v u → JoinsMore u w → KeepsMain v w
 keeps_joined v u w kept more =
-    let joined : View = record u { joined = w.joined } in
     subst (KeepsMain v) (sym more.same) (record {
-      layout = kept.layout;
-      number = kept.number;
-      status = kept.status;
-      used = kept.used;
-      references = kept.references;
+      keeps = keeps_rest kept.keeps refl kept.keeps.references refl;
       head = kept.head;
-      sight = sight_then v u joined kept.sight (same_sight u joined refl refl refl);
       waits = kept.waits;
       work = kept.work;
     })

@@ -23,7 +23,8 @@ use Rattle.brc_model.proofs.Dispatch.Passing.{AreMet, are_met, PassesOn, passes_
 use Rattle.brc_table.specs.Hands.{HandState}
 use Rattle.brc_work.specs.Calls.{Leads, GoesTo, GoesOn, HasReturned, ends_call}
 use Rattle.brc_work.specs.Fits.{Base, outermost, owns, lists, SlotFits, OfRoot, IsReady, Fits}
-use Rattle.brc_work.proofs.CallsBelow.{follows_by}
+use Rattle.brc_heap.proofs.Keeping.{keeps_first}
+use Rattle.brc_work.proofs.CallsBelow.{keeps_later}
 use Rattle.brc_work.proofs.Conditions.{kept, none_is}
 use Rattle.brc_work.proofs.Locking.{no_lock}
 use Rattle.brc_work.proofs.Owning.{sum_none, owns_no, lists_no, entry_owned, entry_listed}
@@ -104,7 +105,7 @@ begins hand ready plain = record {
   ready = ready;
   room = omega (arith, ready.few);
   plain = plain;
-  follows = follows_by hand hand refl refl refl refl refl (omega arith);
+  follows = keeps_later (keeps_first hand.view) (omega arith) refl refl;
   rests = ready.rests;
   some_vars = refl;
   some_rows = refl;

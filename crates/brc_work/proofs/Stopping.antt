@@ -16,43 +16,17 @@ use Rattle.brc_table.specs.Hands.{HandState}
 use Rattle.brc_work.specs.Acts.{ActsElsewhere}
 use Rattle.brc_work.specs.Fits.{Rests}
 use Rattle.brc_work.specs.Stopping.{unchained}
-use Rattle.brc_work.proofs.CallsBelow.{follows_by, released_rests}
+use Rattle.brc_heap.proofs.Keeping.{keeps_rest}
+use Rattle.brc_work.proofs.CallsBelow.{keeps_acts, none_aside}
 
 -- A reference is given up, and what died is left in the chain.
 pub loosened_acts : (hand after : HandState) (x : ℕ) → Rests (unchained hand) → HasReleased x hand.view after.view
     → after.table ≡ hand.table → after.carried ≡ hand.carried → after.slots ≡ hand.slots
     → ActsElsewhere (unchained hand) (unchained after)
-loosened_acts hand after x rests released table carried slots = record {
-  acts = record {
-    follows = follows_by (unchained hand) (unchained after) table released.layout released.thread released.given carried
-        (omega (arith, released.used));
-    rests = record {
-      running = released.status ∙ rests.running;
-      agenda = released.agenda;
-      aside = released_rests (unchained hand) after x rests
-          (record {
-            layout = released.layout;
-            thread = released.thread;
-            status = released.status;
-            references = released.references;
-            agenda = released.agenda;
-            aside = released.aside;
-            used = released.used;
-            locked = released.locked;
-            in_slot = released.in_slot;
-            given = released.given;
-            kinds = released.kinds;
-            cells = released.cells;
-          });
-      settled = refl;
-    };
-    more = record { layout = released.layout; kinds = released.kinds };
-    locked = released.locked;
-    in_slot = released.in_slot;
-    slots = slots;
-  };
-  cells = λ y i word locked seen. released.cells y i locked ∙ seen;
-}
+loosened_acts hand after x rests released table carried slots =
+    let keeps = released.keeps in
+    keeps_acts (unchained hand) (unchained after) (keeps_rest {ds = []} keeps keeps.aside keeps.references keeps.given)
+    (omega arith) rests.running released.agenda (none_aside (unchained hand) x rests) refl table carried slots
 
 -- ---- the states in between
 

@@ -4,8 +4,8 @@ use Rattle.brc_model.specs.Layout.{root_row}
 use Rattle.brc_table.specs.declared.view.View.{View}
 use Rattle.brc_table.specs.declared.view.Joined.{Joined}
 use Rattle.brc_table.specs.Hands.{IsRunning, HasNoWork, MayWait, most_references}
-use Rattle.brc_table.specs.Views.{holds, open_work, is_given, HasJoined, IsJoined}
-use Rattle.brc_heap.specs.Calls.{KeepsKnown}
+use Rattle.brc_table.specs.Views.{holds, open_work, with_work, is_given, HasJoined, IsJoined}
+use Rattle.brc_heap.specs.Steps.{Keeps}
 
 -- Main may give out hands: it runs, holds the root and has nothing to do about it, and has given out no hand before.
 pub record MayFanOut (v : View) : Type 0 where
@@ -27,12 +27,7 @@ HasJoinedAll v = (t : ℕ) → is_given t v ≡ true → IsJoined t v
 
 -- Main has given out hands. It holds what it held before, and its work and its chain are as they were.
 pub record KeepsMain (v u : View) : Type 0 where
-  pub layout : u.layout ≡ v.layout
-  pub number : u.thread ≡ v.thread
-  pub status : u.actor.status ≡ v.actor.status
-  pub used : u.actor.used ≡ v.actor.used
-  pub references : u.references ≡ v.references
+  pub keeps : Keeps (record (with_work v u.actor.agenda u.actor.aside) { given = u.given }) u
   pub head : u.actor.head ≡ v.actor.head
-  pub sight : KeepsKnown v u
   pub waits : MayWait u.actor.agenda
   pub work : open_work u ≡ open_work v

@@ -13,10 +13,10 @@ loop-value-preserved c =
     let item : ℕ = c.birth-item.result in
     let born = c.birth-item.ensures.born in
     let references : c.birth-item.new.hand.view.references ≡ item ∷ root_row ∷ [] =
-    born.references
+    born.keeps.references
     ∙ (ap (λ (rows : List ℕ). next_row c.loop-value.owner.view ∷ rows) c.loop-value.invariant.1
     ∙ ap (λ (x : ℕ). x ∷ root_row ∷ []) (sym c.birth-item.ensures.row)) in
-    let counted = subst (λ (l : Layout). IsCounted l item) (sym born.layout) c.birth-item.ensures.counted in
+    let counted = subst (λ (l : Layout). IsCounted l item) (sym born.keeps.layout) c.birth-item.ensures.counted in
     let has =
     c.if-not-at_root.ensures.holds refl (root_row ∷ [])
     (holds_item {hand = c.birth-item.new.hand} root_row item (root_row ∷ []) counted references

@@ -15,7 +15,7 @@ release_local-requires-clause-held c =
 pub release_local-requires-clause-keeps : goal.release_local-requires-clause-keeps
 release_local-requires-clause-keeps c =
     unlocked_keeps c.retain.new.hand.view c.args.row
-    (c.retain.ensures.left.sight.locked ∙ c.requires.ready.unlocked)
+    (c.retain.ensures.left.keeps.locked ∙ c.requires.ready.unlocked)
 
 pub returns-in-Kept : goal.returns-in-Kept
 returns-in-Kept c =
@@ -24,7 +24,7 @@ returns-in-Kept c =
     let left = c.in-Kept.ensures.left in
     let same =
     row_again row c.args.hand.now.view c.retain.new.hand.view c.release_local.new.hand.view
-    c.retain.ensures.left.layout c.retain.ensures.references c.in-Kept.ensures.references in
+    c.retain.ensures.left.keeps.layout c.retain.ensures.references c.in-Kept.ensures.references in
     record {
       ready = λ e. record {
         table = c.in-Kept.ensures.table;
@@ -32,6 +32,6 @@ returns-in-Kept c =
         held = subst (λ (rows : List ℕ). 1 ≤ count_by (λ y. y == row) rows) (sym same) ready.held;
         idle = left.left_is;
         few = subst (λ (rows : List ℕ). length rows < most_references) (sym same) ready.few;
-        unlocked = left.sight.locked ∙ (c.retain.ensures.left.sight.locked ∙ ready.unlocked);
+        unlocked = left.keeps.locked ∙ (c.retain.ensures.left.keeps.locked ∙ ready.unlocked);
       };
     }

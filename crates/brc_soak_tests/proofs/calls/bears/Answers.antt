@@ -8,4 +8,4 @@ returns-clause-tells c =
     let row : ℕ = c.birth-row.result in
     tells_equal c.more.new.self (row ∷ rows) c.birth-row.new.hand.view.references
     (tells_more c.args.ledger.now c.more.new.self rows row c.requires.tells c.more.ensures.counts c.more.ensures.total)
-    (c.birth-row.ensures.born.references ∙ ap (λ (x : ℕ). x ∷ rows) (sym c.birth-row.ensures.row))
+    (c.birth-row.ensures.born.keeps.references ∙ ap (λ (x : ℕ). x ∷ rows) (sym c.birth-row.ensures.row))

@@ -41,4 +41,4 @@ returns-clause-tells g c =
     )) c.less.ensures.counts
     c.less.ensures.total)
     (settles.1.keeps.references
-    ∙ (c.release.ensures.released.references ∙ lists_one_less row rows counted c.requires.resting.table.1))
+    ∙ (c.release.ensures.released.keeps.references ∙ lists_one_less row rows counted c.requires.resting.table.1))

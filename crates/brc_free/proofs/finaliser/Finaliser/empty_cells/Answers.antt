@@ -1,5 +1,5 @@
 use Rattle.brc_table.proofs.Kept.{kept_on, kept_itself}
-use Rattle.std.proofs.Common.{List, [], ◌∷◌, ◌++◌, refl, sym, ◌∙◌, subst}
+use Rattle.std.proofs.Common.{List, [], ◌∷◌, ◌++◌, sym, ◌∙◌, subst}
 use Rattle.brc_model.specs.declared.duty.Duty.{Duty}
 use Rattle.brc_model.specs.declared.duty.Duty.TheVariants.{SettleCell}
 use Rattle.brc_model.specs.Duties.{cells_from}

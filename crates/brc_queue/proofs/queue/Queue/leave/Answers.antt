@@ -3,7 +3,6 @@ use Rattle.brc_host.specs.HostCalls.{HostCall, close_faults}
 use Rattle.brc_host.proofs.Answering.{answered_then, close_faults_then}
 use Rattle.brc_host.specs.HostCounts.{raised}
 use Rattle.brc_model.specs.declared.duty.Duty.TheVariants.{Finish}
-use Rattle.brc_model.specs.Layout.{root_row}
 use Rattle.brc_table.specs.declared.view.View.{View}
 use Rattle.brc_table.specs.Views.{view_by, view_after}
 use Rattle.brc_table.specs.Hands.{TableState}
@@ -17,9 +16,7 @@ use Rattle.brc_queue.proofs.queue.Queue.leave.Goals as goal
 
 -- Once the root is released, the hand settles next.
 comes : (g : given.Over) (c : After-settle-failed g) → ComesToSettle c.release.new.hand.view []
-comes g c =
-    let released = c.release.ensures.released in
-    comes_at_once c.args.hand.now.view _ root_row c.requires.free released.status released.agenda released.aside
+comes g c = comes_at_once c.requires.free c.release.ensures.released
 
 -- It has settled: nothing comes next.
 settled : (g : given.Over) (c : After-settle-failed g)
@@ -30,10 +27,7 @@ settled g c = let work = c.settle-failed.ensures.work [] (comes g c) in (work.0,
 -- So it may leave.
 may : (g : given.Over) (c : After-settle-failed g) → MayLeave c.settle-failed.new.hand.view
 may g c =
-    let released = c.release.ensures.released in
-    let work = settled g c in
-    may_leave c.args.hand.now.view c.release.new.hand.view _ work.0 c.requires.free c.requires.root released.status
-    released.aside released.references work.1 c.settle-failed.ensures.chain
+    may_leave c.requires.free c.requires.root c.release.ensures.released (settled g c).1 c.settle-failed.ensures.chain
 
 -- It overwrites the word that it is leaving.
 says_gone : (g : given.Over) (c : After-step g)
@@ -47,12 +41,7 @@ ends g c =
     finished _ _ _ c.scan-more.ensures.work.0 c.scan-more.ensures.work.1 (says_gone g c)
 
 pub settle-failed-requires-clause-duty : goal.settle-failed-requires-clause-duty
-settle-failed-requires-clause-duty g c = λ κs lives.
-    let released = c.release.ensures.released in (
-      [],
-      comes_at_once c.args.hand.now.view c.release.new.hand.view root_row c.requires.free released.status
-          released.agenda released.aside,
-    )
+settle-failed-requires-clause-duty g c = λ κs lives. ([], comes_at_once c.requires.free c.release.ensures.released)
 
 pub thread_leave-requires-clause-table : goal.thread_leave-requires-clause-table
 thread_leave-requires-clause-table g c =
@@ -115,14 +104,14 @@ returns-clause-thread g c =
     let at = goal.at.returns-clause-thread g c in
     ap (λ (z : View). z.thread) (ends g at.After-step)
     ∙ (c.scan-more.ensures.work.1.keeps.thread ∙ (ap (λ (z : View). z.thread) c.thread_leave.ensures.view
-    ∙ ((settled g at.After-settle-failed).1.keeps.thread ∙ c.release.ensures.released.thread)))
+    ∙ ((settled g at.After-settle-failed).1.keeps.thread ∙ c.release.ensures.released.keeps.thread)))
 
 pub returns-clause-used : goal.returns-clause-used
 returns-clause-used g c =
     let at = goal.at.returns-clause-used g c in
     ap (λ (z : View). z.actor.used) (ends g at.After-step)
     ∙ (c.scan-more.ensures.work.1.keeps.used ∙ (ap (λ (z : View). z.actor.used) c.thread_leave.ensures.view
-    ∙ ((settled g at.After-settle-failed).1.keeps.used ∙ c.release.ensures.released.used)))
+    ∙ ((settled g at.After-settle-failed).1.keeps.used ∙ c.release.ensures.released.keeps.used)))
 
 pub returns-clause-work : goal.returns-clause-work
 returns-clause-work g c =

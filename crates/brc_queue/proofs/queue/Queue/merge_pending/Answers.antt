@@ -4,7 +4,7 @@ use Rattle.brc_host.specs.HostCalls.{NoCall, close_faults}
 use Rattle.brc_host.proofs.Answering.{answered_then, close_faults_then}
 use Rattle.brc_host.specs.HostCounts.{raised}
 use Rattle.brc_queue.specs.Scans.{Refl, Next}
-use Rattle.brc_heap.proofs.Stepping.{keeps_first, keeps_then}
+use Rattle.brc_heap.proofs.Keeping.{keeps_first, keeps_then}
 use Rattle.brc_free.proofs.Closes.{sums_both}
 use Rattle.brc_queue.proofs.queue.Queue.merge_pending.Goals as goal
 
@@ -38,7 +38,7 @@ loop-index-preserved g c =
         aside = one.keeps.aside ∙ kept.1.aside;
       },
       one.work.1.settled,
-      keeps_then v u w kept.3 one.keeps,
+      keeps_then kept.3 one.keeps,
       (
         before.0 ++ one.work.0,
         Next c.loop-index.index before.0 one.work.0 u w before.1 one.work.1,

@@ -38,14 +38,14 @@ returns-clause-goes g c = λ base s fits can.
       is = refl;
       knows =
           HasSeen (kind_word c.args.kind c.args.arg)
-          (subst (λ (l : Layout). IsCounted l row) (sym born.layout) c.birth-row.ensures.counted)
+          (subst (λ (l : Layout). IsCounted l row) (sym born.keeps.layout) c.birth-row.ensures.counted)
           (born_some c.args.kind c.args.arg c.requires.kind) c.birth-row.ensures.seen
           (ap kind_numbered c.birth-row.ensures.known ∙ numbered_kind c.args.kind);
     })
     (gains base.first.view.layout (var_of s c.args.to)
     (row_of c.args.rows.now c.args.to) c.args.kind row hand after can.free
     (born_with base.first.view.layout row hand.view.references after.view.references counted
-    (born.references ∙ ap (λ (x : ℕ). x ∷ hand.view.references) (sym c.birth-row.ensures.row)))))
+    (born.keeps.references ∙ ap (λ (x : ℕ). x ∷ hand.view.references) (sym c.birth-row.ensures.row)))))
 
 pub returns-clause-made : goal.returns-clause-made
 returns-clause-made g c =

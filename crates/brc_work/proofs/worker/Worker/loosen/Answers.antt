@@ -40,5 +40,5 @@ returns-clause-goes g c = λ base s fits can.
     ∙ (ap (λ (w : TableState). w.table) (c.new-finaliser.ensures ∙ c.self.view_is) ∙ sym c.requires.fits.of.0))
     c.release.ensures.carried c.release.ensures.slots) tt
     (given base s c.args.rows.now (unchained hand) (unchained after) c.args.from row fits can c.row_in-row.ensures
-    (released.references
+    (released.keeps.references
     ∙ ap (λ (l : Layout). without_reference l row hand.view.references) fits.follows.layout)))

@@ -13,7 +13,7 @@ use Rattle.brc_work.proofs.worker.Worker.release.Goals as goal
 comes : (g : given.Over) (c : After-release g) → ComesToSettle c.release.new.hand.view []
 comes g c =
     let released = c.release.ensures.released in
-    AtOnce (released.status ∙ c.requires.rests.running)
+    AtOnce (released.keeps.status ∙ c.requires.rests.running)
     (released_rests c.args.hand.now c.release.new.hand c.args.row c.requires.rests released) released.agenda
 
 pub settle-failed-requires-clause-duty : goal.settle-failed-requires-clause-duty
@@ -40,7 +40,7 @@ returns-clause-acts g c =
 pub returns-clause-less : goal.returns-clause-less
 returns-clause-less g c =
     let work = c.settle-failed.ensures.work [] (comes g (goal.at.returns-clause-less g c).After-release) in
-    work.1.keeps.references ∙ c.release.ensures.released.references
+    work.1.keeps.references ∙ c.release.ensures.released.keeps.references
 
 pub returns-clause-asked : goal.returns-clause-asked
 returns-clause-asked g c =
