@@ -1,5 +1,5 @@
--- What holds between a worker's variables and its hand, in each state of the checker: the hand holds what the variables own, and
--- what they borrow stays alive. So the checker's conditions are those of the calls that the worker makes.
+-- What holds between a worker's variables and its hand, in each state of the checker: the hand holds what the variables
+-- own, and what they borrow stays alive. So the checker's conditions are those of the calls that the worker makes.
 use Rattle.std.specs.Prelude.{◌≡◌, ℕ, ◌+◌, ◌^◌, ◌<◌, ◌≤◌, ◌==◌, true, false, if◌then◌else◌, List, [], ◌∷◌, Option, None, Some, length}
 use Rattle.brc_lang.specs.declared.kind.Kind.{Kind}
 use Rattle.brc_lang.specs.declared.kind.Kind.TheVariants as kinds
