@@ -211,7 +211,7 @@ module _ (kept : DutiesAreKept) (unlocked : NeededSlotsAreUnlocked) (layout : La
             kinds_stay = λ y w more is. kind_away x address at m.memory word y ∙ is;
             cells_stay = λ other y w apart is guards. (
               guards_before m (machine_by_duty m t a d rest) w y (still y) (gate_away x address at m.memory word y)
-              guards,
+                  guards,
               λ i. cell_away x address at m.memory word y i,
             );
             kinds_here = λ y w more seen.
