@@ -15,6 +15,7 @@ use Rattle.brc_table.specs.Views.{worker_view, holds, without_one, with_referenc
 use Rattle.brc_table.specs.Hands.{TableState, HandState, IsOf, KeepsLock, MayWait}
 use Rattle.brc_table.specs.Calls.{IsFree}
 use Rattle.brc_heap.specs.Calls.{HasGiven, HasBorn, Leaves}
+use Rattle.brc_heap.specs.Steps.{Keeps}
 use Rattle.brc_free.specs.Works.{HasReleased, HasWorked, ComesToSettle, AtOnce, to_settle}
 use Rattle.brc_soak_tests.specs.Ready.{IsResting, IsFresh}
 
@@ -34,16 +35,27 @@ free_at_rest {heap} {hand} rest = record {
   aside = no_second hand.view.actor.agenda hand.view.actor.aside rest.rests;
 }
 
--- Main still has no work after it has given out a worker's hand,
-pub rests_after_giving : {heap : TableState} {before after : HandState} {thread : ℕ} → IsResting heap before None
-    → IsOf heap after → HasGiven thread before.view after.view → IsResting heap after None
-rests_after_giving {heap} {before} {after} rest table gives = record {
+-- A hand that keeps the rest, and has nothing to do next and nothing aside, has no work again:
+rests_again : {heap : TableState} {before after : HandState} {ds fs : List Duty} {used : ℕ} {rows given : List ℕ}
+    → IsResting heap before None → IsOf heap after
+    → Keeps (record before.view {
+      actor = record before.view.actor { agenda = ds; aside = fs; used = used };
+      references = rows;
+      given = given;
+    }) after.view → after.view.actor.agenda ≡ [] → fs ≡ [] → IsResting heap after None
+rests_again {heap} {before} {after} rest table keeps idle aside = record {
   table = table;
-  running = (gives.keeps.status ∙ rest.running.0, subst MayWait (sym gives.agenda) tt);
-  rests = ap (λ (ds : List Duty). ds ++ after.view.actor.aside) gives.agenda ∙ (gives.keeps.aside ∙ rest.rests);
-  locked_is = gives.keeps.locked ∙ rest.locked_is;
+  running = (keeps.status ∙ rest.running.0, subst MayWait (sym idle) tt);
+  rests = ap (λ (ds : List Duty). ds ++ after.view.actor.aside) idle ∙ (keeps.aside ∙ aside);
+  locked_is = keeps.locked ∙ rest.locked_is;
   returned = tt;
 }
+
+-- main after it has given out a worker's hand,
+pub rests_after_giving : {heap : TableState} {before after : HandState} {thread : ℕ} → IsResting heap before None
+    → IsOf heap after → HasGiven thread before.view after.view → IsResting heap after None
+rests_after_giving rest table gives =
+    rests_again rest table gives.keeps gives.agenda rest.rests
 
 -- The worker's hand is fresh,
 pub fresh_hand : {heap : TableState} {hand : HandState} {thread : ℕ} → IsOf heap hand
@@ -70,39 +82,22 @@ fresh_rests {heap} {hand} fresh = record {
 -- a hand after it has given birth,
 pub rests_after_birth : {heap : TableState} {before after : HandState} → IsResting heap before None → IsOf heap after
     → HasBorn before.view after.view → IsResting heap after None
-rests_after_birth rest table born = record {
-  table = table;
-  running = (born.keeps.status ∙ rest.running.0, born.waits);
-  rests = born.work ∙ rest.rests;
-  locked_is = born.keeps.locked ∙ rest.locked_is;
-  returned = tt;
-}
+rests_after_birth {heap} {before} {after} rest table born =
+    let none = born.work ∙ rest.rests in
+    rests_again rest table born.keeps (no_first after.view.actor.agenda after.view.actor.aside none)
+    (no_second after.view.actor.agenda after.view.actor.aside none)
 
 -- after it has retained an object,
 pub rests_after_call : {heap : TableState} {before after : HandState} {x : ℕ} → IsResting heap before None
     → IsOf heap after → Leaves x [] before.view after.view → IsResting heap after None
-rests_after_call {heap} {before} {after} {x} rest table leaves = record {
-  table = table;
-  running = (leaves.keeps.status ∙ rest.running.0, leaves.waits);
-  rests =
-      ap (λ (ds : List Duty). ds ++ after.view.actor.aside) leaves.agenda
-      ∙ (leaves.keeps.aside ∙ ap (filter (λ (d : Duty). not (is_about x d))) rest.rests);
-  locked_is = leaves.keeps.locked ∙ rest.locked_is;
-  returned = tt;
-}
+rests_after_call {heap} {before} {after} {x} rest table leaves =
+    rests_again rest table leaves.keeps leaves.agenda (ap (filter (λ (d : Duty). not (is_about x d))) rest.rests)
 
 -- after it has given up a reference,
 pub rests_after_release : {heap : TableState} {before after : HandState} {x : ℕ} → IsResting heap before None
     → IsOf heap after → HasReleased x before.view after.view → IsResting heap after None
-rests_after_release {heap} {before} {after} {x} rest table released = record {
-  table = table;
-  running = (released.keeps.status ∙ rest.running.0, subst MayWait (sym released.agenda) tt);
-  rests =
-      ap (λ (ds : List Duty). ds ++ after.view.actor.aside) released.agenda
-      ∙ (released.keeps.aside ∙ ap (filter (λ (d : Duty). not (is_about x d))) rest.rests);
-  locked_is = released.keeps.locked ∙ rest.locked_is;
-  returned = tt;
-}
+rests_after_release {heap} {before} {after} {x} rest table released =
+    rests_again rest table released.keeps released.agenda (ap (filter (λ (d : Duty). not (is_about x d))) rest.rests)
 
 -- A hand without work may settle,
 pub settles_at_rest : {heap : TableState} {hand : HandState} → IsResting heap hand None → ComesToSettle hand.view []
@@ -113,17 +108,8 @@ pub rests_after_settling : {heap : TableState} {before after : HandState} {close
     → IsResting heap before None
     → IsOf heap after → after.view.actor.head ≡ 0 → HasWorked (to_settle [] before.view) closes [] after.view
     → IsResting heap after None
-rests_after_settling {heap} {before} {after} rest table empty stands =
-    let none : after.view.actor.agenda ≡ [] = stands.agenda in
-    record {
-      table = table;
-      running = (stands.keeps.status ∙ rest.running.0, subst MayWait (sym none) tt);
-      rests =
-          ap (λ (ds : List Duty). ds ++ after.view.actor.aside) none
-          ∙ (stands.keeps.aside ∙ (free_at_rest rest).aside);
-      locked_is = stands.keeps.locked ∙ rest.locked_is;
-      returned = tt;
-    }
+rests_after_settling rest table empty stands =
+    rests_again rest table stands.keeps stands.agenda (free_at_rest rest).aside
 
 -- ---- references
 

@@ -199,9 +199,11 @@ module _ (functions : List Function) (states : ℕ → ℕ → Option State) (la
         (by_choice functions states layout t x.function p a es x.place x.actor choice (Silent moves place) so none is),
   )
   one_step x next es now (CallsHost choice row place exit is) none alone so = absurd alone
-  one_step x next es now (DoesDuty choice d rest place found is) none alone so =
-      (refl, by_choice functions states layout t x.function p a es x.place x.actor choice (Does d rest place) so none is
-      found alone)
+  one_step x next es now (DoesDuty choice d rest place found is) none alone so = (
+    refl,
+    by_choice functions states layout t x.function p a es x.place x.actor choice (Does d rest place) so none is
+        found alone,
+  )
 
   can_plain : (x c : StepActor) (es : List WordEvent) (made : List WordEvent)
       (can : CanMake functions states layout t x made c)

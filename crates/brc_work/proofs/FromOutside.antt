@@ -1,7 +1,7 @@
 -- What a thread of the step world can make from outside of all instructions, a hand's thread makes, calls of the host
 -- and all. Two of these need what the thread has done before: `write` needs the word that it sends, and the birth of
 -- what `read` has read needs the answer of the host. Where such a thread needs it, it has just done it (`Remembers`).
-use Rattle.std.proofs.Common.{◌≡◌, ◌≢◌, ℕ, false, List, [], ◌∷◌, ◌++◌, Option, Some, append_assoc, append-nil, refl, sym, ap, ◌∙◌, subst, arith}
+use Rattle.std.proofs.Common.{◌≡◌, ◌≢◌, ℕ, false, List, [], ◌∷◌, ◌++◌, Option, Some, append_assoc, append-nil, refl, sym, ◌∙◌, subst, arith}
 use Rattle.std.specs.Prelude.{slice_get}
 use Rattle.brc_host.specs.HostCalls.{HostCall}
 use Rattle.brc_host.specs.HostCalls as asked
@@ -24,7 +24,7 @@ use Rattle.brc_model.specs.Threads.{code_of}
 use Rattle.brc_model.specs.declared.event.WordEvent.{WordEvent}
 use Rattle.brc_model.specs.Trace.{events_of, MakesStep, GoesSilently, CallsHost, DoesDuty, CanMake, Nothing, Then}
 use Rattle.brc_work.specs.Traces.{Makes, Refl, Silently, Asks, Dispatches, Reads, Continues, Closes}
-use Rattle.brc_work.specs.Automata.{IsPlain, IsNoClaim, ClaimsNothing, HasNoClaim, MakesPlainly, thread_at, ThreadsMakeAsHands}
+use Rattle.brc_work.specs.Automata.{IsPlain, IsNoClaim, ClaimsNothing, HasNoClaim, thread_at, ThreadsMakeAsHands}
 use Rattle.brc_work.proofs.Remembering.{Remembers, nothing_outside, nothing_busy, IsKnown, Other, OfRead, Leads, dispatch_leads}
 
 module _ (functions : List Function) (states : ℕ → ℕ → Option State) (layout : Layout) (t function : ℕ) (p : Place)
@@ -144,9 +144,11 @@ module _ (functions : List Function) (states : ℕ → ℕ → Option State) (la
         (by_choice functions states layout t x.function p a es x.place x.actor choice (Calls row place) so none is
         exit),
   )
-  one_step x next es now (DoesDuty choice d rest place found is) none so =
-      (refl, by_choice functions states layout t x.function p a es x.place x.actor choice (Does d rest place) so none is
-      found)
+  one_step x next es now (DoesDuty choice d rest place found is) none so = (
+    refl,
+    by_choice functions states layout t x.function p a es x.place x.actor choice (Does d rest place) so none is
+        found,
+  )
 
   can_ready : (x c : StepActor) (es : List WordEvent) (made : List WordEvent)
       (can : CanMake functions states layout t x made c)

@@ -18,7 +18,7 @@ use brc_free::Finaliser;
 use brc_heap::Hand;
 use brc_host::Host;
 use brc_lang::Variable;
-use brc_model::{VarState, State};
+use brc_model::{State, VarState};
 use std::sync::Wait;
 
 fn is_owned(slot: VarState) -> bool

@@ -9,7 +9,7 @@ use crate::error::NoThread;
 use crate::gate::Gate;
 use crate::joining::join_hands;
 use crate::ran::Ran;
-use crate::task::{WorkerPromise, Remains, Task};
+use crate::task::{Remains, Task, WorkerPromise};
 use crate::tasks::tasks_of;
 use brc_check::Checked;
 use brc_heap::{Hand, Heap};

@@ -22,30 +22,30 @@ use Rattle.brc_work.proofs.Traces.Starting.{asks_kind}
 module _ (from row word otherwise : ℕ) (kind seen : Kind) (rows : List (Option ℕ)) (v u : View) (none : v.actor.agenda
     ≡ [])
     (names : row_of rows from ≡ Some row) (is : u ≡ view_after (asking v row) word) (sees : seen ≡ kind_of_word word)
-    where
-  -- The thread goes on where the word found says.
-  asked : (b : Bool) → same_kind seen kind ≡ b → (code : List Instr) (place : Place) (context : Context) (at : ℕ)
-      → IsBefore (instructions.As from kind otherwise) code place context at rows
-      → MakesTrace 1 [] code place v (InCall context (cond b (at + 1) otherwise) rows) u
-  asked b answer code place context at before =
-      let next = λ (found : ℕ).
-      InCall context (cond (same_kind (kind_of_word found) kind) (at + 1) otherwise) rows in
-      subst (λ (q : Place). MakesTrace 1 [] code place v q u)
-      (ap (λ (k : Kind). InCall context (cond (same_kind k kind) (at + 1) otherwise) rows) (sym sees)
-      ∙ ap (λ (c : Bool). InCall context (cond c (at + 1) otherwise) rows) answer)
-      (subst (MakesTrace 1 [] code place v (next word)) (sym is)
-      (begins_one before (asks_kind code place next v none row word
-      (begins_with (instructions.As from kind otherwise) code place context at rows before v.layout v.thread
-      v.actor.used
-      from row
-      (λ x. Does (KindLoad x) [] next) refl names))))
+  where
+    -- The thread goes on where the word found says.
+    asked : (b : Bool) → same_kind seen kind ≡ b → (code : List Instr) (place : Place) (context : Context) (at : ℕ)
+        → IsBefore (instructions.As from kind otherwise) code place context at rows
+        → MakesTrace 1 [] code place v (InCall context (cond b (at + 1) otherwise) rows) u
+    asked b answer code place context at before =
+        let next = λ (found : ℕ).
+        InCall context (cond (same_kind (kind_of_word found) kind) (at + 1) otherwise) rows in
+        subst (λ (q : Place). MakesTrace 1 [] code place v q u)
+        (ap (λ (k : Kind). InCall context (cond (same_kind k kind) (at + 1) otherwise) rows) (sym sees)
+        ∙ ap (λ (c : Bool). InCall context (cond c (at + 1) otherwise) rows) answer)
+        (subst (MakesTrace 1 [] code place v (next word)) (sym is)
+        (begins_one before (asks_kind code place next v none row word
+        (begins_with (instructions.As from kind otherwise) code place context at rows before v.layout v.thread
+        v.actor.used
+        from row
+        (λ x. Does (KindLoad x) [] next) refl names))))
 
-  -- The object is of the kind,
-  pub is_of : kind_number seen ≡ kind_number kind
-      → Performs [] (instructions.As from kind otherwise) Success rows v rows u
-  is_of same = asked true (eq-eqb (kind_number seen) (kind_number kind) same)
+    -- The object is of the kind,
+    pub is_of : kind_number seen ≡ kind_number kind
+        → Performs [] (instructions.As from kind otherwise) Success rows v rows u
+    is_of same = asked true (eq-eqb (kind_number seen) (kind_number kind) same)
 
-  -- or it isn't.
-  pub is_not_of : kind_number seen ≢ kind_number kind
-      → Performs [] (instructions.As from kind otherwise) Fault rows v rows u
-  is_not_of other = asked false (ne_eqb (kind_number seen) (kind_number kind) other)
+    -- or it isn't.
+    pub is_not_of : kind_number seen ≢ kind_number kind
+        → Performs [] (instructions.As from kind otherwise) Fault rows v rows u
+    is_not_of other = asked false (ne_eqb (kind_number seen) (kind_number kind) other)

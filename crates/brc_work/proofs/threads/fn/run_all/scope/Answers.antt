@@ -46,7 +46,7 @@ loop-task-preserved g c =
                 done.called))
                 (sym w.begun-is) (
                   subst (λ p. job p.heap.value p.checked.value.module p.function p.times p.steps p.thread
-                  ≡ job_of (left + 1))
+                      ≡ job_of (left + 1))
                       (sym w.in-Ok.ensures.ok) (search (rules, place)),
                   tt,
                 )
