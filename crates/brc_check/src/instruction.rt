@@ -11,7 +11,7 @@ use crate::refusing_items::{item_refusal, put_refusal, set_refusal};
 use crate::refusing_locks::{lock_refusal, unlock_refusal};
 use crate::variables::{forget_items, kind_of, put, var, with_kind};
 use brc_lang::{CheckCode, Instr, Kind};
-use brc_model::{Exit, VarState, State};
+use brc_model::{Exit, State, VarState};
 
 /// Returns the lowest code that the instruction reports in the state, or `None`.
 pub fn refusal(instr: Instr, state: &State) -> Option<CheckCode>

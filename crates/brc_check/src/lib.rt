@@ -21,16 +21,16 @@ mod refusing;
 mod refusing_host;
 mod refusing_items;
 mod refusing_locks;
-mod variables;
 mod state;
 mod step;
 mod table;
 mod trail;
+mod variables;
 mod verifying;
 mod visits;
 
 pub use brc_lang::CheckCode;
-pub use brc_model::{Exit, VarState, State};
+pub use brc_model::{Exit, State, VarState};
 pub use checked::Checked;
 pub use checker::check;
 pub use finding::path_to;

@@ -5,7 +5,7 @@ ghost use Rattle.brc_model.specs.VarStates.{lowest};
 
 use crate::variables::{has_resource, is_locked, is_num, var};
 use brc_lang::{CheckCode, Instr, Variable};
-use brc_model::{VarState, State};
+use brc_model::{State, VarState};
 
 /// Returns the lowest code that `read` reports in the state.
 pub fn read_refusal(state: &State, to: Variable, file: Variable) -> Option<CheckCode>

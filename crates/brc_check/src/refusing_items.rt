@@ -5,7 +5,7 @@ ghost use Rattle.brc_model.specs.VarStates.{lowest};
 
 use crate::variables::{is_list, is_locked, var};
 use brc_lang::{CheckCode, Instr, Variable};
-use brc_model::{VarState, State};
+use brc_model::{State, VarState};
 
 /// Returns the lowest code that `borrow` or `fetch` reports in the state.
 pub fn item_refusal(state: &State, to: Variable, list: Variable) -> Option<CheckCode>

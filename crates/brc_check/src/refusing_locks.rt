@@ -5,7 +5,7 @@ ghost use Rattle.brc_model.specs.VarStates.{lowest};
 
 use crate::variables::{is_lockable, is_locked, kind_of, var};
 use brc_lang::{CheckCode, Instr, Variable};
-use brc_model::{VarState, State};
+use brc_model::{State, VarState};
 
 pub fn lock_refusal(state: &State, object: Variable) -> Option<CheckCode>
     ensures { result ≡ lowest (Instr.Lock object) state.now }

@@ -4,7 +4,7 @@ ghost use Rattle.std.specs.Prelude.{◌≡◌, ◌↔◌, IsTrue};
 ghost use Rattle.brc_model.specs.VarStates.{entry};
 
 use brc_lang::{Kind, Variable};
-use brc_model::{VarState, State};
+use brc_model::{State, VarState};
 
 /// Returns the state in which a function begins: v0 is the caller's list, and the other variables are empty.
 pub fn entry() -> State
@@ -12,10 +12,7 @@ pub fn entry() -> State
 {
     let mut vars = [VarState::Empty; 16];
     vars[0] = VarState::Caller(Kind::List);
-    State {
-        vars,
-        locked: None,
-    }
+    State { vars, locked: None }
 }
 
 fn same_vars(one: &[VarState; 16], other: &[VarState; 16]) -> bool

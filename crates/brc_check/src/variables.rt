@@ -7,7 +7,7 @@ ghost use Rattle.brc_model.specs.VarStates.{var_of, is_owned, kind_of, is_one_of
 ghost use Rattle.brc_model.specs.VarStates.{with_kind, put, without_item, without_items};
 
 use brc_lang::{Kind, Variable};
-use brc_model::{VarState, State};
+use brc_model::{State, VarState};
 
 pub fn var(state: &State, variable: Variable) -> VarState
     ensures { result ≡ var_of state.now variable }

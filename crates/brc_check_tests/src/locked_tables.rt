@@ -1,7 +1,7 @@
 //! The tables of functions that lock a list and use its items, or a file or socket to read or write it.
 
 use crate::tables::{first_difference, is_refused_at};
-use brc_check::{VarState, State};
+use brc_check::{State, VarState};
 use brc_lang::{Kind, Variable};
 use std::alloc::Global;
 use std::test::*;

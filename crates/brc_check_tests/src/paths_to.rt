@@ -4,7 +4,7 @@ ghost use Rattle.brc_lang.specs.Grammar.{IsModule};
 
 use crate::functions::{function_of, module_of};
 use brc_check::{
-    CheckCode, Exit, Path, VarState, State, Step, entry, first_states, follow, infer, path_to,
+    CheckCode, Exit, Path, State, Step, VarState, entry, first_states, follow, infer, path_to,
 };
 use brc_lang::{Kind, Module};
 use std::alloc::Global;
@@ -114,10 +114,7 @@ fn state(var: VarState) -> State {
     let mut vars = [VarState::Empty; 16];
     vars[0] = VarState::Caller(Kind::List);
     vars[1] = var;
-    State {
-        vars,
-        locked: None,
-    }
+    State { vars, locked: None }
 }
 
 #[test]

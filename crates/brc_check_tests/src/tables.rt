@@ -3,7 +3,7 @@
 ghost use Rattle.brc_lang.specs.Grammar.{IsModule};
 
 use crate::functions::{function_of, module_of};
-use brc_check::{CheckCode, Checked, VarState, State, Table, infer, verify};
+use brc_check::{CheckCode, Checked, State, Table, VarState, infer, verify};
 use brc_lang::{Kind, Module, Variable};
 use std::alloc::Global;
 use std::test::*;

@@ -4,7 +4,7 @@ use crate::cases::{
     CHECK, FIRST, LEAKING, MISSPELT, ONE_REPORT, SMALLEST, STEP, Shelf, UNREAD, outputs, to_run,
 };
 use brc_check::CheckCode;
-use brc_command::{Asked, execute};
+use brc_command::{Asked, Format, check_files, execute};
 use brc_pages::Topic;
 use brc_run::System;
 use std::io;
@@ -137,6 +137,60 @@ fn stops_explaining_at_an_output_error(rt: HostRuntime) {
     };
     let (text, _, _) = outputs(&rt, &page, UNREAD, UNREAD);
     assert_stops(&rt, &page, b"", text.as_slice(), (b"", 0));
+}
+
+// The files, the format, and the text; and the lines on standard error and the statuses, if it takes all of the text,
+// and if it takes less. There is no `n.brc`.
+type Check<'t> = (
+    &'t [&'t str],
+    Format<'t>,
+    &'t [u8],
+    (&'t [u8], u8),
+    (&'t [u8], u8),
+);
+
+const CHECKS: &[Check<'static>] = &[
+    (
+        &["m.brc", "n.brc"],
+        Format::Text,
+        b"m.brc: accepted 1 functions 1 instructions\n",
+        (b"n.brc: unreadable file\n", 2),
+        (b"m.brc: cannot write\nn.brc: unreadable file\n", 2),
+    ),
+    (
+        &["m.brc"],
+        Format::Json {
+            function: Some("f"),
+        },
+        b"{\"at\":null,\"code\":null,\"file\":\"m.brc\",\"function\":null,\"line\":null,\
+          \"message\":\"The module is accepted.\",\"other_path\":null,\"path\":null,\
+          \"verdict\":\"accepted\"}\n",
+        (b"", 0),
+        (b"cannot write\n", 2),
+    ),
+];
+
+#[test]
+fn goes_on_after_an_output_error(rt: HostRuntime) {
+    for (files, format, text, whole, cut) in CHECKS {
+        for most in 0..=text.len() {
+            let mut out = Narrow {
+                taken: Vec::new(rt.alloc()),
+                left: most,
+                interrupts: false,
+            };
+            let mut err: Vec<u8> = Vec::new(rt.alloc());
+            let mut load = Shelf {
+                module: Ok(SMALLEST),
+                schedule: UNREAD,
+            };
+            let status = check_files(rt.alloc(), files, *format, &mut load, &mut out, &mut err);
+            let (lines, want) = if most == text.len() { whole } else { cut };
+            assert_eq!(rt; out.taken.as_slice(), &text[..most], "{files:?}");
+            assert_eq!(rt; err.as_slice(), *lines, "{files:?} after {most}");
+            assert_eq!(rt; status, *want, "{files:?} after {most}");
+        }
+    }
 }
 
 // If standard error takes nothing, the status still gives the reason.

@@ -3,7 +3,7 @@
 ghost use Rattle.std.specs.Prelude.{◌≡◌};
 ghost use Rattle.brc_explain.specs.Rows.{holding_word};
 
-use brc_check::{VarState, State};
+use brc_check::{State, VarState};
 use brc_lang::{Kind, Variable, write_bytes, write_number, write_pieces};
 use brc_pages::write_in;
 use brc_report::{Paint, Role};

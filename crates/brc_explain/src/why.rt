@@ -3,7 +3,7 @@
 use crate::operand_roles::roles_of;
 use crate::state_text::{is_empty, is_owned, var_at, var_words, write_variable};
 use crate::walking::reached;
-use brc_check::{CheckCode, Exit, VarState, State};
+use brc_check::{CheckCode, Exit, State, VarState};
 use brc_lang::{Instr, Kind, Variable, write_bytes, write_instruction, write_number, write_pieces};
 use std::io;
 use std::io::Write;

@@ -29,8 +29,18 @@ use Rattle.brc_model.specs.declared.layout.Layout.{Layout}
 use Rattle.brc_model.specs.Layout.{none_row, root_row, block_of, row_at, index_of}
 use Rattle.brc_model.specs.Machine.{is_running, has_room}
 pub use Rattle.brc_model.specs.Action.{StepActor, Action, Skip, Stuck, Silent, Calls, Does, always, by_exit, with_row}
-pub use Rattle.brc_model.specs.Stops.{owned_rows, row_locked, none_of, holds_some, stopping, first_named,
-    give_up_first, give_up, stop_in_call, stop_action}
+pub use Rattle.brc_model.specs.Stops.{
+  owned_rows,
+  row_locked,
+  none_of,
+  holds_some,
+  stopping,
+  first_named,
+  give_up_first,
+  give_up,
+  stop_in_call,
+  stop_action,
+}
 
 -- the kind word of a number
 abbrev pub number_word : ℕ → ℕ

@@ -15,8 +15,7 @@ const LISTS: u32 = 1000;
 
 /// Gives birth to a list, and puts the one that the hand holds into it. Returns the new list's row, or `None` if the
 /// heap has no room for it.
-#[tactic(auto, using(crate::proofs::Resting::holds_first, crate::proofs::Resting::holds_second,
-crate::proofs::Resting::keeps_other, crate::proofs::Resting::without_second))]
+#[tactic(auto, using(crate::proofs::Resting::holds_first, crate::proofs::Resting::holds_second, crate::proofs::Resting::keeps_other, crate::proofs::Resting::without_second))]
 pub fn around(heap: &Heap<FakeResource>, hand: &mut Hand<FakeResource>, inner: u32) -> Option<u32>
     requires resting { IsAtRest heap.now hand.old None }
     requires counted { IsCounted heap.now.layout inner }

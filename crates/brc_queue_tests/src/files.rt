@@ -43,8 +43,7 @@ fn uses(heap: &Heap<FakeResource>, hand: &mut Hand<FakeResource>, host: &mut Fak
 }
 
 /// Gives birth to a file with the resource, and locks it. Returns its row, or `None` if the heap has no room for it.
-#[tactic(auto, using(crate::proofs::Resting::rests_after_birth, crate::proofs::Resting::some_counted,
-crate::proofs::Resting::holds_first))]
+#[tactic(auto, using(crate::proofs::Resting::rests_after_birth, crate::proofs::Resting::some_counted, crate::proofs::Resting::holds_first))]
 fn locked_file(
     heap: &Heap<FakeResource>,
     hand: &mut Hand<FakeResource>,

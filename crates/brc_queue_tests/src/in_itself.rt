@@ -12,8 +12,7 @@ use std::sync::Wait;
 
 /// Gives birth to a list, puts it into its own cell, and gives up the other reference to it. Returns how many closes
 /// have failed, or `None` if the heap has no room for the list.
-#[tactic(auto, using(crate::proofs::Resting::holds_first, crate::proofs::Resting::holds_both,
-crate::proofs::Resting::without_first))]
+#[tactic(auto, using(crate::proofs::Resting::holds_first, crate::proofs::Resting::holds_both, crate::proofs::Resting::without_first))]
 pub fn puts_into_itself<R: Wait>(
     rt: &R,
     heap: &Heap<FakeResource>,

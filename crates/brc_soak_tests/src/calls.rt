@@ -18,8 +18,7 @@ use brc_queue::Queue;
 use std::sync::Wait;
 
 /// Gives birth to an object, if there is room. Returns its row.
-#[tactic(auto, using(crate::proofs::Resting::rests_after_birth, crate::proofs::Counting::tells_more,
-crate::proofs::Counting::tells_whole))]
+#[tactic(auto, using(crate::proofs::Resting::rests_after_birth, crate::proofs::Counting::tells_more, crate::proofs::Counting::tells_whole))]
 pub fn bears(
     heap: &Heap<FakeResource>,
     hand: &mut Hand<FakeResource>,
@@ -45,9 +44,7 @@ pub fn bears(
 }
 
 /// Retains an object, if the hand holds it. Returns whether it did.
-#[tactic(auto, using(crate::proofs::Resting::rests_after_call, crate::proofs::Resting::some_counted,
-crate::proofs::Resting::lists_one_more, crate::proofs::Counting::tells_more, crate::proofs::Counting::tells_whole,
-crate::proofs::Counting::tells_held))]
+#[tactic(auto, using(crate::proofs::Resting::rests_after_call, crate::proofs::Resting::some_counted, crate::proofs::Resting::lists_one_more, crate::proofs::Counting::tells_more, crate::proofs::Counting::tells_whole, crate::proofs::Counting::tells_held))]
 pub fn retains(
     heap: &Heap<FakeResource>,
     hand: &mut Hand<FakeResource>,
@@ -71,8 +68,7 @@ pub fn retains(
 
 /// Gives up a reference to an object, if the hand holds it, and finalises what dies. Returns how many closes have
 /// failed, or `None` if the hand doesn't hold it.
-#[tactic(auto, using(crate::proofs::Resting::some_counted, crate::proofs::Counting::tells_whole,
-crate::proofs::Counting::tells_held))]
+#[tactic(auto, using(crate::proofs::Resting::some_counted, crate::proofs::Counting::tells_whole, crate::proofs::Counting::tells_held))]
 pub fn gives_up<R: Wait>(
     rt: &R,
     heap: &Heap<FakeResource>,

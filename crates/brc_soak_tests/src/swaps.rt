@@ -79,8 +79,7 @@ fn reads(
 }
 
 /// Empties a cell of the list that the hand has locked. Returns what was there.
-#[tactic(auto, using(crate::proofs::Counting::tells_whole, crate::proofs::Counting::found_is,
-crate::proofs::Counting::held_with))]
+#[tactic(auto, using(crate::proofs::Counting::tells_whole, crate::proofs::Counting::found_is, crate::proofs::Counting::held_with))]
 fn takes_out(
     heap: &Heap<FakeResource>,
     hand: &mut Hand<FakeResource>,
@@ -104,9 +103,7 @@ fn takes_out(
 }
 
 /// Puts an object that the hand holds into a cell of the list that the hand has locked. Returns what was there.
-#[tactic(auto, using(crate::proofs::Counting::tells_whole, crate::proofs::Counting::tells_less,
-crate::proofs::Counting::found_is, crate::proofs::Counting::held_with, crate::proofs::Counting::held_after,
-crate::proofs::Counting::tells_held))]
+#[tactic(auto, using(crate::proofs::Counting::tells_whole, crate::proofs::Counting::tells_less, crate::proofs::Counting::found_is, crate::proofs::Counting::held_with, crate::proofs::Counting::held_after, crate::proofs::Counting::tells_held))]
 fn puts_in(
     heap: &Heap<FakeResource>,
     hand: &mut Hand<FakeResource>,

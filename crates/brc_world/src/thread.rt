@@ -12,7 +12,7 @@ ghost use Rattle.brc_effect.specs.Effects.{status_after, used_after, locked_afte
 
 use brc_effect::Change;
 use brc_lang::Variable;
-use brc_model::{Duty, VarState, Stage, Status};
+use brc_model::{Duty, Stage, Status, VarState};
 use std::fmt;
 
 /// The row that each variable names, or `None` for an empty variable.
