@@ -12,11 +12,11 @@ ghost use Rattle.brc_free.specs.Works.{HasWorked};
 ghost use Rattle.brc_queue.specs.Scans.{ScansNext, ScanNext, HasLeft, scan_left};
 
 use crate::queue::Queue;
+use brc_effect::states::SET;
 use brc_free::Finaliser;
 use brc_heap::{Hand, ROOT};
 use brc_host::Host;
 use brc_model::Duty;
-use brc_word::values::SET;
 use std::sync::Wait;
 
 impl<'h, T: Drop> Queue<'h, T> {
@@ -105,6 +105,6 @@ impl<'h, T: Drop> Queue<'h, T> {
             return 0;
         }
         let row = words.own_row(hand, index);
-        Finaliser::new(self.heap, self).merge_claimed(rt, hand, host, row)
+        Finaliser::new(self.heap, self).merge_scanned(rt, hand, host, row)
     }
 }
