@@ -1,6 +1,5 @@
 -- What a hand does in the midst of other work: duty after duty, and which duties come next then.
-use Rattle.std.specs.Prelude.{◌≡◌, ◌≢◌, Bool, true, ℕ, ◌+◌, ◌<◌, List, [], ◌∷◌, ◌++◌, Some, not}
-use Rattle.std.specs.List.{filter}
+use Rattle.std.specs.Prelude.{◌≡◌, ◌≢◌, Bool, ℕ, ◌+◌, ◌<◌, List, [], ◌∷◌, ◌++◌}
 use Rattle.brc_host.specs.HostCalls.{HostCall, Close}
 use Rattle.brc_model.specs.declared.actor.Status.TheVariants.{Running, Gone}
 use Rattle.brc_model.specs.declared.duty.Holding.TheVariants.{InFlight}
@@ -9,9 +8,7 @@ use Rattle.brc_model.specs.declared.duty.Duty.{Duty}
 use Rattle.brc_model.specs.declared.duty.Duty.TheVariants.{ReleaseLoad, MergeSwap, MergeLoad, Settle, SettleCell, TakeSlot}
 use Rattle.brc_model.specs.Duties.{ready, once_merged, cells_from}
 use Rattle.brc_table.specs.declared.view.View.{View}
-use Rattle.brc_model.specs.OpenWork.{is_about}
-use Rattle.brc_table.specs.KnownWords.{knows_kind, known_cell}
-use Rattle.brc_table.specs.Views.{view_after, slot_emptied, without_reference, open_work, with_next}
+use Rattle.brc_table.specs.Views.{view_after, slot_emptied, without_reference, turned, with_next}
 use Rattle.brc_effect.specs.declared.outcomes.LocalRelease.{LocalRelease}
 use Rattle.brc_heap.specs.Calls.{local_left}
 use Rattle.brc_heap.specs.Steps.{Keeps}
@@ -109,18 +106,8 @@ claimed_left ds = behind (behind ds)
 
 -- ---- releases
 
--- The hand has given up a reference to the object of row x. All other work is aside, and nothing comes next. It knows
--- what it has seen of kinds and of the cells of the list that it has locked.
+-- The hand has given up a reference to the object of row x. All other work is aside, and nothing comes next. The hand
+-- has kept the rest.
 pub record HasReleased (x : ℕ) (v u : View) : Type 0 where
-  pub layout : u.layout ≡ v.layout
-  pub thread : u.thread ≡ v.thread
-  pub status : u.actor.status ≡ v.actor.status
-  pub references : u.references ≡ without_reference v.layout x v.references
+  pub keeps : Keeps (record (turned v x) { references = without_reference v.layout x v.references }) u
   pub agenda : u.actor.agenda ≡ []
-  pub aside : u.actor.aside ≡ filter (λ d. not (is_about x d)) (open_work v)
-  pub used : u.actor.used ≡ v.actor.used
-  pub locked : u.actor.locked ≡ v.actor.locked
-  pub in_slot : u.in_slot ≡ v.in_slot
-  pub given : u.given ≡ v.given
-  pub kinds : (y word : ℕ) → knows_kind y word v ≡ true → knows_kind y word u ≡ true
-  pub cells : (y i : ℕ) → v.actor.locked ≡ Some y → known_cell y i u ≡ known_cell y i v

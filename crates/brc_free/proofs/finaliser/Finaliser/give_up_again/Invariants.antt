@@ -1,5 +1,5 @@
 use Rattle.brc_table.specs.Hands.{KeepsButView}
-use Rattle.std.proofs.Common.{◌≡◌, [], ◌∷◌}
+use Rattle.std.proofs.Common.{[], ◌∷◌}
 use Rattle.brc_model.specs.declared.duty.Reason.{Reason}
 use Rattle.brc_model.specs.declared.duty.Duty.TheVariants.{SharedLoad}
 use Rattle.brc_free.specs.Works.{HasWorked, behind}
