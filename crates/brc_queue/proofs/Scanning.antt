@@ -1,5 +1,5 @@
 -- What comes next for a hand that takes a mark of its own block.
-use Rattle.std.proofs.Common.{◌≡◌, ℕ, suc, zero, ◌+◌, ◌-◌, ◌*◌, ◌<◌, Bool, true, false, List, [], ◌∷◌, ◌++◌, refl, sym, ap, ◌∙◌, subst, arith}
+use Rattle.std.proofs.Common.{◌≡◌, ℕ, suc, zero, ◌+◌, ◌-◌, ◌<◌, Bool, true, false, List, [], ◌∷◌, ◌++◌, refl, sym, ap, ◌∙◌, subst, arith}
 use Rattle.std.specs.Prelude.{◌==◌, if◌then◌else◌}
 use Rattle.brc_host.specs.HostCalls.{HostCall}
 use Rattle.brc_model.specs.declared.duty.Reason.TheVariants.{Handed}
@@ -15,8 +15,9 @@ use Rattle.brc_table.specs.Views.{view_by, view_after, claiming}
 use Rattle.brc_heap.specs.Steps.{Keeps}
 use Rattle.brc_free.specs.Works.{HasWorked, claimed_left}
 use Rattle.brc_queue.specs.Scans.{scan_left}
-use Rattle.brc_heap.proofs.Stepping.{plain_first, keeps_then, did_keeps}
-use Rattle.brc_free.proofs.Working.{keeps_beside, worked_first, worked_on, worked_then}
+use Rattle.brc_heap.proofs.Keeping.{keeps_then, keeps_beside, did_keeps}
+use Rattle.brc_heap.proofs.Stepping.{plain_first}
+use Rattle.brc_free.proofs.Working.{worked_first, worked_on, worked_then}
 
 -- ---- a claim
 
@@ -33,12 +34,9 @@ claim_none v w x found empty none is =
 pub claim_keeps : (v w : View) (x found : ℕ) → w ≡ view_after (claiming v x) found → Keeps v w
 claim_keeps v w x found is =
     subst (Keeps v) (sym is)
-    (keeps_then v (claiming v x) (view_after (claiming v x) found) (keeps_beside v (ClaimMark x ∷ []))
-    (did_keeps (claiming v x) (ClaimMark x) [] found (record {
-      status = refl;
-      used = refl;
-      off = record { locked = refl; cells = λ y j e. refl; gates = λ y e. refl };
-    })))
+    (keeps_then (keeps_beside v (ClaimMark x ∷ []))
+    (did_keeps (claiming v x) (ClaimMark x) [] found refl refl
+    (record { locked = refl; cells = λ y j e. refl; gates = λ y e. refl })))
 
 -- ---- rows of a block
 
@@ -74,11 +72,7 @@ scanned v w i n found rest next is =
     (claimed (row_at v.layout v.thread i) found ++ Settle ∷ Scan (i + 1) (suc n - 1) ∷ rest) found
     (worked_first v (Scan i (suc n) ∷ rest) (next ∙ sym (scan_first v.actor.head i n rest)))
     (scan_first v.actor.head i n rest) refl
-    refl is (record {
-      status = refl;
-      used = refl;
-      off = record { locked = refl; cells = λ y j e. refl; gates = λ y e. refl };
-    })
+    refl is refl refl (record { locked = refl; cells = λ y j e. refl; gates = λ y e. refl })
     (behind_claim (row_at v.layout v.thread i) (found == 1)) where
       behind_claim : (x : ℕ) (b : Bool)
           → ((if b then MergeSwap x Handed ∷ [] else []) ++ Settle ∷ Scan (i + 1) (suc n - 1) ∷ []) ++ rest

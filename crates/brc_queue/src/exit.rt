@@ -12,11 +12,11 @@ ghost use Rattle.brc_free.specs.Works.{HasWorked};
 ghost use Rattle.brc_queue.specs.Scans.{ScansNext, ScanNext, HasLeft, scan_left};
 
 use crate::queue::Queue;
-use brc_effect::states::SET;
 use brc_free::Finaliser;
 use brc_heap::{Hand, ROOT};
 use brc_host::Host;
 use brc_model::Duty;
+use brc_word::values::SET;
 use std::sync::Wait;
 
 impl<'h, T: Drop> Queue<'h, T> {

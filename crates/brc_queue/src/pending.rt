@@ -10,10 +10,10 @@ ghost use Rattle.brc_heap.specs.Steps.{Keeps};
 ghost use Rattle.brc_queue.specs.Scans.{Claims, HasScanned};
 
 use crate::queue::Queue;
-use brc_effect::states::SET;
 use brc_free::Finaliser;
 use brc_heap::{Hand, Heap};
 use brc_host::Host;
+use brc_word::values::SET;
 use std::sync::Wait;
 
 impl<'h, T: Drop> Queue<'h, T> {

@@ -7,7 +7,7 @@ use Rattle.brc_table.specs.declared.view.View.{View}
 use Rattle.brc_table.specs.Hands.{TableState}
 use Rattle.brc_table.specs.Views.{view_after, claiming}
 use Rattle.brc_free.specs.Works.{HasWorked}
-use Rattle.brc_heap.proofs.Stepping.{keeps_then}
+use Rattle.brc_heap.proofs.Keeping.{keeps_then}
 use Rattle.brc_free.proofs.Working.{worked_first}
 use Rattle.brc_queue.proofs.Scanning.{claim_none, claim_keeps, row_of_block}
 use Rattle.brc_queue.proofs.queue.Queue.claim.Given as given
@@ -33,7 +33,7 @@ pub returns-clause-keeps : goal.returns-clause-keeps
 returns-clause-keeps g c =
     let v = c.args.hand.now.view in
     let u = c.mark_claim.new.hand.view in
-    keeps_then v u c.merge_claimed.new.hand.view
+    keeps_then
     (claim_keeps v u (c.args.first + c.args.index) c.mark_claim.result c.mark_claim.ensures.view)
     c.merge_claimed.ensures.work.1.keeps
 
