@@ -27,3 +27,12 @@ sums_both_by limit one two less more first second = omega (arith, first, second)
 pub sums_both : (one two less more : ℕ) → one ≡ raised less 0 → two ≡ raised more 0
     → min (one + two) count_limit ≡ raised (less + more) 0
 sums_both one two less more first second = sums_both_by count_limit one two less more first second
+
+-- So does a number that has not stopped, with one that may have.
+sums_first_by : (limit one two less more : ℕ) → one ≡ less → two ≡ 0 + min more (limit - 0)
+    → min (one + two) limit ≡ 0 + min (less + more) (limit - 0)
+sums_first_by limit one two less more first second = omega (arith, first, second)
+
+pub sums_first : (one two less more : ℕ) → one ≡ less → two ≡ raised more 0
+    → min (one + two) count_limit ≡ raised (less + more) 0
+sums_first one two less more first second = sums_first_by count_limit one two less more first second

@@ -4,3 +4,4 @@ pub mod MergeEnds
 pub mod GivingUp
 pub mod Closes
 pub mod SettleDuties
+pub mod Claimed

@@ -5,7 +5,7 @@ use Rattle.brc_model.specs.declared.actor.Status.TheVariants.{Running, Gone}
 use Rattle.brc_model.specs.declared.duty.Holding.TheVariants.{InFlight}
 use Rattle.brc_model.specs.declared.duty.Reason.TheVariants.{Handed}
 use Rattle.brc_model.specs.declared.duty.Duty.{Duty}
-use Rattle.brc_model.specs.declared.duty.Duty.TheVariants.{ReleaseLoad, MergeSwap, Settle, SettleCell, TakeSlot}
+use Rattle.brc_model.specs.declared.duty.Duty.TheVariants.{ReleaseLoad, MergeSwap, MergeLoad, Settle, SettleCell, TakeSlot}
 use Rattle.brc_model.specs.Duties.{ready, once_merged, cells_from}
 use Rattle.brc_table.specs.declared.view.View.{View}
 use Rattle.brc_table.specs.Views.{view_after, slot_emptied, without_reference, turned, with_next}
@@ -45,6 +45,11 @@ behind (d ∷ rest) = rest
 abbrev pub merge_left : List Duty → List Duty
 merge_left (MergeSwap x r ∷ rest) = once_merged x r ++ rest
 merge_left _ = []
+
+-- what is left of these duties once the first one's count is added
+abbrev pub carried_left : List Duty → List Duty
+carried_left (MergeLoad x c r ∷ rest) = once_merged x r ++ rest
+carried_left _ = []
 
 -- The first duty is to give up a reference to the object of row x that came out of a cell.
 pub record ReleasesNext (x : ℕ) (ds : List Duty) : Type 0 where

@@ -60,6 +60,7 @@ impl<'h, T: Drop, Q: Marker<T>> Finaliser<'h, T, Q> {
     /// closes have failed, up to the greatest number.
     ///
     /// The hand has nothing else to do, or this is the next part of its exit, or of looking through its queue.
+    #[inline(always)]
     pub fn settle<R: Wait, H: Host<Res = T>>(&self, rt: &R, hand: &mut Hand<T>, host: &mut H) -> u64
         requires table { IsOf self.now hand.old }
         requires duty { (rest : List Duty) × ComesToSettle hand.old.view rest }
@@ -72,18 +73,52 @@ impl<'h, T: Drop, Q: Marker<T>> Finaliser<'h, T, Q> {
             × (result ≡ raised (close_faults closes) 0)
             × HasAnswered H.answers H.counts host.old closes host.new }
     {
+        if hand.head() == 0 {
+            return 0;
+        }
+        let failed = self.finalise_first(rt, hand, host);
+        if hand.head() == 0 {
+            return failed;
+        }
+        failed.saturating_add(Self::settle_chain(self.heap, self.queue, rt, hand, host))
+    }
+
+    /// Does what `settle` does, object by object. Mostly one object dies, and the chain is empty behind it: the code of
+    /// that has no loop.
+    #[inline(never)]
+    fn settle_chain<R: Wait, H: Host<Res = T>>(
+        heap: &'h Heap<T>,
+        queue: &'h Q,
+        rt: &R,
+        hand: &mut Hand<T>,
+        host: &mut H,
+    ) -> u64
+        requires same { Q.heap queue.now ≡ heap.now }
+        requires table { IsOf heap.now hand.old }
+        requires duty { (rest : List Duty) × ComesToSettle hand.old.view rest }
+        ensures table { IsOf heap.now hand.new }
+        ensures carried { hand.new.carried ≡ hand.old.carried }
+        ensures slots { hand.new.slots ≡ hand.old.slots }
+        ensures chain { hand.new.view.actor.head ≡ 0 }
+        ensures work { (rest : List Duty) → ComesToSettle hand.old.view rest → (closes : List HostCall)
+            × HasWorked (to_settle rest hand.old.view) closes rest hand.new.view
+            × (result ≡ raised (close_faults closes) 0)
+            × HasAnswered H.answers H.counts host.old closes host.new }
+    {
+        let finaliser = Finaliser::new(heap, queue);
         let mut failed: u64 = 0;
         for _ in rt.forever() {
             if hand.head() == 0 {
                 return failed;
             }
-            failed = failed.saturating_add(self.finalise_first(rt, hand, host));
+            failed = failed.saturating_add(finaliser.finalise_first(rt, hand, host));
         }
         unreachable!()
     }
 
     /// Does the next duties: merges an object whose mark the hand has taken, gives up the reference that was handed
     /// over with it, and settles. Returns how many closes have failed, up to the greatest number.
+    #[inline(always)]
     pub fn merge_claimed<R: Wait, H: Host<Res = T>>(
         &self,
         rt: &R,
@@ -109,6 +144,7 @@ impl<'h, T: Drop, Q: Marker<T>> Finaliser<'h, T, Q> {
     }
 
     /// Finalises the first object of the hand's dying chain. Returns how many closes have failed.
+    #[inline(always)]
     fn finalise_first<R: Wait, H: Host<Res = T>>(
         &self,
         rt: &R,
@@ -133,13 +169,14 @@ impl<'h, T: Drop, Q: Marker<T>> Finaliser<'h, T, Q> {
         if has_resource(kind) {
             return self.close_resource(hand, host, row);
         }
-        self.empty_cells(rt, hand, row, cells_of(kind));
+        self.empty(rt, hand, row, cells_of(kind));
         words.gate_close(hand, row);
         0
     }
 
     /// Does the next duties, behind which others may come: closes the resource of a dying file or socket, and then the
     /// object. Returns how many closes have failed.
+    #[inline(never)]
     fn close_resource<H: Host<Res = T>>(&self, hand: &mut Hand<T>, host: &mut H, row: u32) -> u64
         requires table { IsOf self.now hand.old }
         requires alive { hand.old.view.actor.status ≢ Gone }
@@ -160,9 +197,9 @@ impl<'h, T: Drop, Q: Marker<T>> Finaliser<'h, T, Q> {
         faults_of(&closed)
     }
 
-    /// Does the next duties, behind which others may come: empties the cells of a dying list, and gives up the
-    /// references that were there.
-    fn empty_cells<R: Wait>(&self, rt: &R, hand: &mut Hand<T>, row: u32, cells: u32)
+    /// Does the next duties, behind which others may come: empties the cells of a dying object. Most have none.
+    #[inline(always)]
+    fn empty<R: Wait>(&self, rt: &R, hand: &mut Hand<T>, row: u32, cells: u32)
         requires table { IsOf self.now hand.old }
         requires alive { hand.old.view.actor.status ≢ Gone }
         requires duty { EmptiesNext row cells hand.old.view.actor.agenda }
@@ -170,8 +207,34 @@ impl<'h, T: Drop, Q: Marker<T>> Finaliser<'h, T, Q> {
         ensures work { (rest : List Duty) → hand.old.view.actor.agenda ≡ cells_from row 0 cells ++ rest
             → HasWorked hand.old.view [] (SettleEnd row ∷ rest) hand.new.view }
     {
+        if cells == 0 {
+            return;
+        }
+        Self::empty_cells(self.heap, self.queue, rt, hand, row, cells);
+    }
+
+    /// Does the next duties, behind which others may come: empties the cells of a dying list, and gives up the
+    /// references that were there.
+    #[inline(never)]
+    fn empty_cells<R: Wait>(
+        heap: &'h Heap<T>,
+        queue: &'h Q,
+        rt: &R,
+        hand: &mut Hand<T>,
+        row: u32,
+        cells: u32,
+    )
+        requires same { Q.heap queue.now ≡ heap.now }
+        requires table { IsOf heap.now hand.old }
+        requires alive { hand.old.view.actor.status ≢ Gone }
+        requires duty { EmptiesNext row cells hand.old.view.actor.agenda }
+        ensures kept { KeepsButView hand.old hand.new }
+        ensures work { (rest : List Duty) → hand.old.view.actor.agenda ≡ cells_from row 0 cells ++ rest
+            → HasWorked hand.old.view [] (SettleEnd row ∷ rest) hand.new.view }
+    {
+        let finaliser = Finaliser::new(heap, queue);
         for cell in 0..cells {
-            self.empty_cell(rt, hand, row, cell, cells);
+            finaliser.empty_cell(rt, hand, row, cell, cells);
         }
     }
 

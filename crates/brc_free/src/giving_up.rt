@@ -4,14 +4,13 @@ ghost use Rattle.std.specs.Prelude.{◌≡◌, ◌≢◌, List, []};
 ghost use Rattle.brc_model.specs.declared.duty.Duty.{Duty};
 ghost use Rattle.brc_model.specs.declared.actor.Status.TheVariants.{Gone};
 ghost use Rattle.brc_table.specs.Hands.{IsOf, KeepsButView};
-ghost use Rattle.brc_heap.specs.Tries.{DecidesNext, GivesUpNext};
+ghost use Rattle.brc_heap.specs.Tries.{DecidesNext, GivesUpNext, MarksNext};
 ghost use Rattle.brc_free.specs.Works.{HasWorked, ReleasesNext, EndsRelease, behind};
 
 use crate::finaliser::Finaliser;
 use crate::merging::merge;
-use brc_heap::{Hand, LocalRelease, Looked, Marker, SharedRelease, Work, ZeroStep};
+use brc_heap::{Hand, Heap, LocalRelease, Looked, Marker, SharedRelease, Work, ZeroStep};
 use brc_model::{Duty, Holding};
-use crossbeam_utils::Backoff;
 use std::sync::Wait;
 
 impl<'h, T: Drop, Q: Marker<T>> Finaliser<'h, T, Q> {
@@ -74,6 +73,7 @@ impl<'h, T: Drop, Q: Marker<T>> Finaliser<'h, T, Q> {
     /// Does the next duties, behind which others may come: gives up a reference in the row's shared word, and tries
     /// again until no other thread has changed the word in between. If the reference goes into the queue of an owner
     /// that no longer looks there, the hand merges the object, and then gives the reference up.
+    #[inline(always)]
     pub fn give_up<R: Wait>(&self, rt: &R, hand: &mut Hand<T>, row: u32)
         requires table { IsOf self.now hand.old }
         requires alive { hand.old.view.actor.status ≢ Gone }
@@ -81,17 +81,30 @@ impl<'h, T: Drop, Q: Marker<T>> Finaliser<'h, T, Q> {
         ensures kept { KeepsButView hand.old hand.new }
         ensures work { HasWorked hand.old.view [] (behind hand.old.view.actor.agenda) hand.new.view }
     {
-        let backoff = Backoff::new();
-        for _ in rt.forever() {
-            match self.heap.release_shared(hand, row, Work::Next) {
-                SharedRelease::Kept | SharedRelease::Dying => return,
-                SharedRelease::Queued => match self.queue.post(hand, row) {
-                    Looked::Left => return,
-                    Looked::Claimed => merge(rt, self.heap, hand, row),
-                },
-                SharedRelease::Again => backoff.spin(),
+        match self.heap.release_shared(hand, row, Work::Next) {
+            SharedRelease::Kept | SharedRelease::Dying => {}
+            SharedRelease::Queued => Self::hand_over(self.heap, self.queue, rt, hand, row),
+            SharedRelease::Again => Self::give_up_again(self.heap, self.queue, rt, hand, row),
+        }
+    }
+
+    /// Does the next duties, behind which others may come: puts the object into its owner's queue. If the owner no
+    /// longer looks there, the hand merges the object, and then gives the reference up.
+    #[inline(never)]
+    fn hand_over<R: Wait>(heap: &'h Heap<T>, queue: &'h Q, rt: &R, hand: &mut Hand<T>, row: u32)
+        requires same { Q.heap queue.now ≡ heap.now }
+        requires table { IsOf heap.now hand.old }
+        requires alive { hand.old.view.actor.status ≢ Gone }
+        requires duty { MarksNext row hand.old.view.actor.agenda }
+        ensures kept { KeepsButView hand.old hand.new }
+        ensures work { HasWorked hand.old.view [] (behind hand.old.view.actor.agenda) hand.new.view }
+    {
+        match queue.post(hand, row) {
+            Looked::Left => {}
+            Looked::Claimed => {
+                merge(rt, heap, hand, row);
+                Self::give_up_again(heap, queue, rt, hand, row);
             }
         }
-        unreachable!()
     }
 }

@@ -5,10 +5,12 @@
 //! Each call waits where another thread's exchange has won, and then tries again. None takes memory.
 #![tactic(auto)]
 
+mod again;
 mod finaliser;
 mod giving_up;
 mod merging;
 mod releasing;
+mod scanned;
 
 pub use finaliser::Finaliser;
 pub use merging::merge;

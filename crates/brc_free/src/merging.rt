@@ -6,14 +6,15 @@ ghost use Rattle.brc_table.specs.Hands.{IsOf, KeepsButView};
 ghost use Rattle.brc_heap.specs.Tries.{MergesNext};
 ghost use Rattle.brc_free.specs.Works.{HasWorked, merge_left};
 
+use crate::again::merge_again;
 use brc_heap::{Hand, Heap, MergeStep, Work};
-use crossbeam_utils::Backoff;
 use std::sync::Wait;
 
 /// Does the next duties, behind which others may come: swaps the row's local word for nobody's, and adds its count to
 /// the shared one; tries again until no other thread has changed the shared word in between. An object without a
 /// reference goes to the head of the hand's dying chain. A merge for a handed reference leaves the duty to give that
 /// up.
+#[inline(always)]
 pub fn merge<T: Drop, R: Wait>(rt: &R, heap: &Heap<T>, hand: &mut Hand<T>, row: u32)
     requires table { IsOf heap.now hand.old }
     requires alive { hand.old.view.actor.status ≢ Gone }
@@ -25,12 +26,8 @@ pub fn merge<T: Drop, R: Wait>(rt: &R, heap: &Heap<T>, hand: &mut Hand<T>, row: 
         Some(carried) => carried,
         None => return,
     };
-    let backoff = Backoff::new();
-    for _ in rt.forever() {
-        match heap.merge(hand, row, carried, Work::Next) {
-            MergeStep::Kept | MergeStep::Dying => return,
-            MergeStep::Again => backoff.spin(),
-        }
+    match heap.merge(hand, row, carried, Work::Next) {
+        MergeStep::Kept | MergeStep::Dying => {}
+        MergeStep::Again => merge_again(rt, heap, hand, row, carried),
     }
-    unreachable!()
 }

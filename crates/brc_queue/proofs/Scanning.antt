@@ -5,7 +5,10 @@ use Rattle.brc_host.specs.HostCalls.{HostCall}
 use Rattle.brc_model.specs.declared.duty.Reason.TheVariants.{Handed}
 use Rattle.brc_model.specs.declared.duty.Duty.{Duty}
 use Rattle.brc_model.specs.declared.duty.Duty.TheVariants.{MergeSwap, Settle, Scan, Finish, ClaimMark}
-use Rattle.brc_model.specs.Layout.{row_at}
+use Rattle.brc_model.specs.declared.layout.Layout.{Layout}
+use Rattle.brc_model.specs.Layout.{front_rows, worker_rows, block_size, row_at}
+use Rattle.std.proofs.lemmas.Bool.{lt-ltb}
+use Rattle.brc_table.specs.Views.{RowsAreThere}
 use Rattle.brc_model.specs.Duties.{ready, claimed}
 use Rattle.brc_table.specs.declared.view.View.{View}
 use Rattle.brc_table.specs.Views.{view_by, view_after, claiming}
@@ -34,6 +37,22 @@ claim_keeps v w x found is =
     (keeps_then (keeps_beside v (ClaimMark x ∷ []))
     (did_keeps (claiming v x) (ClaimMark x) [] found refl refl
     (record { locked = refl; cells = λ y j e. refl; gates = λ y e. refl })))
+
+-- ---- rows of a block
+
+-- The rows of a thread's block follow one another.
+rows_follow : (layout : Layout) (t i : ℕ) → layout.immortal_lists ≡ 0 → i < block_size layout t
+    → row_at layout t i ≡ row_at layout t 0 + i
+rows_follow layout zero i none low =
+    let is : row_at layout zero i ≡ i =
+    ap (λ (b : Bool). if b then i else worker_rows layout + i) (lt-ltb i front_rows (omega (arith, low, none))) in
+    omega (arith, is)
+rows_follow layout (suc t) i none low = omega (arith)
+
+pub row_of_block : (v : View) (i first : ℕ) → RowsAreThere v → v.layout.immortal_lists ≡ 0 → i < v.actor.used
+    → first ≡ row_at v.layout v.thread 0 → row_at v.layout v.thread i ≡ first + i
+row_of_block v i first there none low is =
+    rows_follow v.layout v.thread i none (omega (arith, low, there.used)) ∙ ap (λ (n : ℕ). n + i) (sym is)
 
 -- ---- a scan
 

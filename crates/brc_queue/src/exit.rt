@@ -105,6 +105,6 @@ impl<'h, T: Drop> Queue<'h, T> {
             return 0;
         }
         let row = words.own_row(hand, index);
-        Finaliser::new(self.heap, self).merge_claimed(rt, hand, host, row)
+        Finaliser::new(self.heap, self).merge_scanned(rt, hand, host, row)
     }
 }

@@ -39,17 +39,17 @@ cells : (g : given.Over) (c : After-cells_of g) (rest : List Duty) → ComesToSe
     c.step-kind.new.hand.view
 cells g c rest comes =
     cells_next _ _ _ _ c.step-kind.result _ rest
-    (off g (goal.at.empty_cells-requires-clause-duty g c).After-step-kind rest comes)
+    (off g (goal.at.empty-requires-clause-duty g c).After-step-kind rest comes)
     c.step-kind.ensures.view (sym c.has_resource.ensures ∙ c.if-has_resource.false) c.cells_of.ensures
 
 -- Once they are empty, the object is closed next.
-empty : (g : given.Over) (c : After-cells_of g) (w : View) (rest : List Duty)
+emptied_all : (g : given.Over) (c : After-cells_of g) (w : View) (rest : List Duty)
     → ((later : List Duty) → c.step-kind.new.hand.view.actor.agenda
     ≡ cells_from (c.head-row.result - 1) 0 c.cells_of.result ++ later
     → HasWorked c.step-kind.new.hand.view [] (SettleEnd (c.head-row.result - 1) ∷ later) w)
     → ComesToSettle c.args.hand.now.view rest
     → HasWorked (to_settle rest c.args.hand.now.view) [] (SettleEnd (c.head-row.result - 1) ∷ Settle ∷ rest) w
-empty g c w rest emptied comes = all_emptied _ _ w _ c.cells_of.result rest (cells g c rest comes) emptied
+emptied_all g c w rest emptied comes = all_emptied _ _ w _ c.cells_of.result rest (cells g c rest comes) emptied
 
 pub step-kind-requires-clause-next : goal.step-kind-requires-clause-next
 step-kind-requires-clause-next g c =
@@ -76,42 +76,42 @@ returns-then-has_resource-clause-work g c = λ rest comes.
     let one = c.close_resource.ensures.work in
     (one.0, worked_call _ _ _ one.0 _ behind at (take_slot_first _ _ _) one.1, one.2, one.3)
 
-pub empty_cells-requires-clause-alive : goal.empty_cells-requires-clause-alive
-empty_cells-requires-clause-alive g c = λ gone.
+pub empty-requires-clause-alive : goal.empty-requires-clause-alive
+empty-requires-clause-alive g c = λ gone.
     comes_alive _ _ c.requires.duty.1 (sym (cells g c _ c.requires.duty.1).keeps.status ∙ gone)
 
-pub empty_cells-requires-clause-duty : goal.empty_cells-requires-clause-duty
-empty_cells-requires-clause-duty g c = record {
+pub empty-requires-clause-duty : goal.empty-requires-clause-duty
+empty-requires-clause-duty g c = record {
   rest = Settle ∷ c.requires.duty.0;
   next = (cells g c _ c.requires.duty.1).agenda ∙ cells_first _ _ 0 c.cells_of.result _;
 }
 
 pub gate_close-requires-clause-table : goal.gate_close-requires-clause-table
 gate_close-requires-clause-table g c =
-    let at = empty g (goal.at.gate_close-requires-clause-table g c).After-cells_of c.empty_cells.new.hand.view _
-    c.empty_cells.ensures.work c.requires.duty.1 in
+    let at = emptied_all g (goal.at.gate_close-requires-clause-table g c).After-cells_of c.empty.new.hand.view _
+    c.empty.ensures.work c.requires.duty.1 in
     let words = c.words-words.ensures ∙ c.self.view_is in (
-      c.empty_cells.ensures.kept.table ∙ (c.step-kind.ensures.table
+      c.empty.ensures.kept.table ∙ (c.step-kind.ensures.table
           ∙ (c.gate_load.ensures.kept.table ∙ (c.requires.table.0 ∙ sym (ap (λ (t : TableState). t.table) words)))),
       at.keeps.layout ∙ (c.requires.table.1 ∙ sym (ap (λ (t : TableState). t.layout) words)),
     )
 
 pub gate_close-requires-clause-alive : goal.gate_close-requires-clause-alive
 gate_close-requires-clause-alive g c = λ gone.
-    let at = empty g (goal.at.gate_close-requires-clause-alive g c).After-cells_of c.empty_cells.new.hand.view _
-    c.empty_cells.ensures.work c.requires.duty.1 in
+    let at = emptied_all g (goal.at.gate_close-requires-clause-alive g c).After-cells_of c.empty.new.hand.view _
+    c.empty.ensures.work c.requires.duty.1 in
     comes_alive _ _ c.requires.duty.1 (sym at.keeps.status ∙ gone)
 
 pub gate_close-requires-clause-duty : goal.gate_close-requires-clause-duty
 gate_close-requires-clause-duty g c =
-    let at = empty g (goal.at.gate_close-requires-clause-duty g c).After-cells_of c.empty_cells.new.hand.view _
-    c.empty_cells.ensures.work c.requires.duty.1 in
+    let at = emptied_all g (goal.at.gate_close-requires-clause-duty g c).After-cells_of c.empty.new.hand.view _
+    c.empty.ensures.work c.requires.duty.1 in
     subst (ClosesRow (c.head-row.result - 1)) (sym (at.agenda ∙ settle_end_first _ _ _)) refl
 
 pub returns-clause-work : goal.returns-clause-work
 returns-clause-work g c = λ rest comes.
-    let at = empty g (goal.at.returns-clause-work g c).After-cells_of c.empty_cells.new.hand.view rest
-    c.empty_cells.ensures.work comes in (
+    let at = emptied_all g (goal.at.returns-clause-work g c).After-cells_of c.empty.new.hand.view rest
+    c.empty.ensures.work comes in (
       [],
       ended _ _ _ [] _ c.gate_close.result (Settle ∷ rest) at c.gate_close.ensures.view
           (head_unlocked c.args.hand.now.view _ c.rows_are_there.ensures c.requires.chain

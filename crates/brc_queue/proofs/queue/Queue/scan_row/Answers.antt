@@ -34,11 +34,11 @@ pub returns-clause-work : goal.returns-clause-work
 returns-clause-work g c =
     let v = c.args.hand.now.view in
     let u = c.step-found.new.hand.view in
-    let w = c.merge_claimed.new.hand.view in
+    let w = c.merge_scanned.new.hand.view in
     let duty = c.requires.duty in
     let found = c.step-found.result in
     let one = eq-eqb found 1 c.if-found-ne-SET.false in
-    let work = c.merge_claimed.ensures.work in (
+    let work = c.merge_scanned.ensures.work in (
       work.0,
       subst (λ (ds : List Duty). HasWorked v work.0 ds w) (sym (ap scan_left duty.next))
           (scanned_settled v u w (row_at v.layout v.thread c.args.index) work.0 _

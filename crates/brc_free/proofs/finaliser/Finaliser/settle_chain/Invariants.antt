@@ -5,7 +5,7 @@ use Rattle.brc_host.specs.HostCalls.{HostCall, HasAnswered, close_faults}
 use Rattle.brc_model.specs.declared.duty.Duty.{Duty}
 use Rattle.brc_model.specs.declared.duty.Duty.TheVariants.{Settle}
 use Rattle.brc_free.specs.Works.{HasWorked, ComesToSettle, to_settle}
-use Rattle.brc_free.proofs.finaliser.Finaliser.settle.Given as goal
+use Rattle.brc_free.proofs.finaliser.Finaliser.settle_chain.Given as goal
 
 -- After each object the hand settles what is left of its chain.
 abbrev pub invariant-loop : goal.invariant-loop

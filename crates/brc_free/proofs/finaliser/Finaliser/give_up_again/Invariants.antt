@@ -3,7 +3,7 @@ use Rattle.std.proofs.Common.{[], ◌∷◌}
 use Rattle.brc_model.specs.declared.duty.Reason.{Reason}
 use Rattle.brc_model.specs.declared.duty.Duty.TheVariants.{SharedLoad}
 use Rattle.brc_free.specs.Works.{HasWorked, behind}
-use Rattle.brc_free.proofs.finaliser.Finaliser.give_up.Given as goal
+use Rattle.brc_free.proofs.finaliser.Finaliser.give_up_again.Given as goal
 
 -- Each try that is lost, and each merge of the object, leaves a reference to be given up in the shared word.
 abbrev pub invariant-loop : goal.invariant-loop
