@@ -90,9 +90,9 @@ pub both_born : (first second third : HandState) (list item : ℕ) → HasBorn f
     → HasBorn second.view third.view → list ≡ next_row first.view → item ≡ next_row second.view
     → first.view.references ≡ root_row ∷ [] → third.view.references ≡ item ∷ list ∷ root_row ∷ []
 both_born first second third list item one two list_is item_is is =
-    two.references
+    two.keeps.references
     ∙ (ap (λ (rows : List ℕ). next_row second.view ∷ rows)
-    (one.references ∙ ap (λ (rows : List ℕ). next_row first.view ∷ rows) is)
+    (one.keeps.references ∙ ap (λ (rows : List ℕ). next_row first.view ∷ rows) is)
     ∙ (ap (λ (x : ℕ). x ∷ next_row first.view ∷ root_row ∷ []) (sym item_is)
     ∙ ap (λ (x : ℕ). item ∷ x ∷ root_row ∷ []) (sym list_is)))
 
