@@ -229,8 +229,9 @@ pub found_is : (layout : Layout) (found : ℕ) (rows : List ℕ) → IsPlainLayo
     → with_item layout found rows ≡ with_found (row_in found) rows
 found_is layout zero rows plain = refl
 found_is layout (suc zero) rows plain = refl
-found_is layout (suc (suc y)) rows plain = lists_one_more {layout = layout} {other = layout} (suc y) rows
-(some_counted {layout = layout} (suc y) plain (ne_eqb (suc y) 0 (λ e. absurd cc))) refl
+found_is layout (suc (suc y)) rows plain =
+    lists_one_more {layout = layout} {other = layout} (suc y) rows
+    (some_counted {layout = layout} (suc y) plain (ne_eqb (suc y) 0 (λ e. absurd cc))) refl
 
 -- So these references are left when the hand has put an item into a cell.
 pub put_leaves : (layout other : Layout) (found item : ℕ) (answer : Option ℕ) (rows later : List ℕ)
