@@ -90,7 +90,7 @@ none_beside : {heap : TableState} {before : HandState} {item locked : Option ℕ
     → IsResting heap before item locked → after.actor.agenda ≡ []
     → after.actor.aside ≡ filter (λ d. not (is_about x d)) (open_work before.view) → open_work after ≡ []
 none_beside x after rest agenda aside =
-    ap (λ (ds : List Duty). ds ++ after.aside) agenda
+    ap (λ (ds : List Duty). ds ++ after.actor.aside) agenda
     ∙ (aside ∙ ap (filter (λ (d : Duty). not (is_about x d))) rest.rests)
 
 -- ---- calls of the heap
